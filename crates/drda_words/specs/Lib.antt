@@ -1,0 +1,3 @@
+pub mod Excuse
+pub mod Place
+pub mod Order
