@@ -1,5 +1,5 @@
 -- What holds of objects and their texts.
-use Rattle.std.specs.Prelude.{◌≡◌, ◌≢◌, ℕ, ◌<◌, ◌^◌, ◌↔◌, List, [], ◌∷◌, ◌++◌, length, All, Option, Some, None, Ok, Err}
+use Rattle.std.specs.Prelude.{◌≡◌, ◌≢◌, ℕ, ◌<◌, ◌^◌, ◌↔◌, List, [], ◌++◌, length, All, Some, None, Ok, Err}
 use Rattle.ddm_objects.specs.declared.fault.ObjFault.{ObjFault}
 use Rattle.ddm_objects.specs.Objects.{Obj, IsObject, Begins, AreObjects}
 use Rattle.ddm_objects.specs.Reading.{object_at, walk, walk_end, walk_stop, walk_past}

@@ -1,7 +1,6 @@
 -- What a builder's buffer shows: the text before the first open container, and the data of each so far.
 use Rattle.std.specs.Prelude.{ℕ, ◌+◌, ◌≤◌, List, [], ◌∷◌, length, take, drop}
 use Rattle.ddm_objects.specs.declared.writing.Opened.{Opened}
-use Rattle.ddm_objects.specs.Objects.{Obj}
 use Rattle.ddm_objects.specs.Writing.{Writing}
 
 -- the open containers, the innermost first: each one's data stand behind its four bytes

@@ -1,5 +1,5 @@
 -- Objects that lie in a source, each with its place there.
-use Rattle.std.specs.Prelude.{◌≡◌, ◌≢◌, ℕ, ◌+◌, ◌<◌, List, [], ◌∷◌, length, drop, Option, Some, None, Result, Ok, Err}
+use Rattle.std.specs.Prelude.{◌≡◌, ◌≢◌, ℕ, ◌<◌, List, [], ◌∷◌, length, drop, Option, Some, None, Result, Ok, Err}
 use Rattle.drda_words.specs.Place.{StandsAt}
 use Rattle.ddm_objects.specs.declared.fault.ObjFault.{ObjFault}
 use Rattle.ddm_objects.specs.declared.fault.FindFault.{FindFault}
@@ -16,7 +16,7 @@ view o = record { code = o.code; value = o.value.now }
 -- the object's data are the slice of the source from its place on, and what follows them is the rest
 pub record LiesBefore (source : List ℕ) (o : Object) (rest : List ℕ) : Type 0 where
   pub stands : StandsAt source o.at o.value.now
-  pub ends : o.at + length o.value.now + length rest ≡ length source
+  pub follows : rest ≡ drop (length o.value.now) (drop o.at source)
 
 -- the object is one of those that the source begins with, at its place
 pub record LiesIn (source : List ℕ) (o : Object) : Type 0 where

@@ -1,5 +1,5 @@
 -- How objects are written, one in the other. DRDA V5 volume 3 (DDM), "Data Stream Structures".
-use Rattle.std.specs.Prelude.{◌≡◌, ℕ, ◌+◌, ◌<◌, ◌^◌, List, [], ◌∷◌, ◌++◌, length, nat_le, nat_lt, if◌then◌else◌}
+use Rattle.std.specs.Prelude.{◌≡◌, ℕ, ◌<◌, ◌^◌, List, [], ◌∷◌, ◌++◌, length, nat_le, nat_lt, if◌then◌else◌}
 use Rattle.ddm_objects.specs.Objects.{Obj, Form, Plain, Extended4, Extended8, heading, IsObject}
 
 -- the form that a writer takes for data of so many bytes: the plain one wherever it has room

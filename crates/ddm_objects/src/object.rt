@@ -1,14 +1,14 @@
 //! An object where it lies.
 
-ghost use Rattle.std.specs.Prelude.{◌≡◌, ◌+◌, ◌≤◌, ◌<◌, ◌++◌, List, length, take, IfOk, IsOkAnd, Some, ℕ};
+ghost use Rattle.std.specs.Prelude.{◌≡◌, ◌+◌, ◌≤◌, ◌<◌, ◌++◌, List, length, take, drop, IfOk, IsOkAnd, Some, ℕ};
 ghost use Rattle.drda_words.specs.Excuse.{Answers};
 ghost use Rattle.ddm_objects.specs.Objects.{Obj, IsObject};
 ghost use Rattle.ddm_objects.specs.Reading.{object_at, plain_at, extended4_at, extended6_at, extended8_at, value_at};
 ghost use Rattle.ddm_objects.specs.Source.{view, LiesBefore, Finds, rest_of, source_of};
 
+use crate::contents::{find_in, parts_of};
 use crate::fault::{FindFault, ObjFault};
-use crate::find::find_in;
-use crate::parts::{Parts, parts_of};
+use crate::parts::Parts;
 
 /// An object that lies in a source, a slice of bytes (DRDA V5 volume 3, OBJECT).
 #[derive(Clone, Copy, Debug)]
@@ -62,8 +62,9 @@ impl<'a> Object<'a> {
 // The object whose data begin at a place and have a size, in what follows its heading.
 fn value_of(code: u16, at: usize, size: u64, bytes: &[u8]) -> Result<(Object<'_>, &[u8]), ObjFault>
     ensures exact { Answers (λ x. (view x.0, x.1.now)) Some result (value_at code size bytes.now) }
-    ensures place { IfOk result (λ x. (x.0.at ≡ at) × (length x.0.value.now + length x.1.now ≡ length bytes.now)) }
-    ensures slice { IfOk result (λ x. take (length x.0.value.now) bytes.now ≡ x.0.value.now) }
+    ensures place { IfOk result (λ x. x.0.at ≡ at) }
+    ensures stands { IfOk result (λ x. (length x.0.value.now ≤ length bytes.now) × (take (length x.0.value.now) bytes.now ≡ x.0.value.now)) }
+    ensures follows { IfOk result (λ x. x.1.now ≡ drop (length x.0.value.now) bytes.now) }
 {
     if (bytes.len() as u64) < size {
         return Err(ObjFault::PastContainer);

@@ -15,13 +15,16 @@ pub struct Parts<'a> {
     ghost inside: { at ≤ length source.now },
 }
 
-/// The objects that a source is cut into, from its beginning on. A source may be the data of a
-/// container, or the contents of a DSS that holds a list of objects.
-pub fn parts_of(source: &[u8]) -> Parts<'_>
-    ensures source { result.source.now ≡ source.now }
-    ensures rest { result.at ≡ 0 }
-{
-    Parts { source, at: 0 }
+impl<'a> Parts<'a> {
+    ghost use Rattle.ddm_objects.specs.Source.{rest_of, source_of};
+
+    // The walk over a whole source.
+    pub(crate) fn over(source: &'a [u8]) -> Parts<'a>
+        ensures source { source_of result ≡ source.now }
+        ensures rest { rest_of result ≡ source.now }
+    {
+        Parts { source, at: 0 }
+    }
 }
 
 impl<'a> Iterator for Parts<'a> {
@@ -42,10 +45,14 @@ impl<'a> Iterator for Parts<'a> {
             return None;
         }
         match Object::parse(left) {
-            Ok((object, rest)) => {
+            Ok((object, _)) => {
                 let at = self.at + object.at;
-                self.at = source.len() - rest.len();
-                Some(Ok(Object { at, ..object }))
+                self.at = at + object.value.len();
+                Some(Ok(Object {
+                    code: object.code,
+                    at,
+                    value: object.value,
+                }))
             }
             Err(fault) => {
                 self.at = source.len();
