@@ -1,12 +1,12 @@
 -- What is written container by container.
-use Rattle.std.proofs.Common.{◌≡◌, ◌≢◌, ℕ, ◌+◌, ◌^◌, ◌<◌, ◌≤◌, Bool, true, false, cond, leb, ltb, List, [], ◌∷◌, ◌++◌, length, take, drop, refl, sym, ap, subst, ◌∙◌, append_assoc, arith}
-use Rattle.std.proofs.lemmas.Bool.{ltb-true, leb-true}
+use Rattle.std.proofs.Common.{◌≡◌, ◌≢◌, ℕ, ◌+◌, ◌^◌, ◌<◌, ◌≤◌, Bool, true, false, cond, leb, ltb, List, [], ◌∷◌, ◌++◌, length, take, drop, refl, sym, ap, subst, ◌∙◌, append_assoc, arith, lit≤}
+use Rattle.std.proofs.lemmas.Bool.{ltb-true, leb-true, le-leb}
 use Rattle.std.proofs.lemmas.List.{append-nil, take-append-le, drop-append-le, length-append}
 use Rattle.std.specs.Prelude.{Option, Some, Result, Ok, Err, OnOk, OnErr, reverse}
 use Rattle.std.specs.Option.{option_to_list}
 use Rattle.std.proofs.lemmas.List.{reverse-append}
 use Rattle.ddm_objects.specs.declared.writing.Opened.{Opened}
-use Rattle.ddm_objects.specs.Objects.{Obj, Plain, Extended4, Extended8, HasRoom, IsObject}
+use Rattle.ddm_objects.specs.Objects.{Obj, Plain, Extended4, Extended8, heading, HasRoom, IsObject}
 use Rattle.ddm_objects.specs.Writing.{form_for, spelled, Writing, opened, append_to, appended, closed, Trees, NoTrees, Scalar, Container, text_of, AreTrees, CanBeWritten, written}
 use Rattle.ddm_objects.specs.Levels.{writing_of, IsNested}
 
@@ -17,9 +17,29 @@ form_has_room size true c e f small = let le = leb-true _ _ e in omega arith
 form_has_room size false true e f small = ltb-true _ _ f
 form_has_room size false false e f small = small
 
-spelled_object : (code : ℕ) (value : List ℕ) → code < 2 ^ 16 → length value < 2 ^ 64 → IsObject (spelled code value) (record { code = code; value = value })
+pub spelled_object : (code : ℕ) (value : List ℕ) → code < 2 ^ 16 → length value < 2 ^ 64 → IsObject (spelled code value) (record { code = code; value = value })
+unfolding spelled
 spelled_object code value small room =
     record { form = form_for (length value); code_fits = small; size_fits = form_has_room (length value) _ _ refl refl room; spelled = refl }
+
+heading_size : (code size : ℕ) (b c : Bool) → length (heading (cond b Plain (cond c Extended4 Extended8)) code size) ≤ 12
+heading_size code size true c = lit≤ tt
+heading_size code size false true = lit≤ tt
+heading_size code size false false = lit≤ tt
+
+plain_size : (code size : ℕ) (b c : Bool) → b ≡ true → length (heading (cond b Plain (cond c Extended4 Extended8)) code size) ≡ 4
+plain_size code size true c e = refl
+plain_size code size false c e = absurd cc
+
+pub spelled_at_most : (code : ℕ) (value : List ℕ) → length (spelled code value) ≤ length value + 12
+unfolding spelled
+spelled_at_most code value =
+    omega (arith, length-append (heading (form_for (length value)) code (length value)) value, heading_size code (length value) (leb (length value) 32763) (ltb (length value) 0x1_0000_0000))
+
+pub spelled_plain : (code : ℕ) (value : List ℕ) → length value ≤ 32763 → length (spelled code value) ≡ length value + 4
+unfolding spelled
+spelled_plain code value fits =
+    omega (arith, length-append (heading (form_for (length value)) code (length value)) value, plain_size code (length value) (leb (length value) 32763) (ltb (length value) 0x1_0000_0000) (le-leb _ _ fits))
 
 -- ---- trees
 

@@ -1,5 +1,5 @@
 -- What holds of objects and their texts.
-use Rattle.std.specs.Prelude.{◌≡◌, ◌≢◌, ℕ, ◌<◌, ◌^◌, ◌↔◌, List, [], ◌++◌, length, All, Some, None, Ok, Err}
+use Rattle.std.specs.Prelude.{◌≡◌, ◌≢◌, ℕ, ◌+◌, ◌<◌, ◌≤◌, ◌^◌, ◌↔◌, List, [], ◌++◌, length, All, Some, None, Ok, Err}
 use Rattle.ddm_objects.specs.declared.fault.ObjFault.{ObjFault}
 use Rattle.ddm_objects.specs.Objects.{Obj, IsObject, Begins, AreObjects}
 use Rattle.ddm_objects.specs.Reading.{object_at, walk, walk_end, walk_stop, walk_past}
@@ -29,9 +29,11 @@ pub record WalksTheCut : Type 0 where
   pub fault : (bytes : List ℕ) (objects : List Obj) (f : ObjFault) → AreBytes bytes
       → (walk bytes ≡ record { objects = objects; fault = Some f }) ↔ ((rest : List ℕ) × Begins bytes objects rest × (rest ≢ []) × (object_at rest ≡ Err f))
 
--- what a writer spells is that object
-abbrev pub SpellsObjects : Type 0
-SpellsObjects = (code : ℕ) (value : List ℕ) → code < 2 ^ 16 → length value < 2 ^ 64 → IsObject (spelled code value) (record { code = code; value = value })
+-- what a writer spells is that object, in 4 bytes more than its data, or 12 at most where there are many
+pub record SpellsObjects : Type 0 where
+  pub object : (code : ℕ) (value : List ℕ) → code < 2 ^ 16 → length value < 2 ^ 64 → IsObject (spelled code value) (record { code = code; value = value })
+  pub plain : (code : ℕ) (value : List ℕ) → length value ≤ 32763 → length (spelled code value) ≡ length value + 4
+  pub at_most : (code : ℕ) (value : List ℕ) → length (spelled code value) ≤ length value + 12
 
 -- what the calls that write trees append is their text, and it reads back as those trees
 pub record ReadsBack (trees : Trees) : Type 0 where

@@ -7,7 +7,7 @@ abbrev pub form_for : ℕ → Form
 form_for size = if nat_le size 32763 then Plain else if nat_lt size 0x1_0000_0000 then Extended4 else Extended8
 
 -- the text of an object as a writer spells it
-abbrev pub spelled : ℕ → List ℕ → List ℕ
+unfoldable pub spelled : ℕ → List ℕ → List ℕ
 spelled code value = heading (form_for (length value)) code (length value) ++ value
 
 -- what stands in place of a container's heading until it is closed

@@ -25,7 +25,8 @@ pub fn walk_is_the_cut()
     ensures { WalksTheCut }
 {}
 
-/// What a writer spells is that object.
+/// What a writer spells is that object, in 4 bytes more than its data where those are up to 32,763,
+/// and in 12 at most.
 pub fn spelled_is_an_object()
     ensures { SpellsObjects }
 {}

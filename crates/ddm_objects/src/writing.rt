@@ -44,6 +44,7 @@ fn heading_of(code: u16, size: usize) -> Heading
 /// 32,763 bytes of data and an extended one of 4 bytes past that (of 8 bytes past 4,294,967,295).
 ///
 /// For want of memory nothing is appended.
+#[tactic(auto, unfolding(crate::specs::Writing::spelled))]
 pub fn put(out: &mut Vec<u8>, code: u16, value: &[u8]) -> Result<(), AllocError>
     ensures ok { OnOk result (out.new.items ≡ out.old.items ++ spelled code value.now) }
     ensures err { OnErr result (out.new.items ≡ out.old.items) }
@@ -85,6 +86,7 @@ pub fn open(out: &mut Vec<u8>, code: u16) -> Result<Opened, AllocError>
 
 /// Ends a container: what stands behind its four bytes becomes its data. Data past 32,763 bytes move
 /// by 4 bytes (8 past 4,294,967,295), which may want memory; the buffer is unchanged then.
+#[tactic(auto, unfolding(crate::specs::Writing::spelled))]
 pub fn close(out: &mut Vec<u8>, container: Opened) -> Result<(), AllocError>
     requires { container.at + 4 ≤ vec_len out.old }
     ensures ok { OnOk result (out.new.items ≡ take container.at out.old.items ++ spelled container.code (drop (container.at + 4) out.old.items)) }
