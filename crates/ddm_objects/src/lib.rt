@@ -24,3 +24,6 @@ pub use laws::{
 pub use object::Object;
 pub use parts::Parts;
 pub use writing::{Opened, close, open, put};
+
+#[cfg(test)]
+mod tests;
