@@ -66,9 +66,9 @@ sees_other source code seen (Some f) true o sees differ = subst (λ (os : List O
 next_is : (source : List ℕ) (seen : List Obj) (old new : Parts) (o : Object) → IsBytes source → source_of old ≡ source → Begins source seen (rest_of old) → Steps old (Some (Ok o)) new
     → Begins source (seen ++ view o ∷ []) (rest_of new) × LiesIn source o
 next_is source seen old new o fits same begun step =
-    let t = read_is_object (rest_of old) (view o, rest_of new) (bytes_left source seen (rest_of old) begun fits) step.0 in (
+    let t = read_is_object (rest_of old) (view o, rest_of new) (bytes_left source seen (rest_of old) begun fits) step.here in (
       begins_next source seen (rest_of old) t.0 (rest_of new) (view o) begun t.1 t.2,
-      record { earlier = seen; text = rest_of old; rest = rest_of new; begins = begun; here = step.0; place = subst (λ y. LiesBefore y o (rest_of new)) same step.1 },
+      record { earlier = seen; text = rest_of old; rest = rest_of new; begins = begun; here = step.here; place = subst (λ y. LiesBefore y o (rest_of new)) same step.place },
     )
 
 abbrev Part : Type 0
@@ -81,7 +81,7 @@ goes_on_this source code found twice now old new part o fits before step is same
     let n = next_is source before.seen old new o fits before.same before.begins s in
     record {
       seen = before.seen ++ view o ∷ [];
-      same = s.2 ∙ before.same;
+      same = s.source ∙ before.same;
       begins = n.0;
       sees = subst (Sees source code (before.seen ++ view o ∷ []) (Some o)) (sym said) (sees_this source code before.seen found twice o before.sees same n.1);
     }
@@ -91,19 +91,19 @@ pub goes_on_other : (source : List ℕ) (code : ℕ) (found : Option Object) (tw
 goes_on_other source code found twice old new part o fits before step is differ =
     let s : Steps old (Some (Ok o)) new = subst (λ p. Steps old (Some p) new) is step in
     let n = next_is source before.seen old new o fits before.same before.begins s in
-    record { seen = before.seen ++ view o ∷ []; same = s.2 ∙ before.same; begins = n.0; sees = sees_other source code before.seen found twice (view o) before.sees differ }
+    record { seen = before.seen ++ view o ∷ []; same = s.source ∙ before.same; begins = n.0; sees = sees_other source code before.seen found twice (view o) before.sees differ }
 
 pub stops_at : (source : List ℕ) (code : ℕ) (found : Option Object) (twice : Bool) (old new : Parts) (part : Part) (f : ObjFault) → SoFar source code found twice old
     → Steps old (Some part) new → part ≡ Err f → (walk source).fault ≡ Some f
 stops_at source code found twice old new part f before step is =
     let s : Steps old (Some (Err f)) new = subst (λ p. Steps old (Some p) new) is step in
-    ap (λ (w : Walk). w.fault) (walk_of_cut source before.seen (rest_of old) (Some f) before.begins (s.0, s.1))
+    ap (λ (w : Walk). w.fault) (walk_of_cut source before.seen (rest_of old) (Some f) before.begins (s.something_left, s.here))
 
 -- ---- the end of the search
 
 whole : (source : List ℕ) (code : ℕ) (found : Option Object) (twice : Bool) (old new : Parts) (before : SoFar source code found twice old) → Steps old None new
     → walk source ≡ record { objects = before.seen; fault = None }
-whole source code found twice old new before step = walk_of_cut source before.seen (rest_of old) None before.begins step.0
+whole source code found twice old new before step = walk_of_cut source before.seen (rest_of old) None before.begins step.nothing_left
 
 sees_two : (source : List ℕ) (code : ℕ) (seen : List Obj) (found : Option Object) → Sees source code seen found true → 1 < length (with_code code seen)
 sees_two source code seen None sees = absurd (let bad : true ≡ false = sees.1 in cc)

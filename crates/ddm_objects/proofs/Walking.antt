@@ -2,7 +2,7 @@
 use Rattle.std.proofs.Common.{◌≡◌, ◌≢◌, ℕ, zero, suc, ◌+◌, ◌<◌, ◌≤◌, List, [], ◌∷◌, ◌++◌, length, Option, Some, None, Result, Ok, Err, refl, sym, ap, subst, ◌∙◌, arith, get_or}
 use Rattle.ddm_objects.specs.declared.fault.ObjFault.{ObjFault}
 use Rattle.ddm_objects.specs.Objects.{Obj, Begins, AreObjects}
-use Rattle.ddm_objects.specs.Reading.{object_at, Walk, walk, walk_within, walk_on, walk_end, walk_stop, walk_past}
+use Rattle.ddm_objects.specs.Reading.{object_at, Walk, walk, walk_within, walk_on, walk_end, walk_stop, walk_past, walk_behind}
 use Rattle.std.proofs.lemmas.List.{append-nil, get_or-append-add}
 use Rattle.ddm_objects.proofs.Reading.{IsBytes, okay, same_ok, object_is_read, read_shorter, read_is_object}
 
@@ -66,10 +66,6 @@ walk_stops (b ∷ bytes) f some e = ap (λ (r : Result (Obj × List ℕ) ObjFaul
 abbrev pub Ends : List ℕ → Option ObjFault → Type 0
 Ends rest None = rest ≡ []
 Ends rest (Some f) = (rest ≢ []) × (object_at rest ≡ Err f)
-
--- objects in front of a walk
-abbrev pub walk_behind : List Obj → Walk → Walk
-walk_behind objects w = record { objects = objects ++ w.objects; fault = w.fault }
 
 pub walk_of_begun : (bytes : List ℕ) (objects : List Obj) (rest : List ℕ) → Begins bytes objects rest → walk bytes ≡ walk_behind objects (walk rest)
 walk_of_begun bytes [] rest begun = ap walk begun

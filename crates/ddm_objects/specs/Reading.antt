@@ -1,5 +1,5 @@
 -- How a text is read as objects, and which fault ends the reading. DRDA V5 volume 3 (DDM), SYNERRCD.
-use Rattle.std.specs.Prelude.{ℕ, zero, suc, ◌-◌, List, [], ◌∷◌, length, take, drop, filter, Option, Some, None, Result, Ok, Err, nat_lt, ◌==◌, if◌then◌else◌}
+use Rattle.std.specs.Prelude.{ℕ, zero, suc, ◌-◌, List, [], ◌∷◌, ◌++◌, length, take, drop, filter, Option, Some, None, Result, Ok, Err, nat_lt, ◌==◌, if◌then◌else◌}
 use Rattle.std.specs.Int.{w16, w64, from_be_bytes}
 use Rattle.ddm_objects.specs.declared.fault.ObjFault.{ObjFault}
 use Rattle.ddm_objects.specs.declared.fault.ObjFault.TheVariants.{LengthBelowFour, PastContainer, ExtendedLength}
@@ -54,6 +54,10 @@ walk_stop f = record { objects = []; fault = Some f }
 
 abbrev pub walk_past : Obj → Walk → Walk
 walk_past o w = record { objects = o ∷ w.objects; fault = w.fault }
+
+-- objects stand before a walk
+abbrev pub walk_behind : List Obj → Walk → Walk
+walk_behind objects w = record { objects = objects ++ w.objects; fault = w.fault }
 
 abbrev pub walk_on : Result (Obj × List ℕ) ObjFault → (List ℕ → Walk) → Walk
 walk_on (Ok x) go = walk_past x.0 (go x.1)

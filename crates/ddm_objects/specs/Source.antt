@@ -7,7 +7,7 @@ use Rattle.ddm_objects.specs.declared.fault.FindFault.TheVariants.{Twice, Fault}
 use Rattle.ddm_objects.specs.declared.object.Object.{Object}
 use Rattle.ddm_objects.specs.declared.parts.Parts.{Parts}
 use Rattle.ddm_objects.specs.Objects.{Obj, Begins}
-use Rattle.ddm_objects.specs.Reading.{object_at, walk, with_code}
+use Rattle.ddm_objects.specs.Reading.{object_at, walk, walk_end, walk_stop, walk_past, with_code}
 
 -- an object without its place
 abbrev pub view : Object → Obj
@@ -34,11 +34,33 @@ rest_of p = drop p.at p.source.now
 abbrev pub source_of : Parts → List ℕ
 source_of p = p.source.now
 
--- one step of a walk: the next object; the fault at its place, with nothing after it; or the end
+-- a step of a walk at the end of the source
+pub record AtEnd (old new : Parts) : Type 0 where
+  pub nothing_left : rest_of old ≡ []
+  pub walked : walk (rest_of old) ≡ walk_end
+  pub ended : rest_of new ≡ []
+  pub source : source_of new ≡ source_of old
+
+-- a step of a walk that gives the next object
+pub record Passes (old : Parts) (o : Object) (new : Parts) : Type 0 where
+  pub here : object_at (rest_of old) ≡ Ok (view o, rest_of new)
+  pub walked : walk (rest_of old) ≡ walk_past (view o) (walk (rest_of new))
+  pub place : LiesBefore (source_of old) o (rest_of new)
+  pub source : source_of new ≡ source_of old
+
+-- a step of a walk that gives the fault at its place, with nothing after it
+pub record Stops (old : Parts) (f : ObjFault) (new : Parts) : Type 0 where
+  pub something_left : rest_of old ≢ []
+  pub here : object_at (rest_of old) ≡ Err f
+  pub walked : walk (rest_of old) ≡ walk_stop f
+  pub ended : rest_of new ≡ []
+  pub source : source_of new ≡ source_of old
+
+-- one step of a walk
 abbrev pub Steps : Parts → Option (Result Object ObjFault) → Parts → Type 0
-Steps old None new = (rest_of old ≡ []) × (rest_of new ≡ []) × (source_of new ≡ source_of old)
-Steps old (Some (Ok o)) new = (object_at (rest_of old) ≡ Ok (view o, rest_of new)) × LiesBefore (source_of old) o (rest_of new) × (source_of new ≡ source_of old)
-Steps old (Some (Err f)) new = (rest_of old ≢ []) × (object_at (rest_of old) ≡ Err f) × (rest_of new ≡ []) × (source_of new ≡ source_of old)
+Steps old None new = AtEnd old new
+Steps old (Some (Ok o)) new = Passes old o new
+Steps old (Some (Err f)) new = Stops old f new
 
 -- What a search for a code point among the objects of a source answers: a fault anywhere comes first, then
 -- that the code point occurs more than once.
