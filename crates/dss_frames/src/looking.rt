@@ -1,0 +1,43 @@
+ghost use Rattle.std.specs.Prelude.{◌≡◌, ◌≤◌, ◌+◌, ◌-◌, max};
+ghost use Rattle.dss_frames.specs.Place.{IsAt, Finds, header_length};
+
+use crate::judging::judge;
+use crate::place::{Expected, Found, Place};
+use crate::turn::Turn;
+
+/// How many bytes more the next header takes, or the rest of the command; one at the least.
+pub(crate) fn missing(place: Place, held: usize) -> usize
+    ensures some { 1 ≤ result }
+    ensures exact { result ≡ max 1 (place.at + header_length place.expected - held) }
+{
+    let until = match place.expected {
+        Expected::Header(Turn::Nothing) => 0,
+        Expected::Header(_) => 6,
+        Expected::Continuation(..) => 2,
+    };
+    (place.at + until).saturating_sub(held).max(1)
+}
+
+/// Judges the headers that have come, from a place on.
+pub(crate) fn look(place: Place, bytes: &[u8]) -> Found
+    requires { IsAt bytes.now place }
+    ensures { Finds bytes.now result }
+{
+    let mut place = place;
+    'judging: while place.at <= bytes.len() {
+        match judge(place.expected, &bytes[place.at..]) {
+            Err(fault) => return Found::Fault(fault),
+            Ok(None) => break,
+            Ok(Some((expected, size))) => {
+                place = Place {
+                    at: place.at + size,
+                    expected,
+                };
+            }
+        }
+    }
+    match place.expected {
+        Expected::Header(Turn::Nothing) if place.at <= bytes.len() => Found::Command(place.at),
+        _ => Found::Nothing(place),
+    }
+}
