@@ -17,8 +17,7 @@ pub(crate) fn segment_length(high: u8, low: u8) -> usize
     ensures { result ≡ segment_length high low }
 {
     let word = u16::from_be_bytes([high, low]);
-    let counted = if word >= 32768 { word - 32768 } else { word };
-    counted as usize
+    (word % 32768) as usize
 }
 
 /// Whether a continuation follows the segment.

@@ -1,0 +1,5 @@
+pub mod Machine
+pub mod Headers
+pub mod Ways
+pub mod Holds
+pub mod Readings
