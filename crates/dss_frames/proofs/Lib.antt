@@ -3,3 +3,4 @@ pub mod Headers
 pub mod Ways
 pub mod Holds
 pub mod Readings
+pub mod Steps

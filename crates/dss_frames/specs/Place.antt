@@ -1,5 +1,5 @@
 -- How far a reader has come in the bytes that it holds.
-use Rattle.std.specs.Prelude.{◌≡◌, ℕ, ◌+◌, ◌≤◌, ◌<◌, Bool, List, ◌++◌, length, take, IsTrue}
+use Rattle.std.specs.Prelude.{◌≡◌, ℕ, ◌+◌, ◌≤◌, ◌<◌, Bool, List, ◌++◌, length, take, Result, Ok, Err, IsTrue}
 use Rattle.dss_frames.specs.declared.place.Expected.{Expected}
 use Rattle.dss_frames.specs.declared.place.Expected.TheVariants.{Header, Continuation}
 use Rattle.dss_frames.specs.declared.place.Place.{Place}
@@ -41,10 +41,18 @@ abbrev pub HasCommand : List ℕ → ℕ → Type 0
 HasCommand bytes size = (size ≤ length bytes) × ((dsss : List Dss) × IsCommand (take size bytes) dsss)
 
 -- what is found is so
-abbrev pub Finds : List ℕ → Found → Type 0
-Finds bytes (found.Command size) = HasCommand bytes size
-Finds bytes (found.Nothing place) = IsUnfinished bytes × IsAt bytes place
-Finds bytes (found.Fault fault) = FaultAt bytes fault
+abbrev pub Finds : List ℕ → Result Found FrameFault → Type 0
+Finds bytes (Ok (found.Command size)) = HasCommand bytes size
+Finds bytes (Ok (found.Nothing place)) = IsUnfinished bytes × IsAt bytes place
+Finds bytes (Err fault) = FaultAt bytes fault
+
+abbrev pub found_when : Expected → Place → Found
+found_when (Header Nothing) place = found.Command place.at
+found_when expected place = found.Nothing place
+
+-- what is found where no header has come at a place
+abbrev pub found_at : Place → Found
+found_at place = found_when place.expected place
 
 -- the bytes of the header that comes next
 abbrev pub header_length : Expected → ℕ

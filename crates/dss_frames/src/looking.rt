@@ -1,6 +1,7 @@
 ghost use Rattle.std.specs.Prelude.{◌≡◌, ◌≤◌, ◌+◌, ◌-◌, max};
-ghost use Rattle.dss_frames.specs.Place.{IsAt, Finds, header_length};
+ghost use Rattle.dss_frames.specs.Place.{IsAt, Finds, header_length, found_at};
 
+use crate::fault::FrameFault;
 use crate::judging::judge;
 use crate::place::{Expected, Found, Place};
 use crate::turn::Turn;
@@ -19,15 +20,15 @@ pub(crate) fn missing(place: Place, held: usize) -> usize
 }
 
 /// Judges the headers that have come, from a place on.
-pub(crate) fn look(place: Place, bytes: &[u8]) -> Found
+pub(crate) fn look(place: Place, bytes: &[u8]) -> Result<Found, FrameFault>
     requires { IsAt bytes.now place }
     ensures { Finds bytes.now result }
 {
     let mut place = place;
     'judging: while place.at <= bytes.len() {
         match judge(place.expected, &bytes[place.at..]) {
-            Err(fault) => return Found::Fault(fault),
-            Ok(None) => break,
+            Err(fault) => return Err(fault),
+            Ok(None) => return Ok(found(place)),
             Ok(Some((expected, size))) => {
                 place = Place {
                     at: place.at + size,
@@ -36,8 +37,14 @@ pub(crate) fn look(place: Place, bytes: &[u8]) -> Found
             }
         }
     }
+    Ok(Found::Nothing(place))
+}
+
+fn found(place: Place) -> Found
+    ensures { result ≡ found_at place }
+{
     match place.expected {
-        Expected::Header(Turn::Nothing) if place.at <= bytes.len() => Found::Command(place.at),
+        Expected::Header(Turn::Nothing) => Found::Command(place.at),
         _ => Found::Nothing(place),
     }
 }

@@ -15,12 +15,11 @@ pub struct Place {
     pub expected: Expected,
 }
 
-/// What a look at the headers that have come finds.
+/// What a look at the headers that have come finds, if no fault.
 #[derive(Clone, Copy)]
 pub enum Found {
     /// A whole command of so many bytes.
     Command(usize),
-    /// Neither a command nor a fault yet.
+    /// No command yet.
     Nothing(Place),
-    Fault(crate::fault::FrameFault),
 }

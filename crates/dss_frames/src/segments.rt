@@ -136,16 +136,16 @@ impl Segments {
     fn take_command(&mut self) -> Result<bool, FrameFault>
         ensures { TakesFront self.old result self.new }
     {
-        match look(self.place, &self.buf[self.start..]) {
-            Found::Command(size) => {
+        match look(self.place, self.rest()) {
+            Ok(Found::Command(size)) => {
                 self.lend(size);
                 Ok(true)
             }
-            Found::Nothing(place) => {
+            Ok(Found::Nothing(place)) => {
                 self.place = place;
                 Ok(false)
             }
-            Found::Fault(fault) => {
+            Err(fault) => {
                 self.at_fault = true;
                 Err(fault)
             }
