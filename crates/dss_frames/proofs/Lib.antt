@@ -4,3 +4,5 @@ pub mod Ways
 pub mod Holds
 pub mod Readings
 pub mod Steps
+pub mod Wanting
+pub mod Settled

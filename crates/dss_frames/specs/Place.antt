@@ -1,5 +1,5 @@
 -- How far a reader has come in the bytes that it holds.
-use Rattle.std.specs.Prelude.{◌≡◌, ℕ, ◌+◌, ◌≤◌, ◌<◌, Bool, List, ◌++◌, length, take, Result, Ok, Err, IsTrue}
+use Rattle.std.specs.Prelude.{◌≡◌, ℕ, ◌+◌, ◌≤◌, ◌<◌, Bool, List, ◌++◌, length, take, drop, Result, Ok, Err, IsTrue}
 use Rattle.dss_frames.specs.declared.place.Expected.{Expected}
 use Rattle.dss_frames.specs.declared.place.Expected.TheVariants.{Header, Continuation}
 use Rattle.dss_frames.specs.declared.place.Place.{Place}
@@ -35,6 +35,14 @@ pub record IsAt (bytes : List ℕ) (place : Place) : Type 0 where
 -- what is known of the bytes where a fault was found
 abbrev pub IsKnownFault : Bool → List ℕ → Type 0
 IsKnownFault at_fault bytes = IsTrue at_fault → (fault : FrameFault) × FaultAt bytes fault
+
+-- what a reader keeps is of one piece: where the command lies that was lent last, where the bytes
+-- begin that follow it, the place of the next header, and whether a fault was found
+pub record IsSettled (items : List ℕ) (lent lent_size start : ℕ) (place : Place) (at_fault : Bool) : Type 0 where
+  pub lent_before : lent + lent_size ≤ start
+  pub start_within : start ≤ length items
+  pub stands : IsAt (drop start items) place
+  pub known_fault : IsKnownFault at_fault (drop start items)
 
 -- the first bytes, so many of them, are a command
 abbrev pub HasCommand : List ℕ → ℕ → Type 0

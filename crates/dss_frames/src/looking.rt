@@ -1,4 +1,4 @@
-ghost use Rattle.std.specs.Prelude.{◌≡◌, ◌≤◌, ◌+◌, ◌-◌, max};
+ghost use Rattle.std.specs.Prelude.{◌≡◌, ◌≤◌, ◌+◌, ◌-◌, max, length};
 ghost use Rattle.dss_frames.specs.Place.{IsAt, Finds, header_length, found_at};
 
 use crate::fault::FrameFault;
@@ -6,17 +6,24 @@ use crate::judging::judge;
 use crate::place::{Expected, Found, Place};
 use crate::turn::Turn;
 
-/// How many bytes more the next header takes, or the rest of the command; one at the least.
-pub(crate) fn missing(place: Place, held: usize) -> usize
-    ensures some { 1 ≤ result }
-    ensures exact { result ≡ max 1 (place.at + header_length place.expected - held) }
+fn header_length(expected: Expected) -> usize
+    ensures exact { result ≡ header_length expected }
+    ensures small { result ≤ 6 }
 {
-    let until = match place.expected {
+    match expected {
         Expected::Header(Turn::Nothing) => 0,
         Expected::Header(_) => 6,
         Expected::Continuation(..) => 2,
-    };
-    (place.at + until).saturating_sub(held).max(1)
+    }
+}
+
+/// How many bytes more the next header takes, or the rest of the command; one at the least.
+pub(crate) fn missing(place: Place, bytes: &[u8]) -> usize
+    requires { place.at ≤ length bytes.now + 32767 }
+    ensures { result ≡ max 1 (place.at + header_length place.expected - length bytes.now) }
+{
+    let until = place.at + header_length(place.expected);
+    until.saturating_sub(bytes.len()).max(1)
 }
 
 /// Judges the headers that have come, from a place on.

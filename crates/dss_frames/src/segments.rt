@@ -23,17 +23,17 @@ pub struct Segments {
 }
 
 impl Model for Segments {
-    ghost use Rattle.std.specs.Prelude.{ℕ, drop, take, length, ◌≤◌, ◌+◌};
+    ghost use Rattle.std.specs.Prelude.{drop};
     ghost use Rattle.drda_words.specs.Place.{part};
     ghost use Rattle.dss_frames.specs.Held.{Held};
     ghost use Rattle.dss_frames.specs.Group.{joined_dsss};
-    ghost use Rattle.dss_frames.specs.Place.{IsAt, IsKnownFault};
+    ghost use Rattle.dss_frames.specs.Place.{IsSettled};
 
     ghost Value = { Held };
 
     ghost view = { λ s. record { rest = drop s.start s.buf.items; at_fault = s.at_fault; last = joined_dsss (part s.buf.items s.lent s.lent_size) } };
 
-    ghost invariant = { λ s. (s.lent + s.lent_size ≤ s.start) × (s.start ≤ length s.buf.items) × IsAt (drop s.start s.buf.items) s.place × IsKnownFault s.at_fault (drop s.start s.buf.items) };
+    ghost invariant = { λ s. IsSettled s.buf.items s.lent s.lent_size s.start s.place s.at_fault };
 }
 
 impl Segments {
@@ -86,8 +86,7 @@ impl Segments {
         ensures some { 1 ≤ result }
         ensures one_command { KeepsToOne self.now.rest result }
     {
-        let held = self.buf.len() - self.start;
-        missing(self.place, held)
+        missing(self.place, self.rest())
     }
 
     /// The next command, where all of it has come; none, where more bytes have to come; or the
@@ -158,7 +157,7 @@ impl Segments {
         ensures { TakesCommand self.old self.new.last self.new }
     {
         let end = self.start + size;
-        let joined = join(&mut self.buf[self.start..end]);
+        let joined = join(&mut self.buf, self.start, size);
         self.lent = self.start;
         self.lent_size = joined;
         self.start = end;
