@@ -6,3 +6,4 @@ pub mod Readings
 pub mod Steps
 pub mod Wanting
 pub mod Settled
+pub mod Joins

@@ -10,4 +10,5 @@ pub mod Held
 pub mod Lending
 pub mod Place
 pub mod Judging
+pub mod Joining
 pub mod Parts
