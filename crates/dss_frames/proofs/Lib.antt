@@ -7,3 +7,4 @@ pub mod Steps
 pub mod Wanting
 pub mod Settled
 pub mod Joins
+pub mod Commands

@@ -57,6 +57,7 @@ fn join_dss(buf: &mut Vec<u8>, from: usize, to: usize, end: usize) -> (usize, us
     ensures down { result.1 ≤ result.0 }
     ensures before { result.0 ≤ end }
     ensures above { to ≤ result.1 }
+    ensures further { from < end → from < result.0 }
     ensures rest { drop end buf.new.items ≡ drop end buf.old.items }
     ensures len { vec_len buf.new ≡ vec_len buf.old }
 {
