@@ -3,7 +3,7 @@ use Rattle.std.proofs.Common.{◌≡◌, ℕ, zero, suc, ◌+◌, ◌-◌, ◌*�
 use Rattle.std.specs.Prelude.{IsTrue, nat_le, slice_set}
 use Rattle.std.specs.List.{concat}
 use Rattle.std.proofs.lemmas.List.{append-nil, drop-drop, length-take-le}
-use Rattle.std.proofs.lemmas.Bool.{le-leb}
+use Rattle.std.proofs.lemmas.Bool.{le-leb, leb-true}
 use Rattle.std.proofs.Math.Seq.{take-append_seam, drop-append_seam, take-append-add, drop-append-add}
 use Rattle.dss_frames.specs.Length.{word, is_continued, segment_length, dss_limit}
 use Rattle.dss_frames.specs.Dss.{Dss, AreContinuations, AreSegments, IsDss}
@@ -72,6 +72,24 @@ segment_not_there : (least room high low : ℕ) (bytes text : List ℕ) → text
 segment_not_there least room high low bytes text same more fits e =
     not_there (nat_le least (segment_length high low)) (nat_le (segment_length high low) room) (segment_length high low, is_continued high low)
     (le-leb least (segment_length high low) more) (le-leb (segment_length high low) room fits) (ap (segment_in least room) (sym same) ∙ e)
+
+passed : (a b : Bool) (n : ℕ) (more : Bool) (size : ℕ) (continued : Bool) → cond (a && b) (Some (pair n more)) None ≡ Some (pair size continued) → (a ≡ true) × (b ≡ true) × (n ≡ size)
+passed true true n more size continued e =
+    let same : pair n more ≡ pair size continued = cc in
+    (refl, refl, ap (λ (p : ℕ × Bool). p.0) same)
+passed true false n more size continued e = absurd cc
+passed false b n more size continued e = absurd cc
+
+pub segment_bounds : (least room : ℕ) (text : List ℕ) (size : ℕ) (continued : Bool) → segment_in least room text ≡ Some (size, continued) → (least ≤ size) × (size ≤ room)
+segment_bounds least room [] size continued e = absurd cc
+segment_bounds least room (high ∷ []) size continued e = absurd cc
+segment_bounds least room (high ∷ low ∷ bytes) size continued e =
+    let n = segment_length high low in
+    let p = passed (nat_le least n) (nat_le n room) n (is_continued high low) size continued e in
+    let more : least ≤ n = leb-true least n p.0 in
+    let fits : n ≤ room = leb-true n room p.1 in
+    let same : n ≡ size = p.2 in
+    (omega arith, omega arith)
 
 -- ---- a DSS of which some segments are joined
 

@@ -8,3 +8,4 @@ pub mod Wanting
 pub mod Settled
 pub mod Joins
 pub mod Commands
+pub mod Walks

@@ -27,18 +27,19 @@ impl<'a> Group<'a> {
         ensures value { option_map dss_of result ≡ slice_get (command_of self.now) i }
         ensures place { IfSome result (λ dss. StandsAt (text_of self.now) dss.at dss.contents.now) }
     {
+        let text: &'a [u8] = self.text;
         let mut at = 0;
-        for _ in 0..i {
-            let Some(dss) = dss_at(self.text, at) else {
+        'walking: for _ in 0..i {
+            let Some(dss) = dss_at(text, at) else {
                 return None;
             };
             at = dss.at + dss.contents.len();
         }
-        dss_at(self.text, at)
+        dss_at(text, at)
     }
 
     /// How many DSSs the command has.
-    pub fn len(&self) -> usize
+    pub fn count(&self) -> usize
         ensures { result ≡ length (command_of self.now) }
     {
         let mut at = 0;
@@ -51,14 +52,17 @@ impl<'a> Group<'a> {
     }
 }
 
-ghost use Rattle.std.specs.Prelude.{◌≡◌, ◌≤◌, length, drop, IfSome};
+ghost use Rattle.std.specs.Prelude.{◌≡◌, ◌≤◌, ◌+◌, drop, length, IfSome};
 ghost use Rattle.std.specs.Option.{option_map};
-ghost use Rattle.dss_frames.specs.Group.{first_dss, dss_of};
+ghost use Rattle.drda_words.specs.Place.{StandsAt};
+ghost use Rattle.dss_frames.specs.Group.{dss_of, first_dss};
 
 /// The DSS that lies at a place of a group's text.
 fn dss_at(text: &[u8], at: usize) -> Option<Dss<'_>>
     requires { at ≤ length text.now }
-    ensures { option_map dss_of result ≡ first_dss (drop at text.now) }
+    ensures value { option_map dss_of result ≡ first_dss (drop at text.now) }
+    ensures at { IfSome result (λ dss. dss.at ≡ at + 6) }
+    ensures place { IfSome result (λ dss. StandsAt text.now dss.at dss.contents.now) }
 {
     let [high, middle, low, format, c, d, rest @ ..] = &text[at..] else {
         return None;
