@@ -26,6 +26,10 @@ written format correlator contents =
     length_bytes 6 first_size (length contents) ++ (0xD0 ∷ format ∷ []) ++ to_be_bytes w16 correlator
     ++ take first_size contents ++ continuations (length contents) (drop first_size contents)
 
--- how many bytes that is
+-- how many bytes the continuations take that hold so many
+abbrev pub continued_length : ℕ → ℕ
+continued_length count = count + 2 * ((count + (next_size - 1)) / next_size)
+
+-- how many bytes a DSS takes
 abbrev pub written_length : ℕ → ℕ
 written_length count = 6 + count + 2 * ((count - first_size + (next_size - 1)) / next_size)
