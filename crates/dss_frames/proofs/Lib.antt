@@ -9,3 +9,4 @@ pub mod Settled
 pub mod Joins
 pub mod Commands
 pub mod Walks
+pub mod Written

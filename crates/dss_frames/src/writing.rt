@@ -24,10 +24,10 @@ pub fn write_dss(
     ensures capacity { vec_capacity out.old ≤ vec_capacity out.new }
 {
     out.reserve(written_length(contents.len()))?;
-    let [high, low] = length_bytes(6, FIRST_SIZE, contents.len());
-    let [c, d] = correlator.to_be_bytes();
-    append(out, &[high, low, 0xD0, format.byte, c, d]);
-    let (first, rest) = contents.split_at(contents.len().min(FIRST_SIZE as usize));
+    append(out, &length_bytes(6, FIRST_SIZE, contents.len()));
+    append(out, &[0xD0, format.byte]);
+    append(out, &correlator.to_be_bytes());
+    let (first, rest) = contents.split_at((FIRST_SIZE as usize).min(contents.len()));
     append(out, first);
     append_continuations(out, rest);
     Ok(())
@@ -72,9 +72,8 @@ fn append_continuations(out: &mut Vec<u8>, bytes: &[u8])
 {
     let mut rest = bytes;
     'writing: while !rest.is_empty() {
-        let [high, low] = length_bytes(2, NEXT_SIZE, rest.len());
-        let (piece, others) = rest.split_at(rest.len().min(NEXT_SIZE as usize));
-        append(out, &[high, low]);
+        append(out, &length_bytes(2, NEXT_SIZE, rest.len()));
+        let (piece, others) = rest.split_at((NEXT_SIZE as usize).min(rest.len()));
         append(out, piece);
         rest = others;
     }
