@@ -1,1 +1,5 @@
 pub mod Xid
+pub mod Numbers
+pub mod Request
+pub mod Branch
+pub mod Due

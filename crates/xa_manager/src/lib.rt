@@ -3,6 +3,18 @@
 //! is due is looked up first, and settled once the caller has recorded it.
 #![tactic(auto)]
 
+mod branch;
+mod code;
+mod due;
+mod flags;
+mod request;
+mod sync_type;
 mod xid;
 
-pub use xid::{BadXid, Xid};
+pub use branch::{Branch, BranchState};
+pub use code::XaCode;
+pub use due::{Action, Due, Facts, IN_DOUBT_LIMIT, KNOWN_LIMIT, Outcome, Work};
+pub use flags::Flags;
+pub use request::{Ending, InvalidRequest, Request, Verb};
+pub use sync_type::SyncType;
+pub use xid::{BadXid, Xid, one_reading};
