@@ -1,1 +1,4 @@
 pub mod Reading
+pub mod Order
+pub mod Rising
+pub mod Places

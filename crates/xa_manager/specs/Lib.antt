@@ -3,3 +3,4 @@ pub mod Numbers
 pub mod Request
 pub mod Branch
 pub mod Due
+pub mod Place

@@ -9,6 +9,7 @@ mod due;
 mod flags;
 mod request;
 mod sync_type;
+mod table;
 mod xid;
 
 pub use branch::{Branch, BranchState};
@@ -17,4 +18,5 @@ pub use due::{Action, Due, Facts, IN_DOUBT_LIMIT, KNOWN_LIMIT, Outcome, Work};
 pub use flags::Flags;
 pub use request::{Ending, InvalidRequest, Request, Verb};
 pub use sync_type::SyncType;
+pub use table::XaTable;
 pub use xid::{BadXid, Xid, one_reading};
