@@ -1,7 +1,8 @@
 -- Where the branch of an XID stands in the list, or where it would go.
-use Rattle.std.specs.Prelude.{◌≡◌, ◌<◌, ◌≤◌, ℕ, IsTrue, List, [], length, slice_index_or}
+use Rattle.std.specs.Prelude.{◌≡◌, ◌<◌, ◌≤◌, ℕ, IsTrue, List, [], length, slice_index_or, None}
 use Rattle.drda_words.specs.Order.{precedes}
 use Rattle.xa_manager.specs.declared.branch.Branch.{Branch}
+use Rattle.xa_manager.specs.Branch.{state_of, in_doubt_count}
 use Rattle.xa_manager.specs.declared.branch.BranchState.TheVariants.{Prepared}
 
 -- what is read past the end
@@ -22,3 +23,9 @@ pub record IsGapFor (bs : List Branch) (xid : List ℕ) (i : ℕ) : Type 0 where
   pub in_range : i ≤ length bs
   pub smaller_before : (j : ℕ) → j < i → IsTrue (precedes (xid_at bs j) xid)
   pub greater_after : (j : ℕ) → i ≤ j → j < length bs → IsTrue (precedes xid (xid_at bs j))
+
+-- a branch in doubt may be added: its XID is not known, and there is room
+pub record MayRestore (bs : List Branch) (xid : List ℕ) : Type 0 where
+  pub unknown : state_of bs xid ≡ None
+  pub known : length bs < 1024
+  pub in_doubt : in_doubt_count bs < 256

@@ -11,6 +11,7 @@ mod request;
 mod sync_type;
 mod table;
 mod xid;
+mod xids;
 
 pub use branch::{Branch, BranchState};
 pub use code::XaCode;
@@ -18,5 +19,6 @@ pub use due::{Action, Due, Facts, IN_DOUBT_LIMIT, KNOWN_LIMIT, Outcome, Work};
 pub use flags::Flags;
 pub use request::{Ending, InvalidRequest, Request, Verb};
 pub use sync_type::SyncType;
-pub use table::XaTable;
+pub use table::{RestoreError, XaTable};
 pub use xid::{BadXid, Xid, one_reading};
+pub use xids::Xids;
