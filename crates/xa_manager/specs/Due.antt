@@ -116,13 +116,17 @@ facts_of bs conversation work = record {
 abbrev pub due_of : List Branch → ℕ → Verb → List ℕ → Work → Due
 due_of bs conversation v xid work = due_at v (state_of bs xid) (facts_of bs conversation work)
 
+-- how a branch stands that a conversation has left
+abbrev pub left_by : ℕ → Ending → BranchState
+left_by conversation Kept = Idle conversation
+left_by conversation Failed = RollbackOnly conversation
+
 -- the table once what is due has been done
 abbrev pub after : List Branch → ℕ → List ℕ → Action → List Branch
 after bs conversation xid action.Nothing = bs
 after bs conversation xid action.Start = with_branch bs (record { xid = xid; state = Active conversation })
 after bs conversation xid action.Join = with_state bs xid (Active conversation)
-after bs conversation xid (action.End Kept) = with_state bs xid (Idle conversation)
-after bs conversation xid (action.End Failed) = with_state bs xid (RollbackOnly conversation)
+after bs conversation xid (action.End e) = with_state bs xid (left_by conversation e)
 after bs conversation xid action.Forget = without bs xid
 after bs conversation xid action.Prepare = with_state bs xid Prepared
 after bs conversation xid action.CommitOnePhase = without bs xid

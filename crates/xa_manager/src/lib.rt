@@ -13,6 +13,9 @@ mod table;
 mod xid;
 mod xids;
 
+#[cfg(test)]
+mod tests;
+
 pub use branch::{Branch, BranchState};
 pub use code::XaCode;
 pub use due::{Action, Due, Facts, IN_DOUBT_LIMIT, KNOWN_LIMIT, Outcome, Work};

@@ -1,9 +1,9 @@
 //! The table of branches.
 
-ghost use Rattle.std.specs.Prelude.{◌≡◌, ◌<◌, ◌≤◌, ◌↔◌, ◌⊎◌, ℕ, [], List, length, None, Err, true, IfOk, IfErr, OnOk, OnErr, IsSome, option_copied, is_some};
+ghost use Rattle.std.specs.Prelude.{◌≡◌, ◌<◌, ◌≤◌, ◌↔◌, ◌⊎◌, [], List, length, None, Err, true, IfOk, IfErr, OnOk, OnErr, IsSome, option_copied, is_some};
 ghost use Rattle.drda_words.specs.Order.{IsRising};
 ghost use Rattle.xa_manager.specs.Branch.{IsTable, is_in_doubt, state_of, joined_xid, in_doubt_count, in_doubt_xids, with_branch, with_state, without, without_those_of};
-ghost use Rattle.xa_manager.specs.Due.{facts_of, due_of, after};
+ghost use Rattle.xa_manager.specs.Due.{due_of, left_by};
 ghost use Rattle.xa_manager.specs.Place.{IsAt, IsGapFor, MayRestore};
 
 use crate::branch::{Branch, BranchState};
@@ -114,7 +114,7 @@ impl XaTable {
     pub fn start(&mut self, conversation: u64, xid: &Xid) -> Result<(), AllocError>
         requires unknown { state_of self.old xid.now ≡ None }
         requires room { length self.old < KNOWN_LIMIT }
-        ensures ok { OnOk result (self.new ≡ after self.old conversation xid.now Action.Start) }
+        ensures ok { OnOk result (self.new ≡ with_branch self.old (record { xid = xid.now; state = BranchState.Active conversation })) }
         ensures err { OnErr result (self.new ≡ self.old) }
     {
         self.add(Branch {
@@ -125,14 +125,14 @@ impl XaTable {
 
     /// The conversation is joined to the branch.
     pub fn join(&mut self, conversation: u64, xid: &Xid)
-        ensures { self.new ≡ after self.old conversation xid.now Action.Join }
+        ensures { self.new ≡ with_state self.old xid.now (BranchState.Active conversation) }
     {
         self.set(xid, BranchState::Active(conversation));
     }
 
     /// The conversation leaves the branch: its work stays, or can only be rolled back.
     pub fn end(&mut self, conversation: u64, xid: &Xid, ending: Ending)
-        ensures { self.new ≡ after self.old conversation xid.now (Action.End ending) }
+        ensures { self.new ≡ with_state self.old xid.now (left_by conversation ending) }
     {
         self.set(
             xid,
@@ -146,7 +146,7 @@ impl XaTable {
     /// The branch has been prepared, and is in doubt from now on.
     pub fn prepare(&mut self, xid: &Xid)
         requires { in_doubt_count self.old < IN_DOUBT_LIMIT }
-        ensures { (conversation : ℕ) → self.new ≡ after self.old conversation xid.now Action.Prepare }
+        ensures { self.new ≡ with_state self.old xid.now BranchState.Prepared }
     {
         self.set(xid, BranchState::Prepared);
     }

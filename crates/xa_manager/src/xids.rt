@@ -4,6 +4,7 @@ ghost use Rattle.std.specs.Prelude.{◌≡◌, ◌≤◌, List, length, IfOk};
 ghost use Rattle.xa_manager.specs.Branch.{IsTable, in_doubt_xids};
 
 use crate::branch::Branch;
+use crate::due::IN_DOUBT_LIMIT;
 use crate::xid::Xid;
 use std::alloc::{AllocError, Global};
 use std::marker::Model;
@@ -28,7 +29,7 @@ impl Xids {
     /// The XIDs.
     pub fn as_slice(&self) -> &[Xid]
         ensures all { result.now ≡ self.now }
-        ensures limit { length self.now ≤ 256 }
+        ensures limit { length self.now ≤ IN_DOUBT_LIMIT }
     {
         &self.xids
     }
