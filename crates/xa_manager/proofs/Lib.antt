@@ -2,3 +2,4 @@ pub mod Reading
 pub mod Order
 pub mod Rising
 pub mod Places
+pub mod AllCalls

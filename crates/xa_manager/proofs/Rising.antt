@@ -107,28 +107,34 @@ length-with_branch (b ∷ bs) new =
       | false ↦ ap (λ (n : ℕ). suc n) rest
     ]
 
--- 1 for a branch in doubt, else 0
-abbrev weight : BranchState → ℕ
-weight s = cond (is_in_doubt s) 1 0
+-- how many branches stand so that the test holds
+abbrev pub count_of : (BranchState → Bool) → List Branch → ℕ
+count_of p bs = count_by (λ b. p b.state) bs
 
-counted : (b : Branch) (bs : List Branch) → in_doubt_count (b ∷ bs) ≡ weight b.state + in_doubt_count bs
-counted b bs = sum_by-cons (λ c. cond (is_in_doubt c.state) 1 0) b bs
+-- 1 where the test holds, else 0
+abbrev pub weight : (BranchState → Bool) → BranchState → ℕ
+weight p s = cond (p s) 1 0
 
-pub in_doubt_count-with_branch : (bs : List Branch) (new : Branch) → in_doubt_count (with_branch bs new) ≡ weight new.state + in_doubt_count bs
-in_doubt_count-with_branch [] new = counted new []
-in_doubt_count-with_branch (b ∷ bs) new =
-    let rest = in_doubt_count-with_branch bs new in
-    let front : in_doubt_count (new ∷ b ∷ bs) ≡ weight new.state + in_doubt_count (b ∷ bs) = counted new (b ∷ bs) in
-    let behind : in_doubt_count (b ∷ with_branch bs new) ≡ weight new.state + in_doubt_count (b ∷ bs) = omega (arith, rest, counted b (with_branch bs new), counted b bs) in
-    elim (precedes new.xid b.xid) as (λ t. in_doubt_count (cond t (new ∷ b ∷ bs) (b ∷ with_branch bs new)) ≡ weight new.state + in_doubt_count (b ∷ bs)) [ true ↦ front | false ↦ behind ]
+module _ (p : BranchState → Bool) where
+  -- the first counts for itself
+  pub counted : (b : Branch) (bs : List Branch) → count_of p (b ∷ bs) ≡ weight p b.state + count_of p bs
+  counted b bs = sum_by-cons (λ c. cond (p c.state) 1 0) b bs
 
-pub in_doubt_count-filter : (p : Branch → Bool) (bs : List Branch) → in_doubt_count (filter p bs) ≤ in_doubt_count bs
-in_doubt_count-filter p [] = omega arith
-in_doubt_count-filter p (b ∷ bs) =
-    let rest = in_doubt_count-filter p bs in
-    let kept : in_doubt_count (b ∷ filter p bs) ≤ in_doubt_count (b ∷ bs) = omega (arith, rest, counted b (filter p bs), counted b bs) in
-    let dropped : in_doubt_count (filter p bs) ≤ in_doubt_count (b ∷ bs) = omega (arith, rest, counted b bs) in
-    elim (p b) as (λ t. in_doubt_count (cond t (b ∷ filter p bs) (filter p bs)) ≤ in_doubt_count (b ∷ bs)) [ true ↦ kept | false ↦ dropped ]
+  pub count_of-with_branch : (bs : List Branch) (new : Branch) → count_of p (with_branch bs new) ≡ weight p new.state + count_of p bs
+  count_of-with_branch [] new = counted new []
+  count_of-with_branch (b ∷ bs) new =
+      let rest = count_of-with_branch bs new in
+      let front : count_of p (new ∷ b ∷ bs) ≡ weight p new.state + count_of p (b ∷ bs) = counted new (b ∷ bs) in
+      let behind : count_of p (b ∷ with_branch bs new) ≡ weight p new.state + count_of p (b ∷ bs) = omega (arith, rest, counted b (with_branch bs new), counted b bs) in
+      elim (precedes new.xid b.xid) as (λ t. count_of p (cond t (new ∷ b ∷ bs) (b ∷ with_branch bs new)) ≡ weight p new.state + count_of p (b ∷ bs)) [ true ↦ front | false ↦ behind ]
+
+  pub count_of-filter : (q : Branch → Bool) (bs : List Branch) → count_of p (filter q bs) ≤ count_of p bs
+  count_of-filter q [] = omega arith
+  count_of-filter q (b ∷ bs) =
+      let rest = count_of-filter q bs in
+      let kept : count_of p (b ∷ filter q bs) ≤ count_of p (b ∷ bs) = omega (arith, rest, counted b (filter q bs), counted b bs) in
+      let dropped : count_of p (filter q bs) ≤ count_of p (b ∷ bs) = omega (arith, rest, counted b bs) in
+      elim (q b) as (λ t. count_of p (cond t (b ∷ filter q bs) (filter q bs)) ≤ count_of p (b ∷ bs)) [ true ↦ kept | false ↦ dropped ]
 
 pub length-filter-le : (p : Branch → Bool) (bs : List Branch) → length (filter p bs) ≤ length bs
 length-filter-le p [] = omega arith
@@ -157,17 +163,17 @@ state_of_above [] x h = refl
 state_of_above (b ∷ bs) x h = rw (precedes_another x b.xid h.0) (state_of_above bs x h.1)
 
 -- one branch at most gets the state
-pub in_doubt_count-with_state : (bs : List Branch) (x : List ℕ) (s : BranchState) → Rises bs → in_doubt_count (with_state bs x s) ≤ weight s + in_doubt_count bs
-in_doubt_count-with_state [] x s h = omega arith
-in_doubt_count-with_state (b ∷ bs) x s h =
-    let rest = in_doubt_count-with_state bs x s h.1 in
+pub count_of-with_state : (p : BranchState → Bool) (bs : List Branch) (x : List ℕ) (s : BranchState) → Rises bs → count_of p (with_state bs x s) ≤ weight p s + count_of p bs
+count_of-with_state p [] x s h = omega arith
+count_of-with_state p (b ∷ bs) x s h =
+    let rest = count_of-with_state p bs x s h.1 in
     let set_to : Branch = record { xid = b.xid; state = s } in
-    let kept : in_doubt_count (b ∷ with_state bs x s) ≤ weight s + in_doubt_count (b ∷ bs) = omega (arith, rest, counted b (with_state bs x s), counted b bs) in
-    let changed : bytes_eq b.xid x ≡ true → in_doubt_count (set_to ∷ with_state bs x s) ≤ weight s + in_doubt_count (b ∷ bs) = λ f.
+    let kept : count_of p (b ∷ with_state bs x s) ≤ weight p s + count_of p (b ∷ bs) = omega (arith, rest, counted p b (with_state bs x s), counted p b bs) in
+    let changed : bytes_eq b.xid x ≡ true → count_of p (set_to ∷ with_state bs x s) ≤ weight p s + count_of p (b ∷ bs) = λ f.
       let behind : Above x bs = subst (λ (y : List ℕ). Above y bs) (same_bytes b.xid x f) h.0 in
-      let others : in_doubt_count (with_state bs x s) ≡ in_doubt_count bs = ap (λ (l : List Branch). in_doubt_count l) (with_state_above bs x s behind) in
-      omega (arith, others, counted set_to (with_state bs x s), counted b bs) in
-    elim (bytes_eq b.xid x) as (λ t. bytes_eq b.xid x ≡ t → in_doubt_count ((cond t set_to b) ∷ with_state bs x s) ≤ weight s + in_doubt_count (b ∷ bs)) [ true ↦ changed | false ↦ λ f. kept ] refl
+      let others : count_of p (with_state bs x s) ≡ count_of p bs = ap (λ (l : List Branch). count_of p l) (with_state_above bs x s behind) in
+      omega (arith, others, counted p set_to (with_state bs x s), counted p b bs) in
+    elim (bytes_eq b.xid x) as (λ t. bytes_eq b.xid x ≡ t → count_of p ((cond t set_to b) ∷ with_state bs x s) ≤ weight p s + count_of p (b ∷ bs)) [ true ↦ changed | false ↦ λ f. kept ] refl
 
 -- ---- the whole
 
@@ -175,10 +181,10 @@ pub table_filter : (p : Branch → Bool) (bs : List Branch) → IsTable bs → I
 table_filter p bs t = record {
   rising = rising (filter p bs) (rises_filter p bs (rises bs t.rising));
   known = omega (arith, t.known, length-filter-le p bs);
-  in_doubt = omega (arith, t.in_doubt, in_doubt_count-filter p bs);
+  in_doubt = omega (arith, t.in_doubt, count_of-filter is_in_doubt p bs);
 }
 
-weight_room : (s : BranchState) (n : ℕ) → n ≤ 256 → (is_in_doubt s ≡ true → n < 256) → weight s + n ≤ 256
+weight_room : (s : BranchState) (n : ℕ) → n ≤ 256 → (is_in_doubt s ≡ true → n < 256) → weight is_in_doubt s + n ≤ 256
 weight_room s n h room = by_case (is_in_doubt s) refl
   where
     by_case : (t : Bool) → is_in_doubt s ≡ t → cond t 1 0 + n ≤ 256
@@ -188,7 +194,7 @@ weight_room s n h room = by_case (is_in_doubt s) refl
 pub table_state : (bs : List Branch) (x : List ℕ) (s : BranchState) → IsTable bs → (is_in_doubt s ≡ true → in_doubt_count bs < 256) → IsTable (with_state bs x s)
 table_state bs x s t room =
     let r = rises bs t.rising in
-    let count = in_doubt_count-with_state bs x s r in
+    let count = count_of-with_state is_in_doubt bs x s r in
     let fits = weight_room s (in_doubt_count bs) t.in_doubt room in
     record {
       rising = rising (with_state bs x s) (rises_state x s bs r);
@@ -198,7 +204,7 @@ table_state bs x s t room =
 
 pub table_branch : (bs : List Branch) (new : Branch) → IsTable bs → state_of bs new.xid ≡ None → length bs < 1024 → (is_in_doubt new.state ≡ true → in_doubt_count bs < 256) → IsTable (with_branch bs new)
 table_branch bs new t unknown known room =
-    let count = in_doubt_count-with_branch bs new in
+    let count = count_of-with_branch is_in_doubt bs new in
     let fits = weight_room new.state (in_doubt_count bs) t.in_doubt room in
     record {
       rising = rising (with_branch bs new) (rises_branch bs new unknown (rises bs t.rising));

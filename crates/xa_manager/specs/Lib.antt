@@ -4,3 +4,4 @@ pub mod Request
 pub mod Branch
 pub mod Due
 pub mod Place
+pub mod Laws

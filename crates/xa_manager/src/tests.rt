@@ -262,10 +262,11 @@ fn stops_at_its_limits(rt: HostRuntime) -> Result<(), Fail> {
     assert_eq!(rt; table.due(2, Verb::Prepare, &idle, work).code.number(), -3);
 
     // Recover lists them in order.
-    let listed = table.recover(rt.alloc())?;
-    assert_eq!(rt; listed.as_slice().len(), 256);
-    for (xid, number) in listed.as_slice().iter().zip(0..256u32) {
-        assert_eq!(rt; *xid, numbered(4 * number)?);
+    let xids = table.recover(rt.alloc())?;
+    let listed = xids.as_slice();
+    assert_eq!(rt; listed.len(), 256);
+    for number in 0..256u32 {
+        assert_eq!(rt; listed[number as usize], numbered(4 * number)?);
     }
 
     // A decision makes room, for one that is in doubt and for one that is known.
