@@ -1,4 +1,4 @@
--- The numbers of SYNCTYPE (this server's profile), and of XAFLAGS and XARETVAL (C193 section 4.3).
+-- The numbers of SYNCTYPE (this server's profile), and of XAFLAGS and XARETVAL (C193 chapter 4).
 use Rattle.std.specs.Prelude.{ℕ, ℤ, pos, negsuc, Option, Some, None, if◌then◌else◌, ◌==◌}
 use Rattle.xa_manager.specs.declared.sync_type.SyncType.{SyncType}
 use Rattle.xa_manager.specs.declared.sync_type.SyncType.TheVariants as sync

@@ -1,4 +1,4 @@
--- XID data (DRDA V5 volume 3, XID; C193 chapter 4, "Transaction branch identifiers"): a format
+-- XID data (DRDA V5 volume 3, XID; C193 chapter 4, "Transaction Identification"): a format
 -- number, the lengths of the two parts, four bytes each, then the global transaction identifier and
 -- the branch qualifier. Format -1 (FFFFFFFF) is the null XID, which names no branch.
 use Rattle.std.specs.Prelude.{◌≡◌, ◌<◌, ◌≤◌, ℕ, ◌+◌, ◌-◌, ◌^◌, Bool, ◌&&◌, nat_le, nat_lt, List, ◌++◌, length, take, replicate, slice_index, Option, Some, None, if◌then◌else◌}

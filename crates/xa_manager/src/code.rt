@@ -3,7 +3,7 @@
 ghost use Rattle.std.specs.Prelude.{◌≡◌};
 ghost use Rattle.xa_manager.specs.Numbers.{code_number};
 
-/// The XARETVAL of an XA call (C193 section 4.3), with its number.
+/// The XARETVAL of an XA call (C193 chapter 4, "Return Codes"), with its number.
 #[derive(Clone, Copy, Debug, PartialEq, Eq)]
 pub enum XaCode {
     /// XA_OK.

@@ -3,7 +3,7 @@
 ghost use Rattle.std.specs.Prelude.{◌≡◌, ◌≢◌, IfSome, IfNone};
 ghost use Rattle.xa_manager.specs.Numbers.{flags_number, flags_of};
 
-/// The XAFLAGS that some call takes (C193 section 4.3), with their numbers. No call here takes two
+/// The XAFLAGS that some call takes (C193 chapter 4, "Flag Definitions"), with their numbers. No call here takes two
 /// at once.
 #[derive(Clone, Copy, Debug, PartialEq, Eq)]
 pub enum Flags {

@@ -30,8 +30,8 @@ const NULL_FORMAT: u32 = 0xFFFF_FFFF;
 pub struct BadXid;
 
 /// A transaction branch identifier: a format number, a global transaction identifier of 1 to 64
-/// bytes and a branch qualifier of 0 to 64 bytes (C193 section 4.2; that a branch qualifier may be
-/// empty is this server's own leniency). Contracts see it as the bytes that write it.
+/// bytes and a branch qualifier of 0 to 64 bytes (C193 chapter 4, "Transaction Identification"; that a
+/// branch qualifier may be empty is this server's own leniency). Contracts see it as the bytes that write it.
 #[derive(Clone, Copy)]
 pub struct Xid {
     bytes: [u8; 140],
