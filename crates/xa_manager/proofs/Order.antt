@@ -1,5 +1,5 @@
 -- The order of XIDs by their bytes.
-use Rattle.std.proofs.Common.{◌≡◌, ℕ, ◌≤◌, true, false, List, refl, sym, ap, subst, inl, inr, ◌⊎◌, arith, ◌∙◌}
+use Rattle.std.proofs.Common.{◌≡◌, ℕ, ◌≤◌, true, false, List, refl, sym, ap, subst, arith, ◌∙◌}
 use Rattle.std.specs.Ordering.{nat_cmp, is_lt, is_eq, ordering_reverse, ordering_index}
 use Rattle.std.specs.declared.cmp.Ordering.{Ordering}
 use Rattle.std.specs.declared.cmp.Ordering.TheVariants.{Less, Equal, Greater}
@@ -72,10 +72,12 @@ index_rises a b x p = by_case (slice_cmp nat_cmp b x) refl
   where
     low : (r : Ordering) → r ≡ Less → (n : ℕ) → ordering_index r ≤ n
     low r e n = rw e (omega arith)
+
     top : (r : Ordering) → ordering_index r ≤ 2
     top Less = omega arith
     top Equal = omega arith
     top Greater = omega arith
+
     by_case : (r : Ordering) → slice_cmp nat_cmp b x ≡ r → ordering_index (slice_cmp nat_cmp a x) ≤ ordering_index r
     by_case Less f = low (slice_cmp nat_cmp a x) (nat_list_cmp_total.trans a b x (precedes-Less a b p) f) 0
     by_case Equal f =

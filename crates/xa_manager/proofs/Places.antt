@@ -1,5 +1,5 @@
 -- What a search finds among branches that rise, and what an edit there does.
-use Rattle.std.proofs.Common.{◌≡◌, ℕ, zero, suc, ◌+◌, ◌<◌, ◌≤◌, true, false, cond, List, [], ◌∷◌, ◌++◌, length, get_or, set, take, drop, Option, Some, None, Result, Ok, Err, IfOk, IfErr, refl, sym, ap, subst, inl, inr, arith, ◌∙◌}
+use Rattle.std.proofs.Common.{◌≡◌, ℕ, zero, suc, ◌<◌, true, false, List, [], ◌∷◌, length, get_or, set, Some, None, Result, Ok, Err, IfOk, IfErr, refl, ap, subst, inl, inr, arith}
 use Rattle.std.specs.List.{insert, remove}
 use Rattle.std.specs.List.Sorted.{IsSearchInRange, IsBinarySearchResult, IsNonDecreasingBy}
 use Rattle.std.specs.Ordering.{nat_cmp, is_lt, ordering_index}
@@ -14,7 +14,7 @@ use Rattle.xa_manager.specs.declared.branch.Branch.{Branch}
 use Rattle.xa_manager.specs.declared.branch.BranchState.{BranchState}
 use Rattle.xa_manager.specs.Branch.{state_of, with_branch, with_state, without}
 use Rattle.xa_manager.specs.Place.{no_branch, xid_at, IsAt, IsGapFor}
-use Rattle.xa_manager.proofs.Order.{precedes_one_way, precedes_other, precedes_another, precedes_from_Greater, bytes_eq-refl, index_rises}
+use Rattle.xa_manager.proofs.Order.{precedes_one_way, precedes_other, precedes_from_Greater, bytes_eq-refl, index_rises}
 use Rattle.xa_manager.proofs.Rising.{Above, Rises, rises, with_state_above, without_above, state_of_above}
 
 above_at : (x : List ℕ) (bs : List Branch) → Above x bs → (i : ℕ) → i < length bs → precedes x (xid_at bs i) ≡ true
@@ -97,11 +97,14 @@ gap_tail b bs x i h = record {
 -- all is behind a gap at the front
 gap_front : (bs : List Branch) (x : List ℕ) → IsGapFor bs x 0 → Above x bs
 gap_front [] x h = tt
-gap_front (b ∷ bs) x h = (h.greater_after 0 (omega arith) (omega arith), gap_front bs x (record {
-  in_range = omega arith;
-  smaller_before = λ j lt. absurd (omega arith);
-  greater_after = λ j le lt. h.greater_after (suc j) (omega arith) (omega arith);
-}))
+gap_front (b ∷ bs) x h = (
+  h.greater_after 0 (omega arith) (omega arith),
+  gap_front bs x (record {
+    in_range = omega arith;
+    smaller_before = λ j lt. absurd (omega arith);
+    greater_after = λ j le lt. h.greater_after (suc j) (omega arith) (omega arith);
+  }),
+)
 
 pub state_in_gap : (bs : List Branch) (x : List ℕ) (i : ℕ) → IsGapFor bs x i → state_of bs x ≡ None
 state_in_gap [] x i h = refl

@@ -1,9 +1,9 @@
 -- What a text begins with is an XID's bytes, exactly where the test says so.
-use Rattle.std.proofs.Common.{◌≡◌, ℕ, ◌+◌, ◌-◌, ◌^◌, ◌<◌, ◌≤◌, Bool, true, false, cond, ltb, leb, ◌&&◌, List, [], ◌∷◌, ◌++◌, length, get_or, take, drop, Option, Some, None, refl, sym, ap, subst, ◌∙◌, append_assoc, arith, inl, inr, ◌⊎◌, length-append, take-append-drop, length-take-le}
+use Rattle.std.proofs.Common.{◌≡◌, ℕ, ◌+◌, ◌-◌, ◌^◌, ◌<◌, ◌≤◌, Bool, true, false, cond, ltb, leb, ◌&&◌, List, ◌++◌, length, take, drop, Some, None, refl, sym, ap, ◌∙◌, arith, inl, inr, length-append, take-append-drop, length-take-le}
 use Rattle.std.specs.Int.{w32, from_be_bytes, to_be_bytes}
 use Rattle.std.proofs.lemmas.Bool.{cases_lt}
 use Rattle.std.proofs.lemmas.Bool.Decides.{nat_tests}
-use Rattle.std.proofs.lemmas.List.{take_at, drop_at, length-take, length-drop, get_or-drop, get_or-take, get_or_past, drop-drop, drop-append-le, take-append-le}
+use Rattle.std.proofs.lemmas.List.{take_at, length-take, length-drop, get_or-drop, get_or-take, get_or_past, drop-drop, drop-append-le, take-append-le}
 use Rattle.std.proofs.lemmas.Nat.{be_bytes_4, from_be_bytes-to_be_bytes_4}
 use Rattle.std.proofs.Math.Seq.{take-add}
 use Rattle.drda_words.specs.Place.{part}
@@ -86,10 +86,10 @@ wire-parts_of text bytes b =
     let e4 : part text 12 (g + n) ≡ part text 12 g ++ part text (12 + g) n = part-more text 12 g n in
     let size : 12 + g + n ≡ 4 + (4 + (4 + (g + n))) = omega arith in
     let whole : part text 0 4 ++ (part text 4 4 ++ (part text 8 4 ++ (part text 12 g ++ part text (12 + g) n))) ≡ take (12 + g + n) text =
-        rw (size, e1, e2, e3, e4) refl in
+    rw (size, e1, e2, e3, e4) refl in
     let written : wire (parts_of text) ≡ to_be_bytes w32 (number_at text 0) ++ (to_be_bytes w32 g ++ (to_be_bytes w32 n ++ (part text 12 g ++ part text (12 + g) n))) =
-        ap (λ (k : ℕ). to_be_bytes w32 (number_at text 0) ++ (to_be_bytes w32 k ++ (to_be_bytes w32 (length (part text (12 + g) n)) ++ (part text 12 g ++ part text (12 + g) n)))) global
-        ∙ ap (λ (k : ℕ). to_be_bytes w32 (number_at text 0) ++ (to_be_bytes w32 g ++ (to_be_bytes w32 k ++ (part text 12 g ++ part text (12 + g) n)))) branch in
+    ap (λ (k : ℕ). to_be_bytes w32 (number_at text 0) ++ (to_be_bytes w32 k ++ (to_be_bytes w32 (length (part text (12 + g) n)) ++ (part text 12 g ++ part text (12 + g) n)))) global
+    ∙ ap (λ (k : ℕ). to_be_bytes w32 (number_at text 0) ++ (to_be_bytes w32 g ++ (to_be_bytes w32 k ++ (part text 12 g ++ part text (12 + g) n)))) branch in
     written
     ∙ ap (λ (t : List ℕ). t ++ (to_be_bytes w32 g ++ (to_be_bytes w32 n ++ (part text 12 g ++ part text (12 + g) n)))) first
     ∙ ap (λ (t : List ℕ). part text 0 4 ++ (t ++ (to_be_bytes w32 n ++ (part text 12 g ++ part text (12 + g) n)))) second
@@ -187,8 +187,8 @@ read_on bytes rest e =
     let branch = number-append bytes rest 8 (omega (arith, b.head)) in
     let size : length (bytes ++ rest) ≡ length bytes + length rest = length-append bytes rest in
     let test : begins_with_xid (bytes ++ rest) ≡ true =
-        test_from (length (bytes ++ rest)) (number_at (bytes ++ rest) 0) (number_at (bytes ++ rest) 4) (number_at (bytes ++ rest) 8)
-          (omega (arith, b.head)) (rw format b.not_null) (rw global b.some_global) (rw global b.short_global) (rw branch b.short_branch)
-          (rw (global, branch, size) (omega (arith, b.whole))) in
+    test_from (length (bytes ++ rest)) (number_at (bytes ++ rest) 0) (number_at (bytes ++ rest) 4) (number_at (bytes ++ rest) 8)
+    (omega (arith, b.head)) (rw format b.not_null) (rw global b.some_global) (rw global b.short_global) (rw branch b.short_branch)
+    (rw (global, branch, size) (omega (arith, b.whole))) in
     let long : xid_length (bytes ++ rest) ≡ length bytes = rw (global, branch) w.1 in
     rw (test, long, take_at bytes rest (length bytes) refl) refl

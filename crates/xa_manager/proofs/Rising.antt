@@ -1,13 +1,13 @@
 -- Branches whose XIDs rise, and what an edit does to them.
-use Rattle.std.proofs.Common.{◌≡◌, ℕ, zero, suc, ◌+◌, ◌<◌, ◌≤◌, Bool, true, false, cond, not, List, [], ◌∷◌, length, map, get_or, set, Option, Some, None, refl, sym, ap, subst, inl, inr, ◌⊎◌, arith, ◌∙◌}
-use Rattle.std.specs.Prelude.{filter, count_by, sum_by}
+use Rattle.std.proofs.Common.{◌≡◌, ℕ, suc, ◌+◌, ◌<◌, ◌≤◌, Bool, true, false, cond, List, [], ◌∷◌, length, Some, None, refl, ap, subst, arith}
+use Rattle.std.specs.Prelude.{filter, count_by}
 use Rattle.std.specs.Str.{bytes_eq}
 use Rattle.std.proofs.lemmas.List.Sums.{sum_by-cons}
 use Rattle.drda_words.specs.Order.{precedes, IsRising}
 use Rattle.xa_manager.specs.declared.branch.Branch.{Branch}
 use Rattle.xa_manager.specs.declared.branch.BranchState.{BranchState}
 use Rattle.xa_manager.specs.Branch.{IsTable, is_in_doubt, state_of, in_doubt_count, with_branch, with_state, without}
-use Rattle.xa_manager.proofs.Order.{precedes-trans, precedes_one_way, precedes_other, precedes_another, precedes_or, bytes_eq-refl, same_bytes}
+use Rattle.xa_manager.proofs.Order.{precedes-trans, precedes_another, precedes_or, same_bytes}
 
 -- an XID comes before each branch
 abbrev pub Above : List ℕ → List Branch → Type 0
@@ -79,7 +79,7 @@ above_branch y (b ∷ bs) new p h =
     elim (precedes new.xid b.xid) as (λ t. Above y (cond t (new ∷ b ∷ bs) (b ∷ with_branch bs new))) [ true ↦ (p, h) | false ↦ (h.0, rest) ]
 
 -- the first branch does not have the XID, and none of the others has
-unknown_parts : (b : Branch) (bs : List Branch) (x : List ℕ) → state_of (b ∷ bs) x ≡ None → (bytes_eq b.xid x ≡ false) × (state_of bs x ≡ None)
+pub unknown_parts : (b : Branch) (bs : List Branch) (x : List ℕ) → state_of (b ∷ bs) x ≡ None → (bytes_eq b.xid x ≡ false) × (state_of bs x ≡ None)
 unknown_parts b bs x e = by_case (bytes_eq b.xid x) refl e
   where
     by_case : (t : Bool) → bytes_eq b.xid x ≡ t → cond t (Some b.state) (state_of bs x) ≡ None → (bytes_eq b.xid x ≡ false) × (state_of bs x ≡ None)
@@ -170,9 +170,9 @@ count_of-with_state p (b ∷ bs) x s h =
     let set_to : Branch = record { xid = b.xid; state = s } in
     let kept : count_of p (b ∷ with_state bs x s) ≤ weight p s + count_of p (b ∷ bs) = omega (arith, rest, counted p b (with_state bs x s), counted p b bs) in
     let changed : bytes_eq b.xid x ≡ true → count_of p (set_to ∷ with_state bs x s) ≤ weight p s + count_of p (b ∷ bs) = λ f.
-      let behind : Above x bs = subst (λ (y : List ℕ). Above y bs) (same_bytes b.xid x f) h.0 in
-      let others : count_of p (with_state bs x s) ≡ count_of p bs = ap (λ (l : List Branch). count_of p l) (with_state_above bs x s behind) in
-      omega (arith, others, counted p set_to (with_state bs x s), counted p b bs) in
+    let behind : Above x bs = subst (λ (y : List ℕ). Above y bs) (same_bytes b.xid x f) h.0 in
+    let others : count_of p (with_state bs x s) ≡ count_of p bs = ap (λ (l : List Branch). count_of p l) (with_state_above bs x s behind) in
+    omega (arith, others, counted p set_to (with_state bs x s), counted p b bs) in
     elim (bytes_eq b.xid x) as (λ t. bytes_eq b.xid x ≡ t → count_of p ((cond t set_to b) ∷ with_state bs x s) ≤ weight p s + count_of p (b ∷ bs)) [ true ↦ changed | false ↦ λ f. kept ] refl
 
 -- ---- the whole

@@ -1,5 +1,5 @@
 -- The branches that a table knows: a list that rises by the bytes of the XIDs.
-use Rattle.std.specs.Prelude.{◌≡◌, ◌≤◌, ℕ, Bool, true, false, not, ◌==◌, bytes_eq, List, [], ◌∷◌, length, map, filter, find, count_by, Option, Some, None, option_map, if◌then◌else◌}
+use Rattle.std.specs.Prelude.{◌≤◌, ℕ, Bool, true, false, not, ◌==◌, bytes_eq, List, [], ◌∷◌, length, map, filter, find, count_by, Option, Some, None, option_map, if◌then◌else◌}
 use Rattle.drda_words.specs.Order.{precedes, IsRising}
 use Rattle.xa_manager.specs.declared.branch.Branch.{Branch}
 use Rattle.xa_manager.specs.declared.branch.BranchState.{BranchState}

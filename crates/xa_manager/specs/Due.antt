@@ -121,6 +121,18 @@ abbrev pub left_by : ℕ → Ending → BranchState
 left_by conversation Kept = Idle conversation
 left_by conversation Failed = RollbackOnly conversation
 
+-- where a branch stands once what is due of it has been done; None is not known
+abbrev pub next_state : ℕ → Action → Option BranchState → Option BranchState
+next_state conversation action.Nothing s = s
+next_state conversation action.Start s = Some (Active conversation)
+next_state conversation action.Join s = Some (Active conversation)
+next_state conversation (action.End e) s = Some (left_by conversation e)
+next_state conversation action.Forget s = None
+next_state conversation action.Prepare s = Some Prepared
+next_state conversation action.CommitOnePhase s = None
+next_state conversation (action.Decide _) s = None
+next_state conversation action.RollBack s = None
+
 -- the table once what is due has been done
 abbrev pub after : List Branch → ℕ → List ℕ → Action → List Branch
 after bs conversation xid action.Nothing = bs

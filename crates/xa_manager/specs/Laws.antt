@@ -1,6 +1,6 @@
 -- What holds over all calls: a prepared branch waits for its decision, and a conversation works in one
 -- branch at most, which is active.
-use Rattle.std.specs.Prelude.{◌≡◌, ◌⊎◌, ◌≤◌, ℕ, Bool, true, false, IsTrue, List, count_by, Some}
+use Rattle.std.specs.Prelude.{◌≡◌, ◌⊎◌, ◌≤◌, ℕ, Bool, true, false, IsTrue, bytes_eq, List, count_by, Some, if◌then◌else◌}
 use Rattle.drda_words.specs.Order.{IsRising}
 use Rattle.xa_manager.specs.declared.branch.Branch.{Branch}
 use Rattle.xa_manager.specs.declared.branch.BranchState.TheVariants.{Active, Prepared}
@@ -9,7 +9,7 @@ use Rattle.xa_manager.specs.declared.due.Action.{Action}
 use Rattle.xa_manager.specs.declared.due.Action.TheVariants as action
 use Rattle.xa_manager.specs.declared.due.Work.{Work}
 use Rattle.xa_manager.specs.Branch.{state_of, joined_xid, is_joined_by, without_those_of}
-use Rattle.xa_manager.specs.Due.{due_of, after}
+use Rattle.xa_manager.specs.Due.{due_of, next_state, after}
 
 -- what is due is the branch's decision
 abbrev pub is_decision : Action → Bool
@@ -20,12 +20,19 @@ is_decision _ = false
 abbrev pub action_of : List Branch → ℕ → Verb → List ℕ → Work → Action
 action_of bs conversation v xid work = (due_of bs conversation v xid work).action
 
+-- a call moves the branch that it names to its next state, and leaves the others where they stand
+abbrev pub MovesOne : Type 0
+MovesOne =
+    (bs : List Branch) (conversation : ℕ) (v : Verb) (asked xid : List ℕ) (work : Work)
+    → let a = action_of bs conversation v asked work in
+    state_of (after bs conversation asked a) xid ≡ (if bytes_eq asked xid then next_state conversation a (state_of bs asked) else state_of bs xid)
+
 -- a prepared branch stays so over each call, but for its decision
 abbrev pub PreparedStays : Type 0
 PreparedStays =
     (bs : List Branch) (conversation : ℕ) (v : Verb) (asked xid : List ℕ) (work : Work) → state_of bs xid ≡ Some Prepared
     → (state_of (after bs conversation asked (action_of bs conversation v asked work)) xid ≡ Some Prepared)
-      ⊎ ((asked ≡ xid) × IsTrue (is_decision (action_of bs conversation v asked work)))
+    ⊎ ((asked ≡ xid) × IsTrue (is_decision (action_of bs conversation v asked work)))
 
 -- and over the loss of a conversation
 abbrev pub PreparedOutlives : Type 0

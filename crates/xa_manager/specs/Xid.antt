@@ -58,7 +58,7 @@ xid_length text = 12 + number_at text 4 + number_at text 8
 abbrev pub begins_with_xid : List ℕ → Bool
 begins_with_xid text =
     nat_le 12 (length text) && (nat_lt (number_at text 0) (2 ^ 32 - 1) && (nat_le 1 (number_at text 4)
-      && (nat_le (number_at text 4) 64 && (nat_le (number_at text 8) 64 && nat_le (xid_length text) (length text)))))
+    && (nat_le (number_at text 4) 64 && (nat_le (number_at text 8) 64 && nat_le (xid_length text) (length text)))))
 
 -- the bytes of the XID that a text begins with; what follows them is skipped
 abbrev pub xid_in : List ℕ → Option (List ℕ)

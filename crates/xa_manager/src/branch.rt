@@ -36,9 +36,9 @@ impl BranchState {
         ensures { result ≡ is_last_joined_by conversation self }
     {
         match self {
-            BranchState::Active(last) | BranchState::Idle(last) | BranchState::RollbackOnly(last) => {
-                last == conversation
-            }
+            BranchState::Active(last) => last == conversation,
+            BranchState::Idle(last) => last == conversation,
+            BranchState::RollbackOnly(last) => last == conversation,
             BranchState::Prepared => false,
         }
     }

@@ -1,6 +1,12 @@
 //! What holds over all calls of a table.
 
-ghost use Rattle.xa_manager.specs.Laws.{PreparedStays, PreparedOutlives, OnlyPreparedDecided, JoinedIsActive, OneEachStays, OneEachOutlives};
+ghost use Rattle.xa_manager.specs.Laws.{MovesOne, PreparedStays, PreparedOutlives, OnlyPreparedDecided, JoinedIsActive, OneEachStays, OneEachOutlives};
+
+/// What a call makes due moves the branch that it names to its next state, and leaves every other
+/// branch where it stands.
+pub fn moves_one_branch()
+    ensures { MovesOne }
+{}
 
 /// A prepared branch stays prepared over each call and over the loss of each conversation, until
 /// its decision is due; and a decision is due of no other branch.

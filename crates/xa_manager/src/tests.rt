@@ -6,11 +6,17 @@ use std::alloc::{AllocError, Global};
 use std::test::Fail;
 
 const NONE: u32 = 0;
+
 const JOIN: u32 = 0x0020_0000;
+
 const SUSPEND: u32 = 0x0200_0000;
+
 const SUCCESS: u32 = 0x0400_0000;
+
 const RESUME: u32 = 0x0800_0000;
+
 const FAIL: u32 = 0x2000_0000;
+
 const ONE_PHASE: u32 = 0x4000_0000;
 
 // Format 1, global part 47, branch part 42.
@@ -76,7 +82,12 @@ const CELLS: [(u8, u32, [i32; 8], &[u8; 8]); 11] = [
     (0x0B, FAIL, [-4, 0, -6, 0, -6, -6, -6, -6], b".r.r...."),
     (0x01, NONE, [-4, -6, -6, 0, 0, 100, 100, -6], b"...ppuu."),
     (0x04, NONE, [-4, -6, -6, -6, -6, -6, -6, 0], b".......u"),
-    (0x04, ONE_PHASE, [-4, -6, -6, 0, 0, 100, 100, -6], b"...uuuu."),
+    (
+        0x04,
+        ONE_PHASE,
+        [-4, -6, -6, 0, 0, 100, 100, -6],
+        b"...uuuu.",
+    ),
     (0x07, NONE, [-4, -6, -6, 0, 0, 0, 0, 0], b"...uuuuu"),
     (0x06, NONE, [-4, -6, -6, -6, -6, -6, -6, -6], b"........"),
 ];
@@ -118,7 +129,11 @@ fn answers_each_cell(rt: HostRuntime) -> Result<(), Fail> {
             let mut table = standing(rt.alloc(), &xid, state)?;
             let due = settle(&mut table, 1, &xid, verb, work)?;
             assert_eq!(rt; due.code.number(), code, "{sync_type} {flags} at {state:?}");
-            assert_eq!(rt; table.state(&xid), next_state(*letter, state), "{sync_type} {flags} at {state:?}");
+            assert_eq!(rt;
+                table.state(&xid),
+                next_state(*letter, state),
+                "{sync_type} {flags} at {state:?}"
+            );
         }
     }
     Ok(())
@@ -126,13 +141,29 @@ fn answers_each_cell(rt: HostRuntime) -> Result<(), Fail> {
 
 #[test]
 fn refuses_what_spells_no_call(rt: HostRuntime) -> Result<(), Fail> {
-    let flags = [NONE, JOIN, SUSPEND, SUCCESS, RESUME, FAIL, ONE_PHASE, JOIN + RESUME, 1];
+    let flags = [
+        NONE,
+        JOIN,
+        SUSPEND,
+        SUCCESS,
+        RESUME,
+        FAIL,
+        ONE_PHASE,
+        JOIN + RESUME,
+        1,
+    ];
     for sync_type in 0..=0x0D {
         for flag in flags {
             let data = flag.to_be_bytes();
-            let listed = CELLS.iter().any(|cell| cell.0 == sync_type && cell.1 == flag);
+            let listed = CELLS
+                .iter()
+                .any(|cell| cell.0 == sync_type && cell.1 == flag);
             let read = Request::read(sync_type, Some(&data), Some(XID));
-            assert_eq!(rt; read.is_ok(), listed || sync_type == 0x0C, "{sync_type} {flag}");
+            assert_eq!(rt;
+                read.is_ok(),
+                listed || sync_type == 0x0C,
+                "{sync_type} {flag}"
+            );
 
             // An XID may be absent from a recover alone, and a bad one never passes.
             let absent = Request::read(sync_type, Some(&data), None);
@@ -173,14 +204,24 @@ fn answers_by_what_else_is_so(rt: HostRuntime) -> Result<(), Fail> {
     assert_eq!(rt; table.due(1, Verb::Start, &other, local).code.number(), -9);
     assert_eq!(rt; table.due(1, Verb::Join, &xid, local).code.number(), -9);
     assert_eq!(rt; table.due(1, Verb::Start, &xid, local).code.number(), -8);
-    assert_eq!(rt; settle(&mut table, 1, &other, Verb::Start, idle)?.code.number(), 0);
+    assert_eq!(rt;
+        settle(&mut table, 1, &other, Verb::Start, idle)?
+            .code
+            .number(),
+        0
+    );
     assert_eq!(rt; table.joined(1), Some(&other));
     let third = numbered(3)?;
     assert_eq!(rt; table.due(1, Verb::Start, &third, local).code.number(), -6);
     assert_eq!(rt; table.due(1, Verb::Join, &xid, local).code.number(), -6);
 
     // A branch without changes ends at its prepare, with 3.
-    assert_eq!(rt; settle(&mut table, 1, &other, Verb::End(Ending::Kept), idle)?.code.number(), 0);
+    assert_eq!(rt;
+        settle(&mut table, 1, &other, Verb::End(Ending::Kept), idle)?
+            .code
+            .number(),
+        0
+    );
     let due = settle(&mut table, 2, &other, Verb::Prepare, idle)?;
     assert_eq!(rt; due.code.number(), 3);
     assert_eq!(rt; due.action, Action::Forget);
@@ -273,10 +314,23 @@ fn stops_at_its_limits(rt: HostRuntime) -> Result<(), Fail> {
     let decided = numbered(8)?;
     let due = settle(&mut table, 3, &decided, Verb::Commit, work)?;
     assert_eq!(rt; due.action, Action::Decide(Outcome::Commit));
-    assert_eq!(rt; settle(&mut table, 2, &idle, Verb::Prepare, work)?.code.number(), 0);
-    assert_eq!(rt; settle(&mut table, 3, &unknown, Verb::Start, work)?.code.number(), 0);
+    assert_eq!(rt;
+        settle(&mut table, 2, &idle, Verb::Prepare, work)?
+            .code
+            .number(),
+        0
+    );
+    assert_eq!(rt;
+        settle(&mut table, 3, &unknown, Verb::Start, work)?
+            .code
+            .number(),
+        0
+    );
     assert_eq!(rt; table.branches().len(), 1024);
-    assert_eq!(rt; table.recover(rt.alloc())?.as_slice().first(), Some(&numbered(0)?));
+    assert_eq!(rt;
+        table.recover(rt.alloc())?.as_slice().first(),
+        Some(&numbered(0)?)
+    );
     Ok(())
 }
 
@@ -288,10 +342,16 @@ fn reads_and_writes_xids(rt: HostRuntime) -> Result<(), Fail> {
     assert_eq!(rt; xid.branch(), b"B".as_slice());
     let mut out = [9].to_vec(rt.alloc())?;
     xid.write(&mut out)?;
-    assert_eq!(rt; out.as_slice(), [9, 0, 0, 0, 1, 0, 0, 0, 1, 0, 0, 0, 1, 0x47, 0x42].as_slice());
+    assert_eq!(rt;
+        out.as_slice(),
+        [9, 0, 0, 0, 1, 0, 0, 0, 1, 0, 0, 0, 1, 0x47, 0x42].as_slice()
+    );
 
     // More bytes are skipped, one byte less is none.
-    assert_eq!(rt; Xid::read(&[0, 0, 0, 1, 0, 0, 0, 1, 0, 0, 0, 1, 0x47, 0x42, 0x43])?, xid);
+    assert_eq!(rt;
+        Xid::read(&[0, 0, 0, 1, 0, 0, 0, 1, 0, 0, 0, 1, 0x47, 0x42, 0x43])?,
+        xid
+    );
     assert!(rt; XID.len() == 14);
     for length in 0..14usize {
         assert!(rt; Xid::read(&XID[..length]).is_err(), "{length} bytes");

@@ -41,11 +41,11 @@ pub struct Xid {
 impl Model for Xid {
     ghost use Rattle.std.specs.Prelude.{List, ℕ, ◌++◌, ◌-◌, length, take, replicate};
     ghost use Rattle.std.specs.Str.{bytes_eq};
-ghost use Rattle.std.specs.Ordering.{nat_cmp};
-ghost use Rattle.std.specs.Cmp.{partial_equiv_from_equiv};
-ghost use Rattle.std.specs.Cmp.Lexicographic.{slice_cmp, nat_list_eq_equiv, nat_list_cmp_total, texts_po, texts_ties};
-ghost use Rattle.std.proofs.Common.{refl};
-ghost use Rattle.xa_manager.specs.Xid.{AreBytes, IsPadded, padded-take, length-take_padded};
+    ghost use Rattle.std.specs.Ordering.{nat_cmp};
+    ghost use Rattle.std.specs.Cmp.{partial_equiv_from_equiv};
+    ghost use Rattle.std.specs.Cmp.Lexicographic.{slice_cmp, nat_list_eq_equiv, nat_list_cmp_total, texts_po, texts_ties};
+    ghost use Rattle.std.proofs.Common.{refl};
+    ghost use Rattle.xa_manager.specs.Xid.{AreBytes, IsPadded, padded-take, length-take_padded};
 
     ghost Value = { List ℕ };
 
@@ -206,7 +206,11 @@ fn length_in(text: &[u8]) -> Option<usize>
         return None;
     }
     let length = HEAD + global as usize + branch as usize;
-    if text.len() < length { None } else { Some(length) }
+    if text.len() < length {
+        None
+    } else {
+        Some(length)
+    }
 }
 
 // The number in the four bytes at a place.

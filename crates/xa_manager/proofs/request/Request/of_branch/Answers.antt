@@ -1,4 +1,4 @@
-use Rattle.std.proofs.Common.{◌≡◌, ℕ, List, refl, true, false, arith}
+use Rattle.std.proofs.Common.{◌≡◌, ℕ, List, refl, true}
 use Rattle.std.specs.Prelude.{option_and_then}
 use Rattle.xa_manager.specs.declared.sync_type.SyncType.{SyncType}
 use Rattle.xa_manager.specs.declared.sync_type.SyncType.TheVariants as sync

@@ -1,4 +1,4 @@
-use Rattle.std.proofs.Common.{◌≡◌, ◌<◌, true, set, sym, subst, ◌∙◌}
+use Rattle.std.proofs.Common.{◌≡◌, ◌<◌, true, set, sym, subst}
 use Rattle.xa_manager.specs.Branch.{IsTable, is_in_doubt, in_doubt_count, with_state}
 use Rattle.xa_manager.proofs.Rising.{rises, table_state}
 use Rattle.xa_manager.proofs.Places.{set_at, with_state_in_gap}

@@ -1,4 +1,4 @@
-use Rattle.std.proofs.Common.{◌≡◌, drop, length, map, ap, ◌∙◌, arith, length-append}
+use Rattle.std.proofs.Common.{◌≡◌, drop, length, ap, arith, length-append}
 use Rattle.std.specs.Prelude.{filter}
 use Rattle.std.proofs.lemmas.List.Sums.{length-filter}
 use Rattle.std.proofs.lemmas.List.{length-map}
