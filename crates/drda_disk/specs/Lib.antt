@@ -1,0 +1,10 @@
+pub mod Disk
+pub mod Count
+pub mod Region
+pub mod Replay
+pub mod MemDisk
+pub mod Fuse
+pub mod FuseDisk
+pub mod File
+pub mod FileDisk
+pub mod Through
