@@ -1,5 +1,5 @@
 -- How a run of calls goes on.
-use Rattle.std.proofs.Common.{inl, inr, ⊎_elim, ℕ, ◌+◌, ◌≤◌, List, arith, refl, sym, ◌∙◌}
+use Rattle.std.proofs.Common.{inl, inr, ⊎_elim, ℕ, ◌+◌, ◌≤◌, List, arith, refl, sym, ◌∙◌, subst}
 use Rattle.drda_disk.specs.Disk.{Life, Now, Only, Elapses, Stays, Torn, Tears, Within, LeavesOnly}
 use Rattle.drda_disk.proofs.Parts.{Torn-trans, Torn-wider}
 
@@ -68,3 +68,17 @@ Only-stays old new s only c now = only c (s.no_more c now) ∙ sym s.same
 -- a write in a range of which each image is the base already
 pub torn_within : (at n from m : ℕ) (base : List ℕ) (old new : Life) → Tears at n old new → Within from m base old → from ≤ at → at + n ≤ from + m → LeavesOnly old new (Torn from m base)
 torn_within at n from m base old new t within low high = torn at n old new (Torn from m base) t within (λ c d was cut. Torn-trans from m base d c (within d was) (Torn-wider at n from m d c low high cut))
+
+-- calls that write nothing
+pub stays_leaves : (old new : Life) (P : List ℕ → Type 0) → Stays old new → ((c : List ℕ) → Now old c → P c) → LeavesOnly old new P
+stays_leaves old new P s here = stays_and old new new P s (no_call new P (λ c now. here c (s.no_more c now))) here
+
+-- where each image is a base but for a range
+pub Only-within : (at n : ℕ) (base : List ℕ) (disk : Life) → Only disk → Torn at n base disk.seen → Within at n base disk
+Only-within at n base disk only torn c now = subst (λ (l : List ℕ). Torn at n base l) (sym (only c now)) torn
+
+pub Within-stays : (at n : ℕ) (base : List ℕ) (old new : Life) → Stays old new → Within at n base old → Within at n base new
+Within-stays at n base old new s within c now = within c (s.no_more c now)
+
+pub Within-wider : (at n from m : ℕ) (base : List ℕ) (disk : Life) → from ≤ at → at + n ≤ from + m → Within at n base disk → Within from m base disk
+Within-wider at n from m base disk low high within c now = Torn-wider at n from m base c low high (within c now)

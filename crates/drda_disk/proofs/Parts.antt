@@ -1,8 +1,9 @@
 -- Parts of a file, and what is torn.
-use Rattle.std.proofs.Common.{◌≡◌, ℕ, ◌+◌, ◌-◌, ◌≤◌, List, [], ◌∷◌, ◌++◌, length, take, drop, refl, sym, ◌∙◌, ap, arith, length-append, length-take, length-drop, take-append-drop}
-use Rattle.std.proofs.lemmas.List.{take_at, drop_at, append_assoc, drop-take, take-take, drop-drop}
+use Rattle.std.proofs.Common.{◌≡◌, ◌⊎◌, ⊎_elim, ℕ, ◌+◌, ◌-◌, ◌<◌, ◌≤◌, List, [], ◌∷◌, ◌++◌, length, get_or, take, drop, refl, sym, ◌∙◌, ap, arith, length-append, length-take, length-drop, take-append-drop}
+use Rattle.std.proofs.lemmas.List.{take_at, drop_at, append_assoc, drop-take, take-take, drop-drop, get_or-take, get_or-drop}
 use Rattle.drda_words.specs.Place.{part}
 use Rattle.drda_disk.specs.Disk.{overlaid, Torn}
+use Rattle.drda_disk.specs.Images.{length-front}
 
 pub length-part : (file : List ℕ) (at n : ℕ) → at + n ≤ length file → length (part file at n) ≡ n
 length-part file at n within = omega (arith, length-take n (drop at file), length-drop at file)
@@ -29,25 +30,10 @@ take-add m n xs =
 pub part-add : (file : List ℕ) (at m n : ℕ) → part file at (m + n) ≡ part file at m ++ part file (at + m) n
 part-add file at m n = take-add m n (drop at file) ∙ ap (λ (l : List ℕ). take m (drop at file) ++ take n l) (drop-drop m at file)
 
-module _ (file : List ℕ) (at : ℕ) (bytes : List ℕ) (within : at + length bytes ≤ length file) where
-  front : length (take at file) ≡ at
-  front = omega (arith, length-take at file)
-
-  pub Torn-overlaid : Torn at (length bytes) file (overlaid file at bytes)
-  Torn-overlaid =
-      let both : length (take at file ++ bytes) ≡ at + length bytes = omega (arith, front, length-append (take at file) bytes) in
-      record {
-        size = omega (arith, front, length-append (take at file) (bytes ++ drop (at + length bytes) file), length-append bytes (drop (at + length bytes) file), length-drop (at + length bytes) file);
-        before = take_at (take at file) (bytes ++ drop (at + length bytes) file) at front;
-        after = ap (λ (l : List ℕ). drop (at + length bytes) l) (sym (append_assoc (take at file) bytes (drop (at + length bytes) file)))
-            ∙ drop_at (take at file ++ bytes) (drop (at + length bytes) file) (at + length bytes) both;
-      }
-
-  pub part-overlaid : part (overlaid file at bytes) at (length bytes) ≡ bytes
-  part-overlaid = ap (λ (l : List ℕ). take (length bytes) l) (drop_at (take at file) (bytes ++ drop (at + length bytes) file) at front) ∙ take_at bytes (drop (at + length bytes) file) (length bytes) refl
-
-pub Torn-refl : (at n : ℕ) (file : List ℕ) → Torn at n file file
-Torn-refl at n file = record { size = refl; before = refl; after = refl }
+-- what a write wrote is read back
+pub part-overlaid : (file : List ℕ) (at : ℕ) (bytes : List ℕ) → at + length bytes ≤ length file → part (overlaid file at bytes) at (length bytes) ≡ bytes
+part-overlaid file at bytes within =
+    ap (λ (l : List ℕ). take (length bytes) l) (drop_at (take at file) (bytes ++ drop (at + length bytes) file) at (length-front file at (length bytes) within)) ∙ take_at bytes (drop (at + length bytes) file) (length bytes) refl
 
 -- in a wider range
 pub Torn-wider : (at n from m : ℕ) (old new : List ℕ) → from ≤ at → at + n ≤ from + m → Torn at n old new → Torn from m old new
@@ -68,3 +54,19 @@ pub part-part : (file : List ℕ) (at m i n : ℕ) → i + n ≤ m → part (par
 part-part file at m i n le =
     let sum : m ≡ i + (m - i) = omega arith in
     ap (λ k. take n (drop i (take k (drop at file)))) sum ∙ ap (λ (l : List ℕ). take n l) (drop-take i (m - i) (drop at file)) ∙ take-take n (m - i) (drop i (drop at file)) (omega arith) ∙ ap (λ (l : List ℕ). take n l) (drop-drop i at file)
+
+-- a part outside of the range that was torn
+pub part_outside : (at n i m : ℕ) (old new : List ℕ) → Torn at n old new → (i + m ≤ at) ⊎ (at + n ≤ i) → part new i m ≡ part old i m
+part_outside at n i m old new torn away = ⊎_elim (λ low. part_before old new at i m torn.before low) (λ high. part_after old new (at + n) i m torn.after high) away
+
+-- a byte outside of it
+pub byte_outside : (at n i : ℕ) (old new : List ℕ) → Torn at n old new → (i < at) ⊎ (at + n ≤ i) → get_or new i 0 ≡ get_or old i 0
+byte_outside at n i old new torn away = ⊎_elim before after away
+  where
+    before : i < at → get_or new i 0 ≡ get_or old i 0
+    before low = sym (get_or-take at new i 0 low) ∙ ap (λ (l : List ℕ). get_or l i 0) torn.before ∙ get_or-take at old i 0 low
+
+    after : at + n ≤ i → get_or new i 0 ≡ get_or old i 0
+    after high =
+        let sum : at + n + (i - (at + n)) ≡ i = omega arith in
+        ap (λ k. get_or new k 0) (sym sum) ∙ sym (get_or-drop (at + n) new (i - (at + n)) 0) ∙ ap (λ (l : List ℕ). get_or l (i - (at + n)) 0) torn.after ∙ get_or-drop (at + n) old (i - (at + n)) 0 ∙ ap (λ k. get_or old k 0) sum

@@ -1,60 +1,44 @@
 -- What one recorded call more makes of a disk in memory.
 use Rattle.std.proofs.Common.{◌≡◌, ◌⊎◌, inl, inr, ℕ, zero, suc, ◌+◌, ◌<◌, ◌≤◌, List, [], ◌∷◌, ◌++◌, length, get_or, take, drop, refl, sym, ◌∙◌, ap, subst, arith}
-use Rattle.std.specs.Prelude.{cond, reverse}
-use Rattle.std.proofs.lemmas.Bool.{le-leb}
-use Rattle.std.proofs.lemmas.Bool.Decides.{leb_tells}
 use Rattle.drda_disk.specs.Disk.{Torn, overlaid, Life, Now, Only, Elapses, Stays, Tears}
-use Rattle.drda_disk.specs.Replay.{Step, wrote, synced, written_over, Reaches, read_after, synced_after, Image, LeftSince, replayed}
-use Rattle.drda_disk.proofs.Parts.{Torn-overlaid, Torn-refl}
+use Rattle.drda_disk.specs.Replay.{Step, wrote, synced, written_over, Reaches, read_after, synced_after, LeftSince, replayed, counts}
+use Rattle.drda_disk.specs.Images.{Torn-over, read_is_image}
+
+pub image_now : (first : List ℕ) (steps : List Step) (c : List ℕ) → LeftSince first steps (length steps) c → Reaches first steps c
+image_now first steps c (zero, low, image) = image
+image_now first steps c (suc k, low, image) = absurd (omega (arith, low))
 
 module _ (first : List ℕ) (step : Step) (steps : List Step) (seen now : List ℕ) (faults more : ℕ) where
-  pub elapses : Elapses (replayed first seen steps faults) (replayed first now (step ∷ steps) more)
+  elapses : Elapses (replayed first seen steps faults) (replayed first now (step ∷ steps) more)
   elapses = record {
     later = omega arith;
     nothing_else = λ t c le left. split t c left.0 left.1 left.2;
     keeps = λ t c le left. (suc left.0, omega (arith, left.1), left.2);
   }
     where
-      split : (t : ℕ) (c : List ℕ) (k : ℕ) → k + t ≤ length (step ∷ steps) → Image first (drop k (step ∷ steps)) c → LeftSince first steps t c ⊎ LeftSince first (step ∷ steps) (length (step ∷ steps)) c
+      split : (t : ℕ) (c : List ℕ) (k : ℕ) → k + t ≤ length (step ∷ steps) → Reaches first (drop k (step ∷ steps)) c → LeftSince first steps t c ⊎ LeftSince first (step ∷ steps) (length (step ∷ steps)) c
       split t c zero low image = inr (0, omega arith, image)
       split t c (suc k) low image = inl (k, omega (arith, low), image)
 
-pub image_now : (first : List ℕ) (steps : List Step) (c : List ℕ) → LeftSince first steps (length steps) c → Image first steps c
-image_now first steps c (zero, low, image) = image
-image_now first steps c (suc k, low, image) = absurd (omega (arith, low))
+module _ (first seen : List ℕ) (steps : List Step) (faults : ℕ) (same : seen ≡ read_after first steps) where
+  pub stays_synced : Stays (replayed first seen steps faults) (replayed first seen (synced ∷ steps) faults)
+  stays_synced = record {
+    later = omega arith;
+    same = refl;
+    no_more = λ c now. settled c (image_now first (synced ∷ steps) c now);
+    nothing_new = λ t c le left. old_one t c le left.0 left.1 left.2;
+    keeps = λ t c le left. (suc left.0, omega (arith, left.1), left.2);
+  }
+    where
+      settled : (c : List ℕ) → c ≡ read_after first steps → LeftSince first steps (length steps) c
+      settled c is = read_is_image first c steps is
 
-pub stays_synced : (first seen : List ℕ) (steps : List Step) (faults : ℕ) → seen ≡ read_after first steps → Stays (replayed first seen steps faults) (replayed first seen (synced ∷ steps) faults)
-stays_synced first seen steps faults same = record {
-  later = omega arith;
-  same = refl;
-  no_more = λ c now. (0, omega arith, inl (settled c (image_now first (synced ∷ steps) c now)));
-  nothing_new = λ t c le left. old_one t c le left.0 left.1 left.2;
-  keeps = λ t c le left. (suc left.0, omega (arith, left.1), left.2);
-}
-  where
-    settled : (c : List ℕ) → Image first (synced ∷ steps) c → c ≡ read_after first steps
-    settled c (inl is) = is
-    settled c (inr is) = is
+      old_one : (t : ℕ) (c : List ℕ) → t ≤ length steps → (k : ℕ) → k + t ≤ length (synced ∷ steps) → Reaches first (drop k (synced ∷ steps)) c → LeftSince first steps t c
+      old_one t c le zero low image = counts first steps t c le (settled c image)
+      old_one t c le (suc k) low image = (k, omega (arith, low), image)
 
-    old_one : (t : ℕ) (c : List ℕ) → t ≤ length steps → (k : ℕ) → k + t ≤ length (synced ∷ steps) → Image first (drop k (synced ∷ steps)) c → LeftSince first steps t c
-    old_one t c le zero low image = (0, omega arith, inl (settled c image))
-    old_one t c le (suc k) low image = (k, omega (arith, low), image)
-
-pub only_synced : (first seen : List ℕ) (steps : List Step) (faults : ℕ) → seen ≡ read_after first steps → Only (replayed first seen (synced ∷ steps) faults)
-only_synced first seen steps faults same c now = settled (image_now first (synced ∷ steps) c now) ∙ sym same
-  where
-    settled : Image first (synced ∷ steps) c → c ≡ read_after first steps
-    settled (inl is) = is
-    settled (inr is) = is
-
-pub over_is : (file : List ℕ) (at : ℕ) (bytes : List ℕ) → at + length bytes ≤ length file → written_over file at bytes ≡ overlaid file at bytes
-over_is file at bytes within = ap (λ b. cond b (overlaid file at bytes) file) (le-leb _ _ within)
-
-pub Torn-over : (file : List ℕ) (at : ℕ) (bytes : List ℕ) → Torn at (length bytes) file (written_over file at bytes)
-Torn-over file at bytes = elim (leb_tells (at + length bytes) (length file)) [
-  | inl within ↦ subst (λ (l : List ℕ). Torn at (length bytes) file l) (sym (over_is file at bytes within.1)) (Torn-overlaid file at bytes within.1)
-  | inr past ↦ subst (λ (l : List ℕ). Torn at (length bytes) file l) (sym (ap (λ b. cond b (overlaid file at bytes) file) past.0)) (Torn-refl at (length bytes) file)
-]
+  pub only_synced : Only (replayed first seen (synced ∷ steps) faults)
+  only_synced c now = image_now first (synced ∷ steps) c now ∙ sym same
 
 module _ (first seen now : List ℕ) (at : ℕ) (bytes : List ℕ) (steps : List Step) (faults : ℕ) where
   pub tears : seen ≡ read_after first steps → now ≡ written_over seen at bytes → Tears at (length bytes) (replayed first seen steps faults) (replayed first now (wrote at bytes ∷ steps) faults)
@@ -64,9 +48,8 @@ module _ (first seen now : List ℕ) (at : ℕ) (bytes : List ℕ) (steps : List
     images = λ c left. from c (image_now first (wrote at bytes ∷ steps) c left);
   }
     where
-      from : (c : List ℕ) → Image first (wrote at bytes ∷ steps) c → (d : List ℕ) × LeftSince first steps (length steps) d × Torn at (length bytes) d c
-      from c (inl written) = (seen, (0, omega arith, inl same), subst (λ (l : List ℕ). Torn at (length bytes) seen l) (sym (written ∙ ap (λ (l : List ℕ). written_over l at bytes) (sym same))) (Torn-over seen at bytes))
-      from c (inr (d, reaches, torn)) = (d, (0, omega arith, inr reaches), torn)
+      from : (c : List ℕ) → Reaches first (wrote at bytes ∷ steps) c → (d : List ℕ) × LeftSince first steps (length steps) d × Torn at (length bytes) d c
+      from c (d, reaches, torn) = (d, (0, omega arith, reaches), torn)
 
 pub length-read_after : (first : List ℕ) (steps : List Step) → length (read_after first steps) ≡ length first
 length-read_after first [] = refl

@@ -2,6 +2,7 @@ pub mod Disk
 pub mod Count
 pub mod Region
 pub mod Replay
+pub mod Images
 pub mod MemDisk
 pub mod Fuse
 pub mod FuseDisk

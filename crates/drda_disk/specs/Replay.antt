@@ -1,6 +1,6 @@
 -- All that a crash may leave of a disk in memory, from what it was at first and its calls since.
-use Rattle.std.specs.Prelude.{◌≡◌, ◌⊎◌, ℕ, ◌+◌, ◌≤◌, List, [], ◌∷◌, length, take, drop, reverse, nat_le, if◌then◌else◌}
-use Rattle.std.proofs.Common.{arith, inl}
+use Rattle.std.specs.Prelude.{◌≡◌, ℕ, ◌+◌, ◌≤◌, List, [], ◌∷◌, length, take, drop, reverse, nat_le, if◌then◌else◌}
+use Rattle.std.proofs.Common.{arith}
 use Rattle.drda_disk.specs.Disk.{Torn, overlaid, Life}
 use Rattle.drda_disk.specs.declared.replay.Call.{Call}
 use Rattle.drda_disk.specs.declared.replay.Call.TheVariants.{Write, Sync}
@@ -41,25 +41,18 @@ synced_after first [] = first
 synced_after first (wrote at bytes ∷ earlier) = synced_after first earlier
 synced_after first (synced ∷ earlier) = read_after first earlier
 
--- what the writes since the last sync may make of that
+-- what a crash may leave: of what the last sync made durable, with any bytes where a write came since
 abbrev pub Reaches : List ℕ → List Step → List ℕ → Type 0
 Reaches first [] c = c ≡ first
 Reaches first (wrote at bytes ∷ earlier) c = (d : List ℕ) × Reaches first earlier d × Torn at (length bytes) d c
 Reaches first (synced ∷ earlier) c = c ≡ read_after first earlier
 
--- what a crash may leave
-abbrev pub Image : List ℕ → List Step → List ℕ → Type 0
-Image first steps c = (c ≡ read_after first steps) ⊎ Reaches first steps c
-
 -- what a crash may have left at some moment since so many calls had been recorded
 abbrev pub LeftSince : List ℕ → List Step → ℕ → List ℕ → Type 0
-LeftSince first steps t c = (k : ℕ) × (k + t ≤ length steps) × Image first (drop k steps) c
+LeftSince first steps t c = (k : ℕ) × (k + t ≤ length steps) × Reaches first (drop k steps) c
 
 abbrev pub replayed : List ℕ → List ℕ → List Step → ℕ → Life
 replayed first seen steps faults = record { seen = seen; moment = length steps; left_since = LeftSince first steps; faults = faults }
 
 pub counts : (first : List ℕ) (steps : List Step) (t : ℕ) (c : List ℕ) → t ≤ length steps → LeftSince first steps (length steps) c → LeftSince first steps t c
 counts first steps t c le (k, low, image) = (k, omega arith, image)
-
-pub is_image : (first seen : List ℕ) (steps : List Step) → seen ≡ read_after first steps → LeftSince first steps (length steps) seen
-is_image first seen steps same = (0, omega arith, inl same)

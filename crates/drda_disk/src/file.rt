@@ -6,10 +6,10 @@ ghost use Rattle.drda_disk.specs.Count.{count_of};
 use crate::count::FaultCount;
 use crate::{Disk, DiskFault};
 use std::fs::{File, OpenOptions, TryLockError};
-use std::io;
 use std::os::unix::fs::FileExt;
 use std::path::Path;
 use std::rt::Files;
+use std::{fs, io};
 use thiserror::Error;
 
 /// Why a file can't be had as a disk.
@@ -37,7 +37,8 @@ impl FileDisk {
     ghost use Rattle.drda_disk.specs.FileDisk.{size_of};
 
     /// Makes a file of `size` zeros at a path where no file is. File and folder entry are synced.
-    /// Memory on the device is not set aside: a device that is full fails a later write.
+    /// Where one of these steps fails, the file is taken away again if it can be. Memory on the device
+    /// is not set aside: a device that is full fails a later write.
     pub fn create<R: Files<File = File>>(
         rt: &R,
         path: &str,
@@ -46,10 +47,10 @@ impl FileDisk {
         ensures { IfOk result (λ disk. size_of disk ≡ size) }
     {
         let file = File::create_new(rt, path)?;
-        lock(&file)?;
-        file.set_len(size as u64)?;
-        file.sync_all()?;
-        sync_folder_of(rt, path)?;
+        if let Err(fault) = prepare(rt, &file, path, size) {
+            let _ = fs::remove_file(rt, path);
+            return Err(fault);
+        }
         Ok(FileDisk {
             file,
             size,
@@ -68,6 +69,20 @@ impl FileDisk {
             faults: FaultCount::new(),
         })
     }
+}
+
+/// Locks a new file, gives it its size, and syncs it and its folder entry.
+fn prepare<R: Files<File = File>>(
+    rt: &R,
+    file: &File,
+    path: &str,
+    size: usize,
+) -> Result<(), FileFault> {
+    lock(file)?;
+    file.set_len(size as u64)?;
+    file.sync_all()?;
+    sync_folder_of(rt, path)?;
+    Ok(())
 }
 
 fn lock(file: &File) -> Result<(), FileFault> {

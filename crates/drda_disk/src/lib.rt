@@ -9,6 +9,8 @@ mod laws;
 mod memory;
 mod region;
 mod replay;
+#[cfg(test)]
+mod tests;
 mod through;
 
 pub use disk::{Disk, DiskFault};

@@ -1,7 +1,8 @@
 //! A disk in memory, which can tell what a crash may leave.
 ghost use Rattle.std.specs.Prelude.{◌≡◌, ◌+◌, ◌-◌, ◌^◌, ◌≤◌, ◌∷◌, ℕ, length, true, IsTrue, IsOk, OnOk, IfOk, replicate};
 ghost use Rattle.drda_words.specs.Place.{part};
-ghost use Rattle.drda_disk.specs.Replay.{replayed, read_after, steps_of, recorded_len, counts, is_image};
+ghost use Rattle.drda_disk.specs.Replay.{replayed, read_after, steps_of, recorded_len, counts};
+ghost use Rattle.drda_disk.specs.Images.{read_is_image};
 ghost use Rattle.drda_disk.specs.Disk.{overlaid, Stays, Tears, Now, Only, CountsFault};
 ghost use Rattle.drda_disk.specs.Count.{count_of};
 
@@ -97,7 +98,7 @@ impl Disk for MemDisk {
 
     ghost life = { λ m. replayed m.first.items m.bytes.items (steps_of m.calls.items m.written.items) (count_of m.faults) };
 
-    ghost read_is_image = { λ m _. is_image m.first.items m.bytes.items (steps_of m.calls.items m.written.items) m.same };
+    ghost read_is_image = { λ m _. read_is_image m.first.items m.bytes.items (steps_of m.calls.items m.written.items) m.same };
 
     ghost now_counts = { λ m t c le now. counts m.first.items (steps_of m.calls.items m.written.items) t c le now };
 

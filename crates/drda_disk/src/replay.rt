@@ -111,7 +111,13 @@ fn cut(bytes: &[u8], len: usize) -> (&[u8], &[u8])
 }
 
 /// Goes through the calls again: `read` becomes what a read gives, and `left` what a crash leaves.
-pub(crate) fn replay(calls: &[Call], written: &[u8], read: &mut Vec<u8>, left: &mut Vec<u8>, pick: u64)
+pub(crate) fn replay(
+    calls: &[Call],
+    written: &[u8],
+    read: &mut Vec<u8>,
+    left: &mut Vec<u8>,
+    pick: u64,
+)
     requires { left.old.items ≡ read.old.items }
     ensures read { read.new.items ≡ read_after read.old.items (steps_of calls.now written.now) }
     ensures left { Reaches read.old.items (steps_of calls.now written.now) left.new.items }

@@ -34,9 +34,9 @@ loop-call-preserved c =
                 (λ one. left_is ∙ w.tear.ensures.all one));
           }
       | in-Sync w ↦ record {
-          rest = search rules ∙ rest_sync calls written i _ c.loop-call-test.true rest at_rest w.in-Sync.is;
-          so_far = subst P (sym (next_sync calls written i _ c.loop-call-test.true rest at_rest w.in-Sync.is))
-              (more_sync c.args.read.now.items (steps_of (take i calls) written) c.loop-call.read.items c.loop-call.left.items c.match-call.read.items c.match-call.left.items c.args.pick so_far
-              (ap (λ (v : Vec ℕ Global). v.items) w.read-is) (search rules));
-        }
+        rest = search rules ∙ rest_sync calls written i _ c.loop-call-test.true rest at_rest w.in-Sync.is;
+        so_far = subst P (sym (next_sync calls written i _ c.loop-call-test.true rest at_rest w.in-Sync.is))
+            (more_sync c.args.read.now.items (steps_of (take i calls) written) c.loop-call.read.items c.loop-call.left.items c.match-call.read.items c.match-call.left.items c.args.pick so_far
+            (ap (λ (v : Vec ℕ Global). v.items) w.read-is) (search rules));
+      }
     ]

@@ -2,7 +2,8 @@ use Rattle.std.proofs.Common.{List, length, sym, subst, ◌∙◌}
 use Rattle.drda_disk.specs.Disk.{Tears}
 use Rattle.drda_disk.specs.Count.{count_of}
 use Rattle.drda_disk.specs.Replay.{Step, replayed, steps_of}
-use Rattle.drda_disk.proofs.Replaying.{tears, over_is}
+use Rattle.drda_disk.specs.Images.{over_is}
+use Rattle.drda_disk.proofs.Replaying.{tears}
 use Rattle.drda_disk.proofs.memory.MemDiskDisk.write_at.Goals as goal
 
 pub returns-in-Ok-clause-tears : goal.returns-in-Ok-clause-tears
