@@ -39,7 +39,6 @@ length-laid-take [] (suc i) = omega arith
 length-laid-take (r ∷ rs) zero = omega arith
 length-laid-take (r ∷ rs) (suc i) = omega (arith, length-laid-cons (entry_of r) (entries_of (take i rs)), length-laid-cons (entry_of r) (entries_of rs), length-laid-take rs i)
 
-
 -- the two writes of a record
 module _ (at : ℕ) (head body old : List ℕ) (size : length head ≡ 6) (inside : at + 6 + length body ≤ length old) where
   pub written_both : (mid new : List ℕ) → mid ≡ overlaid old at head → new ≡ overlaid mid (at + 6) body → part new at (6 + length body) ≡ head ++ body

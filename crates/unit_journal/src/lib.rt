@@ -5,8 +5,8 @@ mod append;
 mod errors;
 mod journal;
 mod kind;
-mod lay;
 mod laws;
+mod lay;
 mod open;
 mod record;
 #[cfg(test)]

@@ -129,17 +129,24 @@ fn full_tells_need_and_room(rt: HostRuntime) -> Result<(), Fail> {
     let decide = Said(Kind::Decide, &[7; 15], 0, 21);
     assert_eq!(rt; append(&rt, alloc, &mut journal, &mut disk, decide), Ok(()));
     assert_eq!(rt; journal.room(), 0);
+    Ok(())
+}
 
-    // A region that the record and a closed gate fill, and one of a byte less.
-    for (length, want) in [
-        (12, Ok(())),
-        (11, Err(AppendError::Full(Full { need: 11, room: 10 }))),
-    ] {
-        let region = Region { at: 3, length };
-        let mut journal = start(&rt, &mut disk, region)?;
-        let five = Said(Kind::Commit, &[1, 2, 3, 4, 5], 0, 0);
-        assert_eq!(rt; append(&rt, alloc, &mut journal, &mut disk, five), want);
-    }
+#[test]
+fn a_record_may_fill_its_region(rt: HostRuntime) -> Result<(), Fail> {
+    let alloc = rt.alloc();
+    let mut disk = MemDisk::new(alloc, 32)?;
+    let just = Region { at: 3, length: 12 };
+    let mut journal = start(&rt, &mut disk, just)?;
+    let five = Said(Kind::Commit, &[1, 2, 3, 4, 5], 0, 0);
+    assert_eq!(rt; append(&rt, alloc, &mut journal, &mut disk, five), Ok(()));
+    assert_eq!(rt; open(&rt, alloc, &mut disk, just)?.1.len(), 1);
+    let short = Region { at: 3, length: 11 };
+    let mut journal = start(&rt, &mut disk, short)?;
+    let five = Said(Kind::Commit, &[1, 2, 3, 4, 5], 0, 0);
+    let full = Full { need: 11, room: 10 };
+    let told = append(&rt, alloc, &mut journal, &mut disk, five);
+    assert_eq!(rt; told, Err(AppendError::Full(full)));
     Ok(())
 }
 
@@ -205,7 +212,10 @@ fn stale_records_stay_behind_a_closed_gate(rt: HostRuntime) -> Result<(), Fail> 
     assert_eq!(rt; again.room(), 0);
     assert_eq!(rt; again.hold(1), Err(Full { need: 1, room: 0 }));
     let full = Full { need: 40, room: 39 };
-    assert_eq!(rt; lay(&rt, &mut disk, SMALL, &records, 32).err(), Some(LayError::Full(full)));
+    assert_eq!(rt;
+        lay(&rt, &mut disk, SMALL, &records, 32).err(),
+        Some(LayError::Full(full))
+    );
     assert_eq!(rt; lay(&rt, &mut disk, SMALL, &[], 39).is_ok(), true);
     assert_eq!(rt; open(&rt, alloc, &mut disk, SMALL)?.1.len(), 0);
     assert_eq!(rt; lay(&rt, &mut disk, SMALL, &records, 0).is_ok(), true);
