@@ -17,7 +17,7 @@ pub struct Group<'a> {
 }
 
 impl<'a> Group<'a> {
-    ghost use Rattle.std.specs.Prelude.{◌≡◌, IfSome, slice_get, length};
+    ghost use Rattle.std.specs.Prelude.{◌≡◌, ◌∷◌, [], IfSome, MatchOption, slice_get, length};
     ghost use Rattle.std.specs.Option.{option_map};
     ghost use Rattle.drda_words.specs.Place.{StandsAt};
     ghost use Rattle.dss_frames.specs.Group.{command_of, dss_of, text_of};
@@ -36,6 +36,21 @@ impl<'a> Group<'a> {
             at = dss.at + dss.contents.len();
         }
         dss_at(text, at)
+    }
+
+    /// The first DSS, and those that follow it, where there is one: so a command is walked in one
+    /// pass. Places in what follows count from its own first byte.
+    pub fn split_first(&self) -> Option<(Dss<'a>, Group<'a>)>
+        ensures { MatchOption result (command_of self.now ≡ []) (λ x. command_of self.now ≡ dss_of x.0 ∷ command_of x.1) }
+    {
+        let text: &'a [u8] = self.text;
+        let Some(dss) = dss_at(text, 0) else {
+            return None;
+        };
+        let behind = Group {
+            text: &text[dss.at + dss.contents.len()..],
+        };
+        Some((dss, behind))
     }
 
     /// How many DSSs the command has.
