@@ -38,7 +38,7 @@ dsss_in_joined (dss ∷ dsss) (suc most) text h le =
     let n = length dss.contents in
     let rest : List ℕ = h.1 in
     let text_is : text ≡ count_bytes n ++ (dss.format ∷ j.correlator_high ∷ j.correlator_low ∷ (dss.contents ++ rest)) =
-      h.2 ∙ ap (λ (b : List ℕ). b ++ rest) j.text in
+    h.2 ∙ ap (λ (b : List ℕ). b ++ rest) j.text in
     let count = count_read n j.within in
     let others = dsss_in_joined dsss most rest h.4 (omega arith) in
     let front : take n (dss.contents ++ rest) ≡ dss.contents = take-append_seam dss.contents rest in
@@ -64,13 +64,16 @@ pub record AllSoFar (old new : List ℕ) (start from to end : ℕ) (dsss : List 
 
 pub none_joined : (old : List ℕ) (start size : ℕ) (dsss : List Dss) → start + size ≤ length old → AreDsss (part old start size) dsss → AllSoFar old old start start start (start + size) dsss
 none_joined old start size dsss le h = record {
-  done = []; left = dsss; rest = part old start size; text = [];
+  done = [];
+  left = dsss;
+  rest = part old start size;
+  text = [];
   all = refl;
   place = let k = length-take-le size (drop start old) (let m = length-drop start old in omega arith) in omega arith;
   follows = sym (take-append-drop size (drop start old)) ∙ ap (λ (b : List ℕ). part old start size ++ b) (drop-drop size start old);
   waiting = h;
   moved = sym (append-nil (take start old));
-  joined = refl
+  joined = refl;
 }
 
 joined_more : (done : List Dss) (text one : List ℕ) (dss : Dss) → AreJoined text done → IsJoined one dss → AreJoined (text ++ one) (done ++ dss ∷ [])
@@ -101,13 +104,16 @@ one_joined old new newer start from to end behind dsss lt h joins =
     let j = joins f.dss f.front (f.remains ++ drop end old) parts (omega arith) f.is in
     let at : behind.0 ≡ from + length f.front = j.0 in
     record {
-      done = h.done ++ f.dss ∷ []; left = f.others; rest = f.remains; text = h.text ++ j.2.0;
+      done = h.done ++ f.dss ∷ [];
+      left = f.others;
+      rest = f.remains;
+      text = h.text ++ j.2.0;
       all = h.all ∙ ap (λ (ds : List Dss). h.done ++ ds) f.left_are ∙ sym (append_assoc h.done (f.dss ∷ []) f.others);
       place = omega arith;
       follows = j.1;
       waiting = f.are;
       moved = j.2.1 ∙ ap (λ (b : List ℕ). b ++ j.2.0) h.moved ∙ append_assoc (take start old) h.text j.2.0;
-      joined = joined_more h.done h.text j.2.0 f.dss h.joined j.2.2
+      joined = joined_more h.done h.text j.2.0 f.dss h.joined j.2.2;
     }
 
 nothing_left : (left : List Dss) (rest : List ℕ) → length rest ≡ 0 → AreDsss rest left → left ≡ []
@@ -123,6 +129,6 @@ whole_joined old new start from to end dsss le up fits within h =
     let sum : start + (to - start) ≡ to = omega arith in
     let size : length (take start old) ≡ start = length-take-le start old within in
     let text : part new start (to - start) ≡ h.text =
-      sym (drop-take start (to - start) new) ∙ ap (λ (n : ℕ). drop start (take n new)) sum ∙ ap (λ (b : List ℕ). drop start b) h.moved
-      ∙ ap (λ (n : ℕ). drop n (take start old ++ h.text)) (sym size) ∙ drop-append_seam (take start old) h.text in
+    sym (drop-take start (to - start) new) ∙ ap (λ (n : ℕ). drop start (take n new)) sum ∙ ap (λ (b : List ℕ). drop start b) h.moved
+    ∙ ap (λ (n : ℕ). drop n (take start old ++ h.text)) (sym size) ∙ drop-append_seam (take start old) h.text in
     ap joined_dsss text ∙ joined_dsss_are h.done h.text h.joined ∙ sym all

@@ -111,15 +111,21 @@ header_filled turn dsss front bytes missing high low mark format c d up_to text 
       turns = up_to.1;
       admits = record { supported = right.supported; paired = right.paired; due = right.due };
       segments = record {
-        high = high; low = low; correlator_high = c; correlator_low = d; first = missing; rest = []; pieces = [];
+        high = high;
+        low = low;
+        correlator_high = c;
+        correlator_low = d;
+        first = missing;
+        rest = [];
+        pieces = [];
         text = ap (λ (m : ℕ). high ∷ low ∷ m ∷ format ∷ c ∷ d ∷ missing) right.marked ∙ sym (append-nil (high ∷ low ∷ 0xD0 ∷ format ∷ c ∷ d ∷ missing));
         correlator = refl;
         counts = omega arith;
         continued = (refl, refl);
         joined = sym (append-nil missing);
-        within = omega arith
+        within = omega arith;
       };
-      so_far = omega arith
+      so_far = omega arith;
     }
 
 header_holds : (found : Option SyntaxCode) (turn : Turn) (dsss : List Dss) (front bytes : List ℕ) (high low mark format c d : ℕ) → IsOpen turn
@@ -138,9 +144,16 @@ continuations_more : (pieces : List (List ℕ)) (before : Bool) (bytes piece : L
     → AreContinuations before (bytes ++ (high ∷ low ∷ piece)) (pieces ++ piece ∷ []) (is_continued high low)
 continuations_more [] before bytes piece high low h counts some =
     rw h.0 (high, low, [], h.1, sym (append-nil (high ∷ low ∷ piece)), counts, some, (refl, refl))
-continuations_more (x ∷ pieces) before bytes piece high low h counts some =
-    (h.0, h.1, h.2 ++ (high ∷ low ∷ piece), h.3, ap (λ (b : List ℕ). b ++ (high ∷ low ∷ piece)) h.4 ∙ append_assoc (h.0 ∷ h.1 ∷ x) h.2 (high ∷ low ∷ piece), h.5, h.6,
-    continuations_more pieces (is_continued h.0 h.1) h.2 piece high low h.7 counts some)
+continuations_more (x ∷ pieces) before bytes piece high low h counts some = (
+  h.0,
+  h.1,
+  h.2 ++ (high ∷ low ∷ piece),
+  h.3,
+  ap (λ (b : List ℕ). b ++ (high ∷ low ∷ piece)) h.4 ∙ append_assoc (h.0 ∷ h.1 ∷ x) h.2 (high ∷ low ∷ piece),
+  h.5,
+  h.6,
+  continuations_more pieces (is_continued h.0 h.1) h.2 piece high low h.7 counts some,
+)
 
 concat-more : (pieces : List (List ℕ)) (piece : List ℕ) → concat (pieces ++ piece ∷ []) ≡ concat pieces ++ piece
 concat-more pieces piece = concat-append pieces (piece ∷ []) ∙ ap (λ (b : List ℕ). concat pieces ++ b) (append-nil piece)
@@ -148,7 +161,11 @@ concat-more pieces piece = concat-append pieces (piece ∷ []) ∙ ap (λ (b : L
 segments_more : (part piece : List ℕ) (dss : Dss) (high low : ℕ) → AreSegments part dss true → segment_length high low ≡ 2 + length piece → 1 ≤ length piece
     → length part + segment_length high low ≤ dss_limit → AreSegments (part ++ (high ∷ low ∷ piece)) (joined dss piece) (is_continued high low)
 segments_more part piece dss high low h counts some within = record {
-  high = h.high; low = h.low; correlator_high = h.correlator_high; correlator_low = h.correlator_low; first = h.first;
+  high = h.high;
+  low = h.low;
+  correlator_high = h.correlator_high;
+  correlator_low = h.correlator_low;
+  first = h.first;
   rest = h.rest ++ (high ∷ low ∷ piece);
   pieces = h.pieces ++ piece ∷ [];
   text = ap (λ (b : List ℕ). b ++ (high ∷ low ∷ piece)) h.text ∙ append_assoc (h.high ∷ h.low ∷ 0xD0 ∷ dss.format ∷ h.correlator_high ∷ h.correlator_low ∷ h.first) h.rest (high ∷ low ∷ piece);
@@ -156,7 +173,7 @@ segments_more part piece dss high low h counts some within = record {
   counts = h.counts;
   continued = continuations_more h.pieces (is_continued h.high h.low) h.rest piece high low h.continued counts some;
   joined = ap (λ (b : List ℕ). b ++ piece) h.joined ∙ append_assoc h.first (concat h.pieces) piece ∙ ap (λ (b : List ℕ). h.first ++ b) (sym (concat-more h.pieces piece));
-  within = let k = length-append part (high ∷ low ∷ piece) in omega arith
+  within = let k = length-append part (high ∷ low ∷ piece) in omega arith;
 }
 
 continuation_filled : (dsss : List Dss) (dss : Dss) (declared : ℕ) (front bytes missing : List ℕ) (high low : ℕ)
@@ -176,7 +193,7 @@ continuation_filled dsss dss declared front bytes missing high low up_to text wi
       turns = up_to.5;
       admits = record { supported = up_to.6.supported; paired = up_to.6.paired; due = up_to.6.due };
       segments = segments_more part missing dss high low up_to.7 (omega arith) (omega arith) (omega arith);
-      so_far = omega arith
+      so_far = omega arith;
     }
 
 continuation_holds : (found : Option SyntaxCode) (dsss : List Dss) (dss : Dss) (declared : ℕ) (front bytes : List ℕ) (high low : ℕ)
@@ -207,11 +224,11 @@ step_holds (gathering dsss next header) bytes byte h =
 step_holds (filling dsss more dss declared n) bytes byte h =
     fill_holds n (bytes ++ byte ∷ []) dsss more (joined dss (byte ∷ [])) declared
     (λ missing size.
-      let all = h (byte ∷ missing) (ap suc size) in
-      let same : joined dss (byte ∷ missing) ≡ joined (joined dss (byte ∷ [])) missing =
-        ap (λ (b : List ℕ). let d : Dss = record { format = dss.format; correlator = dss.correlator; contents = b } in d) (sym (append_assoc dss.contents (byte ∷ []) missing)) in
-      subst (λ (b : List ℕ). Filled b dsss more (joined (joined dss (byte ∷ [])) missing) declared) (sym (append_assoc bytes (byte ∷ []) missing))
-      (subst (λ (d : Dss). Filled (bytes ++ (byte ∷ missing)) dsss more d declared) same all))
+    let all = h (byte ∷ missing) (ap suc size) in
+    let same : joined dss (byte ∷ missing) ≡ joined (joined dss (byte ∷ [])) missing =
+    ap (λ (b : List ℕ). let d : Dss = record { format = dss.format; correlator = dss.correlator; contents = b } in d) (sym (append_assoc dss.contents (byte ∷ []) missing)) in
+    subst (λ (b : List ℕ). Filled b dsss more (joined (joined dss (byte ∷ [])) missing) declared) (sym (append_assoc bytes (byte ∷ []) missing))
+    (subst (λ (d : Dss). Filled (bytes ++ (byte ∷ missing)) dsss more d declared) same all))
 step_holds (whole dsss rest) bytes byte h = begins_more bytes (byte ∷ []) rest dsss h
 step_holds (faulty fault) bytes byte h = fault_more bytes (byte ∷ []) fault h
 

@@ -112,9 +112,10 @@ pub record JoinsSoFar (old new : List ℕ) (from to next behind : ℕ) (more : B
 
 header_parts : (high low mark format c d : ℕ) (first rest after part : List ℕ) → part ≡ high ∷ low ∷ mark ∷ format ∷ c ∷ d ∷ first ++ rest
     → (part ++ after ≡ (high ∷ low ∷ mark ∷ format ∷ c ∷ d ∷ first) ++ (rest ++ after)) × (length part ≡ 6 + length first + length rest)
-header_parts high low mark format c d first rest after part e =
-    (ap (λ (b : List ℕ). b ++ after) e ∙ append_assoc (high ∷ low ∷ mark ∷ format ∷ c ∷ d ∷ first) rest after,
-    ap length e ∙ (let k = length-append first rest in omega arith))
+header_parts high low mark format c d first rest after part e = (
+  ap (λ (b : List ℕ). b ++ after) e ∙ append_assoc (high ∷ low ∷ mark ∷ format ∷ c ∷ d ∷ first) rest after,
+  ap length e ∙ (let k = length-append first rest in omega arith),
+)
 
 pub first_missing : (old : List ℕ) (from end : ℕ) (dss : Dss) (part after : List ℕ) → drop from old ≡ part ++ after → from + length part ≤ end → IsDss part dss
     → segment_in 6 (end - from) (drop from old) ≡ None → ⊥
@@ -137,7 +138,13 @@ first_joined old new from to end size continued dss part after e fits h some fro
     let sized : size ≡ length header = omega arith in
     let all : drop from old ≡ header ++ (h.rest ++ after) = e ∙ p.0 in
     record {
-      high = h.high; low = h.low; c = h.correlator_high; d = h.correlator_low; contents = h.first; rest = h.rest; pieces = h.pieces;
+      high = h.high;
+      low = h.low;
+      c = h.correlator_high;
+      d = h.correlator_low;
+      contents = h.first;
+      rest = h.rest;
+      pieces = h.pieces;
       left = behind ∙ sym (drop-drop size from old) ∙ ap (λ (b : List ℕ). drop size b) all ∙ ap (λ (n : ℕ). drop n (header ++ (h.rest ++ after))) sized ∙ drop-append_seam header (h.rest ++ after);
       place = omega arith;
       continued = subst (λ (b : Bool). AreContinuations b h.rest h.pieces false) s.1 h.continued;
@@ -145,7 +152,7 @@ first_joined old new from to end size continued dss part after e fits h some fro
       moved = front ∙ ap (λ (b : List ℕ). take to old ++ take size b) all ∙ ap (λ (n : ℕ). take to old ++ take n (header ++ (h.rest ++ after))) sized ∙ ap (λ (b : List ℕ). take to old ++ b) (take-append_seam header (h.rest ++ after));
       counts = omega arith;
       correlator = h.correlator;
-      room = omega arith
+      room = omega arith;
     }
 
 -- a further segment: it is there
@@ -164,7 +171,16 @@ record Piece (rest : List ℕ) (pieces : List (List ℕ)) : Type 0 where
 piece_of : (pieces : List (List ℕ)) (rest : List ℕ) (more : Bool) → more ≡ true → AreContinuations more rest pieces false → Piece rest pieces
 piece_of [] rest more e h = absurd (let wrong : true ≡ false = sym e ∙ h.1 in cc)
 piece_of (piece ∷ others) rest more e h = record {
-  high = h.0; low = h.1; piece = piece; others = others; remains = h.2; pieces_are = refl; text = h.4; counts = h.5; some = h.6; continued = h.7
+  high = h.0;
+  low = h.1;
+  piece = piece;
+  others = others;
+  remains = h.2;
+  pieces_are = refl;
+  text = h.4;
+  counts = h.5;
+  some = h.6;
+  continued = h.7;
 }
 
 piece_parts : (high low : ℕ) (piece remains after rest : List ℕ) → rest ≡ high ∷ low ∷ piece ++ remains
@@ -206,17 +222,23 @@ next_joined old new newer from to next behind end size more continued dss part a
     let grown = length-append h.contents p.piece in
     let so_far : behind ≡ to + 6 + length h.contents = h.counts in
     record {
-      high = h.high; low = h.low; c = h.c; d = h.d; contents = h.contents ++ p.piece; rest = p.remains; pieces = p.others;
+      high = h.high;
+      low = h.low;
+      c = h.c;
+      d = h.d;
+      contents = h.contents ++ p.piece;
+      rest = p.remains;
+      pieces = p.others;
       left = ap (λ (n : ℕ). drop n newer) (sym all) ∙ tail ∙ ap (λ (n : ℕ). drop n new) all ∙ sym (drop-drop size next new) ∙ ap (λ (b : List ℕ). drop size b) at_next ∙ ap (λ (n : ℕ). drop n (segment ++ (p.remains ++ after))) segment_size ∙ drop-append_seam segment (p.remains ++ after);
       place = omega arith;
       continued = subst (λ (b : Bool). AreContinuations b p.remains p.others false) s.1 p.continued;
       joined = h.joined ∙ ap (λ (ps : List (List ℕ)). h.contents ++ concat ps) p.pieces_are ∙ sym (append_assoc h.contents p.piece (concat p.others));
       moved = front ∙ ap (λ (b : List ℕ). take behind new ++ take (size - 2) b) at_piece ∙ ap (λ (n : ℕ). take behind new ++ take n (p.piece ++ (p.remains ++ after))) count
-        ∙ ap (λ (b : List ℕ). take behind new ++ b) (take-append_seam p.piece (p.remains ++ after)) ∙ ap (λ (b : List ℕ). b ++ p.piece) h.moved
-        ∙ append_assoc (take to old) (h.high ∷ h.low ∷ 0xD0 ∷ dss.format ∷ h.c ∷ h.d ∷ h.contents) p.piece;
+          ∙ ap (λ (b : List ℕ). take behind new ++ b) (take-append_seam p.piece (p.remains ++ after)) ∙ ap (λ (b : List ℕ). b ++ p.piece) h.moved
+          ∙ append_assoc (take to old) (h.high ∷ h.low ∷ 0xD0 ∷ dss.format ∷ h.c ∷ h.d ∷ h.contents) p.piece;
       counts = omega arith;
       correlator = h.correlator;
-      room = omega arith
+      room = omega arith;
     }
 
 no_more : (pieces : List (List ℕ)) (rest : List ℕ) (more : Bool) → more ≡ false → AreContinuations more rest pieces false → (rest ≡ []) × (pieces ≡ [])
@@ -239,23 +261,26 @@ all_joined old new newer from to next behind end more dss part after e le fits d
     let three : List ℕ = count_bytes (behind - to - 6) in
     let at : to ≡ length (take to old) = sym (length-take-le to old le) in
     let new_is : new ≡ take to old ++ (h.high ∷ h.low ∷ 0xD0 ∷ (tail ++ drop behind new)) =
-      sym (take-append-drop behind new) ∙ ap (λ (b : List ℕ). b ++ drop behind new) h.moved ∙ append_assoc (take to old) (h.high ∷ h.low ∷ 0xD0 ∷ tail) (drop behind new) in
+    sym (take-append-drop behind new) ∙ ap (λ (b : List ℕ). b ++ drop behind new) h.moved ∙ append_assoc (take to old) (h.high ∷ h.low ∷ 0xD0 ∷ tail) (drop behind new) in
     let newer_is : newer ≡ take to old ++ (three ++ (tail ++ drop behind new)) = written ∙ over_three (take to old) new (tail ++ drop behind new) to h.high h.low 0xD0 three at new_is in
     let text : List ℕ = three ++ tail in
     let whole : newer ≡ (take to old ++ text) ++ drop behind new =
-      newer_is ∙ ap (λ (b : List ℕ). take to old ++ b) (sym (append_assoc three tail (drop behind new))) ∙ sym (append_assoc (take to old) text (drop behind new)) in
+    newer_is ∙ ap (λ (b : List ℕ). take to old ++ b) (sym (append_assoc three tail (drop behind new))) ∙ sym (append_assoc (take to old) text (drop behind new)) in
     let size : length (take to old ++ text) ≡ behind = length-append (take to old) text ∙ omega arith in
     let is_within : length part ≤ dss_limit = is.within in
     let room : length h.contents + length h.rest + 6 ≤ length part = h.room in
-    let same_length : length dss.contents ≡ length h.contents = ap length contents in
-    (omega arith,
-    ap (λ (b : List ℕ). drop next b) written ∙ behind_three new to next _ _ _ (omega arith) (omega arith) ∙ h.left ∙ ap (λ (b : List ℕ). b ++ after) none.0,
-    (text,
-    ap (λ (b : List ℕ). take behind b) whole ∙ ap (λ (n : ℕ). take n ((take to old ++ text) ++ drop behind new)) (sym size) ∙ take-append_seam (take to old ++ text) (drop behind new),
-    record {
-      correlator_high = h.c;
-      correlator_low = h.d;
-      text = ap (λ (n : ℕ). count_bytes n ++ tail) (count ∙ sym same_length) ∙ ap (λ (b : List ℕ). count_bytes (length dss.contents) ++ (dss.format ∷ h.c ∷ h.d ∷ b)) (sym contents);
-      correlator = h.correlator;
-      within = omega arith
-    }))
+    let same_length : length dss.contents ≡ length h.contents = ap length contents in (
+      omega arith,
+      ap (λ (b : List ℕ). drop next b) written ∙ behind_three new to next _ _ _ (omega arith) (omega arith) ∙ h.left ∙ ap (λ (b : List ℕ). b ++ after) none.0,
+      (
+        text,
+        ap (λ (b : List ℕ). take behind b) whole ∙ ap (λ (n : ℕ). take n ((take to old ++ text) ++ drop behind new)) (sym size) ∙ take-append_seam (take to old ++ text) (drop behind new),
+        record {
+          correlator_high = h.c;
+          correlator_low = h.d;
+          text = ap (λ (n : ℕ). count_bytes n ++ tail) (count ∙ sym same_length) ∙ ap (λ (b : List ℕ). count_bytes (length dss.contents) ++ (dss.format ∷ h.c ∷ h.d ∷ b)) (sym contents);
+          correlator = h.correlator;
+          within = omega arith;
+        },
+      ),
+    )

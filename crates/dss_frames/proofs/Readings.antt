@@ -14,7 +14,7 @@ use Rattle.dss_frames.proofs.Holds.{Holds, start_holds}
 pub is_unfinished : (bytes : List ℕ) → IsUnderWay (run start bytes) → IsUnfinished bytes
 is_unfinished bytes h = record {
   no_command = λ dsss rest c. let P : State → Type 0 = λ s. IsUnderWay s in subst P (run-begins bytes rest dsss c) h;
-  no_fault = λ fault f. let P : State → Type 0 = λ s. IsUnderWay s in subst P (run-fault bytes fault f) h
+  no_fault = λ fault f. let P : State → Type 0 = λ s. IsUnderWay s in subst P (run-fault bytes fault f) h;
 }
 
 pub nothing_is_unfinished : IsUnfinished []
@@ -106,5 +106,5 @@ has_one_reading text =
       end = r.1;
       reads = r.2;
       only_commands = λ others other h. (one_reading r.0 others text r.1 other r.2 h).0;
-      only_end = λ others other h. (one_reading r.0 others text r.1 other r.2 h).1
+      only_end = λ others other h. (one_reading r.0 others text r.1 other r.2 h).1;
     }

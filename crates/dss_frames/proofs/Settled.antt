@@ -24,7 +24,7 @@ settled_elsewhere items others lent lent_size start at place at_fault h e le = r
   lent_before = omega arith;
   start_within = le;
   stands = subst (λ (b : List ℕ). IsAt b place) (sym e) h.stands;
-  known_fault = subst (λ (b : List ℕ). IsKnownFault at_fault b) (sym e) h.known_fault
+  known_fault = subst (λ (b : List ℕ). IsKnownFault at_fault b) (sym e) h.known_fault;
 }
 
 -- more bytes follow
@@ -37,7 +37,7 @@ settled_more items more lent lent_size start place at_fault h =
       lent_before = h.lent_before;
       start_within = let k = length-append items more in omega arith;
       stands = subst (λ (b : List ℕ). IsAt b place) (sym e) (place_more (drop start items) more place h.stands);
-      known_fault = λ true. let f = h.known_fault true in (f.0, subst (λ (b : List ℕ). FaultAt b f.0) (sym e) (fault_more (drop start items) more f.0 f.1))
+      known_fault = λ true. let f = h.known_fault true in (f.0, subst (λ (b : List ℕ). FaultAt b f.0) (sym e) (fault_more (drop start items) more f.0 f.1));
     }
 
 no_fault : (at_fault : Bool) (bytes : List ℕ) → IsKnownFault at_fault bytes → ((fault : FrameFault) → FaultAt bytes fault → ⊥) → at_fault ≡ false

@@ -99,7 +99,7 @@ header_entered turn dsss high low mark format c d bytes after size turn_open rig
       some = omega arith;
       runs = λ contents. header_runs turn dsss high low mark format c d contents turn_open right;
       expects = ap (λ (p : Expected × ℕ). p.0) same;
-      within = within_limit (is_continued high low) format (word c d) n (omega arith)
+      within = within_limit (is_continued high low) format (word c d) n (omega arith);
     }
 
 continuation_entered : (dsss : List Dss) (dss : Dss) (declared high low : ℕ) (bytes : List ℕ) (after : Expected) (size : ℕ)
@@ -124,7 +124,7 @@ continuation_entered dsss dss declared high low bytes after size right same =
       some = omega arith;
       runs = λ contents. going_on (continuation_fault declared high low) dss.correlator (fill dsss (is_continued high low) dss (declared + n) (n - 2)) contents right;
       expects = ap (λ (p : Expected × ℕ). p.0) same;
-      within = within_limit (is_continued high low) dss.format dss.correlator (declared + n) limits.0
+      within = within_limit (is_continued high low) dss.format dss.correlator (declared + n) limits.0;
     }
 
 entered_turn : (turn : Turn) (dsss : List Dss) (bytes : List ℕ) (after : Expected) (size : ℕ) → judged (Header turn) bytes ≡ Ok (Some (after, size)) → Entered dsss (dss_in_turn turn) bytes after size
@@ -248,18 +248,18 @@ next_there bytes more place after size h le e fits =
     let tail_length : length all - at ≡ length x.header + length left = sym (length-drop at all) ∙ ap length tail ∙ length-append x.header left in
     let long : length contents ≡ x.missing = length-take-le x.missing left (omega arith) in
     let taken : take (at + size) all ≡ take at all ++ (x.header ++ contents) =
-      take-add at size all
-      ∙ ap (λ (b : List ℕ). take at all ++ take size b) tail
-      ∙ ap (λ (m : ℕ). take at all ++ take m (x.header ++ left)) sized
-      ∙ ap (λ (b : List ℕ). take at all ++ b) (take-append-add x.header left x.missing) in
+    take-add at size all
+    ∙ ap (λ (b : List ℕ). take at all ++ take size b) tail
+    ∙ ap (λ (m : ℕ). take at all ++ take m (x.header ++ left)) sized
+    ∙ ap (λ (b : List ℕ). take at all ++ b) (take-append-add x.header left x.missing) in
     let runs : run start (take (at + size) all) ≡ filled r.0 x.more (joined x.dss contents) x.declared =
-      ap (λ (b : List ℕ). run start b) taken
-      ∙ run-behind (take at all) (x.header ++ contents) r.0 r.1 r.2
-      ∙ x.runs contents
-      ∙ ap (λ (m : ℕ). run (fill r.0 x.more x.dss x.declared m) contents) (sym long)
-      ∙ run-fill contents r.0 x.more x.dss x.declared in
+    ap (λ (b : List ℕ). run start b) taken
+    ∙ run-behind (take at all) (x.header ++ contents) r.0 r.1 r.2
+    ∙ x.runs contents
+    ∙ ap (λ (m : ℕ). run (fill r.0 x.more x.dss x.declared m) contents) (sym long)
+    ∙ run-fill contents r.0 x.more x.dss x.declared in
     let holds : Holds (filled r.0 x.more (joined x.dss contents) x.declared) (take (at + size) all) =
-      subst (λ (s : State). Holds s (take (at + size) all)) runs (start_holds (take (at + size) all)) in
+    subst (λ (s : State). Holds s (take (at + size) all)) runs (start_holds (take (at + size) all)) in
     subst (λ (a : Expected). Reaches (take (at + size) all) a) x.expects (filled_reaches x.more r.0 (joined x.dss contents) x.declared (take (at + size) all) holds)
 
 next_early : (bytes more : List ℕ) (place : Place) (after : Expected) (size : ℕ) → IsAt bytes place → place.at ≤ length bytes
@@ -276,10 +276,10 @@ next_early bytes more place after size h le e short =
     let sized : size ≡ length x.header + x.missing = x.sized in
     let tail_length : length all - at ≡ length x.header + length left = sym (length-drop at all) ∙ ap length tail ∙ length-append x.header left in
     let runs : run start all ≡ run (fill r.0 x.more x.dss x.declared x.missing) left =
-      ap (λ (b : List ℕ). run start b) (sym (take-append-drop at all))
-      ∙ run-behind (take at all) (drop at all) r.0 r.1 r.2
-      ∙ ap (λ (b : List ℕ). run (arrive r.0 r.1) b) tail
-      ∙ x.runs left in
+    ap (λ (b : List ℕ). run start b) (sym (take-append-drop at all))
+    ∙ run-behind (take at all) (drop at all) r.0 r.1 r.2
+    ∙ ap (λ (b : List ℕ). run (arrive r.0 r.1) b) tail
+    ∙ x.runs left in
     is_unfinished all (let P : State → Type 0 = λ s. IsUnderWay s in subst P (sym runs) (run-fill-short left x.missing r.0 x.more x.dss x.declared (omega arith)))
 
 -- one header further on
@@ -288,13 +288,16 @@ pub place_next : (bytes : List ℕ) (place : Place) (after : Expected) (size : �
 place_next bytes place after size h le e =
     let r = reached bytes place h le in
     let x = entered r.1 place.expected r.0 (drop place.at bytes) after size r.3 e in
-    let short : size < 32768 = x.short in
-    (x.some, short, record {
-      early = λ more lt. next_early bytes more place after size h le e lt;
-      there = λ more fits. next_there bytes more place after size h le e fits;
-      near = omega arith;
-      within = subst (λ (a : Expected). IsWithinLimit a) x.expects x.within
-    })
+    let short : size < 32768 = x.short in (
+      x.some,
+      short,
+      record {
+        early = λ more lt. next_early bytes more place after size h le e lt;
+        there = λ more fits. next_there bytes more place after size h le e fits;
+        near = omega arith;
+        within = subst (λ (a : Expected). IsWithinLimit a) x.expects x.within;
+      },
+    )
 
 -- more bytes change no place
 pub place_more : (bytes more : List ℕ) (place : Place) → IsAt bytes place → IsAt (bytes ++ more) place
@@ -302,7 +305,7 @@ place_more bytes more place h = record {
   early = λ others lt. subst (λ (b : List ℕ). IsUnfinished b) (sym (append_assoc bytes more others)) (h.early (more ++ others) (let k = ap length (append_assoc bytes more others) in omega arith));
   there = λ others le. subst (λ (b : List ℕ). Reaches (take place.at b) place.expected) (sym (append_assoc bytes more others)) (h.there (more ++ others) (let k = ap length (append_assoc bytes more others) in omega arith));
   near = let k = length-append bytes more in let n : place.at ≤ length bytes + 32767 = h.near in omega arith;
-  within = h.within
+  within = h.within;
 }
 
 -- before the first command
@@ -311,7 +314,7 @@ place_first bytes = record {
   early = λ more lt. absurd (omega arith);
   there = λ more le. ([], dss_in_turn Request, (refl, refl), refl);
   near = omega arith;
-  within = tt
+  within = tt;
 }
 
 -- what is found where no header has come at a place

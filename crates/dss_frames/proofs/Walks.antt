@@ -35,7 +35,7 @@ first_and_others (high ∷ middle ∷ low ∷ format ∷ c ∷ d ∷ text) dss e
     let size = length-drop count text in
     let contents : take count text ≡ dss.contents = ap (λ (x : Dss). x.contents) same in
     let behind : drop (6 + length dss.contents) (high ∷ middle ∷ low ∷ format ∷ c ∷ d ∷ text) ≡ drop count text =
-      sym (drop-drop (length dss.contents) 6 (high ∷ middle ∷ low ∷ format ∷ c ∷ d ∷ text)) ∙ ap (λ (b : List ℕ). drop (length b) text) (sym contents) ∙ drop-take_length count text in
+    sym (drop-drop (length dss.contents) 6 (high ∷ middle ∷ low ∷ format ∷ c ∷ d ∷ text)) ∙ ap (λ (b : List ℕ). drop (length b) text) (sym contents) ∙ drop-take_length count text in
     ap (λ (ds : List Dss). first ∷ ds) (dsss_in_enough (suc (suc (suc (suc (suc (length text)))))) (length (drop count text)) (drop count text) (omega arith) (omega arith))
     ∙ ap (λ (x : Dss). x ∷ joined_dsss (drop count text)) same
     ∙ ap (λ (b : List ℕ). dss ∷ joined_dsss b) (sym behind)
@@ -92,7 +92,7 @@ pub walk_count : (text : List ℕ) (at next : ℕ) (dss : Dss) → first_dss (dr
 walk_count text at next dss e n =
     let all = ap length (first_and_others (drop at text) dss e) in
     let others : length (joined_dsss (drop (6 + length dss.contents) (drop at text))) ≡ length (joined_dsss (drop next text)) =
-      ap (λ (b : List ℕ). length (joined_dsss b)) (drop-drop (6 + length dss.contents) at text ∙ ap (λ (m : ℕ). drop m text) (sym n)) in
+    ap (λ (b : List ℕ). length (joined_dsss b)) (drop-drop (6 + length dss.contents) at text ∙ ap (λ (m : ℕ). drop m text) (sym n)) in
     omega arith
 
 first_is : (found : Option Dss) (bytes : List ℕ) → first_dss bytes ≡ found → slice_get (joined_dsss bytes) 0 ≡ found

@@ -23,7 +23,7 @@ two n = record {
   high = slice_index (to_be_bytes w16 n) 0;
   low = slice_index (to_be_bytes w16 n) 1;
   bytes = refl;
-  read = λ lt. from_be_bytes-to_be_bytes_2 n lt
+  read = λ lt. from_be_bytes-to_be_bytes_2 n lt;
 }
 
 -- the length of a segment that holds the first bytes of some
@@ -44,9 +44,11 @@ length_by true header size count e fits =
     let rest : n % 32768 ≡ header + size = omega arith in
     let least : min size count ≡ size = omega arith in
     record {
-      high = t.high; low = t.low; are = t.bytes;
+      high = t.high;
+      low = t.low;
+      are = t.bytes;
       counts = ap (λ (m : ℕ). m % 32768) read ∙ rest ∙ ap (λ (m : ℕ). header + m) (sym least);
-      continued = ap (λ (m : ℕ). nat_le 32768 m) read ∙ le-leb 32768 n (omega arith)
+      continued = ap (λ (m : ℕ). nat_le 32768 m) read ∙ le-leb 32768 n (omega arith);
     }
 length_by false header size count e fits =
     let n = header + count in
@@ -56,9 +58,11 @@ length_by false header size count e fits =
     let rest : n % 32768 ≡ n = mod-eq_of_lt (omega arith) in
     let least : min size count ≡ count = omega arith in
     record {
-      high = t.high; low = t.low; are = t.bytes;
+      high = t.high;
+      low = t.low;
+      are = t.bytes;
       counts = ap (λ (m : ℕ). m % 32768) read ∙ rest ∙ ap (λ (m : ℕ). header + m) (sym least);
-      continued = ap (λ (m : ℕ). nat_le 32768 m) read ∙ lt-leb 32768 n (omega arith)
+      continued = ap (λ (m : ℕ). nat_le 32768 m) read ∙ lt-leb 32768 n (omega arith);
     }
 
 length_is : (header size count : ℕ) → header + size < 32768 → IsLength header size count (length_bytes header size count) (nat_lt size count)
@@ -99,13 +103,16 @@ continuations_are (suc most) (byte ∷ bytes) le =
     let size : length piece ≡ min next_size n = length-take next_size contents in
     let counts : segment_length l.high l.low ≡ 2 + min next_size n = l.counts in
     let others = continuations_are most rest (omega arith) in
-    let more : is_continued l.high l.low ≡ nat_lt 0 (length rest) = l.continued ∙ sym (left_over next_size contents (nat_lt next_size n) refl) in
-    (l.high, l.low, continuations most rest,
-    lt-ltb 0 n (omega arith),
-    ap (λ (b : List ℕ). b ++ piece ++ continuations most rest) l.are,
-    omega arith,
-    omega arith,
-    subst (λ (b : Bool). AreContinuations b (continuations most rest) (pieces most rest) false) (sym more) others)
+    let more : is_continued l.high l.low ≡ nat_lt 0 (length rest) = l.continued ∙ sym (left_over next_size contents (nat_lt next_size n) refl) in (
+      l.high,
+      l.low,
+      continuations most rest,
+      lt-ltb 0 n (omega arith),
+      ap (λ (b : List ℕ). b ++ piece ++ continuations most rest) l.are,
+      omega arith,
+      omega arith,
+      subst (λ (b : Bool). AreContinuations b (continuations most rest) (pieces most rest) false) (sym more) others,
+    )
 
 -- ---- lengths
 
@@ -182,16 +189,20 @@ written_is format correlator contents lt fits =
     let counts : segment_length l.high l.low ≡ 6 + min first_size n = l.counts in
     let more : is_continued l.high l.low ≡ nat_lt 0 (length rest) = l.continued ∙ sym (left_over first_size contents (nat_lt first_size n) refl) in
     record {
-      high = l.high; low = l.low; correlator_high = c.high; correlator_low = c.low; first = piece;
+      high = l.high;
+      low = l.low;
+      correlator_high = c.high;
+      correlator_low = c.low;
+      first = piece;
       rest = continuations n rest;
       pieces = pieces n rest;
       text = ap (λ (b : List ℕ). b ++ (0xD0 ∷ format ∷ []) ++ to_be_bytes w16 correlator ++ piece ++ continuations n rest) l.are
-        ∙ ap (λ (b : List ℕ). (l.high ∷ l.low ∷ []) ++ (0xD0 ∷ format ∷ []) ++ b ++ piece ++ continuations n rest) c.bytes;
+          ∙ ap (λ (b : List ℕ). (l.high ∷ l.low ∷ []) ++ (0xD0 ∷ format ∷ []) ++ b ++ piece ++ continuations n rest) c.bytes;
       correlator = sym (c.read lt);
       counts = omega arith;
       continued = subst (λ (b : Bool). AreContinuations b (continuations n rest) (pieces n rest) false) (sym more) (continuations_are n rest (omega arith));
       joined = sym (ap (λ (b : List ℕ). piece ++ b) (pieces_joined n rest (omega arith)) ∙ take-append-drop first_size contents);
-      within = let k = written-length format correlator contents in omega arith
+      within = let k = written-length format correlator contents in omega arith;
     }
 
 -- ---- one continuation after the other

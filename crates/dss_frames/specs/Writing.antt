@@ -5,6 +5,7 @@ use Rattle.std.specs.Int.{to_be_bytes, w16}
 -- what a full segment holds behind the six bytes of a header, and behind the two of a continuation
 abbrev pub first_size : ℕ
 first_size = 32761
+
 abbrev pub next_size : ℕ
 next_size = 32765
 

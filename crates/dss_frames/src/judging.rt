@@ -129,13 +129,21 @@ fn judge_continuation(
         return Err(FrameFault { code, correlator });
     }
     let size = segment_length(*high, *low);
-    let next = after_segment(is_continued(*high, *low), format, correlator, declared + size);
+    let next = after_segment(
+        is_continued(*high, *low),
+        format,
+        correlator,
+        declared + size,
+    );
     Ok(Some((next, size)))
 }
 
 /// Judges the header in front as soon as it has come: what is expected behind its segment, and how
 /// long the segment is.
-pub(crate) fn judge(expected: Expected, bytes: &[u8]) -> Result<Option<(Expected, usize)>, FrameFault>
+pub(crate) fn judge(
+    expected: Expected,
+    bytes: &[u8],
+) -> Result<Option<(Expected, usize)>, FrameFault>
     requires { IsWithinLimit expected }
     ensures { result ≡ judged expected bytes.now }
 {

@@ -71,7 +71,10 @@ fn heard_as_wanted(alloc: Global, text: &[u8]) -> Result<Vec<u8>, AllocError> {
 fn short_streams_in_any_pieces(rt: HostRuntime) -> Result<(), Fail> {
     let streams: [(&[u8], &[u8]); 24] = [
         // One command; two; a request with an object; a chain of two commands.
-        (b"\x00\x0A\xD0\x01\x00\x01\x00\x04\x10\x41", b"CD\x01\x00\x01\x00\x04\x10\x41"),
+        (
+            b"\x00\x0A\xD0\x01\x00\x01\x00\x04\x10\x41",
+            b"CD\x01\x00\x01\x00\x04\x10\x41",
+        ),
         (
             b"\x00\x0A\xD0\x01\x00\x01\x00\x04\x10\x41\x00\x06\xD0\x01\x00\x01",
             b"CD\x01\x00\x01\x00\x04\x10\x41CD\x01\x00\x01",
@@ -90,8 +93,14 @@ fn short_streams_in_any_pieces(rt: HostRuntime) -> Result<(), Fail> {
             b"CD\x51\x00\x06D\x53\x00\x06\xAAD\x43\x00\x06\xBB",
         ),
         // A continuation, also behind a first segment of no contents, and one in an object.
-        (b"\x80\x07\xD0\x01\x00\x09\xAA\x00\x04\xBB\xCC", b"CD\x01\x00\x09\xAA\xBB\xCC"),
-        (b"\x80\x06\xD0\x01\x00\x09\x80\x03\xAA\x00\x03\xBB", b"CD\x01\x00\x09\xAA\xBB"),
+        (
+            b"\x80\x07\xD0\x01\x00\x09\xAA\x00\x04\xBB\xCC",
+            b"CD\x01\x00\x09\xAA\xBB\xCC",
+        ),
+        (
+            b"\x80\x06\xD0\x01\x00\x09\x80\x03\xAA\x00\x03\xBB",
+            b"CD\x01\x00\x09\xAA\xBB",
+        ),
         (
             b"\x80\x07\xD0\x51\x00\x09\xAA\x00\x03\xBB\x80\x06\xD0\x03\x00\x09\x00\x04\xCC\xDD\x00\x06\xD0\x01\x00\x0A",
             b"CD\x51\x00\x09\xAA\xBBD\x03\x00\x09\xCC\xDDCD\x01\x00\x0A",
@@ -127,8 +136,12 @@ fn short_streams_in_any_pieces(rt: HostRuntime) -> Result<(), Fail> {
     ];
     for (text, want) in streams {
         assert_eq!(rt; heard_as_wanted(rt.alloc(), text)?.as_slice(), want);
-        for first in 0..=text.len() {
-            assert_eq!(rt; heard(rt.alloc(), text, first, text.len())?.as_slice(), want);
+        assert_eq!(rt; heard(rt.alloc(), text, text.len(), 1)?.as_slice(), want);
+        for first in 0..text.len() {
+            assert_eq!(rt;
+                heard(rt.alloc(), text, first, text.len())?.as_slice(),
+                want
+            );
         }
         for others in 1..=3 {
             assert_eq!(rt; heard(rt.alloc(), text, 0, others)?.as_slice(), want);
@@ -147,7 +160,11 @@ fn long_dss(alloc: Global, segments: u8, last: u16) -> Result<Vec<u8>, AllocErro
         text.resize(text.len().saturating_add(32_765), i)?;
     }
     text.extend_from_slice(&last.to_be_bytes())?;
-    text.resize(text.len().saturating_add(usize::from(last % 32_768).saturating_sub(2)), segments)?;
+    text.resize(
+        text.len()
+            .saturating_add(usize::from(last % 32_768).saturating_sub(2)),
+        segments,
+    )?;
     Ok(text)
 }
 
@@ -159,7 +176,11 @@ fn long_heard(alloc: Global, segments: u8, last: u16) -> Result<Vec<u8>, AllocEr
     for i in 1..segments {
         out.resize(out.len().saturating_add(32_765), i)?;
     }
-    out.resize(out.len().saturating_add(usize::from(last).saturating_sub(2)), segments)?;
+    out.resize(
+        out.len()
+            .saturating_add(usize::from(last).saturating_sub(2)),
+        segments,
+    )?;
     Ok(out)
 }
 
@@ -169,17 +190,35 @@ fn long_commands_and_the_limit(rt: HostRuntime) -> Result<(), Fail> {
     for (segments, last) in [(1, 3), (1, 32_767), (32, 32)] {
         let text = long_dss(rt.alloc(), segments, last)?;
         let want = long_heard(rt.alloc(), segments, last)?;
-        for (first, others) in [(text.len(), 1), (0, 1), (32_767, 1), (32_768, 4_000), (3, 32_767)] {
-            assert_eq!(rt; heard(rt.alloc(), &text, first, others)?.as_slice(), want.as_slice());
+        for (first, others) in [
+            (text.len(), 1),
+            (0, 1),
+            (32_767, 1),
+            (32_768, 4_000),
+            (3, 32_767),
+        ] {
+            assert_eq!(rt;
+                heard(rt.alloc(), &text, first, others)?.as_slice(),
+                want.as_slice()
+            );
         }
-        assert_eq!(rt; heard_as_wanted(rt.alloc(), &text)?.as_slice(), want.as_slice());
+        assert_eq!(rt;
+            heard_as_wanted(rt.alloc(), &text)?.as_slice(),
+            want.as_slice()
+        );
     }
     let mut text = long_dss(rt.alloc(), 32, 33)?;
-    assert_eq!(rt; heard(rt.alloc(), &text, 0, 4_000)?.as_slice(), b"F\x09\x00\x09".as_slice());
+    assert_eq!(rt;
+        heard(rt.alloc(), &text, 0, 4_000)?.as_slice(),
+        b"F\x09\x00\x09".as_slice()
+    );
     // With 1,048,575 bytes declared a continuation of two bytes is too long before it is too short.
     text = long_dss(rt.alloc(), 32, 32_768 + 31)?;
     text.extend_from_slice(b"\x00\x02")?;
-    assert_eq!(rt; heard(rt.alloc(), &text, 0, 4_000)?.as_slice(), b"F\x09\x00\x09".as_slice());
+    assert_eq!(rt;
+        heard(rt.alloc(), &text, 0, 4_000)?.as_slice(),
+        b"F\x09\x00\x09".as_slice()
+    );
     Ok(())
 }
 
@@ -202,11 +241,17 @@ fn what_is_written_is_read(rt: HostRuntime) -> Result<(), Fail> {
         write_dss(&mut text, Format { byte: 0x01 }, 0x1234, &contents)?;
         assert_eq!(rt; text.len(), written_length(count.min(100_000)));
         for (at, length) in places {
-            assert_eq!(rt; text.get(*at..at.saturating_add(2)), Some(length.to_be_bytes().as_slice()));
+            assert_eq!(rt;
+                text.get(*at..at.saturating_add(2)),
+                Some(length.to_be_bytes().as_slice())
+            );
         }
         let mut want = Vec::from_slice(rt.alloc(), b"CD\x01\x12\x34")?;
         want.extend_from_slice(&contents)?;
-        assert_eq!(rt; heard(rt.alloc(), &text, 0, 1_000)?.as_slice(), want.as_slice());
+        assert_eq!(rt;
+            heard(rt.alloc(), &text, 0, 1_000)?.as_slice(),
+            want.as_slice()
+        );
         // In room that is set aside nothing is wanting, and what stood there stays.
         let mut out = Vec::with_capacity(rt.alloc(), 100_000)?;
         out.push(7)?;

@@ -8,6 +8,7 @@ use std::alloc::AllocError;
 
 /// What a full segment holds, behind the six bytes of a header and the two of a continuation.
 const FIRST_SIZE: u16 = 32_761;
+
 const NEXT_SIZE: u16 = 32_765;
 
 /// Appends a DSS: full segments, and the last one short. For want of memory nothing is appended;
@@ -83,5 +84,4 @@ fn append_continuations(out: &mut Vec<u8>, bytes: &[u8])
 pub fn written_dss_is_read()
     ensures length { (format correlator : ℕ) (contents : List ℕ) → length (written format correlator contents) ≡ written_length (length contents) }
     ensures dss { (format correlator : ℕ) (contents : List ℕ) → correlator < 2 ^ 16 → written_length (length contents) ≤ dss_limit → IsDss (written format correlator contents) (record { format = format; correlator = correlator; contents = contents }) }
-{
-}
+{}

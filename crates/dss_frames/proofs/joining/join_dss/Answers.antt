@@ -6,7 +6,7 @@ use Rattle.dss_frames.proofs.joining.join_dss.Goals as goal
 pub joining-init : goal.joining-init
 joining-init c =
     let e : segment_in 6 (c.args.end - c.args.from) (drop c.args.from c.args.buf.now.items) ≡ Some (c.in-Some.size, c.in-Some.continued) =
-      sym (rw c.deref.ensures.value at c.segment_at.ensures) ∙ c.in-Some.is in
+    sym (rw c.deref.ensures.value at c.segment_at.ensures) ∙ c.in-Some.is in
     let bounds = segment_bounds 6 (c.args.end - c.args.from) (drop c.args.from c.args.buf.now.items) c.in-Some.size c.in-Some.continued e in
     record {
       down = omega arith;
@@ -26,7 +26,7 @@ returns-in_default-segment_at-clause-joined c = λ dss part after parts fits is.
 pub joining-preserved : goal.joining-preserved
 joining-preserved c =
     let e : segment_in 3 (c.args.end - c.joining.next) (drop c.joining.next c.joining.buf.items) ≡ Some (c.in-Some-segment_at.size, c.in-Some-segment_at.continued) =
-      sym (rw c.deref-in-joining.ensures.value at c.segment_at-in-joining.ensures) ∙ c.in-Some-segment_at.is in
+    sym (rw c.deref-in-joining.ensures.value at c.segment_at-in-joining.ensures) ∙ c.in-Some-segment_at.is in
     let bounds = segment_bounds 3 (c.args.end - c.joining.next) (drop c.joining.next c.joining.buf.items) c.in-Some-segment_at.size c.in-Some-segment_at.continued e in
     record {
       down = omega arith;
@@ -36,7 +36,7 @@ joining-preserved c =
       len = c.move_down-in-joining.ensures.len ∙ c.joining.invariant.len;
       kept = drop_further (c.joining.next + 2 + (c.in-Some-segment_at.size - 2)) c.args.end c.move_down-in-joining.new.buf.items c.joining.buf.items (omega arith) c.move_down-in-joining.ensures.rest ∙ c.joining.invariant.kept;
       joined = λ dss part after parts fits is. next_joined c.args.buf.now.items c.joining.buf.items c.move_down-in-joining.new.buf.items c.args.from c.args.to c.joining.next c.joining.behind c.args.end
-        c.in-Some-segment_at.size c.joining.more c.in-Some-segment_at.continued dss part after c.joining-test.true fits (c.joining.invariant.joined dss part after parts fits is) e c.move_down-in-joining.ensures.front c.move_down-in-joining.ensures.rest;
+          c.in-Some-segment_at.size c.joining.more c.in-Some-segment_at.continued dss part after c.joining-test.true fits (c.joining.invariant.joined dss part after parts fits is) e c.move_down-in-joining.ensures.front c.move_down-in-joining.ensures.rest;
     }
 
 pub returns-clause-joined : goal.returns-clause-joined

@@ -12,7 +12,7 @@ invariant-joining l = record {
   len : vec_len l.buf ≡ vec_len l.fn.buf;
   kept : drop l.end l.buf.items ≡ drop l.end l.fn.buf.items;
   joined : (dss : Dss) (part after : List ℕ) → drop l.from l.fn.buf.items ≡ part ++ after → l.from + length part ≤ l.end → IsDss part dss
-    → JoinsSoFar l.fn.buf.items l.buf.items l.from l.to l.next l.behind l.more dss part after;
+      → JoinsSoFar l.fn.buf.items l.buf.items l.from l.to l.next l.behind l.more dss part after;
 }
 
 abbrev pub decreases-joining : goal.decreases-joining

@@ -12,7 +12,7 @@ returns-in-Ok-None c =
     rw c.found.ensures (place_found c.args.bytes.now c.judging.place c.judging.invariant c.judging-test.true (sym (rw take_rest at c.judge.ensures) ∙ c.in-Ok-None.is ∙ ap Ok c.in-Ok-None.field-0-is))
 
 pub overflow_add-place : goal.overflow_add-place
-overflow_add-place c = 
+overflow_add-place c =
     let e : judged c.judging.place.expected (drop c.judging.place.at c.args.bytes.now) ≡ Ok (Some (c.in-Ok-Some.expected, c.in-Ok-Some.size)) = sym (rw take_rest at c.judge.ensures) ∙ c.in-Ok-Some.is ∙ ap Ok c.in-Ok-Some.field-0-is in
     let n = place_next c.args.bytes.now c.judging.place c.in-Ok-Some.expected c.in-Ok-Some.size c.judging.invariant c.judging-test.true e in
     search (rules, n.2)

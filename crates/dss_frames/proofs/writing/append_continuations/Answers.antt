@@ -12,9 +12,9 @@ writing-preserved c =
     let two : length c.length_bytes.result ≡ 2 = ap length c.length_bytes.ensures ∙ length_bytes_length (length c.writing.rest.now) in
     record {
       room = omega (arith, step, same, two, c.append.ensures.len, c.append.ensures.capacity, c.append-in-writing.ensures.len, c.append-in-writing.ensures.capacity, c.split_at.ensures.front_len, c.min.ensures, c.writing.invariant.room);
-      written = 
-        ap (λ b. b ++ continuations (length c.split_at.result.1.now) c.split_at.result.1.now) (c.append-in-writing.ensures.items ∙ ap (λ b. b ++ c.split_at.result.0.now) c.append.ensures.items)
-        ∙ written_on c.writing.out.items _ c.writing.rest.now c.length_bytes.result c.split_at.result.0.now c.split_at.result.1.now some c.length_bytes.ensures
+      written =
+          ap (λ b. b ++ continuations (length c.split_at.result.1.now) c.split_at.result.1.now) (c.append-in-writing.ensures.items ∙ ap (λ b. b ++ c.split_at.result.0.now) c.append.ensures.items)
+          ∙ written_on c.writing.out.items _ c.writing.rest.now c.length_bytes.result c.split_at.result.0.now c.split_at.result.1.now some c.length_bytes.ensures
           (rw c.min.ensures at c.split_at.ensures.front) (rw c.min.ensures at c.split_at.ensures.back) c.writing.invariant.written;
       capacity = omega (arith, c.append.ensures.capacity, c.append-in-writing.ensures.capacity, c.writing.invariant.capacity);
     }

@@ -14,4 +14,4 @@ returns-clause-ok c =
     ∙ ap (λ b. b ++ mark) (c.append.ensures.items
     ∙ ap (λ b. b ++ c.length_bytes.result) c.in_ok-reserve.ensures.items))))
     ∙ written_parts c.args.out.now.items c.length_bytes.result mark c.to_be_bytes.result c.split_at.result.0.now rest c.args.contents.now c.args.format.byte c.args.correlator
-      c.length_bytes.ensures refl c.to_be_bytes.ensures (rw c.min.ensures at c.split_at.ensures.front) (rw c.min.ensures at c.split_at.ensures.back)
+    c.length_bytes.ensures refl c.to_be_bytes.ensures (rw c.min.ensures at c.split_at.ensures.front) (rw c.min.ensures at c.split_at.ensures.back)

@@ -14,6 +14,6 @@ walking-preserved c = record {
 }
 
 pub returns-clause-value : goal.returns-clause-value
-returns-clause-value c = 
+returns-clause-value c =
     let done : c.walking.counter ≡ c.args.i = omega arith in
     c.dss_at-2.ensures.value ∙ sym (walk_here c.args.self.now.text.now c.walking.at c.walking.counter c.walking.invariant.walked) ∙ ap (slice_get (joined_dsss c.args.self.now.text.now)) done

@@ -14,7 +14,7 @@ invariant_of-self c =
       lent_before = omega (arith, c.join-joined.ensures.within);
       start_within = omega (arith, c.join-joined.ensures.len, c.self.invariant.start_within, has.0, length-drop c.self.inside.start c.self.inside.buf.items);
       stands = place_first (drop (c.self.inside.start + c.args.size) c.join-joined.new.buf.items);
-      known_fault = λ is. absurd (let wrong : IsTrue false = rw none at is in cc)
+      known_fault = λ is. absurd (let wrong : IsTrue false = rw none at is in cc);
     }
 
 pub returns : goal.returns
@@ -24,5 +24,5 @@ returns c =
     rw (← c.self.view_is) (record {
       taken = lent_command c.self.inside.buf.items c.join-joined.new.buf.items c.self.inside.start c.args.size c.join-joined.result has c.join-joined.ensures.rest c.join-joined.ensures.dsss;
       last = refl;
-      no_fault = none
+      no_fault = none;
     })

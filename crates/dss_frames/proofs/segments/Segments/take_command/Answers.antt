@@ -11,5 +11,5 @@ returns-in-Ok-Nothing c =
       unfinished = un;
       rest = refl;
       last = refl;
-      no_fault = no_fault_unfinished c.self.inside.at_fault _ c.self.invariant.known_fault un
+      no_fault = no_fault_unfinished c.self.inside.at_fault _ c.self.invariant.known_fault un;
     })
