@@ -1,6 +1,6 @@
 -- Parts of a file, and what is torn.
-use Rattle.std.proofs.Common.{◌≡◌, ◌⊎◌, ⊎_elim, ℕ, ◌+◌, ◌-◌, ◌<◌, ◌≤◌, List, [], ◌∷◌, ◌++◌, length, get_or, take, drop, refl, sym, ◌∙◌, ap, arith, length-append, length-take, length-drop, take-append-drop}
-use Rattle.std.proofs.lemmas.List.{take_at, drop_at, append_assoc, drop-take, take-take, drop-drop, get_or-take, get_or-drop}
+use Rattle.std.proofs.Common.{◌≡◌, ◌⊎◌, ⊎_elim, ℕ, ◌+◌, ◌-◌, ◌<◌, ◌≤◌, List, ◌++◌, length, get_or, take, drop, refl, sym, ◌∙◌, ap, arith, length-take, length-drop, take-append-drop}
+use Rattle.std.proofs.lemmas.List.{take_at, drop_at, drop-take, take-take, drop-drop, get_or-take, get_or-drop}
 use Rattle.drda_words.specs.Place.{part}
 use Rattle.drda_disk.specs.Disk.{overlaid, Torn}
 use Rattle.drda_disk.specs.Images.{length-front}

@@ -1,7 +1,7 @@
 -- The steps that a record of calls stands for.
 use Rattle.std.proofs.Common.{◌≡◌, ℕ, ◌+◌, ◌<◌, ◌≤◌, List, [], ◌∷◌, ◌++◌, length, get_or, take, drop, refl, sym, ◌∙◌, ap, arith, length-append, length-drop}
 use Rattle.std.specs.Prelude.{reverse}
-use Rattle.std.proofs.lemmas.List.{take_more, take_at, take_all, drop_at, drop-drop, drop-append-le, reverse-append}
+use Rattle.std.proofs.lemmas.List.{take_more, drop_at, drop-drop, drop-append-le, reverse-append}
 use Rattle.std.proofs.Math.Seq.{take-length}
 use Rattle.std.proofs.lemmas.List.{take-append-le}
 use Rattle.drda_disk.specs.declared.replay.Call.{Call}

@@ -1,6 +1,6 @@
 -- What one recorded call more makes of a disk in memory.
-use Rattle.std.proofs.Common.{◌≡◌, ◌⊎◌, inl, inr, ℕ, zero, suc, ◌+◌, ◌<◌, ◌≤◌, List, [], ◌∷◌, ◌++◌, length, get_or, take, drop, refl, sym, ◌∙◌, ap, subst, arith}
-use Rattle.drda_disk.specs.Disk.{Torn, overlaid, Life, Now, Only, Elapses, Stays, Tears}
+use Rattle.std.proofs.Common.{◌≡◌, ◌⊎◌, inl, inr, ℕ, zero, suc, ◌+◌, ◌≤◌, List, [], ◌∷◌, length, drop, refl, sym, ◌∙◌, ap, subst, arith}
+use Rattle.drda_disk.specs.Disk.{Torn, Only, Elapses, Stays, Tears}
 use Rattle.drda_disk.specs.Replay.{Step, wrote, synced, written_over, Reaches, read_after, synced_after, LeftSince, replayed, counts}
 use Rattle.drda_disk.specs.Images.{Torn-over, read_is_image}
 

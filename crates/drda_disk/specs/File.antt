@@ -1,5 +1,5 @@
 -- A disk of which nothing but its size and its faults is known.
-use Rattle.std.specs.Prelude.{ℕ, List, replicate, IsTrue, false}
+use Rattle.std.specs.Prelude.{ℕ, replicate, IsTrue, false}
 use Rattle.std.proofs.lemmas.Bool.{false≢true}
 use Rattle.drda_disk.specs.Disk.{Life}
 

@@ -3,8 +3,11 @@ ghost use Rattle.std.specs.Prelude.{◌≡◌, ◌+◌, ◌-◌, ◌^◌, ◌≤
 ghost use Rattle.drda_words.specs.Place.{part};
 ghost use Rattle.drda_disk.specs.Disk.{Life, overlaid, Stays, Tears, Only, Now, CountsFault};
 
+use thiserror::Error;
+
 /// A call to the device failed.
-#[derive(Clone, Copy, Debug, PartialEq, Eq)]
+#[derive(Clone, Copy, Debug, PartialEq, Eq, Error)]
+#[error("the device failed")]
 pub struct DiskFault;
 
 /// A disk: a list of bytes of a fixed length. Offsets and lengths count bytes.

@@ -34,7 +34,7 @@ pub struct FileDisk {
 }
 
 impl FileDisk {
-    ghost use Rattle.drda_disk.specs.FileDisk.{size_of};
+    ghost use Rattle.drda_disk.specs.FileDisk.{size_of, faults_of};
 
     /// Makes a file of `size` zeros at a path where no file is. File and folder entry are synced.
     /// Where one of these steps fails, the file is taken away again if it can be. Memory on the device
@@ -44,7 +44,8 @@ impl FileDisk {
         path: &str,
         size: usize,
     ) -> Result<FileDisk, FileFault>
-        ensures { IfOk result (λ disk. size_of disk ≡ size) }
+        ensures size { IfOk result (λ disk. size_of disk ≡ size) }
+        ensures faults { IfOk result (λ disk. faults_of disk ≡ 0) }
     {
         let file = File::create_new(rt, path)?;
         if let Err(fault) = prepare(rt, &file, path, size) {
@@ -59,7 +60,9 @@ impl FileDisk {
     }
 
     /// The file at this path, to be read and written, with the length that it has now.
-    pub fn open<R: Files<File = File>>(rt: &R, path: &str) -> Result<FileDisk, FileFault> {
+    pub fn open<R: Files<File = File>>(rt: &R, path: &str) -> Result<FileDisk, FileFault>
+        ensures { IfOk result (λ disk. faults_of disk ≡ 0) }
+    {
         let file = OpenOptions::new().read(true).write(true).open(rt, path)?;
         lock(&file)?;
         let size = file.metadata()?.len() as usize;

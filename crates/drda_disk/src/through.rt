@@ -6,6 +6,7 @@ ghost use Rattle.drda_disk.specs.Through.{CountsReadFault};
 
 use crate::{Disk, DiskFault};
 use std::alloc::{AllocError, Global};
+use thiserror::Error;
 
 /// Writes the bytes from `at` on and syncs: once this succeeds they outlast a crash. The range lies
 /// inside the disk. On a fault the range may hold any bytes.
@@ -27,9 +28,11 @@ pub fn write_through<D: Disk>(disk: &mut D, at: usize, bytes: &[u8]) -> Result<(
 }
 
 /// Why no bytes were read.
-#[derive(Clone, Copy, Debug, PartialEq, Eq)]
+#[derive(Clone, Copy, Debug, PartialEq, Eq, Error)]
 pub enum ReadFault {
+    #[error("no memory")]
     NoMemory,
+    #[error("the device failed")]
     DeviceFailed,
 }
 

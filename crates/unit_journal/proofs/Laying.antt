@@ -1,6 +1,6 @@
 -- Records laid one behind another.
-use Rattle.std.proofs.Common.{◌≡◌, ◌≢◌, ℕ, zero, suc, ◌+◌, ◌-◌, ◌^◌, ◌<◌, ◌≤◌, min, List, [], ◌∷◌, ◌++◌, length, get_or, take, drop, refl, sym, ◌∙◌, ap, subst, arith}
-use Rattle.std.proofs.lemmas.List.{map_push, take_more, take_all}
+use Rattle.std.proofs.Common.{◌≡◌, ℕ, zero, suc, ◌+◌, ◌-◌, ◌^◌, ◌<◌, ◌≤◌, min, List, [], ◌∷◌, ◌++◌, length, get_or, take, sym, ◌∙◌, ap, subst, arith}
+use Rattle.std.proofs.lemmas.List.{map_push, take_more}
 use Rattle.drda_words.specs.Place.{part}
 use Rattle.drda_disk.specs.Disk.{overlaid, Torn}
 use Rattle.drda_disk.specs.Images.{Torn-overlaid}

@@ -1,5 +1,5 @@
 -- The records read so far.
-use Rattle.std.proofs.Common.{◌≡◌, ◌≢◌, ℕ, ◌+◌, ◌^◌, ◌<◌, ◌≤◌, List, [], ◌∷◌, ◌++◌, length, get_or, refl, sym, ◌∙◌, ap, subst, arith}
+use Rattle.std.proofs.Common.{◌≡◌, ◌≢◌, ℕ, ◌+◌, ◌<◌, ◌≤◌, List, [], ◌∷◌, ◌++◌, length, get_or, refl, sym, ◌∙◌, ap, subst, arith}
 use Rattle.std.specs.Prelude.{Bool, IsTrue, Vec, Option, Some, None, Result, Ok, Err}
 use Rattle.std.specs.declared.alloc.Global.{Global}
 use Rattle.std.proofs.lemmas.List.{map_push}
@@ -9,8 +9,8 @@ use Rattle.drda_disk.specs.Region.{end_of}
 use Rattle.drda_disk.specs.declared.region.Region.{Region}
 use Rattle.drda_disk.proofs.Parts.{part-add}
 use Rattle.unit_journal.specs.Record.{Entry, laid, AreShort, entry_of, entries_of}
-use Rattle.unit_journal.specs.Stands.{StandsFrom, Stands, IsDamagedAt, IsNoRecord}
-use Rattle.unit_journal.specs.Journal.{IsSettled, region_of, next_of}
+use Rattle.unit_journal.specs.Stands.{Stands, IsDamagedAt, IsNoRecord}
+use Rattle.unit_journal.specs.Journal.{region_of, next_of}
 use Rattle.unit_journal.specs.Open.{IsAt, ReadsNext, IsWhole}
 use Rattle.unit_journal.specs.Opened.{ArePlaced, IsOpened, Reads}
 use Rattle.unit_journal.specs.declared.record.Record.{Record}

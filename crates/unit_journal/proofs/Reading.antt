@@ -1,11 +1,11 @@
 -- What stands at an offset, by the bytes that were read there.
-use Rattle.std.proofs.Common.{◌≡◌, ◌≢◌, ℕ, zero, suc, ◌+◌, ◌-◌, ◌^◌, ◌<◌, ◌≤◌, List, [], ◌∷◌, ◌++◌, length, get_or, take, drop, refl, sym, ◌∙◌, ap, arith}
+use Rattle.std.proofs.Common.{◌≡◌, ℕ, zero, suc, ◌+◌, ◌^◌, ◌<◌, List, [], ◌∷◌, ◌++◌, length, get_or, take, refl, sym, ◌∙◌, ap, arith}
 use Rattle.std.proofs.lemmas.List.{get_or_past}
 use Rattle.std.specs.Int.{w32, to_be_bytes, from_be_bytes}
 use Rattle.drda_words.specs.Place.{part}
 use Rattle.drda_disk.proofs.Parts.{part-add, part-part}
 use Rattle.unit_journal.specs.Kind.{code_of}
-use Rattle.unit_journal.specs.Record.{Entry, behind, entry_of}
+use Rattle.unit_journal.specs.Record.{behind, entry_of}
 use Rattle.unit_journal.specs.Open.{IsAt}
 use Rattle.unit_journal.specs.declared.record.Record.{Record}
 use Rattle.unit_journal.proofs.Spelling.{byte_part}

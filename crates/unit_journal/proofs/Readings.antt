@@ -1,5 +1,5 @@
 -- A region reads in one way at most.
-use Rattle.std.proofs.Common.{◌≡◌, ◌≢◌, ◌⊎◌, inl, inr, ⊎_elim, ℕ, ◌+◌, ◌-◌, ◌^◌, ◌<◌, ◌≤◌, List, [], ◌∷◌, ◌++◌, length, get_or, take, drop, refl, sym, ◌∙◌, ap, subst, arith, append_assoc, length-append}
+use Rattle.std.proofs.Common.{◌≡◌, ◌≢◌, ◌⊎◌, inl, inr, ℕ, ◌+◌, ◌<◌, List, [], ◌∷◌, ◌++◌, length, get_or, take, drop, refl, sym, ◌∙◌, ap, subst, arith, length-append}
 use Rattle.std.proofs.lemmas.List.{take_at, take_all, drop_at, take-take}
 use Rattle.std.proofs.lemmas.Nat.{from_be_bytes-to_be_bytes_4}
 use Rattle.std.specs.Int.{w32, to_be_bytes, from_be_bytes}
@@ -7,11 +7,11 @@ use Rattle.drda_words.specs.Place.{part}
 use Rattle.drda_disk.specs.declared.region.Region.{Region}
 use Rattle.drda_disk.proofs.Parts.{part-part}
 use Rattle.unit_journal.specs.Kind.{code_of}
-use Rattle.unit_journal.specs.Record.{Entry, behind, laid, AreShort}
+use Rattle.unit_journal.specs.Record.{Entry, laid, AreShort}
 use Rattle.unit_journal.specs.Stands.{StandsFrom, Stands, DamagedFrom, IsDamagedAt, IsNoRecord}
 use Rattle.unit_journal.specs.declared.kind.Kind.{Kind}
 use Rattle.unit_journal.specs.declared.kind.Kind.TheVariants.{Commit, Prepare, Decide}
-use Rattle.unit_journal.proofs.Spelling.{length-behind, length-laid-cons, byte_part, those}
+use Rattle.unit_journal.proofs.Spelling.{length-laid-cons, byte_part, those}
 
 -- records that are spelled from an offset on
 record Spelled (at : ℕ) (es : List Entry) (image : List ℕ) : Type 0 where

@@ -1,4 +1,4 @@
-use Rattle.std.proofs.Common.{◌≡◌, List, [], ◌∷◌, ◌++◌, ◌∙◌, ap}
+use Rattle.std.proofs.Common.{List, [], ◌∷◌, ◌++◌, ◌∙◌, ap}
 use Rattle.drda_disk.specs.declared.replay.Call.{Call}
 use Rattle.drda_disk.specs.Replay.{steps_of, recorded_len}
 use Rattle.drda_disk.proofs.Recorded.{steps_of-sync, recorded_len-sync}

@@ -1,7 +1,7 @@
 use Rattle.std.proofs.Common.{◌≡◌, ℕ, List, [], ◌∷◌, ◌++◌, length, sym, ◌∙◌, ap, rules}
 use Rattle.drda_disk.specs.declared.replay.Call.{Call}
 use Rattle.drda_disk.specs.declared.replay.Call.TheVariants.{Write}
-use Rattle.drda_disk.specs.Replay.{Step, steps_of, recorded_len}
+use Rattle.drda_disk.specs.Replay.{steps_of, recorded_len}
 use Rattle.drda_disk.proofs.Recorded.{steps_of-write, recorded_len-write}
 use Rattle.drda_disk.proofs.replay.note_write.Goals as goal
 

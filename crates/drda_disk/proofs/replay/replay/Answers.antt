@@ -1,8 +1,8 @@
-use Rattle.std.proofs.Common.{◌≡◌, ◌+◌, List, ◌∷◌, ℕ, length, take, drop, sym, ◌∙◌, ap, subst, rules}
+use Rattle.std.proofs.Common.{◌≡◌, List, ◌∷◌, ℕ, length, take, sym, ◌∙◌, ap, subst, rules}
 use Rattle.std.specs.Prelude.{Vec}
 use Rattle.std.specs.declared.alloc.Global.{Global}
 use Rattle.drda_disk.specs.Disk.{Torn}
-use Rattle.drda_disk.specs.Replay.{Step, wrote, synced, steps_of, written_over, recorded_len}
+use Rattle.drda_disk.specs.Replay.{Step, wrote, steps_of}
 use Rattle.drda_disk.proofs.Replaying.{Replayed, more_write, more_sync}
 use Rattle.drda_disk.proofs.Recorded.{next_write, rest_write, next_sync, rest_sync}
 use Rattle.drda_disk.proofs.replay.replay.Goals as goal

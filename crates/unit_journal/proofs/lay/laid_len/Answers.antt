@@ -1,4 +1,4 @@
-use Rattle.std.proofs.Common.{◌≡◌, ◌+◌, ℕ, length, arith, rules}
+use Rattle.std.proofs.Common.{◌≡◌, length, arith, rules}
 use Rattle.unit_journal.proofs.Laying.{length_next}
 use Rattle.unit_journal.proofs.lay.laid_len.Goals as goal
 

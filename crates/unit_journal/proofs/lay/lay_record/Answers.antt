@@ -1,7 +1,6 @@
-use Rattle.std.proofs.Common.{◌≡◌, ◌+◌, ◌-◌, ◌≤◌, ◌++◌, ◌∷◌, [], ℕ, List, length, sym, ◌∙◌, ap, subst, arith, rules}
+use Rattle.std.proofs.Common.{◌≡◌, ◌+◌, ◌++◌, ◌∷◌, ℕ, List, length, ◌∙◌, ap, arith, rules}
 use Rattle.std.specs.Int.{w32, to_be_bytes}
-use Rattle.drda_words.specs.Place.{part}
-use Rattle.drda_disk.specs.Disk.{Torn, overlaid}
+use Rattle.drda_disk.specs.Disk.{overlaid}
 use Rattle.drda_disk.proofs.Moments.{torn_within, and_then}
 use Rattle.drda_disk.proofs.Parts.{Torn-wider, Torn-trans}
 use Rattle.unit_journal.specs.Kind.{code_of}

@@ -1,4 +1,4 @@
-use Rattle.std.proofs.Common.{◌≡◌, ◌<◌, ℕ, rules, get_or, length}
+use Rattle.std.proofs.Common.{◌≡◌, rules, length}
 use Rattle.std.proofs.lemmas.Nat.{be_bytes_4}
 use Rattle.std.specs.Int.{w32, from_be_bytes}
 use Rattle.unit_journal.proofs.Reading.{four_small}

@@ -1,4 +1,4 @@
-use Rattle.std.proofs.Common.{◌≡◌, ◌+◌, ◌-◌, ◌≤◌, ◌<◌, ℕ, List, length, sym, ◌∙◌, ap, arith, inl, inr, refl}
+use Rattle.std.proofs.Common.{◌≡◌, ◌+◌, ℕ, List, length, sym, ◌∙◌, ap, arith, inl, inr, refl}
 use Rattle.unit_journal.specs.declared.record.Record.{Record}
 use Rattle.std.specs.Int.{w32, to_be_bytes}
 use Rattle.drda_words.specs.Place.{part}

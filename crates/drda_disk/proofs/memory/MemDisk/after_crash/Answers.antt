@@ -1,4 +1,4 @@
-use Rattle.std.proofs.Common.{◌≡◌, length, sym, rules, ◌∙◌, ap}
+use Rattle.std.proofs.Common.{◌≡◌, length, rules, ◌∙◌, ap}
 use Rattle.drda_disk.specs.Replay.{steps_of}
 use Rattle.drda_disk.proofs.Replaying.{length-read_after}
 use Rattle.drda_disk.proofs.memory.MemDisk.after_crash.Goals as goal

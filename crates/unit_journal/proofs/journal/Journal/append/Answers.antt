@@ -1,7 +1,6 @@
-use Rattle.std.proofs.Common.{◌≡◌, ◌+◌, ◌-◌, ◌≤◌, ◌++◌, ◌∷◌, [], ℕ, length, sym, ◌∙◌, ap, subst, arith, length-append}
-use Rattle.drda_disk.specs.Disk.{Torn}
+use Rattle.std.proofs.Common.{◌≡◌, ◌+◌, ◌++◌, ◌∷◌, [], length, ◌∙◌, arith}
 use Rattle.drda_disk.proofs.Parts.{Torn-wider, Torn-trans}
-use Rattle.unit_journal.specs.Record.{Entry, behind, laid}
+use Rattle.unit_journal.specs.Record.{Entry, behind}
 use Rattle.unit_journal.proofs.Spelling.{length-laid-push}
 use Rattle.unit_journal.proofs.Appending.{behind_is, length-bytes, first, second, settled}
 use Rattle.unit_journal.proofs.journal.Journal.append.Goals as goal

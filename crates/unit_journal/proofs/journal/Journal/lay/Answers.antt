@@ -1,10 +1,8 @@
-use Rattle.std.proofs.Common.{◌≡◌, ◌≢◌, ◌+◌, ◌-◌, ◌^◌, ◌≤◌, ◌<◌, ◌++◌, ◌∷◌, [], ℕ, List, length, take, get_or, sym, ◌∙◌, ap, subst, arith, rules}
+use Rattle.std.proofs.Common.{◌≡◌, ◌+◌, List, length, take, ◌∙◌, subst, arith, rules}
 use Rattle.std.proofs.lemmas.List.{take_all}
-use Rattle.drda_words.specs.Place.{part}
-use Rattle.drda_disk.specs.Disk.{Torn, overlaid}
 use Rattle.drda_disk.proofs.Moments.{torn_within, and_then}
 use Rattle.drda_disk.proofs.Parts.{Torn-wider, Torn-trans}
-use Rattle.unit_journal.specs.Record.{laid, entries_of, AreShort}
+use Rattle.unit_journal.specs.Record.{entries_of}
 use Rattle.unit_journal.specs.Stands.{Stands}
 use Rattle.unit_journal.specs.declared.record.Record.{Record}
 use Rattle.unit_journal.proofs.Laying.{fits_next, total_fits, length_next, short_next, spelled_next, length-laid-take}

@@ -1,10 +1,8 @@
-use Rattle.std.proofs.Common.{◌≡◌, ◌≢◌, ◌+◌, ◌-◌, ◌≤◌, ◌<◌, ◌++◌, ◌∷◌, [], ℕ, List, length, get_or, sym, ◌∙◌, ap, subst, arith, refl, rules}
-use Rattle.std.specs.Prelude.{Vec, Result, Ok, Err}
+use Rattle.std.proofs.Common.{◌≡◌, ◌+◌, ◌<◌, ◌++◌, ◌∷◌, [], ℕ, List, length, sym, ◌∙◌, subst, arith, rules}
+use Rattle.std.specs.Prelude.{Vec, Result, Err}
 use Rattle.std.specs.declared.alloc.Global.{Global}
 use Rattle.drda_disk.proofs.Moments.{Stays-trans, Only-stays}
-use Rattle.unit_journal.specs.Record.{Entry, entries_of}
-use Rattle.unit_journal.specs.Stands.{Stands}
-use Rattle.unit_journal.specs.Open.{IsAt, IsWhole}
+use Rattle.unit_journal.specs.Open.{IsAt}
 use Rattle.unit_journal.specs.Opened.{Reads}
 use Rattle.unit_journal.specs.declared.record.Record.{Record}
 use Rattle.unit_journal.specs.declared.journal.Journal.{Journal}

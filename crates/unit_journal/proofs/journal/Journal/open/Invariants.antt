@@ -1,4 +1,4 @@
-use Rattle.std.proofs.Common.{◌≡◌, ◌+◌, ◌-◌, ◌<◌, ◌≤◌, IsTrue}
+use Rattle.std.proofs.Common.{◌≡◌, ◌-◌, ◌<◌, ◌≤◌, IsTrue}
 use Rattle.drda_disk.specs.Disk.{Stays, Only}
 use Rattle.unit_journal.proofs.Opening.{ReadSoFar}
 use Rattle.unit_journal.proofs.journal.Journal.open.Given as goal

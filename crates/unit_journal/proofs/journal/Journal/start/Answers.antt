@@ -1,4 +1,4 @@
-use Rattle.std.proofs.Common.{◌≡◌, ◌+◌, ◌≤◌, ℕ, sym, ◌∙◌, arith}
+use Rattle.std.proofs.Common.{arith}
 use Rattle.drda_disk.proofs.Moments.{weaker}
 use Rattle.drda_disk.proofs.Parts.{Torn-wider}
 use Rattle.unit_journal.proofs.Spelling.{started}
