@@ -1,6 +1,6 @@
 //! Tokens of one fixed spelling.
 
-ghost use Rattle.std.specs.Prelude.{◌≡◌};
+ghost use Rattle.std.specs.Prelude.{◌≡◌, ◌↔◌, IsTrue};
 ghost use Rattle.sql_lex.specs.Terminal as spec;
 
 /// A token of one fixed spelling: a word of the grammar, in letters of either case, or a sign.
@@ -154,7 +154,8 @@ impl Terminal {
     /// Whether the two are the same token.
     #[tactic(auto, unfolding(crate::specs::Terminal::is_same))]
     pub fn is(self, other: Terminal) -> bool
-        ensures { result ≡ spec.is_same self other }
+        ensures number { result ≡ spec.is_same self other }
+        ensures same { IsTrue result ↔ (self ≡ other) }
     {
         self.number() == other.number()
     }

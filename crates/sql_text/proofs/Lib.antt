@@ -1,2 +1,4 @@
+pub mod Found
+pub mod FoundRules
 pub mod Limits
 pub mod Turns

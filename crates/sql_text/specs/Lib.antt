@@ -1,3 +1,4 @@
+pub mod Grammar
 pub mod Number
 pub mod Reading
 pub mod Rules
