@@ -1,4 +1,6 @@
 pub mod Found
 pub mod FoundRules
 pub mod Limits
+pub mod Only
+pub mod OnlyRules
 pub mod Turns
