@@ -3,4 +3,5 @@ pub mod FoundRules
 pub mod Limits
 pub mod Only
 pub mod OnlyRules
+pub mod Repeats
 pub mod Turns

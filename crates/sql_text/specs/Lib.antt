@@ -1,3 +1,4 @@
+pub mod Checks
 pub mod Grammar
 pub mod Number
 pub mod Reading

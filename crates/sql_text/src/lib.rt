@@ -1,6 +1,7 @@
 //! Statements of a small SQL, read from their text.
 #![tactic(auto)]
 
+mod check;
 mod column;
 mod fault;
 mod list;
