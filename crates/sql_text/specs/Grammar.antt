@@ -40,6 +40,10 @@ use Rattle.sql_text.specs.declared.tree.Columns.TheVariants as columns
 use Rattle.sql_text.specs.declared.tree.Command.{Command}
 use Rattle.sql_text.specs.declared.tree.Command.TheVariants as command
 
+-- a statement's tree
+abbrev pub Tree : Type 0
+Tree = Command
+
 -- what stands between two places of a list of tokens: the tokens from the one, and those from the other
 abbrev pub Span : Type 1
 Span = List Lexeme → List Lexeme → Type 0

@@ -3,3 +3,4 @@ pub mod Grammar
 pub mod Number
 pub mod Reading
 pub mod Rules
+pub mod Text

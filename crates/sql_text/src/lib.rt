@@ -3,13 +3,17 @@
 
 mod check;
 mod column;
+mod error;
 mod fault;
 mod list;
 mod number;
 mod predicate;
 mod statement;
 mod sum;
+mod text;
 mod token;
 mod tree;
 
-pub use tree::{Addend, Assignment, ColumnType, Columns, Command, Definition, KeyColumn, Literal, Operation, Predicate, Sum, Term};
+pub use error::SqlError;
+pub use text::parse;
+pub use tree::{Addend, Assignment, ColumnType, Columns, Command, Definition, KeyColumn, Literal, Operation, Predicate, Statement, Sum, Term};

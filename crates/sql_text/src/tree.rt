@@ -136,3 +136,11 @@ pub enum Command<'a> {
         filter: Option<Predicate<'a>>,
     },
 }
+
+/// A statement.
+#[derive(Drop)]
+pub struct Statement<'a> {
+    pub command: Command<'a>,
+    /// How many markers it has.
+    pub markers: usize,
+}
