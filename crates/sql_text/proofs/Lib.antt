@@ -1,7 +1,9 @@
 pub mod Answered
+pub mod Explained
 pub mod Found
 pub mod FoundRules
 pub mod Limits
+pub mod Local
 pub mod Only
 pub mod OnlyRules
 pub mod Repeats

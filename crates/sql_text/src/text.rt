@@ -1,10 +1,11 @@
 //! Parses a text.
 
-ghost use Rattle.std.specs.Prelude.{◌≡◌, ◌<◌, ◌≤◌, length, Ok, Err, IfOk};
+ghost use Rattle.std.specs.Prelude.{◌≡◌, ◌<◌, ◌≤◌, length, Ok, Err, IfErr, IfOk};
 ghost use Rattle.drda_words.specs.Excuse.{Answers};
 ghost use Rattle.sql_lex.specs.Tokens.{tokens};
 ghost use Rattle.sql_text.specs.Grammar.{IsStatement, Tree};
 ghost use Rattle.sql_text.specs.Checks as checks;
+ghost use Rattle.sql_text.specs.Place.{Explains};
 ghost use Rattle.sql_text.specs.Text as spec;
 ghost use Rattle.sql_text.specs.Text.{but_memory};
 ghost use Rattle.sql_text.specs.declared.error.SqlError.TheVariants as error;
@@ -76,6 +77,8 @@ pub fn parse<'a>(alloc: Global, text: &'a str) -> Result<Statement<'a>, SqlError
     ensures found { IfOk result (λ s. IsStatement s.command (tokens text.now) × (spec.answer text.now s.command ≡ Ok s)) }
     // What is in the grammar is parsed, or refused by what is checked behind it.
     ensures only { (c : Tree) → length text.now ≤ 32767 → IsStatement c (tokens text.now) → Answers (λ s. s) but_memory result (spec.answer text.now c) }
+    // What is refused is refused for a reason that stands where it says.
+    ensures refused { IfErr result (λ e. Explains text.now e) }
     ensures exact { length text.now ≤ 32767 → Answers (λ s. s) but_memory result (spec.reading text.now) }
 {
     let bytes = text.as_bytes();
