@@ -52,30 +52,6 @@ impl<'a> Cursor<'a> {
         Cursor { markers: 0, text }
     }
 
-    /// The same place again.
-    pub fn again(&self) -> Cursor<'a>
-        ensures { result ≡ self.now }
-    {
-        Cursor {
-            markers: self.markers,
-            text: self.text,
-        }
-    }
-
-    /// How many markers stand before this place.
-    pub fn markers(&self) -> usize
-        ensures { result ≡ self.now.0 }
-    {
-        self.markers
-    }
-
-    /// How many bytes are left.
-    pub fn left(&self) -> usize
-        ensures { result ≡ length self.now.1 }
-    {
-        self.text.len()
-    }
-
     /// The next token, how many bytes there are from it on, and the place behind it; nothing at
     /// the text's end.
     pub fn next(&self) -> Option<(Token<'a>, usize, Cursor<'a>)>

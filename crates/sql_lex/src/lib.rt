@@ -3,6 +3,7 @@
 
 mod cursor;
 mod cut;
+pub mod laws;
 mod part;
 mod terminal;
 mod token;

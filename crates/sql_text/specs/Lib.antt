@@ -4,4 +4,5 @@ pub mod Number
 pub mod Place
 pub mod Reading
 pub mod Rules
+pub mod Spelled
 pub mod Text

@@ -5,6 +5,7 @@ mod check;
 mod column;
 mod error;
 mod fault;
+pub mod laws;
 mod list;
 mod number;
 mod predicate;
@@ -17,3 +18,6 @@ mod tree;
 pub use error::SqlError;
 pub use text::parse;
 pub use tree::{Addend, Assignment, ColumnType, Columns, Command, Definition, KeyColumn, Literal, Operation, Predicate, Statement, Sum, Term};
+
+#[cfg(test)]
+mod tests;
