@@ -1,5 +1,5 @@
 -- Each part that a token has is a slice of the text.
-use Rattle.std.specs.Prelude.{ℕ, ◌+◌, ◌-◌, List, length, Option, Some, None}
+use Rattle.std.specs.Prelude.{ℕ, ◌+◌, ◌-◌, List, [], ◌∷◌, length, Option, Some, None}
 use Rattle.drda_words.specs.Place.{StandsAt}
 use Rattle.sql_lex.specs.Tokens.{Lexeme}
 use Rattle.sql_lex.specs.declared.token.Token.{Token}
@@ -17,3 +17,7 @@ StandsIn text at _ = Unit {0}
 
 abbrev pub Stands : List ℕ → Lexeme → Type 0
 Stands text l = StandsIn text (length text - l.0) l.1
+
+abbrev pub AllStand : List ℕ → List Lexeme → Type 0
+AllStand text [] = Unit {0}
+AllStand text (l ∷ ts) = Stands text l × AllStand text ts
