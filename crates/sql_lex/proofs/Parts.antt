@@ -1,10 +1,10 @@
 -- Each part that a token has is a slice of the text.
-use Rattle.std.proofs.Common.{◌≡◌, ℕ, zero, suc, ◌+◌, ◌-◌, ◌≤◌, ◌<◌, Bool, true, false, cond, ◌&&◌, List, [], ◌∷◌, length, take, drop, Option, Some, None, slice_index, refl, sym, ap, ◌∙◌, subst, arith, position, find, length-take, length-drop, lit≤}
+use Rattle.std.proofs.Common.{◌≡◌, ℕ, zero, suc, ◌+◌, ◌-◌, ◌≤◌, ◌<◌, Bool, true, false, cond, ◌&&◌, List, [], ◌∷◌, length, take, drop, Option, Some, None, slice_index, refl, sym, ap, ◌∙◌, subst, arith, position, find, length-drop, lit≤}
 use Rattle.std.specs.Prelude.{◌==◌, nat_le}
 use Rattle.std.specs.Char.{is_ascii_digit, is_ascii_alphabetic, eq_ignore_ascii_case}
 use Rattle.std.specs.List.{prefix_len}
 use Rattle.std.proofs.lemmas.Bool.Decides.{nat_tests}
-use Rattle.drda_words.specs.Place.{part, StandsAt}
+use Rattle.drda_words.specs.Place.{StandsAt}
 use Rattle.sql_lex.specs.Stands.{StandsIn, Stands, AllStand}
 use Rattle.sql_lex.specs.Terminal.{words}
 use Rattle.sql_lex.specs.Tokens.{Lexeme, token, tokens, tokens_from, is_blank, goes_on, named, name_by, is_spelled, closing, quoted_by, is_pairs, hexadecimal_by, lettered, minus, sign, counted}
@@ -115,8 +115,8 @@ module _ (text z : List ℕ) (rests : Rests text z) (some : 0 < length z) where
   unfolding lettered
   lettered_stands =
       by_test (slice_index z 1 == 39 && eq_ignore_ascii_case (slice_index z 0) 88)
-          (hexadecimal_by (drop 2 z) (position (λ b. b == 39) (drop 2 z))) (named (take (prefix_len goes_on z) z), prefix_len goes_on z)
-          (λ e. pairs_stand (position (λ b. b == 39) (drop 2 z)) (long e)) (λ _. named_stands (prefix_len goes_on z))
+      (hexadecimal_by (drop 2 z) (position (λ b. b == 39) (drop 2 z))) (named (take (prefix_len goes_on z) z), prefix_len goes_on z)
+      (λ e. pairs_stand (position (λ b. b == 39) (drop 2 z)) (long e)) (λ _. named_stands (prefix_len goes_on z))
 
   token_stands : (m : ℕ) → S (token m z).0
   unfolding S token
@@ -144,7 +144,7 @@ stand_from text (suc left) m (b ∷ z) r = stand_from text left m z (tail_rests 
 stand_from text zero m (b ∷ z) r =
     let t = token m (b ∷ z) in
     by_blank text (is_blank b) (length (b ∷ z), t.0) (tokens_from 0 m z) (tokens_from (t.1 - 1) (counted t.0 m) z)
-        (stand_from text 0 m z (tail_rests text b z r)) (here text (b ∷ z) r (omega arith) m) (stand_from text (t.1 - 1) (counted t.0 m) z (tail_rests text b z r))
+    (stand_from text 0 m z (tail_rests text b z r)) (here text (b ∷ z) r (omega arith) m) (stand_from text (t.1 - 1) (counted t.0 m) z (tail_rests text b z r))
 
 pub all_stand : (text : List ℕ) → AllStand text (tokens text)
 unfolding tokens

@@ -1,5 +1,5 @@
 -- Each part that a token has is a slice of the text.
-use Rattle.std.specs.Prelude.{ℕ, ◌+◌, ◌-◌, List, [], ◌∷◌, length, Option, Some, None}
+use Rattle.std.specs.Prelude.{ℕ, ◌+◌, ◌-◌, List, [], ◌∷◌, length, Some}
 use Rattle.drda_words.specs.Place.{StandsAt}
 use Rattle.sql_lex.specs.Tokens.{Lexeme}
 use Rattle.sql_lex.specs.declared.token.Token.{Token}

@@ -7,5 +7,4 @@ ghost use Rattle.sql_lex.specs.Tokens.{tokens};
 /// Each name, number, text and bytes that a token has is the slice of the text at its place.
 pub fn parts_stand_in_the_text()
     ensures { (text : List ℕ) → AllStand text (tokens text) }
-{
-}
+{}

@@ -1,5 +1,5 @@
 -- What a text is answered, by what it is in the grammar.
-use Rattle.std.proofs.Common.{◌≡◌, ℕ, ◌≤◌, List, [], length, Ok, Err, Result, Option, Some, None, IfOk, refl, sym, ap, subst, ◌∙◌, arith}
+use Rattle.std.proofs.Common.{◌≡◌, ℕ, ◌≤◌, List, length, Ok, Err, Result, Option, Some, None, IfOk, refl, sym, ap, subst, ◌∙◌, arith}
 use Rattle.drda_words.specs.Excuse.{Answers}
 use Rattle.sql_lex.specs.Tokens.{Lexeme, tokens, tokens_ahead}
 use Rattle.sql_lex.proofs.Ahead.{ahead-all, tokens-length}
@@ -7,7 +7,7 @@ use Rattle.sql_text.specs.Checks.{markers_in, refusal_of}
 use Rattle.sql_text.specs.Grammar.{IsStatement}
 use Rattle.sql_text.specs.Reading.{Outcome, Reads}
 use Rattle.sql_text.specs.Rules.{command_at, longest}
-use Rattle.sql_text.specs.Text.{but_memory, fault_error, refusal_error, statement, answer_by, answer, outcome_answer, reading}
+use Rattle.sql_text.specs.Text.{but_memory, fault_error, statement, answer_by, answer, outcome_answer, reading}
 use Rattle.sql_text.specs.declared.check.Refusal.{Refusal}
 use Rattle.sql_text.specs.declared.error.SqlError.{SqlError}
 use Rattle.sql_text.specs.declared.error.SqlError.TheVariants as error

@@ -1,15 +1,13 @@
 -- Why a text is refused.
-use Rattle.std.proofs.Common.{◌≡◌, ◌⊎◌, inl, inr, ℕ, ◌≤◌, ◌<◌, ◌-◌, List, [], ◌∷◌, ◌++◌, length, Ok, Err, Result, Option, Some, None, IfErr, refl, sym, ap, subst, ◌∙◌, arith}
+use Rattle.std.proofs.Common.{◌≡◌, inl, inr, ℕ, ◌≤◌, ◌-◌, List, ◌++◌, length, Ok, Err, Result, IfErr, refl, ap, subst, arith}
 use Rattle.drda_words.specs.Excuse.{Answers}
 use Rattle.sql_lex.specs.Tokens.{Lexeme, tokens}
-use Rattle.sql_text.specs.Grammar.{IsStatement}
 use Rattle.sql_text.specs.Place.{SameHead, IsDead, IsStuck, IsRefused, Explains}
 use Rattle.sql_text.specs.Reading.{Outcome, place}
 use Rattle.sql_text.specs.Rules.{command_at, longest}
-use Rattle.sql_text.specs.Text.{but_memory, fault_error, answer, outcome_answer, reading}
+use Rattle.sql_text.specs.Text.{but_memory, answer, outcome_answer, reading}
 use Rattle.sql_text.specs.declared.error.SqlError.{SqlError}
 use Rattle.sql_text.specs.declared.error.SqlError.TheVariants as error
-use Rattle.sql_text.specs.declared.fault.Fault.{Fault}
 use Rattle.sql_text.specs.declared.fault.Fault.TheVariants as fault
 use Rattle.sql_text.specs.declared.tree.Command.{Command}
 use Rattle.sql_text.specs.declared.tree.Statement.{Statement}

@@ -1,17 +1,11 @@
 -- What is read is in the grammar: the rules.
-use Rattle.std.proofs.Common.{not, ◌≡◌, ◌⊎◌, inl, inr, ℕ, zero, suc, ◌+◌, ◌-◌, ◌≤◌, ◌<◌, Bool, true, false, cond, List, [], ◌∷◌, ◌++◌, length, refl, sym, ap, subst, ◌∙◌, arith, Ok, Err, Result, Option, Some, None, append_assoc, append-nil, rules}
+use Rattle.std.proofs.Common.{not, ◌≡◌, inl, inr, ℕ, zero, suc, Bool, true, false, cond, List, [], ◌∷◌, ◌++◌, refl, sym, ap, subst, ◌∙◌, Ok, Option, Some, None, append_assoc, append-nil}
 use Rattle.sql_lex.specs.declared.terminal.Terminal.{Terminal}
 use Rattle.sql_lex.specs.declared.terminal.Terminal.TheVariants as w
-use Rattle.sql_lex.specs.declared.token.Comparison.{Comparison}
-use Rattle.sql_lex.specs.declared.token.Comparison.TheVariants as is
 use Rattle.sql_lex.specs.declared.token.Token.{Token}
 use Rattle.sql_lex.specs.declared.token.Token.TheVariants as t
-use Rattle.sql_lex.specs.Terminal.{is_same}
 use Rattle.sql_lex.specs.Tokens.{Lexeme}
-use Rattle.sql_lex.proofs.Terminals.{same_is, same_again}
-use Rattle.sql_text.specs.Number.{is_bigint, is_negative_bigint, length_of}
-use Rattle.sql_text.specs.declared.fault.Fault.{Fault}
-use Rattle.sql_text.specs.declared.fault.Fault.TheVariants as fault
+use Rattle.sql_text.specs.Number.{is_bigint, is_negative_bigint}
 use Rattle.sql_text.specs.declared.token.ValueStart.{ValueStart}
 use Rattle.sql_text.specs.declared.token.ValueStart.TheVariants as start
 use Rattle.sql_text.specs.declared.token.TypeWord.{TypeWord}
@@ -23,7 +17,6 @@ use Rattle.sql_text.specs.declared.tree.Literal.TheVariants as literal
 use Rattle.sql_text.specs.declared.tree.Term.{Term}
 use Rattle.sql_text.specs.declared.tree.Term.TheVariants as term
 use Rattle.sql_text.specs.declared.tree.Operation.{Operation}
-use Rattle.sql_text.specs.declared.tree.Operation.TheVariants as operation
 use Rattle.sql_text.specs.declared.tree.Addend.{Addend}
 use Rattle.sql_text.specs.declared.tree.Sum.{Sum}
 use Rattle.sql_text.specs.declared.tree.Predicate.{Predicate}
@@ -37,11 +30,11 @@ use Rattle.sql_text.specs.declared.tree.Columns.{Columns}
 use Rattle.sql_text.specs.declared.tree.Columns.TheVariants as columns
 use Rattle.sql_text.specs.declared.tree.Command.{Command}
 use Rattle.sql_text.specs.declared.tree.Command.TheVariants as command
-use Rattle.sql_text.specs.Reading.{Parser, Outcome, and_then, ◌>>=◌, ◌>>◌, pure, place, refuse, taken, expect, taken_at, expect_placed, tried, attempt, eat, is_fixed, as_fixed, as_name, as_digits, as_length, as_comparison, as_equal, as_operation, as_start, as_type, as_verb, the, may, name_at, optional_name_at, placed_name_at, digits_at, length_at, comparison_at, equal_at, operation_at, start_at, type_word_at, verb_at, end_at}
-use Rattle.sql_text.specs.Rules.{longest, items_from, items, value_by, value_at, term_by, term_at, addend, sum, addends_by, addends_from, addends_at, sum_at, Opening, Negates, Opens, Names, Else, opening_of, compared, null_test, named, comparison, all_at, any_at, group, negation, level_by, level, neg_at, predicate_at, names_at, values_at, key_column, key_column_at, key_at, assignment, assignment_at, assignments_at, length_within, type_by, type_at, nullable_at, definition, definition_at, another, definitions_at, listed_at, selected_at, filter_at, create_at, insert_at, update_at, delete_at, select_at, command_by, command_at}
+use Rattle.sql_text.specs.Reading.{Parser, ◌>>=◌, ◌>>◌, pure, expect, as_name, as_operation, as_start, as_type, as_verb, the, may, name_at, optional_name_at, placed_name_at, digits_at, length_at, comparison_at, equal_at, operation_at, start_at, type_word_at, verb_at, end_at}
+use Rattle.sql_text.specs.Rules.{longest, items, value_by, value_at, term_by, term_at, addend, sum, addends_by, addends_from, addends_at, sum_at, Opening, Negates, Opens, Names, Else, opening_of, compared, null_test, named, comparison, all_at, any_at, group, negation, level_by, level, neg_at, predicate_at, names_at, values_at, key_column, key_column_at, key_at, assignment, assignment_at, assignments_at, length_within, type_by, type_at, nullable_at, definition, definition_at, another, definitions_at, listed_at, selected_at, filter_at, create_at, insert_at, update_at, delete_at, select_at, command_by, command_at}
 use Rattle.sql_text.specs.Grammar as g
 use Rattle.sql_text.specs.Grammar.{◌⨾◌, Nothing, At, Is, The, IsList, IsName, IsNumber, IsValue, IsTerm, IsOperation, AreAddends, IsSum, IsAll, IsAny, IsPrimary, IsNested, IsPredicate, IsLength, IsType, IsNullable, IsDefinition, IsKeyColumn, IsAssignment, AreNames, AreListed, AreSelected, IsFilter, IsCommand, IsStatement}
-use Rattle.sql_text.proofs.Found.{bind_ok, ok_parts, moved, One, expect_ok, is_of, the_found, may_found, may_not, name_found, placed_name_found, digits_found, length_found, comparison_found, equal_found, operation_found, attempt_some, attempt_none, name_is, items_found, list_found, Then}
+use Rattle.sql_text.proofs.Found.{bind_ok, ok_parts, moved, expect_ok, is_of, the_found, may_found, may_not, name_found, placed_name_found, digits_found, length_found, comparison_found, equal_found, operation_found, attempt_some, attempt_none, name_is, items_found, list_found}
 
 -- ---- values and sums
 
@@ -63,7 +56,7 @@ negative_ok k n true s ts x rest fits e f =
     let P : ValueStart → Type 0 = λ v. value_by v ts ≡ Ok (x, rest) in
     let d = bind_ok (digits_at ts) _ x rest (subst P (sym same) f) in
     moved IsValue (literal.Number n) x ((k, t.Minus (Some n)) ∷ ts) d.0.1 rest (ok_parts (literal.Number n, d.0.1) (x, rest) _ refl d.2)
-        (inr (d.0.0, (ts, (k, refl), digits_found ts d.0.0 d.0.1 d.1), fits))
+    (inr (d.0.0, (ts, (k, refl), digits_found ts d.0.0 d.0.1 d.1), fits))
 negative_ok k n false s ts x rest fits e f = absurd (cc)
 
 literal_ok : (l : Lexeme) (v : Literal) (s : ValueStart) (ts : List Lexeme) (x : Literal) (rest : List Lexeme) → Some (start.Whole v) ≡ Some s
@@ -98,7 +91,7 @@ by_name None ts mid x rest e f =
     let v = bind_ok (value_at mid) _ x rest f in
     let P : List Lexeme → Type 0 = λ u. IsValue v.0.0 u v.0.1 in
     moved IsTerm (term.Value v.0.0) x ts v.0.1 rest (ok_parts (term.Value v.0.0, v.0.1) (x, rest) _ refl v.2)
-        (subst P (sym (attempt_none as_name ts mid e)) (value_found mid v.0.0 v.0.1 v.1))
+    (subst P (sym (attempt_none as_name ts mid e)) (value_found mid v.0.0 v.0.1 v.1))
 
 pub term_found : (ts : List Lexeme) (x : Term) (rest : List Lexeme) → term_at ts ≡ Ok (x, rest) → IsTerm x ts rest
 unfolding term_at
@@ -137,7 +130,7 @@ sum_found ts x rest e =
     let x1 = bind_ok (term_at ts) _ x rest e in
     let x2 = bind_ok (addends_at x1.0.1) _ x rest x1.2 in
     moved (λ y. IsSum y) (sum x1.0.0 x2.0.0) x ts x2.0.1 rest (ok_parts (sum x1.0.0 x2.0.0, x2.0.1) (x, rest) (Ok (sum x1.0.0 x2.0.0, x2.0.1)) refl x2.2)
-        ((x1.0.1, term_found ts x1.0.0 x1.0.1 x1.1, addends_found x1.0.1 x2.0.0 x2.0.1 x2.1))
+    ((x1.0.1, term_found ts x1.0.0 x1.0.1 x1.1, addends_found x1.0.1 x2.0.0 x2.0.1 x2.1))
 
 negates : (tok : Token) → opening_of tok ≡ Negates → tok ≡ t.Fixed w.Not
 negates (t.Fixed w.Not) e = refl
@@ -165,14 +158,14 @@ module _ (neg : Parser Predicate) (R : Predicate → List Lexeme → List Lexeme
   all_found ts x rest e =
       let ps = bind_ok (items neg (may w.And) ts) _ x rest e in
       moved (IsAll R) (predicate.All ps.0.0) x ts ps.0.1 rest (ok_parts (predicate.All ps.0.0, ps.0.1) (x, rest) _ refl ps.2)
-          (ps.0.0, refl, list_found neg w.And R neg_found ts ps.0.0 ps.0.1 ps.1)
+      (ps.0.0, refl, list_found neg w.And R neg_found ts ps.0.0 ps.0.1 ps.1)
 
   pub any_found : (ts : List Lexeme) (x : Predicate) (rest : List Lexeme) → any_at neg ts ≡ Ok (x, rest) → IsAny R x ts rest
   unfolding any_at
   any_found ts x rest e =
       let ps = bind_ok (items (all_at neg) (may w.Or) ts) _ x rest e in
       moved (IsAny R) (predicate.Any ps.0.0) x ts ps.0.1 rest (ok_parts (predicate.Any ps.0.0, ps.0.1) (x, rest) _ refl ps.2)
-          (ps.0.0, refl, list_found (all_at neg) w.Or (IsAll R) all_found ts ps.0.0 ps.0.1 ps.1)
+      (ps.0.0, refl, list_found (all_at neg) w.Or (IsAll R) all_found ts ps.0.0 ps.0.1 ps.1)
 
   compared_found : (a : Term) (ts mid : List Lexeme) (x : Predicate) (rest : List Lexeme) → IsTerm a ts mid → compared a mid ≡ Ok (x, rest) → IsPrimary R x ts rest
   unfolding compared
@@ -180,7 +173,7 @@ module _ (neg : Parser Predicate) (R : Predicate → List Lexeme → List Lexeme
       let c = bind_ok (comparison_at mid) _ x rest e in
       let b = bind_ok (term_at c.0.1) _ x rest c.2 in
       moved (IsPrimary R) (predicate.Compare a c.0.0 b.0.0) x ts b.0.1 rest (ok_parts (predicate.Compare a c.0.0 b.0.0, b.0.1) (x, rest) _ refl b.2)
-          (g.compared (mid, is, (c.0.1, comparison_found mid c.0.0 c.0.1 c.1, term_found c.0.1 b.0.0 b.0.1 b.1)))
+      (g.compared (mid, is, (c.0.1, comparison_found mid c.0.0 c.0.1 c.1, term_found c.0.1 b.0.0 b.0.1 b.1)))
 
   comparison_of_value : (ts : List Lexeme) (x : Predicate) (rest : List Lexeme) → comparison ts ≡ Ok (x, rest) → IsPrimary R x ts rest
   unfolding comparison
@@ -200,7 +193,7 @@ module _ (neg : Parser Predicate) (R : Predicate → List Lexeme → List Lexeme
       let b = bind_ok (may w.Not after) _ x rest e in
       let u = bind_ok (the w.Null b.0.1) _ x rest b.2 in
       moved (IsPrimary R) (predicate.IsNull n b.0.0) x ts u.0.1 rest (ok_parts (predicate.IsNull n b.0.0, u.0.1) (x, rest) _ refl u.2)
-          (by_not b.0.0 n ts mid after b.0.1 u.0.1 name is b.1 (the_found w.Null b.0.1 u.0.0 u.0.1 u.1))
+      (by_not b.0.0 n ts mid after b.0.1 u.0.1 name is b.1 (the_found w.Null b.0.1 u.0.0 u.0.1 u.1))
 
   by_is : (b : Bool) (n : List ℕ) (ts mid after : List Lexeme) (x : Predicate) (rest : List Lexeme) → IsName n ts mid → may w.Is mid ≡ Ok (b, after) → cond b (null_test n) (compared (term.Column n)) after ≡ Ok (x, rest) → IsPrimary R x ts rest
   by_is true n ts mid after x rest name e f = null_found n ts mid after x rest name (may_found w.Is mid after e) f
@@ -219,12 +212,12 @@ module _ (neg : Parser Predicate) (R : Predicate → List Lexeme → List Lexeme
   by_opening Negates k tok ts x rest start e =
       let p = bind_ok (neg ts) _ x rest e in
       moved (IsPrimary R) (predicate.Not p.0.0) x ((k, tok) ∷ ts) p.0.1 rest (ok_parts (predicate.Not p.0.0, p.0.1) (x, rest) _ refl p.2)
-          (g.negated (ts, (k, ap (λ v. (k, v) ∷ ts) (negates tok start)), neg_found ts p.0.0 p.0.1 p.1))
+      (g.negated (ts, (k, ap (λ v. (k, v) ∷ ts) (negates tok start)), neg_found ts p.0.0 p.0.1 p.1))
   by_opening Opens k tok ts x rest start e =
       let p = bind_ok (any_at neg ts) _ x rest e in
       let c = bind_ok (the w.Close p.0.1) _ x rest p.2 in
       moved (IsPrimary R) (predicate.Group p.0.0) x ((k, tok) ∷ ts) c.0.1 rest (ok_parts (predicate.Group p.0.0, c.0.1) (x, rest) _ refl c.2)
-          (g.grouped (ts, (k, ap (λ v. (k, v) ∷ ts) (opens tok start)), (p.0.1, any_found ts p.0.0 p.0.1 p.1, the_found w.Close p.0.1 c.0.0 c.0.1 c.1)))
+      (g.grouped (ts, (k, ap (λ v. (k, v) ∷ ts) (opens tok start)), (p.0.1, any_found ts p.0.0 p.0.1 p.1, the_found w.Close p.0.1 c.0.0 c.0.1 c.1)))
   by_opening (Names n) k tok ts x rest start e = named_found n ((k, tok) ∷ ts) ts x rest (k, ap (λ v. (k, v) ∷ ts) (names tok n start)) e
   by_opening Else k tok ts x rest start e = comparison_of_value ((k, tok) ∷ ts) x rest e
 
@@ -269,7 +262,7 @@ assignment_found ts x rest e =
     let x2 = bind_ok (equal_at x1.0.1) _ x rest x1.2 in
     let x3 = bind_ok (sum_at x2.0.1) _ x rest x2.2 in
     moved (λ y. IsAssignment y) (assignment x1.0.0 x3.0.0) x ts x3.0.1 rest (ok_parts (assignment x1.0.0 x3.0.0, x3.0.1) (x, rest) (Ok (assignment x1.0.0 x3.0.0, x3.0.1)) refl x3.2)
-        ((x1.0.1, name_found ts x1.0.0 x1.0.1 x1.1, (x2.0.1, equal_found x1.0.1 x2.0.0 x2.0.1 x2.1, sum_found x2.0.1 x3.0.0 x3.0.1 x3.1)))
+    ((x1.0.1, name_found ts x1.0.0 x1.0.1 x1.1, (x2.0.1, equal_found x1.0.1 x2.0.0 x2.0.1 x2.1, sum_found x2.0.1 x3.0.0 x3.0.1 x3.1)))
 
 assignments_found : (ts : List Lexeme) (xs : List Assignment) (rest : List Lexeme) → assignments_at ts ≡ Ok (xs, rest) → IsList IsAssignment (The w.Comma) xs ts rest
 unfolding assignments_at
@@ -284,7 +277,7 @@ length_within_found ts x rest e =
     let x2 = bind_ok (length_at x1.0.1) _ x rest x1.2 in
     let x3 = bind_ok (the w.Close x2.0.1) _ x rest x2.2 in
     moved (λ y. (The w.Open ⨾ (IsLength y.0 y.1 ⨾ The w.Close))) (x2.0.0) x ts x3.0.1 rest (ok_parts (x2.0.0, x3.0.1) (x, rest) (Ok (x2.0.0, x3.0.1)) refl x3.2)
-        ((x1.0.1, the_found w.Open ts x1.0.0 x1.0.1 x1.1, (x2.0.1, length_found x1.0.1 x2.0.0 x2.0.1 x2.1, the_found w.Close x2.0.1 x3.0.0 x3.0.1 x3.1)))
+    ((x1.0.1, the_found w.Open ts x1.0.0 x1.0.1 x1.1, (x2.0.1, length_found x1.0.1 x2.0.0 x2.0.1 x2.1, the_found w.Close x2.0.1 x3.0.0 x3.0.1 x3.1)))
 
 plain : (l : Lexeme) (c : ColumnType) (word : TypeWord) (ts : List Lexeme) (x : ColumnType) (rest : List Lexeme) → Some (type.Whole c) ≡ Some word → IsType c (l ∷ ts) ts → type_by word ts ≡ Ok (x, rest) → IsType x (l ∷ ts) rest
 plain l c word ts x rest e is f =
@@ -302,13 +295,13 @@ by_word k (t.Fixed w.VarChar) word ts x rest e f =
     let P : TypeWord → Type 0 = λ v. type_by v ts ≡ Ok (x, rest) in
     let n = bind_ok (length_within ts) _ x rest (subst P (sym same) f) in
     moved IsType (column.VarChar n.0.0.0 n.0.0.1) x ((k, t.Fixed w.VarChar) ∷ ts) n.0.1 rest (ok_parts (column.VarChar n.0.0.0 n.0.0.1, n.0.1) (x, rest) _ refl n.2)
-        (ts, (k, refl), length_within_found ts n.0.0 n.0.1 n.1)
+    (ts, (k, refl), length_within_found ts n.0.0 n.0.1 n.1)
 by_word k (t.Fixed w.VarBinary) word ts x rest e f =
     let same : type.OfBytes ≡ word = cc in
     let P : TypeWord → Type 0 = λ v. type_by v ts ≡ Ok (x, rest) in
     let n = bind_ok (length_within ts) _ x rest (subst P (sym same) f) in
     moved IsType (column.VarBinary n.0.0.0 n.0.0.1) x ((k, t.Fixed w.VarBinary) ∷ ts) n.0.1 rest (ok_parts (column.VarBinary n.0.0.0 n.0.0.1, n.0.1) (x, rest) _ refl n.2)
-        (ts, (k, refl), length_within_found ts n.0.0 n.0.1 n.1)
+    (ts, (k, refl), length_within_found ts n.0.0 n.0.1 n.1)
 by_word k _ word ts x rest e f = absurd (cc)
 
 type_found : (ts : List Lexeme) (x : ColumnType) (rest : List Lexeme) → type_at ts ≡ Ok (x, rest) → IsType x ts rest
@@ -341,7 +334,7 @@ definition_found ts x rest e =
     let x2 = bind_ok (type_at x1.0.1) _ x rest x1.2 in
     let x3 = bind_ok (nullable_at x2.0.1) _ x rest x2.2 in
     moved (λ y. IsDefinition y) (definition x1.0.0 x2.0.0 x3.0.0) x ts x3.0.1 rest (ok_parts (definition x1.0.0 x2.0.0 x3.0.0, x3.0.1) (x, rest) (Ok (definition x1.0.0 x2.0.0 x3.0.0, x3.0.1)) refl x3.2)
-        ((x1.0.1, placed_name_found ts x1.0.0 x1.0.1 x1.1, (x2.0.1, type_found x1.0.1 x2.0.0 x2.0.1 x2.1, nullable_found x2.0.1 x3.0.0 x3.0.1 x3.1)))
+    ((x1.0.1, placed_name_found ts x1.0.0 x1.0.1 x1.1, (x2.0.1, type_found x1.0.1 x2.0.0 x2.0.1 x2.1, nullable_found x2.0.1 x3.0.0 x3.0.1 x3.1)))
 
 twice : (b : Bool) → not (not b) ≡ b
 twice true = refl
@@ -381,7 +374,7 @@ by_open true ts mid x rest e f =
     let n = bind_ok (names_at mid) _ x rest f in
     let c = bind_ok (the w.Close n.0.1) _ x rest n.2 in
     moved AreListed (columns.Named n.0.0) x ts c.0.1 rest (ok_parts (columns.Named n.0.0, c.0.1) (x, rest) _ refl c.2)
-        (mid, may_found w.Open ts mid e, (n.0.1, names_found mid n.0.0 n.0.1 n.1, the_found w.Close n.0.1 c.0.0 c.0.1 c.1))
+    (mid, may_found w.Open ts mid e, (n.0.1, names_found mid n.0.0 n.0.1 n.1, the_found w.Close n.0.1 c.0.0 c.0.1 c.1))
 by_open false ts mid x rest e f = moved AreListed columns.All x ts mid rest (ok_parts (columns.All, mid) (x, rest) _ refl f) (may_not w.Open ts mid e)
 
 listed_found : (ts : List Lexeme) (x : Columns) (rest : List Lexeme) → listed_at ts ≡ Ok (x, rest) → AreListed x ts rest
@@ -399,7 +392,7 @@ by_star false ts mid x rest e f =
     let n = bind_ok (names_at mid) _ x rest f in
     let P : List Lexeme → Type 0 = λ u. AreNames n.0.0 u n.0.1 in
     moved AreSelected (columns.Named n.0.0) x ts n.0.1 rest (ok_parts (columns.Named n.0.0, n.0.1) (x, rest) _ refl n.2)
-        (subst P (sym (may_not w.Star ts mid e)) (names_found mid n.0.0 n.0.1 n.1))
+    (subst P (sym (may_not w.Star ts mid e)) (names_found mid n.0.0 n.0.1 n.1))
 
 selected_found : (ts : List Lexeme) (x : Columns) (rest : List Lexeme) → selected_at ts ≡ Ok (x, rest) → AreSelected x ts rest
 unfolding selected_at
@@ -455,7 +448,7 @@ create_found all ts x rest first e =
     let x9 = bind_ok (the w.Close x8.0.1) _ x rest x8.2 in
     let d = definitions_found x3.0.1 x4.0.0 x4.0.1 x4.1 in
     moved IsCommand (command.Create x2.0.0 x4.0.0 x7.0.0) x all x9.0.1 rest (ok_parts (command.Create x2.0.0 x4.0.0 x7.0.0, x9.0.1) (x, rest) (Ok (command.Create x2.0.0 x4.0.0 x7.0.0, x9.0.1)) refl x9.2)
-        (ts, first, (x1.0.1, the_found w.Table ts x1.0.0 x1.0.1 x1.1, (x2.0.1, name_found x1.0.1 x2.0.0 x2.0.1 x2.1, (x3.0.1, the_found w.Open x2.0.1 x3.0.0 x3.0.1 x3.1, (d.0, d.1, (d.2.0, d.2.1, (x4.0.1, d.2.2, (x5.0.1, the_found w.Key x4.0.1 x5.0.0 x5.0.1 x5.1, (x6.0.1, the_found w.Open x5.0.1 x6.0.0 x6.0.1 x6.1, (x7.0.1, key_found x6.0.1 x7.0.0 x7.0.1 x7.1, (x8.0.1, the_found w.Close x7.0.1 x8.0.0 x8.0.1 x8.1, the_found w.Close x8.0.1 x9.0.0 x9.0.1 x9.1)))))))))))
+    (ts, first, (x1.0.1, the_found w.Table ts x1.0.0 x1.0.1 x1.1, (x2.0.1, name_found x1.0.1 x2.0.0 x2.0.1 x2.1, (x3.0.1, the_found w.Open x2.0.1 x3.0.0 x3.0.1 x3.1, (d.0, d.1, (d.2.0, d.2.1, (x4.0.1, d.2.2, (x5.0.1, the_found w.Key x4.0.1 x5.0.0 x5.0.1 x5.1, (x6.0.1, the_found w.Open x5.0.1 x6.0.0 x6.0.1 x6.1, (x7.0.1, key_found x6.0.1 x7.0.0 x7.0.1 x7.1, (x8.0.1, the_found w.Close x7.0.1 x8.0.0 x8.0.1 x8.1, the_found w.Close x8.0.1 x9.0.0 x9.0.1 x9.1)))))))))))
 
 insert_found : (all ts : List Lexeme) (x : Command) (rest : List Lexeme) → The w.Insert all ts → insert_at ts ≡ Ok (x, rest) → IsCommand x all rest
 unfolding insert_at
@@ -468,7 +461,7 @@ insert_found all ts x rest first e =
     let x6 = bind_ok (values_at x5.0.1) _ x rest x5.2 in
     let x7 = bind_ok (the w.Close x6.0.1) _ x rest x6.2 in
     moved IsCommand (command.Insert x2.0.0 x3.0.0 x6.0.0) x all x7.0.1 rest (ok_parts (command.Insert x2.0.0 x3.0.0 x6.0.0, x7.0.1) (x, rest) (Ok (command.Insert x2.0.0 x3.0.0 x6.0.0, x7.0.1)) refl x7.2)
-        (ts, first, (x1.0.1, the_found w.Into ts x1.0.0 x1.0.1 x1.1, (x2.0.1, name_found x1.0.1 x2.0.0 x2.0.1 x2.1, (x3.0.1, listed_found x2.0.1 x3.0.0 x3.0.1 x3.1, (x4.0.1, the_found w.Values x3.0.1 x4.0.0 x4.0.1 x4.1, (x5.0.1, the_found w.Open x4.0.1 x5.0.0 x5.0.1 x5.1, (x6.0.1, values_found x5.0.1 x6.0.0 x6.0.1 x6.1, the_found w.Close x6.0.1 x7.0.0 x7.0.1 x7.1)))))))
+    (ts, first, (x1.0.1, the_found w.Into ts x1.0.0 x1.0.1 x1.1, (x2.0.1, name_found x1.0.1 x2.0.0 x2.0.1 x2.1, (x3.0.1, listed_found x2.0.1 x3.0.0 x3.0.1 x3.1, (x4.0.1, the_found w.Values x3.0.1 x4.0.0 x4.0.1 x4.1, (x5.0.1, the_found w.Open x4.0.1 x5.0.0 x5.0.1 x5.1, (x6.0.1, values_found x5.0.1 x6.0.0 x6.0.1 x6.1, the_found w.Close x6.0.1 x7.0.0 x7.0.1 x7.1)))))))
 
 update_found : (all ts : List Lexeme) (x : Command) (rest : List Lexeme) → The w.Update all ts → update_at ts ≡ Ok (x, rest) → IsCommand x all rest
 unfolding update_at
@@ -478,7 +471,7 @@ update_found all ts x rest first e =
     let x3 = bind_ok (assignments_at x2.0.1) _ x rest x2.2 in
     let x4 = bind_ok (filter_at x3.0.1) _ x rest x3.2 in
     moved IsCommand (command.Update x1.0.0 x3.0.0 x4.0.0) x all x4.0.1 rest (ok_parts (command.Update x1.0.0 x3.0.0 x4.0.0, x4.0.1) (x, rest) (Ok (command.Update x1.0.0 x3.0.0 x4.0.0, x4.0.1)) refl x4.2)
-        (ts, first, (x1.0.1, name_found ts x1.0.0 x1.0.1 x1.1, (x2.0.1, the_found w.Set x1.0.1 x2.0.0 x2.0.1 x2.1, (x3.0.1, assignments_found x2.0.1 x3.0.0 x3.0.1 x3.1, filter_found x3.0.1 x4.0.0 x4.0.1 x4.1))))
+    (ts, first, (x1.0.1, name_found ts x1.0.0 x1.0.1 x1.1, (x2.0.1, the_found w.Set x1.0.1 x2.0.0 x2.0.1 x2.1, (x3.0.1, assignments_found x2.0.1 x3.0.0 x3.0.1 x3.1, filter_found x3.0.1 x4.0.0 x4.0.1 x4.1))))
 
 delete_found : (all ts : List Lexeme) (x : Command) (rest : List Lexeme) → The w.Delete all ts → delete_at ts ≡ Ok (x, rest) → IsCommand x all rest
 unfolding delete_at
@@ -487,7 +480,7 @@ delete_found all ts x rest first e =
     let x2 = bind_ok (name_at x1.0.1) _ x rest x1.2 in
     let x3 = bind_ok (filter_at x2.0.1) _ x rest x2.2 in
     moved IsCommand (command.Delete x2.0.0 x3.0.0) x all x3.0.1 rest (ok_parts (command.Delete x2.0.0 x3.0.0, x3.0.1) (x, rest) (Ok (command.Delete x2.0.0 x3.0.0, x3.0.1)) refl x3.2)
-        (ts, first, (x1.0.1, the_found w.From ts x1.0.0 x1.0.1 x1.1, (x2.0.1, name_found x1.0.1 x2.0.0 x2.0.1 x2.1, filter_found x2.0.1 x3.0.0 x3.0.1 x3.1)))
+    (ts, first, (x1.0.1, the_found w.From ts x1.0.0 x1.0.1 x1.1, (x2.0.1, name_found x1.0.1 x2.0.0 x2.0.1 x2.1, filter_found x2.0.1 x3.0.0 x3.0.1 x3.1)))
 
 select_found : (all ts : List Lexeme) (x : Command) (rest : List Lexeme) → The w.Select all ts → select_at ts ≡ Ok (x, rest) → IsCommand x all rest
 unfolding select_at
@@ -497,7 +490,7 @@ select_found all ts x rest first e =
     let x3 = bind_ok (name_at x2.0.1) _ x rest x2.2 in
     let x4 = bind_ok (filter_at x3.0.1) _ x rest x3.2 in
     moved IsCommand (command.Select x1.0.0 x3.0.0 x4.0.0) x all x4.0.1 rest (ok_parts (command.Select x1.0.0 x3.0.0 x4.0.0, x4.0.1) (x, rest) (Ok (command.Select x1.0.0 x3.0.0 x4.0.0, x4.0.1)) refl x4.2)
-        (ts, first, (x1.0.1, selected_found ts x1.0.0 x1.0.1 x1.1, (x2.0.1, the_found w.From x1.0.1 x2.0.0 x2.0.1 x2.1, (x3.0.1, name_found x2.0.1 x3.0.0 x3.0.1 x3.1, filter_found x3.0.1 x4.0.0 x4.0.1 x4.1))))
+    (ts, first, (x1.0.1, selected_found ts x1.0.0 x1.0.1 x1.1, (x2.0.1, the_found w.From x1.0.1 x2.0.0 x2.0.1 x2.1, (x3.0.1, name_found x2.0.1 x3.0.0 x3.0.1 x3.1, filter_found x3.0.1 x4.0.0 x4.0.1 x4.1))))
 
 by_verb : (v : Verb) (all ts : List Lexeme) (x : Command) (rest : List Lexeme) → The (verb_word v) all ts → command_by v ts ≡ Ok (x, rest) → IsCommand x all rest
 unfolding verb_word

@@ -1,46 +1,17 @@
 -- What is in the grammar is read: single tokens and lists.
-use Rattle.std.proofs.Common.{◌≡◌, ◌⊎◌, inl, inr, ℕ, zero, suc, ◌+◌, ◌-◌, ◌≤◌, ◌<◌, Bool, true, false, cond, List, [], ◌∷◌, ◌++◌, length, refl, sym, ap, subst, ◌∙◌, arith, Ok, Err, Result, Option, Some, None, append_assoc, rules}
+use Rattle.std.proofs.Common.{◌≡◌, ℕ, zero, suc, ◌+◌, ◌≤◌, ◌<◌, Bool, true, false, List, [], ◌∷◌, ◌++◌, length, refl, sym, ap, ◌∙◌, arith, Ok, Option, Some, None, append_assoc}
 use Rattle.sql_lex.specs.declared.terminal.Terminal.{Terminal}
-use Rattle.sql_lex.specs.declared.terminal.Terminal.TheVariants as w
 use Rattle.sql_lex.specs.declared.token.Comparison.{Comparison}
 use Rattle.sql_lex.specs.declared.token.Comparison.TheVariants as is
 use Rattle.sql_lex.specs.declared.token.Token.{Token}
 use Rattle.sql_lex.specs.declared.token.Token.TheVariants as t
-use Rattle.sql_lex.specs.Terminal.{is_same}
 use Rattle.sql_lex.specs.Tokens.{Lexeme}
-use Rattle.sql_lex.proofs.Terminals.{same_is, same_again}
-use Rattle.sql_text.specs.Number.{is_bigint, is_negative_bigint, length_of}
-use Rattle.sql_text.specs.declared.fault.Fault.{Fault}
-use Rattle.sql_text.specs.declared.fault.Fault.TheVariants as fault
-use Rattle.sql_text.specs.declared.token.ValueStart.{ValueStart}
-use Rattle.sql_text.specs.declared.token.ValueStart.TheVariants as start
-use Rattle.sql_text.specs.declared.token.TypeWord.{TypeWord}
-use Rattle.sql_text.specs.declared.token.TypeWord.TheVariants as type
-use Rattle.sql_text.specs.declared.token.Verb.{Verb}
-use Rattle.sql_text.specs.declared.token.Verb.TheVariants as verb
-use Rattle.sql_text.specs.declared.tree.Literal.{Literal}
-use Rattle.sql_text.specs.declared.tree.Literal.TheVariants as literal
-use Rattle.sql_text.specs.declared.tree.Term.{Term}
-use Rattle.sql_text.specs.declared.tree.Term.TheVariants as term
+use Rattle.sql_lex.proofs.Terminals.{same_again}
 use Rattle.sql_text.specs.declared.tree.Operation.{Operation}
 use Rattle.sql_text.specs.declared.tree.Operation.TheVariants as operation
-use Rattle.sql_text.specs.declared.tree.Addend.{Addend}
-use Rattle.sql_text.specs.declared.tree.Sum.{Sum}
-use Rattle.sql_text.specs.declared.tree.Predicate.{Predicate}
-use Rattle.sql_text.specs.declared.tree.Predicate.TheVariants as predicate
-use Rattle.sql_text.specs.declared.tree.ColumnType.{ColumnType}
-use Rattle.sql_text.specs.declared.tree.ColumnType.TheVariants as column
-use Rattle.sql_text.specs.declared.tree.Definition.{Definition}
-use Rattle.sql_text.specs.declared.tree.KeyColumn.{KeyColumn}
-use Rattle.sql_text.specs.declared.tree.Assignment.{Assignment}
-use Rattle.sql_text.specs.declared.tree.Columns.{Columns}
-use Rattle.sql_text.specs.declared.tree.Columns.TheVariants as columns
-use Rattle.sql_text.specs.declared.tree.Command.{Command}
-use Rattle.sql_text.specs.declared.tree.Command.TheVariants as command
-use Rattle.sql_text.specs.Reading.{Parser, Outcome, and_then, ◌>>=◌, ◌>>◌, pure, place, refuse, taken, expect, taken_at, expect_placed, tried, attempt, eat, is_fixed, as_fixed, as_name, as_digits, as_length, as_comparison, as_equal, as_operation, as_start, as_type, as_verb, the, may, name_at, optional_name_at, placed_name_at, digits_at, length_at, comparison_at, equal_at, operation_at, start_at, type_word_at, verb_at, end_at}
-use Rattle.sql_text.specs.Rules.{longest, items_from, items, value_by, value_at, term_by, term_at, addend, sum, addends_by, addends_from, addends_at, sum_at, Opening, Negates, Opens, Names, Else, opening_of, compared, null_test, named, comparison, all_at, any_at, group, negation, level_by, level, neg_at, predicate_at, names_at, values_at, key_column, key_column_at, key_at, assignment, assignment_at, assignments_at, length_within, type_by, type_at, nullable_at, definition, definition_at, another, definitions_at, listed_at, selected_at, filter_at, create_at, insert_at, update_at, delete_at, select_at, command_by, command_at}
-use Rattle.sql_text.specs.Grammar as g
-use Rattle.sql_text.specs.Grammar.{◌⨾◌, Nothing, At, Is, The, IsList, IsName, IsNumber, IsValue, IsTerm, IsOperation, AreAddends, IsSum, IsAll, IsAny, IsPrimary, IsNested, IsPredicate, IsLength, IsType, IsNullable, IsDefinition, IsKeyColumn, IsAssignment, AreNames, AreListed, AreSelected, IsFilter, IsCommand, IsStatement}
+use Rattle.sql_text.specs.Reading.{Parser, expect, is_fixed, as_fixed, as_name, as_digits, as_comparison, as_equal, as_operation, the, may, name_at, placed_name_at, digits_at, length_at, comparison_at, equal_at, operation_at}
+use Rattle.sql_text.specs.Rules.{longest, items_from, items}
+use Rattle.sql_text.specs.Grammar.{At, Is, The, IsList, IsName, IsOperation, IsLength}
 
 -- ---- tokens
 
@@ -161,7 +132,7 @@ module _ {A : Type 0} (item : Parser A) (more : Parser Bool) (R : A → List Lex
       let here = only x ts mid fits (behind mid after b) r in
       let on = list_goes (y ∷ ys) mid after rest b m in
       rw (here, on)
-          (items_from_only n (found ++ x ∷ []) (y ∷ ys) after rest end room fewer follows stops m ∙ ap (λ (all : List A). Ok (all, end)) (append_assoc found (x ∷ []) (y ∷ ys)))
+      (items_from_only n (found ++ x ∷ []) (y ∷ ys) after rest end room fewer follows stops m ∙ ap (λ (all : List A). Ok (all, end)) (append_assoc found (x ∷ []) (y ∷ ys)))
 
   pub items_only : (xs : List A) (ts rest end : List Lexeme) → length ts ≤ longest → Follows rest → more rest ≡ Ok (false, end) → IsList R Between xs ts rest → items item more ts ≡ Ok (xs, end)
   unfolding items

@@ -1,22 +1,15 @@
 -- What is in the grammar is read: the rules.
-use Rattle.std.proofs.Common.{◌≡◌, ◌⊎◌, inl, inr, ℕ, zero, suc, ◌+◌, ◌-◌, ◌≤◌, ◌<◌, Bool, true, false, cond, List, [], ◌∷◌, ◌++◌, length, refl, sym, ap, subst, ◌∙◌, arith, Ok, Err, Result, Option, Some, None, append_assoc, append-nil, rules}
+use Rattle.std.proofs.Common.{◌≡◌, inl, inr, ℕ, zero, suc, ◌+◌, ◌≤◌, ◌<◌, Bool, true, false, List, [], ◌∷◌, ◌++◌, length, refl, sym, ap, ◌∙◌, arith, Ok, Option, Some, None, append_assoc, append-nil}
 use Rattle.sql_lex.specs.declared.terminal.Terminal.{Terminal}
 use Rattle.sql_lex.specs.declared.terminal.Terminal.TheVariants as w
 use Rattle.sql_lex.specs.declared.token.Comparison.{Comparison}
-use Rattle.sql_lex.specs.declared.token.Comparison.TheVariants as is
 use Rattle.sql_lex.specs.declared.token.Token.{Token}
 use Rattle.sql_lex.specs.declared.token.Token.TheVariants as t
 use Rattle.sql_lex.specs.Terminal.{is_same}
 use Rattle.sql_lex.specs.Tokens.{Lexeme}
-use Rattle.sql_lex.proofs.Terminals.{same_is, same_again}
-use Rattle.sql_text.specs.Number.{is_bigint, is_negative_bigint, length_of}
-use Rattle.sql_text.specs.declared.fault.Fault.{Fault}
-use Rattle.sql_text.specs.declared.fault.Fault.TheVariants as fault
-use Rattle.sql_text.specs.declared.token.ValueStart.{ValueStart}
+use Rattle.sql_text.specs.Number.{is_bigint, is_negative_bigint}
 use Rattle.sql_text.specs.declared.token.ValueStart.TheVariants as start
-use Rattle.sql_text.specs.declared.token.TypeWord.{TypeWord}
 use Rattle.sql_text.specs.declared.token.TypeWord.TheVariants as type
-use Rattle.sql_text.specs.declared.token.Verb.{Verb}
 use Rattle.sql_text.specs.declared.token.Verb.TheVariants as verb
 use Rattle.sql_text.specs.declared.tree.Literal.{Literal}
 use Rattle.sql_text.specs.declared.tree.Literal.TheVariants as literal
@@ -37,13 +30,13 @@ use Rattle.sql_text.specs.declared.tree.Columns.{Columns}
 use Rattle.sql_text.specs.declared.tree.Columns.TheVariants as columns
 use Rattle.sql_text.specs.declared.tree.Command.{Command}
 use Rattle.sql_text.specs.declared.tree.Command.TheVariants as command
-use Rattle.sql_text.specs.Reading.{Parser, Outcome, and_then, ◌>>=◌, ◌>>◌, pure, place, refuse, taken, expect, taken_at, expect_placed, tried, attempt, eat, is_fixed, as_fixed, as_name, as_digits, as_length, as_comparison, as_equal, as_operation, as_start, as_type, as_verb, the, may, name_at, optional_name_at, placed_name_at, digits_at, length_at, comparison_at, equal_at, operation_at, start_at, type_word_at, verb_at, end_at}
-use Rattle.sql_text.specs.Rules.{longest, items_from, items, value_by, value_at, term_by, term_at, addend, sum, addends_by, addends_from, addends_at, sum_at, Opening, Negates, Opens, Names, Else, opening_of, compared, null_test, named, comparison, all_at, any_at, group, negation, level_by, level, neg_at, predicate_at, names_at, values_at, key_column, key_column_at, key_at, assignment, assignment_at, assignments_at, length_within, type_by, type_at, nullable_at, definition, definition_at, another, definitions_at, listed_at, selected_at, filter_at, create_at, insert_at, update_at, delete_at, select_at, command_by, command_at}
+use Rattle.sql_text.specs.Reading.{Parser, is_fixed, as_name, as_start, as_type, as_verb, may, name_at, optional_name_at, operation_at, start_at, type_word_at, verb_at, end_at}
+use Rattle.sql_text.specs.Rules.{longest, value_at, term_at, addends_from, addends_at, sum_at, Else, opening_of, compared, null_test, named, comparison, all_at, any_at, group, negation, level, neg_at, predicate_at, names_at, values_at, key_column_at, key_at, assignment_at, assignments_at, length_within, type_at, nullable_at, definition_at, another, definitions_at, listed_at, selected_at, filter_at, create_at, insert_at, update_at, delete_at, select_at, command_at}
 use Rattle.sql_text.specs.Grammar as g
 use Rattle.sql_text.specs.Grammar.{◌⨾◌, Nothing, At, Is, The, IsList, IsName, IsNumber, IsValue, IsTerm, IsOperation, AreAddends, IsSum, IsAll, IsAny, IsPrimary, IsNested, IsPredicate, IsLength, IsType, IsNullable, IsDefinition, IsKeyColumn, IsAssignment, AreNames, AreListed, AreSelected, IsFilter, IsCommand, IsStatement}
 use Rattle.sql_lex.specs.Terminal.{number}
 use Rattle.std.specs.Prelude.{◌==◌}
-use Rattle.sql_text.proofs.Only.{again, the_again, may_again, name_again, placed_name_again, digits_again, length_again, comparison_again, equal_again, operation_again, Lacks, NoSign, lacks_nil, no_sign_nil, lacks, no_sign, is_length, at_length, list_length, list_shorter, items_only, list_only}
+use Rattle.sql_text.proofs.Only.{again, the_again, may_again, name_again, placed_name_again, digits_again, length_again, comparison_again, equal_again, operation_again, Lacks, NoSign, lacks_nil, no_sign_nil, lacks, no_sign, is_length, at_length, list_shorter, items_only, list_only}
 
 -- two words that are not the same
 is_apart : (a b : Terminal) → number a == number b ≡ false → is_fixed b (t.Fixed a) ≡ false
@@ -157,7 +150,7 @@ addends_from_only (suc n) found [] ts rest few stops same =
 addends_from_only (suc n) found (x ∷ xs) ts rest few stops (mid, o, (after, a, m)) =
     let fewer : length xs < n = omega arith in
     rw (operation_again x.operation ts mid o, term_only x.term mid after a)
-        (addends_from_only n (found ++ x ∷ []) xs after rest fewer stops m ∙ ap (λ (all : List Addend). Ok (all, rest)) (append_assoc found (x ∷ []) xs))
+    (addends_from_only n (found ++ x ∷ []) xs after rest fewer stops m ∙ ap (λ (all : List Addend). Ok (all, rest)) (append_assoc found (x ∷ []) xs))
 
 addends_only : (xs : List Addend) (ts rest : List Lexeme) → length ts < longest → NoSign rest → AreAddends xs ts rest → addends_at ts ≡ Ok (xs, rest)
 unfolding addends_at
@@ -201,7 +194,7 @@ module _ (neg : Parser Predicate) (R : Predicate → List Lexeme → List Lexeme
   unfolding any_at
   any_only p ts rest fits ands ors (ps, same, m) =
       rw (list_only (all_at neg) w.Or (IsAll R) (Lacks w.And) (all_shorter R shorter) all_only (λ us vs b. lacks w.And (t.Fixed w.Or) us vs (is_apart w.Or w.And refl) b) ps ts rest fits ands ors m)
-          (ap (λ (q : Predicate). Ok (q, rest)) (sym same))
+      (ap (λ (q : Predicate). Ok (q, rest)) (sym same))
 
   compared_only : (a b : Term) (c : Comparison) (ts mid rest : List Lexeme) → Is (t.Compare c) ts mid → IsTerm b mid rest → compared a ts ≡ Ok (predicate.Compare a c b, rest)
   unfolding compared
@@ -335,8 +328,8 @@ definitions_only : (xs : List Definition) (ts mid after rest : List Lexeme) → 
 unfolding definitions_at
 definitions_only xs ts mid after rest fits m c p =
     items_only definition_at another IsDefinition (The w.Comma) (Lacks w.Not) definition_shorter (is_length (t.Fixed w.Comma)) (λ d us vs _ stops r. definition_only d us vs stops r) another_goes
-        (λ us vs b. lacks w.Not (t.Fixed w.Comma) us vs (is_apart w.Comma w.Not refl) b) xs ts mid rest fits
-        (lacks w.Not (t.Fixed w.Comma) mid after (is_apart w.Comma w.Not refl) c) (another_ends mid after rest c p) m
+    (λ us vs b. lacks w.Not (t.Fixed w.Comma) us vs (is_apart w.Comma w.Not refl) b) xs ts mid rest fits
+    (lacks w.Not (t.Fixed w.Comma) mid after (is_apart w.Comma w.Not refl) c) (another_ends mid after rest c p) m
 
 -- ---- statements
 
@@ -392,26 +385,56 @@ command_only (command.Create table definitions key) ts fits (m1, first, (m2, tab
     let room : length m4 ≤ longest = omega (arith, is_length _ ts m1 first, is_length _ m1 m2 tab, is_length _ m2 m3 name, is_length _ m3 m4 brace) in
     let less : length m5 < length m4 = list_shorter IsDefinition (The w.Comma) definition_shorter (is_length (t.Fixed w.Comma)) definitions m4 m5 defs in
     let room' : length m9 ≤ longest = omega (arith, is_length _ m5 m6 comma, is_length _ m6 m7 primary, is_length _ m7 m8 k, is_length _ m8 m9 brace') in
-    rw (again as_verb (t.Fixed w.Create) verb.Create ts m1 refl first, the_again w.Table m1 m2 tab, name_again table m2 m3 name, the_again w.Open m3 m4 brace,
-        definitions_only definitions m4 m5 m6 m7 room defs comma primary, the_again w.Key m7 m8 k, the_again w.Open m8 m9 brace',
-        key_only key m9 m10 room' (lacks w.Comma (t.Fixed w.Close) m10 m11 (is_apart w.Close w.Comma refl) close) keys, the_again w.Close m10 m11 close, the_again w.Close m11 [] close', end_only) refl
+    rw (
+      again as_verb (t.Fixed w.Create) verb.Create ts m1 refl first,
+      the_again w.Table m1 m2 tab,
+      name_again table m2 m3 name,
+      the_again w.Open m3 m4 brace,
+      definitions_only definitions m4 m5 m6 m7 room defs comma primary,
+      the_again w.Key m7 m8 k,
+      the_again w.Open m8 m9 brace',
+      key_only key m9 m10 room' (lacks w.Comma (t.Fixed w.Close) m10 m11 (is_apart w.Close w.Comma refl) close) keys,
+      the_again w.Close m10 m11 close,
+      the_again w.Close m11 [] close',
+      end_only,
+    ) refl
 command_only (command.Insert table listed values) ts fits (m1, first, (m2, into, (m3, name, (m4, l, (m5, vals, (m6, brace, (m7, vs, close))))))) =
     let room : length m3 ≤ longest = omega (arith, is_length _ ts m1 first, is_length _ m1 m2 into, is_length _ m2 m3 name) in
     let room' : length m6 ≤ longest = omega (arith, listed_within listed m3 m4 l, is_length _ m4 m5 vals, is_length _ m5 m6 brace) in
-    rw (again as_verb (t.Fixed w.Insert) verb.Insert ts m1 refl first, the_again w.Into m1 m2 into, name_again table m2 m3 name,
-        listed_only listed m3 m4 room (lacks w.Open (t.Fixed w.Values) m4 m5 (is_apart w.Values w.Open refl) vals) l, the_again w.Values m4 m5 vals, the_again w.Open m5 m6 brace,
-        values_only values m6 m7 room' (lacks w.Comma (t.Fixed w.Close) m7 [] (is_apart w.Close w.Comma refl) close) vs, the_again w.Close m7 [] close, end_only) refl
+    rw (
+      again as_verb (t.Fixed w.Insert) verb.Insert ts m1 refl first,
+      the_again w.Into m1 m2 into,
+      name_again table m2 m3 name,
+      listed_only listed m3 m4 room (lacks w.Open (t.Fixed w.Values) m4 m5 (is_apart w.Values w.Open refl) vals) l,
+      the_again w.Values m4 m5 vals,
+      the_again w.Open m5 m6 brace,
+      values_only values m6 m7 room' (lacks w.Comma (t.Fixed w.Close) m7 [] (is_apart w.Close w.Comma refl) close) vs,
+      the_again w.Close m7 [] close,
+      end_only,
+    ) refl
 command_only (command.Update table assignments filter) ts fits (m1, first, (m2, name, (m3, s, (m4, list, f)))) =
     let room : length m3 ≤ longest = omega (arith, is_length _ ts m1 first, is_length _ m1 m2 name, is_length _ m2 m3 s) in
     let less : length m4 < length m3 = list_shorter IsAssignment (The w.Comma) assignment_shorter (is_length (t.Fixed w.Comma)) assignments m3 m4 list in
     let room' : length m4 ≤ longest = omega arith in
-    rw (again as_verb (t.Fixed w.Update) verb.Update ts m1 refl first, name_again table m1 m2 name, the_again w.Set m2 m3 s,
-        assignments_only assignments m3 m4 room (filter_no_sign filter m4 f) (filter_no_comma filter m4 f) list, filter_only filter m4 room' f, end_only) refl
+    rw (
+      again as_verb (t.Fixed w.Update) verb.Update ts m1 refl first,
+      name_again table m1 m2 name,
+      the_again w.Set m2 m3 s,
+      assignments_only assignments m3 m4 room (filter_no_sign filter m4 f) (filter_no_comma filter m4 f) list,
+      filter_only filter m4 room' f,
+      end_only,
+    ) refl
 command_only (command.Delete table filter) ts fits (m1, first, (m2, from, (m3, name, f))) =
     let room : length m3 ≤ longest = omega (arith, is_length _ ts m1 first, is_length _ m1 m2 from, is_length _ m2 m3 name) in
     rw (again as_verb (t.Fixed w.Delete) verb.Delete ts m1 refl first, the_again w.From m1 m2 from, name_again table m2 m3 name, filter_only filter m3 room f, end_only) refl
 command_only (command.Select selected table filter) ts fits (m1, first, (m2, l, (m3, from, (m4, name, f)))) =
     let room : length m1 ≤ longest = omega (arith, is_length _ ts m1 first) in
     let room' : length m4 ≤ longest = omega (arith, selected_shorter selected m1 m2 l, is_length _ m2 m3 from, is_length _ m3 m4 name) in
-    rw (again as_verb (t.Fixed w.Select) verb.Select ts m1 refl first, selected_only selected m1 m2 room (lacks w.Comma (t.Fixed w.From) m2 m3 (is_apart w.From w.Comma refl) from) l,
-        the_again w.From m2 m3 from, name_again table m3 m4 name, filter_only filter m4 room' f, end_only) refl
+    rw (
+      again as_verb (t.Fixed w.Select) verb.Select ts m1 refl first,
+      selected_only selected m1 m2 room (lacks w.Comma (t.Fixed w.From) m2 m3 (is_apart w.From w.Comma refl) from) l,
+      the_again w.From m2 m3 from,
+      name_again table m3 m4 name,
+      filter_only filter m4 room' f,
+      end_only,
+    ) refl

@@ -1,5 +1,5 @@
 -- A search for the first item whose name is one of an earlier item, at one place.
-use Rattle.std.proofs.Common.{◌≡◌, ℕ, suc, ◌+◌, ◌<◌, Bool, true, false, cond, List, [], ◌∷◌, ◌++◌, length, take, drop, get_or, Option, Some, None, refl, sym, ap, ◌∙◌, arith, add-one}
+use Rattle.std.proofs.Common.{◌≡◌, ℕ, ◌+◌, ◌<◌, Bool, true, false, cond, List, [], ◌∷◌, ◌++◌, length, take, drop, get_or, Option, Some, refl, sym, ap, ◌∙◌, add-one}
 use Rattle.std.proofs.Math.Seq.{drop-cons, take-suc}
 use Rattle.std.specs.List.{list_any}
 use Rattle.sql_text.specs.Checks.{same_name, first_repeat}

@@ -1,5 +1,5 @@
 -- What is checked of a statement behind its grammar.
-use Rattle.std.specs.Prelude.{ℕ, ◌+◌, Bool, true, false, not, ◌&&◌, ◌||◌, if◌then◌else◌, ◌==◌, nat_lt, List, [], ◌∷◌, ◌++◌, length, count_by, Option, Some, None}
+use Rattle.std.specs.Prelude.{ℕ, Bool, true, false, not, ◌||◌, if◌then◌else◌, ◌==◌, nat_lt, List, [], ◌∷◌, ◌++◌, length, count_by, Option, Some, None}
 use Rattle.std.specs.List.{list_any}
 use Rattle.std.specs.Str.{str_eq_ignore_ascii_case}
 use Rattle.sql_lex.specs.Tokens.{Lexeme}
@@ -11,7 +11,6 @@ use Rattle.sql_text.specs.declared.tree.ColumnType.{ColumnType}
 use Rattle.sql_text.specs.declared.tree.ColumnType.TheVariants as column
 use Rattle.sql_text.specs.declared.tree.Definition.{Definition}
 use Rattle.sql_text.specs.declared.tree.KeyColumn.{KeyColumn}
-use Rattle.sql_text.specs.declared.tree.Columns.{Columns}
 use Rattle.sql_text.specs.declared.tree.Columns.TheVariants as columns
 use Rattle.sql_text.specs.declared.tree.Command.{Command}
 use Rattle.sql_text.specs.declared.tree.Command.TheVariants as command

@@ -18,7 +18,7 @@ use Rattle.sql_lex.specs.declared.token.Comparison.{Comparison}
 use Rattle.sql_lex.specs.declared.token.Comparison.TheVariants as is
 use Rattle.sql_lex.specs.declared.token.Token.{Token}
 use Rattle.sql_lex.specs.declared.token.Token.TheVariants as t
-use Rattle.sql_lex.specs.Tokens.{Lexeme, tokens}
+use Rattle.sql_lex.specs.Tokens.{Lexeme}
 use Rattle.sql_text.specs.Number.{is_bigint, is_negative_bigint, length_of}
 use Rattle.sql_text.specs.declared.tree.Literal.{Literal}
 use Rattle.sql_text.specs.declared.tree.Literal.TheVariants as literal

@@ -1,5 +1,5 @@
 -- Why a text is refused, and where.
-use Rattle.std.specs.Prelude.{◌≡◌, ◌⊎◌, ◌≤◌, ◌<◌, ℕ, ◌-◌, List, [], ◌∷◌, ◌++◌, length, Result, Ok, Err}
+use Rattle.std.specs.Prelude.{◌≡◌, ◌⊎◌, ◌≤◌, ◌<◌, ℕ, ◌-◌, List, [], ◌∷◌, ◌++◌, length, Err}
 use Rattle.sql_lex.specs.Tokens.{Lexeme, tokens}
 use Rattle.sql_text.specs.Grammar.{IsStatement}
 use Rattle.sql_text.specs.Reading.{place}

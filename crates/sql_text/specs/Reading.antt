@@ -1,5 +1,5 @@
 -- How a statement is read from its tokens, from left to right.
-use Rattle.std.specs.Prelude.{◌≡◌, ℕ, zero, suc, List, [], ◌∷◌, ◌++◌, length, Result, Ok, Err, Option, Some, None, Bool, true, false, not, if◌then◌else◌}
+use Rattle.std.specs.Prelude.{◌≡◌, ℕ, List, [], ◌∷◌, Result, Ok, Err, Option, Some, None, Bool, true, false, if◌then◌else◌}
 use Rattle.sql_lex.specs.declared.terminal.Terminal.{Terminal}
 use Rattle.sql_lex.specs.declared.terminal.Terminal.TheVariants as w
 use Rattle.sql_lex.specs.declared.token.Comparison.{Comparison}
@@ -7,7 +7,7 @@ use Rattle.sql_lex.specs.declared.token.Comparison.TheVariants as is
 use Rattle.sql_lex.specs.declared.token.Token.{Token}
 use Rattle.sql_lex.specs.declared.token.Token.TheVariants as t
 use Rattle.sql_lex.specs.Terminal.{is_same}
-use Rattle.sql_lex.specs.Tokens.{Lexeme, tokens, tokens_ahead}
+use Rattle.sql_lex.specs.Tokens.{Lexeme, tokens_ahead}
 use Rattle.sql_text.specs.Number.{is_bigint, is_negative_bigint, length_of}
 use Rattle.sql_text.specs.declared.fault.Fault.{Fault}
 use Rattle.sql_text.specs.declared.fault.Fault.TheVariants as fault
@@ -17,13 +17,9 @@ use Rattle.sql_text.specs.declared.token.TypeWord.{TypeWord}
 use Rattle.sql_text.specs.declared.token.TypeWord.TheVariants as type
 use Rattle.sql_text.specs.declared.token.Verb.{Verb}
 use Rattle.sql_text.specs.declared.token.Verb.TheVariants as verb
-use Rattle.sql_text.specs.declared.tree.Literal.{Literal}
 use Rattle.sql_text.specs.declared.tree.Literal.TheVariants as literal
-use Rattle.sql_text.specs.declared.tree.Term.{Term}
-use Rattle.sql_text.specs.declared.tree.Term.TheVariants as term
 use Rattle.sql_text.specs.declared.tree.Operation.{Operation}
 use Rattle.sql_text.specs.declared.tree.Operation.TheVariants as operation
-use Rattle.sql_text.specs.declared.tree.ColumnType.{ColumnType}
 use Rattle.sql_text.specs.declared.tree.ColumnType.TheVariants as column
 
 abbrev pub Outcome : Type 0 → Type 0

@@ -1,10 +1,10 @@
 -- The rules of the grammar, as they are read from left to right.
-use Rattle.std.specs.Prelude.{◌≡◌, ℕ, zero, suc, List, [], ◌∷◌, ◌++◌, Result, Ok, Err, Option, Some, None, Bool, true, false, not, if◌then◌else◌}
+use Rattle.std.specs.Prelude.{ℕ, zero, suc, List, [], ◌∷◌, ◌++◌, Err, Option, Some, None, Bool, true, false, not, if◌then◌else◌}
 use Rattle.sql_lex.specs.declared.terminal.Terminal.TheVariants as w
 use Rattle.sql_lex.specs.declared.token.Token.{Token}
 use Rattle.sql_lex.specs.declared.token.Token.TheVariants as t
 use Rattle.sql_lex.specs.Tokens.{Lexeme}
-use Rattle.sql_text.specs.Reading.{Parser, Outcome, and_then, ◌>>=◌, ◌>>◌, pure, the, may, name_at, optional_name_at, placed_name_at, digits_at, length_at, comparison_at, equal_at, operation_at, start_at, type_word_at, verb_at, end_at}
+use Rattle.sql_text.specs.Reading.{Parser, ◌>>=◌, ◌>>◌, pure, the, may, name_at, optional_name_at, placed_name_at, digits_at, length_at, comparison_at, equal_at, operation_at, start_at, type_word_at, verb_at, end_at}
 use Rattle.sql_text.specs.declared.fault.Fault.TheVariants as fault
 use Rattle.sql_text.specs.declared.token.ValueStart.{ValueStart}
 use Rattle.sql_text.specs.declared.token.ValueStart.TheVariants as start

@@ -1,5 +1,5 @@
 -- What the parts of a statement stand for.
-use Rattle.std.specs.Prelude.{ℕ, ◌+◌, ◌-◌, ◌*◌, Bool, ◌==◌, nat_lt, if◌then◌else◌, List, [], ◌∷◌, map, ℤ, pos, neg_ℤ, slice_index}
+use Rattle.std.specs.Prelude.{ℕ, ◌+◌, ◌-◌, ◌*◌, ◌==◌, nat_lt, if◌then◌else◌, List, [], ◌∷◌, map, ℤ, pos, neg_ℤ}
 use Rattle.std.specs.Char.{to_ascii_uppercase}
 use Rattle.sql_text.specs.Number.{number_of}
 use Rattle.sql_text.specs.declared.tree.Literal.{Literal}

@@ -77,11 +77,7 @@ fn empty_at(column_type: ColumnType) -> Option<usize>
 {
     match column_type {
         ColumnType::VarChar { length, left } | ColumnType::VarBinary { length, left } => {
-            if length == 0 {
-                Some(left)
-            } else {
-                None
-            }
+            if length == 0 { Some(left) } else { None }
         }
         _ => None,
     }

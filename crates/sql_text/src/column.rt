@@ -15,7 +15,9 @@ use std::alloc::Global;
 
 /// A length in parentheses, and its place.
 #[tactic(auto, unfolding(crate::specs::Rules::length_within))]
-pub(crate) fn length_in_parentheses<'a>(cursor: Cursor<'a>) -> Result<((usize, usize), Cursor<'a>), Fault>
+pub(crate) fn length_in_parentheses<'a>(
+    cursor: Cursor<'a>,
+) -> Result<((usize, usize), Cursor<'a>), Fault>
     ensures { Reads (spec.length_within (tokens_ahead cursor.entry)) result }
 {
     let rest = expect(Terminal::Open, cursor)?;
@@ -82,7 +84,10 @@ pub(crate) fn another<'a>(cursor: Cursor<'a>) -> Result<(bool, Cursor<'a>), Faul
 }
 
 /// The columns, up to the `PRIMARY` behind them.
-pub(crate) fn definitions<'a>(alloc: Global, cursor: Cursor<'a>) -> Result<(Items<Definition<'a>>, Cursor<'a>), Fault>
+pub(crate) fn definitions<'a>(
+    alloc: Global,
+    cursor: Cursor<'a>,
+) -> Result<(Items<Definition<'a>>, Cursor<'a>), Fault>
     ensures { Reads (spec.definitions_at (tokens_ahead cursor.entry)) result }
 {
     let turns = longest();

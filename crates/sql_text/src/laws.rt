@@ -7,5 +7,4 @@ ghost use Rattle.sql_text.specs.Grammar.{IsStatement, Tree};
 /// One text is one statement at most.
 pub fn one_statement()
     ensures { (text : List ℕ) (c d : Tree) → length text ≤ 32767 → IsStatement c (tokens text) → IsStatement d (tokens text) → c ≡ d }
-{
-}
+{}

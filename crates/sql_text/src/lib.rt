@@ -17,7 +17,10 @@ mod tree;
 
 pub use error::SqlError;
 pub use text::parse;
-pub use tree::{Addend, Assignment, ColumnType, Columns, Command, Definition, KeyColumn, Literal, Operation, Predicate, Statement, Sum, Term};
+pub use tree::{
+    Addend, Assignment, ColumnType, Columns, Command, Definition, KeyColumn, Literal, Operation,
+    Predicate, Statement, Sum, Term,
+};
 
 #[cfg(test)]
 mod tests;

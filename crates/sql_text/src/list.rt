@@ -22,7 +22,10 @@ pub(crate) fn longest() -> usize
 }
 
 /// Names.
-pub(crate) fn names<'a>(alloc: Global, cursor: Cursor<'a>) -> Result<(Items<Part<'a>>, Cursor<'a>), Fault>
+pub(crate) fn names<'a>(
+    alloc: Global,
+    cursor: Cursor<'a>,
+) -> Result<(Items<Part<'a>>, Cursor<'a>), Fault>
     ensures { Reads (spec.names_at (tokens_ahead cursor.entry)) result }
 {
     let turns = longest();
@@ -41,7 +44,10 @@ pub(crate) fn names<'a>(alloc: Global, cursor: Cursor<'a>) -> Result<(Items<Part
 }
 
 /// Values.
-pub(crate) fn values<'a>(alloc: Global, cursor: Cursor<'a>) -> Result<(Items<Literal<'a>>, Cursor<'a>), Fault>
+pub(crate) fn values<'a>(
+    alloc: Global,
+    cursor: Cursor<'a>,
+) -> Result<(Items<Literal<'a>>, Cursor<'a>), Fault>
     ensures { Reads (spec.values_at (tokens_ahead cursor.entry)) result }
 {
     let turns = longest();
@@ -68,7 +74,10 @@ pub(crate) fn key_column<'a>(cursor: Cursor<'a>) -> Result<(KeyColumn<'a>, Curso
 }
 
 /// The columns of a key.
-pub(crate) fn key<'a>(alloc: Global, cursor: Cursor<'a>) -> Result<(Items<KeyColumn<'a>>, Cursor<'a>), Fault>
+pub(crate) fn key<'a>(
+    alloc: Global,
+    cursor: Cursor<'a>,
+) -> Result<(Items<KeyColumn<'a>>, Cursor<'a>), Fault>
     ensures { Reads (spec.key_at (tokens_ahead cursor.entry)) result }
 {
     let turns = longest();
@@ -87,7 +96,10 @@ pub(crate) fn key<'a>(alloc: Global, cursor: Cursor<'a>) -> Result<(Items<KeyCol
 }
 
 #[tactic(auto, unfolding(crate::specs::Rules::assignment_at))]
-pub(crate) fn assignment<'a>(alloc: Global, cursor: Cursor<'a>) -> Result<(Assignment<'a>, Cursor<'a>), Fault>
+pub(crate) fn assignment<'a>(
+    alloc: Global,
+    cursor: Cursor<'a>,
+) -> Result<(Assignment<'a>, Cursor<'a>), Fault>
     ensures { Reads (spec.assignment_at (tokens_ahead cursor.entry)) result }
 {
     let (column, rest) = name(cursor)?;
@@ -97,7 +109,10 @@ pub(crate) fn assignment<'a>(alloc: Global, cursor: Cursor<'a>) -> Result<(Assig
 }
 
 /// Assignments.
-pub(crate) fn assignments<'a>(alloc: Global, cursor: Cursor<'a>) -> Result<(Items<Assignment<'a>>, Cursor<'a>), Fault>
+pub(crate) fn assignments<'a>(
+    alloc: Global,
+    cursor: Cursor<'a>,
+) -> Result<(Items<Assignment<'a>>, Cursor<'a>), Fault>
     ensures { Reads (spec.assignments_at (tokens_ahead cursor.entry)) result }
 {
     let turns = longest();

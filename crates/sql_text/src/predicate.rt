@@ -16,7 +16,10 @@ use std::alloc::Global;
 
 /// The rest of a comparison.
 #[tactic(auto, unfolding(crate::specs::Rules::compared))]
-pub(crate) fn compared<'a>(a: Term<'a>, cursor: Cursor<'a>) -> Result<(Predicate<'a>, Cursor<'a>), Fault>
+pub(crate) fn compared<'a>(
+    a: Term<'a>,
+    cursor: Cursor<'a>,
+) -> Result<(Predicate<'a>, Cursor<'a>), Fault>
     ensures { Reads (spec.compared a.entry (tokens_ahead cursor.entry)) result }
 {
     let (comparison, rest) = comparison(cursor)?;
@@ -26,7 +29,10 @@ pub(crate) fn compared<'a>(a: Term<'a>, cursor: Cursor<'a>) -> Result<(Predicate
 
 /// The rest of a test for null, behind IS.
 #[tactic(auto, unfolding(crate::specs::Rules::null_test))]
-pub(crate) fn null_test<'a>(name: Part<'a>, cursor: Cursor<'a>) -> Result<(Predicate<'a>, Cursor<'a>), Fault>
+pub(crate) fn null_test<'a>(
+    name: Part<'a>,
+    cursor: Cursor<'a>,
+) -> Result<(Predicate<'a>, Cursor<'a>), Fault>
     ensures { Reads (spec.null_test name.entry (tokens_ahead cursor.entry)) result }
 {
     let (negated, rest) = eat(Terminal::Not, cursor);
@@ -36,7 +42,10 @@ pub(crate) fn null_test<'a>(name: Part<'a>, cursor: Cursor<'a>) -> Result<(Predi
 
 /// What goes on behind a name.
 #[tactic(auto, unfolding(crate::specs::Rules::named))]
-pub(crate) fn named<'a>(name: Part<'a>, cursor: Cursor<'a>) -> Result<(Predicate<'a>, Cursor<'a>), Fault>
+pub(crate) fn named<'a>(
+    name: Part<'a>,
+    cursor: Cursor<'a>,
+) -> Result<(Predicate<'a>, Cursor<'a>), Fault>
     ensures { Reads (spec.named name.entry (tokens_ahead cursor.entry)) result }
 {
     let (is, rest) = eat(Terminal::Is, cursor);
@@ -49,7 +58,9 @@ pub(crate) fn named<'a>(name: Part<'a>, cursor: Cursor<'a>) -> Result<(Predicate
 
 /// A comparison that begins with a value.
 #[tactic(auto, unfolding(crate::specs::Rules::comparison))]
-pub(crate) fn comparison_of_value<'a>(cursor: Cursor<'a>) -> Result<(Predicate<'a>, Cursor<'a>), Fault>
+pub(crate) fn comparison_of_value<'a>(
+    cursor: Cursor<'a>,
+) -> Result<(Predicate<'a>, Cursor<'a>), Fault>
     ensures { Reads (spec.comparison (tokens_ahead cursor.entry)) result }
 {
     let (value, rest) = value(cursor)?;
@@ -58,7 +69,11 @@ pub(crate) fn comparison_of_value<'a>(cursor: Cursor<'a>) -> Result<(Predicate<'
 
 /// Parts with AND between them.
 #[cycle(grammar)]
-pub(crate) fn all<'a>(alloc: Global, depth: usize, cursor: Cursor<'a>) -> Result<(Predicate<'a>, Cursor<'a>), Fault>
+pub(crate) fn all<'a>(
+    alloc: Global,
+    depth: usize,
+    cursor: Cursor<'a>,
+) -> Result<(Predicate<'a>, Cursor<'a>), Fault>
     ensures { Reads (spec.all_at (spec.neg_at depth) (tokens_ahead cursor.entry)) result }
 {
     let turns = longest();
@@ -78,7 +93,11 @@ pub(crate) fn all<'a>(alloc: Global, depth: usize, cursor: Cursor<'a>) -> Result
 
 /// Parts with OR between them.
 #[cycle(grammar)]
-pub(crate) fn any<'a>(alloc: Global, depth: usize, cursor: Cursor<'a>) -> Result<(Predicate<'a>, Cursor<'a>), Fault>
+pub(crate) fn any<'a>(
+    alloc: Global,
+    depth: usize,
+    cursor: Cursor<'a>,
+) -> Result<(Predicate<'a>, Cursor<'a>), Fault>
     ensures { Reads (spec.any_at (spec.neg_at depth) (tokens_ahead cursor.entry)) result }
 {
     let turns = longest();
@@ -99,7 +118,11 @@ pub(crate) fn any<'a>(alloc: Global, depth: usize, cursor: Cursor<'a>) -> Result
 /// A predicate without AND and OR, whose parts are nested no deeper than this.
 #[tactic(auto, unfolding(crate::specs::Rules::level, crate::specs::Rules::group, crate::specs::Rules::negation))]
 #[cycle(grammar)]
-pub(crate) fn level<'a>(alloc: Global, depth: usize, cursor: Cursor<'a>) -> Result<(Predicate<'a>, Cursor<'a>), Fault>
+pub(crate) fn level<'a>(
+    alloc: Global,
+    depth: usize,
+    cursor: Cursor<'a>,
+) -> Result<(Predicate<'a>, Cursor<'a>), Fault>
     ensures { Reads (spec.level (spec.neg_at depth) (tokens_ahead cursor.entry)) result }
 {
     let Some((token, _, rest)) = cursor.next() else {
@@ -123,7 +146,11 @@ pub(crate) fn level<'a>(alloc: Global, depth: usize, cursor: Cursor<'a>) -> Resu
 /// A predicate without AND and OR, that may be nested so deep.
 #[tactic(auto, unfolding(crate::specs::Rules::neg_at))]
 #[cycle(grammar)]
-pub(crate) fn neg<'a>(alloc: Global, depth: usize, cursor: Cursor<'a>) -> Result<(Predicate<'a>, Cursor<'a>), Fault>
+pub(crate) fn neg<'a>(
+    alloc: Global,
+    depth: usize,
+    cursor: Cursor<'a>,
+) -> Result<(Predicate<'a>, Cursor<'a>), Fault>
     ensures { Reads (spec.neg_at depth (tokens_ahead cursor.entry)) result }
 {
     if depth == 0 {
@@ -134,7 +161,10 @@ pub(crate) fn neg<'a>(alloc: Global, depth: usize, cursor: Cursor<'a>) -> Result
 
 /// A predicate. Parentheses and NOTs are nested at most 64 deep.
 #[tactic(auto, unfolding(crate::specs::Rules::predicate_at))]
-pub(crate) fn whole_predicate<'a>(alloc: Global, cursor: Cursor<'a>) -> Result<(Predicate<'a>, Cursor<'a>), Fault>
+pub(crate) fn whole_predicate<'a>(
+    alloc: Global,
+    cursor: Cursor<'a>,
+) -> Result<(Predicate<'a>, Cursor<'a>), Fault>
     ensures { Reads (spec.predicate_at (tokens_ahead cursor.entry)) result }
 {
     any(alloc, 65, cursor)

@@ -16,7 +16,10 @@ use std::alloc::Global;
 
 /// The columns that an INSERT gives.
 #[tactic(auto, unfolding(crate::specs::Rules::listed_at))]
-pub(crate) fn listed<'a>(alloc: Global, cursor: Cursor<'a>) -> Result<(Columns<'a>, Cursor<'a>), Fault>
+pub(crate) fn listed<'a>(
+    alloc: Global,
+    cursor: Cursor<'a>,
+) -> Result<(Columns<'a>, Cursor<'a>), Fault>
     ensures { Reads (spec.listed_at (tokens_ahead cursor.entry)) result }
 {
     let (opens, rest) = eat(Terminal::Open, cursor);
@@ -30,7 +33,10 @@ pub(crate) fn listed<'a>(alloc: Global, cursor: Cursor<'a>) -> Result<(Columns<'
 
 /// The columns that a SELECT asks for.
 #[tactic(auto, unfolding(crate::specs::Rules::selected_at))]
-pub(crate) fn selected<'a>(alloc: Global, cursor: Cursor<'a>) -> Result<(Columns<'a>, Cursor<'a>), Fault>
+pub(crate) fn selected<'a>(
+    alloc: Global,
+    cursor: Cursor<'a>,
+) -> Result<(Columns<'a>, Cursor<'a>), Fault>
     ensures { Reads (spec.selected_at (tokens_ahead cursor.entry)) result }
 {
     let (all, rest) = eat(Terminal::Star, cursor);
@@ -43,7 +49,10 @@ pub(crate) fn selected<'a>(alloc: Global, cursor: Cursor<'a>) -> Result<(Columns
 
 /// WHERE and its predicate, or nothing.
 #[tactic(auto, unfolding(crate::specs::Rules::filter_at))]
-pub(crate) fn filter<'a>(alloc: Global, cursor: Cursor<'a>) -> Result<(Option<Predicate<'a>>, Cursor<'a>), Fault>
+pub(crate) fn filter<'a>(
+    alloc: Global,
+    cursor: Cursor<'a>,
+) -> Result<(Option<Predicate<'a>>, Cursor<'a>), Fault>
     ensures { Reads (spec.filter_at (tokens_ahead cursor.entry)) result }
 {
     let (filters, rest) = eat(Terminal::Where, cursor);
@@ -55,7 +64,10 @@ pub(crate) fn filter<'a>(alloc: Global, cursor: Cursor<'a>) -> Result<(Option<Pr
 }
 
 #[tactic(auto, unfolding(crate::specs::Rules::create_at))]
-pub(crate) fn create<'a>(alloc: Global, cursor: Cursor<'a>) -> Result<(Command<'a>, Cursor<'a>), Fault>
+pub(crate) fn create<'a>(
+    alloc: Global,
+    cursor: Cursor<'a>,
+) -> Result<(Command<'a>, Cursor<'a>), Fault>
     ensures { Reads (spec.create_at (tokens_ahead cursor.entry)) result }
 {
     let rest = expect(Terminal::Table, cursor)?;
@@ -67,11 +79,21 @@ pub(crate) fn create<'a>(alloc: Global, cursor: Cursor<'a>) -> Result<(Command<'
     let (key, rest) = key(alloc, rest)?;
     let rest = expect(Terminal::Close, rest)?;
     let rest = expect(Terminal::Close, rest)?;
-    Ok((Command::Create { table, columns, key }, rest))
+    Ok((
+        Command::Create {
+            table,
+            columns,
+            key,
+        },
+        rest,
+    ))
 }
 
 #[tactic(auto, unfolding(crate::specs::Rules::insert_at))]
-pub(crate) fn insert<'a>(alloc: Global, cursor: Cursor<'a>) -> Result<(Command<'a>, Cursor<'a>), Fault>
+pub(crate) fn insert<'a>(
+    alloc: Global,
+    cursor: Cursor<'a>,
+) -> Result<(Command<'a>, Cursor<'a>), Fault>
     ensures { Reads (spec.insert_at (tokens_ahead cursor.entry)) result }
 {
     let rest = expect(Terminal::Into, cursor)?;
@@ -81,22 +103,42 @@ pub(crate) fn insert<'a>(alloc: Global, cursor: Cursor<'a>) -> Result<(Command<'
     let rest = expect(Terminal::Open, rest)?;
     let (values, rest) = values(alloc, rest)?;
     let rest = expect(Terminal::Close, rest)?;
-    Ok((Command::Insert { table, columns, values }, rest))
+    Ok((
+        Command::Insert {
+            table,
+            columns,
+            values,
+        },
+        rest,
+    ))
 }
 
 #[tactic(auto, unfolding(crate::specs::Rules::update_at))]
-pub(crate) fn update<'a>(alloc: Global, cursor: Cursor<'a>) -> Result<(Command<'a>, Cursor<'a>), Fault>
+pub(crate) fn update<'a>(
+    alloc: Global,
+    cursor: Cursor<'a>,
+) -> Result<(Command<'a>, Cursor<'a>), Fault>
     ensures { Reads (spec.update_at (tokens_ahead cursor.entry)) result }
 {
     let (table, rest) = name(cursor)?;
     let rest = expect(Terminal::Set, rest)?;
     let (assignments, rest) = assignments(alloc, rest)?;
     let (filter, rest) = filter(alloc, rest)?;
-    Ok((Command::Update { table, assignments, filter }, rest))
+    Ok((
+        Command::Update {
+            table,
+            assignments,
+            filter,
+        },
+        rest,
+    ))
 }
 
 #[tactic(auto, unfolding(crate::specs::Rules::delete_at))]
-pub(crate) fn delete<'a>(alloc: Global, cursor: Cursor<'a>) -> Result<(Command<'a>, Cursor<'a>), Fault>
+pub(crate) fn delete<'a>(
+    alloc: Global,
+    cursor: Cursor<'a>,
+) -> Result<(Command<'a>, Cursor<'a>), Fault>
     ensures { Reads (spec.delete_at (tokens_ahead cursor.entry)) result }
 {
     let rest = expect(Terminal::From, cursor)?;
@@ -106,18 +148,32 @@ pub(crate) fn delete<'a>(alloc: Global, cursor: Cursor<'a>) -> Result<(Command<'
 }
 
 #[tactic(auto, unfolding(crate::specs::Rules::select_at))]
-pub(crate) fn select<'a>(alloc: Global, cursor: Cursor<'a>) -> Result<(Command<'a>, Cursor<'a>), Fault>
+pub(crate) fn select<'a>(
+    alloc: Global,
+    cursor: Cursor<'a>,
+) -> Result<(Command<'a>, Cursor<'a>), Fault>
     ensures { Reads (spec.select_at (tokens_ahead cursor.entry)) result }
 {
     let (columns, rest) = selected(alloc, cursor)?;
     let rest = expect(Terminal::From, rest)?;
     let (table, rest) = name(rest)?;
     let (filter, rest) = filter(alloc, rest)?;
-    Ok((Command::Select { columns, table, filter }, rest))
+    Ok((
+        Command::Select {
+            columns,
+            table,
+            filter,
+        },
+        rest,
+    ))
 }
 
 /// What goes on behind the first word.
-pub(crate) fn by_verb<'a>(alloc: Global, verb: Verb, cursor: Cursor<'a>) -> Result<(Command<'a>, Cursor<'a>), Fault>
+pub(crate) fn by_verb<'a>(
+    alloc: Global,
+    verb: Verb,
+    cursor: Cursor<'a>,
+) -> Result<(Command<'a>, Cursor<'a>), Fault>
     ensures { Reads (spec.command_by verb (tokens_ahead cursor.entry)) result }
 {
     match verb {
@@ -131,7 +187,10 @@ pub(crate) fn by_verb<'a>(alloc: Global, verb: Verb, cursor: Cursor<'a>) -> Resu
 
 /// A whole statement.
 #[tactic(auto, unfolding(crate::specs::Rules::command_at))]
-pub(crate) fn whole_command<'a>(alloc: Global, cursor: Cursor<'a>) -> Result<(Command<'a>, Cursor<'a>), Fault>
+pub(crate) fn whole_command<'a>(
+    alloc: Global,
+    cursor: Cursor<'a>,
+) -> Result<(Command<'a>, Cursor<'a>), Fault>
     ensures { Reads (spec.command_at (tokens_ahead cursor.entry)) result }
 {
     let (verb, rest) = first_word(cursor)?;

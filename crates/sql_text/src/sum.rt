@@ -41,7 +41,10 @@ pub(crate) fn term<'a>(cursor: Cursor<'a>) -> Result<(Term<'a>, Cursor<'a>), Fau
 }
 
 /// The further terms of a sum.
-pub(crate) fn addends<'a>(alloc: Global, cursor: Cursor<'a>) -> Result<(Items<Addend<'a>>, Cursor<'a>), Fault>
+pub(crate) fn addends<'a>(
+    alloc: Global,
+    cursor: Cursor<'a>,
+) -> Result<(Items<Addend<'a>>, Cursor<'a>), Fault>
     ensures { Reads (spec.addends_at (tokens_ahead cursor.entry)) result }
 {
     let turns = longest();
@@ -65,5 +68,11 @@ pub(crate) fn sum<'a>(alloc: Global, cursor: Cursor<'a>) -> Result<(Sum<'a>, Cur
 {
     let (first, rest) = term(cursor)?;
     let (addends, rest) = addends(alloc, rest)?;
-    Ok((Sum { first, rest: addends }, rest))
+    Ok((
+        Sum {
+            first,
+            rest: addends,
+        },
+        rest,
+    ))
 }

@@ -55,46 +55,124 @@ static TEXTS_1: [(&str, &str); 38] = [
     ("SELECT * FROM T WHERE 1=1", "0 select * T where 1=1"),
     ("SELECT * FROM T WHERE A=NULL", "0 select * T where A=null"),
     ("SELECT * FROM T WHERE NULL=A", "0 select * T where null=A"),
-    ("SELECT * FROM T WHERE A IS NULL", "0 select * T where A isnull"),
-    ("SELECT * FROM T WHERE a is not null", "0 select * T where a notnull"),
-    ("SELECT * FROM T WHERE A=1AND B=2", "0 select * T where (A=1&B=2)"),
-    ("SELECT * FROM T WHERE K=1OR K=2", "0 select * T where (K=1|K=2)"),
-    ("SELECT * FROM T WHERE A=1 OR B=2 AND C=3", "0 select * T where (A=1|(B=2&C=3))"),
-    ("SELECT * FROM T WHERE A=1 AND B=2 OR C=3", "0 select * T where ((A=1&B=2)|C=3)"),
-    ("SELECT * FROM T WHERE A=1 AND B=2 AND C=3 OR D=4 OR E=5", "0 select * T where ((A=1&B=2&C=3)|D=4|E=5)"),
-    ("SELECT * FROM T WHERE NOT A=1 AND B=2", "0 select * T where (!A=1&B=2)"),
-    ("SELECT * FROM T WHERE NOT NOT A=1", "0 select * T where !!A=1"),
-    ("SELECT * FROM T WHERE NOT A IS NOT NULL", "0 select * T where !A notnull"),
-    ("SELECT * FROM T WHERE NOT (A=1 OR B=2) AND C=3", "0 select * T where (!{(A=1|B=2)}&C=3)"),
+    (
+        "SELECT * FROM T WHERE A IS NULL",
+        "0 select * T where A isnull",
+    ),
+    (
+        "SELECT * FROM T WHERE a is not null",
+        "0 select * T where a notnull",
+    ),
+    (
+        "SELECT * FROM T WHERE A=1AND B=2",
+        "0 select * T where (A=1&B=2)",
+    ),
+    (
+        "SELECT * FROM T WHERE K=1OR K=2",
+        "0 select * T where (K=1|K=2)",
+    ),
+    (
+        "SELECT * FROM T WHERE A=1 OR B=2 AND C=3",
+        "0 select * T where (A=1|(B=2&C=3))",
+    ),
+    (
+        "SELECT * FROM T WHERE A=1 AND B=2 OR C=3",
+        "0 select * T where ((A=1&B=2)|C=3)",
+    ),
+    (
+        "SELECT * FROM T WHERE A=1 AND B=2 AND C=3 OR D=4 OR E=5",
+        "0 select * T where ((A=1&B=2&C=3)|D=4|E=5)",
+    ),
+    (
+        "SELECT * FROM T WHERE NOT A=1 AND B=2",
+        "0 select * T where (!A=1&B=2)",
+    ),
+    (
+        "SELECT * FROM T WHERE NOT NOT A=1",
+        "0 select * T where !!A=1",
+    ),
+    (
+        "SELECT * FROM T WHERE NOT A IS NOT NULL",
+        "0 select * T where !A notnull",
+    ),
+    (
+        "SELECT * FROM T WHERE NOT (A=1 OR B=2) AND C=3",
+        "0 select * T where (!{(A=1|B=2)}&C=3)",
+    ),
     ("SELECT * FROM T WHERE (A=1)", "0 select * T where {A=1}"),
-    ("SELECT * FROM T WHERE ((A=1))", "0 select * T where {{A=1}}"),
-    ("SELECT * FROM T WHERE (A=1 OR B=2) AND (C=3 OR D=4)", "0 select * T where ({(A=1|B=2)}&{(C=3|D=4)})"),
-    ("SELECT * FROM T WHERE NOT(A=1)", "0 select * T where !{A=1}"),
-    ("SELECT * FROM T WHERE A=? AND B=? OR ?=C", "3 select * T where ((A=?0&B=?1)|?2=C)"),
+    (
+        "SELECT * FROM T WHERE ((A=1))",
+        "0 select * T where {{A=1}}",
+    ),
+    (
+        "SELECT * FROM T WHERE (A=1 OR B=2) AND (C=3 OR D=4)",
+        "0 select * T where ({(A=1|B=2)}&{(C=3|D=4)})",
+    ),
+    (
+        "SELECT * FROM T WHERE NOT(A=1)",
+        "0 select * T where !{A=1}",
+    ),
+    (
+        "SELECT * FROM T WHERE A=? AND B=? OR ?=C",
+        "3 select * T where ((A=?0&B=?1)|?2=C)",
+    ),
     ("SELECT * FROM T WHERE A='x'", "0 select * T where A='x'"),
 ];
 
 static TEXTS_2: [(&str, &str); 38] = [
     ("SELECT * FROM T WHERE A=''", "0 select * T where A=''"),
     ("SELECT * FROM T WHERE A=''''", "0 select * T where A=''''"),
-    ("SELECT * FROM T WHERE A='it''s'", "0 select * T where A='it''s'"),
-    ("SELECT * FROM T WHERE A='a''''b'", "0 select * T where A='a''''b'"),
-    ("SELECT * FROM T WHERE A='; -- (\"?'", "0 select * T where A='; -- (\"?'"),
+    (
+        "SELECT * FROM T WHERE A='it''s'",
+        "0 select * T where A='it''s'",
+    ),
+    (
+        "SELECT * FROM T WHERE A='a''''b'",
+        "0 select * T where A='a''''b'",
+    ),
+    (
+        "SELECT * FROM T WHERE A='; -- (\"?'",
+        "0 select * T where A='; -- (\"?'",
+    ),
     ("SELECT * FROM T WHERE A=X''", "0 select * T where A=x"),
-    ("SELECT * FROM T WHERE A=X'0aFf'", "0 select * T where A=x0aFf"),
+    (
+        "SELECT * FROM T WHERE A=X'0aFf'",
+        "0 select * T where A=x0aFf",
+    ),
     ("SELECT * FROM T WHERE A=x'00'", "0 select * T where A=x00"),
-    ("SELECT * FROM T WHERE A=9223372036854775807", "0 select * T where A=9223372036854775807"),
-    ("SELECT * FROM T WHERE A=-9223372036854775808", "0 select * T where A=-9223372036854775808"),
-    ("SELECT * FROM T WHERE A=00000000000000000000000000007", "0 select * T where A=00000000000000000000000000007"),
+    (
+        "SELECT * FROM T WHERE A=9223372036854775807",
+        "0 select * T where A=9223372036854775807",
+    ),
+    (
+        "SELECT * FROM T WHERE A=-9223372036854775808",
+        "0 select * T where A=-9223372036854775808",
+    ),
+    (
+        "SELECT * FROM T WHERE A=00000000000000000000000000007",
+        "0 select * T where A=00000000000000000000000000007",
+    ),
     ("SELECT * FROM T WHERE A=-0", "0 select * T where A=-0"),
-    ("SELECT ABCDEFGHIJKLMNOPQRSTUVWXYZ_123 FROM T", "0 select ABCDEFGHIJKLMNOPQRSTUVWXYZ_123, T"),
+    (
+        "SELECT ABCDEFGHIJKLMNOPQRSTUVWXYZ_123 FROM T",
+        "0 select ABCDEFGHIJKLMNOPQRSTUVWXYZ_123, T",
+    ),
     ("SELECT SELECTED FROM FROMS", "0 select SELECTED, FROMS"),
-    ("SELECT TEXT, BYTES, COUNT FROM INTO_", "0 select TEXT,BYTES,COUNT, INTO_"),
+    (
+        "SELECT TEXT, BYTES, COUNT FROM INTO_",
+        "0 select TEXT,BYTES,COUNT, INTO_",
+    ),
     ("DELETE FROM T", "0 delete T"),
     ("DELETE FROM T WHERE A=1", "0 delete T where A=1"),
-    ("delete from t where a is null or b = ?", "1 delete t where (a isnull|b=?0)"),
+    (
+        "delete from t where a is null or b = ?",
+        "1 delete t where (a isnull|b=?0)",
+    ),
     ("INSERT INTO T VALUES (1)", "0 insert T * 1,"),
-    ("INSERT INTO T VALUES(1,-2,'a',X'00',?,NULL,?)", "2 insert T * 1,-2,'a',x00,?0,null,?1,"),
+    (
+        "INSERT INTO T VALUES(1,-2,'a',X'00',?,NULL,?)",
+        "2 insert T * 1,-2,'a',x00,?0,null,?1,",
+    ),
     ("INSERT INTO T (A) VALUES (1)", "0 insert T A, 1,"),
     ("INSERT INTO T(A,B)VALUES(1,2)", "0 insert T A,B, 1,2,"),
     ("INSERT INTO T (A, A) VALUES (1)", "0 insert T A,A, 1,"),
@@ -110,25 +188,67 @@ static TEXTS_2: [(&str, &str); 38] = [
     ("UPDATE T SET A=A - -1", "0 update T A=A--1"),
     ("UPDATE T SET A=-1-1", "0 update T A=-1-1"),
     ("UPDATE T SET A=1+2-3+B", "0 update T A=1+2-3+B"),
-    ("UPDATE T SET A=-9223372036854775808-9223372036854775807", "0 update T A=-9223372036854775808-9223372036854775807"),
-    ("UPDATE T SET A=A+?, B=NULL, C='x' WHERE D=?", "2 update T A=A+?0 B=null C='x' where D=?1"),
+    (
+        "UPDATE T SET A=-9223372036854775808-9223372036854775807",
+        "0 update T A=-9223372036854775808-9223372036854775807",
+    ),
+    (
+        "UPDATE T SET A=A+?, B=NULL, C='x' WHERE D=?",
+        "2 update T A=A+?0 B=null C='x' where D=?1",
+    ),
     ("UPDATE T SET A=1,A=2", "0 update T A=1 A=2"),
 ];
 
 static TEXTS_3: [(&str, &str); 38] = [
-    ("UPDATE T SET A=NULL+NULL WHERE NOT B=1", "0 update T A=null+null where !B=1"),
+    (
+        "UPDATE T SET A=NULL+NULL WHERE NOT B=1",
+        "0 update T A=null+null where !B=1",
+    ),
     ("UPDATE T SET A='a'+X'00'", "0 update T A='a'+x00"),
-    ("SELECT * FROM T WHERE ((((((((((((((((((((((((((((((((((((((((((((((((((((((((((((((((A=1))))))))))))))))))))))))))))))))))))))))))))))))))))))))))))))))", "0 select * T where {{{{{{{{{{{{{{{{{{{{{{{{{{{{{{{{{{{{{{{{{{{{{{{{{{{{{{{{{{{{{{{{A=1}}}}}}}}}}}}}}}}}}}}}}}}}}}}}}}}}}}}}}}}}}}}}}}}}}}}}}}}}}}}}}}}"),
-    ("SELECT * FROM T WHERE NOT NOT NOT NOT NOT NOT NOT NOT NOT NOT NOT NOT NOT NOT NOT NOT NOT NOT NOT NOT NOT NOT NOT NOT NOT NOT NOT NOT NOT NOT NOT NOT NOT NOT NOT NOT NOT NOT NOT NOT NOT NOT NOT NOT NOT NOT NOT NOT NOT NOT NOT NOT NOT NOT NOT NOT NOT NOT NOT NOT NOT NOT NOT NOT A=1", "0 select * T where !!!!!!!!!!!!!!!!!!!!!!!!!!!!!!!!!!!!!!!!!!!!!!!!!!!!!!!!!!!!!!!!A=1"),
-    ("SELECT * FROM T WHERE (((((((((((((((((((((((((((((((((((((((((((((((((((((((((((((((A IS NOT NULL))))))))))))))))))))))))))))))))))))))))))))))))))))))))))))))) AND (B=1)", "0 select * T where ({{{{{{{{{{{{{{{{{{{{{{{{{{{{{{{{{{{{{{{{{{{{{{{{{{{{{{{{{{{{{{{A notnull}}}}}}}}}}}}}}}}}}}}}}}}}}}}}}}}}}}}}}}}}}}}}}}}}}}}}}}}}}}}}}}&{B=1})"),
-    ("SELECT A,A,A,A,A,A,A,A,A,A,A,A,A,A,A,A,A,A,A,A,A,A,A,A,A,A,A,A,A,A,A,A,A,A,A,A,A,A,A,A,A,A,A,A,A,A,A,A,A,A,A,A,A,A,A,A,A,A,A,A,A,A,A,A FROM T", "0 select A,A,A,A,A,A,A,A,A,A,A,A,A,A,A,A,A,A,A,A,A,A,A,A,A,A,A,A,A,A,A,A,A,A,A,A,A,A,A,A,A,A,A,A,A,A,A,A,A,A,A,A,A,A,A,A,A,A,A,A,A,A,A,A, T"),
-    ("INSERT INTO T VALUES (?,?,?,?,?,?,?,?,?,?,?,?,?,?,?,?,?,?,?,?,?,?,?,?,?,?,?,?,?,?,?,?,?,?,?,?,?,?,?,?,?,?,?,?,?,?,?,?,?,?,?,?,?,?,?,?,?,?,?,?,?,?,?,?,?,?,?,?,?,?,?,?,?,?,?,?,?,?,?,?,?,?,?,?,?,?,?,?,?,?,?,?,?,?,?,?,?,?,?,?,?,?,?,?,?,?,?,?,?,?,?,?,?,?,?,?,?,?,?,?,?,?,?,?,?,?,?,?)", "128 insert T * ?0,?1,?2,?3,?4,?5,?6,?7,?8,?9,?10,?11,?12,?13,?14,?15,?16,?17,?18,?19,?20,?21,?22,?23,?24,?25,?26,?27,?28,?29,?30,?31,?32,?33,?34,?35,?36,?37,?38,?39,?40,?41,?42,?43,?44,?45,?46,?47,?48,?49,?50,?51,?52,?53,?54,?55,?56,?57,?58,?59,?60,?61,?62,?63,?64,?65,?66,?67,?68,?69,?70,?71,?72,?73,?74,?75,?76,?77,?78,?79,?80,?81,?82,?83,?84,?85,?86,?87,?88,?89,?90,?91,?92,?93,?94,?95,?96,?97,?98,?99,?100,?101,?102,?103,?104,?105,?106,?107,?108,?109,?110,?111,?112,?113,?114,?115,?116,?117,?118,?119,?120,?121,?122,?123,?124,?125,?126,?127,"),
-    ("CREATE TABLE T (A INTEGER, PRIMARY KEY (A))", "0 create T A@27:integer, key A@3,"),
-    ("CREATE TABLE T (K INT NOT NULL, V VARCHAR(10), PRIMARY KEY (K))", "0 create T K@47:integer!,V@31:text10@21, key K@3,"),
-    ("create table t(a smallint,b bigint not null,c varbinary(2000),primary key(a,c))", "0 create t a@64:smallint,b@53:bigint!,c@35:bytes2000@23, key a@5,c@3,"),
-    ("CREATE TABLE T (A VARCHAR(007), PRIMARY KEY (a))", "0 create T A@32:text7@22, key a@3,"),
-    ("CREATE TABLE T (A VARCHAR ( 1 ) NOT NULL , PRIMARY KEY ( A ) )", "0 create T A@46:text1@34!, key A@5,"),
-    ("CREATE TABLE X (X INT, PRIMARY KEY (X))", "0 create X X@23:integer, key X@3,"),
+    (
+        "SELECT * FROM T WHERE ((((((((((((((((((((((((((((((((((((((((((((((((((((((((((((((((A=1))))))))))))))))))))))))))))))))))))))))))))))))))))))))))))))))",
+        "0 select * T where {{{{{{{{{{{{{{{{{{{{{{{{{{{{{{{{{{{{{{{{{{{{{{{{{{{{{{{{{{{{{{{{A=1}}}}}}}}}}}}}}}}}}}}}}}}}}}}}}}}}}}}}}}}}}}}}}}}}}}}}}}}}}}}}}}}",
+    ),
+    (
+        "SELECT * FROM T WHERE NOT NOT NOT NOT NOT NOT NOT NOT NOT NOT NOT NOT NOT NOT NOT NOT NOT NOT NOT NOT NOT NOT NOT NOT NOT NOT NOT NOT NOT NOT NOT NOT NOT NOT NOT NOT NOT NOT NOT NOT NOT NOT NOT NOT NOT NOT NOT NOT NOT NOT NOT NOT NOT NOT NOT NOT NOT NOT NOT NOT NOT NOT NOT NOT A=1",
+        "0 select * T where !!!!!!!!!!!!!!!!!!!!!!!!!!!!!!!!!!!!!!!!!!!!!!!!!!!!!!!!!!!!!!!!A=1",
+    ),
+    (
+        "SELECT * FROM T WHERE (((((((((((((((((((((((((((((((((((((((((((((((((((((((((((((((A IS NOT NULL))))))))))))))))))))))))))))))))))))))))))))))))))))))))))))))) AND (B=1)",
+        "0 select * T where ({{{{{{{{{{{{{{{{{{{{{{{{{{{{{{{{{{{{{{{{{{{{{{{{{{{{{{{{{{{{{{{A notnull}}}}}}}}}}}}}}}}}}}}}}}}}}}}}}}}}}}}}}}}}}}}}}}}}}}}}}}}}}}}}}}&{B=1})",
+    ),
+    (
+        "SELECT A,A,A,A,A,A,A,A,A,A,A,A,A,A,A,A,A,A,A,A,A,A,A,A,A,A,A,A,A,A,A,A,A,A,A,A,A,A,A,A,A,A,A,A,A,A,A,A,A,A,A,A,A,A,A,A,A,A,A,A,A,A,A,A FROM T",
+        "0 select A,A,A,A,A,A,A,A,A,A,A,A,A,A,A,A,A,A,A,A,A,A,A,A,A,A,A,A,A,A,A,A,A,A,A,A,A,A,A,A,A,A,A,A,A,A,A,A,A,A,A,A,A,A,A,A,A,A,A,A,A,A,A,A, T",
+    ),
+    (
+        "INSERT INTO T VALUES (?,?,?,?,?,?,?,?,?,?,?,?,?,?,?,?,?,?,?,?,?,?,?,?,?,?,?,?,?,?,?,?,?,?,?,?,?,?,?,?,?,?,?,?,?,?,?,?,?,?,?,?,?,?,?,?,?,?,?,?,?,?,?,?,?,?,?,?,?,?,?,?,?,?,?,?,?,?,?,?,?,?,?,?,?,?,?,?,?,?,?,?,?,?,?,?,?,?,?,?,?,?,?,?,?,?,?,?,?,?,?,?,?,?,?,?,?,?,?,?,?,?,?,?,?,?,?,?)",
+        "128 insert T * ?0,?1,?2,?3,?4,?5,?6,?7,?8,?9,?10,?11,?12,?13,?14,?15,?16,?17,?18,?19,?20,?21,?22,?23,?24,?25,?26,?27,?28,?29,?30,?31,?32,?33,?34,?35,?36,?37,?38,?39,?40,?41,?42,?43,?44,?45,?46,?47,?48,?49,?50,?51,?52,?53,?54,?55,?56,?57,?58,?59,?60,?61,?62,?63,?64,?65,?66,?67,?68,?69,?70,?71,?72,?73,?74,?75,?76,?77,?78,?79,?80,?81,?82,?83,?84,?85,?86,?87,?88,?89,?90,?91,?92,?93,?94,?95,?96,?97,?98,?99,?100,?101,?102,?103,?104,?105,?106,?107,?108,?109,?110,?111,?112,?113,?114,?115,?116,?117,?118,?119,?120,?121,?122,?123,?124,?125,?126,?127,",
+    ),
+    (
+        "CREATE TABLE T (A INTEGER, PRIMARY KEY (A))",
+        "0 create T A@27:integer, key A@3,",
+    ),
+    (
+        "CREATE TABLE T (K INT NOT NULL, V VARCHAR(10), PRIMARY KEY (K))",
+        "0 create T K@47:integer!,V@31:text10@21, key K@3,",
+    ),
+    (
+        "create table t(a smallint,b bigint not null,c varbinary(2000),primary key(a,c))",
+        "0 create t a@64:smallint,b@53:bigint!,c@35:bytes2000@23, key a@5,c@3,",
+    ),
+    (
+        "CREATE TABLE T (A VARCHAR(007), PRIMARY KEY (a))",
+        "0 create T A@32:text7@22, key a@3,",
+    ),
+    (
+        "CREATE TABLE T (A VARCHAR ( 1 ) NOT NULL , PRIMARY KEY ( A ) )",
+        "0 create T A@46:text1@34!, key A@5,",
+    ),
+    (
+        "CREATE TABLE X (X INT, PRIMARY KEY (X))",
+        "0 create X X@23:integer, key X@3,",
+    ),
     ("", "at 0"),
     (" ", "at 1"),
     (";", "at 0"),
@@ -210,7 +330,10 @@ static TEXTS_5: [(&str, &str); 38] = [
     ("SELECT * FROM T WHERE NOT A OR B = 1", "at 28"),
     ("SELECT * FROM T WHERE A = 9223372036854775808", "at 26"),
     ("SELECT * FROM T WHERE A = -9223372036854775809", "at 26"),
-    ("SELECT * FROM T WHERE A = 99999999999999999999999999999999999999", "at 26"),
+    (
+        "SELECT * FROM T WHERE A = 99999999999999999999999999999999999999",
+        "at 26",
+    ),
     ("SELECT * FROM T WHERE A = 1abc", "at 27"),
     ("SELECT * FROM T WHERE A = 1.5", "at 27"),
     ("SELECT * FROM T WHERE A = 'x", "at 26"),
@@ -330,32 +453,89 @@ static TEXTS_8: [(&str, &str); 37] = [
     ("CREATE TABLE T (A VARCHAR(1", "at 27"),
     ("CREATE TABLE T (A INT(1), PRIMARY KEY (A))", "at 21"),
     ("CREATE TABLE T (A VARCHAR(?), PRIMARY KEY (A))", "at 26"),
-    ("CREATE TABLE T (A INT VARCHAR(1), PRIMARY KEY (A))", "at 22"),
+    (
+        "CREATE TABLE T (A INT VARCHAR(1), PRIMARY KEY (A))",
+        "at 22",
+    ),
     ("CREATE TABLE T (A CHAR(1), PRIMARY KEY (A))", "at 18"),
     ("CREATE INDEX I", "at 7"),
     ("CREATE TABLE T (A VARCHAR(0), PRIMARY KEY (A))", "at 26"),
-    ("CREATE TABLE T (A VARBINARY(1), B VARBINARY(00), C VARCHAR(0), PRIMARY KEY (Z))", "at 44"),
+    (
+        "CREATE TABLE T (A VARBINARY(1), B VARBINARY(00), C VARCHAR(0), PRIMARY KEY (Z))",
+        "at 44",
+    ),
     ("CREATE TABLE T (A INT, A INT, PRIMARY KEY (A))", "at 23"),
-    ("CREATE TABLE T (A INT, B INT, a INT, b INT, PRIMARY KEY (A, A))", "at 30"),
-    ("CREATE TABLE T (A INT, B INT, PRIMARY KEY (A, B, a))", "at 49"),
+    (
+        "CREATE TABLE T (A INT, B INT, a INT, b INT, PRIMARY KEY (A, A))",
+        "at 30",
+    ),
+    (
+        "CREATE TABLE T (A INT, B INT, PRIMARY KEY (A, B, a))",
+        "at 49",
+    ),
     ("CREATE TABLE T (A INT, PRIMARY KEY (Z, Z))", "at 39"),
     ("CREATE TABLE T (A INT, A INT, PRIMARY KEY (Z))", "at 23"),
-    ("CREATE TABLE T (A INT, A INT, B VARCHAR(0), PRIMARY KEY (A))", "at 40"),
-    ("SELECT * FROM T WHERE ((((((((((((((((((((((((((((((((((((((((((((((((((((((((((((((((", "at 86"),
-    ("SELECT * FROM T WHERE = (((((((((((((((((((((((((((((((((((((((((((((((((((((((((((((((((", "at 22"),
+    (
+        "CREATE TABLE T (A INT, A INT, B VARCHAR(0), PRIMARY KEY (A))",
+        "at 40",
+    ),
+    (
+        "SELECT * FROM T WHERE ((((((((((((((((((((((((((((((((((((((((((((((((((((((((((((((((",
+        "at 86",
+    ),
+    (
+        "SELECT * FROM T WHERE = (((((((((((((((((((((((((((((((((((((((((((((((((((((((((((((((((",
+        "at 22",
+    ),
     ("CREATE TABLE T (A VARCHAR(2001), PRIMARY KEY (A))", "limit"),
-    ("CREATE TABLE T (A VARCHAR(99999999999999999999999999999999), PRIMARY KEY (A))", "limit"),
-    ("CREATE TABLE T (A VARCHAR(0), B VARCHAR(2001), PRIMARY KEY (Z, Z))", "limit"),
-    ("CREATE TABLE T (A INT, B INT, C INT, D INT, E INT, PRIMARY KEY (A, B, C, D, E))", "limit"),
-    ("CREATE TABLE T (A INT, PRIMARY KEY (Z, Z, Z, Z, Z))", "limit"),
-    ("SELECT * FROM T WHERE (((((((((((((((((((((((((((((((((((((((((((((((((((((((((((((((((", "limit"),
-    ("SELECT * FROM T WHERE (((((((((((((((((((((((((((((((((((((((((((((((((((((((((((((((((garbage", "limit"),
-    ("SELECT * FROM T WHERE NOT NOT NOT NOT NOT NOT NOT NOT NOT NOT NOT NOT NOT NOT NOT NOT NOT NOT NOT NOT NOT NOT NOT NOT NOT NOT NOT NOT NOT NOT NOT NOT NOT NOT NOT NOT NOT NOT NOT NOT NOT NOT NOT NOT NOT NOT NOT NOT NOT NOT NOT NOT NOT NOT NOT NOT NOT NOT NOT NOT NOT NOT NOT NOT NOT A=1", "limit"),
-    ("SELECT * FROM T WHERE (NOT (NOT (NOT (NOT (NOT (NOT (NOT (NOT (NOT (NOT (NOT (NOT (NOT (NOT (NOT (NOT (NOT (NOT (NOT (NOT (NOT (NOT (NOT (NOT (NOT (NOT (NOT (NOT (NOT (NOT (NOT (NOT (A=1)))))))))))))))))))))))))))))))))", "limit"),
-    ("SELECT * FROM T WHERE A = 1 OR (((((((((((((((((((((((((((((((((((((((((((((((((((((((((((((((((9223372036854775808", "limit"),
-    ("SELECT A,A,A,A,A,A,A,A,A,A,A,A,A,A,A,A,A,A,A,A,A,A,A,A,A,A,A,A,A,A,A,A,A,A,A,A,A,A,A,A,A,A,A,A,A,A,A,A,A,A,A,A,A,A,A,A,A,A,A,A,A,A,A,A,A FROM T", "limit"),
-    ("INSERT INTO T VALUES (?,?,?,?,?,?,?,?,?,?,?,?,?,?,?,?,?,?,?,?,?,?,?,?,?,?,?,?,?,?,?,?,?,?,?,?,?,?,?,?,?,?,?,?,?,?,?,?,?,?,?,?,?,?,?,?,?,?,?,?,?,?,?,?,?,?,?,?,?,?,?,?,?,?,?,?,?,?,?,?,?,?,?,?,?,?,?,?,?,?,?,?,?,?,?,?,?,?,?,?,?,?,?,?,?,?,?,?,?,?,?,?,?,?,?,?,?,?,?,?,?,?,?,?,?,?,?,?,?)", "limit"),
-    ("CREATE TABLE T (A0 INT,A1 INT,A2 INT,A3 INT,A4 INT,A5 INT,A6 INT,A7 INT,A8 INT,A9 INT,A10 INT,A11 INT,A12 INT,A13 INT,A14 INT,A15 INT,A16 INT,A17 INT,A18 INT,A19 INT,A20 INT,A21 INT,A22 INT,A23 INT,A24 INT,A25 INT,A26 INT,A27 INT,A28 INT,A29 INT,A30 INT,A31 INT,A32 INT,A33 INT,A34 INT,A35 INT,A36 INT,A37 INT,A38 INT,A39 INT,A40 INT,A41 INT,A42 INT,A43 INT,A44 INT,A45 INT,A46 INT,A47 INT,A48 INT,A49 INT,A50 INT,A51 INT,A52 INT,A53 INT,A54 INT,A55 INT,A56 INT,A57 INT,A58 INT,A59 INT,A60 INT,A61 INT,A62 INT,A63 INT,A64 INT, PRIMARY KEY (A1))", "limit"),
+    (
+        "CREATE TABLE T (A VARCHAR(99999999999999999999999999999999), PRIMARY KEY (A))",
+        "limit",
+    ),
+    (
+        "CREATE TABLE T (A VARCHAR(0), B VARCHAR(2001), PRIMARY KEY (Z, Z))",
+        "limit",
+    ),
+    (
+        "CREATE TABLE T (A INT, B INT, C INT, D INT, E INT, PRIMARY KEY (A, B, C, D, E))",
+        "limit",
+    ),
+    (
+        "CREATE TABLE T (A INT, PRIMARY KEY (Z, Z, Z, Z, Z))",
+        "limit",
+    ),
+    (
+        "SELECT * FROM T WHERE (((((((((((((((((((((((((((((((((((((((((((((((((((((((((((((((((",
+        "limit",
+    ),
+    (
+        "SELECT * FROM T WHERE (((((((((((((((((((((((((((((((((((((((((((((((((((((((((((((((((garbage",
+        "limit",
+    ),
+    (
+        "SELECT * FROM T WHERE NOT NOT NOT NOT NOT NOT NOT NOT NOT NOT NOT NOT NOT NOT NOT NOT NOT NOT NOT NOT NOT NOT NOT NOT NOT NOT NOT NOT NOT NOT NOT NOT NOT NOT NOT NOT NOT NOT NOT NOT NOT NOT NOT NOT NOT NOT NOT NOT NOT NOT NOT NOT NOT NOT NOT NOT NOT NOT NOT NOT NOT NOT NOT NOT NOT A=1",
+        "limit",
+    ),
+    (
+        "SELECT * FROM T WHERE (NOT (NOT (NOT (NOT (NOT (NOT (NOT (NOT (NOT (NOT (NOT (NOT (NOT (NOT (NOT (NOT (NOT (NOT (NOT (NOT (NOT (NOT (NOT (NOT (NOT (NOT (NOT (NOT (NOT (NOT (NOT (NOT (A=1)))))))))))))))))))))))))))))))))",
+        "limit",
+    ),
+    (
+        "SELECT * FROM T WHERE A = 1 OR (((((((((((((((((((((((((((((((((((((((((((((((((((((((((((((((((9223372036854775808",
+        "limit",
+    ),
+    (
+        "SELECT A,A,A,A,A,A,A,A,A,A,A,A,A,A,A,A,A,A,A,A,A,A,A,A,A,A,A,A,A,A,A,A,A,A,A,A,A,A,A,A,A,A,A,A,A,A,A,A,A,A,A,A,A,A,A,A,A,A,A,A,A,A,A,A,A FROM T",
+        "limit",
+    ),
+    (
+        "INSERT INTO T VALUES (?,?,?,?,?,?,?,?,?,?,?,?,?,?,?,?,?,?,?,?,?,?,?,?,?,?,?,?,?,?,?,?,?,?,?,?,?,?,?,?,?,?,?,?,?,?,?,?,?,?,?,?,?,?,?,?,?,?,?,?,?,?,?,?,?,?,?,?,?,?,?,?,?,?,?,?,?,?,?,?,?,?,?,?,?,?,?,?,?,?,?,?,?,?,?,?,?,?,?,?,?,?,?,?,?,?,?,?,?,?,?,?,?,?,?,?,?,?,?,?,?,?,?,?,?,?,?,?,?)",
+        "limit",
+    ),
+    (
+        "CREATE TABLE T (A0 INT,A1 INT,A2 INT,A3 INT,A4 INT,A5 INT,A6 INT,A7 INT,A8 INT,A9 INT,A10 INT,A11 INT,A12 INT,A13 INT,A14 INT,A15 INT,A16 INT,A17 INT,A18 INT,A19 INT,A20 INT,A21 INT,A22 INT,A23 INT,A24 INT,A25 INT,A26 INT,A27 INT,A28 INT,A29 INT,A30 INT,A31 INT,A32 INT,A33 INT,A34 INT,A35 INT,A36 INT,A37 INT,A38 INT,A39 INT,A40 INT,A41 INT,A42 INT,A43 INT,A44 INT,A45 INT,A46 INT,A47 INT,A48 INT,A49 INT,A50 INT,A51 INT,A52 INT,A53 INT,A54 INT,A55 INT,A56 INT,A57 INT,A58 INT,A59 INT,A60 INT,A61 INT,A62 INT,A63 INT,A64 INT, PRIMARY KEY (A1))",
+        "limit",
+    ),
     ("CREATE TABLE T (A INT, PRIMARY KEY (B))", "key"),
     ("CREATE TABLE T (A INT, B INT, PRIMARY KEY (A, C))", "key"),
 ];
@@ -386,7 +566,10 @@ const PREFIXES: [(&str, usize); 10] = [
     ("SELECT * FROM T WHERE NOT (A=1 OR B<>2) AND C>=3", 5),
     ("SELECT * FROM T WHERE A='a''b'", 4),
     ("CREATE TABLE T (A INT NOT NULL, PRIMARY KEY (A))", 1),
-    ("CREATE TABLE T (A INT, B VARCHAR(20), PRIMARY KEY (A, B))", 1),
+    (
+        "CREATE TABLE T (A INT, B VARCHAR(20), PRIMARY KEY (A, B))",
+        1,
+    ),
 ];
 
 fn statements_among_prefixes(alloc: Global, text: &[u8]) -> usize {

@@ -43,7 +43,11 @@ fn fault_error(length: usize, fault: Fault) -> SqlError
 }
 
 /// The statement, unless a check refuses it.
-fn judged<'a>(length: usize, markers: usize, command: Command<'a>) -> Result<Statement<'a>, SqlError>
+fn judged<'a>(
+    length: usize,
+    markers: usize,
+    command: Command<'a>,
+) -> Result<Statement<'a>, SqlError>
     ensures { result ≡ spec.answer_by length markers command.entry (checks.refusal_of markers command.entry) }
 {
     match refusal_of(markers, &command) {

@@ -1,7 +1,8 @@
 //! Writes a statement in a form that shows its tree.
 
 use crate::tree::{
-    Assignment, ColumnType, Columns, Command, Definition, KeyColumn, Literal, Operation, Predicate, Sum, Term,
+    Assignment, ColumnType, Columns, Command, Definition, KeyColumn, Literal, Operation, Predicate,
+    Sum, Term,
 };
 use sql_lex::{Comparison, Part};
 use std::alloc::{AllocError, Global};
@@ -69,7 +70,13 @@ fn comparison(out: &mut String, comparison: Comparison) -> Result<(), AllocError
 }
 
 #[cycle(shown)]
-fn joined(alloc: Global, out: &mut String, parts: &[Predicate<'_>], between: char, depth: usize) -> Result<(), AllocError> {
+fn joined(
+    alloc: Global,
+    out: &mut String,
+    parts: &[Predicate<'_>],
+    between: char,
+    depth: usize,
+) -> Result<(), AllocError> {
     if parts.len() > 1 {
         out.push('(')?;
     }
@@ -91,7 +98,12 @@ fn joined(alloc: Global, out: &mut String, parts: &[Predicate<'_>], between: cha
 
 /// `|` for OR, `&` for AND, `!` for NOT, and braces for parentheses.
 #[cycle(shown)]
-fn predicate(alloc: Global, out: &mut String, tested: &Predicate<'_>, depth: usize) -> Result<(), AllocError> {
+fn predicate(
+    alloc: Global,
+    out: &mut String,
+    tested: &Predicate<'_>,
+    depth: usize,
+) -> Result<(), AllocError> {
     if depth == 0 {
         return Ok(());
     }
@@ -119,7 +131,11 @@ fn predicate(alloc: Global, out: &mut String, tested: &Predicate<'_>, depth: usi
     }
 }
 
-fn filter(alloc: Global, out: &mut String, filter: &Option<Predicate<'_>>) -> Result<(), AllocError> {
+fn filter(
+    alloc: Global,
+    out: &mut String,
+    filter: &Option<Predicate<'_>>,
+) -> Result<(), AllocError> {
     match filter {
         None => Ok(()),
         Some(tested) => {
@@ -142,14 +158,24 @@ fn columns(out: &mut String, columns: &Columns<'_>) -> Result<(), AllocError> {
     }
 }
 
-fn sized(alloc: Global, out: &mut String, name: &str, length: usize, left: usize) -> Result<(), AllocError> {
+fn sized(
+    alloc: Global,
+    out: &mut String,
+    name: &str,
+    length: usize,
+    left: usize,
+) -> Result<(), AllocError> {
     out.push_str(name)?;
     number(alloc, out, length)?;
     out.push('@')?;
     number(alloc, out, left)
 }
 
-fn definition(alloc: Global, out: &mut String, definition: &Definition<'_>) -> Result<(), AllocError> {
+fn definition(
+    alloc: Global,
+    out: &mut String,
+    definition: &Definition<'_>,
+) -> Result<(), AllocError> {
     part(out, &definition.name)?;
     out.push('@')?;
     number(alloc, out, definition.left)?;
@@ -170,14 +196,24 @@ fn key_column(alloc: Global, out: &mut String, column: &KeyColumn<'_>) -> Result
     out.push(',')
 }
 
-fn assignment(alloc: Global, out: &mut String, assignment: &Assignment<'_>) -> Result<(), AllocError> {
+fn assignment(
+    alloc: Global,
+    out: &mut String,
+    assignment: &Assignment<'_>,
+) -> Result<(), AllocError> {
     out.push(' ')?;
     part(out, &assignment.column)?;
     out.push('=')?;
     sum(alloc, out, &assignment.sum)
 }
 
-fn create(alloc: Global, out: &mut String, table: &Part<'_>, columns: &[Definition<'_>], key: &[KeyColumn<'_>]) -> Result<(), AllocError> {
+fn create(
+    alloc: Global,
+    out: &mut String,
+    table: &Part<'_>,
+    columns: &[Definition<'_>],
+    key: &[KeyColumn<'_>],
+) -> Result<(), AllocError> {
     out.push_str("create ")?;
     part(out, table)?;
     out.push(' ')?;
@@ -191,7 +227,13 @@ fn create(alloc: Global, out: &mut String, table: &Part<'_>, columns: &[Definiti
     Ok(())
 }
 
-fn insert(alloc: Global, out: &mut String, table: &Part<'_>, given: &Columns<'_>, values: &[Literal<'_>]) -> Result<(), AllocError> {
+fn insert(
+    alloc: Global,
+    out: &mut String,
+    table: &Part<'_>,
+    given: &Columns<'_>,
+    values: &[Literal<'_>],
+) -> Result<(), AllocError> {
     out.push_str("insert ")?;
     part(out, table)?;
     out.push(' ')?;
@@ -207,9 +249,21 @@ fn insert(alloc: Global, out: &mut String, table: &Part<'_>, given: &Columns<'_>
 pub fn command(alloc: Global, command: &Command<'_>) -> Result<String, AllocError> {
     let mut out = String::new(alloc);
     match command {
-        Command::Create { table, columns, key } => create(alloc, &mut out, table, columns.as_slice(), key.as_slice())?,
-        Command::Insert { table, columns, values } => insert(alloc, &mut out, table, columns, values.as_slice())?,
-        Command::Update { table, assignments, filter: tested } => {
+        Command::Create {
+            table,
+            columns,
+            key,
+        } => create(alloc, &mut out, table, columns.as_slice(), key.as_slice())?,
+        Command::Insert {
+            table,
+            columns,
+            values,
+        } => insert(alloc, &mut out, table, columns, values.as_slice())?,
+        Command::Update {
+            table,
+            assignments,
+            filter: tested,
+        } => {
             out.push_str("update ")?;
             part(&mut out, table)?;
             for given in assignments.as_slice() {
@@ -217,12 +271,19 @@ pub fn command(alloc: Global, command: &Command<'_>) -> Result<String, AllocErro
             }
             filter(alloc, &mut out, tested)?;
         }
-        Command::Delete { table, filter: tested } => {
+        Command::Delete {
+            table,
+            filter: tested,
+        } => {
             out.push_str("delete ")?;
             part(&mut out, table)?;
             filter(alloc, &mut out, tested)?;
         }
-        Command::Select { columns: chosen, table, filter: tested } => {
+        Command::Select {
+            columns: chosen,
+            table,
+            filter: tested,
+        } => {
             out.push_str("select ")?;
             columns(&mut out, chosen)?;
             out.push(' ')?;

@@ -1,4 +1,4 @@
-use Rattle.std.proofs.Common.{◌≡◌, ◌+◌, ◌≤◌, ◌∙◌, ap, arith, length}
+use Rattle.std.proofs.Common.{◌≡◌, ◌∙◌, ap, arith, length}
 use Rattle.sql_lex.specs.Tokens.{tokens, tokens_ahead}
 use Rattle.sql_lex.proofs.Ahead.{ahead-all}
 use Rattle.sql_text.specs.Checks.{markers_in}

@@ -1,4 +1,4 @@
-use Rattle.std.proofs.Common.{◌≡◌, ◌<◌, ◌∙◌, List, ℕ, ap, sym, arith, length, take, true, false}
+use Rattle.std.proofs.Common.{◌<◌, ◌∙◌, List, ℕ, ap, sym, arith, length, take}
 use Rattle.std.specs.List.{list_any}
 use Rattle.sql_text.specs.Checks.{same_name}
 use Rattle.sql_text.proofs.Repeats.{repeats, goes_on}

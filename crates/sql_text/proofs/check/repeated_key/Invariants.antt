@@ -4,4 +4,5 @@ use Rattle.sql_text.proofs.check.repeated_key.Given as goal
 
 abbrev pub invariant-loop-at : goal.invariant-loop-at
 invariant-loop-at l = record {
-    same : first_repeat (λ x. x.name) (λ x. x.left) (take l.at l.key) (drop l.at l.key) ≡ first_repeat (λ x. x.name) (λ x. x.left) [] l.key }
+  same : first_repeat (λ x. x.name) (λ x. x.left) (take l.at l.key) (drop l.at l.key) ≡ first_repeat (λ x. x.name) (λ x. x.left) [] l.key;
+}

@@ -1,9 +1,7 @@
-use Rattle.std.proofs.Common.{◌≡◌, ◌-◌, [], arith, rules, refl}
+use Rattle.std.proofs.Common.{arith, rules}
 use Rattle.std.proofs.lemmas.Grind.{common_steps}
 use Rattle.sql_lex.specs.Tokens.{tokens_ahead}
-use Rattle.sql_lex.specs.declared.terminal.Terminal.TheVariants as w
-use Rattle.sql_text.specs.Reading.{may}
-use Rattle.sql_text.specs.Rules.{items, items_from, longest, definitions_at, definition_at, another}
+use Rattle.sql_text.specs.Rules.{items, items_from, definitions_at, definition_at, another}
 use Rattle.sql_text.proofs.Turns.{begun, one_more, no_more}
 use Rattle.sql_text.proofs.column.definitions.Goals as goal
 

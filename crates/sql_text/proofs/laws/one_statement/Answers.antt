@@ -1,4 +1,4 @@
-use Rattle.std.proofs.Common.{[], Ok}
+use Rattle.std.proofs.Common.{[]}
 use Rattle.sql_lex.specs.Tokens.{tokens}
 use Rattle.sql_text.specs.Rules.{command_at}
 use Rattle.sql_text.proofs.Answered.{few_tokens}

@@ -1,5 +1,5 @@
-use Rattle.std.proofs.Common.{◌≡◌, ◌≤◌, ◌<◌, length, min, drop, ℕ, ◌+◌, ◌-◌, ◌*◌, get_or, arith, rules, refl, ◌∙◌, sym}
-use Rattle.sql_text.specs.Number.{number_behind, number_of}
+use Rattle.std.proofs.Common.{◌≡◌, ◌≤◌, ◌<◌, length, min, ◌+◌, ◌-◌, ◌*◌, get_or, arith, rules, refl, ◌∙◌, sym}
+use Rattle.sql_text.specs.Number.{number_of}
 use Rattle.sql_text.proofs.Limits.{goes_on, ended}
 use Rattle.sql_text.proofs.number.number_within.Goals as goal
 
@@ -13,8 +13,9 @@ loop-digit-preserved c =
     let below : i < length c.args.digits.now = omega arith in
     let next : min c.min-number.result c.args.limit ≡ min (c.loop-digit.number * 10 + (get_or c.args.digits.now i 0 - 48)) c.args.limit = first_of (omega arith, search rules) in
     record {
-        same = goes_on c.args.limit c.loop-digit.number c.min-number.result i c.args.digits.now below next ∙ c.loop-digit.invariant.same;
-        small = omega arith }
+      same = goes_on c.args.limit c.loop-digit.number c.min-number.result i c.args.digits.now below next ∙ c.loop-digit.invariant.same;
+      small = omega arith;
+    }
 
 pub returns : goal.returns
 returns c =

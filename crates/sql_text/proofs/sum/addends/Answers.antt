@@ -1,7 +1,7 @@
-use Rattle.std.proofs.Common.{◌≡◌, ◌-◌, [], arith, rules, refl}
+use Rattle.std.proofs.Common.{arith, rules}
 use Rattle.std.proofs.lemmas.Grind.{common_steps}
 use Rattle.sql_lex.specs.Tokens.{tokens_ahead}
-use Rattle.sql_text.specs.Rules.{addends_at, addends_from, longest}
+use Rattle.sql_text.specs.Rules.{addends_at, addends_from}
 use Rattle.sql_text.proofs.Turns.{begun, one_more, no_more}
 use Rattle.sql_text.proofs.sum.addends.Goals as goal
 

@@ -5,4 +5,5 @@ use Rattle.sql_text.proofs.sum.addends.Given as goal
 
 abbrev pub invariant-loop-turn : goal.invariant-loop-turn
 invariant-loop-turn l = record {
-    same : addends_at (tokens_ahead l.fn.cursor) ≡ addends_from (l.turns - l._turn) l.found (tokens_ahead l.rest) }
+  same : addends_at (tokens_ahead l.fn.cursor) ≡ addends_from (l.turns - l._turn) l.found (tokens_ahead l.rest);
+}

@@ -1,5 +1,3 @@
-use Rattle.std.proofs.Common.{◌≡◌, ◌≤◌, length, ap, subst, ◌∙◌, sym, rules, List, ℕ}
-use Rattle.sql_text.specs.Grammar.{IsStatement, Tree}
 use Rattle.sql_text.proofs.Answered.{found_in, only_in}
 use Rattle.sql_text.proofs.Explained.{explained}
 use Rattle.sql_text.proofs.text.parse.Goals as goal

@@ -1,4 +1,4 @@
-use Rattle.std.proofs.Common.{◌≡◌, sym, ◌∙◌, ap, subst, Result, length, Err}
+use Rattle.std.proofs.Common.{sym, ◌∙◌, ap, subst, length, Err}
 use Rattle.drda_words.specs.Excuse.{Answers}
 use Rattle.sql_text.specs.Checks.{refusal_of}
 use Rattle.sql_text.specs.Text.{answer, answer_by, but_memory, reading}

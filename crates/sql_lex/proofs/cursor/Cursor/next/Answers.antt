@@ -1,6 +1,6 @@
 use Rattle.std.proofs.Common.{◌≡◌, ◌<◌, ◌≤◌, length, sym, ◌∙◌, ap, arith, rules}
 use Rattle.std.proofs.lemmas.List.{take_rest}
-use Rattle.sql_lex.specs.Tokens.{token, counted, tokens_ahead}
+use Rattle.sql_lex.specs.Tokens.{token, tokens_ahead}
 use Rattle.sql_lex.proofs.Ahead.{ahead-none, ahead-next}
 use Rattle.sql_lex.proofs.cursor.Cursor.next.Goals as goal
 
@@ -12,7 +12,7 @@ returns-clause-token c =
     let some : 0 < length z = first_of (omega arith, search rules) in
     let moves : 1 ≤ (token m z).1 = rw (← c.token-token.ensures.value) c.token-token.ensures.within.0 in
     ap tokens_ahead view ∙ sym c.skip_blanks-text.ensures.rest
-        ∙ rw (take_rest z c.token-token.result.1, c.counted-markers.ensures, c.token-token.ensures.value) (ahead-next m z c.skip_blanks-text.ensures.stops some moves)
+    ∙ rw (take_rest z c.token-token.result.1, c.counted-markers.ensures, c.token-token.ensures.value) (ahead-next m z c.skip_blanks-text.ensures.stops some moves)
 
 pub returns-then-is_empty-clause-token : goal.returns-then-is_empty-clause-token
 returns-then-is_empty-clause-token c =
