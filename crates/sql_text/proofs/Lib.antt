@@ -1,0 +1,10 @@
+pub mod Answered
+pub mod Explained
+pub mod Found
+pub mod FoundRules
+pub mod Limits
+pub mod Local
+pub mod Only
+pub mod OnlyRules
+pub mod Repeats
+pub mod Turns

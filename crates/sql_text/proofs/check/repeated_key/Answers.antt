@@ -1,0 +1,25 @@
+use Rattle.std.proofs.Common.{◌<◌, ◌∙◌, List, ℕ, ap, sym, arith, length, take}
+use Rattle.std.specs.List.{list_any}
+use Rattle.sql_text.specs.Checks.{same_name}
+use Rattle.sql_text.proofs.Repeats.{repeats, goes_on}
+use Rattle.sql_text.proofs.check.repeated_key.Goals as goal
+
+pub returns-then-is_key_column : goal.returns-then-is_key_column
+returns-then-is_key_column c =
+    let z = c.args.key.now in
+    let at = c.loop-at.at in
+    let x = c.index-key-at.result in
+    let below : at < length z = omega arith in
+    let named = ap (λ (n : List ℕ). list_any (λ y. same_name y.name n) (take at z)) c.bytes.ensures in
+    let e = sym named ∙ sym c.is_key_column.ensures ∙ c.if-is_key_column.true in
+    repeats (λ y. y.name) (λ y. y.left) z at x below c.index-key-at.is e ∙ c.loop-at.invariant.same
+
+pub loop-at-preserved : goal.loop-at-preserved
+loop-at-preserved c =
+    let z = c.args.key.now in
+    let at = c.loop-at.at in
+    let x = c.index-key-at.result in
+    let below : at < length z = omega arith in
+    let named = ap (λ (n : List ℕ). list_any (λ y. same_name y.name n) (take at z)) c.bytes.ensures in
+    let e = sym named ∙ sym c.is_key_column.ensures ∙ c.if-is_key_column.false in
+    record { same = goes_on (λ y. y.name) (λ y. y.left) z at x below c.index-key-at.is e ∙ c.loop-at.invariant.same }

@@ -1,0 +1,36 @@
+use Rattle.std.proofs.Common.{arith, rules}
+use Rattle.std.proofs.lemmas.Grind.{common_steps}
+use Rattle.sql_lex.specs.Tokens.{tokens_ahead}
+use Rattle.sql_lex.specs.declared.terminal.Terminal.TheVariants as w
+use Rattle.sql_text.specs.Reading.{may}
+use Rattle.sql_text.specs.Rules.{items, items_from, key_at, key_column_at}
+use Rattle.sql_text.proofs.Turns.{begun, one_more, no_more}
+use Rattle.sql_text.proofs.list.key.Goals as goal
+
+pub loop-turn-init : goal.loop-turn-init
+unfolding key_at items
+loop-turn-init c = record { same = begun (λ n found. items_from key_column_at (may w.Comma) n found (tokens_ahead c.args.cursor)) _ _ _ _ c.longest-turns.ensures c.new-found.ensures }
+
+pub returns-in_err-item : goal.returns-in_err-item
+unfolding items_from
+returns-in_err-item c =
+    let e = one_more (λ n. items_from key_column_at (may w.Comma) n c.loop-turn.found (tokens_ahead c.loop-turn.rest)) _ c.loop-turn._turn c.loop-turn-test.true c.loop-turn.invariant.same in
+    first_of (search rules, grind (arith, common_steps))
+
+pub returns-then-not-goes : goal.returns-then-not-goes
+unfolding items_from
+returns-then-not-goes c =
+    let e = one_more (λ n. items_from key_column_at (may w.Comma) n c.loop-turn.found (tokens_ahead c.loop-turn.rest)) _ c.loop-turn._turn c.loop-turn-test.true c.loop-turn.invariant.same in
+    first_of (search rules, grind (arith, common_steps))
+
+pub loop-turn-preserved : goal.loop-turn-preserved
+unfolding items_from
+loop-turn-preserved c =
+    let e = one_more (λ n. items_from key_column_at (may w.Comma) n c.loop-turn.found (tokens_ahead c.loop-turn.rest)) _ c.loop-turn._turn c.loop-turn-test.true c.loop-turn.invariant.same in
+    record { same = first_of (search rules, grind (arith, common_steps)) }
+
+pub returns : goal.returns
+unfolding items_from
+returns c =
+    let e = no_more (λ n. items_from key_column_at (may w.Comma) n c.loop-turn.found (tokens_ahead c.loop-turn.rest)) _ c.loop-turn._turn c.loop-turn-test.false c.loop-turn.invariant.same in
+    first_of (search rules, grind (arith, common_steps))

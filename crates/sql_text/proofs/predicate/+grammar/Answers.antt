@@ -1,0 +1,67 @@
+use Rattle.std.proofs.Common.{◌<◌, arith, rules}
+use Rattle.std.proofs.lemmas.Grind.{common_steps}
+use Rattle.sql_lex.specs.Tokens.{tokens_ahead}
+use Rattle.sql_lex.specs.declared.terminal.Terminal.TheVariants as w
+use Rattle.sql_text.specs.Reading.{may}
+use Rattle.sql_text.specs.Rules.{items, items_from, all_at, any_at, neg_at}
+use Rattle.sql_text.proofs.Turns.{begun, one_more, no_more, deeper}
+use Rattle.sql_text.proofs.predicate.+grammar.Goals as goal
+
+pub neg-returns : goal.neg-returns
+neg-returns t c = let some : 0 < c.args.depth = omega arith in rw (← deeper c.args.depth some) c.level.ensures
+
+pub all-loop-turn-init : goal.all-loop-turn-init
+unfolding items
+all-loop-turn-init t c = record { same = begun (λ n found. items_from (neg_at c.args.depth) (may w.And) n found (tokens_ahead c.args.cursor)) _ _ _ _ c.longest-turns.ensures c.new-found.ensures }
+
+pub all-loop-turn-preserved : goal.all-loop-turn-preserved
+unfolding items_from
+all-loop-turn-preserved t c =
+    let e = one_more (λ n. items_from (neg_at c.args.depth) (may w.And) n c.loop-turn.found (tokens_ahead c.loop-turn.rest)) _ c.loop-turn._turn c.loop-turn-test.true c.loop-turn.invariant.same in
+    record { same = first_of (search rules, grind (arith, common_steps)) }
+
+pub all-returns-in_err-item : goal.all-returns-in_err-item
+unfolding items_from all_at
+all-returns-in_err-item t c =
+    let e = one_more (λ n. items_from (neg_at c.args.depth) (may w.And) n c.loop-turn.found (tokens_ahead c.loop-turn.rest)) _ c.loop-turn._turn c.loop-turn-test.true c.loop-turn.invariant.same in
+    first_of (search rules, grind (arith, common_steps))
+
+pub all-returns-then-not-goes : goal.all-returns-then-not-goes
+unfolding items_from all_at
+all-returns-then-not-goes t c =
+    let e = one_more (λ n. items_from (neg_at c.args.depth) (may w.And) n c.loop-turn.found (tokens_ahead c.loop-turn.rest)) _ c.loop-turn._turn c.loop-turn-test.true c.loop-turn.invariant.same in
+    first_of (search rules, grind (arith, common_steps))
+
+pub all-returns : goal.all-returns
+unfolding items_from all_at
+all-returns t c =
+    let e = no_more (λ n. items_from (neg_at c.args.depth) (may w.And) n c.loop-turn.found (tokens_ahead c.loop-turn.rest)) _ c.loop-turn._turn c.loop-turn-test.false c.loop-turn.invariant.same in
+    first_of (search rules, grind (arith, common_steps))
+
+pub any-loop-turn-init : goal.any-loop-turn-init
+unfolding items
+any-loop-turn-init t c = record { same = begun (λ n found. items_from (all_at (neg_at c.args.depth)) (may w.Or) n found (tokens_ahead c.args.cursor)) _ _ _ _ c.longest-turns.ensures c.new-found.ensures }
+
+pub any-loop-turn-preserved : goal.any-loop-turn-preserved
+unfolding items_from
+any-loop-turn-preserved t c =
+    let e = one_more (λ n. items_from (all_at (neg_at c.args.depth)) (may w.Or) n c.loop-turn.found (tokens_ahead c.loop-turn.rest)) _ c.loop-turn._turn c.loop-turn-test.true c.loop-turn.invariant.same in
+    record { same = first_of (search rules, grind (arith, common_steps)) }
+
+pub any-returns-in_err-item : goal.any-returns-in_err-item
+unfolding items_from any_at
+any-returns-in_err-item t c =
+    let e = one_more (λ n. items_from (all_at (neg_at c.args.depth)) (may w.Or) n c.loop-turn.found (tokens_ahead c.loop-turn.rest)) _ c.loop-turn._turn c.loop-turn-test.true c.loop-turn.invariant.same in
+    first_of (search rules, grind (arith, common_steps))
+
+pub any-returns-then-not-goes : goal.any-returns-then-not-goes
+unfolding items_from any_at
+any-returns-then-not-goes t c =
+    let e = one_more (λ n. items_from (all_at (neg_at c.args.depth)) (may w.Or) n c.loop-turn.found (tokens_ahead c.loop-turn.rest)) _ c.loop-turn._turn c.loop-turn-test.true c.loop-turn.invariant.same in
+    first_of (search rules, grind (arith, common_steps))
+
+pub any-returns : goal.any-returns
+unfolding items_from any_at
+any-returns t c =
+    let e = no_more (λ n. items_from (all_at (neg_at c.args.depth)) (may w.Or) n c.loop-turn.found (tokens_ahead c.loop-turn.rest)) _ c.loop-turn._turn c.loop-turn-test.false c.loop-turn.invariant.same in
+    first_of (search rules, grind (arith, common_steps))

@@ -1,0 +1,35 @@
+-- Why a text is refused, and where.
+use Rattle.std.specs.Prelude.{◌≡◌, ◌⊎◌, ◌≤◌, ◌<◌, ℕ, ◌-◌, List, [], ◌∷◌, ◌++◌, length, Err}
+use Rattle.sql_lex.specs.Tokens.{Lexeme, tokens}
+use Rattle.sql_text.specs.Grammar.{IsStatement}
+use Rattle.sql_text.specs.Reading.{place}
+use Rattle.sql_text.specs.Rules.{command_at}
+use Rattle.sql_text.specs.Text.{answer}
+use Rattle.sql_text.specs.declared.error.SqlError.{SqlError}
+use Rattle.sql_text.specs.declared.error.SqlError.TheVariants as error
+use Rattle.sql_text.specs.declared.fault.Fault.TheVariants as fault
+use Rattle.sql_text.specs.declared.tree.Command.{Command}
+
+-- both end, or go on with the same token
+abbrev pub SameHead : List Lexeme → List Lexeme → Type 0
+SameHead [] [] = Unit {0}
+SameHead (l ∷ ts) (m ∷ us) = l.1 ≡ m.1
+SameHead _ _ = ⊥
+
+-- no statement's tokens begin with these and then go on as those do, with their first token or their end
+abbrev pub IsDead : List Lexeme → List Lexeme → Type 0
+IsDead front bad = (more : List Lexeme) (c : Command) → length (front ++ more) ≤ 32767 → SameHead bad more → IsStatement c (front ++ more) → ⊥
+
+-- at this offset stands a token, or the end, that no statement can have there
+abbrev pub IsStuck : List ℕ → ℕ → Type 0
+IsStuck text at = (front : List Lexeme) × (bad : List Lexeme) × (tokens text ≡ front ++ bad) × (at ≡ length text - place bad) × IsDead front bad
+
+-- the text is a statement that is refused so by what is checked behind the grammar
+abbrev pub IsRefused : List ℕ → SqlError → Type 0
+IsRefused text e = (c : Command) × IsStatement c (tokens text) × (answer text c ≡ Err e)
+
+abbrev pub Explains : List ℕ → SqlError → Type 0
+Explains text (error.SqlText at) = IsRefused text (error.SqlText at) ⊎ IsStuck text at
+Explains text error.Limit = (32767 < length text) ⊎ (IsRefused text error.Limit ⊎ (command_at (tokens text) ≡ Err fault.Deep))
+Explains text error.KeyUnknown = IsRefused text error.KeyUnknown
+Explains text error.NoMemory = Unit {0}

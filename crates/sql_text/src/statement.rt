@@ -1,0 +1,200 @@
+//! Reads statements.
+
+ghost use Rattle.std.specs.Prelude.{◌≡◌};
+ghost use Rattle.sql_lex.specs.Tokens.{tokens_ahead};
+ghost use Rattle.sql_text.specs.Reading.{Reads};
+ghost use Rattle.sql_text.specs.Rules as spec;
+
+use crate::column::definitions;
+use crate::fault::Fault;
+use crate::list::{assignments, key, names, values};
+use crate::predicate::whole_predicate;
+use crate::token::{Verb, eat, end, expect, first_word, name};
+use crate::tree::{Columns, Command, Predicate};
+use sql_lex::{Cursor, Terminal};
+use std::alloc::Global;
+
+/// The columns that an INSERT gives.
+#[tactic(auto, unfolding(crate::specs::Rules::listed_at))]
+pub(crate) fn listed<'a>(
+    alloc: Global,
+    cursor: Cursor<'a>,
+) -> Result<(Columns<'a>, Cursor<'a>), Fault>
+    ensures { Reads (spec.listed_at (tokens_ahead cursor.entry)) result }
+{
+    let (opens, rest) = eat(Terminal::Open, cursor);
+    if !opens {
+        return Ok((Columns::All, rest));
+    }
+    let (names, rest) = names(alloc, rest)?;
+    let rest = expect(Terminal::Close, rest)?;
+    Ok((Columns::Named(names), rest))
+}
+
+/// The columns that a SELECT asks for.
+#[tactic(auto, unfolding(crate::specs::Rules::selected_at))]
+pub(crate) fn selected<'a>(
+    alloc: Global,
+    cursor: Cursor<'a>,
+) -> Result<(Columns<'a>, Cursor<'a>), Fault>
+    ensures { Reads (spec.selected_at (tokens_ahead cursor.entry)) result }
+{
+    let (all, rest) = eat(Terminal::Star, cursor);
+    if all {
+        return Ok((Columns::All, rest));
+    }
+    let (names, rest) = names(alloc, rest)?;
+    Ok((Columns::Named(names), rest))
+}
+
+/// WHERE and its predicate, or nothing.
+#[tactic(auto, unfolding(crate::specs::Rules::filter_at))]
+pub(crate) fn filter<'a>(
+    alloc: Global,
+    cursor: Cursor<'a>,
+) -> Result<(Option<Predicate<'a>>, Cursor<'a>), Fault>
+    ensures { Reads (spec.filter_at (tokens_ahead cursor.entry)) result }
+{
+    let (filters, rest) = eat(Terminal::Where, cursor);
+    if !filters {
+        return Ok((None, rest));
+    }
+    let (predicate, rest) = whole_predicate(alloc, rest)?;
+    Ok((Some(predicate), rest))
+}
+
+#[tactic(auto, unfolding(crate::specs::Rules::create_at))]
+pub(crate) fn create<'a>(
+    alloc: Global,
+    cursor: Cursor<'a>,
+) -> Result<(Command<'a>, Cursor<'a>), Fault>
+    ensures { Reads (spec.create_at (tokens_ahead cursor.entry)) result }
+{
+    let rest = expect(Terminal::Table, cursor)?;
+    let (table, rest) = name(rest)?;
+    let rest = expect(Terminal::Open, rest)?;
+    let (columns, rest) = definitions(alloc, rest)?;
+    let rest = expect(Terminal::Key, rest)?;
+    let rest = expect(Terminal::Open, rest)?;
+    let (key, rest) = key(alloc, rest)?;
+    let rest = expect(Terminal::Close, rest)?;
+    let rest = expect(Terminal::Close, rest)?;
+    Ok((
+        Command::Create {
+            table,
+            columns,
+            key,
+        },
+        rest,
+    ))
+}
+
+#[tactic(auto, unfolding(crate::specs::Rules::insert_at))]
+pub(crate) fn insert<'a>(
+    alloc: Global,
+    cursor: Cursor<'a>,
+) -> Result<(Command<'a>, Cursor<'a>), Fault>
+    ensures { Reads (spec.insert_at (tokens_ahead cursor.entry)) result }
+{
+    let rest = expect(Terminal::Into, cursor)?;
+    let (table, rest) = name(rest)?;
+    let (columns, rest) = listed(alloc, rest)?;
+    let rest = expect(Terminal::Values, rest)?;
+    let rest = expect(Terminal::Open, rest)?;
+    let (values, rest) = values(alloc, rest)?;
+    let rest = expect(Terminal::Close, rest)?;
+    Ok((
+        Command::Insert {
+            table,
+            columns,
+            values,
+        },
+        rest,
+    ))
+}
+
+#[tactic(auto, unfolding(crate::specs::Rules::update_at))]
+pub(crate) fn update<'a>(
+    alloc: Global,
+    cursor: Cursor<'a>,
+) -> Result<(Command<'a>, Cursor<'a>), Fault>
+    ensures { Reads (spec.update_at (tokens_ahead cursor.entry)) result }
+{
+    let (table, rest) = name(cursor)?;
+    let rest = expect(Terminal::Set, rest)?;
+    let (assignments, rest) = assignments(alloc, rest)?;
+    let (filter, rest) = filter(alloc, rest)?;
+    Ok((
+        Command::Update {
+            table,
+            assignments,
+            filter,
+        },
+        rest,
+    ))
+}
+
+#[tactic(auto, unfolding(crate::specs::Rules::delete_at))]
+pub(crate) fn delete<'a>(
+    alloc: Global,
+    cursor: Cursor<'a>,
+) -> Result<(Command<'a>, Cursor<'a>), Fault>
+    ensures { Reads (spec.delete_at (tokens_ahead cursor.entry)) result }
+{
+    let rest = expect(Terminal::From, cursor)?;
+    let (table, rest) = name(rest)?;
+    let (filter, rest) = filter(alloc, rest)?;
+    Ok((Command::Delete { table, filter }, rest))
+}
+
+#[tactic(auto, unfolding(crate::specs::Rules::select_at))]
+pub(crate) fn select<'a>(
+    alloc: Global,
+    cursor: Cursor<'a>,
+) -> Result<(Command<'a>, Cursor<'a>), Fault>
+    ensures { Reads (spec.select_at (tokens_ahead cursor.entry)) result }
+{
+    let (columns, rest) = selected(alloc, cursor)?;
+    let rest = expect(Terminal::From, rest)?;
+    let (table, rest) = name(rest)?;
+    let (filter, rest) = filter(alloc, rest)?;
+    Ok((
+        Command::Select {
+            columns,
+            table,
+            filter,
+        },
+        rest,
+    ))
+}
+
+/// What goes on behind the first word.
+pub(crate) fn by_verb<'a>(
+    alloc: Global,
+    verb: Verb,
+    cursor: Cursor<'a>,
+) -> Result<(Command<'a>, Cursor<'a>), Fault>
+    ensures { Reads (spec.command_by verb (tokens_ahead cursor.entry)) result }
+{
+    match verb {
+        Verb::Create => create(alloc, cursor),
+        Verb::Insert => insert(alloc, cursor),
+        Verb::Update => update(alloc, cursor),
+        Verb::Delete => delete(alloc, cursor),
+        Verb::Select => select(alloc, cursor),
+    }
+}
+
+/// A whole statement.
+#[tactic(auto, unfolding(crate::specs::Rules::command_at))]
+pub(crate) fn whole_command<'a>(
+    alloc: Global,
+    cursor: Cursor<'a>,
+) -> Result<(Command<'a>, Cursor<'a>), Fault>
+    ensures { Reads (spec.command_at (tokens_ahead cursor.entry)) result }
+{
+    let (verb, rest) = first_word(cursor)?;
+    let (command, rest) = by_verb(alloc, verb, rest)?;
+    let rest = end(rest)?;
+    Ok((command, rest))
+}
