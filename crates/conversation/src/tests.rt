@@ -267,11 +267,18 @@ fn access_is_refused(rt: HostRuntime) -> Result<(), Fail> {
 }
 
 const KNOWN: &str = "001E D001 0001 0018 1041 0014 1404 2407 0007 1C01 0007 1C08 04B8 14C0 0005";
+
 const CHECKED: &str = "001D D001 0003 0017 106E 0006 11A2 0003 0007 11A0 616E61 0006 11A1 7077";
+
 const RDBCMM: &str = "000A D001 0006 0004 200E";
 
 // What the last of these requests is answered, at the end of what they are answered in all.
-fn expect_last(rt: &(impl Abort + AllocGlobal), before: &[&str], request: &str, reply: &str) -> Result<(), Fail> {
+fn expect_last(
+    rt: &(impl Abort + AllocGlobal),
+    before: &[&str],
+    request: &str,
+    reply: &str,
+) -> Result<(), Fail> {
     let alloc = rt.alloc();
     let mut bytes = hex(alloc, before)?;
     let earlier = answer_in_pieces(alloc, &bytes, 1_000_000)?;
@@ -284,25 +291,79 @@ fn expect_last(rt: &(impl Abort + AllocGlobal), before: &[&str], request: &str, 
 }
 
 const OUT_OF_TURN_2: &str = "0010 D002 0002 000A 1245 0006 1149 0008";
+
 const OUT_OF_TURN_3: &str = "0010 D002 0003 000A 1245 0006 1149 0008";
+
 const OUT_OF_TURN_4: &str = "0010 D002 0004 000A 1245 0006 1149 0008";
-const NOT_ACCESSED: &str = "0026 D002 0006 0020 2204 0006 1149 0008 0016 2110 53484F50 2020202020202020202020202020";
-const EXCSATRD_ALONE: &str = "0045 D003 0001 003F 1443 0009 115E 8499848184 0014 1404 2407 0007 1C01 0007 1C08 04B8 14C0 0000
+
+const NOT_ACCESSED: &str =
+    "0026 D002 0006 0020 2204 0006 1149 0008 0016 2110 53484F50 2020202020202020202020202020";
+
+const EXCSATRD_ALONE: &str =
+    "0045 D003 0001 003F 1443 0009 115E 8499848184 0014 1404 2407 0007 1C01 0007 1C08 04B8 14C0 0000
     0009 1147 C4D9C4C1C4 0009 116D 8499848184 000C 115A D9C4C1F0F1F0F0F0";
+
 const SECCHKRM_ALONE: &str = "0015 D002 0003 000F 1219 0006 1149 0000 0005 11A4 00";
 
 #[test]
 fn each_stage_allows_its_commands(rt: HostRuntime) -> Result<(), Fail> {
     // Before EXCSAT names are answered in code page 500.
-    let not_accessed_500 = "0026 D002 0006 0020 2204 0006 1149 0008 0016 2110 E2C8D6D7 4040404040404040404040404040";
-    let accessed = "0026 D002 0004 0020 2207 0006 1149 0008 0016 2110 53484F50 2020202020202020202020202020";
+    let not_accessed_500 =
+        "0026 D002 0006 0020 2204 0006 1149 0008 0016 2110 E2C8D6D7 4040404040404040404040404040";
+    let accessed =
+        "0026 D002 0004 0020 2207 0006 1149 0008 0016 2110 53484F50 2020202020202020202020202020";
     let unserved = "0016 D002 0006 0010 1250 0006 1149 0008 0006 000C 200E";
     let stages: [(&[&str], [&str; 5]); 5] = [
-        (&[], [EXCSATRD_ALONE, OUT_OF_TURN_2, OUT_OF_TURN_3, OUT_OF_TURN_4, not_accessed_500]),
-        (&[KNOWN], [EXCSATRD_ALONE, ACCSECRD, OUT_OF_TURN_3, OUT_OF_TURN_4, NOT_ACCESSED]),
-        (&[KNOWN, ACCSEC], [EXCSATRD_ALONE, ACCSECRD, SECCHKRM_ALONE, OUT_OF_TURN_4, NOT_ACCESSED]),
-        (&[KNOWN, ACCSEC, CHECKED], [EXCSATRD_ALONE, ACCSECRD, OUT_OF_TURN_3, ACCRDBRM, NOT_ACCESSED]),
-        (&[KNOWN, ACCSEC, CHECKED, ACCRDB], [EXCSATRD_ALONE, OUT_OF_TURN_2, OUT_OF_TURN_3, accessed, unserved]),
+        (
+            &[],
+            [
+                EXCSATRD_ALONE,
+                OUT_OF_TURN_2,
+                OUT_OF_TURN_3,
+                OUT_OF_TURN_4,
+                not_accessed_500,
+            ],
+        ),
+        (
+            &[KNOWN],
+            [
+                EXCSATRD_ALONE,
+                ACCSECRD,
+                OUT_OF_TURN_3,
+                OUT_OF_TURN_4,
+                NOT_ACCESSED,
+            ],
+        ),
+        (
+            &[KNOWN, ACCSEC],
+            [
+                EXCSATRD_ALONE,
+                ACCSECRD,
+                SECCHKRM_ALONE,
+                OUT_OF_TURN_4,
+                NOT_ACCESSED,
+            ],
+        ),
+        (
+            &[KNOWN, ACCSEC, CHECKED],
+            [
+                EXCSATRD_ALONE,
+                ACCSECRD,
+                OUT_OF_TURN_3,
+                ACCRDBRM,
+                NOT_ACCESSED,
+            ],
+        ),
+        (
+            &[KNOWN, ACCSEC, CHECKED, ACCRDB],
+            [
+                EXCSATRD_ALONE,
+                OUT_OF_TURN_2,
+                OUT_OF_TURN_3,
+                accessed,
+                unserved,
+            ],
+        ),
     ];
     for (before, replies) in stages {
         let requests = [KNOWN, ACCSEC, CHECKED, ACCRDB, RDBCMM];
@@ -319,13 +380,27 @@ fn the_earlier_refusal_wins(rt: HostRuntime) -> Result<(), Fail> {
     let syntax_0e = "0015 D002 0004 000F 124C 0006 1149 0008 0005 114A 0E";
     let syntax_12 = "0015 D002 0004 000F 124C 0006 1149 0008 0005 114A 12";
     // The stage before the parameters.
-    expect_last(&rt, &[KNOWN], "000F D001 0004 0009 2001 0006 2110 53", OUT_OF_TURN_4)?;
+    expect_last(
+        &rt,
+        &[KNOWN],
+        "000F D001 0004 0009 2001 0006 2110 53",
+        OUT_OF_TURN_4,
+    )?;
     let before: [&str; 3] = [KNOWN, ACCSEC, CHECKED];
     for (request, reply) in [
         // A fault by place before what stands there twice; twice before missing; missing before a value.
-        ("0018 D001 0004 0012 2001 0005 2110 53 0005 2110 53 0009 002F", syntax_08),
-        ("0014 D001 0004 000E 2001 0005 2110 53 0005 2110 53", syntax_12),
-        ("0019 D001 0004 0013 2001 0005 2110 53 000A 0035 0006 119C 0500", syntax_0e),
+        (
+            "0018 D001 0004 0012 2001 0005 2110 53 0005 2110 53 0009 002F",
+            syntax_08,
+        ),
+        (
+            "0014 D001 0004 000E 2001 0005 2110 53 0005 2110 53",
+            syntax_12,
+        ),
+        (
+            "0019 D001 0004 0013 2001 0005 2110 53 000A 0035 0006 119C 0500",
+            syntax_0e,
+        ),
         // A CCSID twice inside TYPDEFOVR; a value before another database.
         (
             "002C D001 0004 0026 2001 0005 2110 53 000D 002F 51544453514C415343 0010 0035 0006 119C 04B8 0006 119C 04B8",

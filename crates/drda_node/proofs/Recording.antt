@@ -141,7 +141,7 @@ pub received : (r0 r1 r2 : Option (List ℕ)) (head : Head) (k n a b c d size : 
 received r0 r1 r2 head k n a b c d size bytes part first second is size_is small fits same =
     let length_is : to_be_bytes w32 size ≡ a ∷ b ∷ c ∷ d ∷ [] = be_bytes_4 (a ∷ b ∷ c ∷ d ∷ []) size refl (λ i. small_four a b c d i small.0 small.1 small.2 small.3) size_is in
     let text : event_text (event_of head bytes) ≡ (k ∷ n ∷ a ∷ b ∷ c ∷ d ∷ []) ++ part =
-        head_is_text head k n size bytes is fits ∙ ap (λ (z : List ℕ). k ∷ n ∷ z ++ take (size_of head) bytes) length_is ∙ ap (λ (z : List ℕ). k ∷ n ∷ a ∷ b ∷ c ∷ d ∷ z) same in
+    head_is_text head k n size bytes is fits ∙ ap (λ (z : List ℕ). k ∷ n ∷ z ++ take (size_of head) bytes) length_is ∙ ap (λ (z : List ℕ). k ∷ n ∷ a ∷ b ∷ c ∷ d ∷ z) same in
     record {
       allowed = head_allowed head k n size bytes is fits;
       consumed = subst (λ (z : List ℕ). Consumes r0 r2 z) (sym text) (Consumes-trans r0 r1 r2 (k ∷ n ∷ a ∷ b ∷ c ∷ d ∷ []) part first second);

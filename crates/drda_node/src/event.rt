@@ -40,7 +40,12 @@ pub(crate) fn head_of(kind: u8, number: u8, size: usize) -> Option<Head>
 }
 
 /// Appends a record.
-pub(crate) fn push_record(text: &mut Vec<u8>, kind: u8, number: u8, contents: &[u8]) -> Result<(), AllocError>
+pub(crate) fn push_record(
+    text: &mut Vec<u8>,
+    kind: u8,
+    number: u8,
+    contents: &[u8],
+) -> Result<(), AllocError>
     requires { length contents.now < 2 ^ 32 }
     ensures { OnOk result (text.new.items ≡ text.old.items ++ record_text kind number contents.now) }
 {

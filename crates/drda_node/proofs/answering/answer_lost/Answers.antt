@@ -8,7 +8,7 @@ pub returns-then-not-has : goal.returns-then-not-has
 returns-then-not-has c =
     let m = machine c.args.node.now in
     ok_so c.refuse.result
-        (λ said. no_loss (slice_get m.row c.args.number) m c.args.number c.refuse.new.text.items
-            (λ there is. ?)
-            (said ∙ ap (λ (z : List ℕ). z ++ refusal c.args.number 2) c.requires))
-        c.refuse.ensures
+    (λ said. no_loss (slice_get m.row c.args.number) m c.args.number c.refuse.new.text.items
+    (λ there is. ?)
+    (said ∙ ap (λ (z : List ℕ). z ++ refusal c.args.number 2) c.requires))
+    c.refuse.ensures
