@@ -9,12 +9,13 @@ use Rattle.dss_frames.specs.declared.fault.FrameFault.{FrameFault}
 use Rattle.dss_frames.specs.declared.place.Expected.{Expected}
 use Rattle.dss_frames.specs.declared.place.Expected.TheVariants.{Header, Continuation}
 use Rattle.dss_frames.specs.declared.place.Place.{Place}
+use Rattle.dss_frames.specs.declared.place.Found.TheVariants.{Nothing as Nothing_yet}
 use Rattle.dss_frames.specs.Length.{word, is_continued, segment_length, dss_limit}
 use Rattle.dss_frames.specs.Dss.{Dss}
 use Rattle.dss_frames.specs.Command.{turn_after, is_due, IsCommand}
-use Rattle.dss_frames.specs.Fault.{Next, dss_in_turn, continuation_of, UpTo, IsWrong, FaultAt, BeginsWith, IsUnfinished, header_fault, continuation_fault}
+use Rattle.dss_frames.specs.Fault.{Next, dss_in_turn, continuation_of, UpTo, IsWrong, FaultAt, BeginsWith, IsUnfinished, CanBeJudged, header_size, header_fault, continuation_fault}
 use Rattle.dss_frames.specs.Judging.{judged, unless_wrong, after_segment, IsWithinLimit}
-use Rattle.dss_frames.specs.Place.{IsExpected, Reaches, IsAt, HasCommand, Finds, found_when, found_at}
+use Rattle.dss_frames.specs.Place.{IsExpected, Reaches, IsAt, HasCommand, Finds, found_when, found_at, header_length}
 use Rattle.dss_frames.proofs.Headers.{IsRightHeader, header_right, continuation_right}
 use Rattle.dss_frames.proofs.Machine.{State, gathering, filling, whole, faulty, arrive, filled, fill, stop_or, begun, joined, header_read, continuation_read, run, start, run-append, run-fill, run-fill-short, IsUnderWay}
 use Rattle.dss_frames.proofs.Ways.{IsOpen, run-up_to}
@@ -317,13 +318,58 @@ place_first bytes = record {
   within = tt;
 }
 
+-- a header that has not come is shorter than it
+short_turn : (turn : Turn) (bytes : List ℕ) → IsOpen turn → judged (Header turn) bytes ≡ Ok None → length bytes < header_length (Header turn)
+short_turn Request (high ∷ low ∷ mark ∷ format ∷ c ∷ d ∷ bytes) h e = absurd (judged_nothing (header_fault Request high low mark format (word c d)) (word c d) _ _ e refl)
+short_turn (Object expected) (high ∷ low ∷ mark ∷ format ∷ c ∷ d ∷ bytes) h e = absurd (judged_nothing (header_fault (Object expected) high low mark format (word c d)) (word c d) _ _ e refl)
+short_turn Nothing bytes h e = absurd h
+short_turn Request bytes h e = omega arith
+short_turn (Object expected) bytes h e = omega arith
+
+short_header : (expected : Expected) (bytes : List ℕ) → GoesOn expected → judged expected bytes ≡ Ok None → length bytes < header_length expected
+short_header (Header turn) bytes goes e = short_turn turn bytes goes e
+short_header (Continuation format of_dss so_far) (high ∷ low ∷ bytes) goes e =
+    absurd (judged_nothing (continuation_fault so_far high low) of_dss (outcome (after_segment (is_continued high low) format of_dss (so_far + segment_length high low)) (segment_length high low)) _ e refl)
+short_header (Continuation format of_dss so_far) bytes goes e = omega arith
+
+place_short : (bytes : List ℕ) (place : Place) → place.at ≤ length bytes → GoesOn place.expected → judged place.expected (drop place.at bytes) ≡ Ok None
+    → length bytes < place.at + header_length place.expected
+place_short bytes place le goes e = let k = length-drop place.at bytes in let short = short_header place.expected (drop place.at bytes) goes e in omega arith
+
+waiting : (bytes : List ℕ) (place : Place) → IsAt bytes place → place.at ≤ length bytes → GoesOn place.expected → judged place.expected (drop place.at bytes) ≡ Ok None → Finds bytes (Ok (Nothing_yet place))
+waiting bytes place h le goes e = (place_part bytes place h le goes e, h, place_short bytes place le goes e)
+
 -- what is found where no header has come at a place
 found_when_is : (expected : Expected) (bytes : List ℕ) (place : Place) → place.expected ≡ expected → IsAt bytes place → place.at ≤ length bytes → judged expected (drop place.at bytes) ≡ Ok None
     → Finds bytes (Ok (found_when expected place))
 found_when_is (Header Nothing) bytes place same h le e = place_command bytes place h le same
-found_when_is (Header Request) bytes place same h le e = (place_part bytes place h le (rw same tt) (rw same e), h)
-found_when_is (Header (Object of_dss)) bytes place same h le e = (place_part bytes place h le (rw same tt) (rw same e), h)
-found_when_is (Continuation format of_dss declared) bytes place same h le e = (place_part bytes place h le (rw same tt) (rw same e), h)
+found_when_is (Header Request) bytes place same h le e = waiting bytes place h le (rw same tt) (rw same e)
+found_when_is (Header (Object of_dss)) bytes place same h le e = waiting bytes place h le (rw same tt) (rw same e)
+found_when_is (Continuation format of_dss declared) bytes place same h le e = waiting bytes place h le (rw same tt) (rw same e)
 
 pub place_found : (bytes : List ℕ) (place : Place) → IsAt bytes place → place.at ≤ length bytes → judged place.expected (drop place.at bytes) ≡ Ok None → Finds bytes (Ok (found_at place))
 place_found bytes place h le e = found_when_is place.expected bytes place refl h le e
+
+-- beyond the bytes that are held
+pub place_beyond : (bytes : List ℕ) (place : Place) → IsAt bytes place → length bytes < place.at → Finds bytes (Ok (Nothing_yet place))
+place_beyond bytes place h lt = (place_early bytes place h lt, h, omega arith)
+
+-- ---- the next header, once it has come
+
+turn_size : (turn : Turn) → header_size (dss_in_turn turn) ≡ header_length (Header turn)
+turn_size Request = refl
+turn_size (Object expected) = refl
+turn_size Nothing = refl
+
+expected_size : (next : Next) (expected : Expected) → IsExpected next expected → header_size next ≡ header_length expected
+expected_size (dss_in_turn turn) (Header expected) e = ap (λ (t : Turn). header_size (dss_in_turn t)) e ∙ turn_size expected
+expected_size (continuation_of dss declared) (Continuation format of_dss so_far) e = refl
+expected_size next expected e = absurd e
+
+pub place_judged : (bytes more : List ℕ) (place : Place) → IsAt bytes place → length (bytes ++ more) ≡ place.at + header_length place.expected → CanBeJudged (bytes ++ more)
+place_judged bytes more place h size =
+    let all : List ℕ = bytes ++ more in
+    let r = h.there more (omega arith) in
+    let k = length-drop place.at all in
+    let header = expected_size r.1 place.expected r.3 in
+    (take place.at all, drop place.at all, r.0, r.1, sym (take-append-drop place.at all), r.2, omega arith)

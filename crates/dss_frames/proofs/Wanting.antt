@@ -13,9 +13,9 @@ use Rattle.dss_frames.specs.Dss.{Dss}
 use Rattle.dss_frames.specs.Command.{IsCommand}
 use Rattle.dss_frames.specs.Fault.{BeginsWith, IsUnfinished}
 use Rattle.dss_frames.specs.Judging.{judged}
-use Rattle.dss_frames.specs.Place.{IsAt, header_length}
-use Rattle.dss_frames.specs.Lending.{KeepsToOne}
-use Rattle.dss_frames.proofs.Steps.{GoesOn, place_part, place_early, place_more}
+use Rattle.dss_frames.specs.Place.{IsAt, HasCommand, header_length}
+use Rattle.dss_frames.specs.Lending.{KeepsToOne, IsWanted}
+use Rattle.dss_frames.proofs.Steps.{GoesOn, place_part, place_early, place_more, place_judged}
 
 -- less than the header
 short_header : (expected : Expected) (bytes : List ℕ) → length bytes < header_length expected → GoesOn expected × (judged expected bytes ≡ Ok None)
@@ -63,3 +63,13 @@ pub keeps_to_one : (bytes : List ℕ) (place : Place) (n : ℕ) → IsAt bytes p
 keeps_to_one bytes place n h e more command [] un le begins = refl
 keeps_to_one bytes place n h e more command (x ∷ rest) un le begins =
     absurd (ends_before (ltb (length bytes) (length begins.0)) bytes more begins.0 (x ∷ rest) command place n refl h e un le begins.1 (omega arith) begins.2)
+
+pub is_wanted : (bytes : List ℕ) (place : Place) (n : ℕ) → IsAt bytes place → length bytes < place.at + header_length place.expected → n ≡ max 1 (place.at + header_length place.expected - length bytes) → IsWanted bytes n
+is_wanted bytes place n h lt e = record {
+  less = λ more fewer. let k = length-append bytes more in unfinished (bytes ++ more) place (place_more bytes more place h) (omega arith);
+  just = λ more so_many. let k = length-append bytes more in place_judged bytes more place h (omega arith)
+}
+
+-- where a command stands, or a fault, nothing is wanted
+pub not_with_command : (bytes : List ℕ) (size : ℕ) → HasCommand bytes size → IsUnfinished bytes → ⊥
+not_with_command bytes size has un = un.no_command has.1.0 (drop size bytes) (take size bytes, sym (take-append-drop size bytes), has.1.1)

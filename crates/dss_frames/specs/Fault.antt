@@ -87,3 +87,17 @@ BeginsWith bytes dsss rest = (front : List ℕ) × (bytes ≡ front ++ rest) × 
 pub record IsUnfinished (bytes : List ℕ) : Type 0 where
   pub no_command : (dsss : List Dss) (rest : List ℕ) → BeginsWith bytes dsss rest → ⊥
   pub no_fault : (fault : FrameFault) → FaultAt bytes fault → ⊥
+
+-- how many bytes the header takes that comes next; none behind a whole command
+abbrev pub header_size : Next → ℕ
+header_size (dss_in_turn Nothing) = 0
+header_size (dss_in_turn turn) = 6
+header_size (continuation_of dss declared) = 2
+
+-- the bytes end where a header can be judged, or where a command is whole
+abbrev pub CanBeJudged : List ℕ → Type 0
+CanBeJudged bytes =
+    (front header : List ℕ) × (dsss : List Dss) × (next : Next)
+    × (bytes ≡ front ++ header)
+    × UpTo front dsss next
+    × (length header ≡ header_size next)

@@ -1,12 +1,12 @@
 -- What `Segments::next` hands out, and what the reader is when the borrow ends.
-use Rattle.std.specs.Prelude.{◌≡◌, ◌≤◌, ℕ, Bool, true, false, List, [], ◌++◌, length, Option, Some, None, Result, Ok, Err}
+use Rattle.std.specs.Prelude.{◌≡◌, ◌≤◌, ◌<◌, ℕ, Bool, true, false, List, [], ◌++◌, length, Option, Some, None, Result, Ok, Err}
 use Rattle.std.specs.Borrow.{MutBor, Fml}
 use Rattle.std.specs.Io.BufRead.{Rests}
 use Rattle.dss_frames.specs.contracts.segments.Segments.{the_row}
 use Rattle.dss_frames.specs.declared.fault.FrameFault.{FrameFault}
 use Rattle.dss_frames.specs.declared.group.Group.{Group}
 use Rattle.dss_frames.specs.Dss.{Dss}
-use Rattle.dss_frames.specs.Fault.{FaultAt, BeginsWith, IsUnfinished}
+use Rattle.dss_frames.specs.Fault.{FaultAt, BeginsWith, IsUnfinished, CanBeJudged}
 use Rattle.dss_frames.specs.Group.{command_of}
 use Rattle.dss_frames.specs.Held.{Held}
 
@@ -50,3 +50,9 @@ abbrev pub TakesFront : Held → Result Bool FrameFault → Held → Type 0
 TakesFront old (Ok true) new = TakesCommand old new.last new
 TakesFront old (Ok false) new = WaitsFor old new
 TakesFront old (Err fault) new = FailsAt old fault new
+
+-- Unfinished bytes stay so with less than so many bytes more, and with just so many the next header
+-- can be judged, or the command is whole.
+pub record IsWanted (bytes : List ℕ) (wanted : ℕ) : Type 0 where
+  pub less : (more : List ℕ) → length more < wanted → IsUnfinished (bytes ++ more)
+  pub just : (more : List ℕ) → length more ≡ wanted → CanBeJudged (bytes ++ more)

@@ -48,10 +48,16 @@ pub record IsSettled (items : List ℕ) (lent lent_size start : ℕ) (place : Pl
 abbrev pub HasCommand : List ℕ → ℕ → Type 0
 HasCommand bytes size = (size ≤ length bytes) × ((dsss : List Dss) × IsCommand (take size bytes) dsss)
 
+-- the bytes of the header that comes next
+abbrev pub header_length : Expected → ℕ
+header_length (Header Nothing) = 0
+header_length (Header turn) = 6
+header_length (Continuation format correlator declared) = 2
+
 -- what is found is so
 abbrev pub Finds : List ℕ → Result Found FrameFault → Type 0
 Finds bytes (Ok (found.Command size)) = HasCommand bytes size
-Finds bytes (Ok (found.Nothing place)) = IsUnfinished bytes × IsAt bytes place
+Finds bytes (Ok (found.Nothing place)) = IsUnfinished bytes × IsAt bytes place × (length bytes < place.at + header_length place.expected)
 Finds bytes (Err fault) = FaultAt bytes fault
 
 abbrev pub found_when : Expected → Place → Found
@@ -61,9 +67,3 @@ found_when expected place = found.Nothing place
 -- what is found where no header has come at a place
 abbrev pub found_at : Place → Found
 found_at place = found_when place.expected place
-
--- the bytes of the header that comes next
-abbrev pub header_length : Expected → ℕ
-header_length (Header Nothing) = 0
-header_length (Header turn) = 6
-header_length (Continuation format correlator declared) = 2

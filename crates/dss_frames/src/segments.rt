@@ -11,7 +11,7 @@ use std::marker::Model;
 /// there, and finds the first fault as soon as its header is.
 ///
 /// A command is kept as it came until it is whole. Then the contents of its continuations are moved
-/// down over their headers, and it lies behind `start`, where the bytes not taken yet begin.
+/// down over their headers, and it stays in front of `start`, where the bytes that follow begin.
 #[derive(Drop)]
 pub struct Segments {
     buf: Vec<u8>,
@@ -40,7 +40,8 @@ impl Segments {
     ghost use Rattle.std.specs.Prelude.{◌≡◌, ◌≤◌, ◌<◌, ◌++◌, ◌+◌, [], false, length, take, IsTrue};
     ghost use Rattle.std.specs.Borrow.{sem};
     ghost use Rattle.dss_frames.specs.Group.{command_of};
-    ghost use Rattle.dss_frames.specs.Lending.{EndsAs, Takes, TakesFront, TakesCommand, KeepsToOne};
+    ghost use Rattle.dss_frames.specs.Fault.{IsUnfinished};
+    ghost use Rattle.dss_frames.specs.Lending.{EndsAs, Takes, TakesFront, TakesCommand, KeepsToOne, IsWanted};
     ghost use Rattle.dss_frames.specs.Place.{HasCommand};
 
     /// A reader that holds nothing. It takes no memory before the first bytes come.
@@ -84,9 +85,14 @@ impl Segments {
     /// has a byte of a second command here.
     pub fn wanted(&self) -> usize
         ensures some { 1 ≤ result }
+        ensures exact { IsUnfinished self.now.rest → IsWanted self.now.rest result }
         ensures one_command { KeepsToOne self.now.rest result }
     {
-        missing(self.place, self.rest())
+        match look(self.place, self.rest()) {
+            Ok(Found::Nothing(place)) => missing(place, self.rest()),
+            Ok(Found::Command(_)) => 1,
+            Err(_) => 1,
+        }
     }
 
     /// The next command, where all of it has come; none, where more bytes have to come; or the

@@ -1,7 +1,7 @@
 use Rattle.std.proofs.Common.{rules, ◌≡◌, ◌≤◌, ◌+◌, ◌-◌, ℕ, length, drop, arith, sym, ap, ◌∙◌, Ok, Err, Some, None}
 use Rattle.std.proofs.lemmas.List.{take_rest}
 use Rattle.dss_frames.specs.Judging.{judged}
-use Rattle.dss_frames.proofs.Steps.{place_fault, place_early, place_found, place_next}
+use Rattle.dss_frames.proofs.Steps.{place_fault, place_beyond, place_found, place_next}
 use Rattle.dss_frames.proofs.looking.look.Goals as goal
 
 pub returns-in-Err : goal.returns-in-Err
@@ -29,4 +29,4 @@ judging-preserved c =
     (place_next c.args.bytes.now c.judging.place c.in-Ok-Some.expected c.in-Ok-Some.size c.judging.invariant c.judging-test.true e).2
 
 pub returns : goal.returns
-returns c = (place_early c.args.bytes.now c.judging.place c.judging.invariant c.judging-test.false, c.judging.invariant)
+returns c = place_beyond c.args.bytes.now c.judging.place c.judging.invariant c.judging-test.false
