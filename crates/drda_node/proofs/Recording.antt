@@ -127,7 +127,7 @@ pub front_read : (r0 r1 : Option (List ℕ)) (xs : List ℕ) → length xs ≡ 6
     → Consumes r0 r1 (slice_index xs 0 ∷ slice_index xs 1 ∷ slice_index xs 2 ∷ slice_index xs 3 ∷ slice_index xs 4 ∷ slice_index xs 5 ∷ [])
 front_read r0 r1 xs l took = subst (λ (z : List ℕ). Consumes r0 r1 z) (sym (six xs l)) took
 
-small_four : (a b c d i : ℕ) → a < 256 → b < 256 → c < 256 → d < 256 → slice_index (a ∷ b ∷ c ∷ d ∷ []) i < 256
+pub small_four : (a b c d i : ℕ) → a < 256 → b < 256 → c < 256 → d < 256 → slice_index (a ∷ b ∷ c ∷ d ∷ []) i < 256
 small_four a b c d zero p q r t = p
 small_four a b c d (suc zero) p q r t = q
 small_four a b c d (suc (suc zero)) p q r t = r
@@ -136,12 +136,11 @@ small_four a b c d (suc (suc (suc (suc i)))) p q r t = omega arith
 
 -- the head of an event, and its bytes
 pub received : (r0 r1 r2 : Option (List ℕ)) (head : Head) (k n a b c d size : ℕ) (bytes part : List ℕ) → Consumes r0 r1 (k ∷ n ∷ a ∷ b ∷ c ∷ d ∷ []) → Consumes r1 r2 part
-    → IsHead k n size (Some head) → size ≡ from_be_bytes w32 (a ∷ b ∷ c ∷ d ∷ []) → (a < 256) × (b < 256) × (c < 256) × (d < 256) → size_of head ≤ length bytes → take (size_of head) bytes ≡ part
+    → IsHead k n size (Some head) → to_be_bytes w32 size ≡ a ∷ b ∷ c ∷ d ∷ [] → size_of head ≤ length bytes → take (size_of head) bytes ≡ part
     → Receives r0 r2 (event_of head bytes)
-received r0 r1 r2 head k n a b c d size bytes part first second is size_is small fits same =
-    let length_is : to_be_bytes w32 size ≡ a ∷ b ∷ c ∷ d ∷ [] = be_bytes_4 (a ∷ b ∷ c ∷ d ∷ []) size refl (λ i. small_four a b c d i small.0 small.1 small.2 small.3) size_is in
+received r0 r1 r2 head k n a b c d size bytes part first second is length_is fits same =
     let text : event_text (event_of head bytes) ≡ (k ∷ n ∷ a ∷ b ∷ c ∷ d ∷ []) ++ part =
-    head_is_text head k n size bytes is fits ∙ ap (λ (z : List ℕ). k ∷ n ∷ z ++ take (size_of head) bytes) length_is ∙ ap (λ (z : List ℕ). k ∷ n ∷ a ∷ b ∷ c ∷ d ∷ z) same in
+        head_is_text head k n size bytes is fits ∙ ap (λ (z : List ℕ). k ∷ n ∷ z ++ take (size_of head) bytes) length_is ∙ ap (λ (z : List ℕ). k ∷ n ∷ a ∷ b ∷ c ∷ d ∷ z) same in
     record {
       allowed = head_allowed head k n size bytes is fits;
       consumed = subst (λ (z : List ℕ). Consumes r0 r2 z) (sym text) (Consumes-trans r0 r1 r2 (k ∷ n ∷ a ∷ b ∷ c ∷ d ∷ []) part first second);

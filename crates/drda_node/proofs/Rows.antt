@@ -19,6 +19,19 @@ module _ {X Y : Type 0} (view : X → Y) where
   get_view (x ∷ xs) zero d below = refl
   get_view (x ∷ xs) (suc i) d below = get_view xs i d (omega arith)
 
+  pub below_view : (xs : List X) (i : ℕ) (y : Y) → slice_get (map view xs) i ≡ Some y → i < length xs
+  below_view [] i y is = absurd (cc is)
+  below_view (x ∷ xs) zero y is = omega arith
+  below_view (x ∷ xs) (suc i) y is = let below = below_view xs i y is in omega arith
+
+  pub length_view : (xs : List X) → length (map view xs) ≡ length xs
+  length_view [] = refl
+  length_view (x ∷ xs) = let rest = length_view xs in omega arith
+
+  pub view_push : (xs : List X) (x : X) → map view (xs ++ x ∷ []) ≡ map view xs ++ view x ∷ []
+  view_push [] x = refl
+  view_push (z ∷ xs) x = ap (λ ys. view z ∷ ys) (view_push xs x)
+
   pub view_set : (xs : List X) (i : ℕ) (x : X) (y : Y) → view x ≡ y → map view (slice_set xs i x) ≡ slice_set (map view xs) i y
   view_set xs i x y is = map-set view xs i x ∙ ap (λ z. slice_set (map view xs) i z) is
 

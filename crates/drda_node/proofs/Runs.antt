@@ -82,10 +82,7 @@ pub write_fault : (r0 r r' w0 w w' : Option (List ℕ)) (first between last : Ma
 write_fault None r r' w0 w w' first between last event y so_far received happens wrote = tt
 write_fault (Some input) None r' w0 w w' first between last event y so_far received happens wrote = absurd so_far
 write_fault (Some input) (Some left) None w0 w w' first between last event y so_far received happens wrote = absurd received.consumed
-write_fault (Some input) (Some left) (Some left') w0 w w' first between last event y so_far received happens wrote = (
-  so_far.written ++ y,
-  left',
-  length so_far.written + wrote.0,
-  answered_next first between last input so_far.written left y left' event so_far.answered received.allowed received.consumed happens,
-  appends_front w0 w w' so_far.written y wrote.0 so_far.appended wrote.1,
-)
+write_fault (Some input) (Some left) (Some left') w0 w w' first between last event y so_far received happens wrote =
+    (so_far.written ++ y, left', length so_far.written + wrote.0,
+     answered_next first between last input so_far.written left y left' event so_far.answered received.allowed received.consumed happens,
+     appends_front w0 w w' so_far.written y wrote.0 so_far.appended wrote.1)

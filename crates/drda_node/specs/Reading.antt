@@ -54,3 +54,9 @@ Reads old new (event head) bytes = Receives old new (event_of head bytes)
 Reads old new Ended bytes = IfSome old (λ left. left ≡ [])
 Reads old new Bad bytes = IfSome old IsBad
 Reads old new Fault bytes = Unit {0}
+
+abbrev pub IsWithin : Incoming → Type 0
+IsWithin (event head) = size_of head ≤ 65536
+IsWithin Ended = Unit {0}
+IsWithin Bad = Unit {0}
+IsWithin Fault = Unit {0}

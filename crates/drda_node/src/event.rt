@@ -1,6 +1,7 @@
 //! The head of an event's record: what it is, and of which conversation.
 
-ghost use Rattle.std.specs.Prelude.{◌≡◌, ◌++◌, ◌<◌, ◌^◌, OnOk, length};
+ghost use Rattle.std.specs.Prelude.{◌≡◌, ◌∷◌, [], ◌++◌, ◌<◌, ◌^◌, OnOk, length};
+ghost use Rattle.std.specs.Int.{w32, to_be_bytes, from_be_bytes};
 ghost use Rattle.drda_node.specs.Reading.{IsHead};
 ghost use Rattle.drda_node.specs.Records.{record_text};
 
@@ -39,13 +40,16 @@ pub(crate) fn head_of(kind: u8, number: u8, size: usize) -> Option<Head>
     }
 }
 
+/// The number that four bytes spell, the highest first.
+pub(crate) fn number_in(first: u8, second: u8, third: u8, fourth: u8) -> u32
+    ensures spells { to_be_bytes w32 result ≡ first ∷ second ∷ third ∷ fourth ∷ [] }
+    ensures value { result ≡ from_be_bytes w32 (first ∷ second ∷ third ∷ fourth ∷ []) }
+{
+    u32::from_be_bytes([first, second, third, fourth])
+}
+
 /// Appends a record.
-pub(crate) fn push_record(
-    text: &mut Vec<u8>,
-    kind: u8,
-    number: u8,
-    contents: &[u8],
-) -> Result<(), AllocError>
+pub(crate) fn push_record(text: &mut Vec<u8>, kind: u8, number: u8, contents: &[u8]) -> Result<(), AllocError>
     requires { length contents.now < 2 ^ 32 }
     ensures { OnOk result (text.new.items ≡ text.old.items ++ record_text kind number contents.now) }
 {

@@ -2,11 +2,13 @@
 
 ghost use Rattle.drda_node.specs.Feeding.{IsSettled};
 
-use crate::fed::Fed;
-use crate::talking::converse;
+use std::alloc::{AllocError, Global};
+
 use conversation::{Front, Settings};
 use dss_frames::stays_read;
-use std::alloc::{AllocError, Global};
+
+use crate::fed::Fed;
+use crate::talking::converse;
 
 /// A place for a conversation, with the number that was given to the one that stands there.
 #[derive(Drop)]

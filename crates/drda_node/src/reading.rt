@@ -1,10 +1,11 @@
 //! Reading events from a stream of records.
 
 ghost use Rattle.std.specs.Prelude.{◌≡◌, length};
-ghost use Rattle.drda_node.specs.Reading.{Fills, Reads};
+ghost use Rattle.drda_node.specs.Reading.{Fills, IsWithin, Reads};
 
-use crate::event::{Head, head_of};
 use std::io::Read;
+
+use crate::event::{Head, head_of, number_in};
 
 /// How a buffer was filled.
 #[derive(Clone, Copy, Debug, PartialEq, Eq)]
@@ -51,7 +52,8 @@ fn fill<R: Read>(reader: &mut R, buffer: &mut [u8]) -> Filled
 /// Reads an event. A record is judged by its first six bytes, before its others are read.
 pub(crate) fn read_event<R: Read>(reader: &mut R, buffer: &mut [u8]) -> Incoming
     requires { length buffer.old ≡ 65536 }
-    ensures { Reads (R.remaining reader.old) (R.remaining reader.new) result buffer.new }
+    ensures reads { Reads (R.remaining reader.old) (R.remaining reader.new) result buffer.new }
+    ensures within { IsWithin result }
 {
     let mut front = [0u8; 6];
     match fill(reader, &mut front) {
@@ -61,7 +63,7 @@ pub(crate) fn read_event<R: Read>(reader: &mut R, buffer: &mut [u8]) -> Incoming
         Filled::Fault => return Incoming::Fault,
     }
     let [kind, number, a, b, c, d] = front;
-    let Some(head) = head_of(kind, number, u32::from_be_bytes([a, b, c, d]) as usize) else {
+    let Some(head) = head_of(kind, number, number_in(a, b, c, d) as usize) else {
         return Incoming::Bad;
     };
     if let Head::Sends(_, size) = head {

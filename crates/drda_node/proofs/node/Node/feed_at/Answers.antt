@@ -1,8 +1,9 @@
 use Rattle.std.proofs.Common.{◌≡◌, ℕ, List, Some, ap, ◌∙◌, sym, subst}
 use Rattle.conversation.specs.Service.{Service}
 use Rattle.drda_node.specs.Feeding.{shown_held, Takes}
+use Rattle.drda_node.specs.declared.place.Place.{Place}
 use Rattle.drda_node.specs.Register.{shown, number_of}
-use Rattle.drda_node.proofs.Rows.{view_at, view_set, view_kept, shows_open, open_shows, same_row, same_numbers}
+use Rattle.drda_node.proofs.Rows.{below_view, view_at, view_set, view_kept, shows_open, open_shows, same_row, same_numbers}
 use Rattle.drda_node.proofs.node.Node.feed_at.Goals as goal
 
 pub returns-clause-feeds : goal.returns-clause-feeds
@@ -13,7 +14,7 @@ returns-clause-feeds c =
     let (h, here) = c.requires in
     let is : shown place ≡ Some h = ap shown c.index_mut.ensures.value ∙ view_at shown items c.args.place place (Some h) here in
     let shows = open_shows place (shows_open place h is) in
-    let service : place.front.service ≡ c.args.self.now.settings = ? in
+    let service : place.front.service ≡ c.args.self.now.settings = ap (λ (p : Place). p.front.service) c.index_mut.ensures.value ∙ c.args.self.now.alike c.args.place place (below_view shown items c.args.place (Some h) here) in
     record {
       before = shown_held place.front;
       after = shown_held new.front;

@@ -6,6 +6,6 @@ use Rattle.drda_node.proofs.node.Node.start.Given as goal
 abbrev pub invariant-loop : goal.invariant-loop
 invariant-loop l = record {
   count : length l.places.items ≡ l.counter;
-  alike : AllServe l.settings l.places.items;
+  alike : AllServe l.fn.settings l.places.items;
   free : map shown l.places.items ≡ replicate l.counter None;
 }

@@ -1,0 +1,42 @@
+use Rattle.std.proofs.Common.{◌≡◌, ◌<◌, ◌≤◌, ℕ, true, Some, None, Err, length, slice_get, refl, sym, subst, ap, ◌∙◌, arith}
+use Rattle.std.specs.Prelude.{IfOk, OnErr}
+use Rattle.drda_node.specs.declared.node.Node.{Node}
+use Rattle.drda_node.specs.Machine.{is_full}
+use Rattle.drda_node.specs.Register.{shown, machine, register, Opens}
+use Rattle.drda_node.proofs.Rows.{length_view, full_when, not_full}
+use Rattle.drda_node.proofs.node.Node.open_conversation.Goals as goal
+
+pub returns-then-is_free-clause-opened : goal.returns-then-is_free-clause-opened
+returns-then-is_free-clause-opened c =
+    subst (λ (n : Node). IfOk c.open_at.result (λ id. Opens (machine n) (register n) id (machine c.open_at.new.self) (register c.open_at.new.self))) c.loop-place.invariant.same c.open_at.ensures.opened
+
+pub returns-then-is_free-clause-refused : goal.returns-then-is_free-clause-refused
+returns-then-is_free-clause-refused c =
+    subst (λ (n : Node). OnErr c.open_at.result (machine c.open_at.new.self ≡ machine n)) c.loop-place.invariant.same c.open_at.ensures.refused
+
+pub returns-then-is_free-clause-none_given : goal.returns-then-is_free-clause-none_given
+returns-then-is_free-clause-none_given c =
+    subst (λ (n : Node). OnErr c.open_at.result (register c.open_at.new.self ≡ register n)) c.loop-place.invariant.same c.open_at.ensures.none_given
+
+pub returns-then-is_free-clause-too_many : goal.returns-then-is_free-clause-too_many
+returns-then-is_free-clause-too_many c =
+    let free = c.is_free.ensures.0 c.if-is_free.true in
+    (
+      λ many. absurd (c.open_at.ensures.not_full many),
+      λ full. absurd (not_full (machine c.loop-place.self).row c.loop-place.place free (subst (λ (n : Node). is_full (machine n) ≡ true) (sym c.loop-place.invariant.same) full))
+    )
+
+pub returns-clause-refused : goal.returns-clause-refused
+returns-clause-refused c = ap machine c.loop-place.invariant.same
+
+pub returns-clause-none_given : goal.returns-clause-none_given
+returns-clause-none_given c = ap register c.loop-place.invariant.same
+
+pub returns-clause-too_many : goal.returns-clause-too_many
+returns-clause-too_many c =
+    let count : length (machine c.loop-place.self).row ≡ 64 = length_view shown c.loop-place.self.places.items ∙ c.loop-place.self.sixty_four in
+    let full = full_when (machine c.loop-place.self).row (λ k below free. let under : k < c.loop-place.place = omega (arith, below, count, c.loop-place-test.false) in c.loop-place.invariant.taken k under free) in
+    (
+      λ many. subst (λ (n : Node). is_full (machine n) ≡ true) c.loop-place.invariant.same full,
+      λ all. refl
+    )
