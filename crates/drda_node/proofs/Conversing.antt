@@ -2,7 +2,7 @@
 use Rattle.std.proofs.Common.{◌≡◌, ℕ, Bool, true, false, List, [], ◌∷◌, ◌++◌, Option, Some, None, Result, Ok, Err, if◌then◌else◌, refl, sym, ap, subst, ◌∙◌, append_assoc, append-nil, inl, inr}
 use Rattle.dss_frames.specs.Dss.{Dss}
 use Rattle.dss_frames.specs.declared.fault.FrameFault.{FrameFault}
-use Rattle.dss_frames.specs.Fault.{BeginsWith, FaultAt, IsUnfinished}
+use Rattle.dss_frames.specs.Fault.{BeginsWith, FaultAt}
 use Rattle.dss_frames.specs.Reading.{End, unfinished, faulty, Reads}
 use Rattle.conversation.specs.declared.talk.Talk.{Talk}
 use Rattle.conversation.specs.declared.refusal.Refusal.{Refusal}
@@ -17,9 +17,9 @@ use Rattle.conversation.specs.Judge.{Order, judged}
 use Rattle.conversation.specs.declared.talk.Mechanism.{Mechanism}
 use Rattle.conversation.specs.Service.{Service}
 use Rattle.conversation.specs.Turn.{Answer, Outcome, turned, excused, answered, asked_for, is_ours, mechanism_for, bytes_of, accsec_done, accrdb_done, command_done, contents_of}
-use Rattle.conversation.specs.Steps.{Does, DoesAll, Ends, Converses, closed}
+use Rattle.conversation.specs.Steps.{Does, DoesAll, Ends, Converses}
 use Rattle.drda_node.specs.Machine.{Conversation}
-use Rattle.drda_node.specs.Hearing.{Hears, Listens, HearsNothing}
+use Rattle.drda_node.specs.Hearing.{Hears}
 
 -- ---- a command leaves a conversation open, or closed
 
@@ -34,12 +34,12 @@ asked_closed talk None = refl
 accsec_closed : (service : Service) (talk : Talk) (secmec rdbnam : Occurs) → (accsec_done service talk secmec rdbnam).talk.is_closed ≡ talk.is_closed
 accsec_closed service talk secmec rdbnam =
     either_answer (is_ours service talk.agreed.unicode rdbnam) talk.is_closed (asked_for talk (mechanism_for (bytes_of secmec))) (record { talk = talk; reply = rdb_not_found (bytes_of rdbnam) })
-        (asked_closed talk (mechanism_for (bytes_of secmec))) refl
+    (asked_closed talk (mechanism_for (bytes_of secmec))) refl
 
 accrdb_closed : (service : Service) (talk : Talk) (rdbnam : Occurs) → (accrdb_done service talk rdbnam).talk.is_closed ≡ talk.is_closed
 accrdb_closed service talk rdbnam =
     either_answer (is_ours service talk.agreed.unicode rdbnam) talk.is_closed (record { talk = record talk { stage = Opened }; reply = accrdbrm talk.agreed.unicode })
-        (record { talk = talk; reply = rdb_not_found (bytes_of rdbnam) }) refl refl
+    (record { talk = talk; reply = rdb_not_found (bytes_of rdbnam) }) refl refl
 
 command_closed : (service : Service) (talk : Talk) (command : Command) (given : Given) → (command_done service talk command given).talk.is_closed ≡ talk.is_closed
 command_closed service talk Excsat given = refl
@@ -149,7 +149,7 @@ module _ (service : Service) (fault_more : (bytes more : List ℕ) (fault : Fram
   })
   hears_then a b c p q x y (inl f) (inr g) =
       let longer : Converses service a.talk (a.rest ++ (p ++ q)) x b.rest b.talk = subst (λ (z : List ℕ). Converses service a.talk z x b.rest b.talk) (append_assoc a.rest p q)
-          (converses_closed a.talk b.talk (a.rest ++ p) q x b.rest f.still_open g.closed f.converses) in
+      (converses_closed a.talk b.talk (a.rest ++ p) q x b.rest f.still_open g.closed f.converses) in
       let silent : x ≡ x ++ y = sym (append-nil x) ∙ ap (λ (z : List ℕ). x ++ z) (sym g.silent) in
       inl (record {
         still_open = f.still_open;

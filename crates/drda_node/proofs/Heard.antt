@@ -53,7 +53,7 @@ module _ (fault_more : (bytes more : List ℕ) (fault : FrameFault) → FaultAt 
       let both : Some f.before ≡ Some between = one_value (slice_get mid.row place) (Some f.before) (Some between) f.was now in
       let same : f.before ≡ between = cc both in
       let here : Told old.service f.before (take fed.taken (drop taken bytes)) outm (bytes_behind fed.state) f.after out' =
-          subst (λ (m : Machine). Told m.service f.before (take fed.taken (drop taken bytes)) outm (bytes_behind fed.state) f.after out') h.row f.takes.told in
+      subst (λ (m : Machine). Told m.service f.before (take fed.taken (drop taken bytes)) outm (bytes_behind fed.state) f.after out') h.row f.takes.told in
       let next : Told old.service between (take fed.taken (drop taken bytes)) outm (bytes_behind fed.state) f.after out' = subst (λ (c : Conversation). Told old.service c (take fed.taken (drop taken bytes)) outm (bytes_behind fed.state) f.after out') same here in
       record {
         before = h.before;

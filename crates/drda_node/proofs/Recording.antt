@@ -1,15 +1,15 @@
 -- The text of an event's record, and what is none.
-use Rattle.std.proofs.Common.{◌≡◌, ◌≢◌, ◌≤◌, ◌<◌, ◌+◌, ◌^◌, ℕ, zero, suc, List, [], ◌∷◌, ◌++◌, length, take, drop, slice_index, Option, Some, None, refl, sym, ap, subst, ◌∙◌, arith, length-append, append-nil, append_assoc}
+use Rattle.std.proofs.Common.{◌≡◌, ◌≤◌, ◌<◌, ◌+◌, ℕ, zero, suc, List, [], ◌∷◌, ◌++◌, length, take, drop, slice_index, Option, Some, None, refl, sym, ap, subst, ◌∙◌, arith, length-append, append-nil}
 use Rattle.std.specs.Prelude.{IfSome}
 use Rattle.std.specs.Int.{w32, to_be_bytes, from_be_bytes}
 use Rattle.std.specs.Io.KnownBytes.{Consumes, IsAtEnd}
 use Rattle.std.proofs.KnownBytes.{Consumes-trans}
 use Rattle.std.proofs.lemmas.List.{length-take-le}
-use Rattle.std.proofs.lemmas.Nat.{from_be_bytes-to_be_bytes_4, be_bytes_4}
+use Rattle.std.proofs.lemmas.Nat.{from_be_bytes-to_be_bytes_4}
 use Rattle.drda_node.specs.declared.event.Head.{Head}
 use Rattle.drda_node.specs.declared.event.Head.TheVariants.{Opens, Sends, Loses, Checkpoints}
 use Rattle.drda_node.specs.Records.{Event, opens, sends, loses, checkpoints, event_text, record_text, IsAllowed, IsBad}
-use Rattle.drda_node.specs.Reading.{IsHead, NoHead, event_of, size_of, Receives}
+use Rattle.drda_node.specs.Reading.{IsHead, event_of, size_of, Receives}
 
 same_text : (k kind m number s size : ℕ) (rest more : List ℕ) → k ≡ kind → m ≡ number → s ≡ size → rest ≡ more
     → k ∷ m ∷ to_be_bytes w32 s ++ rest ≡ kind ∷ number ∷ to_be_bytes w32 size ++ more
@@ -140,7 +140,7 @@ pub received : (r0 r1 r2 : Option (List ℕ)) (head : Head) (k n a b c d size : 
     → Receives r0 r2 (event_of head bytes)
 received r0 r1 r2 head k n a b c d size bytes part first second is length_is fits same =
     let text : event_text (event_of head bytes) ≡ (k ∷ n ∷ a ∷ b ∷ c ∷ d ∷ []) ++ part =
-        head_is_text head k n size bytes is fits ∙ ap (λ (z : List ℕ). k ∷ n ∷ z ++ take (size_of head) bytes) length_is ∙ ap (λ (z : List ℕ). k ∷ n ∷ a ∷ b ∷ c ∷ d ∷ z) same in
+    head_is_text head k n size bytes is fits ∙ ap (λ (z : List ℕ). k ∷ n ∷ z ++ take (size_of head) bytes) length_is ∙ ap (λ (z : List ℕ). k ∷ n ∷ a ∷ b ∷ c ∷ d ∷ z) same in
     record {
       allowed = head_allowed head k n size bytes is fits;
       consumed = subst (λ (z : List ℕ). Consumes r0 r2 z) (sym text) (Consumes-trans r0 r1 r2 (k ∷ n ∷ a ∷ b ∷ c ∷ d ∷ []) part first second);

@@ -1,6 +1,6 @@
 -- Events of conversations that are not open.
-use Rattle.std.proofs.Common.{◌≡◌, ◌↔◌, ℕ, Bool, true, false, List, Option, Some, None, Result, Ok, Err, refl}
-use Rattle.std.specs.Prelude.{OnOk, IsTrue}
+use Rattle.std.proofs.Common.{◌≡◌, ℕ, List, Option, Some, None, Result, Ok, Err, refl}
+use Rattle.std.specs.Prelude.{OnOk}
 use Rattle.drda_node.specs.Machine.{Conversation, Machine}
 use Rattle.drda_node.specs.Happening.{LosesAt, SendsAt, refusal}
 

@@ -1,8 +1,8 @@
 -- A run so far, one event further on, and at its end.
 use Rattle.std.proofs.Common.{◌≡◌, ℕ, ◌+◌, List, [], ◌∷◌, ◌++◌, length, take, Option, Some, None, refl, sym, ap, subst, ◌∙◌, append_assoc, append-nil, arith}
 use Rattle.std.specs.Prelude.{IfSome, MatchOption}
-use Rattle.std.specs.List.{All, flat_map}
-use Rattle.std.specs.Io.KnownBytes.{Appends, Consumes}
+use Rattle.std.specs.List.{flat_map}
+use Rattle.std.specs.Io.KnownBytes.{Appends}
 use Rattle.std.proofs.KnownBytes.{Appends-nil, Appends-trans}
 use Rattle.std.proofs.lemmas.List.{flat_map_more}
 use Rattle.std.proofs.Math.Seq.{take-append-add}
@@ -82,7 +82,10 @@ pub write_fault : (r0 r r' w0 w w' : Option (List ℕ)) (first between last : Ma
 write_fault None r r' w0 w w' first between last event y so_far received happens wrote = tt
 write_fault (Some input) None r' w0 w w' first between last event y so_far received happens wrote = absurd so_far
 write_fault (Some input) (Some left) None w0 w w' first between last event y so_far received happens wrote = absurd received.consumed
-write_fault (Some input) (Some left) (Some left') w0 w w' first between last event y so_far received happens wrote =
-    (so_far.written ++ y, left', length so_far.written + wrote.0,
-     answered_next first between last input so_far.written left y left' event so_far.answered received.allowed received.consumed happens,
-     appends_front w0 w w' so_far.written y wrote.0 so_far.appended wrote.1)
+write_fault (Some input) (Some left) (Some left') w0 w w' first between last event y so_far received happens wrote = (
+  so_far.written ++ y,
+  left',
+  length so_far.written + wrote.0,
+  answered_next first between last input so_far.written left y left' event so_far.answered received.allowed received.consumed happens,
+  appends_front w0 w w' so_far.written y wrote.0 so_far.appended wrote.1,
+)

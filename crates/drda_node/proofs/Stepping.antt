@@ -1,5 +1,5 @@
 -- One step of a conversation, and the next.
-use Rattle.std.proofs.Common.{◌≡◌, ◌==◌, ◌⊎◌, Bool, zero, suc, ◌≤◌, ◌<◌, ◌+◌, ◌-◌, ℕ, true, false, List, [], ◌∷◌, ◌++◌, length, take, drop, min, refl, sym, ap, subst, ◌∙◌, append_assoc, append-nil, inl, inr, arith}
+use Rattle.std.proofs.Common.{◌≡◌, ◌⊎◌, Bool, zero, suc, ◌≤◌, ◌<◌, ◌+◌, ◌-◌, ℕ, true, false, List, [], ◌∷◌, ◌++◌, length, take, drop, min, refl, sym, ap, subst, ◌∙◌, append_assoc, append-nil, inl, inr, arith}
 use Rattle.std.proofs.Math.Seq.{take-add}
 use Rattle.std.proofs.lemmas.List.{take-take, length-take-le, length-take, length-drop}
 use Rattle.dss_frames.specs.Dss.{Dss}
@@ -13,7 +13,7 @@ use Rattle.conversation.specs.Service.{Service}
 use Rattle.conversation.specs.Held.{Held}
 use Rattle.conversation.specs.Replies.{fault_bytes}
 use Rattle.conversation.specs.Turn.{turned, excused}
-use Rattle.conversation.specs.Steps.{Steps, Converses, KeepsToOne, closed}
+use Rattle.conversation.specs.Steps.{Steps, Converses, KeepsToOne}
 use Rattle.drda_node.specs.Machine.{Conversation}
 use Rattle.drda_node.specs.Hearing.{Hears}
 use Rattle.drda_node.specs.declared.fed.Fed.{Fed}
@@ -174,13 +174,13 @@ module _ (nothing : IsUnfinished []) where
   handed old fed part out count need new out' settled keeps is within none s =
       let few : length (take count part) ≡ count = length-take-le count part within in
       steps old (take count part) out (length part) need new out' settled (λ shut. ap (λ (n : ℕ). take n part) (none shut)) keeps (omega (arith, few, within))
-          (subst (λ (h : Held). Steps h out need new out') is s)
+      (subst (λ (h : Held). Steps h out need new out') is s)
 
 module _ (service : Service) (fault_more : (bytes more : List ℕ) (fault : FrameFault) → FaultAt bytes fault → FaultAt (bytes ++ more) fault) where
   pub told_then : (a b c : Conversation) (p q out extra out' out'' : List ℕ) → Told service a p out [] b out' → Told service b q out' extra c out'' → Told service a (p ++ q) out extra c out''
   told_then a b c p q out extra out' out'' first second =
       let said : (first.replies ++ []) ++ (second.replies ++ extra) ≡ (first.replies ++ second.replies) ++ extra =
-          ap (λ (z : List ℕ). z ++ (second.replies ++ extra)) (append-nil first.replies) ∙ sym (append_assoc first.replies second.replies extra) in
+      ap (λ (z : List ℕ). z ++ (second.replies ++ extra)) (append-nil first.replies) ∙ sym (append_assoc first.replies second.replies extra) in
       record {
         replies = first.replies ++ second.replies;
         appended = second.appended ∙ ap (λ (z : List ℕ). z ++ second.replies) first.appended ∙ append_assoc out first.replies second.replies;
@@ -250,7 +250,7 @@ module _ (service : Service) (fault_more : (bytes more : List ℕ) (fault : Fram
       let length_of : length (take size (drop taken piece)) ≡ min size (length (drop taken piece)) = length-take size (drop taken piece) in
       let few : fed.taken ≤ size = omega (arith, length_of, more.within) in
       subst (λ (z : List ℕ). Told service a z out (bytes_behind fed.state) c out2) (more_taken piece taken size fed.taken few)
-          (told_then service fault_more a b c (take taken piece) (take fed.taken (take size (drop taken piece))) out (bytes_behind fed.state) out1 out2 told more.told)
+      (told_then service fault_more a b c (take taken piece) (take fed.taken (take size (drop taken piece))) out (bytes_behind fed.state) out1 out2 told more.told)
 
 -- so many bytes were taken, and no more than there are
 pub within_piece : (piece : List ℕ) (taken size count : ℕ) → taken ≤ length piece → count ≤ length (take size (drop taken piece)) → taken + count ≤ length piece

@@ -1,5 +1,5 @@
 -- What a conversation answers to bytes.
-use Rattle.std.specs.Prelude.{◌≡◌, ◌⊎◌, ℕ, Bool, true, false, List, [], ◌++◌, Some, slice_get}
+use Rattle.std.specs.Prelude.{◌≡◌, ◌⊎◌, ℕ, true, false, List, [], ◌++◌, Some, slice_get}
 use Rattle.conversation.specs.Service.{Service}
 use Rattle.conversation.specs.Steps.{Converses}
 use Rattle.drda_node.specs.Machine.{Conversation, Machine, with_place}

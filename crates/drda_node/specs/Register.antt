@@ -1,5 +1,5 @@
 -- Which conversation is meant: a place, and the number that was given to the one that stands there.
-use Rattle.std.specs.Prelude.{◌≡◌, ℕ, ◌+◌, List, map, Option, Some, None, true, false, slice_get, slice_set, if◌then◌else◌}
+use Rattle.std.specs.Prelude.{◌≡◌, ℕ, ◌+◌, List, map, Option, Some, None, slice_get, slice_set, if◌then◌else◌}
 use Rattle.drda_node.specs.declared.node.Node.{Node}
 use Rattle.drda_node.specs.declared.place.Place.{Place}
 use Rattle.drda_node.specs.declared.node.ConversationId.{ConversationId}

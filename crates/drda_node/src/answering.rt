@@ -8,25 +8,30 @@ ghost use Rattle.drda_node.specs.Reading.{event_of, size_of};
 ghost use Rattle.drda_node.specs.Happening.{Happens, refusal, closing};
 ghost use Rattle.drda_node.specs.Register.{machine};
 
-use std::alloc::AllocError;
-
-use dss_frames::stays_read;
-
 use crate::event::{Head, push_record};
 use crate::fed::FedState;
 use crate::node::{Done, Node};
+use dss_frames::stays_read;
+use std::alloc::AllocError;
 
 /// Kinds of records that go out.
 const OPENED: u8 = 1;
+
 const REPLIES: u8 = 2;
+
 const LOST: u8 = 3;
+
 const CHECKPOINTED: u8 = 4;
+
 const CLOSED: u8 = 5;
+
 const REFUSED: u8 = 6;
 
 /// Why an event is refused.
 const CANNOT_OPEN: u8 = 1;
+
 const NOT_OPEN: u8 = 2;
+
 const NO_MEMORY: u8 = 3;
 
 fn refuse(text: &mut Vec<u8>, number: u8, reason: u8) -> Result<(), AllocError>
@@ -37,7 +42,13 @@ fn refuse(text: &mut Vec<u8>, number: u8, reason: u8) -> Result<(), AllocError>
 
 /// Does an event, its bytes to the front of `bytes`, and writes the records that answer it in place of
 /// what the text was; `replies` is room. For want of memory nothing is said of the text.
-pub(crate) fn answer(node: &mut Node, head: Head, bytes: &[u8], replies: &mut Vec<u8>, text: &mut Vec<u8>) -> Result<(), AllocError>
+pub(crate) fn answer(
+    node: &mut Node,
+    head: Head,
+    bytes: &[u8],
+    replies: &mut Vec<u8>,
+    text: &mut Vec<u8>,
+) -> Result<(), AllocError>
     requires { size_of head ≤ length bytes.now }
     ensures { OnOk result (Happens (machine node.old) (event_of head bytes.now) text.new.items (machine node.new)) }
 {
@@ -67,7 +78,13 @@ fn answer_open(node: &mut Node, number: u8, text: &mut Vec<u8>) -> Result<(), Al
     }
 }
 
-fn answer_bytes(node: &mut Node, number: u8, bytes: &[u8], replies: &mut Vec<u8>, text: &mut Vec<u8>) -> Result<(), AllocError>
+fn answer_bytes(
+    node: &mut Node,
+    number: u8,
+    bytes: &[u8],
+    replies: &mut Vec<u8>,
+    text: &mut Vec<u8>,
+) -> Result<(), AllocError>
     requires { text.old.items ≡ [] }
     ensures { OnOk result (Happens (machine node.old) (sends number bytes.now) text.new.items (machine node.new)) }
 {
@@ -101,7 +118,12 @@ fn answer_lost(node: &mut Node, number: u8, text: &mut Vec<u8>) -> Result<(), Al
 
 /// Gives a conversation all of these bytes, and appends its replies, those that say that a command
 /// found no memory among them. Says whether the conversation is closed then.
-fn feed_all(node: &mut Node, place: usize, bytes: &[u8], replies: &mut Vec<u8>) -> Result<bool, AllocError>
+fn feed_all(
+    node: &mut Node,
+    place: usize,
+    bytes: &[u8],
+    replies: &mut Vec<u8>,
+) -> Result<bool, AllocError>
     requires { IsOpen (machine node.old) place }
     ensures { IfOk result (λ is_closed. (after : Conversation) × (written : List ℕ)
         × (replies.new.items ≡ replies.old.items ++ written)

@@ -49,7 +49,12 @@ pub(crate) fn number_in(first: u8, second: u8, third: u8, fourth: u8) -> u32
 }
 
 /// Appends a record.
-pub(crate) fn push_record(text: &mut Vec<u8>, kind: u8, number: u8, contents: &[u8]) -> Result<(), AllocError>
+pub(crate) fn push_record(
+    text: &mut Vec<u8>,
+    kind: u8,
+    number: u8,
+    contents: &[u8],
+) -> Result<(), AllocError>
     requires { length contents.now < 2 ^ 32 }
     ensures { OnOk result (text.new.items ≡ text.old.items ++ record_text kind number contents.now) }
 {

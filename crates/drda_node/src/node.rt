@@ -3,13 +3,11 @@
 ghost use Rattle.std.specs.Prelude.{◌≡◌, length};
 ghost use Rattle.drda_node.specs.Sharing.{AllServe};
 
-use std::alloc::{AllocError, Global};
-
-use conversation::Settings;
-use thiserror::Error;
-
 use crate::fed::Fed;
 use crate::place::Place;
+use conversation::Settings;
+use std::alloc::{AllocError, Global};
+use thiserror::Error;
 
 /// How many conversations can be open at a time.
 const PLACES: usize = 64;

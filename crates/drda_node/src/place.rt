@@ -2,13 +2,11 @@
 
 ghost use Rattle.drda_node.specs.Feeding.{IsSettled};
 
-use std::alloc::{AllocError, Global};
-
-use conversation::{Front, Settings};
-use dss_frames::stays_read;
-
 use crate::fed::Fed;
 use crate::talking::converse;
+use conversation::{Front, Settings};
+use dss_frames::stays_read;
+use std::alloc::{AllocError, Global};
 
 /// A place for a conversation, with the number that was given to the one that stands there.
 #[derive(Drop)]

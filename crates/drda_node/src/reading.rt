@@ -3,9 +3,8 @@
 ghost use Rattle.std.specs.Prelude.{◌≡◌, length};
 ghost use Rattle.drda_node.specs.Reading.{Fills, IsWithin, Reads};
 
-use std::io::Read;
-
 use crate::event::{Head, head_of, number_in};
+use std::io::Read;
 
 /// How a buffer was filled.
 #[derive(Clone, Copy, Debug, PartialEq, Eq)]

@@ -4,14 +4,13 @@ ghost use Rattle.std.specs.Prelude.{IfSome};
 ghost use Rattle.drda_node.specs.Register.{machine};
 ghost use Rattle.drda_node.specs.Serving.{Runs};
 
-use std::alloc::{AllocError, Global};
-use std::io::{Read, Write};
-
 use crate::answering::answer;
 use crate::event::LARGEST;
 use crate::node::Node;
 use crate::reading::{Incoming, read_event};
 use crate::writing::put;
+use std::alloc::{AllocError, Global};
+use std::io::{Read, Write};
 
 /// How a run ended.
 #[derive(Clone, Copy, Debug, PartialEq, Eq)]
@@ -33,7 +32,12 @@ pub enum RunEnd {
 /// What is written is what the machine answers: on Ended to exactly the events of the input, and
 /// nothing stands behind them; on BadEvent to exactly the events in front of what is no event; on
 /// ReadFault and NoMemory to some events in front; on WriteFault a front of such answers.
-pub fn run<R: Read, W: Write>(alloc: Global, node: &mut Node, reader: &mut R, writer: &mut W) -> RunEnd
+pub fn run<R: Read, W: Write>(
+    alloc: Global,
+    node: &mut Node,
+    reader: &mut R,
+    writer: &mut W,
+) -> RunEnd
     ensures { IfSome (R.remaining reader.old) (λ input.
         Runs (machine node.old) input (W.contents writer.old) result (W.contents writer.new) (machine node.new)) }
 {

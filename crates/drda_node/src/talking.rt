@@ -4,10 +4,9 @@ ghost use Rattle.std.specs.Prelude.{◌≡◌, ◌≤◌, ◌+◌, length, vec_l
 ghost use Rattle.conversation.specs.Steps.{KeepsToOne};
 ghost use Rattle.drda_node.specs.Feeding.{IsSettled, Takes, shown_held, state_for};
 
+use crate::fed::{Fed, FedState};
 use conversation::{Front, Need};
 use dss_frames::stays_read;
-
-use crate::fed::{Fed, FedState};
 
 /// Gives a conversation bytes and does each command that is whole. It hands on no more bytes than the
 /// command under way still wants, so that what is taken was answered or belongs to one command.
@@ -65,13 +64,7 @@ fn state_of(need: Need, all: bool) -> FedState
     ensures { result ≡ state_for need all }
 {
     match need {
-        Need::Bytes | Need::Local => {
-            if all {
-                FedState::Open
-            } else {
-                FedState::Later
-            }
-        }
+        Need::Bytes | Need::Local => { if all { FedState::Open } else { FedState::Later } }
         Need::Short(bytes) => FedState::Short(bytes),
         Need::Closed => FedState::Closed,
     }

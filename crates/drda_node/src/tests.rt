@@ -42,7 +42,12 @@ fn answers_streams_of_events(rt: HostRuntime) -> Result<(), Fail> {
 }
 
 // An open conversation, these bytes of it, and what answers them.
-fn exchange(alloc: Global, bytes: &[u8], reply: &[u8], closed: bool) -> Result<(Vec<u8>, Vec<u8>), Fail> {
+fn exchange(
+    alloc: Global,
+    bytes: &[u8],
+    reply: &[u8],
+    closed: bool,
+) -> Result<(Vec<u8>, Vec<u8>), Fail> {
     let size = u8::try_from(bytes.len()).ok().ok_or("a short text")?;
     let reply_size = u8::try_from(reply.len()).ok().ok_or("a short reply")?;
     let mut input = Vec::from_slice(alloc, &[1, 7, 0, 0, 0, 0, 2, 7, 0, 0, 0, size])?;
@@ -89,7 +94,13 @@ fn opens_sixty_four_conversations(rt: HostRuntime) -> Result<(), Fail> {
     let mut out = Vec::new(rt.alloc());
     assert!(rt; node.is_open(first));
     let fed = node.feed(first, COMMAND, &mut out);
-    assert_eq!(rt; fed, Fed { taken: 10, state: FedState::Open });
+    assert_eq!(rt;
+        fed,
+        Fed {
+            taken: 10,
+            state: FedState::Open
+        }
+    );
     assert_eq!(rt; out.as_slice(), REPLY);
     assert!(rt; node.is_open(first));
     node.lost(first);
@@ -103,12 +114,14 @@ fn opens_sixty_four_conversations(rt: HostRuntime) -> Result<(), Fail> {
 #[test]
 fn refuses_events_of_other_numbers(rt: HostRuntime) -> Result<(), Fail> {
     let input = [
-        1, 64, 0, 0, 0, 0, 2, 5, 0, 0, 0, 1, 9, 3, 5, 0, 0, 0, 0, 1, 5, 0, 0, 0, 0, 1, 5, 0, 0, 0, 0, 3,
-        255, 0, 0, 0, 0, 4, 200, 0, 0, 0, 0, 3, 5, 0, 0, 0, 0, 2, 5, 0, 0, 0, 0, 1, 5, 0, 0, 0, 0,
+        1, 64, 0, 0, 0, 0, 2, 5, 0, 0, 0, 1, 9, 3, 5, 0, 0, 0, 0, 1, 5, 0, 0, 0, 0, 1, 5, 0, 0, 0,
+        0, 3, 255, 0, 0, 0, 0, 4, 200, 0, 0, 0, 0, 3, 5, 0, 0, 0, 0, 2, 5, 0, 0, 0, 0, 1, 5, 0, 0,
+        0, 0,
     ];
     let answers = [
-        6, 64, 0, 0, 0, 1, 1, 6, 5, 0, 0, 0, 1, 2, 6, 5, 0, 0, 0, 1, 2, 1, 5, 0, 0, 0, 0, 6, 5, 0, 0, 0, 1, 1,
-        6, 255, 0, 0, 0, 1, 2, 4, 200, 0, 0, 0, 1, 0, 3, 5, 0, 0, 0, 0, 6, 5, 0, 0, 0, 1, 2, 1, 5, 0, 0, 0, 0,
+        6, 64, 0, 0, 0, 1, 1, 6, 5, 0, 0, 0, 1, 2, 6, 5, 0, 0, 0, 1, 2, 1, 5, 0, 0, 0, 0, 6, 5, 0,
+        0, 0, 1, 1, 6, 255, 0, 0, 0, 1, 2, 4, 200, 0, 0, 0, 1, 0, 3, 5, 0, 0, 0, 0, 6, 5, 0, 0, 0,
+        1, 2, 1, 5, 0, 0, 0, 0,
     ];
     let (written, end) = served(rt.alloc(), &input)?;
     assert_eq!(rt; end, RunEnd::Ended);
@@ -180,13 +193,21 @@ impl Write for Full {
 fn streams_fail(rt: HostRuntime) -> Result<(), Fail> {
     let mut node = node_of(rt.alloc())?;
     let mut written = Vec::new(rt.alloc());
-    let end = run(rt.alloc(), &mut node, &mut Failing { bytes: EXCSAT }, &mut written);
+    let end = run(
+        rt.alloc(),
+        &mut node,
+        &mut Failing { bytes: EXCSAT },
+        &mut written,
+    );
     assert_eq!(rt; end, RunEnd::ReadFault);
     assert_eq!(rt; written.as_slice(), EXCSAT_ANSWERED);
     for room in 0..EXCSAT_ANSWERED.len() {
         let mut node = node_of(rt.alloc())?;
         let mut reader = EXCSAT;
-        let mut writer = Full { taken: Vec::new(rt.alloc()), room };
+        let mut writer = Full {
+            taken: Vec::new(rt.alloc()),
+            room,
+        };
         let end = run(rt.alloc(), &mut node, &mut reader, &mut writer);
         assert_eq!(rt; end, RunEnd::WriteFault);
         assert_eq!(rt; writer.taken.as_slice(), &EXCSAT_ANSWERED[..room]);

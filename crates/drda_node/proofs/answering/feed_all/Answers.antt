@@ -23,13 +23,12 @@ returns-in-Open c =
     let all = subst (λ (s : FedState). Heard first place (take (at + fed.taken) bytes) out (bytes_behind s) f.after new out') c.in-Open.is heard in
     let every = f.takes.all c.in-Open.is in
     let rest : length (drop at bytes) ≡ length bytes - at = length-drop at bytes in
-    let whole : length bytes ≤ at + fed.taken = omega (arith, every, rest) in
-    (
+    let whole : length bytes ≤ at + fed.taken = omega (arith, every, rest) in (
       f.after,
       all.told.replies ++ [],
       all.told.appended ∙ ap (λ (z : List ℕ). out ++ z) (sym (append-nil all.told.replies)),
       heard_all c.stays_read.ensures.fault first new place (at + fed.taken) bytes out out' f.after whole all,
-      subst (λ (s : FedState). LeftAs s fed.taken f.after) c.in-Open.is f.takes.state
+      subst (λ (s : FedState). LeftAs s fed.taken f.after) c.in-Open.is f.takes.state,
     )
 
 pub returns-in-Closed : goal.returns-in-Closed
@@ -47,13 +46,12 @@ returns-in-Closed c =
     let f : Feeds mid place (drop at bytes) outm fed new out' = subst (λ (z : List ℕ). Feeds mid place z outm fed new out') (take_rest bytes at) c.feed_at-fed.ensures.feeds in
     let heard = heard_more c.stays_read.ensures.fault first mid new place at bytes out outm out' fed c.feeding.invariant.heard f in
     let all = subst (λ (s : FedState). Heard first place (take (at + fed.taken) bytes) out (bytes_behind s) f.after new out') c.in-Closed.is heard in
-    let shut = subst (λ (s : FedState). LeftAs s fed.taken f.after) c.in-Closed.is f.takes.state in
-    (
+    let shut = subst (λ (s : FedState). LeftAs s fed.taken f.after) c.in-Closed.is f.takes.state in (
       f.after,
       (all.told.replies ++ []) ++ [],
       all.told.appended ∙ ap (λ (z : List ℕ). out ++ z) (sym (append-nil (all.told.replies ++ []) ∙ append-nil all.told.replies)),
       heard_closed c.stays_read.ensures.fault first new place (at + fed.taken) bytes out out' f.after shut all,
-      shut
+      shut,
     )
 
 pub feeding-preserved : goal.feeding-preserved

@@ -1,7 +1,7 @@
 use Rattle.std.proofs.Common.{◌≡◌, ℕ, ◌+◌, ◌-◌, ◌≤◌, List, ◌++◌, rules, arith, length, take, slice_range, sym, ap, ◌∙◌, subst, le_refl, drop_at, length-take-le, take_all}
 use Rattle.std.proofs.lemmas.Slice.{take-put_mid_below}
 use Rattle.std.specs.Io.KnownBytes.{Consumes}
-use Rattle.std.proofs.KnownBytes.{Consumes-trans, Consumes-kept}
+use Rattle.std.proofs.KnownBytes.{Consumes-trans}
 use borrow.Rule.Slice.PartMut.{put_mid, post_of}
 use Rattle.std.proofs.Math.Seq.{take-add}
 use Rattle.std.proofs.lemmas.List.{take-append-le}

@@ -1,4 +1,4 @@
-use Rattle.std.proofs.Common.{◌≡◌, ◌++◌, ℕ, List, length, take, drop, ap, subst, ◌∙◌, arith}
+use Rattle.std.proofs.Common.{◌≡◌, ℕ, List, length, take, drop, ap, subst, ◌∙◌, arith}
 use Rattle.std.specs.Io.KnownBytes.{Appends}
 use Rattle.drda_node.specs.Register.{machine}
 use Rattle.drda_node.specs.Reading.{event_of}
@@ -28,7 +28,7 @@ answer-requires g c =
 pub returns-in_default-answer : goal.returns-in_default-answer
 returns-in_default-answer g c =
     no_memory (g.R.Read.remaining c.args.reader.now) (g.R.Read.remaining c.events.reader) (g.W.Write.contents c.args.writer.now) (g.W.Write.contents c.events.writer) (machine c.args.node.now) (machine c.events.node) (machine c.answer.new.node)
-        c.events.invariant.so_far
+    c.events.invariant.so_far
 
 pub returns-in_default-put : goal.returns-in_default-put
 returns-in_default-put g c =

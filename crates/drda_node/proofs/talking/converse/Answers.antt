@@ -1,7 +1,6 @@
-use Rattle.std.proofs.Common.{◌≡◌, ◌≤◌, ◌+◌, ◌-◌, ℕ, List, [], true, length, take, drop, min, refl, sym, subst, ap, ◌∙◌, arith, rules}
+use Rattle.std.proofs.Common.{◌≡◌, ◌+◌, ◌-◌, ℕ, List, [], length, take, drop, min, refl, sym, subst, ◌∙◌, arith, rules}
 use Rattle.std.proofs.lemmas.List.{length-take}
 use Rattle.drda_node.specs.declared.fed.FedState.{FedState}
-use Rattle.drda_node.specs.declared.fed.FedState.TheVariants.{Open}
 use Rattle.conversation.specs.Service.{Service}
 use Rattle.drda_node.specs.Feeding.{Takes, Told, LeftAs, bytes_behind, shown_held}
 use Rattle.drda_node.proofs.Stepping.{told_start, told_more, within_piece, none_more, left_more}

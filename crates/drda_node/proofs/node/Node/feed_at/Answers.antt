@@ -1,4 +1,4 @@
-use Rattle.std.proofs.Common.{◌≡◌, ℕ, List, Some, ap, ◌∙◌, sym, subst}
+use Rattle.std.proofs.Common.{◌≡◌, Some, ap, ◌∙◌, sym, subst}
 use Rattle.conversation.specs.Service.{Service}
 use Rattle.drda_node.specs.Feeding.{shown_held, Takes}
 use Rattle.drda_node.specs.declared.place.Place.{Place}

@@ -1,4 +1,4 @@
-use Rattle.std.proofs.Common.{◌≡◌, ℕ, List, None, ap, ◌∙◌, sym}
+use Rattle.std.proofs.Common.{None, ap, ◌∙◌}
 use Rattle.drda_node.specs.Register.{shown, number_of}
 use Rattle.drda_node.proofs.Rows.{view_set, view_kept, same_row, same_numbers}
 use Rattle.drda_node.proofs.node.Node.lose_at.Goals as goal

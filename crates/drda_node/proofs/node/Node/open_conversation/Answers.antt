@@ -1,4 +1,4 @@
-use Rattle.std.proofs.Common.{◌≡◌, ◌<◌, ◌≤◌, ℕ, true, Some, None, Err, length, slice_get, refl, sym, subst, ap, ◌∙◌, arith}
+use Rattle.std.proofs.Common.{◌≡◌, ◌<◌, true, length, refl, sym, subst, ap, ◌∙◌, arith}
 use Rattle.std.specs.Prelude.{IfOk, OnErr}
 use Rattle.drda_node.specs.declared.node.Node.{Node}
 use Rattle.drda_node.specs.Machine.{is_full}
@@ -20,10 +20,9 @@ returns-then-is_free-clause-none_given c =
 
 pub returns-then-is_free-clause-too_many : goal.returns-then-is_free-clause-too_many
 returns-then-is_free-clause-too_many c =
-    let free = c.is_free.ensures.0 c.if-is_free.true in
-    (
+    let free = c.is_free.ensures.0 c.if-is_free.true in (
       λ many. absurd (c.open_at.ensures.not_full many),
-      λ full. absurd (not_full (machine c.loop-place.self).row c.loop-place.place free (subst (λ (n : Node). is_full (machine n) ≡ true) (sym c.loop-place.invariant.same) full))
+      λ full. absurd (not_full (machine c.loop-place.self).row c.loop-place.place free (subst (λ (n : Node). is_full (machine n) ≡ true) (sym c.loop-place.invariant.same) full)),
     )
 
 pub returns-clause-refused : goal.returns-clause-refused
@@ -35,8 +34,7 @@ returns-clause-none_given c = ap register c.loop-place.invariant.same
 pub returns-clause-too_many : goal.returns-clause-too_many
 returns-clause-too_many c =
     let count : length (machine c.loop-place.self).row ≡ 64 = length_view shown c.loop-place.self.places.items ∙ c.loop-place.self.sixty_four in
-    let full = full_when (machine c.loop-place.self).row (λ k below free. let under : k < c.loop-place.place = omega (arith, below, count, c.loop-place-test.false) in c.loop-place.invariant.taken k under free) in
-    (
+    let full = full_when (machine c.loop-place.self).row (λ k below free. let under : k < c.loop-place.place = omega (arith, below, count, c.loop-place-test.false) in c.loop-place.invariant.taken k under free) in (
       λ many. subst (λ (n : Node). is_full (machine n) ≡ true) c.loop-place.invariant.same full,
-      λ all. refl
+      λ all. refl,
     )

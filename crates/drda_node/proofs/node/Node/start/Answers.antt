@@ -1,4 +1,4 @@
-use Rattle.std.proofs.Common.{◌≡◌, ◌+◌, ◌++◌, ◌∷◌, [], List, None, length, map, replicate, ap, sym, subst, ◌∙◌, rules}
+use Rattle.std.proofs.Common.{◌++◌, ◌∷◌, [], List, None, map, replicate, ap, sym, subst, ◌∙◌, rules}
 use Rattle.std.specs.List.{All}
 use Rattle.std.proofs.lemmas.List.Elements.{All-push}
 use Rattle.drda_node.specs.declared.place.Place.{Place}
