@@ -1,0 +1,4 @@
+mod Walked
+mod Counting
+mod Entries
+mod Faults

@@ -1,0 +1,10 @@
+use Rattle.std.proofs.Common.{ap, arith, List}
+use Rattle.dss_frames.specs.Dss.{Dss}
+use Rattle.conversation.specs.Turn.{contents_of}
+use Rattle.conversation.specs.Given.{count_in}
+use Rattle.conversation.proofs.given.Given.count.Goals as goal
+
+pub returns : goal.returns
+returns c =
+    let e = ap (λ (dsss : List Dss). count_in (contents_of dsss)) c.in_default.ensures in
+    omega (arith, e, c.dsss.invariant.same, c.dsss.invariant.within)

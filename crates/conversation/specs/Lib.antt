@@ -1,0 +1,12 @@
+pub mod Names
+pub mod Service
+pub mod Levels
+pub mod Tables
+pub mod Given
+pub mod Judge
+pub mod Replies
+pub mod Turn
+pub mod Closing
+pub mod Held
+pub mod Views
+pub mod Steps

@@ -1,0 +1,224 @@
+//! Access to the database: ACCSEC, SECCHK and ACCRDB.
+
+ghost use Rattle.std.specs.Prelude.{◌≡◌, IfOk};
+ghost use Rattle.conversation.specs.Turn as spec;
+ghost use Rattle.conversation.specs.Replies.{rdb_not_found};
+ghost use Rattle.conversation.specs.Views.{answer_of, occurs_of};
+
+use crate::given::Occurs;
+use crate::names::{is_name, is_padded_name};
+use crate::reply::{
+    severity_of, write_accrdbrm, write_accsecrd, write_accsecrd_refused, write_rdb_not_found,
+    write_secchkrm,
+};
+use crate::settings::Settings;
+use crate::talk::{Mechanism, Stage, Talk};
+use crate::turn::Answer;
+use dss_frames::DssType;
+use std::alloc::AllocError;
+
+fn is_ours(settings: &Settings, unicode: bool, name: Occurs<'_>) -> bool
+    ensures { result ≡ spec.is_ours settings.now unicode (occurs_of name.entry) }
+{
+    match name {
+        Occurs::Never => true,
+        Occurs::Once(name) => is_padded_name(unicode, name, settings.rdb()),
+        Occurs::Twice => false,
+    }
+}
+
+fn bytes_of(occurs: Occurs<'_>) -> &[u8]
+    ensures { result.now ≡ spec.bytes_of (occurs_of occurs.entry) }
+{
+    match occurs {
+        Occurs::Once(value) => value,
+        Occurs::Never | Occurs::Twice => &[],
+    }
+}
+
+fn mechanism_for(value: &[u8]) -> Option<Mechanism>
+    ensures { result ≡ spec.mechanism_for value.now }
+{
+    let [high, low] = value else {
+        return None;
+    };
+    if *high == 0 && *low == 3 {
+        return Some(Mechanism::UserAndPassword);
+    }
+    if *high == 0 && *low == 4 {
+        return Some(Mechanism::UserOnly);
+    }
+    None
+}
+
+fn not_found(talk: Talk, name: Occurs<'_>, text: &mut Vec<u8>) -> Result<Answer, AllocError>
+    ensures { IfOk result (λ a. answer_of a text.new.items ≡ record { talk = talk; reply = rdb_not_found (spec.bytes_of (occurs_of name.entry)) }) }
+{
+    write_rdb_not_found(text, bytes_of(name))?;
+    Ok(Answer {
+        talk,
+        dss_type: DssType::Reply,
+        severity: 8,
+    })
+}
+
+fn asked_for(
+    talk: Talk,
+    mechanism: Option<Mechanism>,
+    text: &mut Vec<u8>,
+) -> Result<Answer, AllocError>
+    ensures { IfOk result (λ a. answer_of a text.new.items ≡ spec.asked_for talk mechanism) }
+{
+    let talk = match mechanism {
+        Some(mechanism) => {
+            write_accsecrd(text, mechanism)?;
+            Talk {
+                stage: Stage::Asked(mechanism),
+                ..talk
+            }
+        }
+        None => {
+            write_accsecrd_refused(text)?;
+            talk
+        }
+    };
+    Ok(Answer {
+        talk,
+        dss_type: DssType::Object,
+        severity: 0,
+    })
+}
+
+/// ACCSEC: agrees on a mechanism. A database that is not this one is RDBNFNRM, before the answer to a
+/// mechanism that there is not, which lists those that there are and leaves the stage.
+pub(crate) fn accsec(
+    settings: &Settings,
+    talk: Talk,
+    mechanism: Occurs<'_>,
+    rdb: Occurs<'_>,
+    text: &mut Vec<u8>,
+) -> Result<Answer, AllocError>
+    ensures { IfOk result (λ a. answer_of a text.new.items ≡ spec.accsec_done settings.now talk (occurs_of mechanism.entry) (occurs_of rdb.entry)) }
+{
+    if is_ours(settings, talk.agreed.unicode, rdb) {
+        asked_for(talk, mechanism_for(bytes_of(mechanism)), text)
+    } else {
+        not_found(talk, rdb, text)
+    }
+}
+
+fn is_mechanism(mechanism: Mechanism, other: Option<Mechanism>) -> bool
+    ensures { result ≡ spec.is_mechanism mechanism other }
+{
+    match (mechanism, other) {
+        (Mechanism::UserAndPassword, Some(Mechanism::UserAndPassword)) => true,
+        (Mechanism::UserOnly, Some(Mechanism::UserOnly)) => true,
+        _ => false,
+    }
+}
+
+fn is_agreed(stage: Stage, value: &[u8]) -> bool
+    ensures { result ≡ spec.is_agreed stage value.now }
+{
+    match stage {
+        Stage::Asked(mechanism) => is_mechanism(mechanism, mechanism_for(value)),
+        Stage::Fresh | Stage::Known | Stage::Checked | Stage::Opened => false,
+    }
+}
+
+fn wants_password(stage: Stage) -> bool
+    ensures { result ≡ spec.wants_password stage }
+{
+    match stage {
+        Stage::Asked(Mechanism::UserAndPassword) => true,
+        Stage::Asked(Mechanism::UserOnly)
+        | Stage::Fresh
+        | Stage::Known
+        | Stage::Checked
+        | Stage::Opened => false,
+    }
+}
+
+fn code_of_user(settings: &Settings, unicode: bool, user: Occurs<'_>, right: u8) -> u8
+    ensures { result ≡ spec.code_of_user settings.now unicode (occurs_of user.entry) right }
+{
+    match user {
+        Occurs::Once(name) if is_name(unicode, name, settings.user()) => right,
+        Occurs::Once(_) => 0x13,
+        Occurs::Never | Occurs::Twice => 0x12,
+    }
+}
+
+fn code_of_password(settings: &Settings, unicode: bool, password: Occurs<'_>) -> u8
+    ensures { result ≡ spec.code_of_password settings.now unicode (occurs_of password.entry) }
+{
+    match password {
+        Occurs::Once(word) if is_name(unicode, word, settings.password()) => 0,
+        Occurs::Once(_) => 0x0F,
+        Occurs::Never | Occurs::Twice => 0x10,
+    }
+}
+
+/// The code of SECCHKRM, the first that holds: 01 another mechanism than the agreed one, 12 no user, 13
+/// an unknown one, and where the mechanism wants one 10 no password, 0F a wrong one; else 00. A
+/// password is compared byte by byte to its end, whichever byte differs first.
+pub(crate) fn check_code(
+    settings: &Settings,
+    talk: Talk,
+    mechanism: Occurs<'_>,
+    user: Occurs<'_>,
+    password: Occurs<'_>,
+) -> u8
+    ensures { result ≡ spec.check_code settings.now talk (occurs_of mechanism.entry) (occurs_of user.entry) (occurs_of password.entry) }
+{
+    if !is_agreed(talk.stage, bytes_of(mechanism)) {
+        return 0x01;
+    }
+    let unicode = talk.agreed.unicode;
+    let right = if wants_password(talk.stage) {
+        code_of_password(settings, unicode, password)
+    } else {
+        0
+    };
+    code_of_user(settings, unicode, user, right)
+}
+
+/// SECCHK with its code: where it is 00 the user is checked, and else the stage stays.
+pub(crate) fn checked(talk: Talk, code: u8, text: &mut Vec<u8>) -> Result<Answer, AllocError>
+    ensures { IfOk result (λ a. answer_of a text.new.items ≡ spec.checked_with talk code) }
+{
+    write_secchkrm(text, code)?;
+    let stage = if code == 0 {
+        Stage::Checked
+    } else {
+        talk.stage
+    };
+    Ok(Answer {
+        talk: Talk { stage, ..talk },
+        dss_type: DssType::Reply,
+        severity: severity_of(code),
+    })
+}
+
+/// ACCRDB: opens the database, or answers RDBNFNRM where it is not this one.
+pub(crate) fn accrdb(
+    settings: &Settings,
+    talk: Talk,
+    rdb: Occurs<'_>,
+    text: &mut Vec<u8>,
+) -> Result<Answer, AllocError>
+    ensures { IfOk result (λ a. answer_of a text.new.items ≡ spec.accrdb_done settings.now talk (occurs_of rdb.entry)) }
+{
+    if !is_ours(settings, talk.agreed.unicode, rdb) {
+        return not_found(talk, rdb, text);
+    }
+    write_accrdbrm(text, talk.agreed.unicode)?;
+    Ok(Answer {
+        talk: Talk {
+            stage: Stage::Opened,
+            ..talk
+        },
+        dss_type: DssType::Reply,
+        severity: 0,
+    })
+}

@@ -1,0 +1,151 @@
+//! One conversation.
+
+use crate::settings::Settings;
+use crate::talk::{Talk, fresh_talk};
+use crate::turn::{Turned, take_turn};
+use dss_frames::{Format, FrameFault, Segments, write_dss};
+use std::alloc::{AllocError, Global};
+use std::marker::Model;
+
+/// What a conversation needs next.
+#[derive(Clone, Copy, Debug, PartialEq, Eq)]
+pub enum Need {
+    /// More bytes.
+    Bytes,
+    /// To be asked again: a command was answered, or passed over in a broken chain.
+    Local,
+    /// To be asked again: a command found no memory, and these bytes are its reply.
+    Short([u8; 16]),
+    /// Nothing: it is closed, and takes no more bytes.
+    Closed,
+}
+
+/// One conversation: the bytes of a requester in, commands judged in the order of refusals, and
+/// replies out.
+#[derive(Drop)]
+pub struct Front {
+    settings: Settings,
+    segments: Segments,
+    talk: Talk,
+    text: Vec<u8>,
+}
+
+impl Model for Front {
+    ghost use Rattle.conversation.specs.Held.{Held};
+    ghost use Rattle.conversation.specs.Closing.{IsOpenAtFault};
+
+    ghost Value = { Held };
+
+    ghost view = { λ f. record { service = f.settings; rest = f.segments.rest; talk = f.talk } };
+
+    ghost invariant = { λ f. IsOpenAtFault f.segments.at_fault f.talk.is_closed };
+}
+
+impl Front {
+    ghost use Rattle.std.specs.Prelude.{◌≡◌, ◌≤◌, ◌+◌, ◌++◌, [], IfOk, OnOk, IsTrue, false, length, take, vec_len, vec_capacity};
+    ghost use Rattle.conversation.specs.Turn.{fresh};
+    ghost use Rattle.conversation.specs.Steps.{Steps, KeepsToOne};
+
+    /// A conversation of which nothing has come.
+    pub fn new(alloc: Global, settings: &Settings) -> Result<Front, AllocError>
+        ensures { IfOk result (λ f. f ≡ record { service = settings.now; rest = []; talk = fresh }) }
+    {
+        Ok(Front {
+            settings: settings.copied(alloc)?,
+            segments: Segments::new(alloc),
+            talk: fresh_talk(),
+            text: Vec::new(alloc),
+        })
+    }
+
+    /// Begins anew, with the same settings: what came and what was agreed on is forgotten, and its
+    /// memory given back.
+    pub fn restart(&mut self, alloc: Global)
+        ensures { self.new ≡ record { service = self.old.service; rest = []; talk = fresh } }
+    {
+        self.segments = Segments::new(alloc);
+        self.talk = fresh_talk();
+        self.text = Vec::new(alloc);
+    }
+
+    /// Takes the bytes that come next, and says how many it took: all of them, none once it is
+    /// closed, and fewer only for want of memory.
+    pub fn feed(&mut self, piece: &[u8]) -> usize
+        ensures taken { self.new ≡ record self.old { rest = self.old.rest ++ take result piece.now } }
+        ensures within { result ≤ length piece.now }
+        ensures closed { IsTrue self.old.talk.is_closed → result ≡ 0 }
+    {
+        if self.talk.is_closed {
+            return 0;
+        }
+        self.segments.feed(piece)
+    }
+
+    /// How many bytes at the least are missing until the next header, segment or command can be
+    /// judged: at least one. A caller that feeds no more than these between two calls of `next`
+    /// never has a byte of a second command here.
+    pub fn wanted(&self) -> usize
+        ensures some { 1 ≤ result }
+        ensures one_command { KeepsToOne self.now.rest result }
+    {
+        self.segments.wanted()
+    }
+
+    /// Does the next command, where all of it has come, and appends its reply to `out`, which has
+    /// room for the 21 bytes that answer a fault of the framing. Such a fault closes the
+    /// conversation.
+    pub fn next(&mut self, out: &mut Vec<u8>) -> Need
+        requires room { vec_len out.old + 21 ≤ vec_capacity out.old }
+        ensures { Steps self.old out.old.items result self.new out.new.items }
+    {
+        if self.talk.is_closed {
+            return Need::Closed;
+        }
+        match self.segments.next() {
+            Ok(None) => Need::Bytes,
+            Ok(Some(group)) => match take_turn(
+                &self.settings,
+                &mut self.talk,
+                group,
+                &mut self.text,
+                out,
+            ) {
+                Turned::Done => Need::Local,
+                Turned::Short(bytes) => Need::Short(bytes),
+            },
+            Err(fault) => {
+                self.talk.is_closed = true;
+                answer_fault(fault, out);
+                Need::Closed
+            }
+        }
+    }
+}
+
+ghost use Rattle.std.specs.Prelude.{◌≡◌, ◌≤◌, ◌+◌, ◌++◌, vec_len, vec_capacity};
+ghost use Rattle.conversation.specs.Replies.{fault_bytes};
+
+// SYNTAXRM with the code of the fault and the correlator of its DSS, in no chain.
+fn answer_fault(fault: FrameFault, out: &mut Vec<u8>)
+    requires { vec_len out.old + 21 ≤ vec_capacity out.old }
+    ensures { out.new.items ≡ out.old.items ++ fault_bytes fault }
+{
+    let message = [
+        0x00,
+        0x0F,
+        0x12,
+        0x4C,
+        0x00,
+        0x06,
+        0x11,
+        0x49,
+        0x00,
+        0x08,
+        0x00,
+        0x05,
+        0x11,
+        0x4A,
+        fault.code.synerrcd(),
+    ];
+    let _ = write_dss(out, Format { byte: 0x02 }, fault.correlator, &message);
+}

@@ -1,0 +1,4 @@
+mod Recorded
+mod Replaying
+pub mod Moments
+pub mod Parts

@@ -1,0 +1,11 @@
+pub mod Disk
+pub mod Count
+pub mod Region
+pub mod Replay
+pub mod Images
+pub mod MemDisk
+pub mod Fuse
+pub mod FuseDisk
+pub mod File
+pub mod FileDisk
+pub mod Through

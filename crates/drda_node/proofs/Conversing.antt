@@ -1,0 +1,171 @@
+-- Two stretches of bytes, one after the other: their readings, what is done, and what is heard.
+use Rattle.std.proofs.Common.{◌≡◌, ℕ, Bool, true, false, List, [], ◌∷◌, ◌++◌, Option, Some, None, Result, Ok, Err, if◌then◌else◌, refl, sym, ap, subst, ◌∙◌, append_assoc, append-nil, inl, inr}
+use Rattle.dss_frames.specs.Dss.{Dss}
+use Rattle.dss_frames.specs.declared.fault.FrameFault.{FrameFault}
+use Rattle.dss_frames.specs.Fault.{BeginsWith, FaultAt, IsUnfinished}
+use Rattle.dss_frames.specs.Reading.{End, unfinished, faulty, Reads}
+use Rattle.conversation.specs.declared.talk.Talk.{Talk}
+use Rattle.conversation.specs.declared.refusal.Refusal.{Refusal}
+use Rattle.conversation.specs.declared.table.Command.{Command}
+use Rattle.conversation.specs.declared.table.Command.TheVariants.{Excsat, Accsec, Secchk, Accrdb, Unserved}
+use Rattle.ddm_objects.specs.declared.code_point.TheConstants.{SECMEC, RDBNAM}
+use Rattle.conversation.specs.declared.table.Place.TheVariants.{Parameter}
+use Rattle.conversation.specs.declared.talk.Stage.TheVariants.{Opened}
+use Rattle.conversation.specs.Replies.{rdb_not_found, accrdbrm}
+use Rattle.conversation.specs.Given.{Given, Occurs, found_at}
+use Rattle.conversation.specs.Judge.{Order, judged}
+use Rattle.conversation.specs.declared.talk.Mechanism.{Mechanism}
+use Rattle.conversation.specs.Service.{Service}
+use Rattle.conversation.specs.Turn.{Answer, Outcome, turned, excused, answered, asked_for, is_ours, mechanism_for, bytes_of, accsec_done, accrdb_done, command_done, contents_of}
+use Rattle.conversation.specs.Steps.{Does, DoesAll, Ends, Converses, closed}
+use Rattle.drda_node.specs.Machine.{Conversation}
+use Rattle.drda_node.specs.Hearing.{Hears, Listens, HearsNothing}
+
+-- ---- a command leaves a conversation open, or closed
+
+either_answer : (b is_closed : Bool) (x y : Answer) → x.talk.is_closed ≡ is_closed → y.talk.is_closed ≡ is_closed → (if b then x else y).talk.is_closed ≡ is_closed
+either_answer true is_closed x y p q = p
+either_answer false is_closed x y p q = q
+
+asked_closed : (talk : Talk) (mechanism : Option Mechanism) → (asked_for talk mechanism).talk.is_closed ≡ talk.is_closed
+asked_closed talk (Some mechanism) = refl
+asked_closed talk None = refl
+
+accsec_closed : (service : Service) (talk : Talk) (secmec rdbnam : Occurs) → (accsec_done service talk secmec rdbnam).talk.is_closed ≡ talk.is_closed
+accsec_closed service talk secmec rdbnam =
+    either_answer (is_ours service talk.agreed.unicode rdbnam) talk.is_closed (asked_for talk (mechanism_for (bytes_of secmec))) (record { talk = talk; reply = rdb_not_found (bytes_of rdbnam) })
+        (asked_closed talk (mechanism_for (bytes_of secmec))) refl
+
+accrdb_closed : (service : Service) (talk : Talk) (rdbnam : Occurs) → (accrdb_done service talk rdbnam).talk.is_closed ≡ talk.is_closed
+accrdb_closed service talk rdbnam =
+    either_answer (is_ours service talk.agreed.unicode rdbnam) talk.is_closed (record { talk = record talk { stage = Opened }; reply = accrdbrm talk.agreed.unicode })
+        (record { talk = talk; reply = rdb_not_found (bytes_of rdbnam) }) refl refl
+
+command_closed : (service : Service) (talk : Talk) (command : Command) (given : Given) → (command_done service talk command given).talk.is_closed ≡ talk.is_closed
+command_closed service talk Excsat given = refl
+command_closed service talk Accsec given = accsec_closed service talk (found_at Parameter SECMEC given) (found_at Parameter RDBNAM given)
+command_closed service talk Secchk given = refl
+command_closed service talk Accrdb given = accrdb_closed service talk (found_at Parameter RDBNAM given)
+command_closed service talk (Unserved code) given = refl
+
+answered_closed : (service : Service) (talk : Talk) (order : Result Order Refusal) → (answered service talk order).talk.is_closed ≡ talk.is_closed
+answered_closed service talk (Ok order) = command_closed service talk order.command order.given
+answered_closed service talk (Err refusal) = refl
+
+either_closed : (b is_closed : Bool) (x y : Outcome) → x.talk.is_closed ≡ is_closed → y.talk.is_closed ≡ is_closed → (if b then x else y).talk.is_closed ≡ is_closed
+either_closed true is_closed x y p q = p
+either_closed false is_closed x y p q = q
+
+turned_closed : (service : Service) (talk : Talk) (command : List Dss) → (turned service talk command).talk.is_closed ≡ talk.is_closed
+turned_closed service talk [] = refl
+turned_closed service talk (request ∷ objects) =
+    either_closed talk.is_broken talk.is_closed _ _ refl (answered_closed service talk (judged talk.stage talk.agreed.unicode request.contents (contents_of objects)))
+
+excused_closed : (talk : Talk) (command : List Dss) → (excused talk command).talk.is_closed ≡ talk.is_closed
+excused_closed talk [] = refl
+excused_closed talk (request ∷ objects) = refl
+
+module _ (service : Service) where
+  pub does_closed : (talk next : Talk) (command : List Dss) (bytes : List ℕ) → Does service talk command bytes next → next.is_closed ≡ talk.is_closed
+  does_closed talk next command bytes (inl d) = ap (λ (t : Talk). t.is_closed) d.1 ∙ turned_closed service talk command
+  does_closed talk next command bytes (inr d) = ap (λ (t : Talk). t.is_closed) d.1 ∙ excused_closed talk command
+
+  does_all_closed : (commands : List (List Dss)) (talk last : Talk) (bytes : List ℕ) → DoesAll service talk commands bytes last → last.is_closed ≡ talk.is_closed
+  does_all_closed [] talk last bytes d = ap (λ (t : Talk). t.is_closed) d.1
+  does_all_closed (command ∷ commands) talk last bytes d = does_all_closed commands d.2 last d.1 d.5 ∙ does_closed talk d.2 command d.0 d.3
+
+  -- ---- readings
+
+  command_more : (bytes more rest : List ℕ) (command : List Dss) → BeginsWith bytes command rest → BeginsWith (bytes ++ more) command (rest ++ more)
+  command_more bytes more rest command h = (h.0, ap (λ (z : List ℕ). z ++ more) h.1 ∙ append_assoc h.0 rest more, h.2)
+
+  reads_then : (before after : List (List Dss)) (text left more : List ℕ) (end : End) → Reads text before (unfinished left) → Reads (left ++ more) after end → Reads (text ++ more) (before ++ after) end
+  reads_then [] after text left more end p q = subst (λ (z : List ℕ). Reads (z ++ more) after end) (sym p.0) q
+  reads_then (command ∷ before) after text left more end p q = (p.0 ++ more, command_more text more p.0 command p.1, reads_then before after p.0 left more end p.2 q)
+
+  does_then : (before after : List (List Dss)) (talk between last : Talk) (x y : List ℕ) → DoesAll service talk before x between → DoesAll service between after y last → DoesAll service talk (before ++ after) (x ++ y) last
+  does_then [] after talk between last x y p q =
+      subst (λ (z : List ℕ). DoesAll service talk after (z ++ y) last) (sym p.0) (subst (λ (t : Talk). DoesAll service t after y last) p.1 q)
+  does_then (command ∷ before) after talk between last x y p q =
+      (p.0, p.1 ++ y, p.2, p.3, ap (λ (z : List ℕ). z ++ y) p.4 ∙ append_assoc p.0 p.1 y, does_then before after p.2 between last p.1 y p.5 q)
+
+  -- a text that ends in the middle of a command, and bytes behind it
+  converses_then_at : (end : End) (talk between last : Talk) (text more x y left remains : List ℕ) → (p : Converses service talk text x left between) → between.is_closed ≡ false
+      → Converses service between (left ++ more) y remains last → Reads text p.commands end → Ends p.between end p.closing left between
+      → Converses service talk (text ++ more) (x ++ y) remains last
+  converses_then_at (unfinished rest) talk between last text more x y left remains p still_open q reads ends =
+      let silent : x ≡ p.replies = p.written ∙ ap (λ (z : List ℕ). p.replies ++ z) ends.0 ∙ append-nil p.replies in
+      record {
+        commands = p.commands ++ q.commands;
+        end = q.end;
+        reads = reads_then p.commands q.commands text left more q.end (subst (λ (z : List ℕ). Reads text p.commands (unfinished z)) (sym ends.1) reads) q.reads;
+        replies = p.replies ++ q.replies;
+        closing = q.closing;
+        between = q.between;
+        does = does_then p.commands q.commands talk p.between q.between p.replies q.replies p.does (subst (λ (t : Talk). DoesAll service t q.commands q.replies q.between) ends.2 q.does);
+        ends = q.ends;
+        written = ap (λ (z : List ℕ). z ++ y) silent ∙ ap (λ (z : List ℕ). p.replies ++ z) q.written ∙ sym (append_assoc p.replies q.replies q.closing);
+      }
+  converses_then_at (faulty fault) talk between last text more x y left remains p still_open q reads ends =
+      let shut : true ≡ false = sym (ap (λ (t : Talk). t.is_closed) ends.1) ∙ still_open in
+      absurd (cc shut)
+
+  converses_then : (talk between last : Talk) (text more x y left remains : List ℕ) → Converses service talk text x left between → between.is_closed ≡ false
+      → Converses service between (left ++ more) y remains last → Converses service talk (text ++ more) (x ++ y) remains last
+  converses_then talk between last text more x y left remains p still_open q =
+      converses_then_at p.end talk between last text more x y left remains p still_open q p.reads p.ends
+
+module _ (service : Service) (fault_more : (bytes more : List ℕ) (fault : FrameFault) → FaultAt bytes fault → FaultAt (bytes ++ more) fault) where
+  faulty_more : (commands : List (List Dss)) (text more : List ℕ) (fault : FrameFault) → Reads text commands (faulty fault) → Reads (text ++ more) commands (faulty fault)
+  faulty_more [] text more fault p = fault_more text more fault p
+  faulty_more (command ∷ commands) text more fault p = (p.0 ++ more, command_more service text more p.0 command p.1, faulty_more commands p.0 more fault p.2)
+
+  -- behind a fault anything may stand
+  converses_closed_at : (end : End) (talk last : Talk) (text more x left : List ℕ) → talk.is_closed ≡ false → last.is_closed ≡ true → (p : Converses service talk text x left last)
+      → Reads text p.commands end → Ends p.between end p.closing left last → Converses service talk (text ++ more) x left last
+  converses_closed_at (unfinished rest) talk last text more x left still_open shut p reads ends =
+      let still : true ≡ false = sym shut ∙ ap (λ (t : Talk). t.is_closed) ends.2 ∙ does_all_closed service p.commands talk p.between p.replies p.does ∙ still_open in
+      absurd (cc still)
+  converses_closed_at (faulty fault) talk last text more x left still_open shut p reads ends = record {
+    commands = p.commands;
+    end = faulty fault;
+    reads = faulty_more p.commands text more fault reads;
+    replies = p.replies;
+    closing = p.closing;
+    between = p.between;
+    does = p.does;
+    ends = ends;
+    written = p.written;
+  }
+
+  converses_closed : (talk last : Talk) (text more x left : List ℕ) → talk.is_closed ≡ false → last.is_closed ≡ true → Converses service talk text x left last → Converses service talk (text ++ more) x left last
+  converses_closed talk last text more x left still_open shut p = converses_closed_at p.end talk last text more x left still_open shut p p.reads p.ends
+
+  pub hears_then : (a b c : Conversation) (p q x y : List ℕ) → Hears service a p x b → Hears service b q y c → Hears service a (p ++ q) (x ++ y) c
+  hears_then a b c p q x y (inl f) (inl g) = inl (record {
+    still_open = f.still_open;
+    converses = subst (λ (z : List ℕ). Converses service a.talk z (x ++ y) c.rest c.talk) (append_assoc a.rest p q)
+        (converses_then service a.talk b.talk c.talk (a.rest ++ p) q x y b.rest c.rest f.converses g.still_open g.converses);
+  })
+  hears_then a b c p q x y (inl f) (inr g) =
+      let longer : Converses service a.talk (a.rest ++ (p ++ q)) x b.rest b.talk = subst (λ (z : List ℕ). Converses service a.talk z x b.rest b.talk) (append_assoc a.rest p q)
+          (converses_closed a.talk b.talk (a.rest ++ p) q x b.rest f.still_open g.closed f.converses) in
+      let silent : x ≡ x ++ y = sym (append-nil x) ∙ ap (λ (z : List ℕ). x ++ z) (sym g.silent) in
+      inl (record {
+        still_open = f.still_open;
+        converses = subst (λ (d : Conversation). Converses service a.talk (a.rest ++ (p ++ q)) (x ++ y) d.rest d.talk) (sym g.same)
+            (subst (λ (z : List ℕ). Converses service a.talk (a.rest ++ (p ++ q)) z b.rest b.talk) silent longer);
+      })
+  hears_then a b c p q x y (inr f) (inl g) =
+      let shut : true ≡ false = sym f.closed ∙ sym (ap (λ (d : Conversation). d.talk.is_closed) f.same) ∙ g.still_open in
+      absurd (cc shut)
+  hears_then a b c p q x y (inr f) (inr g) = inr (record {
+    closed = f.closed;
+    silent = ap (λ (z : List ℕ). z ++ y) f.silent ∙ g.silent;
+    same = g.same ∙ f.same;
+  })
+
+-- what is closed stays closed
+pub hears_closed : (service : Service) (a b : Conversation) (p x : List ℕ) → Hears service a p x b → a.talk.is_closed ≡ true → b.talk.is_closed ≡ true
+hears_closed service a b p x (inl f) shut = let both : true ≡ false = sym shut ∙ f.still_open in absurd (cc both)
+hears_closed service a b p x (inr f) shut = ap (λ (d : Conversation). d.talk.is_closed) f.same ∙ shut

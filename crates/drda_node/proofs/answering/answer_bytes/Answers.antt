@@ -1,0 +1,14 @@
+use Rattle.std.proofs.Common.{◌≡◌, ◌∙◌, ◌++◌, List, ℕ, true, false, sym, ap, slice_get}
+use Rattle.drda_node.specs.Register.{machine}
+use Rattle.drda_node.specs.Happening.{refusal}
+use Rattle.drda_node.proofs.Refusing.{ok_so, no_bytes_taken}
+use Rattle.drda_node.proofs.answering.answer_bytes.Goals as goal
+
+pub returns-then-not-has : goal.returns-then-not-has
+returns-then-not-has c =
+    let m = machine c.args.node.now in
+    ok_so c.refuse.result
+        (λ said. no_bytes_taken (slice_get m.row c.args.number) m c.args.number c.args.bytes.now c.refuse.new.text.items
+            (λ there is. ?)
+            (said ∙ ap (λ (z : List ℕ). z ++ refusal c.args.number 2) c.requires))
+        c.refuse.ensures

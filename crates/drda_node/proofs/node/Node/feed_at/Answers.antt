@@ -1,0 +1,28 @@
+use Rattle.std.proofs.Common.{◌≡◌, ℕ, List, Some, ap, ◌∙◌, sym, subst}
+use Rattle.conversation.specs.Service.{Service}
+use Rattle.drda_node.specs.Feeding.{shown_held, Takes}
+use Rattle.drda_node.specs.Register.{shown, number_of}
+use Rattle.drda_node.proofs.Rows.{view_at, view_set, view_kept, shows_open, open_shows, same_row, same_numbers}
+use Rattle.drda_node.proofs.node.Node.feed_at.Goals as goal
+
+pub returns-clause-feeds : goal.returns-clause-feeds
+returns-clause-feeds c =
+    let items = c.args.self.now.places.items in
+    let place = c.index_mut.result.now in
+    let new = c.feed.new.self in
+    let (h, here) = c.requires in
+    let is : shown place ≡ Some h = ap shown c.index_mut.ensures.value ∙ view_at shown items c.args.place place (Some h) here in
+    let shows = open_shows place (shows_open place h is) in
+    let service : place.front.service ≡ c.args.self.now.settings = ? in
+    record {
+      before = shown_held place.front;
+      after = shown_held new.front;
+      was = here ∙ ap (λ o. Some o) (sym is ∙ shows);
+      row = same_row c.args.self.now.settings _ _ (view_set shown items c.args.place new (Some (shown_held new.front)) (open_shows new c.feed.ensures.open));
+      takes = subst (λ (v : Service). Takes v (shown_held place.front) c.args.piece.now c.args.out.now.items c.feed.result (shown_held new.front) c.feed.new.out.items) service c.feed.ensures.takes;
+    }
+
+pub returns-clause-register : goal.returns-clause-register
+returns-clause-register c =
+    let place = c.index_mut.result.now in
+    same_numbers _ _ c.args.self.now.next_number (view_kept number_of c.args.self.now.places.items c.args.place place c.feed.new.self (c.feed.ensures.number ∙ ap number_of c.index_mut.ensures.value))

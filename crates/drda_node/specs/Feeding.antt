@@ -1,0 +1,63 @@
+-- What feeding a conversation gives.
+use Rattle.std.specs.Prelude.{◌≡◌, ◌≤◌, ◌<◌, ℕ, Bool, true, false, List, [], ◌++◌, length, take, Some, slice_get, if◌then◌else◌}
+use Rattle.dss_frames.specs.Fault.{IsUnfinished}
+use Rattle.conversation.specs.declared.front.Need.{Need}
+use Rattle.conversation.specs.declared.front.Need.TheVariants.{Bytes, Local, Short as short, Closed as closed}
+use Rattle.conversation.specs.Service.{Service}
+use Rattle.conversation.specs.Held.{Held}
+use Rattle.drda_node.specs.declared.fed.Fed.{Fed}
+use Rattle.drda_node.specs.declared.fed.FedState.{FedState}
+use Rattle.drda_node.specs.declared.fed.FedState.TheVariants.{Open, Closed, Short, Later}
+use Rattle.drda_node.specs.Machine.{Conversation, Machine, with_place}
+use Rattle.drda_node.specs.Hearing.{Hears}
+
+-- the bytes of a reply that comes behind what was appended
+abbrev pub bytes_behind : FedState → List ℕ
+bytes_behind Open = []
+bytes_behind Closed = []
+bytes_behind (Short bytes) = bytes
+bytes_behind Later = []
+
+-- what a state says of the conversation, and of how many bytes were taken
+abbrev pub LeftAs : FedState → ℕ → Conversation → Type 0
+LeftAs Open taken after = after.talk.is_closed ≡ false
+LeftAs Closed taken after = after.talk.is_closed ≡ true
+LeftAs (Short bytes) taken after = (0 < taken) × (after.talk.is_closed ≡ false)
+LeftAs Later taken after = Unit {0}
+
+-- bytes were heard, and the replies appended, but for what comes behind them
+pub record Told (service : Service) (before : Conversation) (bytes out behind : List ℕ) (after : Conversation) (out' : List ℕ) : Type 0 where
+  pub replies : List ℕ
+  pub appended : out' ≡ out ++ replies
+  pub hears : Hears service before bytes (replies ++ behind) after
+
+-- The conversation heard the bytes of the piece that were taken, and its replies were appended. All of
+-- the piece is taken where the conversation stays open, and nothing where it was closed before.
+pub record Takes (service : Service) (before : Conversation) (piece out : List ℕ) (fed : Fed) (after : Conversation) (out' : List ℕ) : Type 0 where
+  pub within : fed.taken ≤ length piece
+  pub told : Told service before (take fed.taken piece) out (bytes_behind fed.state) after out'
+  pub state : LeftAs fed.state fed.taken after
+  pub all : fed.state ≡ Open → fed.taken ≡ length piece
+  pub none : before.talk.is_closed ≡ true → fed.taken ≡ 0
+
+-- the same of the conversation at this place; all others stay as they are
+pub record Feeds (old : Machine) (place : ℕ) (piece out : List ℕ) (fed : Fed) (new : Machine) (out' : List ℕ) : Type 0 where
+  pub before : Conversation
+  pub after : Conversation
+  pub was : slice_get old.row place ≡ Some (Some before)
+  pub row : new ≡ with_place old place (Some after)
+  pub takes : Takes old.service before piece out fed after out'
+
+-- between two calls the rest of an open conversation holds no whole command and no fault
+abbrev pub IsSettled : Held → Type 0
+IsSettled held = held.talk.is_closed ≡ false → IsUnfinished held.rest
+
+abbrev pub shown_held : Held → Conversation
+shown_held held = record { rest = held.rest; talk = held.talk }
+
+-- how it stands after one step of the conversation, by whether all the bytes were taken
+abbrev pub state_for : Need → Bool → FedState
+state_for Bytes all = if all then Open else Later
+state_for Local all = if all then Open else Later
+state_for (short bytes) all = Short bytes
+state_for closed all = Closed

@@ -1,0 +1,123 @@
+//! Events done by a node, and the records that answer them.
+
+ghost use Rattle.std.specs.Prelude.{◌≡◌, ◌≤◌, [], ◌++◌, ℕ, List, OnOk, IfOk, length};
+ghost use Rattle.drda_node.specs.Machine.{Conversation, IsOpen};
+ghost use Rattle.drda_node.specs.Hearing.{HearsAt};
+ghost use Rattle.drda_node.specs.Records.{opens, sends, loses, checkpoints};
+ghost use Rattle.drda_node.specs.Reading.{event_of, size_of};
+ghost use Rattle.drda_node.specs.Happening.{Happens, refusal, closing};
+ghost use Rattle.drda_node.specs.Register.{machine};
+
+use std::alloc::AllocError;
+
+use dss_frames::stays_read;
+
+use crate::event::{Head, push_record};
+use crate::fed::FedState;
+use crate::node::{Done, Node};
+
+/// Kinds of records that go out.
+const OPENED: u8 = 1;
+const REPLIES: u8 = 2;
+const LOST: u8 = 3;
+const CHECKPOINTED: u8 = 4;
+const CLOSED: u8 = 5;
+const REFUSED: u8 = 6;
+
+/// Why an event is refused.
+const CANNOT_OPEN: u8 = 1;
+const NOT_OPEN: u8 = 2;
+const NO_MEMORY: u8 = 3;
+
+fn refuse(text: &mut Vec<u8>, number: u8, reason: u8) -> Result<(), AllocError>
+    ensures { OnOk result (text.new.items ≡ text.old.items ++ refusal number reason) }
+{
+    push_record(text, REFUSED, number, &[reason])
+}
+
+/// Does an event, its bytes to the front of `bytes`, and writes the records that answer it in place of
+/// what the text was; `replies` is room. For want of memory nothing is said of the text.
+pub(crate) fn answer(node: &mut Node, head: Head, bytes: &[u8], replies: &mut Vec<u8>, text: &mut Vec<u8>) -> Result<(), AllocError>
+    requires { size_of head ≤ length bytes.now }
+    ensures { OnOk result (Happens (machine node.old) (event_of head bytes.now) text.new.items (machine node.new)) }
+{
+    text.clear();
+    match head {
+        Head::Opens(number) => answer_open(node, number, text),
+        Head::Sends(number, size) => answer_bytes(node, number, &bytes[..size], replies, text),
+        Head::Loses(number) => answer_lost(node, number, text),
+        Head::Checkpoints(number) => {
+            let Done::Done = node.checkpoint();
+            push_record(text, CHECKPOINTED, number, &[0])
+        }
+    }
+}
+
+fn answer_open(node: &mut Node, number: u8, text: &mut Vec<u8>) -> Result<(), AllocError>
+    requires { text.old.items ≡ [] }
+    ensures { OnOk result (Happens (machine node.old) (opens number) text.new.items (machine node.new)) }
+{
+    let place = usize::from(number);
+    if !node.is_free(place) {
+        return refuse(text, number, CANNOT_OPEN);
+    }
+    match node.open_at(place) {
+        Ok(_) => push_record(text, OPENED, number, &[]),
+        Err(_) => refuse(text, number, NO_MEMORY),
+    }
+}
+
+fn answer_bytes(node: &mut Node, number: u8, bytes: &[u8], replies: &mut Vec<u8>, text: &mut Vec<u8>) -> Result<(), AllocError>
+    requires { text.old.items ≡ [] }
+    ensures { OnOk result (Happens (machine node.old) (sends number bytes.now) text.new.items (machine node.new)) }
+{
+    let place = usize::from(number);
+    if !node.has(place) {
+        return refuse(text, number, NOT_OPEN);
+    }
+    replies.clear();
+    let is_closed = feed_all(node, place, bytes, replies)?;
+    if replies.len() > u32::MAX as usize {
+        return Err(AllocError);
+    }
+    push_record(text, REPLIES, number, replies)?;
+    if is_closed {
+        push_record(text, CLOSED, number, &[])?;
+    }
+    Ok(())
+}
+
+fn answer_lost(node: &mut Node, number: u8, text: &mut Vec<u8>) -> Result<(), AllocError>
+    requires { text.old.items ≡ [] }
+    ensures { OnOk result (Happens (machine node.old) (loses number) text.new.items (machine node.new)) }
+{
+    let place = usize::from(number);
+    if !node.has(place) {
+        return refuse(text, number, NOT_OPEN);
+    }
+    node.lose_at(place);
+    push_record(text, LOST, number, &[])
+}
+
+/// Gives a conversation all of these bytes, and appends its replies, those that say that a command
+/// found no memory among them. Says whether the conversation is closed then.
+fn feed_all(node: &mut Node, place: usize, bytes: &[u8], replies: &mut Vec<u8>) -> Result<bool, AllocError>
+    requires { IsOpen (machine node.old) place }
+    ensures { IfOk result (λ is_closed. (after : Conversation) × (written : List ℕ)
+        × (replies.new.items ≡ replies.old.items ++ written)
+        × HearsAt (machine node.old) place bytes.now written after (machine node.new)
+        × (after.talk.is_closed ≡ is_closed)) }
+{
+    stays_read();
+    let mut at = 0;
+    'feeding: loop {
+        let fed = node.feed_at(place, &bytes[at..], replies);
+        at += fed.taken;
+        match fed.state {
+            FedState::Open => return Ok(false),
+            FedState::Closed => return Ok(true),
+            FedState::Short(reply) => replies.extend_from_slice(&reply)?,
+            FedState::Later => return Err(AllocError),
+        }
+    }
+}

@@ -1,0 +1,25 @@
+//! What became of bytes that a conversation was given.
+
+/// What became of a piece of bytes.
+#[derive(Clone, Copy, Debug, PartialEq, Eq)]
+pub struct Fed {
+    /// How many bytes of the piece were taken, from its front.
+    pub taken: usize,
+    /// How it stands with the conversation now.
+    pub state: FedState,
+}
+
+/// How it stands with a conversation that was fed.
+#[derive(Clone, Copy, Debug, PartialEq, Eq)]
+pub enum FedState {
+    /// All bytes were taken, and more may come.
+    Open,
+    /// The conversation is closed: a fault of the framing was answered, now or before. It takes no
+    /// more bytes.
+    Closed,
+    /// Memory was refused to the command that these bytes completed: it was not done, and this is its
+    /// reply, which comes behind what was appended. The rest of the piece is to be fed again.
+    Short([u8; 16]),
+    /// Memory was refused: the rest of the piece was not taken, and is to be fed again.
+    Later,
+}

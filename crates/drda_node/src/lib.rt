@@ -1,0 +1,19 @@
+//! A node: up to 64 conversations side by side, and their events from one stream of records.
+#![tactic(auto)]
+
+mod answering;
+mod event;
+mod fed;
+mod node;
+mod place;
+mod reading;
+mod serving;
+mod talking;
+mod writing;
+
+pub use fed::{Fed, FedState};
+pub use node::{ConversationId, Done, Node, OpenError};
+pub use serving::{RunEnd, run};
+
+#[cfg(test)]
+mod tests;

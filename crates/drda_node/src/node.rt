@@ -1,0 +1,174 @@
+//! The node: a row of places.
+
+ghost use Rattle.std.specs.Prelude.{◌≡◌, length};
+ghost use Rattle.drda_node.specs.Sharing.{AllServe};
+
+use std::alloc::{AllocError, Global};
+
+use conversation::Settings;
+use thiserror::Error;
+
+use crate::fed::Fed;
+use crate::place::Place;
+
+/// How many conversations can be open at a time.
+const PLACES: usize = 64;
+
+/// Which conversation of a node. None is given twice.
+#[derive(Clone, Copy, Debug, PartialEq, Eq)]
+pub struct ConversationId {
+    place: usize,
+    number: u64,
+}
+
+/// Why no conversation was opened.
+#[derive(Clone, Copy, Debug, PartialEq, Eq, Error)]
+pub enum OpenError {
+    /// 64 conversations are open.
+    #[error("64 conversations are open")]
+    TooMany,
+    /// Memory was refused, or there is no number left that was not given before.
+    #[error("no memory")]
+    NoMemory,
+}
+
+/// What became of a checkpoint.
+#[derive(Clone, Copy, Debug, PartialEq, Eq)]
+pub enum Done {
+    /// The store is checkpointed.
+    Done,
+}
+
+/// Up to 64 conversations.
+#[derive(Drop)]
+pub struct Node {
+    alloc: Global,
+    settings: Settings,
+    pub(crate) places: Vec<Place>,
+    pub(crate) next_number: u64,
+    ghost sixty_four: { length places.items ≡ 64 },
+    ghost alike: { AllServe settings places.items },
+}
+
+impl Node {
+    ghost use Rattle.std.specs.Prelude.{◌≡◌, ◌<◌, ◌+◌, ◌↔◌, IfOk, OnErr, IsTrue, ◌≢◌, Err, true, length, slice_get, Some, None};
+    ghost use Rattle.drda_node.specs.Machine.{at_start, is_full, lost, IsOpen, opened};
+    ghost use Rattle.drda_node.specs.Feeding.{Feeds};
+    ghost use Rattle.drda_node.specs.Register.{machine, register, place_of, Names, Opens};
+
+    /// A node with no conversation.
+    pub fn start(alloc: Global, settings: Settings) -> Result<Node, AllocError>
+        ensures { IfOk result (λ n. machine n ≡ at_start settings) }
+    {
+        let mut places = Vec::new(alloc);
+        for _ in 0..PLACES {
+            places.push(Place::new(alloc, &settings)?)?;
+        }
+        Ok(Node {
+            alloc,
+            settings,
+            places,
+            next_number: 0,
+        })
+    }
+
+    /// Opens a conversation. TooMany exactly where 64 are open; where it refuses, nothing changes.
+    pub fn open_conversation(&mut self) -> Result<ConversationId, OpenError>
+        ensures opened { IfOk result (λ id. Opens (machine self.old) (register self.old) id (machine self.new) (register self.new)) }
+        ensures refused { OnErr result (machine self.new ≡ machine self.old) }
+        ensures none_given { OnErr result (register self.new ≡ register self.old) }
+        ensures too_many { (result ≡ Err OpenError.TooMany) ↔ (is_full (machine self.old) ≡ true) }
+        ensures places { length (machine self.old).row ≡ 64 }
+    {
+        for place in 0..PLACES {
+            if self.is_free(place) {
+                return self.open_at(place);
+            }
+        }
+        Err(OpenError::TooMany)
+    }
+
+    /// Opens a conversation at a free place; NoMemory where no number is left.
+    pub(crate) fn open_at(&mut self, place: usize) -> Result<ConversationId, OpenError>
+        requires { slice_get (machine self.old).row place ≡ Some None }
+        ensures opened { IfOk result (λ id. Opens (machine self.old) (register self.old) id (machine self.new) (register self.new)) }
+        ensures place { IfOk result (λ id. place_of id ≡ place) }
+        ensures refused { OnErr result (machine self.new ≡ machine self.old) }
+        ensures none_given { OnErr result (register self.new ≡ register self.old) }
+        ensures not_full { result ≢ Err OpenError.TooMany }
+    {
+        let number = self.next_number;
+        let Some(next_number) = number.checked_add(1) else {
+            return Err(OpenError::NoMemory);
+        };
+        self.places[place].begin(self.alloc, number);
+        self.next_number = next_number;
+        Ok(ConversationId { place, number })
+    }
+
+    /// Whether the conversation is open: from when its name was given until it is lost, closed by a
+    /// fault or not.
+    pub fn is_open(&self, id: ConversationId) -> bool
+        ensures { IsTrue result ↔ Names (machine self.now) (register self.now) id }
+    {
+        self.has(id.place) && self.places[id.place].number == id.number
+    }
+
+    /// Whether a conversation is open at this place.
+    pub(crate) fn has(&self, place: usize) -> bool
+        ensures { IsTrue result ↔ IsOpen (machine self.now) place }
+    {
+        place < self.places.len() && self.places[place].is_open
+    }
+
+    /// Whether this is a free place.
+    pub(crate) fn is_free(&self, place: usize) -> bool
+        ensures { IsTrue result ↔ (slice_get (machine self.now).row place ≡ Some None) }
+    {
+        place < self.places.len() && !self.places[place].is_open
+    }
+
+    /// Gives a conversation bytes, and appends its replies to `out`.
+    pub fn feed(&mut self, id: ConversationId, piece: &[u8], out: &mut Vec<u8>) -> Fed
+        requires { Names (machine self.old) (register self.old) id }
+        ensures feeds { Feeds (machine self.old) (place_of id) piece.now out.old.items result (machine self.new) out.new.items }
+        ensures register { register self.new ≡ register self.old }
+    {
+        self.feed_at(id.place, piece, out)
+    }
+
+    /// Gives the conversation at this place bytes.
+    pub(crate) fn feed_at(&mut self, place: usize, piece: &[u8], out: &mut Vec<u8>) -> Fed
+        requires { IsOpen (machine self.old) place }
+        ensures feeds { Feeds (machine self.old) place piece.now out.old.items result (machine self.new) out.new.items }
+        ensures register { register self.new ≡ register self.old }
+    {
+        self.places[place].feed(piece, out)
+    }
+
+    /// Takes a conversation away: its place is free, and what it had not sent whole is dropped.
+    pub fn lost(&mut self, id: ConversationId)
+        requires { Names (machine self.old) (register self.old) id }
+        ensures machine { machine self.new ≡ lost (machine self.old) (place_of id) }
+        ensures register { register self.new ≡ register self.old }
+    {
+        self.lose_at(id.place);
+    }
+
+    /// Takes the conversation at this place away.
+    pub(crate) fn lose_at(&mut self, place: usize)
+        requires { IsOpen (machine self.old) place }
+        ensures machine { machine self.new ≡ lost (machine self.old) place }
+        ensures register { register self.new ≡ register self.old }
+    {
+        self.places[place].close();
+    }
+
+    /// Checkpoints the store. There is none yet, so nothing changes.
+    pub fn checkpoint(&mut self) -> Done
+        ensures machine { machine self.new ≡ machine self.old }
+        ensures register { register self.new ≡ register self.old }
+    {
+        Done::Done
+    }
+}

@@ -1,0 +1,12 @@
+pub mod Machine
+pub mod Headers
+pub mod Ways
+pub mod Holds
+pub mod Readings
+pub mod Steps
+pub mod Wanting
+pub mod Settled
+pub mod Joins
+pub mod Commands
+pub mod Walks
+pub mod Written

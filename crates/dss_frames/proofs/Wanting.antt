@@ -1,0 +1,65 @@
+-- What a reader asks for is never more than the command under way.
+use Rattle.std.proofs.Common.{◌≡◌, ◌⊎◌, inl, inr, ℕ, zero, suc, ◌+◌, ◌-◌, ◌≤◌, ◌<◌, max, Bool, true, false, List, [], ◌∷◌, ◌++◌, length, take, drop, Option, Some, None, Result, Ok, Err, refl, sym, ap, subst, ◌∙◌, append_assoc, arith, length-append, length-drop, take-append-drop}
+use Rattle.std.proofs.lemmas.List.{append-nil, take-append-le, length-take-le}
+use Rattle.std.proofs.Math.Seq.{take-append_seam, take-append-add}
+use Rattle.std.proofs.Math.Dec.{ltb}
+use Rattle.std.proofs.lemmas.Bool.{ltb-true, ltb-false}
+use Rattle.dss_frames.specs.declared.turn.Turn.{Turn}
+use Rattle.dss_frames.specs.declared.turn.Turn.TheVariants.{Request, Object, Nothing}
+use Rattle.dss_frames.specs.declared.place.Expected.{Expected}
+use Rattle.dss_frames.specs.declared.place.Expected.TheVariants.{Header, Continuation}
+use Rattle.dss_frames.specs.declared.place.Place.{Place}
+use Rattle.dss_frames.specs.Dss.{Dss}
+use Rattle.dss_frames.specs.Command.{IsCommand}
+use Rattle.dss_frames.specs.Fault.{BeginsWith, IsUnfinished}
+use Rattle.dss_frames.specs.Judging.{judged}
+use Rattle.dss_frames.specs.Place.{IsAt, header_length}
+use Rattle.dss_frames.specs.Lending.{KeepsToOne}
+use Rattle.dss_frames.proofs.Steps.{GoesOn, place_part, place_early, place_more}
+
+-- less than the header
+short_header : (expected : Expected) (bytes : List ℕ) → length bytes < header_length expected → GoesOn expected × (judged expected bytes ≡ Ok None)
+short_header (Header Nothing) bytes lt = absurd (omega arith)
+short_header (Header Request) (a ∷ b ∷ c ∷ d ∷ e ∷ f ∷ bytes) lt = absurd (omega arith)
+short_header (Header Request) bytes lt = (tt, refl)
+short_header (Header (Object of_dss)) (a ∷ b ∷ c ∷ d ∷ e ∷ f ∷ bytes) lt = absurd (omega arith)
+short_header (Header (Object of_dss)) bytes lt = (tt, refl)
+short_header (Continuation format of_dss declared) (a ∷ b ∷ bytes) lt = absurd (omega arith)
+short_header (Continuation format of_dss declared) bytes lt = (tt, refl)
+
+-- what stands before the end of the next header is unfinished
+unfinished_by : (early : Bool) (bytes : List ℕ) (place : Place) → ltb (length bytes) place.at ≡ early → IsAt bytes place → length bytes < place.at + header_length place.expected → IsUnfinished bytes
+unfinished_by true bytes place e h lt = place_early bytes place h (ltb-true _ _ e)
+unfinished_by false bytes place e h lt =
+    let le : place.at ≤ length bytes = ltb-false _ _ e in
+    let tail : length (drop place.at bytes) < header_length place.expected = let k = length-drop place.at bytes in omega arith in
+    let short = short_header place.expected (drop place.at bytes) tail in
+    place_part bytes place h le short.0 short.1
+
+unfinished : (bytes : List ℕ) (place : Place) → IsAt bytes place → length bytes < place.at + header_length place.expected → IsUnfinished bytes
+unfinished bytes place h lt = unfinished_by (ltb (length bytes) place.at) bytes place refl h lt
+
+-- a command that ends before the last byte
+ends_before : (within : Bool) (bytes more front rest : List ℕ) (command : List Dss) (place : Place) (n : ℕ) → ltb (length bytes) (length front) ≡ within
+    → IsAt bytes place → n ≡ max 1 (place.at + header_length place.expected - length bytes) → IsUnfinished bytes → length more ≤ n
+    → bytes ++ more ≡ front ++ rest → 1 ≤ length rest → IsCommand front command → ⊥
+ends_before false bytes more front rest command place n w h e un le same some is =
+    let short : length front ≤ length bytes = ltb-false _ _ w in
+    let first : take (length front) bytes ≡ front = sym (take-append-le (length front) bytes more short) ∙ ap (λ (b : List ℕ). take (length front) b) same ∙ take-append_seam front rest in
+    let parts : bytes ≡ front ++ drop (length front) bytes = sym (take-append-drop (length front) bytes) ∙ ap (λ (b : List ℕ). b ++ drop (length front) bytes) first in
+    un.no_command command (drop (length front) bytes) (front, parts, is)
+ends_before true bytes more front rest command place n w h e un le same some is =
+    let long : length bytes < length front = ltb-true _ _ w in
+    let count = length front - length bytes in
+    let sum : length bytes + count ≡ length front = omega arith in
+    let all : List ℕ = bytes ++ take count more in
+    let front_is : all ≡ front = sym (take-append-add bytes more count) ∙ ap (λ (m : ℕ). take m (bytes ++ more)) sum ∙ ap (λ (b : List ℕ). take (length front) b) same ∙ take-append_seam front rest in
+    let lengths : length bytes + length more ≡ length front + length rest = sym (length-append bytes more) ∙ ap length same ∙ length-append front rest in
+    let size : length all ≡ length front = ap length front_is in
+    let un_all = unfinished all place (place_more bytes (take count more) place h) (omega arith) in
+    un_all.no_command command [] (front, front_is ∙ sym (append-nil front), is)
+
+pub keeps_to_one : (bytes : List ℕ) (place : Place) (n : ℕ) → IsAt bytes place → n ≡ max 1 (place.at + header_length place.expected - length bytes) → KeepsToOne bytes n
+keeps_to_one bytes place n h e more command [] un le begins = refl
+keeps_to_one bytes place n h e more command (x ∷ rest) un le begins =
+    absurd (ends_before (ltb (length bytes) (length begins.0)) bytes more begins.0 (x ∷ rest) command place n refl h e un le begins.1 (omega arith) begins.2)

@@ -1,0 +1,13 @@
+use Rattle.std.proofs.Common.{◌≡◌, ◌+◌, ◌∙◌, sym, ap, arith, drop, length, Some, None}
+use Rattle.dss_frames.specs.Group.{first_dss, dss_of}
+use Rattle.dss_frames.proofs.Walks.{walk_count}
+use Rattle.dss_frames.proofs.group.Group.count.Goals as goal
+
+pub counting-preserved : goal.counting-preserved
+counting-preserved c =
+    let k = walk_count c.args.self.now.text.now c.counting.at (c.in-Some.dss.at + length c.in-Some.dss.contents.now) (dss_of c.in-Some.dss) (sym c.in-Some.ensures.value) (omega (arith, c.in-Some.ensures.at)) in
+    record {
+      within = c.in-Some.ensures.place.0;
+      counted = omega (arith, k);
+      below = omega (arith, c.in-Some.ensures.at);
+    }

@@ -1,0 +1,14 @@
+pub mod Length
+pub mod Format
+pub mod Dss
+pub mod Command
+pub mod Fault
+pub mod Reading
+pub mod Writing
+pub mod Group
+pub mod Held
+pub mod Lending
+pub mod Place
+pub mod Judging
+pub mod Joining
+pub mod Parts

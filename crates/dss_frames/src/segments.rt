@@ -1,0 +1,169 @@
+use crate::fault::FrameFault;
+use crate::group::Group;
+use crate::joining::join;
+use crate::looking::{look, missing};
+use crate::place::{Expected, Found, Place};
+use crate::turn::Turn;
+use std::alloc::Global;
+use std::marker::Model;
+
+/// The bytes of one conversation, as they come: it lends each command as soon as its last byte is
+/// there, and finds the first fault as soon as its header is.
+///
+/// A command is kept as it came until it is whole. Then the contents of its continuations are moved
+/// down over their headers, and it lies behind `start`, where the bytes not taken yet begin.
+#[derive(Drop)]
+pub struct Segments {
+    buf: Vec<u8>,
+    lent: usize,
+    lent_size: usize,
+    start: usize,
+    place: Place,
+    at_fault: bool,
+}
+
+impl Model for Segments {
+    ghost use Rattle.std.specs.Prelude.{drop};
+    ghost use Rattle.drda_words.specs.Place.{part};
+    ghost use Rattle.dss_frames.specs.Held.{Held};
+    ghost use Rattle.dss_frames.specs.Group.{joined_dsss};
+    ghost use Rattle.dss_frames.specs.Place.{IsSettled};
+
+    ghost Value = { Held };
+
+    ghost view = { λ s. record { rest = drop s.start s.buf.items; at_fault = s.at_fault; last = joined_dsss (part s.buf.items s.lent s.lent_size) } };
+
+    ghost invariant = { λ s. IsSettled s.buf.items s.lent s.lent_size s.start s.place s.at_fault };
+}
+
+impl Segments {
+    ghost use Rattle.std.specs.Prelude.{◌≡◌, ◌≤◌, ◌<◌, ◌++◌, ◌+◌, [], false, length, take, IsTrue};
+    ghost use Rattle.std.specs.Borrow.{sem};
+    ghost use Rattle.dss_frames.specs.Group.{command_of};
+    ghost use Rattle.dss_frames.specs.Lending.{EndsAs, Takes, TakesFront, TakesCommand, KeepsToOne};
+    ghost use Rattle.dss_frames.specs.Place.{HasCommand};
+
+    /// A reader that holds nothing. It takes no memory before the first bytes come.
+    pub fn new(alloc: Global) -> Segments
+        ensures rest { result.rest ≡ [] }
+        ensures no_fault { result.at_fault ≡ false }
+    {
+        Segments {
+            buf: Vec::new(alloc),
+            lent: 0,
+            lent_size: 0,
+            start: 0,
+            place: Place {
+                at: 0,
+                expected: Expected::Header(Turn::Request),
+            },
+            at_fault: false,
+        }
+    }
+
+    /// Takes the bytes that come next, and says how many it took: all of them, none after a fault,
+    /// and fewer only for want of memory. What was lent before is forgotten.
+    pub fn feed(&mut self, piece: &[u8]) -> usize
+        ensures taken { self.new.rest ≡ self.old.rest ++ take result piece.now }
+        ensures within { result ≤ length piece.now }
+        ensures at_fault { IsTrue self.old.at_fault → result ≡ 0 }
+        ensures fault_stays { self.new.at_fault ≡ self.old.at_fault }
+    {
+        if self.at_fault {
+            return 0;
+        }
+        self.make_room();
+        match self.buf.extend_from_slice(piece) {
+            Ok(()) => piece.len(),
+            Err(_) => 0,
+        }
+    }
+
+    /// How many bytes at the least are missing until the next header, segment or command can be
+    /// judged: at least one. A caller that feeds no more than these before it calls `next` never
+    /// has a byte of a second command here.
+    pub fn wanted(&self) -> usize
+        ensures some { 1 ≤ result }
+        ensures one_command { KeepsToOne self.now.rest result }
+    {
+        missing(self.place, self.rest())
+    }
+
+    /// The next command, where all of it has come; none, where more bytes have to come; or the
+    /// first fault, which stays. It takes no memory. The command lies in the buffer until the
+    /// reader is used again.
+    pub fn next(&mut self) -> Result<Option<Group<'_>>, FrameFault>
+        ensures* after { sem 𝓛 (EndsAs self.entry (λ n. Takes self.old result n)) }
+    {
+        if self.take_command()? {
+            Ok(Some(self.last()))
+        } else {
+            Ok(None)
+        }
+    }
+
+    /// The command that was lent last, again.
+    pub fn last(&self) -> Group<'_>
+        ensures { command_of result ≡ self.now.last }
+    {
+        Group {
+            text: &self.buf[self.lent..self.lent + self.lent_size],
+        }
+    }
+
+    fn rest(&self) -> &[u8]
+        ensures { result.now ≡ self.now.rest }
+    {
+        &self.buf[self.start..]
+    }
+
+    fn make_room(&mut self)
+        ensures rest { self.new.rest ≡ self.old.rest }
+        ensures last { self.new.last ≡ [] }
+        ensures at_fault { self.new.at_fault ≡ self.old.at_fault }
+    {
+        let kept = self.buf.len() - self.start;
+        if kept <= self.start {
+            self.buf.copy_within(self.start.., 0);
+            self.buf.truncate(kept);
+            self.start = 0;
+        }
+        self.lent = self.start;
+        self.lent_size = 0;
+    }
+
+    fn take_command(&mut self) -> Result<bool, FrameFault>
+        ensures { TakesFront self.old result self.new }
+    {
+        match look(self.place, self.rest()) {
+            Ok(Found::Command(size)) => {
+                self.lend(size);
+                Ok(true)
+            }
+            Ok(Found::Nothing(place)) => {
+                self.place = place;
+                Ok(false)
+            }
+            Err(fault) => {
+                self.at_fault = true;
+                Err(fault)
+            }
+        }
+    }
+
+    /// Joins the command in front, and takes it.
+    fn lend(&mut self, size: usize)
+        requires { HasCommand self.old.rest size }
+        ensures { TakesCommand self.old self.new.last self.new }
+    {
+        let end = self.start + size;
+        let joined = join(&mut self.buf, self.start, size);
+        self.lent = self.start;
+        self.lent_size = joined;
+        self.start = end;
+        self.place = Place {
+            at: 0,
+            expected: Expected::Header(Turn::Request),
+        };
+    }
+}

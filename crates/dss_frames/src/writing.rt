@@ -1,0 +1,87 @@
+ghost use Rattle.std.specs.Prelude.{◌≡◌, ◌≤◌, ◌<◌, ◌^◌, ◌+◌, ◌++◌, ℕ, List, length, IsOk, OnOk, OnErr, vec_len, vec_capacity};
+ghost use Rattle.dss_frames.specs.Dss.{IsDss};
+ghost use Rattle.dss_frames.specs.Length.{dss_limit};
+ghost use Rattle.dss_frames.specs.Writing.{written, written_length, length_bytes, continuations, continued_length};
+
+use crate::format::Format;
+use std::alloc::AllocError;
+
+/// What a full segment holds, behind the six bytes of a header and the two of a continuation.
+const FIRST_SIZE: u16 = 32_761;
+
+const NEXT_SIZE: u16 = 32_765;
+
+/// Appends a DSS: full segments, and the last one short. For want of memory nothing is appended;
+/// where the list has room for `written_length`, there is no such want.
+pub fn write_dss(
+    out: &mut Vec<u8>,
+    format: Format,
+    correlator: u16,
+    contents: &[u8],
+) -> Result<(), AllocError>
+    ensures ok { OnOk result (out.new.items ≡ out.old.items ++ written format.byte correlator contents.now) }
+    ensures err { OnErr result (out.new.items ≡ out.old.items) }
+    ensures room { vec_len out.old + written_length (length contents.now) ≤ vec_capacity out.old → IsOk result }
+    ensures capacity { vec_capacity out.old ≤ vec_capacity out.new }
+{
+    out.reserve(written_length(contents.len()))?;
+    append(out, &length_bytes(6, FIRST_SIZE, contents.len()));
+    append(out, &[0xD0, format.byte]);
+    append(out, &correlator.to_be_bytes());
+    let (first, rest) = contents.split_at((FIRST_SIZE as usize).min(contents.len()));
+    append(out, first);
+    append_continuations(out, rest);
+    Ok(())
+}
+
+/// How many bytes a DSS with so many bytes of contents takes.
+pub fn written_length(count: usize) -> usize
+    requires { written_length count < 2 ^ 64 }
+    ensures { result ≡ written_length count }
+{
+    let others = count.saturating_sub(FIRST_SIZE as usize);
+    6 + count + 2 * others.div_ceil(NEXT_SIZE as usize)
+}
+
+/// The length of a segment that holds the first bytes of some, at most so many.
+fn length_bytes(header: u16, size: u16, count: usize) -> [u8; 2]
+    requires { header + size < 32768 }
+    ensures { result ≡ length_bytes header size count }
+{
+    if count > size as usize {
+        (32_768 + (header + size)).to_be_bytes()
+    } else {
+        (header + count as u16).to_be_bytes()
+    }
+}
+
+/// Appends bytes for which there is room.
+fn append(out: &mut Vec<u8>, bytes: &[u8])
+    requires { vec_len out.old + length bytes.now ≤ vec_capacity out.old }
+    ensures items { out.new.items ≡ out.old.items ++ bytes.now }
+    ensures len { vec_len out.new ≡ vec_len out.old + length bytes.now }
+    ensures capacity { vec_capacity out.old ≤ vec_capacity out.new }
+{
+    let _ = out.extend_from_slice(bytes);
+}
+
+/// Appends the continuations that hold these bytes, for which there is room.
+fn append_continuations(out: &mut Vec<u8>, bytes: &[u8])
+    requires { vec_len out.old + continued_length (length bytes.now) ≤ vec_capacity out.old }
+    ensures items { out.new.items ≡ out.old.items ++ continuations (length bytes.now) bytes.now }
+    ensures capacity { vec_capacity out.old ≤ vec_capacity out.new }
+{
+    let mut rest = bytes;
+    'writing: while !rest.is_empty() {
+        append(out, &length_bytes(2, NEXT_SIZE, rest.len()));
+        let (piece, others) = rest.split_at((NEXT_SIZE as usize).min(rest.len()));
+        append(out, piece);
+        rest = others;
+    }
+}
+
+/// What is written is a DSS of just this, and has just that length.
+pub fn written_dss_is_read()
+    ensures length { (format correlator : ℕ) (contents : List ℕ) → length (written format correlator contents) ≡ written_length (length contents) }
+    ensures dss { (format correlator : ℕ) (contents : List ℕ) → correlator < 2 ^ 16 → written_length (length contents) ≤ dss_limit → IsDss (written format correlator contents) (record { format = format; correlator = correlator; contents = contents }) }
+{}

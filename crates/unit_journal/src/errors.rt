@@ -1,0 +1,109 @@
+//! Why a journal's call was refused.
+ghost use Rattle.std.specs.Prelude.{◌≡◌};
+
+use drda_disk::{DiskFault, ReadFault};
+use std::alloc::{AllocError, AllocFailed};
+use thiserror::Error;
+
+/// There is no room: `need` bytes are asked for and `room` are there.
+#[derive(Clone, Copy, Debug, PartialEq, Eq, Error)]
+#[error("{need} bytes are needed and there is room for {room}")]
+pub struct Full {
+    pub need: usize,
+    pub room: usize,
+}
+
+/// Why no record was added.
+#[derive(Clone, Copy, Debug, PartialEq, Eq, Error)]
+pub enum AppendError {
+    #[error("no memory")]
+    NoMemory,
+    #[error(transparent)]
+    Full(Full),
+    #[error("the device failed")]
+    DeviceFailed,
+}
+
+impl From<AllocError> for AppendError {
+    ghost use Rattle.unit_journal.specs.declared.errors.AppendError.TheVariants.{NoMemory};
+
+    ghost from_gives = { λ _ e. e ≡ NoMemory };
+
+    fn from(_: AllocError) -> Self {
+        AppendError::NoMemory
+    }
+}
+
+impl From<DiskFault> for AppendError {
+    ghost use Rattle.unit_journal.specs.declared.errors.AppendError.TheVariants.{DeviceFailed};
+
+    ghost from_gives = { λ _ e. e ≡ DeviceFailed };
+
+    fn from(_: DiskFault) -> Self {
+        AppendError::DeviceFailed
+    }
+}
+
+/// Why no records were laid.
+#[derive(Clone, Copy, Debug, PartialEq, Eq, Error)]
+pub enum LayError {
+    #[error(transparent)]
+    Full(Full),
+    #[error("the device failed")]
+    DeviceFailed,
+}
+
+impl From<DiskFault> for LayError {
+    ghost use Rattle.unit_journal.specs.declared.errors.LayError.TheVariants.{DeviceFailed};
+
+    ghost from_gives = { λ _ e. e ≡ DeviceFailed };
+
+    fn from(_: DiskFault) -> Self {
+        LayError::DeviceFailed
+    }
+}
+
+/// Why no journal was opened.
+#[derive(Clone, Copy, Debug, PartialEq, Eq, Error)]
+pub enum OpenError {
+    #[error("no memory")]
+    NoMemory,
+    /// The open gate at this offset of the disk has no record behind it.
+    #[error("damaged at {at}")]
+    Damaged { at: usize },
+    #[error("the device failed")]
+    DeviceFailed,
+}
+
+impl<T: Drop> From<AllocFailed<T>> for OpenError {
+    ghost use Rattle.unit_journal.specs.declared.errors.OpenError.TheVariants.{NoMemory};
+
+    ghost from_gives = { λ _ e. e ≡ NoMemory };
+
+    fn from(_: AllocFailed<T>) -> Self {
+        OpenError::NoMemory
+    }
+}
+
+impl From<DiskFault> for OpenError {
+    ghost use Rattle.unit_journal.specs.declared.errors.OpenError.TheVariants.{DeviceFailed};
+
+    ghost from_gives = { λ _ e. e ≡ DeviceFailed };
+
+    fn from(_: DiskFault) -> Self {
+        OpenError::DeviceFailed
+    }
+}
+
+impl From<ReadFault> for OpenError {
+    ghost use Rattle.unit_journal.specs.Open.{open_error_of};
+
+    ghost from_gives = { λ fault e. e ≡ open_error_of fault };
+
+    fn from(fault: ReadFault) -> Self {
+        match fault {
+            ReadFault::NoMemory => OpenError::NoMemory,
+            ReadFault::DeviceFailed => OpenError::DeviceFailed,
+        }
+    }
+}

@@ -1,0 +1,7 @@
+//! What the words on a region say.
+ghost use Rattle.unit_journal.specs.Laws.{OneReading};
+
+/// A region reads in one way at most: as one list of records, or as damaged at one offset.
+pub fn a_region_has_one_reading()
+    ensures { OneReading }
+{}

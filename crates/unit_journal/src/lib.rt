@@ -1,0 +1,19 @@
+//! Records in a region of a disk: each is there wholly or not at all, whatever a crash leaves.
+#![tactic(auto)]
+
+mod append;
+mod errors;
+mod journal;
+mod kind;
+mod laws;
+mod lay;
+mod open;
+mod record;
+#[cfg(test)]
+mod tests;
+
+pub use errors::{AppendError, Full, LayError, OpenError};
+pub use journal::Journal;
+pub use kind::Kind;
+pub use laws::a_region_has_one_reading;
+pub use record::Record;

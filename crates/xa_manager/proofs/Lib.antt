@@ -1,0 +1,5 @@
+pub mod Reading
+pub mod Order
+pub mod Rising
+pub mod Places
+pub mod AllCalls

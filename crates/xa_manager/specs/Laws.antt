@@ -1,0 +1,62 @@
+-- What holds over all calls: a prepared branch waits for its decision, and a conversation works in one
+-- branch at most, which is active.
+use Rattle.std.specs.Prelude.{◌≡◌, ◌⊎◌, ◌≤◌, ℕ, Bool, true, false, IsTrue, bytes_eq, List, count_by, Some, if◌then◌else◌}
+use Rattle.drda_words.specs.Order.{IsRising}
+use Rattle.xa_manager.specs.declared.branch.Branch.{Branch}
+use Rattle.xa_manager.specs.declared.branch.BranchState.TheVariants.{Active, Prepared}
+use Rattle.xa_manager.specs.declared.request.Verb.{Verb}
+use Rattle.xa_manager.specs.declared.due.Action.{Action}
+use Rattle.xa_manager.specs.declared.due.Action.TheVariants as action
+use Rattle.xa_manager.specs.declared.due.Work.{Work}
+use Rattle.xa_manager.specs.Branch.{state_of, joined_xid, is_joined_by, without_those_of}
+use Rattle.xa_manager.specs.Due.{due_of, next_state, after}
+
+-- what is due is the branch's decision
+abbrev pub is_decision : Action → Bool
+is_decision (action.Decide _) = true
+is_decision _ = false
+
+-- what a conversation makes due by asking this of an XID
+abbrev pub action_of : List Branch → ℕ → Verb → List ℕ → Work → Action
+action_of bs conversation v xid work = (due_of bs conversation v xid work).action
+
+-- a call moves the branch that it names to its next state, and leaves the others where they stand
+abbrev pub MovesOne : Type 0
+MovesOne =
+    (bs : List Branch) (conversation : ℕ) (v : Verb) (asked xid : List ℕ) (work : Work)
+    → let a = action_of bs conversation v asked work in
+    state_of (after bs conversation asked a) xid ≡ (if bytes_eq asked xid then next_state conversation a (state_of bs asked) else state_of bs xid)
+
+-- a prepared branch stays so over each call, but for its decision
+abbrev pub PreparedStays : Type 0
+PreparedStays =
+    (bs : List Branch) (conversation : ℕ) (v : Verb) (asked xid : List ℕ) (work : Work) → state_of bs xid ≡ Some Prepared
+    → (state_of (after bs conversation asked (action_of bs conversation v asked work)) xid ≡ Some Prepared)
+    ⊎ ((asked ≡ xid) × IsTrue (is_decision (action_of bs conversation v asked work)))
+
+-- and over the loss of a conversation
+abbrev pub PreparedOutlives : Type 0
+PreparedOutlives =
+    (bs : List Branch) (conversation : ℕ) (xid : List ℕ) → state_of bs xid ≡ Some Prepared → state_of (without_those_of bs conversation) xid ≡ Some Prepared
+
+-- only a prepared branch is decided
+abbrev pub OnlyPreparedDecided : Type 0
+OnlyPreparedDecided =
+    (bs : List Branch) (conversation : ℕ) (v : Verb) (xid : List ℕ) (work : Work) → IsTrue (is_decision (action_of bs conversation v xid work)) → state_of bs xid ≡ Some Prepared
+
+-- the branch that a conversation is joined to is active
+abbrev pub JoinedIsActive : Type 0
+JoinedIsActive =
+    (bs : List Branch) (conversation : ℕ) (xid : List ℕ) → IsRising (λ b. b.xid) bs → joined_xid bs conversation ≡ Some xid → state_of bs xid ≡ Some (Active conversation)
+
+-- each conversation is joined to one branch at most
+abbrev pub OneEach : List Branch → Type 0
+OneEach bs = (conversation : ℕ) → count_by (λ b. is_joined_by conversation b.state) bs ≤ 1
+
+-- this stays so over each call, and over the loss of a conversation
+abbrev pub OneEachStays : Type 0
+OneEachStays =
+    (bs : List Branch) (conversation : ℕ) (v : Verb) (xid : List ℕ) (work : Work) → IsRising (λ b. b.xid) bs → OneEach bs → OneEach (after bs conversation xid (action_of bs conversation v xid work))
+
+abbrev pub OneEachOutlives : Type 0
+OneEachOutlives = (bs : List Branch) (conversation : ℕ) → OneEach bs → OneEach (without_those_of bs conversation)

@@ -1,0 +1,64 @@
+//! A transaction branch that the table knows.
+
+ghost use Rattle.std.specs.Prelude.{◌≡◌};
+ghost use Rattle.xa_manager.specs.Branch.{is_joined_by, is_last_joined_by, is_in_doubt};
+
+use crate::xid::Xid;
+
+/// Where a branch stands (C193 chapter 6, the table of states of transaction branches). A
+/// conversation is named by a number of the caller's.
+#[derive(Clone, Copy, Debug, PartialEq, Eq)]
+pub enum BranchState {
+    /// This conversation is joined to it.
+    Active(u64),
+    /// No conversation is joined to it; this one was the last.
+    Idle(u64),
+    /// The same, and it can only be rolled back.
+    RollbackOnly(u64),
+    /// Prepared: in doubt until it is decided. It belongs to no conversation.
+    Prepared,
+}
+
+impl BranchState {
+    /// Whether the conversation is joined to the branch.
+    pub fn is_joined_by(self, conversation: u64) -> bool
+        ensures { result ≡ is_joined_by conversation self }
+    {
+        match self {
+            BranchState::Active(joined) => joined == conversation,
+            _ => false,
+        }
+    }
+
+    /// Whether the branch lives as long as the conversation: it was the last to start or join it,
+    /// and the branch is not prepared.
+    pub fn is_last_joined_by(self, conversation: u64) -> bool
+        ensures { result ≡ is_last_joined_by conversation self }
+    {
+        match self {
+            BranchState::Active(last) => last == conversation,
+            BranchState::Idle(last) => last == conversation,
+            BranchState::RollbackOnly(last) => last == conversation,
+            BranchState::Prepared => false,
+        }
+    }
+
+    /// Whether the branch is in doubt: it waits for a decision, and survives its conversation.
+    pub fn is_in_doubt(self) -> bool
+        ensures { result ≡ is_in_doubt self }
+    {
+        match self {
+            BranchState::Prepared => true,
+            BranchState::Active(_) | BranchState::Idle(_) | BranchState::RollbackOnly(_) => false,
+        }
+    }
+}
+
+/// A branch by its XID, and where it stands.
+#[derive(Clone, Copy, Debug)]
+pub struct Branch {
+    /// Its identifier.
+    pub xid: Xid,
+    /// Where it stands.
+    pub state: BranchState,
+}

@@ -1,0 +1,29 @@
+//! What holds over all calls of a table.
+
+ghost use Rattle.xa_manager.specs.Laws.{MovesOne, PreparedStays, PreparedOutlives, OnlyPreparedDecided, JoinedIsActive, OneEachStays, OneEachOutlives};
+
+/// What a call makes due moves the branch that it names to its next state, and leaves every other
+/// branch where it stands.
+pub fn moves_one_branch()
+    ensures { MovesOne }
+{}
+
+/// A prepared branch stays prepared over each call and over the loss of each conversation, until
+/// its decision is due; and a decision is due of no other branch.
+pub fn prepared_until_decided()
+    ensures stays { PreparedStays }
+    ensures outlives { PreparedOutlives }
+    ensures decided { OnlyPreparedDecided }
+{}
+
+/// The branch that a conversation is joined to is active, so it works in no prepared one.
+pub fn works_while_active()
+    ensures { JoinedIsActive }
+{}
+
+/// A conversation that is joined to one branch at most stays so, over each call and over the loss of
+/// each conversation.
+pub fn joined_to_one()
+    ensures stays { OneEachStays }
+    ensures outlives { OneEachOutlives }
+{}
