@@ -9,7 +9,7 @@ REQUEST := \001\000\000\000\000\000\002\000\000\000\000\012\000\012\320\001\000\
 run: | out
 	@echo 'event records in:'; printf '$(REQUEST)' | od -An -v -tx1
 	@echo 'drdad pipe --user ana:pw (built first, which takes minutes where nothing is proved yet)'
-	@printf '$(REQUEST)' | (cd crates/drdad && rt run -- pipe --user ana:pw 2> >(grep -v '^rt: \|^statements\|^library\|^logic\|: proved' >&2)) > out/reply.bin || { echo 'drdad failed' >&2; exit 1; }
+	@printf '$(REQUEST)' | (cd crates/drdad && rt run -- pipe --user ana:pw 2> ../../out/run.log) > out/reply.bin || { cat out/run.log >&2; exit 1; }
 	@echo 'event records out:'; od -An -v -tx1 out/reply.bin
 
 out:
