@@ -1,1 +1,4 @@
 pub mod Fitting
+pub mod Lists
+pub mod RowLaws
+pub mod ValueLaws

@@ -26,7 +26,7 @@ within false misfit = Some misfit
 abbrev pub misfit_in : Kind → ℕ → Datum → Option Misfit
 misfit_in SmallInt limit (number n) = within (int_le (negsuc 32767) n && int_le n (pos 32767)) OutOfRange
 misfit_in Integer limit (number n) = within (int_le (negsuc 2147483647) n && int_le n (pos 2147483647)) OutOfRange
-misfit_in BigInt limit (number n) = None
+misfit_in BigInt limit (number n) = within (int_le (negsuc 9223372036854775807) n && int_le n (pos 9223372036854775807)) OutOfRange
 misfit_in VarChar limit (text bytes) = within (nat_le (length bytes) limit) TooLong
 misfit_in VarBinary limit (binary bytes) = within (nat_le (length bytes) limit) TooLong
 misfit_in kind limit value = Some WrongClass

@@ -1,3 +1,4 @@
 pub mod Value
 pub mod Column
 pub mod Row
+pub mod Schema

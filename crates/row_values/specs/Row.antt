@@ -50,14 +50,17 @@ place_of columns values i = length (row_bytes (take i columns) (take i values))
 
 -- ---- the values of bytes
 
+-- the first n bytes, with what follows
+unfoldable pub front_of : ℕ → List ℕ → Option (List ℕ × List ℕ)
+front_of n bytes = if nat_le n (length bytes) then Some (take n bytes, drop n bytes) else None
+
 -- a number of n bytes in front, with what follows
 abbrev pub number_at : ℕ → Width → List ℕ → Option (Datum × List ℕ)
-number_at n w bytes = if nat_le n (length bytes) then Some (number (cast_signed w (big_number n bytes)), drop n bytes) else None
+number_at n w bytes = option_map (λ (x : List ℕ × List ℕ). (number (cast_signed w (big_number n x.0)), x.1)) (front_of n bytes)
 
 -- the bytes behind a length of two bytes in front, with what follows
 abbrev pub counted_at : List ℕ → Option (List ℕ × List ℕ)
-counted_at bytes = if nat_le 2 (length bytes) && nat_le (big_number 2 bytes) (length (drop 2 bytes))
-    then Some (take (big_number 2 bytes) (drop 2 bytes), drop (big_number 2 bytes) (drop 2 bytes)) else None
+counted_at bytes = option_and_then (λ (x : List ℕ × List ℕ). front_of (big_number 2 x.0) x.1) (front_of 2 bytes)
 
 -- the bytes, where they are UTF-8
 abbrev pub utf8_in : List ℕ → Option (List ℕ)

@@ -1,9 +1,11 @@
 //! Columns, and which values fit them.
 
 ghost use Rattle.std.specs.Prelude.{◌≡◌, IsTrue, OnOk};
+ghost use Rattle.std.specs.List.{list_all};
 ghost use Rattle.std.specs.Result.{result_err};
 ghost use Rattle.row_values.specs.Value.{datum_of, number as number_datum, text as text_datum, binary as binary_datum};
 ghost use Rattle.row_values.specs.Column.{column_of, fits, misfit_of, within};
+ghost use Rattle.row_values.specs.Schema.{goes_on_name, is_capital, is_column, is_limit, is_name};
 
 use crate::value::Value;
 
@@ -56,6 +58,14 @@ impl Column {
         }
     }
 
+    /// Whether the column's name is in capitals, 1 to 30 bytes, a letter and then letters, digits
+    /// and `_`, and its length one that its type has.
+    pub fn is_valid(&self) -> bool
+        ensures { result ≡ is_column (column_of self.now) }
+    {
+        is_name(self.name.as_bytes()) && is_length(self.kind, self.length)
+    }
+
     fn admit_number(&self, number: i64) -> Result<(), Misfit>
         ensures { result_err result ≡ misfit_of (column_of self.now) (number_datum number) }
     {
@@ -91,4 +101,42 @@ fn check(test: bool, misfit: Misfit) -> Result<(), Misfit>
     ensures { result_err result ≡ within test misfit }
 {
     if test { Ok(()) } else { Err(misfit) }
+}
+
+/// Whether the bytes are a name: in capitals, 1 to 30 bytes, a letter and then letters, digits and
+/// `_`.
+pub fn is_name(bytes: &[u8]) -> bool
+    ensures { result ≡ is_name bytes.now }
+{
+    match bytes {
+        [] => false,
+        [first, rest @ ..] => is_capital(*first) && all_go_on(rest) && rest.len() <= 29,
+    }
+}
+
+fn all_go_on(bytes: &[u8]) -> bool
+    ensures { result ≡ list_all goes_on_name bytes.now }
+{
+    bytes.iter().all(|byte| goes_on_name(*byte))
+}
+
+fn is_capital(byte: u8) -> bool
+    ensures { result ≡ is_capital byte }
+{
+    b'A' <= byte && byte <= b'Z'
+}
+
+fn goes_on_name(byte: u8) -> bool
+    ensures { result ≡ goes_on_name byte }
+{
+    is_capital(byte) || (b'0' <= byte && byte <= b'9') || byte == b'_'
+}
+
+fn is_length(kind: Kind, length: u16) -> bool
+    ensures { result ≡ is_limit kind length }
+{
+    match kind {
+        Kind::SmallInt | Kind::Integer | Kind::BigInt => length == 0,
+        Kind::VarChar | Kind::VarBinary => 0 < length && length <= 2_000,
+    }
 }

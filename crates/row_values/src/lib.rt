@@ -3,7 +3,9 @@
 
 mod column;
 mod row;
+mod schema;
 mod value;
 
-pub use column::{Column, Kind, Misfit};
+pub use column::{Column, Kind, Misfit, is_name};
+pub use schema::{BadSchema, Schema};
 pub use value::Value;

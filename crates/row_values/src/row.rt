@@ -1,10 +1,10 @@
 //! Rows and their bytes.
 
-ghost use Rattle.std.specs.Prelude.{◌≡◌, ◌++◌, ℕ, IsTrue, OnOk, Option, option_map, if◌then◌else◌};
+ghost use Rattle.std.specs.Prelude.{◌≡◌, ◌++◌, ℕ, IfSome, IsTrue, OnOk, Option, option_map, if◌then◌else◌};
 ghost use Rattle.std.specs.Str.{is_utf8};
 ghost use Rattle.row_values.specs.Value.{Datum, datum_of};
 ghost use Rattle.row_values.specs.Column.{column_of, fits};
-ghost use Rattle.row_values.specs.Row.{content_at, counted_at, datum_at, utf8_in, value_at, value_bytes};
+ghost use Rattle.row_values.specs.Row.{content_at, counted_at, datum_at, front_of, utf8_in, value_at, value_bytes};
 
 use crate::column::{Column, Kind};
 use crate::value::Value;
@@ -115,22 +115,16 @@ fn split_content(kind: Kind, bytes: &[u8]) -> Option<(Value<'_>, &[u8])>
 {
     match kind {
         Kind::SmallInt => {
-            if bytes.len() < 2 {
-                return None;
-            }
-            Some((Value::Number(i64::from(BigEndian::read_i16(bytes))), &bytes[2..]))
+            let (number, rest) = split_front(bytes, 2)?;
+            Some((Value::Number(i64::from(BigEndian::read_i16(number))), rest))
         }
         Kind::Integer => {
-            if bytes.len() < 4 {
-                return None;
-            }
-            Some((Value::Number(i64::from(BigEndian::read_i32(bytes))), &bytes[4..]))
+            let (number, rest) = split_front(bytes, 4)?;
+            Some((Value::Number(i64::from(BigEndian::read_i32(number))), rest))
         }
         Kind::BigInt => {
-            if bytes.len() < 8 {
-                return None;
-            }
-            Some((Value::Number(BigEndian::read_i64(bytes)), &bytes[8..]))
+            let (number, rest) = split_front(bytes, 8)?;
+            Some((Value::Number(BigEndian::read_i64(number)), rest))
         }
         Kind::VarChar => {
             let (text, rest) = split_counted(bytes)?;
@@ -143,19 +137,24 @@ fn split_content(kind: Kind, bytes: &[u8]) -> Option<(Value<'_>, &[u8])>
     }
 }
 
+// The first bytes, with what follows.
+#[tactic(auto, unfolding(crate::specs::Row::front_of))]
+pub(crate) fn split_front(bytes: &[u8], count: usize) -> Option<(&[u8], &[u8])>
+    ensures parts { option_map (λ x. (x.0.now, x.1.now)) result ≡ front_of count bytes.now }
+    ensures len { IfSome result (λ x. length x.0.now ≡ count) }
+{
+    if bytes.len() < count {
+        return None;
+    }
+    Some(bytes.split_at(count))
+}
+
 // The bytes behind a length of two bytes in front, with what follows.
-fn split_counted(bytes: &[u8]) -> Option<(&[u8], &[u8])>
+pub(crate) fn split_counted(bytes: &[u8]) -> Option<(&[u8], &[u8])>
     ensures { option_map (λ x. (x.0.now, x.1.now)) result ≡ counted_at bytes.now }
 {
-    if bytes.len() < 2 {
-        return None;
-    }
-    let count = usize::from(BigEndian::read_u16(bytes));
-    let rest = &bytes[2..];
-    if rest.len() < count {
-        return None;
-    }
-    Some(rest.split_at(count))
+    let (count, rest) = split_front(bytes, 2)?;
+    split_front(rest, usize::from(BigEndian::read_u16(count)))
 }
 
 // The text of these bytes, where they are UTF-8.

@@ -1,0 +1,177 @@
+-- The bytes of a value that fits its column are read back, and what is read was written so.
+use Rattle.std.proofs.Common.{◌≡◌, ℕ, ◌+◌, ◌*◌, ◌^◌, ◌<◌, ◌≤◌, ◌-◌, ℤ, pos, negsuc, zero, suc, List, [], ◌∷◌, ◌++◌, Bool, true, false, ◌&&◌, if◌then◌else◌, IsTrue, refl, sym, ap, subst, ◌∙◌, length, take, drop, get_or, nat_le, nat_lt, nat_eq, length-take, arith, Option, Some, None, option_map, length-append, append_assoc, FitsSigned, true≢false}
+use Rattle.std.specs.Prelude.{int_le, is_none, slice_index}
+use Rattle.std.specs.Option.{option_and_then}
+use Rattle.std.proofs.lemmas.Bool.Decides.{nat_tests}
+use Rattle.std.proofs.lemmas.Int.{to_z-of_z, of_z-to_z, ints}
+use Rattle.std.proofs.Math.Facts.{Fits-of_z}
+use mir.Val.{bits}
+use Rattle.std.specs.Int.{Width, w16, w32, w64, cast_signed, cast_unsigned}
+use Rattle.std.specs.Str.{is_utf8}
+use Rattle.std.specs.Int.{from_be_bytes}
+use Rattle.std.proofs.lemmas.Nat.{be_bytes_2, be_bytes_4, be_bytes_8}
+use Rattle.byteorder.specs.Endian.{big_bytes, big_number}
+use Rattle.byteorder.specs.Numbers.{big_from-lt}
+use Rattle.std.proofs.lemmas.List.{get_or-drop, get_or-take, get_or_past, length-take-le, take-append-drop}
+use Rattle.row_values.specs.declared.column.Kind.{Kind}
+use Rattle.row_values.specs.declared.column.Kind.TheVariants.{SmallInt, Integer, BigInt, VarChar, VarBinary}
+use Rattle.row_values.specs.Value.{Datum, null, number, text, binary, is_datum}
+use Rattle.row_values.specs.Column.{ColumnShape, misfit_in, misfit_of, fits, within}
+use Rattle.row_values.specs.declared.column.Misfit.{Misfit}
+use Rattle.row_values.specs.Row.{content_at, content_bytes, counted, counted_at, datum_at, front_of, number_at, utf8_in, value_at, value_bytes}
+use Rattle.row_values.proofs.RowLaws.{counted_back, fits_two, fits_four, fits_eight, number_back}
+
+-- ---- what is written is read back
+
+is_within : (b : Bool) (m : Misfit) → is_none (within b m) ≡ true → b ≡ true
+is_within true m h = refl
+is_within false m h = absurd cc
+
+first_true : (a b : Bool) → (a && b) ≡ true → a ≡ true
+first_true true b h = refl
+first_true false b h = absurd cc
+
+second_true : (a b : Bool) → (a && b) ≡ true → b ≡ true
+second_true true b h = h
+second_true false b h = absurd cc
+
+short : (n limit : ℕ) → nat_le n limit ≡ true → limit < 65536 → n < 65536
+short n limit h lt = grind (arith, nat_tests)
+
+fits_unsigned : (w : Width) (z : ℤ) → FitsSigned w z → cast_unsigned w z < 2 ^ bits w
+fits_unsigned w z s = (Fits-of_z {w = w} {z = z} s).fits
+
+utf8_is : (bytes : List ℕ) → is_utf8 bytes ≡ true → utf8_in bytes ≡ Some bytes
+utf8_is bytes h = rw h refl
+
+pub content_back : (kind : Kind) (limit : ℕ) (value : Datum) (rest : List ℕ) → limit < 65536 → is_none (misfit_in kind limit value) ≡ true → is_datum value ≡ true → content_at kind (content_bytes kind value ++ rest) ≡ Some (value, rest)
+content_back SmallInt limit (number z) rest lt fit whole = let s = fits_two z (is_within _ _ fit) in number_back 2 w16 z rest (fits_unsigned w16 z s) s
+content_back Integer limit (number z) rest lt fit whole = let s = fits_four z (is_within _ _ fit) in number_back 4 w32 z rest (fits_unsigned w32 z s) s
+content_back BigInt limit (number z) rest lt fit whole = let s = fits_eight z (is_within _ _ fit) in number_back 8 w64 z rest (fits_unsigned w64 z s) s
+content_back VarChar limit (text bytes) rest lt fit whole =
+    ap (option_and_then (λ (x : List ℕ × List ℕ). option_map (λ content. (text content, x.1)) (utf8_in x.0))) (counted_back bytes rest (short _ limit (is_within _ _ fit) lt))
+    ∙ ap (option_map (λ content. (text content, rest))) (utf8_is bytes whole)
+content_back VarBinary limit (binary bytes) rest lt fit whole =
+    ap (option_map (λ (x : List ℕ × List ℕ). (binary x.0, x.1))) (counted_back bytes rest (short _ limit (is_within _ _ fit) lt))
+content_back SmallInt limit null rest lt fit whole = absurd cc
+content_back SmallInt limit (text bytes) rest lt fit whole = absurd cc
+content_back SmallInt limit (binary bytes) rest lt fit whole = absurd cc
+content_back Integer limit null rest lt fit whole = absurd cc
+content_back Integer limit (text bytes) rest lt fit whole = absurd cc
+content_back Integer limit (binary bytes) rest lt fit whole = absurd cc
+content_back BigInt limit null rest lt fit whole = absurd cc
+content_back BigInt limit (text bytes) rest lt fit whole = absurd cc
+content_back BigInt limit (binary bytes) rest lt fit whole = absurd cc
+content_back VarChar limit null rest lt fit whole = absurd cc
+content_back VarChar limit (number z) rest lt fit whole = absurd cc
+content_back VarChar limit (binary bytes) rest lt fit whole = absurd cc
+content_back VarBinary limit null rest lt fit whole = absurd cc
+content_back VarBinary limit (number z) rest lt fit whole = absurd cc
+content_back VarBinary limit (text bytes) rest lt fit whole = absurd cc
+
+value_back : (nullable : Bool) (kind : Kind) (limit : ℕ) (name : List ℕ) (value : Datum) (rest : List ℕ) → limit < 65536
+    → fits (record { name = name; kind = kind; is_nullable = nullable; limit = limit }) value ≡ true → datum_at kind (value_bytes kind value ++ rest) ≡ Some (value, rest)
+value_back nullable kind limit name null rest lt fit = refl
+value_back nullable kind limit name (number z) rest lt fit = content_back kind limit (number z) rest lt (first_true _ _ fit) (second_true _ _ fit)
+value_back nullable kind limit name (text bytes) rest lt fit = content_back kind limit (text bytes) rest lt (first_true _ _ fit) (second_true _ _ fit)
+value_back nullable kind limit name (binary bytes) rest lt fit = content_back kind limit (binary bytes) rest lt (first_true _ _ fit) (second_true _ _ fit)
+
+chosen : (b : Bool) (x : Datum × List ℕ) → b ≡ true → (if b then Some x else None) ≡ Some x
+chosen b x e = rw e refl
+
+-- a value that fits its column is read back
+pub value_at-value_bytes : (column : ColumnShape) (value : Datum) (rest : List ℕ) → column.limit < 65536 → fits column value ≡ true → value_at column (value_bytes column.kind value ++ rest) ≡ Some (value, rest)
+unfolding value_at
+value_at-value_bytes column value rest lt fit =
+    ap (option_and_then (λ (x : Datum × List ℕ). if fits column x.0 then Some x else None)) (value_back column.is_nullable column.kind column.limit column.name value rest lt fit)
+    ∙ chosen (fits column value) (value, rest) fit
+
+-- ---- what is read was written so
+
+kept : (b : Bool) (x y : Datum × List ℕ) → (if b then Some x else None) ≡ Some y → (b ≡ true) × (x ≡ y)
+kept true x y h = (refl, cc)
+kept false x y h = absurd cc
+
+-- each item is a byte
+abbrev pub IsBytes : List ℕ → Type 0
+IsBytes bytes = (i : ℕ) → slice_index bytes i < 256
+
+-- what front_of says of what it finds
+record IsFront (n : ℕ) (bytes : List ℕ) (x : List ℕ × List ℕ) : Type 0 where
+  len : length x.0 ≡ n
+  whole : bytes ≡ x.0 ++ x.1
+  front : IsBytes bytes → IsBytes x.0
+  rest : IsBytes bytes → IsBytes x.1
+
+in_front : (n : ℕ) (bytes : List ℕ) (i : ℕ) → IsBytes bytes → (b : Bool) → nat_lt i n ≡ b → slice_index (take n bytes) i < 256
+in_front n bytes i all true is = let lt : i < n = grind (arith, nat_tests) in rw (get_or-take n bytes i 0 lt) (all i)
+in_front n bytes i all false is =
+    let past : n ≤ i = grind (arith, nat_tests) in
+    let end : length (take n bytes) ≤ i = omega (arith, length-take n bytes) in
+    rw (get_or_past (take n bytes) i 0 end) (omega arith)
+
+is_front : (n : ℕ) (bytes : List ℕ) → n ≤ length bytes → IsFront n bytes (take n bytes, drop n bytes)
+is_front n bytes le = record {
+  len = length-take-le n bytes le;
+  whole = sym (take-append-drop n bytes);
+  front = λ all i. in_front n bytes i all (nat_lt i n) refl;
+  rest = λ all i. rw (get_or-drop n bytes i 0) (all (n + i));
+}
+
+front_cases : (b : Bool) (n : ℕ) (bytes : List ℕ) (x : List ℕ × List ℕ) → nat_le n (length bytes) ≡ b → (if b then Some (take n bytes, drop n bytes) else None) ≡ Some x → IsFront n bytes x
+front_cases true n bytes x is h =
+    let le : n ≤ length bytes = grind (arith, nat_tests) in
+    let same : (take n bytes, drop n bytes) ≡ x = cc in
+    subst (IsFront n bytes) same (is_front n bytes le)
+front_cases false n bytes x is h = absurd cc
+
+front_is : (n : ℕ) (bytes : List ℕ) (x : List ℕ × List ℕ) → front_of n bytes ≡ Some x → IsFront n bytes x
+unfolding front_of
+front_is n bytes x h = front_cases (nat_le n (length bytes)) n bytes x refl h
+
+-- a step that gave something had something to go on
+mapped : {A B : Type 0} (f : A → B) (o : Option A) (y : B) → option_map f o ≡ Some y → (x : A) × (o ≡ Some x) × (f x ≡ y)
+mapped f (Some x) y h = (x, refl, cc)
+mapped f None y h = absurd cc
+
+chained : {A B : Type 0} (f : A → Option B) (o : Option A) (y : B) → option_and_then f o ≡ Some y → (x : A) × (o ≡ Some x) × (f x ≡ Some y)
+chained f (Some x) y h = (x, refl, h)
+chained f None y h = absurd cc
+
+-- bytes are those of their number
+abbrev IsWritten : ℕ → Type 0
+IsWritten n = (xs : List ℕ) → length xs ≡ n → IsBytes xs → big_bytes n (big_number n xs) ≡ xs
+
+two_written : IsWritten 2
+two_written xs len all = let same : big_number 2 xs ≡ from_be_bytes w16 xs = omega arith in be_bytes_2 xs (big_number 2 xs) len all same
+
+four_written : IsWritten 4
+four_written xs len all = let same : big_number 4 xs ≡ from_be_bytes w32 xs = omega arith in be_bytes_4 xs (big_number 4 xs) len all same
+
+eight_written : IsWritten 8
+eight_written xs len all = let same : big_number 8 xs ≡ from_be_bytes w64 xs = omega arith in be_bytes_8 xs (big_number 8 xs) len all same
+
+-- a value, not NULL, stands in front of the bytes
+record IsContent (kind : Kind) (bytes : List ℕ) (x : Datum × List ℕ) : Type 0 where
+  whole : bytes ≡ content_bytes kind x.0 ++ x.1
+  marked : value_bytes kind x.0 ≡ 0 ∷ content_bytes kind x.0
+  rest : IsBytes x.1
+
+number_is : (n : ℕ) (w : Width) (bytes : List ℕ) (x : Datum × List ℕ) → 256 ^ n ≡ 2 ^ bits w → IsWritten n → IsBytes bytes → number_at n w bytes ≡ Some x
+    → (z : ℤ) × (x.0 ≡ number z) × (bytes ≡ big_bytes n (cast_unsigned w z) ++ x.1) × IsBytes x.1
+number_is n w bytes x size written all h =
+    let m = mapped (λ (f : List ℕ × List ℕ). (number (cast_signed w (big_number n f.0)), f.1)) (front_of n bytes) x h in
+    let f = front_is n bytes m.0 m.1 in
+    let below : big_number n m.0.0 < 2 ^ bits w = rw (← size) (big_from-lt 0 n m.0.0 (f.front all)) in
+    let same : cast_unsigned w (cast_signed w (big_number n m.0.0)) ≡ big_number n m.0.0 = of_z-to_z w (big_number n m.0.0) below in
+    let front : big_bytes n (cast_unsigned w (cast_signed w (big_number n m.0.0))) ≡ m.0.0 = ap (big_bytes n) same ∙ written m.0.0 f.len (f.front all) in
+    let left : m.0.1 ≡ x.1 = ap (λ (p : Datum × List ℕ). p.1) m.2 in
+    (cast_signed w (big_number n m.0.0), sym (ap (λ (p : Datum × List ℕ). p.0) m.2), f.whole ∙ ap (λ (xs : List ℕ). xs ++ m.0.1) (sym front) ∙ ap (λ (ys : List ℕ). big_bytes n (cast_unsigned w (cast_signed w (big_number n m.0.0))) ++ ys) left, subst IsBytes left (f.rest all))
+
+counted_is : (bytes : List ℕ) (x : List ℕ × List ℕ) → IsBytes bytes → counted_at bytes ≡ Some x → (bytes ≡ counted x.0 ++ x.1) × IsBytes x.1
+counted_is bytes x all h =
+    let m = chained (λ (f : List ℕ × List ℕ). front_of (big_number 2 f.0) f.1) (front_of 2 bytes) x h in
+    let f = front_is 2 bytes m.0 m.1 in
+    let g = front_is (big_number 2 m.0.0) m.0.1 x m.2 in
+    let count : big_bytes 2 (length x.0) ≡ m.0.0 = ap (big_bytes 2) g.len ∙ two_written m.0.0 f.len (f.front all) in
+    (f.whole ∙ ap (λ (xs : List ℕ). xs ++ m.0.1) (sym count) ∙ ap (λ (ys : List ℕ). big_bytes 2 (length x.0) ++ ys) g.whole ∙ sym (append_assoc (big_bytes 2 (length x.0)) x.0 x.1), g.rest (f.rest all))
