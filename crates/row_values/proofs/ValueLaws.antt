@@ -18,7 +18,9 @@ use Rattle.row_values.specs.declared.column.Kind.TheVariants.{SmallInt, Integer,
 use Rattle.row_values.specs.Value.{Datum, null, number, text, binary, is_datum}
 use Rattle.row_values.specs.Column.{ColumnShape, misfit_in, misfit_of, fits, within}
 use Rattle.row_values.specs.declared.column.Misfit.{Misfit}
-use Rattle.row_values.specs.Row.{content_at, content_bytes, counted, counted_at, datum_at, front_of, number_at, utf8_in, value_at, value_bytes}
+use Rattle.row_values.specs.Row.{content_at, content_bytes, counted, counted_at, datum_at, front_of, number_at, utf8_in, value_at, value_bytes, all_fit, row_bytes, values_at}
+use Rattle.std.specs.List.{list_all}
+use Rattle.std.proofs.Common.{◌==◌, eqb-true, ltb-true}
 use Rattle.row_values.proofs.RowLaws.{counted_back, fits_two, fits_four, fits_eight, number_back}
 
 -- ---- what is written is read back
@@ -34,6 +36,9 @@ first_true false b h = absurd cc
 second_true : (a b : Bool) → (a && b) ≡ true → b ≡ true
 second_true true b h = h
 second_true false b h = absurd cc
+
+both_true : (a b : Bool) → a ≡ true → b ≡ true → (a && b) ≡ true
+both_true a b p q = rw (p, q) refl
 
 short : (n limit : ℕ) → nat_le n limit ≡ true → limit < 65536 → n < 65536
 short n limit h lt = grind (arith, nat_tests)
@@ -162,7 +167,7 @@ number_is : (n : ℕ) (w : Width) (bytes : List ℕ) (x : Datum × List ℕ) →
 number_is n w bytes x size written all h =
     let m = mapped (λ (f : List ℕ × List ℕ). (number (cast_signed w (big_number n f.0)), f.1)) (front_of n bytes) x h in
     let f = front_is n bytes m.0 m.1 in
-    let below : big_number n m.0.0 < 2 ^ bits w = rw (← size) (big_from-lt 0 n m.0.0 (f.front all)) in
+    let below = subst (λ (k : ℕ). big_number n m.0.0 < k) size (big_from-lt 0 n m.0.0 (f.front all)) in
     let same : cast_unsigned w (cast_signed w (big_number n m.0.0)) ≡ big_number n m.0.0 = of_z-to_z w (big_number n m.0.0) below in
     let front : big_bytes n (cast_unsigned w (cast_signed w (big_number n m.0.0))) ≡ m.0.0 = ap (big_bytes n) same ∙ written m.0.0 f.len (f.front all) in
     let left : m.0.1 ≡ x.1 = ap (λ (p : Datum × List ℕ). p.1) m.2 in
@@ -175,3 +180,91 @@ counted_is bytes x all h =
     let g = front_is (big_number 2 m.0.0) m.0.1 x m.2 in
     let count : big_bytes 2 (length x.0) ≡ m.0.0 = ap (big_bytes 2) g.len ∙ two_written m.0.0 f.len (f.front all) in
     (f.whole ∙ ap (λ (xs : List ℕ). xs ++ m.0.1) (sym count) ∙ ap (λ (ys : List ℕ). big_bytes 2 (length x.0) ++ ys) g.whole ∙ sym (append_assoc (big_bytes 2 (length x.0)) x.0 x.1), g.rest (f.rest all))
+
+content_from : (kind : Kind) (bytes : List ℕ) (x : Datum × List ℕ) (value : Datum) → x.0 ≡ value → bytes ≡ content_bytes kind value ++ x.1 → value_bytes kind value ≡ 0 ∷ content_bytes kind value → IsBytes x.1 → IsContent kind bytes x
+content_from kind bytes x value is whole marked rest = record {
+  whole = whole ∙ ap (λ (v : Datum). content_bytes kind v ++ x.1) (sym is);
+  marked = subst (λ (v : Datum). value_bytes kind v ≡ 0 ∷ content_bytes kind v) (sym is) marked;
+  rest = rest;
+}
+
+utf8_same : (b : Bool) (bytes content : List ℕ) → (if b then Some bytes else None) ≡ Some content → bytes ≡ content
+utf8_same true bytes content h = cc
+utf8_same false bytes content h = absurd cc
+
+content_is : (kind : Kind) (bytes : List ℕ) (x : Datum × List ℕ) → IsBytes bytes → content_at kind bytes ≡ Some x → IsContent kind bytes x
+content_is SmallInt bytes x all h = let r = number_is 2 w16 bytes x refl two_written all h in content_from SmallInt bytes x (number r.0) r.1 r.2 refl r.3
+content_is Integer bytes x all h = let r = number_is 4 w32 bytes x refl four_written all h in content_from Integer bytes x (number r.0) r.1 r.2 refl r.3
+content_is BigInt bytes x all h = let r = number_is 8 w64 bytes x refl eight_written all h in content_from BigInt bytes x (number r.0) r.1 r.2 refl r.3
+content_is VarChar bytes x all h =
+    let m = chained (λ (y : List ℕ × List ℕ). option_map (λ content. (text content, y.1)) (utf8_in y.0)) (counted_at bytes) x h in
+    let t = mapped (λ (content : List ℕ). (text content, m.0.1)) (utf8_in m.0.0) x m.2 in
+    let r = counted_is bytes m.0 all m.1 in
+    let content : m.0.0 ≡ t.0 = utf8_same (is_utf8 m.0.0) m.0.0 t.0 t.1 in
+    let left : m.0.1 ≡ x.1 = ap (λ (p : Datum × List ℕ). p.1) t.2 in
+    content_from VarChar bytes x (text t.0) (sym (ap (λ (p : Datum × List ℕ). p.0) t.2)) (r.0 ∙ ap (λ (c : List ℕ). counted c ++ m.0.1) content ∙ ap (λ (ys : List ℕ). counted t.0 ++ ys) left) refl (subst IsBytes left r.1)
+content_is VarBinary bytes x all h =
+    let m = mapped (λ (y : List ℕ × List ℕ). (binary y.0, y.1)) (counted_at bytes) x h in
+    let r = counted_is bytes m.0 all m.1 in
+    let left : m.0.1 ≡ x.1 = ap (λ (p : Datum × List ℕ). p.1) m.2 in
+    content_from VarBinary bytes x (binary m.0.0) (sym (ap (λ (p : Datum × List ℕ). p.0) m.2)) (r.0 ∙ ap (λ (ys : List ℕ). counted m.0.0 ++ ys) left) refl (subst IsBytes left r.1)
+
+tail_bytes : (mark : ℕ) (bytes : List ℕ) → IsBytes (mark ∷ bytes) → IsBytes bytes
+tail_bytes mark bytes all i = all (suc i)
+
+datum_cases : (null_mark mark_0 : Bool) (kind : Kind) (mark : ℕ) (bytes : List ℕ) (x : Datum × List ℕ) → (mark == 255) ≡ null_mark → (mark == 0) ≡ mark_0 → IsBytes bytes
+    → (if null_mark then Some (null, bytes) else (if mark_0 then content_at kind bytes else None)) ≡ Some x → (mark ∷ bytes ≡ value_bytes kind x.0 ++ x.1) × IsBytes x.1
+datum_cases true b kind mark bytes x is zero_is all h =
+    let m : mark ≡ 255 = eqb-true mark 255 is in
+    let same : (null, bytes) ≡ x = cc in
+    subst (λ (y : Datum × List ℕ). (mark ∷ bytes ≡ value_bytes kind y.0 ++ y.1) × IsBytes y.1) same (ap (λ (k : ℕ). k ∷ bytes) m, all)
+datum_cases false true kind mark bytes x is zero_is all h =
+    let m : mark ≡ 0 = eqb-true mark 0 zero_is in
+    let c = content_is kind bytes x all h in
+    (ap (λ (k : ℕ). k ∷ bytes) m ∙ ap (λ (ys : List ℕ). 0 ∷ ys) c.whole ∙ ap (λ (ys : List ℕ). ys ++ x.1) (sym c.marked), c.rest)
+datum_cases false false kind mark bytes x is zero_is all h = absurd cc
+
+datum_is : (kind : Kind) (bytes : List ℕ) (x : Datum × List ℕ) → IsBytes bytes → datum_at kind bytes ≡ Some x → (bytes ≡ value_bytes kind x.0 ++ x.1) × IsBytes x.1
+datum_is kind [] x all h = absurd cc
+datum_is kind (mark ∷ bytes) x all h = datum_cases (mark == 255) (mark == 0) kind mark bytes x refl refl (tail_bytes mark bytes all) h
+
+-- what is read in front was written so, and fits the column
+pub value_at-is : (column : ColumnShape) (bytes : List ℕ) (x : Datum × List ℕ) → IsBytes bytes → value_at column bytes ≡ Some x
+    → (fits column x.0 ≡ true) × (bytes ≡ value_bytes column.kind x.0 ++ x.1) × IsBytes x.1
+unfolding value_at
+value_at-is column bytes x all h =
+    let m = chained (λ (y : Datum × List ℕ). if fits column y.0 then Some y else None) (datum_at column.kind bytes) x h in
+    let k = kept (fits column m.0.0) m.0 x m.2 in
+    let d = datum_is column.kind bytes m.0 all m.1 in
+    (ap (λ (y : Datum × List ℕ). fits column y.0) (sym k.1) ∙ k.0,
+     subst (λ (y : Datum × List ℕ). bytes ≡ value_bytes column.kind y.0 ++ y.1) k.1 d.0,
+     subst (λ (y : Datum × List ℕ). IsBytes y.1) k.1 d.1)
+
+-- ---- rows
+
+-- lengths that two bytes can tell
+abbrev pub are_counted : List ColumnShape → Bool
+are_counted columns = list_all (λ column. nat_lt column.limit 65536) columns
+
+-- a row is read back
+pub values_at-row_bytes : (columns : List ColumnShape) (values : List Datum) → are_counted columns ≡ true → all_fit columns values ≡ true → values_at columns (row_bytes columns values) ≡ Some values
+values_at-row_bytes [] [] short fit = refl
+values_at-row_bytes [] (value ∷ values) short fit = absurd cc
+values_at-row_bytes (column ∷ columns) [] short fit = absurd cc
+values_at-row_bytes (column ∷ columns) (value ∷ values) short fit =
+    let limit : column.limit < 65536 = ltb-true column.limit 65536 (first_true _ _ short) in
+    let first = value_at-value_bytes column value (row_bytes columns values) limit (first_true _ _ fit) in
+    let rest = values_at-row_bytes columns values (second_true _ _ short) (second_true _ _ fit) in
+    ap (option_and_then (λ (x : Datum × List ℕ). option_map (λ vs. x.0 ∷ vs) (values_at columns x.1))) first ∙ ap (option_map (λ vs. value ∷ vs)) rest
+
+-- what is read as a row was written so, and fits the columns
+pub values_at-is : (columns : List ColumnShape) (bytes : List ℕ) (values : List Datum) → IsBytes bytes → values_at columns bytes ≡ Some values → (all_fit columns values ≡ true) × (bytes ≡ row_bytes columns values)
+values_at-is [] [] values all h = let none : [] ≡ values = cc in (subst (λ (vs : List Datum). all_fit [] vs ≡ true) none refl, refl)
+values_at-is [] (byte ∷ bytes) values all h = absurd cc
+values_at-is (column ∷ columns) bytes values all h =
+    let m = chained (λ (x : Datum × List ℕ). option_map (λ vs. x.0 ∷ vs) (values_at columns x.1)) (value_at column bytes) values h in
+    let t = mapped (λ (vs : List Datum). m.0.0 ∷ vs) (values_at columns m.0.1) values m.2 in
+    let v = value_at-is column bytes m.0 all m.1 in
+    let r = values_at-is columns m.0.1 t.0 v.2 t.1 in
+    subst (λ (vs : List Datum). (all_fit (column ∷ columns) vs ≡ true) × (bytes ≡ row_bytes (column ∷ columns) vs)) t.2
+    (both_true _ _ v.0 r.0, v.1 ∙ ap (λ (ys : List ℕ). value_bytes column.kind m.0.0 ++ ys) r.1)
