@@ -2,3 +2,4 @@ pub mod Fitting
 pub mod Lists
 pub mod RowLaws
 pub mod ValueLaws
+pub mod RowSteps

@@ -2,3 +2,5 @@ pub mod Value
 pub mod Column
 pub mod Row
 pub mod Schema
+pub mod Key
+pub mod Tables

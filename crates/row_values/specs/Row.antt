@@ -1,6 +1,7 @@
 -- The bytes of rows and of keys: per column 00 and the value, or FF for NULL. Numbers are two's
 -- complement, the highest byte first; texts and bytes stand behind a length of two bytes.
-use Rattle.std.specs.Prelude.{◌≡◌, ℕ, ◌+◌, zero, suc, Bool, true, false, List, [], ◌∷◌, ◌++◌, length, take, drop, Option, Some, None, ◌&&◌, ◌==◌, nat_le, is_some, if◌then◌else◌, option_map}
+use Rattle.std.specs.Prelude.{◌≡◌, ℕ, ◌+◌, zero, suc, Bool, true, false, List, [], ◌∷◌, ◌++◌, length, take, drop, Option, Some, None, ◌&&◌, ◌==◌, nat_le, is_some, if◌then◌else◌, option_map, unwrap_or, ◌≤◌, ◌<◌, Result, Ok, Err}
+use Rattle.std.specs.Global.{Vec}
 use Rattle.std.specs.Option.{option_and_then}
 use Rattle.std.specs.Str.{is_utf8}
 use Rattle.std.specs.Int.{Width, w16, w32, w64, cast_signed, cast_unsigned}
@@ -9,6 +10,9 @@ use Rattle.row_values.specs.declared.column.Kind.{Kind}
 use Rattle.row_values.specs.declared.column.Kind.TheVariants.{SmallInt, Integer, BigInt, VarChar, VarBinary}
 use Rattle.row_values.specs.Value.{Datum, null, number, text, binary}
 use Rattle.row_values.specs.Column.{ColumnShape, fits}
+use Rattle.row_values.specs.Schema.{Shape}
+use Rattle.row_values.specs.declared.row.RowError.{RowError}
+use Rattle.row_values.specs.declared.row.RowError.TheVariants.{TooLong, NoMemory}
 
 -- ---- the bytes of values that fit their columns
 
@@ -88,3 +92,22 @@ values_at [] [] = Some []
 values_at [] (byte ∷ bytes) = None
 values_at (column ∷ columns) bytes =
     option_and_then (λ (x : Datum × List ℕ). option_map (λ values. x.0 ∷ values) (values_at columns x.1)) (value_at column bytes)
+
+-- ---- rows
+
+-- the values of a row, which has at most 4,000 bytes
+abbrev pub values_of : Shape → List ℕ → Option (List Datum)
+values_of shape row = if nat_le (length row) 4000 then values_at shape.columns row else None
+
+abbrev pub is_row : Shape → List ℕ → Bool
+is_row shape row = is_some (values_of shape row)
+
+-- the values of bytes that are a row
+abbrev pub values_in : Shape → List ℕ → List Datum
+values_in shape row = unwrap_or (values_of shape row) []
+
+-- what the bytes of a row may be answered by: the bytes, at most 4,000, or that they are more
+abbrev pub Encodes : List ℕ → Result (Vec ℕ) RowError → Type 0
+Encodes bytes (Ok row) = (row.items ≡ bytes) × (length bytes ≤ 4000)
+Encodes bytes (Err TooLong) = 4000 < length bytes
+Encodes bytes (Err NoMemory) = Unit {0}

@@ -1,165 +1,79 @@
-//! Rows and their bytes.
+//! Rows.
 
-ghost use Rattle.std.specs.Prelude.{◌≡◌, ◌++◌, ℕ, IfSome, IsTrue, OnOk, Option, option_map, if◌then◌else◌};
-ghost use Rattle.std.specs.Str.{is_utf8};
-ghost use Rattle.row_values.specs.Value.{Datum, datum_of};
-ghost use Rattle.row_values.specs.Column.{column_of, fits};
-ghost use Rattle.row_values.specs.Row.{content_at, counted_at, datum_at, front_of, utf8_in, value_at, value_bytes};
+ghost use Rattle.std.specs.Prelude.{◌≡◌, ◌≤◌, ◌<◌, ◌++◌, ◌↔◌, IfOk, IsOk, IsTrue, MatchOption, OnOk, Some, Ok, drop, is_some, length, map, slice_get, true};
+ghost use Rattle.row_values.specs.Value.{datum_of};
+ghost use Rattle.row_values.specs.Column.{column_of};
+ghost use Rattle.row_values.specs.Row.{Encodes, all_fit, is_row, place_of, row_bytes, value_bytes, values_at, values_in, values_of};
+ghost use Rattle.row_values.specs.declared.row.RowError.TheVariants.{NoMemory};
 
-use crate::column::{Column, Kind};
+use crate::column::Column;
+use crate::encoding::{put_value, split_value, value_length};
+use crate::schema::Schema;
 use crate::value::Value;
-use byteorder::{BigEndian, ByteOrder};
-use std::alloc::AllocError;
+use std::alloc::{AllocError, Global};
+use thiserror::Error;
 
-/// The mark in front of a value.
-const PRESENT: u8 = 0;
+/// The most bytes of a row.
+pub const ROW_LIMIT: usize = 4_000;
 
-/// The mark in place of a NULL.
-const ABSENT: u8 = 0xFF;
+/// Why values have no row.
+#[derive(Clone, Copy, Debug, PartialEq, Eq, Error)]
+pub enum RowError {
+    #[error("the row is longer than 4,000 bytes")]
+    TooLong,
+    #[error("no memory")]
+    NoMemory,
+}
 
-/// Appends the bytes of a value that fits the column.
-pub(crate) fn put_value(out: &mut Vec<u8>, column: &Column, value: &Value<'_>) -> Result<(), AllocError>
-    requires { IsTrue (fits (column_of column.now) (datum_of value.now)) }
-    ensures { OnOk result (out.new.items ≡ out.old.items ++ value_bytes column.now.kind (datum_of value.now)) }
+impl From<AllocError> for RowError {
+    ghost from_gives = { λ _ e. e ≡ NoMemory };
+
+    fn from(_: AllocError) -> RowError {
+        RowError::NoMemory
+    }
+}
+
+/// These bytes have another form than they should.
+#[derive(Clone, Copy, Debug, PartialEq, Eq, Error)]
+#[error("damaged")]
+pub struct Damaged;
+
+/// The bytes of a row of these values, one per column. It is refused as too long where it has more
+/// than 4,000 bytes.
+pub fn encode_row(alloc: Global, schema: &Schema, values: &[Value<'_>]) -> Result<Vec<u8>, RowError>
+    requires { IsTrue (all_fit schema.now.columns (map datum_of values.now)) }
+    ensures { Encodes (row_bytes schema.now.columns (map datum_of values.now)) result }
 {
-    match *value {
-        Value::Null => out.push(ABSENT)?,
-        Value::Number(number) => {
-            out.push(PRESENT)?;
-            put_number(out, column.kind, number)?;
+    let columns = schema.columns();
+    let Some(length) = row_length(columns, values) else {
+        return Err(RowError::TooLong);
+    };
+    let mut row = Vec::with_capacity(alloc, length)?;
+    put_values(&mut row, columns, values)?;
+    Ok(row)
+}
+
+// How many bytes the row has, where they are at most 4,000.
+fn row_length(columns: &[Column], values: &[Value<'_>]) -> Option<usize>
+    requires { IsTrue (all_fit (map column_of columns.now) (map datum_of values.now)) }
+    ensures { MatchOption result (4000 < length (row_bytes (map column_of columns.now) (map datum_of values.now))) (λ n. (n ≡ length (row_bytes (map column_of columns.now) (map datum_of values.now))) × (n ≤ 4000)) }
+{
+    let mut length = 0;
+    for i in 0..values.len() {
+        length += value_length(&columns[i], &values[i]);
+        if length > ROW_LIMIT {
+            return None;
         }
-        Value::Text(text) => {
-            prove!(text.len() <= usize::from(column.length));
-            out.push(PRESENT)?;
-            put_counted(out, text.as_bytes())?;
-        }
-        Value::Bytes(bytes) => {
-            prove!(bytes.len() <= usize::from(column.length));
-            out.push(PRESENT)?;
-            put_counted(out, bytes)?;
-        }
+    }
+    Some(length)
+}
+
+fn put_values(out: &mut Vec<u8>, columns: &[Column], values: &[Value<'_>]) -> Result<(), AllocError>
+    requires { IsTrue (all_fit (map column_of columns.now) (map datum_of values.now)) }
+    ensures { OnOk result (out.new.items ≡ out.old.items ++ row_bytes (map column_of columns.now) (map datum_of values.now)) }
+{
+    for i in 0..values.len() {
+        put_value(out, &columns[i], &values[i])?;
     }
     Ok(())
-}
-
-ghost use Rattle.std.specs.Prelude.{ℤ, ◌^◌, ◌<◌, length};
-ghost use Rattle.row_values.specs.Row.{counted, content_bytes, number_at};
-ghost use Rattle.row_values.specs.Column.{misfit_in};
-ghost use Rattle.row_values.specs.Value.{number as number_datum};
-ghost use Rattle.std.specs.Prelude.{None};
-
-fn put_number(out: &mut Vec<u8>, kind: Kind, number: i64) -> Result<(), AllocError>
-    requires { misfit_in kind 0 (number_datum number) ≡ None }
-    ensures { OnOk result (out.new.items ≡ out.old.items ++ content_bytes kind (number_datum number)) }
-{
-    match kind {
-        Kind::SmallInt => {
-            let mut bytes = [0; 2];
-            BigEndian::write_i16(&mut bytes, number as i16);
-            out.extend_from_slice(&bytes)
-        }
-        Kind::Integer => {
-            let mut bytes = [0; 4];
-            BigEndian::write_i32(&mut bytes, number as i32);
-            out.extend_from_slice(&bytes)
-        }
-        Kind::BigInt => {
-            let mut bytes = [0; 8];
-            BigEndian::write_i64(&mut bytes, number);
-            out.extend_from_slice(&bytes)
-        }
-        Kind::VarChar | Kind::VarBinary => Ok(()),
-    }
-}
-
-// Appends a text or bytes behind their length.
-fn put_counted(out: &mut Vec<u8>, bytes: &[u8]) -> Result<(), AllocError>
-    requires { length bytes.now < 2 ^ 16 }
-    ensures { OnOk result (out.new.items ≡ out.old.items ++ counted bytes.now) }
-{
-    let mut count = [0; 2];
-    BigEndian::write_u16(&mut count, bytes.len() as u16);
-    out.extend_from_slice(&count)?;
-    out.extend_from_slice(bytes)
-}
-
-/// A value that fits the column, in front of the bytes, with what follows it.
-#[tactic(auto, unfolding(crate::specs::Row::value_at))]
-pub(crate) fn split_value<'a>(column: &Column, bytes: &'a [u8]) -> Option<(Value<'a>, &'a [u8])>
-    ensures { option_map (λ x. (datum_of x.0, x.1.now)) result ≡ value_at (column_of column.now) bytes.now }
-{
-    let (value, rest) = split_any(column.kind, bytes)?;
-    if column.admit(&value).is_err() {
-        return None;
-    }
-    Some((value, rest))
-}
-
-// A value of a type, with what follows.
-fn split_any(kind: Kind, bytes: &[u8]) -> Option<(Value<'_>, &[u8])>
-    ensures { option_map (λ x. (datum_of x.0, x.1.now)) result ≡ datum_at kind bytes.now }
-{
-    let [mark, rest @ ..] = bytes else {
-        return None;
-    };
-    match *mark {
-        ABSENT => Some((Value::Null, rest)),
-        PRESENT => split_content(kind, rest),
-        _ => None,
-    }
-}
-
-// The bytes of a value of a type behind its mark, with what follows.
-fn split_content(kind: Kind, bytes: &[u8]) -> Option<(Value<'_>, &[u8])>
-    ensures { option_map (λ x. (datum_of x.0, x.1.now)) result ≡ content_at kind bytes.now }
-{
-    match kind {
-        Kind::SmallInt => {
-            let (number, rest) = split_front(bytes, 2)?;
-            Some((Value::Number(i64::from(BigEndian::read_i16(number))), rest))
-        }
-        Kind::Integer => {
-            let (number, rest) = split_front(bytes, 4)?;
-            Some((Value::Number(i64::from(BigEndian::read_i32(number))), rest))
-        }
-        Kind::BigInt => {
-            let (number, rest) = split_front(bytes, 8)?;
-            Some((Value::Number(BigEndian::read_i64(number)), rest))
-        }
-        Kind::VarChar => {
-            let (text, rest) = split_counted(bytes)?;
-            Some((Value::Text(text_of(text)?), rest))
-        }
-        Kind::VarBinary => {
-            let (content, rest) = split_counted(bytes)?;
-            Some((Value::Bytes(content), rest))
-        }
-    }
-}
-
-// The first bytes, with what follows.
-#[tactic(auto, unfolding(crate::specs::Row::front_of))]
-pub(crate) fn split_front(bytes: &[u8], count: usize) -> Option<(&[u8], &[u8])>
-    ensures parts { option_map (λ x. (x.0.now, x.1.now)) result ≡ front_of count bytes.now }
-    ensures len { IfSome result (λ x. length x.0.now ≡ count) }
-{
-    if bytes.len() < count {
-        return None;
-    }
-    Some(bytes.split_at(count))
-}
-
-// The bytes behind a length of two bytes in front, with what follows.
-pub(crate) fn split_counted(bytes: &[u8]) -> Option<(&[u8], &[u8])>
-    ensures { option_map (λ x. (x.0.now, x.1.now)) result ≡ counted_at bytes.now }
-{
-    let (count, rest) = split_front(bytes, 2)?;
-    split_front(rest, usize::from(BigEndian::read_u16(count)))
-}
-
-// The text of these bytes, where they are UTF-8.
-fn text_of(bytes: &[u8]) -> Option<&str>
-    ensures { option_map (λ text. text.now) result ≡ utf8_in bytes.now }
-{
-    str::from_utf8(bytes).ok()
 }
