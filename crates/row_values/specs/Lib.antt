@@ -3,4 +3,5 @@ pub mod Column
 pub mod Row
 pub mod Schema
 pub mod Key
+pub mod RowView
 pub mod Tables

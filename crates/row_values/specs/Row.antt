@@ -93,6 +93,15 @@ values_at [] (byte ∷ bytes) = None
 values_at (column ∷ columns) bytes =
     option_and_then (λ (x : Datum × List ℕ). option_map (λ values. x.0 ∷ values) (values_at columns x.1)) (value_at column bytes)
 
+-- the values of bytes that have some, else none
+abbrev pub values_or_none : List ColumnShape → List ℕ → List Datum
+values_or_none columns bytes = unwrap_or (values_at columns bytes) []
+
+-- the rest of the bytes has the values from place i on, and begins where the earlier ones end
+abbrev pub StandsFrom : List ColumnShape → List ℕ → ℕ → List ℕ → Type 0
+StandsFrom columns bytes i rest = (values_at (drop i columns) rest ≡ Some (drop i (values_or_none columns bytes)))
+    × (bytes ≡ row_bytes (take i columns) (take i (values_or_none columns bytes)) ++ rest)
+
 -- ---- rows
 
 -- the values of a row, which has at most 4,000 bytes

@@ -1,9 +1,9 @@
 //! The bytes of a value.
 
-ghost use Rattle.std.specs.Prelude.{◌≡◌, ◌++◌, ◌^◌, ◌<◌, IfSome, IsTrue, None, OnOk, length, option_map};
+ghost use Rattle.std.specs.Prelude.{◌≡◌, ◌++◌, ◌^◌, ◌<◌, IfSome, IsSome, IsTrue, None, OnOk, is_some, length, map, option_map};
 ghost use Rattle.row_values.specs.Value.{datum_of, number as number_datum};
 ghost use Rattle.row_values.specs.Column.{column_of, fits, misfit_in};
-ghost use Rattle.row_values.specs.Row.{content_at, content_bytes, counted, counted_at, datum_at, front_of, utf8_in, value_at, value_bytes};
+ghost use Rattle.row_values.specs.Row.{content_at, content_bytes, counted, counted_at, datum_at, front_of, StandsFrom, utf8_in, value_at, value_bytes, values_at};
 
 use crate::column::{Column, Kind};
 use crate::value::Value;
@@ -98,6 +98,33 @@ pub(crate) fn value_length(column: &Column, value: &Value<'_>) -> usize
             3 + bytes.len()
         }
     }
+}
+
+/// Whether the bytes are those of values that fit the columns, one per column.
+pub(crate) fn has_values(columns: &[Column], bytes: &[u8]) -> bool
+    ensures { result ≡ is_some (values_at (map column_of columns.now) bytes.now) }
+{
+    let mut rest = bytes;
+    for column in columns {
+        match split_value(column, rest) {
+            Some((_, after)) => rest = after,
+            None => return false,
+        }
+    }
+    rest.is_empty()
+}
+
+/// The bytes from the value of column `i` on.
+pub(crate) fn from_column<'a>(columns: &[Column], bytes: &'a [u8], i: usize) -> &'a [u8]
+    requires values { IsSome (values_at (map column_of columns.now) bytes.now) }
+    requires inside { i < length columns.now }
+    ensures { StandsFrom (map column_of columns.now) bytes.now i result.now }
+{
+    let mut rest = bytes;
+    for j in 0..i {
+        rest = split_value(&columns[j], rest).unwrap().1;
+    }
+    rest
 }
 
 /// A value that fits the column, in front of the bytes, with what follows it.

@@ -3,11 +3,15 @@
 
 mod column;
 mod encoding;
+mod key;
 mod row;
+mod row_ref;
 mod schema;
 mod value;
 
 pub use column::{Column, Kind, Misfit, is_name};
+pub use key::{compare_keys, encode_key, is_key};
 pub use row::{Damaged, RowError, encode_row};
+pub use row_ref::RowRef;
 pub use schema::{BadSchema, Schema};
 pub use value::Value;

@@ -1,9 +1,9 @@
 //! Schemas.
 
-ghost use Rattle.std.specs.Prelude.{◌≡◌, ◌↔◌, IfOk, IsOk, true, map, nat_eq};
+ghost use Rattle.std.specs.Prelude.{◌≡◌, ◌↔◌, ◌<◌, IfOk, IsOk, Some, length, true, map, nat_eq};
 ghost use Rattle.std.specs.List.{list_all, list_any, slice_get};
 ghost use Rattle.row_values.specs.Column.{column_of};
-ghost use Rattle.row_values.specs.Schema.{are_columns, can_be_key, is_column, is_key_of, is_shape, no_repeat, same_name};
+ghost use Rattle.row_values.specs.Schema.{are_columns, can_be_key, is_column, is_key_of, is_shape, key_columns, no_repeat, same_name};
 
 use crate::column::Column;
 use std::marker::Model;
@@ -62,16 +62,26 @@ impl Schema {
 
     /// The columns, in the order of CREATE TABLE.
     pub fn columns(&self) -> &[Column]
-        ensures { map column_of result.now ≡ self.now.columns }
+        ensures columns { map column_of result.now ≡ self.now.columns }
+        ensures good { is_shape self.now ≡ true }
     {
         self.columns.as_slice()
     }
 
     /// The places of the key columns from 0, in the order of PRIMARY KEY.
     pub fn key(&self) -> &[u8]
-        ensures { result.now ≡ self.now.key }
+        ensures key { result.now ≡ self.now.key }
+        ensures good { is_shape self.now ≡ true }
     {
         self.key.as_slice()
+    }
+
+    /// The key column at place `i` of the key, counted from 0.
+    pub fn key_column(&self, i: usize) -> &Column
+        requires { i < length self.now.key }
+        ensures { slice_get (key_columns self.now) i ≡ Some (column_of result.now) }
+    {
+        &self.columns[usize::from(self.key[i])]
     }
 }
 
