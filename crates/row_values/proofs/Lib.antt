@@ -6,3 +6,5 @@ pub mod RowSteps
 pub mod ReadSteps
 pub mod RowColumns
 pub mod Keys
+pub mod KeyOrder
+pub mod Finding

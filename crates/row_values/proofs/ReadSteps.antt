@@ -2,6 +2,8 @@
 use Rattle.std.proofs.Common.{◌≡◌, ℕ, ◌+◌, ◌-◌, ◌<◌, ◌≤◌, zero, suc, List, [], ◌∷◌, ◌++◌, Bool, true, false, ◌&&◌, refl, sym, ap, subst, ◌∙◌, map, length, drop, take, get_or, Option, Some, None, option_map, arith, add-one, append_assoc, append-nil, length-append}
 use Rattle.std.specs.Prelude.{is_some, IsSome, unwrap_or}
 use Rattle.std.specs.Option.{option_and_then}
+use Rattle.std.proofs.Common.{◌==◌}
+use Rattle.std.proofs.lemmas.Bool.Decides.{nat_tests}
 use Rattle.std.specs.List.{slice_get}
 use Rattle.std.proofs.Math.Seq.{drop-append_seam}
 use Rattle.std.proofs.lemmas.List.{get_or-drop, drop_all}
@@ -113,3 +115,34 @@ stands_some columns bytes i column rest f None at is stands = let r = reads_at c
 -- at the beginning all values are to come
 pub stands_first : (columns : List ColumnShape) (bytes : List ℕ) → IsSome (values_at columns bytes) → StandsFrom columns bytes 0 bytes
 stands_first columns bytes some = (all_there (values_at columns bytes) some, refl)
+
+all_read : (rest : List ℕ) → (length rest == 0) ≡ is_some (values_at [] rest)
+all_read [] = refl
+all_read (byte ∷ bytes) = grind (arith, nat_tests)
+
+-- past the last column nothing may be left
+pub none_left : (columns : List ColumnShape) (i : ℕ) (rest : List ℕ) → length columns ≤ i → (length rest == 0) ≡ is_some (values_at (drop i columns) rest)
+none_left columns i rest past = all_read rest ∙ ap (λ (cs : List ColumnShape). is_some (values_at cs rest)) (sym (drop_all i columns past))
+
+-- something is read of the next column
+pub reads_some : (columns : List ColumnShape) (values : List Datum) (i : ℕ) (column : ColumnShape) (rest : List ℕ) {A : Type 0} (f : A → Datum × List ℕ) (o : Option A) → slice_get columns i ≡ Some column → option_map f o ≡ value_at column rest
+    → values_at (drop i columns) rest ≡ Some (drop i values) → IsSome o
+reads_some columns values i column rest f (Some y) at is read = refl
+reads_some columns values i column rest f None at is read = let r = reads_at columns values i column rest at read in absurd (apart r.0 (is ∙ r.1))
+
+-- what is read of the next column is the next value, and leaves the others
+pub next_read : (columns : List ColumnShape) (values : List Datum) (i : ℕ) (column : ColumnShape) (rest : List ℕ) (x : Datum × List ℕ) → slice_get columns i ≡ Some column → Some x ≡ value_at column rest
+    → values_at (drop i columns) rest ≡ Some (drop i values) → (slice_get values i ≡ Some x.0) × (values_at (drop (i + 1) columns) x.1 ≡ Some (drop (i + 1) values))
+next_read columns values i column rest x at is read =
+    let r = reads_at columns values i column rest at read in
+    let same : r.0 ≡ x = let e : Some r.0 ≡ Some x = sym r.1 ∙ sym is in cc in
+    subst (λ (y : Datum × List ℕ). (slice_get values i ≡ Some y.0) × (values_at (drop (i + 1) columns) y.1 ≡ Some (drop (i + 1) values))) same (r.2, r.3)
+
+-- there are as many values as columns
+pub values_count : (columns : List ColumnShape) (bytes : List ℕ) (values : List Datum) → values_at columns bytes ≡ Some values → length values ≡ length columns
+values_count [] [] values h = let none : [] ≡ values = cc in ap length (sym none)
+values_count [] (byte ∷ bytes) values h = absurd cc
+values_count (c ∷ cs) bytes values h =
+    let m = chained (λ (x : Datum × List ℕ). option_map (λ vs. x.0 ∷ vs) (values_at cs x.1)) (value_at c bytes) values h in
+    let t = mapped (λ (vs : List Datum). m.0.0 ∷ vs) (values_at cs m.0.1) values m.2 in
+    ap length (sym t.2) ∙ ap suc (values_count cs m.0.1 t.0 t.1)

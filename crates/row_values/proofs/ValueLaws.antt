@@ -25,7 +25,7 @@ use Rattle.row_values.proofs.RowLaws.{counted_back, fits_two, fits_four, fits_ei
 
 -- ---- what is written is read back
 
-is_within : (b : Bool) (m : Misfit) → is_none (within b m) ≡ true → b ≡ true
+pub is_within : (b : Bool) (m : Misfit) → is_none (within b m) ≡ true → b ≡ true
 is_within true m h = refl
 is_within false m h = absurd cc
 

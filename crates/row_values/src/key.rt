@@ -21,7 +21,7 @@ pub fn encode_key(alloc: Global, schema: &Schema, values: &[Value<'_>]) -> Resul
     ensures short { IfOk result (λ key. length key.items ≤ 8012) }
 {
     let mut key = Vec::new(alloc);
-    for i in 0..values.len() {
+    for i in 0..schema.key().len() {
         put_value(&mut key, schema.key_column(i), &values[i])?;
     }
     Ok(key)
@@ -47,18 +47,19 @@ pub fn compare_keys(schema: &Schema, a: &[u8], b: &[u8]) -> Ordering
     requires second { is_key schema.now b.now ≡ true }
     ensures { result ≡ key_cmp schema.now a.now b.now }
 {
-    let mut a = a;
-    let mut b = b;
+    let mut rest_a = a;
+    let mut rest_b = b;
     for i in 0..schema.key().len() {
         let column = schema.key_column(i);
-        let (first, after_a) = split_value(column, a).unwrap();
-        let (second, after_b) = split_value(column, b).unwrap();
+        let (first, after_a) = split_value(column, rest_a).unwrap();
+        let (second, after_b) = split_value(column, rest_b).unwrap();
         match first.order(&second) {
+            Ordering::Less => return Ordering::Less,
+            Ordering::Greater => return Ordering::Greater,
             Ordering::Equal => {}
-            other => return other,
         }
-        a = after_a;
-        b = after_b;
+        rest_a = after_a;
+        rest_b = after_b;
     }
     Ordering::Equal
 }
