@@ -113,3 +113,19 @@ order_equal shape a b i bytes_a bytes_b good_a good_b past_a past_b h =
     let wb = values_at-is (key_columns shape) b ys bytes_b (key_read shape b good_b) in
     let equal : a ≡ b = wa.1 ∙ ap (row_bytes (key_columns shape)) same ∙ sym wb.1 in
     sym (subst (λ (k : List ℕ). key_cmp shape a k ≡ Equal) equal (key_itself shape a))
+
+decided : (o p : Ordering) → (o ≡ Equal → p ≡ Equal) → ordering_then o p ≡ o
+decided Less p h = refl
+decided Equal p h = h refl
+decided Greater p h = refl
+
+-- keys are ordered by their values
+pub key_by_values : (shape : Shape) (a b : List ℕ) → IsBytes a → IsBytes b → is_key shape a ≡ true → is_key shape b ≡ true → key_cmp shape a b ≡ slice_cmp datum_cmp (key_values shape a) (key_values shape b)
+key_by_values shape a b bytes_a bytes_b good_a good_b =
+    let xs = key_values shape a in
+    let ys = key_values shape b in
+    let wa = values_at-is (key_columns shape) a xs bytes_a (key_read shape a good_a) in
+    let wb = values_at-is (key_columns shape) b ys bytes_b (key_read shape b good_b) in
+    decided (slice_cmp datum_cmp xs ys) (slice_cmp nat_cmp a b)
+    (λ tie. let equal : a ≡ b = wa.1 ∙ ap (row_bytes (key_columns shape)) (data_exact xs ys tie) ∙ sym wb.1 in
+     subst (λ (k : List ℕ). slice_cmp nat_cmp a k ≡ Equal) equal (tied_itself nat_list_cmp_total a))

@@ -8,3 +8,4 @@ pub mod RowColumns
 pub mod Keys
 pub mod KeyOrder
 pub mod Finding
+pub mod Changes

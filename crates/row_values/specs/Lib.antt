@@ -5,3 +5,5 @@ pub mod Schema
 pub mod Key
 pub mod RowView
 pub mod Tables
+pub mod Laws
+pub mod Bytes

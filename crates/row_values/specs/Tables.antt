@@ -1,5 +1,5 @@
 -- Tables, stores, and what changes make of them.
-use Rattle.std.specs.Prelude.{ℕ, Bool, true, List, [], ◌∷◌, ◌≡◌, Option, Some, None, is_some, bytes_eq, not, if◌then◌else◌, map, filter, length, option_map, unwrap_or}
+use Rattle.std.specs.Prelude.{ℕ, Bool, true, false, List, [], ◌∷◌, ◌≡◌, Option, Some, None, is_some, bytes_eq, ◌&&◌, not, if◌then◌else◌, map, filter, length, option_map, unwrap_or}
 use Rattle.std.specs.Option.{option_and_then}
 use Rattle.std.specs.Ordering.{nat_cmp}
 use Rattle.std.specs.Cmp.Lexicographic.{slice_cmp}
@@ -62,3 +62,28 @@ apply (create name shape) store = if is_some (table_of store name) then store
     else insert_entry (slice_cmp nat_cmp) store name (record { shape = shape; rows = [] })
 apply (put name row) store = with_table (put_row row) name store
 apply (remove name key) store = with_table (remove_row key) name store
+
+-- ---- what a change does, seen table by table and row by row
+
+-- a row of a table's schema, whose key is this one
+abbrev pub is_row_at : Option Shape → List ℕ → List ℕ → Bool
+is_row_at None row key = false
+is_row_at (Some shape) row key = is_row shape row && bytes_eq key (row_key shape row)
+
+-- t is s with a table of that name, where s has none; no row comes or goes
+pub record Creates (name : List ℕ) (shape : Shape) (s t : Store) : Type 0 where
+  pub schemas : (q : List ℕ) → schema_of t q ≡ (if bytes_eq q name then Some (unwrap_or (schema_of s name) shape) else schema_of s q)
+  pub found : (q key : List ℕ) → row_of t q key ≡ row_of s q key
+  pub rows : (q : List ℕ) → rows_of t q ≡ rows_of s q
+
+-- t is s with the row at its key, where s has the table and the row is one of it
+pub record Puts (name row : List ℕ) (s t : Store) : Type 0 where
+  pub schemas : (q : List ℕ) → schema_of t q ≡ schema_of s q
+  pub found : (q key : List ℕ) → row_of t q key ≡ (if bytes_eq q name && is_row_at (schema_of s name) row key then Some row else row_of s q key)
+  pub others : (q : List ℕ) → bytes_eq q name ≡ false → rows_of t q ≡ rows_of s q
+
+-- t is s without the row of the key
+pub record Removes (name key : List ℕ) (s t : Store) : Type 0 where
+  pub schemas : (q : List ℕ) → schema_of t q ≡ schema_of s q
+  pub found : (q k : List ℕ) → row_of t q k ≡ (if bytes_eq q name && bytes_eq k key then None else row_of s q k)
+  pub others : (q : List ℕ) → bytes_eq q name ≡ false → rows_of t q ≡ rows_of s q

@@ -4,6 +4,7 @@
 mod column;
 mod encoding;
 mod key;
+pub mod laws;
 mod row;
 mod row_ref;
 mod schema;
@@ -11,7 +12,7 @@ mod value;
 
 pub use column::{Column, Kind, Misfit, is_name};
 pub use key::{compare_keys, encode_key, is_key};
-pub use row::{Damaged, RowError, encode_row};
+pub use row::{Damaged, ReadError, RowError, encode_row};
 pub use row_ref::RowRef;
 pub use schema::{BadSchema, Schema};
 pub use value::Value;

@@ -4,7 +4,6 @@ ghost use Rattle.std.specs.Prelude.{◌≡◌, ◌≤◌, ◌<◌, ◌++◌, ◌
 ghost use Rattle.row_values.specs.Value.{datum_of};
 ghost use Rattle.row_values.specs.Column.{column_of};
 ghost use Rattle.row_values.specs.Row.{Encodes, all_fit, is_row, place_of, row_bytes, value_bytes, values_at, values_in, values_of};
-ghost use Rattle.row_values.specs.declared.row.RowError.TheVariants.{NoMemory};
 
 use crate::column::Column;
 use crate::encoding::{put_value, split_value, value_length};
@@ -26,6 +25,8 @@ pub enum RowError {
 }
 
 impl From<AllocError> for RowError {
+    ghost use Rattle.row_values.specs.declared.row.RowError.TheVariants.{NoMemory};
+
     ghost from_gives = { λ _ e. e ≡ NoMemory };
 
     fn from(_: AllocError) -> RowError {
@@ -37,6 +38,25 @@ impl From<AllocError> for RowError {
 #[derive(Clone, Copy, Debug, PartialEq, Eq, Error)]
 #[error("damaged")]
 pub struct Damaged;
+
+/// Why bytes are not read, where reading takes memory.
+#[derive(Clone, Copy, Debug, PartialEq, Eq, Error)]
+pub enum ReadError {
+    #[error("damaged")]
+    Damaged,
+    #[error("no memory")]
+    NoMemory,
+}
+
+impl From<AllocError> for ReadError {
+    ghost use Rattle.row_values.specs.declared.row.ReadError.TheVariants.{NoMemory};
+
+    ghost from_gives = { λ _ e. e ≡ NoMemory };
+
+    fn from(_: AllocError) -> ReadError {
+        ReadError::NoMemory
+    }
+}
 
 /// The bytes of a row of these values, one per column. It is refused as too long where it has more
 /// than 4,000 bytes.
