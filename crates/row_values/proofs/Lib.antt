@@ -9,3 +9,4 @@ pub mod Keys
 pub mod KeyOrder
 pub mod Finding
 pub mod Changes
+pub mod ByteSteps

@@ -12,12 +12,16 @@ use Rattle.row_values.specs.Schema.{Shape, is_name, is_shape}
 use Rattle.row_values.specs.Row.{counted, counted_at, front_of}
 use Rattle.row_values.specs.Tables.{Deed, create, put, remove}
 
--- what a reader answers: the value that the bytes have, with what follows, or that they have none.
--- Want of memory may come in place of any answer.
+-- what a reader says by an error: that no value stands there, or want of memory, which may come in
+-- place of any answer
+abbrev pub Fails : {V : Type 0} → ReadError → Option V → Type 0
+Fails DamagedError value = value ≡ None
+Fails NoMemoryError value = Unit {0}
+
+-- what a reader answers: the value that stands there
 abbrev pub Reads : {X V : Type 0} → (X → V) → Result X ReadError → Option V → Type 0
 Reads view (Ok x) value = value ≡ Some (view x)
-Reads view (Err DamagedError) value = value ≡ None
-Reads view (Err NoMemoryError) value = Unit {0}
+Reads view (Err error) value = Fails error value
 
 -- ---- the bytes
 
@@ -61,6 +65,14 @@ abbrev pub named_at : List ℕ → Option (List ℕ × List ℕ)
 named_at [] = None
 named_at (count ∷ bytes) = front_of count bytes
 
+-- the bytes, where they are a name
+unfoldable pub name_in : List ℕ → Option (List ℕ)
+name_in bytes = if is_name bytes then Some bytes else None
+
+-- a name behind its length
+abbrev pub name_at : List ℕ → Option (List ℕ × List ℕ)
+name_at bytes = option_and_then (λ (x : List ℕ × List ℕ). option_map (λ (name : List ℕ). (name, x.1)) (name_in x.0)) (named_at bytes)
+
 abbrev pub kind_at : ℕ → Option Kind
 kind_at code = if code == 1 then Some SmallInt else (if code == 2 then Some Integer else (if code == 3 then Some BigInt
     else (if code == 4 then Some VarChar else (if code == 5 then Some VarBinary else None))))
@@ -74,17 +86,20 @@ column_after name (code ∷ flag ∷ high ∷ low ∷ rest) = option_and_then (�
 column_after name bytes = None
 
 unfoldable pub column_at : List ℕ → Option (ColumnShape × List ℕ)
-column_at bytes = option_and_then (λ (x : List ℕ × List ℕ). column_after x.0 x.1) (named_at bytes)
+column_at bytes = option_and_then (λ (x : List ℕ × List ℕ). column_after x.0 x.1) (name_at bytes)
 
 -- n columns
 abbrev pub columns_at : ℕ → List ℕ → Option (List ColumnShape × List ℕ)
 columns_at zero bytes = Some ([], bytes)
 columns_at (suc n) bytes = option_and_then (λ (x : ColumnShape × List ℕ). option_map (λ (y : List ColumnShape × List ℕ). (x.0 ∷ y.0, y.1)) (columns_at n x.1)) (column_at bytes)
 
--- the columns and the key, whether or not they are a schema
+-- the columns and the key behind the number of columns, whether or not they are a schema
+abbrev pub parts_after : ℕ → List ℕ → Option (Shape × List ℕ)
+parts_after count bytes = option_and_then (λ (x : List ColumnShape × List ℕ). option_map (λ (y : List ℕ × List ℕ). (record { columns = x.0; key = y.0 }, y.1)) (named_at x.1)) (columns_at count bytes)
+
 abbrev pub parts_at : List ℕ → Option (Shape × List ℕ)
 parts_at [] = None
-parts_at (count ∷ bytes) = option_and_then (λ (x : List ColumnShape × List ℕ). option_map (λ (y : List ℕ × List ℕ). (record { columns = x.0; key = y.0 }, y.1)) (named_at x.1)) (columns_at count bytes)
+parts_at (count ∷ bytes) = parts_after count bytes
 
 unfoldable pub schema_at : List ℕ → Option (Shape × List ℕ)
 schema_at bytes = option_and_then (λ (x : Shape × List ℕ). if is_shape x.0 then Some x else None) (parts_at bytes)
@@ -98,4 +113,4 @@ deed_after code name bytes = if code == 1 then option_map (λ (x : Shape × List
 unfoldable pub deed_at : List ℕ → Option (Deed × List ℕ)
 deed_at [] = None
 deed_at (code ∷ bytes) = option_and_then (λ (x : Deed × List ℕ). if is_deed x.0 then Some x else None)
-    (option_and_then (λ (x : List ℕ × List ℕ). deed_after code x.0 x.1) (named_at bytes))
+    (option_and_then (λ (x : List ℕ × List ℕ). deed_after code x.0 x.1) (name_at bytes))

@@ -201,8 +201,8 @@ pub(crate) fn split_counted(bytes: &[u8]) -> Option<(&[u8], &[u8])>
     split_front(rest, usize::from(BigEndian::read_u16(count)))
 }
 
-// The text of these bytes, where they are UTF-8.
-fn text_of(bytes: &[u8]) -> Option<&str>
+/// The text of these bytes, where they are UTF-8.
+pub(crate) fn text_of(bytes: &[u8]) -> Option<&str>
     ensures { option_map (λ text. text.now) result ≡ utf8_in bytes.now }
 {
     str::from_utf8(bytes).ok()

@@ -8,6 +8,7 @@ pub mod laws;
 mod row;
 mod row_ref;
 mod schema;
+mod schema_bytes;
 mod value;
 
 pub use column::{Column, Kind, Misfit, is_name};

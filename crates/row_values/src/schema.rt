@@ -51,7 +51,7 @@ impl Schema {
     /// are in capitals, 1 to 30 bytes, a letter and then letters, digits and `_`; texts and bytes
     /// have a length of 1 to 2,000 bytes, numbers 0. Anything else is refused.
     pub fn new(columns: Vec<Column>, key: Vec<u8>) -> Result<Schema, BadSchema>
-        ensures made { IfOk result (λ schema. (schema.columns ≡ map column_of columns.items) × (schema.key ≡ key.items)) }
+        ensures made { IfOk result (λ schema. schema ≡ record { columns = map column_of columns.items; key = key.items }) }
         ensures only { IsOk result ↔ (is_shape (record { columns = map column_of columns.items; key = key.items }) ≡ true) }
     {
         if !are_columns(&columns) || !is_key_of(&columns, &key) {
