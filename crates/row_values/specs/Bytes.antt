@@ -104,13 +104,16 @@ parts_at (count ∷ bytes) = parts_after count bytes
 unfoldable pub schema_at : List ℕ → Option (Shape × List ℕ)
 schema_at bytes = option_and_then (λ (x : Shape × List ℕ). if is_shape x.0 then Some x else None) (parts_at bytes)
 
--- a change behind its code and the name of its table
-abbrev pub deed_after : ℕ → List ℕ → List ℕ → Option (Deed × List ℕ)
-deed_after code name bytes = if code == 1 then option_map (λ (x : Shape × List ℕ). (create name x.0, x.1)) (schema_at bytes)
-    else (if code == 2 then option_map (λ (x : List ℕ × List ℕ). (put name x.0, x.1)) (counted_at bytes)
-    else (if code == 3 then option_map (λ (x : List ℕ × List ℕ). (remove name x.0, x.1)) (counted_at bytes) else None))
+-- at most so many bytes behind their length of two bytes
+abbrev pub short_at : ℕ → List ℕ → Option (List ℕ × List ℕ)
+short_at limit bytes = option_and_then (λ (x : List ℕ × List ℕ). if nat_le (length x.0) limit then Some x else None) (counted_at bytes)
 
-unfoldable pub deed_at : List ℕ → Option (Deed × List ℕ)
+-- a change behind its code and the name of its table
+unfoldable pub deed_after : ℕ → List ℕ → List ℕ → Option (Deed × List ℕ)
+deed_after code name bytes = if code == 1 then option_map (λ (x : Shape × List ℕ). (create name x.0, x.1)) (schema_at bytes)
+    else (if code == 2 then option_map (λ (x : List ℕ × List ℕ). (put name x.0, x.1)) (short_at 4000 bytes)
+    else (if code == 3 then option_map (λ (x : List ℕ × List ℕ). (remove name x.0, x.1)) (short_at 8012 bytes) else None))
+
+abbrev pub deed_at : List ℕ → Option (Deed × List ℕ)
 deed_at [] = None
-deed_at (code ∷ bytes) = option_and_then (λ (x : Deed × List ℕ). if is_deed x.0 then Some x else None)
-    (option_and_then (λ (x : List ℕ × List ℕ). deed_after code x.0 x.1) (name_at bytes))
+deed_at (code ∷ bytes) = option_and_then (λ (x : List ℕ × List ℕ). deed_after code x.0 x.1) (name_at bytes)

@@ -65,8 +65,8 @@ fn put_number(out: &mut Vec<u8>, kind: Kind, number: i64) -> Result<(), AllocErr
     }
 }
 
-// Appends a text or bytes behind their length.
-fn put_counted(out: &mut Vec<u8>, bytes: &[u8]) -> Result<(), AllocError>
+/// Appends a text or bytes behind their length.
+pub(crate) fn put_counted(out: &mut Vec<u8>, bytes: &[u8]) -> Result<(), AllocError>
     requires { length bytes.now < 2 ^ 16 }
     ensures { OnOk result (out.new.items ≡ out.old.items ++ counted bytes.now) }
 {
@@ -193,7 +193,7 @@ pub(crate) fn split_front(bytes: &[u8], count: usize) -> Option<(&[u8], &[u8])>
     Some(bytes.split_at(count))
 }
 
-// The bytes behind a length of two bytes in front, with what follows.
+/// The bytes behind a length of two bytes in front, with what follows.
 pub(crate) fn split_counted(bytes: &[u8]) -> Option<(&[u8], &[u8])>
     ensures { option_map (λ x. (x.0.now, x.1.now)) result ≡ counted_at bytes.now }
 {

@@ -1,6 +1,6 @@
 //! The bytes of schemas.
 
-ghost use Rattle.std.specs.Prelude.{◌≡◌, ◌++◌, OnOk, map, option_map, true};
+ghost use Rattle.std.specs.Prelude.{◌≡◌, ◌≤◌, ◌++◌, ◌*◌, OnOk, length, map, option_map, true};
 ghost use Rattle.std.specs.String.{string_bytes};
 ghost use Rattle.std.specs.List.{flat_map, list_all};
 ghost use Rattle.row_values.specs.Column.{column_of};
@@ -15,6 +15,14 @@ use byteorder::{BigEndian, ByteOrder};
 use std::alloc::{AllocError, Global};
 
 impl Schema {
+    /// How many bytes the schema has when it is written.
+    pub fn length(&self) -> usize
+        ensures exact { result ≡ length (schema_bytes self.now) }
+        ensures short { result ≤ 4096 }
+    {
+        2 + columns_length(self.columns()) + self.key().len()
+    }
+
     /// Appends the bytes of the schema.
     pub fn write(&self, out: &mut Vec<u8>) -> Result<(), AllocError>
         ensures { OnOk result (out.new.items ≡ out.old.items ++ schema_bytes self.now) }
@@ -65,6 +73,19 @@ fn read_counted_parts(alloc: Global, count: u8, bytes: &[u8]) -> Result<(Vec<Col
         return Err(ReadError::Damaged);
     };
     Ok((columns, Vec::from_slice(alloc, key)?, rest))
+}
+
+fn columns_length(columns: &[Column]) -> usize
+    requires valid { list_all is_column (map column_of columns.now) ≡ true }
+    requires few { length columns.now ≤ 64 }
+    ensures exact { result ≡ length (flat_map column_bytes (map column_of columns.now)) }
+    ensures short { result ≤ 64 * 35 }
+{
+    let mut length = 0;
+    for column in columns {
+        length += 5 + column.name.as_str().len();
+    }
+    length
 }
 
 fn put_columns(out: &mut Vec<u8>, columns: &[Column]) -> Result<(), AllocError>
