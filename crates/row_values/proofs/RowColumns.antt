@@ -7,6 +7,14 @@ use Rattle.std.proofs.Math.Seq.{drop-append_seam, take-append_seam}
 use Rattle.drda_words.specs.Place.{StandsAt, part}
 use Rattle.row_values.specs.Value.{Datum}
 use Rattle.row_values.specs.Column.{ColumnShape, fits}
+use Rattle.std.proofs.Common.{map, get_or, option_map}
+use Rattle.std.specs.Global.{Vec}
+use Rattle.std.specs.List.{list_all}
+use Rattle.std.proofs.lemmas.List.{length-map}
+use Rattle.std.proofs.lemmas.Option.{slice_get-map, slice_get_read}
+use Rattle.row_values.specs.RowList.{Listed, is_list, is_selection}
+use Rattle.row_values.proofs.Keys.{all_at}
+use Rattle.row_values.proofs.ValueLaws.{second_true}
 use Rattle.row_values.specs.Schema.{Shape}
 use Rattle.row_values.specs.Row.{StandsFrom, all_fit, is_row, place_of, row_bytes, value_at, value_bytes, values_at, values_in, values_of, values_or_none}
 use Rattle.row_values.proofs.ValueLaws.{IsBytes, values_at-is}
@@ -82,3 +90,15 @@ row_found shape row columns b same short is found =
 -- a result that is told by cases on a place of a list
 pub at_place : {A : Type 0} (P : A → Type 0) (xs : List A) (i : ℕ) (x : A) → slice_get xs i ≡ Some x → P x → IfSome (slice_get xs i) P
 at_place P xs i x is p = subst (λ o. IfSome o P) (sym is) p
+
+-- ---- rows of a list
+
+-- the row at a place of a list
+pub listed_row : (l : Listed) (rows : List (Vec ℕ)) (i : ℕ) (row : Vec ℕ) (bytes : List ℕ) → map (λ (v : Vec ℕ). v.items) rows ≡ l.rows → i < length l.rows → row ≡ get_or rows i row → bytes ≡ row.items → slice_get l.rows i ≡ Some bytes
+listed_row l rows i row bytes is lt at same =
+    let count : length rows ≡ length l.rows = sym (length-map rows (λ (v : Vec ℕ). v.items)) ∙ ap length is in
+    let here = slice_get_read rows (length rows) i row refl (omega arith) at in
+    ap (λ (xs : List (List ℕ)). slice_get xs i) (sym is) ∙ slice_get-map (λ (v : Vec ℕ). v.items) rows i ∙ ap (option_map (λ (v : Vec ℕ). v.items)) here ∙ ap Some (sym same)
+
+pub listed_good : (l : Listed) (i : ℕ) (bytes : List ℕ) → is_list l ≡ true → slice_get l.rows i ≡ Some bytes → is_row l.shape bytes ≡ true
+listed_good l i bytes good at = all_at (is_row l.shape) l.rows i bytes (second_true (is_selection l.shape l.selected) (list_all (is_row l.shape) l.rows) good) at

@@ -72,3 +72,37 @@ row_more out more all value rest step so = append_assoc out value rest ∙ ap (�
 
 pub row_none : (out more all : List ℕ) → more ≡ [] → out ++ more ≡ all → out ≡ all
 row_none out more all end so = sym (append-nil out) ∙ ap (λ (l : List ℕ). out ++ l) (sym end) ∙ so
+
+-- ---- values that fit, place by place
+
+fit_from : (columns : List ColumnShape) (values : List Datum) (i : ℕ) (column : ColumnShape) (value : Datum) → slice_get columns i ≡ Some column → slice_get values i ≡ Some value
+    → all_fit (drop i columns) (drop i values) ≡ (fits column value && all_fit (drop (suc i) columns) (drop (suc i) values))
+fit_from [] values i column value p q = absurd cc
+fit_from (c ∷ cs) [] i column value p q = absurd cc
+fit_from (c ∷ cs) (v ∷ vs) zero column value p q = let one : c ≡ column = cc in let two : v ≡ value = cc in rw (← one, ← two) refl
+fit_from (c ∷ cs) (v ∷ vs) (suc i) column value p q = fit_from cs vs i column value p q
+
+fit_step : (columns : List ColumnShape) (values : List Datum) (i : ℕ) (column : ColumnShape) (value : Datum) → slice_get columns i ≡ Some column → slice_get values i ≡ Some value
+    → all_fit (drop i columns) (drop i values) ≡ (fits column value && all_fit (drop (i + 1) columns) (drop (i + 1) values))
+fit_step columns values i column value p q = rw add-one (fit_from columns values i column value p q)
+
+pub fit_goes_on : (columns : List ColumnShape) (values : List Datum) (i : ℕ) (column : ColumnShape) (value : Datum) → slice_get columns i ≡ Some column → slice_get values i ≡ Some value → fits column value ≡ true
+    → all_fit (drop (i + 1) columns) (drop (i + 1) values) ≡ all_fit (drop i columns) (drop i values)
+fit_goes_on columns values i column value p q fit = sym (fit_step columns values i column value p q ∙ ap (λ b. b && all_fit (drop (i + 1) columns) (drop (i + 1) values)) fit)
+
+pub fit_stops : (columns : List ColumnShape) (values : List Datum) (i : ℕ) (column : ColumnShape) (value : Datum) → slice_get columns i ≡ Some column → slice_get values i ≡ Some value → fits column value ≡ false → all_fit (drop i columns) (drop i values) ≡ false
+fit_stops columns values i column value p q misfit = fit_step columns values i column value p q ∙ ap (λ b. b && all_fit (drop (i + 1) columns) (drop (i + 1) values)) misfit
+
+pub fit_ends : (columns : List ColumnShape) (values : List Datum) (i : ℕ) → length columns ≤ i → length values ≤ i → all_fit (drop i columns) (drop i values) ≡ true
+fit_ends columns values i past_c past_v =
+    let one : drop i columns ≡ [] = drop_all i columns past_c in
+    let two : drop i values ≡ [] = drop_all i values past_v in
+    rw (one, two) refl
+
+unequal : (columns : List ColumnShape) (values : List Datum) (b : Bool) → all_fit columns values ≡ b → (length columns ≡ length values → ⊥) → false ≡ b
+unequal columns values true is apart = absurd (apart (all_fit-length columns values is))
+unequal columns values false is apart = refl
+
+-- another number of values does not fit
+pub fit_count : (columns : List ColumnShape) (values : List Datum) → (length columns ≡ length values → ⊥) → false ≡ all_fit columns values
+fit_count columns values apart = unequal columns values (all_fit columns values) refl apart

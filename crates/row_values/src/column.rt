@@ -1,6 +1,6 @@
 //! Columns, and which values fit them.
 
-ghost use Rattle.std.specs.Prelude.{◌≡◌, IsTrue, OnOk};
+ghost use Rattle.std.specs.Prelude.{◌≡◌, is_ok};
 ghost use Rattle.std.specs.List.{list_all};
 ghost use Rattle.std.specs.Result.{result_err};
 ghost use Rattle.row_values.specs.Value.{datum_of, number as number_datum, text as text_datum, binary as binary_datum};
@@ -48,7 +48,7 @@ impl Column {
     /// range, its length. NULL is of every class.
     pub fn admit(&self, value: &Value<'_>) -> Result<(), Misfit>
         ensures reason { result_err result ≡ misfit_of (column_of self.now) (datum_of value.now) }
-        ensures fits { OnOk result (IsTrue (fits (column_of self.now) (datum_of value.now))) }
+        ensures fits { is_ok result ≡ fits (column_of self.now) (datum_of value.now) }
     {
         match value {
             Value::Null => check(self.is_nullable, Misfit::IsNull),

@@ -12,6 +12,21 @@ use crate::value::Value;
 use std::alloc::{AllocError, Global};
 use std::cmp::Ordering;
 
+/// Whether there is one value per key column, in the order of PRIMARY KEY, and each fits.
+pub fn are_key(schema: &Schema, values: &[Value<'_>]) -> bool
+    ensures { result ≡ all_fit (key_columns schema.now) (map datum_of values.now) }
+{
+    if schema.key().len() != values.len() {
+        return false;
+    }
+    for i in 0..values.len() {
+        if schema.key_column(i).admit(&values[i]).is_err() {
+            return false;
+        }
+    }
+    true
+}
+
 /// The bytes of a key of these values, one per key column in the order of PRIMARY KEY: at most
 /// 8,012.
 pub fn encode_key(alloc: Global, schema: &Schema, values: &[Value<'_>]) -> Result<Vec<u8>, AllocError>

@@ -16,8 +16,8 @@ mod value;
 
 pub use change::Change;
 pub use column::{Column, Kind, Misfit, is_name};
-pub use key::{compare_keys, encode_key, is_key};
-pub use row::{Damaged, ReadError, RowError, encode_row};
+pub use key::{are_key, compare_keys, encode_key, is_key};
+pub use row::{Damaged, ReadError, RowError, are_row, encode_row};
 pub use row_list::RowList;
 pub use row_ref::RowRef;
 pub use schema::{BadSchema, Schema};

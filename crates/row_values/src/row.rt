@@ -68,6 +68,22 @@ impl<T: Drop> From<AllocFailed<T>> for ReadError {
     }
 }
 
+/// Whether there is one value per column, and each fits.
+pub fn are_row(schema: &Schema, values: &[Value<'_>]) -> bool
+    ensures { result ≡ all_fit schema.now.columns (map datum_of values.now) }
+{
+    let columns = schema.columns();
+    if columns.len() != values.len() {
+        return false;
+    }
+    for i in 0..columns.len() {
+        if columns[i].admit(&values[i]).is_err() {
+            return false;
+        }
+    }
+    true
+}
+
 /// The bytes of a row of these values, one per column. It is refused as too long where it has more
 /// than 4,000 bytes.
 pub fn encode_row(alloc: Global, schema: &Schema, values: &[Value<'_>]) -> Result<Vec<u8>, RowError>
