@@ -12,6 +12,8 @@ mod row_ref;
 mod schema;
 mod schema_bytes;
 mod table_view;
+#[cfg(test)]
+mod tests;
 mod value;
 
 pub use change::Change;

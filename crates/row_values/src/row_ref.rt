@@ -5,7 +5,7 @@ ghost use Rattle.std.specs.List.{slice_get};
 ghost use Rattle.row_values.specs.Value.{datum_of};
 ghost use Rattle.row_values.specs.Column.{column_of, fits};
 ghost use Rattle.row_values.specs.Row.{all_fit, is_row, place_of, row_bytes, value_bytes, values_in};
-ghost use Rattle.row_values.specs.Key.{row_key};
+ghost use Rattle.row_values.specs.Key.{is_key, row_key};
 ghost use Rattle.drda_words.specs.Place.{StandsAt};
 
 use crate::encoding::{from_column, has_values, put_value, split_value};
@@ -44,6 +44,26 @@ impl<'a> RowRef<'a> {
         ensures { result.now ≡ row_in self.now }
     {
         self.bytes
+    }
+
+    /// The schema of the row.
+    pub fn schema(&self) -> &'a Schema
+        ensures { result.now ≡ shape_in self.now }
+    {
+        self.schema
+    }
+
+    /// The bytes of the row's key.
+    pub fn key(&self, alloc: Global) -> Result<Vec<u8>, AllocError>
+        ensures key { IfOk result (λ key. key.items ≡ row_key (shape_in self.now) (row_in self.now)) }
+        ensures good { IfOk result (λ key. is_key (shape_in self.now) key.items ≡ true) }
+    {
+        let mut key = Vec::new(alloc);
+        for i in 0..self.schema.key().len() {
+            let place = usize::from(self.schema.key()[i]);
+            put_value(&mut key, self.schema.key_column(i), &self.column(place))?;
+        }
+        Ok(key)
     }
 
     /// The value of column `i`, counted from 0. A text or bytes are lent from the row: the value's
