@@ -170,8 +170,8 @@ short_good limit bytes x h =
 
 deed_cases : (a b c : Bool) (name bytes : List ℕ) (x : Deed × List ℕ) → is_name name ≡ true
     → (if a then option_map (λ (y : Shape × List ℕ). (create name y.0, y.1)) (schema_at bytes)
-        else (if b then option_map (λ (y : List ℕ × List ℕ). (put name y.0, y.1)) (short_at 4000 bytes)
-        else (if c then option_map (λ (y : List ℕ × List ℕ). (remove name y.0, y.1)) (short_at 8012 bytes) else None))) ≡ Some x → is_deed x.0 ≡ true
+    else (if b then option_map (λ (y : List ℕ × List ℕ). (put name y.0, y.1)) (short_at 4000 bytes)
+    else (if c then option_map (λ (y : List ℕ × List ℕ). (remove name y.0, y.1)) (short_at 8012 bytes) else None))) ≡ Some x → is_deed x.0 ≡ true
 deed_cases true b c name bytes x good h =
     let m = mapped (λ (y : Shape × List ℕ). (create name y.0, y.1)) (schema_at bytes) x h in
     ap (λ (y : Deed × List ℕ). is_deed y.0) (sym m.2) ∙ both_true (is_name name) (is_shape m.0.0) good (schema_good bytes m.0 m.1)

@@ -58,7 +58,7 @@ found_step R t q k v e es rest Greater is same =
     let apart : bytes_eq k e.0 ≡ false = told_apart R t k e.0 Greater is (λ h. cc) in
     ap (λ o. cond (bytes_eq q e.0) (Some e.1) o) same
     ∙ swap_cases (bytes_eq q e.0) (bytes_eq q k) (Some e.1) (Some v) (lookup (bytes_eq q) es)
-      (λ one two. clash k e.0 (sym (same_bytes q k two) ∙ same_bytes q e.0 one) apart)
+    (λ one two. clash k e.0 (sym (same_bytes q k two) ∙ same_bytes q e.0 one) apart)
 
 -- what is found after an entry was put
 pub found_put : (R : List ℕ → List ℕ → Ordering) {X : Type 0} → TellsApart R → (q k : List ℕ) (v : X) (es : List (List ℕ × X)) → lookup (bytes_eq q) (insert_entry R es k v) ≡ cond (bytes_eq q k) (Some v) (lookup (bytes_eq q) es)
@@ -73,7 +73,7 @@ taken_step q k e es rest true is same =
 taken_step q k e es rest false is same =
     ap (λ o. cond (bytes_eq q e.0) (Some e.1) o) same
     ∙ swap_cases (bytes_eq q e.0) (bytes_eq q k) (Some e.1) None (lookup (bytes_eq q) es)
-      (λ one two. clash k e.0 (sym (same_bytes q k two) ∙ same_bytes q e.0 one) is)
+    (λ one two. clash k e.0 (sym (same_bytes q k two) ∙ same_bytes q e.0 one) is)
 
 pub either_way : {A : Type 0} (b : Bool) (x : A) → x ≡ cond b x x
 either_way true x = refl

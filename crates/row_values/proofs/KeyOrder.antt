@@ -128,4 +128,4 @@ key_by_values shape a b bytes_a bytes_b good_a good_b =
     let wb = values_at-is (key_columns shape) b ys bytes_b (key_read shape b good_b) in
     decided (slice_cmp datum_cmp xs ys) (slice_cmp nat_cmp a b)
     (λ tie. let equal : a ≡ b = wa.1 ∙ ap (row_bytes (key_columns shape)) (data_exact xs ys tie) ∙ sym wb.1 in
-     subst (λ (k : List ℕ). slice_cmp nat_cmp a k ≡ Equal) equal (tied_itself nat_list_cmp_total a))
+    subst (λ (k : List ℕ). slice_cmp nat_cmp a k ≡ Equal) equal (tied_itself nat_list_cmp_total a))

@@ -66,7 +66,7 @@ all_at p (y ∷ ys) (suc i) x all is = all_at p ys i x (second_true _ _ all) is
 
 -- ---- the columns of a key
 
-within_some : {A : Type 0} (xs : List A) (p : ℕ) (o : Option A) → slice_get xs p ≡ o → is_some o ≡ true → p < length xs
+pub within_some : {A : Type 0} (xs : List A) (p : ℕ) (o : Option A) → slice_get xs p ≡ o → is_some o ≡ true → p < length xs
 within_some xs p (Some x) is h = slice_get_within xs p x is
 within_some xs p None is h = absurd cc
 

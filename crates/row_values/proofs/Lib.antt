@@ -10,3 +10,4 @@ pub mod KeyOrder
 pub mod Finding
 pub mod Changes
 pub mod ByteSteps
+pub mod RowKeys

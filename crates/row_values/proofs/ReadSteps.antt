@@ -101,9 +101,9 @@ stands_step columns bytes i column rest x all at is stands =
     let same : r.0 ≡ x = let e : Some r.0 ≡ Some x = sym r.1 ∙ sym is in cc in
     let v = value_at-is column rest r.0 (rest_bytes bytes (row_bytes (take i columns) (take i values)) rest all stands.1) r.1 in
     let whole : bytes ≡ row_bytes (take (i + 1) columns) (take (i + 1) values) ++ r.0.1 =
-        stands.1 ∙ ap (λ (l : List ℕ). row_bytes (take i columns) (take i values) ++ l) v.1
-        ∙ sym (append_assoc (row_bytes (take i columns) (take i values)) (value_bytes column.kind r.0.0) r.0.1)
-        ∙ ap (λ (l : List ℕ). l ++ r.0.1) (sym (row_bytes-more columns values i column r.0.0 at r.2)) in
+    stands.1 ∙ ap (λ (l : List ℕ). row_bytes (take i columns) (take i values) ++ l) v.1
+    ∙ sym (append_assoc (row_bytes (take i columns) (take i values)) (value_bytes column.kind r.0.0) r.0.1)
+    ∙ ap (λ (l : List ℕ). l ++ r.0.1) (sym (row_bytes-more columns values i column r.0.0 at r.2)) in
     subst (λ (y : Datum × List ℕ). StandsFrom columns bytes (i + 1) y.1) same (r.3, whole)
 
 -- something is read there

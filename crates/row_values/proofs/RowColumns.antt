@@ -74,12 +74,14 @@ column_value shape row columns i column rest x same good written at stands is =
     let values = values_in shape row in
     let at' : slice_get shape.columns i ≡ Some column = subst (λ (cs : List ColumnShape). slice_get cs i ≡ Some column) same at in
     let stands' : values_at (drop i shape.columns) rest ≡ Some (drop i values) =
-        subst (λ (vs : List Datum). values_at (drop i shape.columns) rest ≡ Some (drop i vs)) (sym (values_are shape row good)) (subst (λ (cs : List ColumnShape). StandsFrom cs row i rest) same stands).0 in
+    subst (λ (vs : List Datum). values_at (drop i shape.columns) rest ≡ Some (drop i vs)) (sym (values_are shape row good)) (subst (λ (cs : List ColumnShape). StandsFrom cs row i rest) same stands).0 in
     let r = reads_at shape.columns values i column rest at' stands' in
     let first : r.0.0 ≡ x.0 = let e : Some r.0 ≡ Some x = sym r.1 ∙ sym is in cc in
-    let got : slice_get values i ≡ Some x.0 = r.2 ∙ ap Some first in
-    (got, fits_at shape.columns values i column x.0 written.0 at' got,
-     subst (λ (bytes : List ℕ). StandsAt bytes (place_of shape.columns values i) (value_bytes column.kind x.0)) (sym written.1) (column_stands shape.columns values i column x.0 written.0 at' got))
+    let got : slice_get values i ≡ Some x.0 = r.2 ∙ ap Some first in (
+      got,
+      fits_at shape.columns values i column x.0 written.0 at' got,
+      subst (λ (bytes : List ℕ). StandsAt bytes (place_of shape.columns values i) (value_bytes column.kind x.0)) (sym written.1) (column_stands shape.columns values i column x.0 written.0 at' got),
+    )
 
 pub row_found : (shape : Shape) (row : List ℕ) (columns : List ColumnShape) (b : Bool) → columns ≡ shape.columns → length row ≤ 4000 → b ≡ is_some (values_at columns row) → b ≡ true → is_row shape row ≡ true
 row_found shape row columns b same short is found =

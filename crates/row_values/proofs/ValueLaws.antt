@@ -235,10 +235,11 @@ unfolding value_at
 value_at-is column bytes x all h =
     let m = chained (λ (y : Datum × List ℕ). if fits column y.0 then Some y else None) (datum_at column.kind bytes) x h in
     let k = kept (fits column m.0.0) m.0 x m.2 in
-    let d = datum_is column.kind bytes m.0 all m.1 in
-    (ap (λ (y : Datum × List ℕ). fits column y.0) (sym k.1) ∙ k.0,
-     subst (λ (y : Datum × List ℕ). bytes ≡ value_bytes column.kind y.0 ++ y.1) k.1 d.0,
-     subst (λ (y : Datum × List ℕ). IsBytes y.1) k.1 d.1)
+    let d = datum_is column.kind bytes m.0 all m.1 in (
+      ap (λ (y : Datum × List ℕ). fits column y.0) (sym k.1) ∙ k.0,
+      subst (λ (y : Datum × List ℕ). bytes ≡ value_bytes column.kind y.0 ++ y.1) k.1 d.0,
+      subst (λ (y : Datum × List ℕ). IsBytes y.1) k.1 d.1,
+    )
 
 -- ---- rows
 

@@ -82,7 +82,12 @@ impl Change {
 
 // A change behind its code and the name of its table.
 #[tactic(auto, unfolding(crate::specs::Bytes::deed_after))]
-fn read_of_table<'a>(alloc: Global, code: u8, table: &str, bytes: &'a [u8]) -> Result<(Change, &'a [u8]), ReadError>
+fn read_of_table<'a>(
+    alloc: Global,
+    code: u8,
+    table: &str,
+    bytes: &'a [u8],
+) -> Result<(Change, &'a [u8]), ReadError>
     ensures { Reads (λ x. (deed_of x.0, x.1.now)) result (deed_after code table.now bytes.now) }
 {
     let table = String::from_str(alloc, table)?;
@@ -92,11 +97,23 @@ fn read_of_table<'a>(alloc: Global, code: u8, table: &str, bytes: &'a [u8]) -> R
             Err(error) => Err(error),
         },
         2 => match split_short(bytes, ROW_LIMIT) {
-            Some((row, rest)) => Ok((Change::Put { table, row: Vec::from_slice(alloc, row)? }, rest)),
+            Some((row, rest)) => Ok((
+                Change::Put {
+                    table,
+                    row: Vec::from_slice(alloc, row)?,
+                },
+                rest,
+            )),
             None => Err(ReadError::Damaged),
         },
         3 => match split_short(bytes, KEY_LIMIT) {
-            Some((key, rest)) => Ok((Change::Remove { table, key: Vec::from_slice(alloc, key)? }, rest)),
+            Some((key, rest)) => Ok((
+                Change::Remove {
+                    table,
+                    key: Vec::from_slice(alloc, key)?,
+                },
+                rest,
+            )),
             None => Err(ReadError::Damaged),
         },
         _ => Err(ReadError::Damaged),

@@ -71,7 +71,10 @@ impl Column {
     {
         match self.kind {
             Kind::SmallInt => check(-32_768 <= number && number <= 32_767, Misfit::OutOfRange),
-            Kind::Integer => check(-2_147_483_648 <= number && number <= 2_147_483_647, Misfit::OutOfRange),
+            Kind::Integer => check(
+                -2_147_483_648 <= number && number <= 2_147_483_647,
+                Misfit::OutOfRange,
+            ),
             Kind::BigInt => Ok(()),
             Kind::VarChar | Kind::VarBinary => Err(Misfit::WrongClass),
         }

@@ -17,7 +17,11 @@ const PRESENT: u8 = 0;
 const ABSENT: u8 = 0xFF;
 
 /// Appends the bytes of a value that fits the column.
-pub(crate) fn put_value(out: &mut Vec<u8>, column: &Column, value: &Value<'_>) -> Result<(), AllocError>
+pub(crate) fn put_value(
+    out: &mut Vec<u8>,
+    column: &Column,
+    value: &Value<'_>,
+) -> Result<(), AllocError>
     requires { IsTrue (fits (column_of column.now) (datum_of value.now)) }
     ensures { OnOk result (out.new.items ≡ out.old.items ++ value_bytes column.now.kind (datum_of value.now)) }
 {

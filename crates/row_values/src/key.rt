@@ -29,7 +29,11 @@ pub fn are_key(schema: &Schema, values: &[Value<'_>]) -> bool
 
 /// The bytes of a key of these values, one per key column in the order of PRIMARY KEY: at most
 /// 8,012.
-pub fn encode_key(alloc: Global, schema: &Schema, values: &[Value<'_>]) -> Result<Vec<u8>, AllocError>
+pub fn encode_key(
+    alloc: Global,
+    schema: &Schema,
+    values: &[Value<'_>],
+) -> Result<Vec<u8>, AllocError>
     requires { IsTrue (all_fit (key_columns schema.now) (map datum_of values.now)) }
     ensures key { IfOk result (λ key. key.items ≡ row_bytes (key_columns schema.now) (map datum_of values.now)) }
     ensures good { IfOk result (λ key. is_key schema.now key.items ≡ true) }

@@ -62,7 +62,11 @@ fn read_parts(alloc: Global, bytes: &[u8]) -> Result<(Vec<Column>, Vec<u8>, &[u8
 }
 
 // The columns and the key of a schema, behind the number of its columns, with what follows.
-fn read_counted_parts(alloc: Global, count: u8, bytes: &[u8]) -> Result<(Vec<Column>, Vec<u8>, &[u8]), ReadError>
+fn read_counted_parts(
+    alloc: Global,
+    count: u8,
+    bytes: &[u8],
+) -> Result<(Vec<Column>, Vec<u8>, &[u8]), ReadError>
     ensures { Reads (λ x. (record { columns = map column_of x.0.items; key = x.1.items }, x.2.now)) result (parts_after count bytes.now) }
 {
     let (columns, rest) = match read_columns(alloc, count, bytes) {

@@ -31,7 +31,12 @@ pub trait TableView {
         ensures store { store self.new ≡ store self.old };
 
     /// The row of this key, where the table has it. A table that is not there has no rows.
-    fn get(&mut self, alloc: Global, table: &str, key: &[u8]) -> Result<Option<Vec<u8>>, Self::Fault>
+    fn get(
+        &mut self,
+        alloc: Global,
+        table: &str,
+        key: &[u8],
+    ) -> Result<Option<Vec<u8>>, Self::Fault>
         ensures found { IfOk result (λ row. IsTrue is_told → option_map (λ bytes. bytes.items) row ≡ row_of (store self.old) table.now key.now) }
         ensures store { store self.new ≡ store self.old };
 

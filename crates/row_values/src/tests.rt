@@ -6,7 +6,13 @@ use std::alloc::Global;
 use std::cmp::Ordering;
 use std::test::Fail;
 
-fn column(alloc: Global, name: &str, kind: Kind, is_nullable: bool, length: u16) -> Result<Column, Fail> {
+fn column(
+    alloc: Global,
+    name: &str,
+    kind: Kind,
+    is_nullable: bool,
+    length: u16,
+) -> Result<Column, Fail> {
     Ok(Column {
         name: String::from_str(alloc, name)?,
         kind,
@@ -58,7 +64,8 @@ fn rows_have_their_bytes(rt: HostRuntime) -> Result<(), Fail> {
         ],
     )?;
     let want: &[u8] = &[
-        0, 0x80, 0, 0, 0x80, 0, 0, 0, 0, 0x80, 0, 0, 0, 0, 0, 0, 0, 0, 0, 3, 0xC3, 0xA9, 0x21, 0, 0, 2, 0, 255,
+        0, 0x80, 0, 0, 0x80, 0, 0, 0, 0, 0x80, 0, 0, 0, 0, 0, 0, 0, 0, 0, 3, 0xC3, 0xA9, 0x21, 0,
+        0, 2, 0, 255,
     ];
     assert_eq!(rt; least.as_slice(), want);
     let greatest = encoded(
@@ -73,13 +80,20 @@ fn rows_have_their_bytes(rt: HostRuntime) -> Result<(), Fail> {
         ],
     )?;
     let want: &[u8] = &[
-        0, 0x7F, 255, 0, 0x7F, 255, 255, 255, 0, 0x7F, 255, 255, 255, 255, 255, 255, 255, 0, 0, 0, 0, 0, 0,
+        0, 0x7F, 255, 0, 0x7F, 255, 255, 255, 0, 0x7F, 255, 255, 255, 255, 255, 255, 255, 0, 0, 0,
+        0, 0, 0,
     ];
     assert_eq!(rt; greatest.as_slice(), want);
     let nulls = encoded(
         alloc,
         &schema,
-        &[Value::Null, Value::Null, Value::Number(1), Value::Text("a"), Value::Null],
+        &[
+            Value::Null,
+            Value::Null,
+            Value::Number(1),
+            Value::Text("a"),
+            Value::Null,
+        ],
     )?;
     let want: &[u8] = &[255, 255, 0, 0, 0, 0, 0, 0, 0, 0, 1, 0, 0, 1, 0x61, 255];
     assert_eq!(rt; nulls.as_slice(), want);
@@ -91,7 +105,9 @@ fn rows_have_their_bytes(rt: HostRuntime) -> Result<(), Fail> {
 fn columns_are_read_where_they_stand(rt: HostRuntime) -> Result<(), Fail> {
     let alloc = rt.alloc();
     let schema = every_type(alloc)?;
-    let bytes: &[u8] = &[255, 0, 0, 0, 0, 5, 0, 255, 255, 255, 255, 255, 255, 255, 254, 0, 0, 2, 0x61, 0x62, 255];
+    let bytes: &[u8] = &[
+        255, 0, 0, 0, 0, 5, 0, 255, 255, 255, 255, 255, 255, 255, 254, 0, 0, 2, 0x61, 0x62, 255,
+    ];
     let row = RowRef::parse(&schema, bytes)?;
     assert!(rt; row.bytes() == bytes);
     assert_eq!(rt; schema.columns().len(), 5);
@@ -104,14 +120,18 @@ fn columns_are_read_where_they_stand(rt: HostRuntime) -> Result<(), Fail> {
     assert!(rt; row.column(3) == Value::Text("ab"));
     assert!(rt; row.column(4) == Value::Null);
     let key = row.key(alloc)?;
-    let want: &[u8] = &[0, 0, 2, 0x61, 0x62, 0, 255, 255, 255, 255, 255, 255, 255, 254];
+    let want: &[u8] = &[
+        0, 0, 2, 0x61, 0x62, 0, 255, 255, 255, 255, 255, 255, 255, 254,
+    ];
     assert_eq!(rt; key.as_slice(), want);
     for damaged in [
         b"" as &[u8],
         &[255, 255, 255, 0, 0, 0, 255],
         &[255, 255, 0, 0, 0, 0, 0, 0, 0, 0, 1, 0, 0, 1, 0x61, 255, 0],
         &[255, 255, 0, 0, 0, 0, 0, 0, 0, 0, 1, 1, 0, 1, 0x61, 255],
-        &[255, 255, 0, 0, 0, 0, 0, 0, 0, 0, 1, 0, 0, 4, 0x61, 0x61, 0x61, 0x61, 255],
+        &[
+            255, 255, 0, 0, 0, 0, 0, 0, 0, 0, 1, 0, 0, 4, 0x61, 0x61, 0x61, 0x61, 255,
+        ],
         &[255, 255, 0, 0, 0, 0, 0, 0, 0, 0, 1, 0, 0, 1, 0xFF, 255],
         &[255, 255, 0, 0, 0, 0, 0, 0, 0, 0, 1, 0, 0, 2, 0x61],
     ] {
@@ -131,10 +151,18 @@ fn rows_have_at_most_4000_bytes(rt: HostRuntime) -> Result<(), Fail> {
     let long = vec![in alloc; 7u8; 2_000]?;
     for (length, fits) in [(1_989, true), (1_990, false)] {
         let last = long.as_slice().get(..length).ok_or("no such length")?;
-        let values = [Value::Number(1), Value::Bytes(long.as_slice()), Value::Bytes(last)];
+        let values = [
+            Value::Number(1),
+            Value::Bytes(long.as_slice()),
+            Value::Bytes(last),
+        ];
         let values: &[Value<'_>] = &values;
         assert!(rt; are_row(&schema, values));
-        assert_eq!(rt; encode_row(alloc, &schema, values).is_ok(), fits, "{length}");
+        assert_eq!(rt;
+            encode_row(alloc, &schema, values).is_ok(),
+            fits,
+            "{length}"
+        );
     }
     Ok(())
 }
@@ -144,7 +172,10 @@ fn values_fit_or_say_why_not(rt: HostRuntime) -> Result<(), Fail> {
     let alloc = rt.alloc();
     let small = column(alloc, "S", Kind::SmallInt, true, 0)?;
     assert_eq!(rt; small.admit(&Value::Null), Ok(()));
-    assert_eq!(rt; small.admit(&Value::Number(32_768)), Err(Misfit::OutOfRange));
+    assert_eq!(rt;
+        small.admit(&Value::Number(32_768)),
+        Err(Misfit::OutOfRange)
+    );
     assert_eq!(rt; small.admit(&Value::Text("1")), Err(Misfit::WrongClass));
     let text = column(alloc, "T", Kind::VarChar, false, 3)?;
     assert_eq!(rt; text.admit(&Value::Null), Err(Misfit::IsNull));
@@ -166,12 +197,42 @@ fn keys_are_ordered_by_their_values(rt: HostRuntime) -> Result<(), Fail> {
     let long = vec![in alloc; b'a'; 2_000]?;
     let long = str::from_utf8(long.as_slice())?;
     let rising = [
-        [Value::Text(""), Value::Number(5), Value::Number(0), Value::Bytes(&[])],
-        [Value::Text("a"), Value::Number(-1), Value::Number(0), Value::Bytes(&[255])],
-        [Value::Text("a"), Value::Number(0), Value::Number(-1), Value::Bytes(&[255])],
-        [Value::Text("a"), Value::Number(0), Value::Number(0), Value::Bytes(&[1, 0])],
-        [Value::Text("a"), Value::Number(0), Value::Number(0), Value::Bytes(&[2])],
-        [Value::Text(long), Value::Number(0), Value::Number(0), Value::Bytes(&[])],
+        [
+            Value::Text(""),
+            Value::Number(5),
+            Value::Number(0),
+            Value::Bytes(&[]),
+        ],
+        [
+            Value::Text("a"),
+            Value::Number(-1),
+            Value::Number(0),
+            Value::Bytes(&[255]),
+        ],
+        [
+            Value::Text("a"),
+            Value::Number(0),
+            Value::Number(-1),
+            Value::Bytes(&[255]),
+        ],
+        [
+            Value::Text("a"),
+            Value::Number(0),
+            Value::Number(0),
+            Value::Bytes(&[1, 0]),
+        ],
+        [
+            Value::Text("a"),
+            Value::Number(0),
+            Value::Number(0),
+            Value::Bytes(&[2]),
+        ],
+        [
+            Value::Text(long),
+            Value::Number(0),
+            Value::Number(0),
+            Value::Bytes(&[]),
+        ],
     ];
     let mut before: Option<Vec<u8>> = None;
     for values in &rising {
@@ -179,11 +240,20 @@ fn keys_are_ordered_by_their_values(rt: HostRuntime) -> Result<(), Fail> {
         assert!(rt; are_key(&schema, values));
         let key = encode_key(alloc, &schema, values)?;
         assert!(rt; is_key(&schema, key.as_slice()));
-        assert_eq!(rt; compare_keys(&schema, key.as_slice(), key.as_slice()), Ordering::Equal);
+        assert_eq!(rt;
+            compare_keys(&schema, key.as_slice(), key.as_slice()),
+            Ordering::Equal
+        );
         if let Some(last) = before {
             assert!(rt; is_key(&schema, last.as_slice()));
-            assert_eq!(rt; compare_keys(&schema, last.as_slice(), key.as_slice()), Ordering::Less);
-            assert_eq!(rt; compare_keys(&schema, key.as_slice(), last.as_slice()), Ordering::Greater);
+            assert_eq!(rt;
+                compare_keys(&schema, last.as_slice(), key.as_slice()),
+                Ordering::Less
+            );
+            assert_eq!(rt;
+                compare_keys(&schema, key.as_slice(), last.as_slice()),
+                Ordering::Greater
+            );
         }
         before = Some(key);
     }
@@ -246,10 +316,19 @@ fn schemas_refuse_what_is_none(rt: HostRuntime) -> Result<(), Fail> {
     ] {
         let mut columns = Vec::new(alloc);
         columns.push(column(alloc, name, Kind::VarChar, is_nullable, length)?)?;
-        assert!(rt; Schema::new(columns, [place].to_vec(alloc)?).is_err(), "{name}");
+        assert!(rt;
+            Schema::new(columns, [place].to_vec(alloc)?).is_err(),
+            "{name}"
+        );
     }
     let mut columns = Vec::new(alloc);
-    columns.push(column(alloc, "A23456789012345678901234567890", Kind::VarChar, false, 2_000)?)?;
+    columns.push(column(
+        alloc,
+        "A23456789012345678901234567890",
+        Kind::VarChar,
+        false,
+        2_000,
+    )?)?;
     columns.push(column(alloc, "B_2", Kind::BigInt, true, 0)?)?;
     assert!(rt; Schema::new(columns, [0u8].to_vec(alloc)?).is_ok());
     let mut twice = Vec::new(alloc);

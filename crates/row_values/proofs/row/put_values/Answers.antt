@@ -19,8 +19,8 @@ put_value-requires c =
 pub loop-i-preserved : goal.loop-i-preserved
 loop-i-preserved c =
     let step = row_at (map column_of c.args.columns.now) (map datum_of c.args.values.now) c.loop-i.i _ _
-        (column_at c.args.columns.now c.loop-i.i c.index-columns-i.result (in_columns c.args.columns.now c.args.values.now c.loop-i.i c.requires c.loop-i-test.true) c.index-columns-i.is)
-        (datum_at_place c.args.values.now c.loop-i.i Null c.loop-i-test.true) in
+    (column_at c.args.columns.now c.loop-i.i c.index-columns-i.result (in_columns c.args.columns.now c.args.values.now c.loop-i.i c.requires c.loop-i-test.true) c.index-columns-i.is)
+    (datum_at_place c.args.values.now c.loop-i.i Null c.loop-i-test.true) in
     ap (λ (l : List ℕ). l ++ row_bytes (drop (c.loop-i.i + 1) (map column_of c.args.columns.now)) (drop (c.loop-i.i + 1) (map datum_of c.args.values.now))) c.in_ok-put_value.ensures
     ∙ row_more c.loop-i.out.items _ _ _ _ step c.loop-i.invariant
 

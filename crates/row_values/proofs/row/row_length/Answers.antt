@@ -19,15 +19,15 @@ value_length-length-requires c =
 pub returns-then-length-gt-ROW_LIMIT : goal.returns-then-length-gt-ROW_LIMIT
 returns-then-length-gt-ROW_LIMIT c =
     let step = step_length (map column_of c.args.columns.now) (map datum_of c.args.values.now) c.loop-i.i _ _
-        (column_at c.args.columns.now c.loop-i.i c.index-columns-i.result (in_columns c.args.columns.now c.args.values.now c.loop-i.i c.requires c.loop-i-test.true) c.index-columns-i.is)
-        (datum_at_place c.args.values.now c.loop-i.i Null c.loop-i-test.true) in
+    (column_at c.args.columns.now c.loop-i.i c.index-columns-i.result (in_columns c.args.columns.now c.args.values.now c.loop-i.i c.requires c.loop-i-test.true) c.index-columns-i.is)
+    (datum_at_place c.args.values.now c.loop-i.i Null c.loop-i-test.true) in
     omega (arith, step, c.loop-i.invariant.whole, c.value_length-length.ensures.exact)
 
 pub loop-i-preserved : goal.loop-i-preserved
 loop-i-preserved c =
     let step = step_length (map column_of c.args.columns.now) (map datum_of c.args.values.now) c.loop-i.i _ _
-        (column_at c.args.columns.now c.loop-i.i c.index-columns-i.result (in_columns c.args.columns.now c.args.values.now c.loop-i.i c.requires c.loop-i-test.true) c.index-columns-i.is)
-        (datum_at_place c.args.values.now c.loop-i.i Null c.loop-i-test.true) in
+    (column_at c.args.columns.now c.loop-i.i c.index-columns-i.result (in_columns c.args.columns.now c.args.values.now c.loop-i.i c.requires c.loop-i-test.true) c.index-columns-i.is)
+    (datum_at_place c.args.values.now c.loop-i.i Null c.loop-i-test.true) in
     record { short = c.if-length-gt-ROW_LIMIT.false; whole = omega (arith, step, c.loop-i.invariant.whole, c.value_length-length.ensures.exact) }
 
 pub returns : goal.returns

@@ -18,7 +18,7 @@ put_column-requires c =
 pub loop-column-preserved : goal.loop-column-preserved
 loop-column-preserved c =
     let step = columns_from (map column_of c.args.columns.now) c.loop-column.column-index (column_of c.column-item.result)
-        (column_at c.args.columns.now c.loop-column.column-index c.column-item.result c.loop-column-test.true c.column-item.is) in
+    (column_at c.args.columns.now c.loop-column.column-index c.column-item.result c.loop-column-test.true c.column-item.is) in
     ap (λ (l : List ℕ). l ++ flat_map column_bytes (drop (c.loop-column.column-index + 1) (map column_of c.args.columns.now))) c.in_ok-put_column.ensures
     ∙ row_more c.loop-column.out.items _ _ _ _ step c.loop-column.invariant
 

@@ -15,7 +15,7 @@ loop-preserved c =
     let lt = c.loop-test.true in
     let shape : ColumnShape = record { name = c.in-Some.name.now; kind = c.in-Some.kind; is_nullable = c.in-Some.is_nullable; limit = c.in-Some.length } in
     let more = pushed c.loop.columns.items c.push.new.self.items _ shape c.in_ok-push.ensures.items
-        (ap (λ (n : List ℕ). let s : ColumnShape = record { name = n; kind = c.in-Some.kind; is_nullable = c.in-Some.is_nullable; limit = c.in-Some.length } in s) c.in_ok-name.ensures.ok) in
+    (ap (λ (n : List ℕ). let s : ColumnShape = record { name = n; kind = c.in-Some.kind; is_nullable = c.in-Some.is_nullable; limit = c.in-Some.length } in s) c.in_ok-name.ensures.ok) in
     ap (λ (cs : List ColumnShape). before cs (columns_at (c.args.count - (c.loop.counter + 1)) c.in-Some.after.now)) more
     ∙ columns_go (map column_of c.loop.columns.items) (c.args.count - c.loop.counter) (c.args.count - (c.loop.counter + 1)) c.loop.rest.now (shape, c.in-Some.after.now) (omega arith) c.in-Some.ensures
     ∙ c.loop.invariant

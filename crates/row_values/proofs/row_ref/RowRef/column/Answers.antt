@@ -24,8 +24,8 @@ returns c =
     let within : c.args.i < length c.columns-columns.result.now = let le = c.requires in omega arith in
     let at = column_at c.columns-columns.result.now c.args.i c.index-columns-i.result within c.index-columns-i.is in
     let r = column_value c.args.self.now.schema.now c.args.self.now.bytes.now (map column_of c.columns-columns.result.now) c.args.i (column_of c.index-columns-i.result) c.from_column-rest.result.now
-        (datum_of c.unwrap.result.0, c.unwrap.result.1.now) c.columns-columns.ensures.columns c.args.self.now.is_row c.args.self.now.written at c.from_column-rest.ensures
-        (sym (ap (option_map (λ x. (datum_of x.0, x.1.now))) c.unwrap.ensures) ∙ c.split_value.ensures) in
+    (datum_of c.unwrap.result.0, c.unwrap.result.1.now) c.columns-columns.ensures.columns c.args.self.now.is_row c.args.self.now.written at c.from_column-rest.ensures
+    (sym (ap (option_map (λ x. (datum_of x.0, x.1.now))) c.unwrap.ensures) ∙ c.split_value.ensures) in
     let there = subst (λ cs. slice_get cs c.args.i ≡ Some (column_of c.index-columns-i.result)) c.columns-columns.ensures.columns at in
     let shape = c.args.self.now.schema.now in
     let row = c.args.self.now.bytes.now in
