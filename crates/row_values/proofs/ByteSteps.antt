@@ -96,7 +96,7 @@ no_name name h = rw h refl
 
 -- ---- schemas
 
-tested : {A : Type 0} (b : Bool) (x : A) → b ≡ true → (if b then Some x else None) ≡ Some x
+pub tested : {A : Type 0} (b : Bool) (x : A) → b ≡ true → (if b then Some x else None) ≡ Some x
 tested b x h = rw h refl
 
 refused : {A : Type 0} (b : Bool) (x : A) → (b ≡ true → ⊥) → (if b then Some x else None) ≡ None
@@ -133,7 +133,7 @@ columns_length_from columns i column at =
     let sum = length-append (column_bytes column) (flat_map column_bytes (drop (i + 1) columns)) in
     ap length (columns_from columns i column at) ∙ omega arith
 
-short_name : (name : List ℕ) → is_name name ≡ true → length name ≤ 30
+pub short_name : (name : List ℕ) → is_name name ≡ true → length name ≤ 30
 short_name [] h = omega arith
 short_name (c ∷ cs) h =
     let told : nat_le (length cs) 29 ≡ true = second_true (is_capital c && list_all goes_on_name cs) (nat_le (length cs) 29) h in
@@ -145,7 +145,7 @@ name_short c h = short_name c.name (first_true (is_name c.name) (is_limit c.kind
 
 -- ---- changes
 
-taken : {A : Type 0} (p : A → Bool) (b : Bool) (y x : A) → (if b then Some y else None) ≡ Some x → p y ≡ b → p x ≡ true
+pub taken : {A : Type 0} (p : A → Bool) (b : Bool) (y x : A) → (if b then Some y else None) ≡ Some x → p y ≡ b → p x ≡ true
 taken p true y x h is = let same : y ≡ x = cc in ap p (sym same) ∙ is
 taken p false y x h is = absurd cc
 
@@ -163,7 +163,7 @@ name_good bytes x h =
     let first : t.0 ≡ x.0 = ap (λ (y : List ℕ × List ℕ). y.0) t.2 in
     ap is_name (sym first) ∙ taken is_name (is_name m.0.0) m.0.0 t.0 t.1 refl
 
-short_good : (limit : ℕ) (bytes : List ℕ) (x : List ℕ × List ℕ) → short_at limit bytes ≡ Some x → nat_le (length x.0) limit ≡ true
+pub short_good : (limit : ℕ) (bytes : List ℕ) (x : List ℕ × List ℕ) → short_at limit bytes ≡ Some x → nat_le (length x.0) limit ≡ true
 short_good limit bytes x h =
     let m = chained (λ (y : List ℕ × List ℕ). if nat_le (length y.0) limit then Some y else None) (counted_at bytes) x h in
     taken (λ (y : List ℕ × List ℕ). nat_le (length y.0) limit) (nat_le (length m.0.0) limit) m.0 x m.2 refl

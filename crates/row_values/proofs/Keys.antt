@@ -112,7 +112,7 @@ pub picked_all : {A : Type 0} (p : A → Bool) (xs : List A) (places : List ℕ)
 picked_all p xs [] all = refl
 picked_all p xs (i ∷ is) all = all_picked p xs i (slice_get xs i) all refl (picked xs is) (picked_all p xs is all)
 
-limit_counted : (kind : Kind) (limit : ℕ) → is_limit kind limit ≡ true → nat_lt limit 65536 ≡ true
+pub limit_counted : (kind : Kind) (limit : ℕ) → is_limit kind limit ≡ true → nat_lt limit 65536 ≡ true
 limit_counted SmallInt limit h = let e : limit ≡ 0 = eqb-true limit 0 h in rw e refl
 limit_counted Integer limit h = let e : limit ≡ 0 = eqb-true limit 0 h in rw e refl
 limit_counted BigInt limit h = let e : limit ≡ 0 = eqb-true limit 0 h in rw e refl

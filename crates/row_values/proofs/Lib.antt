@@ -11,3 +11,4 @@ pub mod Finding
 pub mod Changes
 pub mod ByteSteps
 pub mod RowKeys
+pub mod ByteLaws

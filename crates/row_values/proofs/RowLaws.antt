@@ -43,7 +43,7 @@ front_back n xs ys is =
     let two = drop_front xs ys n is in
     rw (all, one, two) refl
 
-bytes_back : (n x : ℕ) → x < 256 ^ n → big_number n (big_bytes n x) ≡ x
+pub bytes_back : (n x : ℕ) → x < 256 ^ n → big_number n (big_bytes n x) ≡ x
 bytes_back n x below = ap (big_number n) (sym (append-nil (big_bytes n x))) ∙ big_number-reads_back n x [] below
 
 -- a number that its width has is read back

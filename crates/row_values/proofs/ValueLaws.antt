@@ -102,11 +102,11 @@ abbrev pub IsBytes : List ℕ → Type 0
 IsBytes bytes = (i : ℕ) → slice_index bytes i < 256
 
 -- what front_of says of what it finds
-record IsFront (n : ℕ) (bytes : List ℕ) (x : List ℕ × List ℕ) : Type 0 where
-  len : length x.0 ≡ n
-  whole : bytes ≡ x.0 ++ x.1
-  front : IsBytes bytes → IsBytes x.0
-  rest : IsBytes bytes → IsBytes x.1
+pub record IsFront (n : ℕ) (bytes : List ℕ) (x : List ℕ × List ℕ) : Type 0 where
+  pub len : length x.0 ≡ n
+  pub whole : bytes ≡ x.0 ++ x.1
+  pub front : IsBytes bytes → IsBytes x.0
+  pub rest : IsBytes bytes → IsBytes x.1
 
 in_front : (n : ℕ) (bytes : List ℕ) (i : ℕ) → IsBytes bytes → (b : Bool) → nat_lt i n ≡ b → slice_index (take n bytes) i < 256
 in_front n bytes i all true is = let lt : i < n = grind (arith, nat_tests) in rw (get_or-take n bytes i 0 lt) (all i)
@@ -130,7 +130,7 @@ front_cases true n bytes x is h =
     subst (IsFront n bytes) same (is_front n bytes le)
 front_cases false n bytes x is h = absurd cc
 
-front_is : (n : ℕ) (bytes : List ℕ) (x : List ℕ × List ℕ) → front_of n bytes ≡ Some x → IsFront n bytes x
+pub front_is : (n : ℕ) (bytes : List ℕ) (x : List ℕ × List ℕ) → front_of n bytes ≡ Some x → IsFront n bytes x
 unfolding front_of
 front_is n bytes x h = front_cases (nat_le n (length bytes)) n bytes x refl h
 
@@ -144,10 +144,10 @@ chained f (Some x) y h = (x, refl, h)
 chained f None y h = absurd cc
 
 -- bytes are those of their number
-abbrev IsWritten : ℕ → Type 0
+abbrev pub IsWritten : ℕ → Type 0
 IsWritten n = (xs : List ℕ) → length xs ≡ n → IsBytes xs → big_bytes n (big_number n xs) ≡ xs
 
-two_written : IsWritten 2
+pub two_written : IsWritten 2
 two_written xs len all = let same : big_number 2 xs ≡ from_be_bytes w16 xs = omega arith in be_bytes_2 xs (big_number 2 xs) len all same
 
 four_written : IsWritten 4
@@ -173,7 +173,7 @@ number_is n w bytes x size written all h =
     let left : m.0.1 ≡ x.1 = ap (λ (p : Datum × List ℕ). p.1) m.2 in
     (cast_signed w (big_number n m.0.0), sym (ap (λ (p : Datum × List ℕ). p.0) m.2), f.whole ∙ ap (λ (xs : List ℕ). xs ++ m.0.1) (sym front) ∙ ap (λ (ys : List ℕ). big_bytes n (cast_unsigned w (cast_signed w (big_number n m.0.0))) ++ ys) left, subst IsBytes left (f.rest all))
 
-counted_is : (bytes : List ℕ) (x : List ℕ × List ℕ) → IsBytes bytes → counted_at bytes ≡ Some x → (bytes ≡ counted x.0 ++ x.1) × IsBytes x.1
+pub counted_is : (bytes : List ℕ) (x : List ℕ × List ℕ) → IsBytes bytes → counted_at bytes ≡ Some x → (bytes ≡ counted x.0 ++ x.1) × IsBytes x.1
 counted_is bytes x all h =
     let m = chained (λ (f : List ℕ × List ℕ). front_of (big_number 2 f.0) f.1) (front_of 2 bytes) x h in
     let f = front_is 2 bytes m.0 m.1 in

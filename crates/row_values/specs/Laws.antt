@@ -9,7 +9,8 @@ use Rattle.row_values.specs.Column.{ColumnShape}
 use Rattle.row_values.specs.Schema.{Shape, is_column, is_shape}
 use Rattle.row_values.specs.Row.{all_fit, row_bytes, values_at}
 use Rattle.row_values.specs.Key.{is_key, key_cmp, key_values}
-use Rattle.row_values.specs.Tables.{Creates, Puts, Removes, Store, apply, create, put, remove}
+use Rattle.row_values.specs.Bytes.{deed_at, deed_bytes, is_deed, schema_at, schema_bytes}
+use Rattle.row_values.specs.Tables.{Creates, Deed, Puts, Removes, Store, apply, create, put, remove}
 
 -- each item is a byte
 abbrev pub IsBytes : List ℕ → Type 0
@@ -40,3 +41,17 @@ Put = (name row : List ℕ) (s : Store) → Puts name row s (apply (put name row
 
 abbrev pub Removed : Type 0
 Removed = (name key : List ℕ) (s : Store) → Removes name key s (apply (remove name key) s)
+
+-- schemas and changes are read back from their bytes, whatever follows
+abbrev pub SchemaWrittenIsRead : Type 0
+SchemaWrittenIsRead = (shape : Shape) (rest : List ℕ) → is_shape shape ≡ true → schema_at (schema_bytes shape ++ rest) ≡ Some (shape, rest)
+
+abbrev pub ChangeWrittenIsRead : Type 0
+ChangeWrittenIsRead = (change : Deed) (rest : List ℕ) → is_deed change ≡ true → deed_at (deed_bytes change ++ rest) ≡ Some (change, rest)
+
+-- bytes in which a schema or a change is read begin with its bytes
+abbrev pub SchemaReadWasWritten : Type 0
+SchemaReadWasWritten = (bytes : List ℕ) (x : Shape × List ℕ) → IsBytes bytes → schema_at bytes ≡ Some x → (is_shape x.0 ≡ true) × (bytes ≡ schema_bytes x.0 ++ x.1)
+
+abbrev pub ChangeReadWasWritten : Type 0
+ChangeReadWasWritten = (bytes : List ℕ) (x : Deed × List ℕ) → IsBytes bytes → deed_at bytes ≡ Some x → (is_deed x.0 ≡ true) × (bytes ≡ deed_bytes x.0 ++ x.1)
