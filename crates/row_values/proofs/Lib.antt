@@ -1,0 +1,14 @@
+pub mod Fitting
+pub mod Lists
+pub mod RowLaws
+pub mod ValueLaws
+pub mod RowSteps
+pub mod ReadSteps
+pub mod RowColumns
+pub mod Keys
+pub mod KeyOrder
+pub mod Finding
+pub mod Changes
+pub mod ByteSteps
+pub mod RowKeys
+pub mod ByteLaws

@@ -1,0 +1,13 @@
+pub mod Value
+pub mod Column
+pub mod Row
+pub mod Schema
+pub mod Key
+pub mod RowView
+pub mod RowList
+pub mod Lent
+pub mod Tables
+pub mod View
+pub mod Laws
+pub mod Bytes
+pub mod Change

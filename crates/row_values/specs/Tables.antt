@@ -1,0 +1,89 @@
+-- Tables, stores, and what changes make of them.
+use Rattle.std.specs.Prelude.{ℕ, Bool, true, false, List, [], ◌∷◌, ◌≡◌, Option, Some, None, is_some, bytes_eq, ◌&&◌, not, if◌then◌else◌, map, filter, length, option_map, unwrap_or}
+use Rattle.std.specs.Option.{option_and_then}
+use Rattle.std.specs.Ordering.{nat_cmp}
+use Rattle.std.specs.Cmp.Lexicographic.{slice_cmp}
+use Rattle.std.specs.Map.{lookup, keys_of, values_of}
+use Rattle.std.specs.BTreeMap.{insert_entry}
+use Rattle.row_values.specs.Schema.{Shape}
+use Rattle.row_values.specs.Row.{is_row}
+use Rattle.row_values.specs.Key.{key_cmp, row_key}
+
+-- a table: its schema, and its rows by their keys, in the order of keys
+pub record Table : Type 0 where
+  pub shape : Shape
+  pub rows : List (List ℕ × List ℕ)
+
+-- a store: its tables by their names, in the order of the names' bytes
+abbrev pub Store : Type 0
+Store = List (List ℕ × Table)
+
+-- ---- what is seen in a store
+
+abbrev pub table_of : Store → List ℕ → Option Table
+table_of store name = lookup (bytes_eq name) store
+
+abbrev pub schema_of : Store → List ℕ → Option Shape
+schema_of store name = option_map (λ (t : Table). t.shape) (table_of store name)
+
+-- the row of a key
+abbrev pub row_of : Store → List ℕ → List ℕ → Option (List ℕ)
+row_of store name key = option_and_then (λ (t : Table). lookup (bytes_eq key) t.rows) (table_of store name)
+
+-- all rows, in the order of keys
+abbrev pub rows_of : Store → List ℕ → List (List ℕ)
+rows_of store name = unwrap_or (option_map (λ (t : Table). values_of t.rows) (table_of store name)) []
+
+-- ---- changes
+
+pub data Deed : Type 0 where
+  create : List ℕ → Shape → Deed
+  put : List ℕ → List ℕ → Deed
+  remove : List ℕ → List ℕ → Deed
+
+-- the store with one of its tables changed; without that table the store itself
+abbrev pub with_table : (Table → Table) → List ℕ → Store → Store
+with_table change name store = map (λ (e : List ℕ × Table). if bytes_eq name e.0 then (e.0, change e.1) else e) store
+
+-- the table with this row in place of the one of its key. What is no row of the table changes
+-- nothing.
+abbrev pub put_row : List ℕ → Table → Table
+put_row row table = if is_row table.shape row
+    then record { shape = table.shape; rows = insert_entry (key_cmp table.shape) table.rows (row_key table.shape row) row } else table
+
+-- the table without the row of this key, if it has one
+abbrev pub remove_row : List ℕ → Table → Table
+remove_row key table = record { shape = table.shape; rows = filter (λ (e : List ℕ × List ℕ). not (bytes_eq key e.0)) table.rows }
+
+-- what a change makes of a store. A table that is there already is not created again, and into no
+-- table nothing is put.
+abbrev pub apply : Deed → Store → Store
+apply (create name shape) store = if is_some (table_of store name) then store
+    else insert_entry (slice_cmp nat_cmp) store name (record { shape = shape; rows = [] })
+apply (put name row) store = with_table (put_row row) name store
+apply (remove name key) store = with_table (remove_row key) name store
+
+-- ---- what a change does, seen table by table and row by row
+
+-- a row of a table's schema, whose key is this one
+abbrev pub is_row_at : Option Shape → List ℕ → List ℕ → Bool
+is_row_at None row key = false
+is_row_at (Some shape) row key = is_row shape row && bytes_eq key (row_key shape row)
+
+-- t is s with a table of that name, where s has none; no row comes or goes
+pub record Creates (name : List ℕ) (shape : Shape) (s t : Store) : Type 0 where
+  pub schemas : (q : List ℕ) → schema_of t q ≡ (if bytes_eq q name then Some (unwrap_or (schema_of s name) shape) else schema_of s q)
+  pub found : (q key : List ℕ) → row_of t q key ≡ row_of s q key
+  pub rows : (q : List ℕ) → rows_of t q ≡ rows_of s q
+
+-- t is s with the row at its key, where s has the table and the row is one of it
+pub record Puts (name row : List ℕ) (s t : Store) : Type 0 where
+  pub schemas : (q : List ℕ) → schema_of t q ≡ schema_of s q
+  pub found : (q key : List ℕ) → row_of t q key ≡ (if bytes_eq q name && is_row_at (schema_of s name) row key then Some row else row_of s q key)
+  pub others : (q : List ℕ) → bytes_eq q name ≡ false → rows_of t q ≡ rows_of s q
+
+-- t is s without the row of the key
+pub record Removes (name key : List ℕ) (s t : Store) : Type 0 where
+  pub schemas : (q : List ℕ) → schema_of t q ≡ schema_of s q
+  pub found : (q k : List ℕ) → row_of t q k ≡ (if bytes_eq q name && bytes_eq k key then None else row_of s q k)
+  pub others : (q : List ℕ) → bytes_eq q name ≡ false → rows_of t q ≡ rows_of s q

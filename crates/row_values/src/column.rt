@@ -1,0 +1,145 @@
+//! Columns, and which values fit them.
+
+ghost use Rattle.std.specs.Prelude.{◌≡◌, is_ok};
+ghost use Rattle.std.specs.List.{list_all};
+ghost use Rattle.std.specs.Result.{result_err};
+ghost use Rattle.row_values.specs.Value.{datum_of, number as number_datum, text as text_datum, binary as binary_datum};
+ghost use Rattle.row_values.specs.Column.{column_of, fits, misfit_of, within};
+ghost use Rattle.row_values.specs.Schema.{goes_on_name, is_capital, is_column, is_limit, is_name};
+
+use crate::value::Value;
+
+/// The SQL type of a column.
+#[derive(Clone, Copy, Debug, PartialEq, Eq)]
+pub enum Kind {
+    SmallInt,
+    Integer,
+    BigInt,
+    VarChar,
+    VarBinary,
+}
+
+/// Why a value doesn't fit a column.
+#[derive(Clone, Copy, Debug, PartialEq, Eq)]
+pub enum Misfit {
+    /// The value is of another class than the column's.
+    WrongClass,
+    /// The value is NULL, and the column takes no NULL.
+    IsNull,
+    /// The number isn't in the range of the column's type.
+    OutOfRange,
+    /// The text or the bytes are longer than the column's length.
+    TooLong,
+}
+
+/// A column of a table.
+#[derive(Debug, Drop, PartialEq, Eq)]
+pub struct Column {
+    /// In capitals, 1 to 30 bytes: a letter, then letters, digits and `_`.
+    pub name: String,
+    pub kind: Kind,
+    pub is_nullable: bool,
+    /// The most bytes of a text or of bytes, 1 to 2,000; 0 for numbers.
+    pub length: u16,
+}
+
+impl Column {
+    /// Whether the value fits the column, and else the first reason why not: its class, NULL, its
+    /// range, its length. NULL is of every class.
+    pub fn admit(&self, value: &Value<'_>) -> Result<(), Misfit>
+        ensures reason { result_err result ≡ misfit_of (column_of self.now) (datum_of value.now) }
+        ensures fits { is_ok result ≡ fits (column_of self.now) (datum_of value.now) }
+    {
+        match value {
+            Value::Null => check(self.is_nullable, Misfit::IsNull),
+            Value::Number(number) => self.admit_number(*number),
+            Value::Text(text) => self.admit_text(text.as_bytes()),
+            Value::Bytes(bytes) => self.admit_bytes(bytes),
+        }
+    }
+
+    /// Whether the column's name is in capitals, 1 to 30 bytes, a letter and then letters, digits
+    /// and `_`, and its length one that its type has.
+    pub fn is_valid(&self) -> bool
+        ensures { result ≡ is_column (column_of self.now) }
+    {
+        is_name(self.name.as_bytes()) && is_length(self.kind, self.length)
+    }
+
+    fn admit_number(&self, number: i64) -> Result<(), Misfit>
+        ensures { result_err result ≡ misfit_of (column_of self.now) (number_datum number) }
+    {
+        match self.kind {
+            Kind::SmallInt => check(-32_768 <= number && number <= 32_767, Misfit::OutOfRange),
+            Kind::Integer => check(
+                -2_147_483_648 <= number && number <= 2_147_483_647,
+                Misfit::OutOfRange,
+            ),
+            Kind::BigInt => Ok(()),
+            Kind::VarChar | Kind::VarBinary => Err(Misfit::WrongClass),
+        }
+    }
+
+    fn admit_text(&self, text: &[u8]) -> Result<(), Misfit>
+        ensures { result_err result ≡ misfit_of (column_of self.now) (text_datum text.now) }
+    {
+        match self.kind {
+            Kind::VarChar => check(text.len() <= usize::from(self.length), Misfit::TooLong),
+            _ => Err(Misfit::WrongClass),
+        }
+    }
+
+    fn admit_bytes(&self, bytes: &[u8]) -> Result<(), Misfit>
+        ensures { result_err result ≡ misfit_of (column_of self.now) (binary_datum bytes.now) }
+    {
+        match self.kind {
+            Kind::VarBinary => check(bytes.len() <= usize::from(self.length), Misfit::TooLong),
+            _ => Err(Misfit::WrongClass),
+        }
+    }
+}
+
+// The misfit where the test fails.
+fn check(test: bool, misfit: Misfit) -> Result<(), Misfit>
+    ensures { result_err result ≡ within test misfit }
+{
+    if test { Ok(()) } else { Err(misfit) }
+}
+
+/// Whether the bytes are a name: in capitals, 1 to 30 bytes, a letter and then letters, digits and
+/// `_`.
+pub fn is_name(bytes: &[u8]) -> bool
+    ensures { result ≡ is_name bytes.now }
+{
+    match bytes {
+        [] => false,
+        [first, rest @ ..] => is_capital(*first) && all_go_on(rest) && rest.len() <= 29,
+    }
+}
+
+fn all_go_on(bytes: &[u8]) -> bool
+    ensures { result ≡ list_all goes_on_name bytes.now }
+{
+    bytes.iter().all(|byte| goes_on_name(*byte))
+}
+
+fn is_capital(byte: u8) -> bool
+    ensures { result ≡ is_capital byte }
+{
+    b'A' <= byte && byte <= b'Z'
+}
+
+fn goes_on_name(byte: u8) -> bool
+    ensures { result ≡ goes_on_name byte }
+{
+    is_capital(byte) || (b'0' <= byte && byte <= b'9') || byte == b'_'
+}
+
+fn is_length(kind: Kind, length: u16) -> bool
+    ensures { result ≡ is_limit kind length }
+{
+    match kind {
+        Kind::SmallInt | Kind::Integer | Kind::BigInt => length == 0,
+        Kind::VarChar | Kind::VarBinary => 0 < length && length <= 2_000,
+    }
+}
