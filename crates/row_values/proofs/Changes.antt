@@ -15,10 +15,10 @@ use Rattle.row_values.specs.Tables.{Creates, Deed, Puts, Removes, Store, Table, 
 use Rattle.row_values.proofs.KeyOrder.{key_exact, key_itself}
 use Rattle.row_values.proofs.Finding.{TellsApart, found_changed, found_put, found_taken, either_way, same_bytes}
 
-names_apart : TellsApart (slice_cmp nat_cmp)
+pub names_apart : TellsApart (slice_cmp nat_cmp)
 names_apart = record { exact = exact_bytes; itself = tied_itself nat_list_cmp_total }
 
-keys_apart : (shape : Shape) → TellsApart (key_cmp shape)
+pub keys_apart : (shape : Shape) → TellsApart (key_cmp shape)
 keys_apart shape = record { exact = key_exact shape; itself = key_itself shape }
 
 -- ---- seen through one table

@@ -7,6 +7,7 @@ use Rattle.std.specs.Map.{lookup}
 use Rattle.std.specs.BTreeMap.{insert_entry}
 use Rattle.std.specs.Ordering.{match_ordering}
 use Rattle.std.proofs.lemmas.Slice.Eq.{bytes_eq-Decides}
+use Rattle.row_values.specs.Tables.{Store, Table, with_table}
 
 -- a list of bytes is itself, and what is another is told apart
 pub itself : (a : List ℕ) → bytes_eq a a ≡ true
@@ -84,9 +85,9 @@ pub found_taken : {X : Type 0} (q k : List ℕ) (es : List (List ℕ × X)) → 
 found_taken q k [] = either_way (bytes_eq q k) None
 found_taken q k (e ∷ es) = taken_step q k e es (filter (λ d. not (bytes_eq k d.0)) es) (bytes_eq k e.0) refl (found_taken q k es)
 
-in_place : {X : Type 0} (f : X → X) (b : Bool) (x : X) (o p : Option X) → p ≡ cond b (option_map f o) o → cond b (Some (f x)) p ≡ cond b (option_map f (cond b (Some x) o)) (cond b (Some x) o)
-in_place f true x o p is = refl
-in_place f false x o p is = is
+in_place : {X : Type 0} (f : X → X) (b : Bool) (x : X) (o : Option X) → cond b (Some (f x)) o ≡ cond b (option_map f (cond b (Some x) o)) (cond b (Some x) o)
+in_place f true x o = refl
+in_place f false x o = refl
 
 elsewhere : {X : Type 0} (f : X → X) (a b : Bool) (x : X) (o p : Option X) → p ≡ cond b (option_map f o) o → (a ≡ true → b ≡ true → ⊥) → cond a (Some x) p ≡ cond b (option_map f (cond a (Some x) o)) (cond a (Some x) o)
 elsewhere f true true x o p is apart = absurd (apart refl refl)
@@ -94,17 +95,17 @@ elsewhere f true false x o p is apart = refl
 elsewhere f false true x o p is apart = is
 elsewhere f false false x o p is apart = is
 
-changed_step : {X : Type 0} (f : X → X) (q n : List ℕ) (e : List ℕ × X) (es rest : List (List ℕ × X)) (b : Bool) → bytes_eq n e.0 ≡ b
+changed_step : (f : Table → Table) (q n : List ℕ) (e : List ℕ × Table) (es rest : Store) (b : Bool) → bytes_eq n e.0 ≡ b
     → lookup (bytes_eq q) rest ≡ cond (bytes_eq q n) (option_map f (lookup (bytes_eq q) es)) (lookup (bytes_eq q) es)
-    → lookup (bytes_eq q) ((if b then (e.0, f e.1) else e) ∷ rest) ≡ cond (bytes_eq q n) (option_map f (lookup (bytes_eq q) (e ∷ es))) (lookup (bytes_eq q) (e ∷ es))
+    → lookup (bytes_eq q) (if b then (e.0, f e.1) ∷ es else e ∷ rest) ≡ cond (bytes_eq q n) (option_map f (lookup (bytes_eq q) (e ∷ es))) (lookup (bytes_eq q) (e ∷ es))
 changed_step f q n e es rest true is same =
     let alike : n ≡ e.0 = same_bytes n e.0 is in
-    subst (λ (l : List ℕ). lookup (bytes_eq q) ((e.0, f e.1) ∷ rest) ≡ cond (bytes_eq q l) (option_map f (lookup (bytes_eq q) (e ∷ es))) (lookup (bytes_eq q) (e ∷ es))) (sym alike)
-    (in_place f (bytes_eq q e.0) e.1 (lookup (bytes_eq q) es) (lookup (bytes_eq q) rest) (subst (λ (l : List ℕ). lookup (bytes_eq q) rest ≡ cond (bytes_eq q l) (option_map f (lookup (bytes_eq q) es)) (lookup (bytes_eq q) es)) alike same))
+    subst (λ (l : List ℕ). lookup (bytes_eq q) ((e.0, f e.1) ∷ es) ≡ cond (bytes_eq q l) (option_map f (lookup (bytes_eq q) (e ∷ es))) (lookup (bytes_eq q) (e ∷ es))) (sym alike)
+    (in_place f (bytes_eq q e.0) e.1 (lookup (bytes_eq q) es))
 changed_step f q n e es rest false is same =
     elsewhere f (bytes_eq q e.0) (bytes_eq q n) e.1 (lookup (bytes_eq q) es) (lookup (bytes_eq q) rest) same (λ one two. clash n e.0 (sym (same_bytes q n two) ∙ same_bytes q e.0 one) is)
 
--- what is found after the value of a name has changed
-pub found_changed : {X : Type 0} (f : X → X) (q n : List ℕ) (es : List (List ℕ × X)) → lookup (bytes_eq q) (map (λ (e : List ℕ × X). if bytes_eq n e.0 then (e.0, f e.1) else e) es) ≡ cond (bytes_eq q n) (option_map f (lookup (bytes_eq q) es)) (lookup (bytes_eq q) es)
+-- what is found after the table of a name has changed
+pub found_changed : (f : Table → Table) (q n : List ℕ) (es : Store) → lookup (bytes_eq q) (with_table f n es) ≡ cond (bytes_eq q n) (option_map f (lookup (bytes_eq q) es)) (lookup (bytes_eq q) es)
 found_changed f q n [] = either_way (bytes_eq q n) None
-found_changed {X} f q n (e ∷ es) = changed_step f q n e es (map (λ (d : List ℕ × X). if bytes_eq n d.0 then (d.0, f d.1) else d) es) (bytes_eq n e.0) refl (found_changed f q n es)
+found_changed f q n (e ∷ es) = changed_step f q n e es (with_table f n es) (bytes_eq n e.0) refl (found_changed f q n es)

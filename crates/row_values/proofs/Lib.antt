@@ -12,3 +12,4 @@ pub mod Changes
 pub mod ByteSteps
 pub mod RowKeys
 pub mod ByteLaws
+pub mod Keeping

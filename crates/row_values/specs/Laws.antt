@@ -10,6 +10,7 @@ use Rattle.row_values.specs.Schema.{Shape, is_column, is_shape}
 use Rattle.row_values.specs.Row.{all_fit, row_bytes, values_at}
 use Rattle.row_values.specs.Key.{is_key, key_cmp, key_values}
 use Rattle.row_values.specs.Bytes.{deed_at, deed_bytes, is_deed, schema_at, schema_bytes}
+use Rattle.row_values.specs.View.{is_store}
 use Rattle.row_values.specs.Tables.{Creates, Deed, Puts, Removes, Store, apply, create, put, remove}
 
 -- each item is a byte
@@ -55,3 +56,7 @@ SchemaReadWasWritten = (bytes : List ℕ) (x : Shape × List ℕ) → IsBytes by
 
 abbrev pub ChangeReadWasWritten : Type 0
 ChangeReadWasWritten = (bytes : List ℕ) (x : Deed × List ℕ) → IsBytes bytes → deed_at bytes ≡ Some x → (is_deed x.0 ≡ true) × (bytes ≡ deed_bytes x.0 ++ x.1)
+
+-- every change keeps a store one
+abbrev pub StoresAreKept : Type 0
+StoresAreKept = (change : Deed) (s : Store) → is_deed change ≡ true → is_store s ≡ true → is_store (apply change s) ≡ true

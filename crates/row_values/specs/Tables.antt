@@ -41,9 +41,10 @@ pub data Deed : Type 0 where
   put : List ℕ → List ℕ → Deed
   remove : List ℕ → List ℕ → Deed
 
--- the store with one of its tables changed; without that table the store itself
+-- the store with the table of a name changed; without that table the store itself
 abbrev pub with_table : (Table → Table) → List ℕ → Store → Store
-with_table change name store = map (λ (e : List ℕ × Table). if bytes_eq name e.0 then (e.0, change e.1) else e) store
+with_table change name [] = []
+with_table change name (e ∷ es) = if bytes_eq name e.0 then (e.0, change e.1) ∷ es else e ∷ with_table change name es
 
 -- the table with this row in place of the one of its key. What is no row of the table changes
 -- nothing.

@@ -1,6 +1,6 @@
 //! Laws of the definitions. The functions do nothing: their contracts are the laws.
 
-ghost use Rattle.row_values.specs.Laws.{ChangeReadWasWritten, ChangeWrittenIsRead, Created, KeysAreOrdered, KeysGoByValues, Put, ReadWasWritten, Removed, SchemaReadWasWritten, SchemaWrittenIsRead, WrittenIsRead};
+ghost use Rattle.row_values.specs.Laws.{ChangeReadWasWritten, ChangeWrittenIsRead, Created, KeysAreOrdered, KeysGoByValues, Put, ReadWasWritten, Removed, SchemaReadWasWritten, SchemaWrittenIsRead, StoresAreKept, WrittenIsRead};
 
 /// Rows and keys correspond with their values, each way.
 pub fn values_have_their_bytes()
@@ -28,4 +28,5 @@ pub fn changes_are_local()
     ensures created { Created }
     ensures put { Put }
     ensures removed { Removed }
+    ensures kept { StoresAreKept }
 {}
