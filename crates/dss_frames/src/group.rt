@@ -17,7 +17,7 @@ pub struct Group<'a> {
 }
 
 impl<'a> Group<'a> {
-    ghost use Rattle.std.specs.Prelude.{◌≡◌, IfSome, slice_get, length};
+    ghost use Rattle.std.specs.Prelude.{◌≡◌, [], ◌∷◌, IfSome, MatchOption, slice_get, length};
     ghost use Rattle.std.specs.Option.{option_map};
     ghost use Rattle.drda_words.specs.Place.{StandsAt};
     ghost use Rattle.dss_frames.specs.Group.{command_of, dss_of, text_of};
@@ -36,6 +36,25 @@ impl<'a> Group<'a> {
             at = dss.at + dss.contents.len();
         }
         dss_at(text, at)
+    }
+
+    /// The first DSS and those behind it, whose places count from their own first byte; none where
+    /// no DSS is left. So a walk over the command is linear.
+    pub fn split_first(&self) -> Option<(Dss<'a>, Group<'a>)>
+        ensures value { MatchOption result (command_of self.now ≡ []) (λ x. command_of self.now ≡ dss_of x.0 ∷ command_of x.1) }
+        ensures place { IfSome result (λ x. StandsAt (text_of self.now) x.0.at x.0.contents.now) }
+    {
+        let text: &'a [u8] = self.text;
+        let Some(dss) = dss_at(text, 0) else {
+            return None;
+        };
+        let behind = dss.at + dss.contents.len();
+        Some((
+            dss,
+            Group {
+                text: &text[behind..],
+            },
+        ))
     }
 
     /// How many DSSs the command has.
