@@ -1,10 +1,10 @@
 -- Joining the DSSs of a command, and reading them where they lie then.
-use Rattle.std.proofs.Common.{◌≡◌, ℕ, zero, suc, ◌+◌, ◌-◌, ◌*◌, ◌/◌, ◌%◌, ◌≤◌, ◌<◌, ◌^◌, Bool, true, false, List, [], ◌∷◌, ◌++◌, length, take, drop, Option, Some, None, refl, sym, ap, subst, ◌∙◌, append_assoc, arith, length-append, length-drop, take-append-drop, mod-eq_of_lt}
+use Rattle.std.proofs.Common.{◌≡◌, ℕ, zero, suc, ◌+◌, ◌-◌, ◌*◌, ◌/◌, ◌%◌, ◌≤◌, ◌<◌, false, List, [], ◌∷◌, ◌++◌, length, take, drop, refl, sym, ap, ◌∙◌, append_assoc, arith, length-append, length-drop, take-append-drop}
 use Rattle.std.proofs.lemmas.List.{append-nil, drop-drop, drop-take, length-take-le}
-use Rattle.std.proofs.Math.Seq.{take-append_seam, drop-append_seam, take-append-add, drop-append-add}
+use Rattle.std.proofs.Math.Seq.{take-append_seam, drop-append_seam}
 use Rattle.drda_words.specs.Place.{part}
-use Rattle.dss_frames.specs.Length.{word, dss_limit}
-use Rattle.dss_frames.specs.Dss.{Dss, AreSegments, IsDss, AreDsss}
+use Rattle.dss_frames.specs.Length.{word}
+use Rattle.dss_frames.specs.Dss.{Dss, IsDss, AreDsss}
 use Rattle.dss_frames.specs.Joining.{count_bytes, IsJoined, AreJoined, JoinsDss}
 use Rattle.dss_frames.specs.Group.{dsss_in, joined_dsss}
 use Rattle.dss_frames.proofs.Readings.{segments_length}

@@ -2,18 +2,17 @@
 use Rattle.std.proofs.Common.{◌≡◌, ℕ, zero, suc, ◌+◌, ◌-◌, ◌≤◌, ◌<◌, Bool, true, false, List, [], ◌∷◌, ◌++◌, length, Option, Some, None, refl, sym, ap, subst, ◌∙◌, append_assoc, arith, length-append, mod-lt, lit<}
 use Rattle.std.proofs.lemmas.List.{append-nil}
 use Rattle.std.proofs.lemmas.List.Folds.{concat-append}
-use Rattle.std.specs.Prelude.{IsTrue, ◌%◌}
 use Rattle.std.specs.List.{concat}
 use Rattle.dss_frames.specs.declared.turn.Turn.{Turn}
 use Rattle.dss_frames.specs.declared.turn.Turn.TheVariants.{Request, Object, Nothing}
 use Rattle.dss_frames.specs.declared.fault.SyntaxCode.{SyntaxCode}
 use Rattle.dss_frames.specs.declared.fault.FrameFault.{FrameFault}
 use Rattle.dss_frames.specs.Length.{word, is_continued, segment_length, dss_limit}
-use Rattle.dss_frames.specs.Dss.{Dss, AreContinuations, AreSegments, IsDss, IsOpenDss, AreDsss}
-use Rattle.dss_frames.specs.Command.{turn_after, is_due, Admits, InTurn, IsCommand}
+use Rattle.dss_frames.specs.Dss.{Dss, AreContinuations, AreSegments, IsDss, AreDsss}
+use Rattle.dss_frames.specs.Command.{turn_after, Admits, InTurn}
 use Rattle.dss_frames.specs.Fault.{Next, dss_in_turn, continuation_of, UpTo, IsWrong, FaultAt, BeginsWith, header_fault, continuation_fault}
 use Rattle.dss_frames.proofs.Headers.{IsRightHeader, header_right, continuation_right}
-use Rattle.dss_frames.proofs.Machine.{State, gathering, filling, whole, faulty, arrive, filled, fill, stop_or, begun, joined, header_read, continuation_read, gathered, step, run, start}
+use Rattle.dss_frames.proofs.Machine.{State, gathering, filling, whole, faulty, arrive, filled, fill, stop_or, begun, joined, gathered, step, run, start}
 use Rattle.dss_frames.proofs.Ways.{IsOpen}
 
 -- the segments of a DSS stand at the end of the bytes, behind whole DSSs

@@ -1,13 +1,13 @@
 -- Joining a DSS in place, one segment after the other.
-use Rattle.std.proofs.Common.{◌≡◌, ℕ, zero, suc, ◌+◌, ◌-◌, ◌*◌, ◌/◌, ◌%◌, ◌≤◌, ◌<◌, Bool, true, false, cond, ◌&&◌, List, [], ◌∷◌, ◌++◌, length, take, drop, Option, Some, None, refl, sym, ap, subst, ◌∙◌, append_assoc, arith, length-append, length-drop, take-append-drop}
-use Rattle.std.specs.Prelude.{IsTrue, nat_le, slice_set}
+use Rattle.std.proofs.Common.{◌≡◌, ℕ, zero, suc, ◌+◌, ◌-◌, ◌≤◌, Bool, true, false, cond, ◌&&◌, List, [], ◌∷◌, ◌++◌, length, take, drop, Some, None, refl, sym, ap, subst, ◌∙◌, append_assoc, arith, length-append, take-append-drop}
+use Rattle.std.specs.Prelude.{nat_le, slice_set}
 use Rattle.std.specs.List.{concat}
 use Rattle.std.proofs.lemmas.List.{append-nil, drop-drop, length-take-le}
 use Rattle.std.proofs.lemmas.Bool.{le-leb, leb-true}
-use Rattle.std.proofs.Math.Seq.{take-append_seam, drop-append_seam, take-append-add, drop-append-add}
+use Rattle.std.proofs.Math.Seq.{take-append_seam, drop-append_seam, drop-append-add}
 use Rattle.dss_frames.specs.Length.{word, is_continued, segment_length, dss_limit}
-use Rattle.dss_frames.specs.Dss.{Dss, AreContinuations, AreSegments, IsDss}
-use Rattle.dss_frames.specs.Joining.{count_bytes, IsJoined, segment_in, JoinsDss}
+use Rattle.dss_frames.specs.Dss.{Dss, AreContinuations, IsDss}
+use Rattle.dss_frames.specs.Joining.{count_bytes, IsJoined, segment_in}
 
 -- ---- lists
 

@@ -1,9 +1,9 @@
 -- The reading of a text byte by byte. It decides what stands in front of a text, so that a text has
 -- one reading at the most.
-use Rattle.std.proofs.Common.{◌≡◌, ℕ, zero, suc, ◌+◌, ◌-◌, ◌≤◌, ◌<◌, Bool, true, false, List, [], ◌∷◌, ◌++◌, length, Option, Some, None, refl, sym, ap, subst, ◌∙◌, append_assoc, arith, length-append}
+use Rattle.std.proofs.Common.{◌≡◌, ℕ, zero, suc, ◌+◌, ◌-◌, ◌<◌, Bool, true, false, List, [], ◌∷◌, ◌++◌, length, Option, Some, None, refl, sym, ap, ◌∙◌, append_assoc, arith}
 use Rattle.std.proofs.lemmas.List.{append-nil}
 use Rattle.dss_frames.specs.declared.turn.Turn.{Turn}
-use Rattle.dss_frames.specs.declared.turn.Turn.TheVariants.{Request, Object, Nothing}
+use Rattle.dss_frames.specs.declared.turn.Turn.TheVariants.{Request, Nothing}
 use Rattle.dss_frames.specs.declared.fault.SyntaxCode.{SyntaxCode}
 use Rattle.dss_frames.specs.declared.fault.FrameFault.{FrameFault}
 use Rattle.dss_frames.specs.Length.{word, is_continued, segment_length}

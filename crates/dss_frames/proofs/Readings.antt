@@ -1,9 +1,8 @@
 -- Every text has exactly one reading.
-use Rattle.std.proofs.Common.{◌≡◌, ◌⊎◌, inl, inr, ℕ, zero, suc, ◌+◌, ◌-◌, ◌≤◌, ◌<◌, Bool, true, false, List, [], ◌∷◌, ◌++◌, length, refl, sym, ap, subst, ◌∙◌, arith, length-append}
-use Rattle.dss_frames.specs.declared.turn.Turn.{Turn}
-use Rattle.dss_frames.specs.declared.turn.Turn.TheVariants.{Request, Object, Nothing}
+use Rattle.std.proofs.Common.{◌≡◌, ◌⊎◌, inl, inr, ℕ, zero, suc, ◌≤◌, ◌<◌, Bool, false, List, [], ◌∷◌, length, refl, sym, ap, subst, ◌∙◌, arith, length-append}
+use Rattle.dss_frames.specs.declared.turn.Turn.TheVariants.{Request, Nothing}
 use Rattle.dss_frames.specs.declared.fault.FrameFault.{FrameFault}
-use Rattle.dss_frames.specs.Dss.{Dss, AreSegments, AreDsss}
+use Rattle.dss_frames.specs.Dss.{Dss, AreSegments}
 use Rattle.dss_frames.specs.Command.{IsCommand}
 use Rattle.dss_frames.specs.Fault.{FaultAt, BeginsWith, IsUnfinished}
 use Rattle.dss_frames.specs.Reading.{End, unfinished, faulty as faulty_end, EndsAt, Reads, HasOneReading, StandsOnce}

@@ -1,6 +1,6 @@
 -- From one header to the next.
-use Rattle.std.proofs.Common.{◌≡◌, ℕ, zero, suc, ◌+◌, ◌-◌, ◌≤◌, ◌<◌, Bool, true, false, List, [], ◌∷◌, ◌++◌, length, take, drop, Option, Some, None, Result, Ok, Err, refl, sym, ap, subst, ◌∙◌, append_assoc, arith, length-append, length-drop, take-append-drop, mod-lt, lit<}
-use Rattle.std.proofs.lemmas.List.{append-nil, take-append-le, drop-append-le, length-take-le}
+use Rattle.std.proofs.Common.{◌≡◌, ℕ, ◌+◌, ◌-◌, ◌≤◌, ◌<◌, Bool, true, false, List, [], ◌∷◌, ◌++◌, length, take, drop, Option, Some, None, Result, Ok, Err, refl, sym, ap, subst, ◌∙◌, append_assoc, arith, length-append, length-drop, take-append-drop, mod-lt, lit<}
+use Rattle.std.proofs.lemmas.List.{append-nil, drop-append-le, length-take-le}
 use Rattle.std.proofs.Math.Seq.{take-add, take-append-add}
 use Rattle.dss_frames.specs.declared.turn.Turn.{Turn}
 use Rattle.dss_frames.specs.declared.turn.Turn.TheVariants.{Request, Object, Nothing}
@@ -12,12 +12,12 @@ use Rattle.dss_frames.specs.declared.place.Place.{Place}
 use Rattle.dss_frames.specs.declared.place.Found.TheVariants.{Nothing as Nothing_yet}
 use Rattle.dss_frames.specs.Length.{word, is_continued, segment_length, dss_limit}
 use Rattle.dss_frames.specs.Dss.{Dss}
-use Rattle.dss_frames.specs.Command.{turn_after, is_due, IsCommand}
-use Rattle.dss_frames.specs.Fault.{Next, dss_in_turn, continuation_of, UpTo, IsWrong, FaultAt, BeginsWith, IsUnfinished, CanBeJudged, header_size, header_fault, continuation_fault}
+use Rattle.dss_frames.specs.Command.{turn_after, IsCommand}
+use Rattle.dss_frames.specs.Fault.{Next, dss_in_turn, continuation_of, UpTo, IsWrong, FaultAt, IsUnfinished, CanBeJudged, header_size, header_fault, continuation_fault}
 use Rattle.dss_frames.specs.Judging.{judged, unless_wrong, after_segment, IsWithinLimit}
 use Rattle.dss_frames.specs.Place.{IsExpected, Reaches, IsAt, HasCommand, Finds, found_when, found_at, header_length}
-use Rattle.dss_frames.proofs.Headers.{IsRightHeader, header_right, continuation_right}
-use Rattle.dss_frames.proofs.Machine.{State, gathering, filling, whole, faulty, arrive, filled, fill, stop_or, begun, joined, header_read, continuation_read, run, start, run-append, run-fill, run-fill-short, IsUnderWay}
+use Rattle.dss_frames.proofs.Headers.{header_right, continuation_right}
+use Rattle.dss_frames.proofs.Machine.{State, arrive, filled, fill, stop_or, begun, joined, run, start, run-append, run-fill, run-fill-short, IsUnderWay}
 use Rattle.dss_frames.proofs.Ways.{IsOpen, run-up_to}
 use Rattle.dss_frames.proofs.Holds.{Holds, start_holds}
 use Rattle.dss_frames.proofs.Readings.{is_unfinished}

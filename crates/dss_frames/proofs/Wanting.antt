@@ -1,17 +1,16 @@
 -- What a reader asks for is never more than the command under way.
-use Rattle.std.proofs.Common.{◌≡◌, ◌⊎◌, inl, inr, ℕ, zero, suc, ◌+◌, ◌-◌, ◌≤◌, ◌<◌, max, Bool, true, false, List, [], ◌∷◌, ◌++◌, length, take, drop, Option, Some, None, Result, Ok, Err, refl, sym, ap, subst, ◌∙◌, append_assoc, arith, length-append, length-drop, take-append-drop}
-use Rattle.std.proofs.lemmas.List.{append-nil, take-append-le, length-take-le}
+use Rattle.std.proofs.Common.{◌≡◌, ℕ, ◌+◌, ◌-◌, ◌≤◌, ◌<◌, max, Bool, true, false, List, [], ◌∷◌, ◌++◌, length, take, drop, None, Ok, refl, sym, ap, ◌∙◌, arith, length-append, length-drop, take-append-drop}
+use Rattle.std.proofs.lemmas.List.{append-nil, take-append-le}
 use Rattle.std.proofs.Math.Seq.{take-append_seam, take-append-add}
 use Rattle.std.proofs.Math.Dec.{ltb}
 use Rattle.std.proofs.lemmas.Bool.{ltb-true, ltb-false}
-use Rattle.dss_frames.specs.declared.turn.Turn.{Turn}
 use Rattle.dss_frames.specs.declared.turn.Turn.TheVariants.{Request, Object, Nothing}
 use Rattle.dss_frames.specs.declared.place.Expected.{Expected}
 use Rattle.dss_frames.specs.declared.place.Expected.TheVariants.{Header, Continuation}
 use Rattle.dss_frames.specs.declared.place.Place.{Place}
 use Rattle.dss_frames.specs.Dss.{Dss}
 use Rattle.dss_frames.specs.Command.{IsCommand}
-use Rattle.dss_frames.specs.Fault.{BeginsWith, IsUnfinished}
+use Rattle.dss_frames.specs.Fault.{IsUnfinished}
 use Rattle.dss_frames.specs.Judging.{judged}
 use Rattle.dss_frames.specs.Place.{IsAt, HasCommand, header_length}
 use Rattle.dss_frames.specs.Lending.{KeepsToOne, IsWanted}
@@ -67,7 +66,7 @@ keeps_to_one bytes place n h e more command (x ∷ rest) un le begins =
 pub is_wanted : (bytes : List ℕ) (place : Place) (n : ℕ) → IsAt bytes place → length bytes < place.at + header_length place.expected → n ≡ max 1 (place.at + header_length place.expected - length bytes) → IsWanted bytes n
 is_wanted bytes place n h lt e = record {
   less = λ more fewer. let k = length-append bytes more in unfinished (bytes ++ more) place (place_more bytes more place h) (omega arith);
-  just = λ more so_many. let k = length-append bytes more in place_judged bytes more place h (omega arith)
+  just = λ more so_many. let k = length-append bytes more in place_judged bytes more place h (omega arith);
 }
 
 -- where a command stands, or a fault, nothing is wanted

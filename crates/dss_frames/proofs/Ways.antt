@@ -1,5 +1,5 @@
 -- What a text is spelled as is what its bytes lead to.
-use Rattle.std.proofs.Common.{◌≡◌, ℕ, zero, suc, ◌+◌, ◌-◌, ◌≤◌, ◌<◌, Bool, true, false, List, [], ◌∷◌, ◌++◌, length, Option, Some, None, refl, sym, ap, subst, ◌∙◌, append_assoc, arith, length-append, add-zero}
+use Rattle.std.proofs.Common.{◌≡◌, ℕ, ◌+◌, ◌-◌, ◌≤◌, Bool, true, false, List, [], ◌∷◌, ◌++◌, length, Option, Some, None, refl, sym, ap, subst, ◌∙◌, append_assoc, arith, length-append, add-zero}
 use Rattle.std.proofs.lemmas.List.{append-nil}
 use Rattle.std.specs.Prelude.{IsTrue}
 use Rattle.std.specs.List.{concat}
@@ -8,11 +8,11 @@ use Rattle.dss_frames.specs.declared.turn.Turn.TheVariants.{Request, Object, Not
 use Rattle.dss_frames.specs.declared.fault.SyntaxCode.{SyntaxCode}
 use Rattle.dss_frames.specs.declared.fault.FrameFault.{FrameFault}
 use Rattle.dss_frames.specs.Length.{word, is_continued, segment_length, dss_limit}
-use Rattle.dss_frames.specs.Dss.{Dss, AreContinuations, AreSegments, IsDss, IsOpenDss, AreDsss}
-use Rattle.dss_frames.specs.Command.{turn_after, is_due, Admits, InTurn, IsCommand}
+use Rattle.dss_frames.specs.Dss.{Dss, AreContinuations, AreSegments, AreDsss}
+use Rattle.dss_frames.specs.Command.{turn_after, is_due, Admits, InTurn}
 use Rattle.dss_frames.specs.Fault.{Next, dss_in_turn, continuation_of, UpTo, IsWrong, FaultAt, BeginsWith, header_fault, continuation_fault}
-use Rattle.dss_frames.proofs.Headers.{IsRightHeader, right_header, right_continuation}
-use Rattle.dss_frames.proofs.Machine.{State, gathering, filling, whole, faulty, arrive, filled, fill, stop_or, begun, joined, header_read, continuation_read, run, start, run-append, run-whole, run-faulty, run-fill}
+use Rattle.dss_frames.proofs.Headers.{right_header, right_continuation}
+use Rattle.dss_frames.proofs.Machine.{State, gathering, whole, faulty, arrive, filled, fill, stop_or, begun, joined, header_read, continuation_read, run, start, run-append, run-whole, run-faulty, run-fill}
 
 goes_on : (found : Option SyntaxCode) (of_dss : ℕ) (state : State) → found ≡ None → stop_or found of_dss state ≡ state
 goes_on found of_dss state e = ap (λ (o : Option SyntaxCode). stop_or o of_dss state) e

@@ -1,14 +1,14 @@
 -- What is written is a DSS of what was given.
-use Rattle.std.proofs.Common.{◌≡◌, ℕ, zero, suc, ◌+◌, ◌-◌, ◌*◌, ◌/◌, ◌%◌, ◌≤◌, ◌<◌, ◌^◌, min, Bool, true, false, cond, List, [], ◌∷◌, ◌++◌, length, take, drop, refl, sym, ap, subst, ◌∙◌, append_assoc, arith, length-append, length-drop, length-take, take-append-drop, mod-eq_of_lt, lit<}
-use Rattle.std.specs.Prelude.{IsTrue, nat_lt, nat_le, slice_index}
-use Rattle.std.specs.Int.{to_be_bytes, from_be_bytes, w16}
+use Rattle.std.proofs.Common.{◌≡◌, ℕ, zero, suc, ◌+◌, ◌-◌, ◌%◌, ◌≤◌, ◌<◌, min, Bool, true, false, cond, List, [], ◌∷◌, ◌++◌, length, take, drop, refl, sym, ap, subst, ◌∙◌, append_assoc, arith, length-append, length-drop, length-take, take-append-drop, mod-eq_of_lt, lit<}
+use Rattle.std.specs.Prelude.{nat_lt, nat_le, slice_index}
+use Rattle.std.specs.Int.{to_be_bytes, w16}
 use Rattle.std.specs.List.{concat}
 use Rattle.std.proofs.lemmas.Nat.{from_be_bytes-to_be_bytes_2}
 use Rattle.std.proofs.lemmas.Bool.{ltb-true, ltb-false, lt-ltb, le-ltb, le-leb, lt-leb}
 use Rattle.std.proofs.lemmas.List.{take_min}
 use Rattle.std.proofs.Math.ListN.{drop_of_length-le}
 use Rattle.dss_frames.specs.Length.{word, is_continued, segment_length, dss_limit}
-use Rattle.dss_frames.specs.Dss.{Dss, AreContinuations, AreSegments, IsDss}
+use Rattle.dss_frames.specs.Dss.{AreContinuations, IsDss}
 use Rattle.dss_frames.specs.Writing.{first_size, next_size, length_bytes, continuations, written, continued_length, written_length}
 
 -- a number in two bytes

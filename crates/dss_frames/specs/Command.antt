@@ -1,6 +1,6 @@
 -- Commands (DRDA V5 volume 3, DSS): a request DSS, then object DSSs as long as the DSS before is
 -- chained and says that the next one has its correlator.
-use Rattle.std.specs.Prelude.{◌≡◌, ℕ, Bool, true, false, ◌&&◌, ◌==◌, List, [], ◌∷◌, IsTrue, if◌then◌else◌}
+use Rattle.std.specs.Prelude.{◌≡◌, ℕ, Bool, false, ◌&&◌, ◌==◌, List, [], ◌∷◌, IsTrue, if◌then◌else◌}
 use Rattle.dss_frames.specs.declared.turn.Turn.{Turn}
 use Rattle.dss_frames.specs.declared.turn.Turn.TheVariants.{Request, Object, Nothing}
 use Rattle.dss_frames.specs.Format.{is_request, is_object, is_supported, is_paired, has_objects}

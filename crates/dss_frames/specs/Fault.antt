@@ -1,7 +1,7 @@
 -- Faults of the framing (DRDA V5 volume 3, DSS and SYNERRCD), and what is neither a command nor a fault.
-use Rattle.std.specs.Prelude.{◌≡◌, ℕ, ◌+◌, Bool, true, false, ◌==◌, nat_le, List, [], ◌∷◌, ◌++◌, length, Option, Some, None, if◌then◌else◌}
+use Rattle.std.specs.Prelude.{◌≡◌, ℕ, ◌+◌, ◌==◌, nat_le, List, ◌∷◌, ◌++◌, length, Option, Some, None, if◌then◌else◌}
 use Rattle.dss_frames.specs.declared.turn.Turn.{Turn}
-use Rattle.dss_frames.specs.declared.turn.Turn.TheVariants.{Request, Object, Nothing}
+use Rattle.dss_frames.specs.declared.turn.Turn.TheVariants.{Request, Nothing}
 use Rattle.dss_frames.specs.declared.fault.SyntaxCode.{SyntaxCode}
 use Rattle.dss_frames.specs.declared.fault.SyntaxCode.TheVariants.{HeaderTooShort, MarkNotD0, FormatNotSupported, SameCorrelatorUnchained, WrongTurn, TooLong, ContinuationTooShort}
 use Rattle.dss_frames.specs.declared.fault.FrameFault.{FrameFault}

@@ -1,6 +1,6 @@
 -- How a command lies in the reader's buffer once its continuations are joined: each DSS with three
 -- bytes for the length of its contents, its format byte, its correlator, and its contents.
-use Rattle.std.specs.Prelude.{◌≡◌, ℕ, zero, suc, ◌+◌, ◌*◌, List, [], ◌∷◌, ◌++◌, length, take, drop, Option, Some, None}
+use Rattle.std.specs.Prelude.{ℕ, zero, suc, ◌+◌, ◌*◌, List, [], ◌∷◌, length, take, drop, Option, Some, None}
 use Rattle.dss_frames.specs.declared.group.Group.{Group}
 use Rattle.dss_frames.specs.declared.group.Dss as parts
 use Rattle.dss_frames.specs.Length.{word}

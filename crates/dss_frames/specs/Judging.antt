@@ -1,7 +1,6 @@
 -- What a header that has come says, and nothing of the bytes behind it.
-use Rattle.std.specs.Prelude.{ℕ, ◌+◌, Bool, List, [], ◌∷◌, ◌≤◌, Option, Some, None, Result, Ok, Err, if◌then◌else◌}
-use Rattle.dss_frames.specs.declared.turn.Turn.{Turn}
-use Rattle.dss_frames.specs.declared.turn.Turn.TheVariants.{Request, Object, Nothing}
+use Rattle.std.specs.Prelude.{ℕ, ◌+◌, Bool, List, ◌∷◌, ◌≤◌, Option, Some, None, Result, Ok, Err, if◌then◌else◌}
+use Rattle.dss_frames.specs.declared.turn.Turn.TheVariants.{Nothing}
 use Rattle.dss_frames.specs.declared.place.Expected.{Expected}
 use Rattle.dss_frames.specs.declared.place.Expected.TheVariants.{Header, Continuation}
 use Rattle.dss_frames.specs.declared.fault.SyntaxCode.{SyntaxCode}

@@ -5,10 +5,8 @@ use Rattle.dss_frames.specs.declared.place.Expected.TheVariants.{Header, Continu
 use Rattle.dss_frames.specs.declared.place.Place.{Place}
 use Rattle.dss_frames.specs.declared.place.Found.{Found}
 use Rattle.dss_frames.specs.declared.place.Found.TheVariants as found
-use Rattle.dss_frames.specs.declared.turn.Turn.{Turn}
-use Rattle.dss_frames.specs.declared.turn.Turn.TheVariants.{Request, Object, Nothing}
+use Rattle.dss_frames.specs.declared.turn.Turn.TheVariants.{Nothing}
 use Rattle.dss_frames.specs.declared.fault.FrameFault.{FrameFault}
-use Rattle.dss_frames.specs.Length.{dss_limit}
 use Rattle.dss_frames.specs.Dss.{Dss}
 use Rattle.dss_frames.specs.Command.{IsCommand}
 use Rattle.dss_frames.specs.Fault.{Next, dss_in_turn, continuation_of, UpTo, FaultAt, IsUnfinished}

@@ -1,5 +1,5 @@
 -- How a DSS is written (DRDA V5 volume 3, DSS): full segments of 32,767 bytes, and the last one short.
-use Rattle.std.specs.Prelude.{ℕ, zero, suc, ◌+◌, ◌-◌, ◌*◌, ◌/◌, Bool, nat_lt, List, [], ◌∷◌, ◌++◌, length, take, drop, if◌then◌else◌}
+use Rattle.std.specs.Prelude.{ℕ, zero, suc, ◌+◌, ◌-◌, ◌*◌, ◌/◌, nat_lt, List, [], ◌∷◌, ◌++◌, length, take, drop, if◌then◌else◌}
 use Rattle.std.specs.Int.{to_be_bytes, w16}
 
 -- what a full segment holds behind the six bytes of a header, and behind the two of a continuation

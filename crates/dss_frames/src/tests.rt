@@ -24,13 +24,18 @@ fn hear(segments: &mut Segments, piece: &[u8], out: &mut Vec<u8>) -> Result<bool
     Ok(true)
 }
 
+/// Each DSS is looked up by its place and found by walking.
 fn write_down(group: &Group<'_>, out: &mut Vec<u8>) -> Result<(), AllocError> {
     out.extend_from_slice(b"C")?;
+    let mut rest = *group;
     for i in 0..group.count() {
-        if let Some(dss) = group.dss(i) {
+        if let Some(dss) = group.dss(i)
+            && let Some((first, others)) = rest.split_first()
+        {
             out.extend_from_slice(&[b'D', dss.format.byte])?;
-            out.extend_from_slice(&dss.correlator.to_be_bytes())?;
+            out.extend_from_slice(&first.correlator.to_be_bytes())?;
             out.extend_from_slice(dss.contents)?;
+            rest = others;
         }
     }
     Ok(())

@@ -1,4 +1,4 @@
-use Rattle.std.proofs.Common.{◌+◌, arith, length, drop, length-drop}
+use Rattle.std.proofs.Common.{◌+◌, arith, length-drop}
 use Rattle.std.proofs.lemmas.List.{take_rest, drop-drop}
 use Rattle.dss_frames.proofs.Walks.{stands_part}
 use Rattle.dss_frames.proofs.group.dss_at.Goals as goal

@@ -1,4 +1,4 @@
-use Rattle.std.proofs.Common.{◌≡◌, ◌≤◌, ◌+◌, ◌-◌, ℕ, length, refl, ◌∙◌, arith}
+use Rattle.std.proofs.Common.{◌+◌, refl, ◌∙◌, arith}
 use Rattle.dss_frames.proofs.Commands.{none_joined, one_joined, whole_joined}
 use Rattle.dss_frames.proofs.joining.join.Goals as goal
 

@@ -1,4 +1,4 @@
-use Rattle.std.proofs.Common.{◌≡◌, ◌≤◌, ◌+◌, ◌-◌, ℕ, List, drop, vec_len}
+use Rattle.std.proofs.Common.{◌≡◌, ◌≤◌, ◌-◌, List, drop, vec_len}
 use Rattle.drda_words.specs.Place.{part}
 use Rattle.dss_frames.specs.Dss.{Dss, AreDsss}
 use Rattle.dss_frames.proofs.Commands.{AllSoFar}

@@ -1,4 +1,4 @@
-use Rattle.std.proofs.Common.{◌≡◌, ◌≤◌, ◌+◌, ◌-◌, ◌/◌, ◌%◌, ℕ, length, drop, Some, sym, ap, ◌∙◌, arith}
+use Rattle.std.proofs.Common.{◌≡◌, ◌+◌, ◌-◌, drop, Some, sym, ap, ◌∙◌, arith}
 use Rattle.dss_frames.specs.Joining.{segment_in}
 use Rattle.dss_frames.proofs.Joins.{segment_bounds, first_joined, next_joined, next_missing, all_joined, drop_further, behind_three}
 use Rattle.dss_frames.proofs.joining.join_dss.Goals as goal

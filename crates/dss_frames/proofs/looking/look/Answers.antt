@@ -1,4 +1,4 @@
-use Rattle.std.proofs.Common.{rules, ◌≡◌, ◌≤◌, ◌+◌, ◌-◌, ℕ, length, drop, arith, sym, ap, ◌∙◌, Ok, Err, Some, None}
+use Rattle.std.proofs.Common.{rules, ◌≡◌, drop, arith, sym, ap, ◌∙◌, Ok, Some}
 use Rattle.std.proofs.lemmas.List.{take_rest}
 use Rattle.dss_frames.specs.Judging.{judged}
 use Rattle.dss_frames.proofs.Steps.{place_fault, place_beyond, place_found, place_next}

@@ -1,4 +1,4 @@
-use Rattle.std.proofs.Common.{rules, ◌≡◌, ◌≤◌, ◌+◌, ◌-◌, ◌++◌, min, length, ap, ◌∙◌, sym, arith}
+use Rattle.std.proofs.Common.{rules, ◌≡◌, ◌≤◌, ◌-◌, ◌++◌, length, ap, ◌∙◌, arith}
 use Rattle.dss_frames.specs.Writing.{continuations, continued_length, next_size}
 use Rattle.dss_frames.proofs.Written.{written_on, continued_step, length_bytes_length}
 use Rattle.dss_frames.proofs.writing.append_continuations.Goals as goal

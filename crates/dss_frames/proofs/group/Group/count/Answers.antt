@@ -1,5 +1,5 @@
-use Rattle.std.proofs.Common.{◌≡◌, ◌+◌, ◌∙◌, sym, ap, arith, drop, length, Some, None}
-use Rattle.dss_frames.specs.Group.{first_dss, dss_of}
+use Rattle.std.proofs.Common.{◌+◌, sym, arith, length}
+use Rattle.dss_frames.specs.Group.{dss_of}
 use Rattle.dss_frames.proofs.Walks.{walk_count}
 use Rattle.dss_frames.proofs.group.Group.count.Goals as goal
 

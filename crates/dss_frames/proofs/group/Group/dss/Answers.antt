@@ -1,6 +1,6 @@
-use Rattle.std.proofs.Common.{◌≡◌, ◌+◌, ◌∙◌, sym, ap, arith, drop, length, Some, None}
+use Rattle.std.proofs.Common.{◌≡◌, ◌+◌, ◌∙◌, sym, ap, arith, length}
 use Rattle.std.specs.Prelude.{slice_get}
-use Rattle.dss_frames.specs.Group.{first_dss, dss_of, joined_dsss}
+use Rattle.dss_frames.specs.Group.{dss_of, joined_dsss}
 use Rattle.dss_frames.proofs.Walks.{walk_on, walk_here, walk_past}
 use Rattle.dss_frames.proofs.group.Group.dss.Goals as goal
 

@@ -1,3 +1,4 @@
+<<<<<<< HEAD
 use Rattle.std.proofs.Common.{◌≡◌, ◌+◌, ◌-◌, ◌∙◌, ◌∷◌, List, ℕ, sym, ap, arith, drop, take, length, Some, None}
 use Rattle.std.proofs.lemmas.List.{take_rest}
 use Rattle.dss_frames.specs.Dss.{Dss}
@@ -15,3 +16,17 @@ returns c =
     let place : 6 + length c.in-Some.dss.contents.now ≡ behind = omega (arith, c.in-Some.ensures.at) in
     first_and_others text (dss_of c.in-Some.dss) (sym c.in-Some.ensures.value)
     ∙ ap (λ (bytes : List ℕ). dss_of c.in-Some.dss ∷ joined_dsss bytes) (ap (λ (n : ℕ). drop n text) place ∙ sym (take_rest text behind))
+=======
+use Rattle.std.proofs.Common.{◌≡◌, ◌+◌, ◌∷◌, ◌∙◌, sym, ap, arith, drop, length}
+use Rattle.std.proofs.lemmas.List.{take_rest}
+use Rattle.dss_frames.specs.Group.{dss_of, joined_dsss}
+use Rattle.dss_frames.proofs.Walks.{first_and_others}
+use Rattle.dss_frames.proofs.group.Group.split_first.Goals as goal
+
+pub returns-clause-value : goal.returns-clause-value
+returns-clause-value c =
+    let behind = c.in-Some.dss.at + length c.in-Some.dss.contents.now in
+    let same : 6 + length c.in-Some.dss.contents.now ≡ behind = omega (arith, c.in-Some.ensures.at) in
+    first_and_others c.args.self.now.text.now (dss_of c.in-Some.dss) (sym c.in-Some.ensures.value)
+    ∙ ap (λ b. dss_of c.in-Some.dss ∷ joined_dsss b) (ap (λ n. drop n c.args.self.now.text.now) same ∙ sym (take_rest c.args.self.now.text.now behind))
+>>>>>>> ce0d02d300f2bed292078597867b6f57489c4d56

@@ -1,4 +1,3 @@
-use Rattle.std.proofs.Common.{arith, sym, ◌++◌, length, drop}
 use Rattle.dss_frames.proofs.Settled.{settled_more}
 use Rattle.dss_frames.proofs.segments.Segments.feed.Goals.{in-Ok, in-Err}
 use Rattle.dss_frames.proofs.segments.Segments.feed.Goals as goal

@@ -1,7 +1,5 @@
-use Rattle.std.proofs.Common.{◌≡◌, ◌+◌, arith, drop, length, length-drop, false, refl, sym, ◌∙◌, ap, take, List, ℕ}
+use Rattle.std.proofs.Common.{◌+◌, arith, drop, length-drop, false, refl}
 use Rattle.std.specs.Prelude.{IsTrue}
-use Rattle.drda_words.specs.Place.{part}
-use Rattle.dss_frames.specs.Group.{joined_dsss}
 use Rattle.dss_frames.proofs.Steps.{place_first}
 use Rattle.dss_frames.proofs.Settled.{no_fault_command, lent_command}
 use Rattle.dss_frames.proofs.segments.Segments.lend.Goals as goal

@@ -1,4 +1,4 @@
-use Rattle.std.proofs.Common.{◌≡◌, arith, sym, ◌∙◌, ap, ◌-◌, drop, length}
+use Rattle.std.proofs.Common.{arith, ◌∙◌, ap, ◌-◌}
 use Rattle.dss_frames.proofs.Settled.{settled_elsewhere, moved}
 use Rattle.dss_frames.proofs.segments.Segments.make_room.Goals.{then-kept-self, else-kept-self}
 use Rattle.dss_frames.proofs.segments.Segments.make_room.Goals as goal

@@ -1,4 +1,4 @@
-use Rattle.std.proofs.Common.{arith, drop, length, ap}
+use Rattle.std.proofs.Common.{arith, drop}
 use Rattle.dss_frames.proofs.Steps.{place_first}
 use Rattle.dss_frames.proofs.segments.Segments.new.Goals as goal
 

@@ -1,5 +1,4 @@
 use Rattle.std.proofs.Common.{refl}
-use Rattle.dss_frames.specs.Place.{Finds}
 use Rattle.dss_frames.proofs.Settled.{no_fault_unfinished}
 use Rattle.dss_frames.proofs.segments.Segments.take_command.Goals as goal
 
