@@ -1,14 +1,12 @@
 //! The command line.
 
-use std::alloc::{AllocError, Global};
-use std::convert::AsStr;
-use std::io::Write;
-
+use crate::fault::Fault;
 use clap::error::ErrorKind;
 use clap::{Arg, ArgMatches, Command};
 use conversation::{Settings, SettingsError};
-
-use crate::fault::Fault;
+use std::alloc::{AllocError, Global};
+use std::convert::AsStr;
+use std::io::Write;
 
 fn command<'a>(alloc: Global) -> Result<Command<'a>, AllocError> {
     let rdb = Arg::new(alloc, "rdb")
@@ -62,7 +60,11 @@ fn settings_from(alloc: Global, pipe: &ArgMatches<'_>) -> Result<Settings, Fault
 
 /// The settings that the words of `drdad pipe` say. The text of a mistake in them, or of a request for
 /// help, is written to `err`.
-pub fn settings_of<S: AsStr, E: Write>(alloc: Global, words: &[S], err: &mut E) -> Result<Settings, Fault> {
+pub fn settings_of<S: AsStr, E: Write>(
+    alloc: Global,
+    words: &[S],
+    err: &mut E,
+) -> Result<Settings, Fault> {
     let matches = matches_of(alloc, words, err)?;
     match matches.subcommand_matches("pipe") {
         Some(pipe) => settings_from(alloc, pipe),

@@ -4,7 +4,6 @@ ghost use Rattle.std.specs.Prelude.{◌≡◌};
 ghost use Rattle.drdad.specs.Statuses.{status_for};
 
 use std::alloc::AllocError;
-
 use thiserror::Error;
 
 /// Why the program ends without success; its text goes to standard error behind `drdad: `.

@@ -7,11 +7,10 @@ mod program;
 #[cfg(test)]
 mod tests;
 
-use std::io::{BufReader, BufWriter};
-use std::process::ExitCode;
-
 use crate::fault::Fault;
 use crate::program::run_words;
+use std::io::{BufReader, BufWriter};
+use std::process::ExitCode;
 
 /// The bytes that are read or written in one call of the system.
 const STREAM_BUFFER: usize = 65536;
@@ -32,5 +31,11 @@ fn serve(rt: &HostRuntime) -> anyhow::Result<u8> {
     let words: Vec<String> = std::env::args(rt)?.collect(alloc)?;
     let mut reader = BufReader::with_capacity(alloc, STREAM_BUFFER, rt.stdin())?;
     let mut out = BufWriter::with_capacity(alloc, STREAM_BUFFER, rt.stdout())?;
-    Ok(run_words(alloc, words.as_slice(), &mut reader, &mut out, &mut rt.stderr()))
+    Ok(run_words(
+        alloc,
+        words.as_slice(),
+        &mut reader,
+        &mut out,
+        &mut rt.stderr(),
+    ))
 }

@@ -1,13 +1,11 @@
 //! The program over streams that are handed in.
 
+use crate::command_line::settings_of;
+use crate::fault::Fault;
+use drda_node::{Node, RunEnd, run};
 use std::alloc::Global;
 use std::convert::AsStr;
 use std::io::{Read, Write};
-
-use drda_node::{Node, RunEnd, run};
-
-use crate::command_line::settings_of;
-use crate::fault::Fault;
 
 fn result_of(end: RunEnd) -> Result<(), Fault> {
     match end {

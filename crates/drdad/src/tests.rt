@@ -18,7 +18,7 @@ struct Outcome {
     err: Vec<u8>,
 }
 
-fn outcome(alloc: Global, words: &[&str], input: &[u8]) -> Outcome {
+fn served(alloc: Global, words: &[&str], input: &[u8]) -> Outcome {
     let mut reader = input;
     let mut out = Vec::new(alloc);
     let mut err = Vec::new(alloc);
@@ -32,10 +32,10 @@ const PIPE: [&str; 4] = ["drdad", "pipe", "--user", "ana:pw"];
 fn pipes_events(rt: HostRuntime) -> Result<(), Fail> {
     let named = ["drdad", "pipe", "--rdb", "SHOP", "--user", "ana:p:w"];
     for words in [PIPE.as_slice(), named.as_slice()] {
-        let served = outcome(rt.alloc(), words, EXCSAT);
-        assert_eq!(rt; served.status, 0);
-        assert_eq!(rt; served.out.len(), ANSWERED);
-        assert_eq!(rt; served.err.len(), 0);
+        let answered = served(rt.alloc(), words, EXCSAT);
+        assert_eq!(rt; answered.status, 0);
+        assert_eq!(rt; answered.out.len(), ANSWERED);
+        assert_eq!(rt; answered.err.len(), 0);
     }
     Ok(())
 }
@@ -48,13 +48,20 @@ fn refuses_bad_arguments(rt: HostRuntime) -> Result<(), Fail> {
         &["drdad", "pipe", "--user", "ana"],
         &["drdad", "pipe", "--user", "ana:pw", "--rdb", ""],
         &["drdad", "pipe", "--user", "ana:pw", "--rdb", "A DATABASE"],
-        &["drdad", "pipe", "--user", "ana:pw", "--rdb", "NINETEEN_CHARACTERS"],
+        &[
+            "drdad",
+            "pipe",
+            "--user",
+            "ana:pw",
+            "--rdb",
+            "NINETEEN_CHARACTERS",
+        ],
         &["drdad", "pipe", "--user", "ana:pw", "--what"],
         &["drdad", "--help"],
         &["drdad", "serve"],
     ];
     for words in lines {
-        let refused = outcome(rt.alloc(), words, EXCSAT);
+        let refused = served(rt.alloc(), words, EXCSAT);
         assert_eq!(rt; refused.status, 1);
         assert_eq!(rt; refused.out.len(), 0);
         assert!(rt; refused.err.ends_with(b"drdad: bad arguments\n"));
@@ -66,10 +73,10 @@ fn refuses_bad_arguments(rt: HostRuntime) -> Result<(), Fail> {
 fn stops_at_a_bad_event(rt: HostRuntime) -> Result<(), Fail> {
     let mut input = Vec::from_slice(rt.alloc(), EXCSAT)?;
     input.push(9)?;
-    let stopped = outcome(rt.alloc(), &PIPE, &input);
+    let stopped = served(rt.alloc(), &PIPE, &input);
     assert_eq!(rt; stopped.status, 4);
     assert_eq!(rt; stopped.out.len(), ANSWERED);
-    assert_eq!(rt; stopped.err.as_slice(), b"drdad: bad event\n");
+    assert_eq!(rt; stopped.err.as_slice(), b"drdad: bad event\n".as_slice());
     Ok(())
 }
 
@@ -99,11 +106,11 @@ fn tells_of_broken_streams(rt: HostRuntime) -> Result<(), Fail> {
     let mut err = Vec::new(rt.alloc());
     let status = run_words(rt.alloc(), &PIPE, &mut Broken, &mut out, &mut err);
     assert_eq!(rt; status, 2);
-    assert_eq!(rt; err.as_slice(), b"drdad: file or device fault\n");
+    assert_eq!(rt; err.as_slice(), b"drdad: file or device fault\n".as_slice());
     let mut reader = EXCSAT;
     err.clear();
     let status = run_words(rt.alloc(), &PIPE, &mut reader, &mut Broken, &mut err);
     assert_eq!(rt; status, 2);
-    assert_eq!(rt; err.as_slice(), b"drdad: file or device fault\n");
+    assert_eq!(rt; err.as_slice(), b"drdad: file or device fault\n".as_slice());
     Ok(())
 }

@@ -1,0 +1,42 @@
+#!/usr/bin/env python3
+"""bench/pipe/measure.py [PROGRAM]: EXCSAT commands through `drdad pipe`, from event records in a file.
+
+PROGRAM is the built program, crates/drdad/out/drdad where none is given (`rt run` in crates/drdad builds
+it). Prints, for each file, the commands and the processor time.
+"""
+import os
+import pathlib
+import resource
+import subprocess
+import sys
+import tempfile
+
+COMMAND = bytes.fromhex("000AD001000100041041")
+OPEN = bytes([1, 0, 0, 0, 0, 0])
+
+
+def record(data):
+    return bytes([2, 0]) + len(data).to_bytes(4, "big") + data
+
+
+def measure(program, name, text, times, commands):
+    with tempfile.NamedTemporaryFile() as file:
+        file.write(OPEN)
+        for _ in range(times):
+            file.write(text)
+        file.flush()
+        file.seek(0)
+        before = resource.getrusage(resource.RUSAGE_CHILDREN).ru_utime
+        subprocess.run([program, "pipe", "--user", "ana:pw"], stdin=file, stdout=subprocess.DEVNULL, check=True)
+        usage = resource.getrusage(resource.RUSAGE_CHILDREN)
+    took = usage.ru_utime - before
+    print(f"{name}: {commands * times} commands, {took:.2f} s, {commands * times / max(took, 0.001) / 1e6:.1f} million a second")
+
+
+top = pathlib.Path(__file__).resolve().parents[2]
+program = sys.argv[1] if len(sys.argv) > 1 else os.fspath(top / "crates/drdad/out/drdad")
+whole = record(COMMAND * 6553)
+pieces = b"".join(record(bytes([byte])) for byte in COMMAND)
+measure(program, "whole records", whole, 200, 6553)
+measure(program, "ten times as many", whole, 2000, 6553)
+measure(program, "one byte a record", pieces, 131060, 1)
