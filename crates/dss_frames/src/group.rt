@@ -17,11 +17,7 @@ pub struct Group<'a> {
 }
 
 impl<'a> Group<'a> {
-<<<<<<< HEAD
-    ghost use Rattle.std.specs.Prelude.{◌≡◌, ◌∷◌, [], IfSome, MatchOption, slice_get, length};
-=======
     ghost use Rattle.std.specs.Prelude.{◌≡◌, [], ◌∷◌, IfSome, MatchOption, slice_get, length};
->>>>>>> ce0d02d300f2bed292078597867b6f57489c4d56
     ghost use Rattle.std.specs.Option.{option_map};
     ghost use Rattle.drda_words.specs.Place.{StandsAt};
     ghost use Rattle.dss_frames.specs.Group.{command_of, dss_of, text_of};
@@ -42,29 +38,16 @@ impl<'a> Group<'a> {
         dss_at(text, at)
     }
 
-<<<<<<< HEAD
-    /// The first DSS, and those that follow it, where there is one: so a command is walked in one
-    /// pass. Places in what follows count from its own first byte.
-    pub fn split_first(&self) -> Option<(Dss<'a>, Group<'a>)>
-        ensures { MatchOption result (command_of self.now ≡ []) (λ x. command_of self.now ≡ dss_of x.0 ∷ command_of x.1) }
-=======
     /// The first DSS and those behind it, whose places count from their own first byte; none where
     /// no DSS is left. So a walk over the command is linear.
     pub fn split_first(&self) -> Option<(Dss<'a>, Group<'a>)>
         ensures value { MatchOption result (command_of self.now ≡ []) (λ x. command_of self.now ≡ dss_of x.0 ∷ command_of x.1) }
         ensures place { IfSome result (λ x. StandsAt (text_of self.now) x.0.at x.0.contents.now) }
->>>>>>> ce0d02d300f2bed292078597867b6f57489c4d56
     {
         let text: &'a [u8] = self.text;
         let Some(dss) = dss_at(text, 0) else {
             return None;
         };
-<<<<<<< HEAD
-        let behind = Group {
-            text: &text[dss.at + dss.contents.len()..],
-        };
-        Some((dss, behind))
-=======
         let behind = dss.at + dss.contents.len();
         Some((
             dss,
@@ -72,7 +55,6 @@ impl<'a> Group<'a> {
                 text: &text[behind..],
             },
         ))
->>>>>>> ce0d02d300f2bed292078597867b6f57489c4d56
     }
 
     /// How many DSSs the command has.

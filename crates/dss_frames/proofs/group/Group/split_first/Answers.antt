@@ -1,22 +1,3 @@
-<<<<<<< HEAD
-use Rattle.std.proofs.Common.{◌≡◌, ◌+◌, ◌-◌, ◌∙◌, ◌∷◌, List, ℕ, sym, ap, arith, drop, take, length, Some, None}
-use Rattle.std.proofs.lemmas.List.{take_rest}
-use Rattle.dss_frames.specs.Dss.{Dss}
-use Rattle.dss_frames.specs.Group.{first_dss, dss_of, joined_dsss}
-use Rattle.dss_frames.proofs.Walks.{first_and_others, no_first}
-use Rattle.dss_frames.proofs.group.Group.split_first.Goals as goal
-
-pub returns-in_default : goal.returns-in_default
-returns-in_default c = no_first c.args.self.now.text.now (sym c.in_default.ensures.value)
-
-pub returns : goal.returns
-returns c =
-    let text : List ℕ = c.args.self.now.text.now in
-    let behind = c.in-Some.dss.at + length c.in-Some.dss.contents.now in
-    let place : 6 + length c.in-Some.dss.contents.now ≡ behind = omega (arith, c.in-Some.ensures.at) in
-    first_and_others text (dss_of c.in-Some.dss) (sym c.in-Some.ensures.value)
-    ∙ ap (λ (bytes : List ℕ). dss_of c.in-Some.dss ∷ joined_dsss bytes) (ap (λ (n : ℕ). drop n text) place ∙ sym (take_rest text behind))
-=======
 use Rattle.std.proofs.Common.{◌≡◌, ◌+◌, ◌∷◌, ◌∙◌, sym, ap, arith, drop, length}
 use Rattle.std.proofs.lemmas.List.{take_rest}
 use Rattle.dss_frames.specs.Group.{dss_of, joined_dsss}
@@ -29,4 +10,3 @@ returns-clause-value c =
     let same : 6 + length c.in-Some.dss.contents.now ≡ behind = omega (arith, c.in-Some.ensures.at) in
     first_and_others c.args.self.now.text.now (dss_of c.in-Some.dss) (sym c.in-Some.ensures.value)
     ∙ ap (λ b. dss_of c.in-Some.dss ∷ joined_dsss b) (ap (λ n. drop n c.args.self.now.text.now) same ∙ sym (take_rest c.args.self.now.text.now behind))
->>>>>>> ce0d02d300f2bed292078597867b6f57489c4d56
