@@ -1,5 +1,8 @@
 //! The program over streams that are handed in.
 
+ghost use Rattle.std.specs.Prelude.{◌≡◌};
+ghost use Rattle.drdad.specs.Statuses.{result_for};
+
 use crate::command_line::settings_of;
 use crate::fault::Fault;
 use drda_node::{Node, RunEnd, run};
@@ -7,7 +10,9 @@ use std::alloc::Global;
 use std::convert::AsStr;
 use std::io::{Read, Write};
 
-fn result_of(end: RunEnd) -> Result<(), Fault> {
+fn result_of(end: RunEnd) -> Result<(), Fault>
+    ensures { result ≡ result_for end }
+{
     match end {
         RunEnd::Ended => Ok(()),
         RunEnd::BadEvent => Err(Fault::BadEvent),

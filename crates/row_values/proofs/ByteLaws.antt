@@ -62,8 +62,8 @@ pub schema_back : (s : Shape) (rest : List ℕ) → is_shape s ≡ true → sche
 schema_back s rest good =
     schema_found (schema_bytes s ++ rest) (s, rest)
     (ap (λ (l : List ℕ). parts_after (length s.columns) l) (append_assoc (flat_map column_bytes s.columns) (length s.key ∷ s.key) rest)
-     ∙ ap (option_and_then (λ (x : List ColumnShape × List ℕ). option_map (λ (y : List ℕ × List ℕ). (let t : Shape = record { columns = x.0; key = y.0 } in t, y.1)) (named_at x.1))) (columns_back s.columns ((length s.key ∷ s.key) ++ rest) (shape_columns s good))
-     ∙ ap (option_map (λ (y : List ℕ × List ℕ). (let t : Shape = record { columns = s.columns; key = y.0 } in t, y.1))) (front_back (length s.key) s.key rest refl))
+    ∙ ap (option_and_then (λ (x : List ColumnShape × List ℕ). option_map (λ (y : List ℕ × List ℕ). (let t : Shape = record { columns = x.0; key = y.0 } in t, y.1)) (named_at x.1))) (columns_back s.columns ((length s.key ∷ s.key) ++ rest) (shape_columns s good))
+    ∙ ap (option_map (λ (y : List ℕ × List ℕ). (let t : Shape = record { columns = s.columns; key = y.0 } in t, y.1))) (front_back (length s.key) s.key rest refl))
     good
 
 short_back : (limit : ℕ) (bytes rest : List ℕ) → limit < 65536 → nat_le (length bytes) limit ≡ true → short_at limit (counted bytes ++ rest) ≡ Some (bytes, rest)
@@ -99,9 +99,10 @@ name_is (count ∷ bytes) x all h =
     let t = mapped (λ (name : List ℕ). (name, m.0.1)) (name_in m.0.0) x m.2 in
     let name : m.0.0 ≡ x.0 = same_if (is_name m.0.0) m.0.0 t.0 t.1 ∙ ap (λ (y : List ℕ × List ℕ). y.0) t.2 in
     let left : m.0.1 ≡ x.1 = ap (λ (y : List ℕ × List ℕ). y.1) t.2 in
-    let f = front_is count bytes m.0 m.1 in
-    (ap (λ (n : ℕ). n ∷ bytes) (sym f.len ∙ ap length name) ∙ ap (λ (l : List ℕ). length x.0 ∷ l) (f.whole ∙ ap (λ (l : List ℕ). l ++ m.0.1) name ∙ ap (λ (l : List ℕ). x.0 ++ l) left),
-     subst IsBytes left (f.rest (λ i. all (suc i))))
+    let f = front_is count bytes m.0 m.1 in (
+      ap (λ (n : ℕ). n ∷ bytes) (sym f.len ∙ ap length name) ∙ ap (λ (l : List ℕ). length x.0 ∷ l) (f.whole ∙ ap (λ (l : List ℕ). l ++ m.0.1) name ∙ ap (λ (l : List ℕ). x.0 ++ l) left),
+      subst IsBytes left (f.rest (λ i. all (suc i))),
+    )
   where
     same_if : (b : Bool) (y z : List ℕ) → (if b then Some y else None) ≡ Some z → y ≡ z
     same_if true y z h = cc
@@ -147,9 +148,11 @@ unfolding column_at
 column_is bytes x all h =
     let m = chained (λ (y : List ℕ × List ℕ). column_after y.0 y.1) (name_at bytes) x h in
     let n = name_is bytes m.0 all m.1 in
-    let r = column_rest m.0.0 m.0.1 x n.1 m.2 in
-    (n.0 ∙ ap (λ (l : List ℕ). named m.0.0 ++ l) r.1 ∙ ap (λ (l : List ℕ). named l ++ ((code_of x.0.kind ∷ flag_of x.0.is_nullable ∷ big_bytes 2 x.0.limit) ++ x.1)) (sym r.0)
-     ∙ sym (append_assoc (named x.0.name) (code_of x.0.kind ∷ flag_of x.0.is_nullable ∷ big_bytes 2 x.0.limit) x.1), r.2)
+    let r = column_rest m.0.0 m.0.1 x n.1 m.2 in (
+      n.0 ∙ ap (λ (l : List ℕ). named m.0.0 ++ l) r.1 ∙ ap (λ (l : List ℕ). named l ++ ((code_of x.0.kind ∷ flag_of x.0.is_nullable ∷ big_bytes 2 x.0.limit) ++ x.1)) (sym r.0)
+          ∙ sym (append_assoc (named x.0.name) (code_of x.0.kind ∷ flag_of x.0.is_nullable ∷ big_bytes 2 x.0.limit) x.1),
+      r.2,
+    )
 
 columns_is : (n : ℕ) (bytes : List ℕ) (x : List ColumnShape × List ℕ) → IsBytes bytes → columns_at n bytes ≡ Some x → (length x.0 ≡ n) × (bytes ≡ flat_map column_bytes x.0 ++ x.1) × IsBytes x.1
 columns_is zero bytes x all h =
@@ -206,8 +209,8 @@ short_is limit bytes x all h =
 
 deed_rest : (a b c : Bool) (code : ℕ) (name bytes : List ℕ) (x : Deed × List ℕ) → IsBytes bytes → (code == 1) ≡ a → (code == 2) ≡ b → (code == 3) ≡ c
     → (if a then option_map (λ (y : Shape × List ℕ). (create name y.0, y.1)) (schema_at bytes)
-        else (if b then option_map (λ (y : List ℕ × List ℕ). (put name y.0, y.1)) (short_at 4000 bytes)
-        else (if c then option_map (λ (y : List ℕ × List ℕ). (remove name y.0, y.1)) (short_at 8012 bytes) else None))) ≡ Some x
+    else (if b then option_map (λ (y : List ℕ × List ℕ). (put name y.0, y.1)) (short_at 4000 bytes)
+    else (if c then option_map (λ (y : List ℕ × List ℕ). (remove name y.0, y.1)) (short_at 8012 bytes) else None))) ≡ Some x
     → code ∷ named name ++ bytes ≡ deed_bytes x.0 ++ x.1
 deed_rest true b c code name bytes x all p q r h =
     let m = mapped (λ (y : Shape × List ℕ). (create name y.0, y.1)) (schema_at bytes) x h in
@@ -231,6 +234,7 @@ unfolding deed_after
 deed_is [] x all h = absurd cc
 deed_is (code ∷ bytes) x all h =
     let m = chained (λ (y : List ℕ × List ℕ). deed_after code y.0 y.1) (name_at bytes) x h in
-    let n = name_is bytes m.0 (λ i. all (suc i)) m.1 in
-    (deed_good code m.0.0 m.0.1 x (name_good bytes m.0 m.1) m.2,
-     ap (λ (l : List ℕ). code ∷ l) n.0 ∙ deed_rest (code == 1) (code == 2) (code == 3) code m.0.0 m.0.1 x n.1 refl refl refl m.2)
+    let n = name_is bytes m.0 (λ i. all (suc i)) m.1 in (
+      deed_good code m.0.0 m.0.1 x (name_good bytes m.0 m.1) m.2,
+      ap (λ (l : List ℕ). code ∷ l) n.0 ∙ deed_rest (code == 1) (code == 2) (code == 3) code m.0.0 m.0.1 x n.1 refl refl refl m.2,
+    )
