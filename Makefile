@@ -18,6 +18,6 @@ out:
 test:
 	@rt ci
 
-# Conversations kept as event records: each tests/vectors/NAME and the records that answer it.
+# Conversations kept as event records, through the built program.
 vectors:
-	@cd crates/drdad && rt try --cases ../../tests/vectors -- pipe --rdb SHOP --user ana:pw
+	@tests/run_vectors
