@@ -19,6 +19,12 @@ def record(data):
     return bytes([2, 0]) + len(data).to_bytes(4, "big") + data
 
 
+def processor_time():
+    """Seconds of the children so far, in the program and in the system."""
+    usage = resource.getrusage(resource.RUSAGE_CHILDREN)
+    return usage.ru_utime + usage.ru_stime
+
+
 def measure(program, name, text, times, commands):
     with tempfile.NamedTemporaryFile() as file:
         file.write(OPEN)
@@ -26,10 +32,9 @@ def measure(program, name, text, times, commands):
             file.write(text)
         file.flush()
         file.seek(0)
-        before = resource.getrusage(resource.RUSAGE_CHILDREN).ru_utime
+        before = processor_time()
         subprocess.run([program, "pipe", "--user", "ana:pw"], stdin=file, stdout=subprocess.DEVNULL, check=True)
-        usage = resource.getrusage(resource.RUSAGE_CHILDREN)
-    took = usage.ru_utime - before
+    took = processor_time() - before
     print(f"{name}: {commands * times} commands, {took:.2f} s, {commands * times / max(took, 0.001) / 1e6:.1f} million a second")
 
 
@@ -40,3 +45,4 @@ pieces = b"".join(record(bytes([byte])) for byte in COMMAND)
 measure(program, "whole records", whole, 200, 6553)
 measure(program, "ten times as many", whole, 2000, 6553)
 measure(program, "one byte a record", pieces, 131060, 1)
+print(f"largest resident memory: {resource.getrusage(resource.RUSAGE_CHILDREN).ru_maxrss / 1024:.1f} MiB")

@@ -1,4 +1,5 @@
-//! Conversations in hexadecimal, each answered whole, byte by byte and in other pieces.
+//! Conversations in hexadecimal, each answered whole, cut at every place, byte by byte and in other
+//! pieces.
 
 use crate::{Front, Need, Settings};
 use std::alloc::Global;
@@ -59,15 +60,23 @@ fn hex(alloc: Global, texts: &[&str]) -> Result<Vec<u8>, Fail> {
     Ok(bytes)
 }
 
-// What is answered to a request that comes in pieces of this size, with ample memory.
-fn answer_in_pieces(alloc: Global, request: &[u8], size: usize) -> Result<Vec<u8>, Fail> {
+// What is answered to a request that comes in a first piece and then in others of this size, with
+// ample memory.
+fn answer_in_pieces(
+    alloc: Global,
+    request: &[u8],
+    first: usize,
+    size: usize,
+) -> Result<Vec<u8>, Fail> {
     let settings = Settings::new(alloc, "ana", "pw", "SHOP")?;
     let mut front = Front::new(alloc, &settings)?;
     let mut out = Vec::new(alloc);
     let mut left = request;
+    let mut next = first;
     for _ in 0..request.len() {
-        let (piece, others) = left.split_at(size.min(left.len()));
+        let (piece, others) = left.split_at(next.min(left.len()));
         left = others;
+        next = size;
         let _ = front.feed(piece);
         for _ in 0..100 {
             out.reserve(21)?;
@@ -89,15 +98,21 @@ fn expect_answer(
     let alloc = rt.alloc();
     let request = hex(alloc, requests)?;
     let reply = hex(alloc, replies)?;
-    for size in [1_000_000, 1, 2, 3, 7, 10, 32_000] {
-        if size == 1 || request.len() < 1_000 || size > 1_000 {
-            let answer = answer_in_pieces(alloc, &request, size)?;
-            assert_eq!(rt;
-                answer.as_slice(),
-                reply.as_slice(),
-                "{requests:?} in pieces of {size}"
-            );
-        }
+    for size in [1_000_000, 1, 2, 3, 7, 10] {
+        let answer = answer_in_pieces(alloc, &request, size, size)?;
+        assert_eq!(rt;
+            answer.as_slice(),
+            reply.as_slice(),
+            "{requests:?} in pieces of {size}"
+        );
+    }
+    for cut in 1..request.len() {
+        let answer = answer_in_pieces(alloc, &request, cut, 1_000_000)?;
+        assert_eq!(rt;
+            answer.as_slice(),
+            reply.as_slice(),
+            "{requests:?} cut at {cut}"
+        );
     }
     Ok(())
 }
@@ -281,9 +296,9 @@ fn expect_last(
 ) -> Result<(), Fail> {
     let alloc = rt.alloc();
     let mut bytes = hex(alloc, before)?;
-    let earlier = answer_in_pieces(alloc, &bytes, 1_000_000)?;
+    let earlier = answer_in_pieces(alloc, &bytes, 1_000_000, 1_000_000)?;
     push_hex(&mut bytes, request)?;
-    let answer = answer_in_pieces(alloc, &bytes, 1_000_000)?;
+    let answer = answer_in_pieces(alloc, &bytes, 1_000_000, 1_000_000)?;
     let want = hex(alloc, &[reply])?;
     let last = answer.get(earlier.len()..).ok_or("shorter")?;
     assert_eq!(rt; last, want.as_slice(), "{request} behind {before:?}");

@@ -9,10 +9,11 @@ mod tests;
 
 use crate::fault::Fault;
 use crate::program::run_words;
-use std::io::{BufReader, BufWriter};
+use std::io::BufReader;
 use std::process::ExitCode;
 
-/// The bytes that are read or written in one call of the system.
+/// The bytes that are read in one call of the system. Answers are written at once, record by record, so
+/// that whoever waits for one has it.
 const STREAM_BUFFER: usize = 65536;
 
 fn main(rt: HostRuntime) -> ExitCode {
@@ -30,12 +31,11 @@ fn serve(rt: &HostRuntime) -> anyhow::Result<u8> {
     let alloc = rt.alloc();
     let words: Vec<String> = std::env::args(rt)?.collect(alloc)?;
     let mut reader = BufReader::with_capacity(alloc, STREAM_BUFFER, rt.stdin())?;
-    let mut out = BufWriter::with_capacity(alloc, STREAM_BUFFER, rt.stdout())?;
     Ok(run_words(
         alloc,
         words.as_slice(),
         &mut reader,
-        &mut out,
+        &mut rt.stdout(),
         &mut rt.stderr(),
     ))
 }
