@@ -15,7 +15,7 @@ use Rattle.sql_text.specs.declared.fault.Fault.{Fault}
 use Rattle.sql_text.specs.declared.fault.Fault.TheVariants as fault
 use Rattle.sql_text.specs.declared.tree.Command.{Command}
 use Rattle.sql_text.specs.declared.tree.Statement.{Statement}
-use Rattle.sql_text.proofs.FoundRules.{command_found}
+use Rattle.sql_text.proofs.ToldRules.{command_found}
 use Rattle.sql_text.proofs.OnlyRules.{command_only}
 
 begun : (text : List ℕ) (cursor : ℕ × List ℕ) → cursor ≡ (0, text) → tokens_ahead cursor ≡ tokens text
@@ -53,7 +53,7 @@ kept_in text c s e = kept (length text) (markers_in (tokens text)) c (refusal_of
 by_outcome : (text : List ℕ) (o : Outcome Command) (s : Statement) → command_at (tokens text) ≡ o → outcome_answer text o ≡ Ok s → IsStatement s.command (tokens text) × (answer text s.command ≡ Ok s)
 by_outcome text (Ok x) s e a =
     let P : Command → Type 0 = λ c. IsStatement c (tokens text) × (answer text c ≡ Ok s) in
-    subst P (kept_in text x.0 s a) ((command_found (tokens text) x.0 x.1 e).0, a)
+    subst P (kept_in text x.0 s a) (command_found (tokens text) x.0 x.1 e, a)
 by_outcome text (Err f) s e a = absurd (cc)
 
 pub found_in : (text : List ℕ) (r : Result Statement SqlError) → Answers (λ s. s) but_memory r (reading text) → IfOk r (λ s. IsStatement s.command (tokens text) × (answer text s.command ≡ Ok s))

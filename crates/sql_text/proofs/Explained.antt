@@ -1,8 +1,9 @@
 -- Why a text is refused.
-use Rattle.std.proofs.Common.{◌≡◌, inl, inr, ℕ, ◌≤◌, ◌-◌, List, ◌++◌, length, Ok, Err, Result, IfErr, refl, ap, subst, arith}
+use Rattle.std.proofs.Common.{◌≡◌, inl, inr, ℕ, ◌≤◌, ◌-◌, List, [], ◌++◌, length, Ok, Err, Result, IfErr, refl, ap, subst, arith}
 use Rattle.drda_words.specs.Excuse.{Answers}
 use Rattle.sql_lex.specs.Tokens.{Lexeme, tokens}
-use Rattle.sql_text.specs.Place.{SameHead, IsDead, IsStuck, IsRefused, Explains}
+use Rattle.sql_text.specs.Grammar.{IsCommand}
+use Rattle.sql_text.specs.Place.{SameHead, IsDead, Begins, IsStuck, IsRefused, Explains}
 use Rattle.sql_text.specs.Reading.{Outcome, place}
 use Rattle.sql_text.specs.Rules.{command_at, longest}
 use Rattle.sql_text.specs.Text.{but_memory, answer, outcome_answer, reading}
@@ -11,9 +12,9 @@ use Rattle.sql_text.specs.declared.error.SqlError.TheVariants as error
 use Rattle.sql_text.specs.declared.fault.Fault.TheVariants as fault
 use Rattle.sql_text.specs.declared.tree.Command.{Command}
 use Rattle.sql_text.specs.declared.tree.Statement.{Statement}
-use Rattle.sql_text.proofs.FoundRules.{command_found}
-use Rattle.sql_text.proofs.Local.{Local, local_command}
 use Rattle.sql_text.proofs.OnlyRules.{command_only}
+use Rattle.sql_text.proofs.Told.{GoesOn, Told}
+use Rattle.sql_text.proofs.ToldRules.{tells_command, command_found}
 
 same_longest : 32767 ≡ longest
 unfolding longest
@@ -25,14 +26,17 @@ dead front bad stays more c short head is =
     let e = command_only c (front ++ more) fits is in
     let s = stays more head in absurd (cc)
 
-stuck : (text : List ℕ) (left : ℕ) → Local command_at (tokens text) (Err (fault.Unexpected left)) → IsStuck text (length text - left)
-stuck text left (front, bad, same, is, stays) = (front, bad, same, ap (λ k. length text - k) is, dead front bad stays)
+begins : (front : List Lexeme) → GoesOn IsCommand front → Begins front
+begins front (c, more, is) = (c, more ++ [], is [])
+
+stuck : (text : List ℕ) (left : ℕ) → Told command_at IsCommand (tokens text) (Err (fault.Unexpected left)) → IsStuck text (length text - left)
+stuck text left (front, bad, same, is, goes, stays) = (front, bad, same, ap (λ k. length text - k) is, begins front goes, dead front bad stays)
 
 refused : (text : List ℕ) (x : Command × List Lexeme) (e : SqlError) → command_at (tokens text) ≡ Ok x → answer text x.0 ≡ Err e → IsRefused text e
-refused text x e o a = (x.0, (command_found (tokens text) x.0 x.1 o).0, a)
+refused text x e o a = (x.0, command_found (tokens text) x.0 x.1 o, a)
 
 -- what was read is explained by how it was read
-by_place : (text : List ℕ) (o : Outcome Command) (at : ℕ) → command_at (tokens text) ≡ o → Local command_at (tokens text) o → outcome_answer text o ≡ Err (error.SqlText at) → Explains text (error.SqlText at)
+by_place : (text : List ℕ) (o : Outcome Command) (at : ℕ) → command_at (tokens text) ≡ o → Told command_at IsCommand (tokens text) o → outcome_answer text o ≡ Err (error.SqlText at) → Explains text (error.SqlText at)
 by_place text (Ok x) at o l e = inl (refused text x (error.SqlText at) o e)
 by_place text (Err (fault.Unexpected left)) at o l e =
     let same : length text - left ≡ at = cc in
@@ -56,7 +60,7 @@ by_key text (Err fault.Memory) o e = absurd (cc)
 pub explained : (text : List ℕ) (r : Result Statement SqlError) → Answers (λ s. s) but_memory r (reading text) → IfErr r (λ e. Explains text e)
 unfolding reading
 explained text (Ok s) e = tt
-explained text (Err (error.SqlText at)) e = by_place text (command_at (tokens text)) at refl (local_command (tokens text)) e
+explained text (Err (error.SqlText at)) e = by_place text (command_at (tokens text)) at refl (tells_command.tell (tokens text)) e
 explained text (Err error.Limit) e = by_limit text (command_at (tokens text)) refl e
 explained text (Err error.KeyUnknown) e = by_key text (command_at (tokens text)) refl e
 explained text (Err error.NoMemory) e = tt

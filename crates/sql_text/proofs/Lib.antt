@@ -1,10 +1,11 @@
 pub mod Answered
 pub mod Explained
-pub mod Found
-pub mod FoundRules
 pub mod Limits
-pub mod Local
 pub mod Only
 pub mod OnlyRules
+pub mod Outcomes
 pub mod Repeats
+pub mod TokenKinds
+pub mod Told
+pub mod ToldRules
 pub mod Turns

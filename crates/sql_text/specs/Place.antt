@@ -20,9 +20,14 @@ SameHead _ _ = ⊥
 abbrev pub IsDead : List Lexeme → List Lexeme → Type 0
 IsDead front bad = (more : List Lexeme) (c : Command) → length (front ++ more) ≤ 32767 → SameHead bad more → IsStatement c (front ++ more) → ⊥
 
--- at this offset stands a token, or the end, that no statement can have there
+-- some statement's tokens begin with these
+abbrev pub Begins : List Lexeme → Type 0
+Begins front = (c : Command) × (more : List Lexeme) × IsStatement c (front ++ more)
+
+-- at this offset stands the first token, or the end, that no statement can have there: the tokens before it begin a
+-- statement, and with it they begin none
 abbrev pub IsStuck : List ℕ → ℕ → Type 0
-IsStuck text at = (front : List Lexeme) × (bad : List Lexeme) × (tokens text ≡ front ++ bad) × (at ≡ length text - place bad) × IsDead front bad
+IsStuck text at = (front : List Lexeme) × (bad : List Lexeme) × (tokens text ≡ front ++ bad) × (at ≡ length text - place bad) × Begins front × IsDead front bad
 
 -- the text is a statement that is refused so by what is checked behind the grammar
 abbrev pub IsRefused : List ℕ → SqlError → Type 0

@@ -3,8 +3,9 @@
 /// Why a text is refused.
 #[derive(Clone, Copy, Debug, PartialEq, Eq)]
 pub enum SqlError {
-    /// No statement has at this offset the token that stands there, or ends there; or else the
-    /// first length of 0, or the first name that repeats one of its list, stands there.
+    /// At this offset stands the first token that no statement can have there, or the end where
+    /// none can end: the tokens before it begin a statement, and with it they begin none. Or else
+    /// the first length of 0, or the first name that repeats one of its list, stands there.
     SqlText { at: usize },
     /// The text is over 32,767 bytes, nested over 64 deep, or over a limit of markers, columns,
     /// key columns, selected names or lengths.

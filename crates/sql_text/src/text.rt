@@ -69,19 +69,21 @@ fn read<'a>(alloc: Global, text: &'a [u8]) -> Result<Statement<'a>, SqlError>
 
 /// The statement that a text is. Its names and literals borrow the text as it spells them.
 ///
-/// A text over 32,767 bytes is `Limit`. Else the tokens are read from left to right, and
-/// parentheses and NOTs nested over 64 deep are `Limit` where they are met. What is in the
-/// grammar is then checked: more than 128 markers, 64 columns, 4 columns of the key or 64
-/// selected names, or a length over 2,000, are `Limit`; then the first length of 0 is `SqlText`;
-/// and then a column or a column of the key that repeats one of its list is `SqlText`, and a key
-/// that names no column is `KeyUnknown`.
+/// A text over 32,767 bytes is `Limit`. Else the tokens are read from left to right, up to the
+/// first that no statement can have there, or the end where none can end: that is `SqlText`, and
+/// the tokens before it begin a statement. Parentheses and NOTs nested over 64 deep are `Limit`
+/// where they are met. What is in the grammar is then checked: more than 128 markers, 64 columns,
+/// 4 columns of the key or 64 selected names, or a length over 2,000, are `Limit`; then the first
+/// length of 0 is `SqlText`; and then a column or a column of the key that repeats one of its list
+/// is `SqlText`, and a key that names no column is `KeyUnknown`.
 pub fn parse<'a>(alloc: Global, text: &'a str) -> Result<Statement<'a>, SqlError>
     ensures too_long { 32767 < length text.now → result ≡ Err error.Limit }
     // What is parsed is in the grammar.
     ensures found { IfOk result (λ s. IsStatement s.command (tokens text.now) × (spec.answer text.now s.command ≡ Ok s)) }
     // What is in the grammar is parsed, or refused by what is checked behind it.
     ensures only { (c : Tree) → length text.now ≤ 32767 → IsStatement c (tokens text.now) → Answers (λ s. s) but_memory result (spec.answer text.now c) }
-    // What is refused is refused for a reason that stands where it says.
+    // What is refused is refused for a reason that stands where it says: at the first token that
+    // no statement can have there, at what a check refuses, or for a limit.
     ensures refused { IfErr result (λ e. Explains text.now e) }
     ensures exact { length text.now ≤ 32767 → Answers (λ s. s) but_memory result (spec.reading text.now) }
 {

@@ -2,7 +2,7 @@ use Rattle.std.proofs.Common.{[]}
 use Rattle.sql_lex.specs.Tokens.{tokens}
 use Rattle.sql_text.specs.Rules.{command_at}
 use Rattle.sql_text.proofs.Answered.{few_tokens}
-use Rattle.sql_text.proofs.Found.{ok_parts}
+use Rattle.sql_text.proofs.Outcomes.{ok_parts}
 use Rattle.sql_text.proofs.OnlyRules.{command_only}
 use Rattle.sql_text.proofs.laws.one_statement.Goals as goal
 
