@@ -56,11 +56,11 @@ value_shorter (literal.Bytes z) ts rest is = is_length _ ts rest is
 value_shorter (literal.Marker n) ts rest is = is_length _ ts rest is
 value_shorter literal.Null ts rest is = is_length _ ts rest is
 
-term_shorter : (a : Term) (ts rest : List Lexeme) → IsTerm a ts rest → length rest < length ts
+pub term_shorter : (a : Term) (ts rest : List Lexeme) → IsTerm a ts rest → length rest < length ts
 term_shorter (term.Column n) ts rest is = is_length _ ts rest is
 term_shorter (term.Value v) ts rest is = value_shorter v ts rest is
 
-operation_shorter : (o : Operation) (ts rest : List Lexeme) → IsOperation o ts rest → length rest < length ts
+pub operation_shorter : (o : Operation) (ts rest : List Lexeme) → IsOperation o ts rest → length rest < length ts
 operation_shorter operation.Add ts rest is = is_length _ ts rest is
 operation_shorter operation.Subtract ts rest (n, is) = is_length _ ts rest is
 
@@ -71,7 +71,7 @@ addends_length (x ∷ xs) ts rest (mid, o, (after, a, m)) = omega (arith, operat
 sum_shorter : (s : Sum) (ts rest : List Lexeme) → IsSum s ts rest → length rest < length ts
 sum_shorter s ts rest (mid, a, m) = omega (arith, term_shorter s.first ts mid a, addends_length s.rest mid rest m)
 
-assignment_shorter : (a : Assignment) (ts rest : List Lexeme) → IsAssignment a ts rest → length rest < length ts
+pub assignment_shorter : (a : Assignment) (ts rest : List Lexeme) → IsAssignment a ts rest → length rest < length ts
 assignment_shorter a ts rest (mid, n, (after, e, s)) = omega (arith, is_length _ ts mid n, is_length _ mid after e, sum_shorter a.sum after rest s)
 
 within_shorter : (n k : ℕ) (ts rest : List Lexeme) → (The w.Open ⨾ (IsLength n k ⨾ The w.Close)) ts rest → length rest < length ts
@@ -89,13 +89,13 @@ nullable_within : (b : Bool) (ts rest : List Lexeme) → IsNullable b ts rest �
 nullable_within true ts rest same = let e : length ts ≡ length rest = ap length same in omega arith
 nullable_within false ts rest (mid, n, u) = omega (arith, is_length _ ts mid n, is_length _ mid rest u)
 
-definition_shorter : (d : Definition) (ts rest : List Lexeme) → IsDefinition d ts rest → length rest < length ts
+pub definition_shorter : (d : Definition) (ts rest : List Lexeme) → IsDefinition d ts rest → length rest < length ts
 definition_shorter d ts rest (mid, n, (after, c, b)) = omega (arith, at_length d.left _ ts mid n, type_shorter d.column_type mid after c, nullable_within d.nullable after rest b)
 
-key_column_shorter : (k : KeyColumn) (ts rest : List Lexeme) → IsKeyColumn k ts rest → length rest < length ts
+pub key_column_shorter : (k : KeyColumn) (ts rest : List Lexeme) → IsKeyColumn k ts rest → length rest < length ts
 key_column_shorter k ts rest is = at_length k.left _ ts rest is
 
-name_shorter : (n : List ℕ) (ts rest : List Lexeme) → IsName n ts rest → length rest < length ts
+pub name_shorter : (n : List ℕ) (ts rest : List Lexeme) → IsName n ts rest → length rest < length ts
 name_shorter n ts rest is = is_length _ ts rest is
 
 -- ---- values and sums
@@ -168,7 +168,7 @@ sum_only s ts rest fits stops (mid, a, m) =
 
 module _ (R : Predicate → List Lexeme → List Lexeme → Type 0)
     (shorter : (p : Predicate) (ts rest : List Lexeme) → R p ts rest → length rest < length ts) where
-  all_shorter : (p : Predicate) (ts rest : List Lexeme) → IsAll R p ts rest → length rest < length ts
+  pub all_shorter : (p : Predicate) (ts rest : List Lexeme) → IsAll R p ts rest → length rest < length ts
   all_shorter p ts rest (ps, same, m) = list_shorter R (The w.And) shorter (is_length (t.Fixed w.And)) ps ts rest m
 
   any_shorter : (p : Predicate) (ts rest : List Lexeme) → IsAny R p ts rest → length rest < length ts
@@ -250,7 +250,7 @@ module _ (neg : Parser Predicate) (R : Predicate → List Lexeme → List Lexeme
   level_only p ts rest fits (g.null {n = n} (mid, (k, same), (after, i, u))) = rw (same, may_again w.Is mid after i) (null_only n after rest u)
   level_only p ts rest fits (g.not_null {n = n} (mid, (k, same), (after, i, (last, j, u)))) = rw (same, may_again w.Is mid after i) (not_null_only n after last rest j u)
 
-nested_shorter : (depth : ℕ) (p : Predicate) (ts rest : List Lexeme) → IsNested depth p ts rest → length rest < length ts
+pub nested_shorter : (depth : ℕ) (p : Predicate) (ts rest : List Lexeme) → IsNested depth p ts rest → length rest < length ts
 nested_shorter zero p ts rest r = absurd r
 nested_shorter (suc depth) p ts rest r = primary_shorter (IsNested depth) (nested_shorter depth) p ts rest r
 

@@ -1,10 +1,12 @@
 -- What a parser takes is spelled so; where it stops no statement goes on with that token, though one goes on otherwise.
 -- What it does depends on what it takes and the token behind that.
-use Rattle.std.proofs.Common.{◌≡◌, ℕ, zero, suc, Bool, true, false, cond, List, [], ◌∷◌, ◌++◌, refl, sym, ap, subst, ◌∙◌, Ok, Err, Option, Some, None, append_assoc}
+use Rattle.std.proofs.Common.{◌≡◌, ◌≤◌, ◌<◌, ◌+◌, ℕ, zero, suc, Bool, true, false, cond, List, [], ◌∷◌, ◌++◌, length, refl, sym, ap, subst, ◌∙◌, Ok, Err, Option, Some, None, append_assoc, arith}
+use Rattle.std.proofs.lemmas.List.{length-append}
 use Rattle.sql_lex.specs.declared.terminal.Terminal.{Terminal}
 use Rattle.sql_lex.specs.declared.token.Token.{Token}
 use Rattle.sql_lex.specs.declared.token.Token.TheVariants as t
 use Rattle.sql_lex.specs.Tokens.{Lexeme}
+use Rattle.sql_text.specs.declared.fault.Fault.{Fault}
 use Rattle.sql_text.specs.declared.fault.Fault.TheVariants as fault
 use Rattle.sql_text.specs.Grammar.{◌⨾◌, Nothing, Is, The, IsList}
 use Rattle.sql_text.specs.Place.{SameHead}
@@ -29,20 +31,26 @@ infixr 10 ◌⇒◌
 abbrev pub ◌⇒◌ : {B : Type 0} → (List Lexeme → List Lexeme → Type 0) → Rule B → Rule B
 (S ⇒ T) y mid rest = (ts : List Lexeme) → S ts mid → T y ts rest
 
-abbrev pub Told : {A : Type 0} → Parser A → Rule A → List Lexeme → Outcome A → Type 0
-Told p R ts (Ok x) = (front : List Lexeme) × (ts ≡ front ++ x.1) × ((more : List Lexeme) → R x.0 (front ++ more) more) × ((more : List Lexeme) → SameHead x.1 more → p (front ++ more) ≡ Ok (x.0, more))
-Told p R ts (Err (fault.Unexpected at)) = (front : List Lexeme) × (bad : List Lexeme) × (ts ≡ front ++ bad) × (at ≡ place bad) × GoesOn R front × ((more : List Lexeme) → SameHead bad more → p (front ++ more) ≡ Err (fault.Unexpected (place more)))
-Told p R ts (Err e) = Unit {0}
+abbrev pub IsSome : List Lexeme → Type 0
+IsSome [] = ⊥
+IsSome (l ∷ ts) = Unit {0}
 
-pub record Tells {A : Type 0} (p : Parser A) (R : Rule A) : Type 0 where
-  pub tell : (ts : List Lexeme) → Told p R ts (p ts)
+-- A nesting that is too deep is of the rule where this is `Deeper`, and there are less tokens than the number.
+abbrev pub Told : {A : Type 0} → Type 0 → ℕ → Parser A → Rule A → List Lexeme → Outcome A → Type 0
+Told Deeper n p R ts (Ok x) = (front : List Lexeme) × (ts ≡ front ++ x.1) × ((more : List Lexeme) → R x.0 (front ++ more) more) × ((more : List Lexeme) → SameHead x.1 more → p (front ++ more) ≡ Ok (x.0, more))
+Told Deeper n p R ts (Err (fault.Unexpected at)) = (front : List Lexeme) × (bad : List Lexeme) × (ts ≡ front ++ bad) × (at ≡ place bad) × GoesOn R front × ((more : List Lexeme) → SameHead bad more → p (front ++ more) ≡ Err (fault.Unexpected (place more)))
+Told Deeper n p R ts (Err fault.Deep) = Deeper → length ts < n → (front : List Lexeme) × (rest : List Lexeme) × IsSome front × (ts ≡ front ++ rest) × GoesOn R front × ((more : List Lexeme) → p (front ++ more) ≡ Err fault.Deep)
+Told Deeper n p R ts (Err fault.Memory) = Unit {0}
 
-abbrev pub Good : {A : Type 0} → Parser A → Rule A → Type 0
-Good p R = Tells p R × Exists R
+pub record Tells {A : Type 0} (Deeper : Type 0) (n : ℕ) (p : Parser A) (R : Rule A) : Type 0 where
+  pub tell : (ts : List Lexeme) → Told Deeper n p R ts (p ts)
 
--- the parser stops at some token
+abbrev pub Good : {A : Type 0} → Type 0 → ℕ → Parser A → Rule A → Type 0
+Good Deeper n p R = Tells Deeper n p R × Exists R
+
+-- the parser does not read all
 abbrev pub Fails : {A : Type 0} → Parser A → Type 0
-Fails p = (ts : List Lexeme) × (at : ℕ) × (p ts ≡ Err (fault.Unexpected at))
+Fails p = (ts : List Lexeme) × (f : Fault) × (p ts ≡ Err f)
 
 -- ---- one parser after the other
 
@@ -52,6 +60,17 @@ same_behind (l ∷ front) bad more h = refl
 
 pub head_append : (whole front bad more : List Lexeme) → whole ≡ front ++ bad → SameHead bad more → SameHead whole (front ++ more)
 head_append whole front bad more e h = let P : List Lexeme → Type 0 = λ u. SameHead u (front ++ more) in subst P (sym e) (same_behind front bad more h)
+
+some_behind : (front more : List Lexeme) → IsSome more → IsSome (front ++ more)
+some_behind [] more some = some
+some_behind (l ∷ front) more some = tt
+
+head_of : (front rest more : List Lexeme) → IsSome front → SameHead (front ++ rest) (front ++ more)
+head_of [] rest more some = absurd some
+head_of (l ∷ front) rest more some = refl
+
+pub head_some : (whole front rest more : List Lexeme) → whole ≡ front ++ rest → IsSome front → SameHead whole (front ++ more)
+head_some whole front rest more e some = let P : List Lexeme → Type 0 = λ u. SameHead u (front ++ more) in subst P (sym e) (head_of front rest more some)
 
 module _ {A B : Type 0} (R : Rule A) (T : Rule B) where
   -- what one takes and what the next takes are taken together
@@ -67,17 +86,25 @@ module _ {A B : Type 0} (R : Rule A) (T : Rule B) where
       let P : List Lexeme → List Lexeme → Type 0 = λ u follow. T n.0 (front ++ u) follow in
       (n.0, more ++ n.1, λ follow. subst (λ u. P u follow) (sym (append_assoc more n.1 follow)) (n.2 follow (front ++ (more ++ (n.1 ++ follow))) (found (n.1 ++ follow))))
 
-module _ {A B : Type 0} (p : Parser A) (f : A → Parser B) (R : Rule A) (T : Rule B)
-    (told : Tells p R) (next : (x : A) → Tells (f x) (R x ⇒ T)) (rest : Fails p → (x : A) → Exists (R x ⇒ T)) where
-  after : (ts : List Lexeme) (x : A × List Lexeme) (r : Outcome B) → Told p R ts (Ok x) → Told (f x.0) (R x.0 ⇒ T) x.1 r → Told (p >>= f) T ts r
-  after ts x (Ok y) (front, same, found, stays) (front', same', found', stays') = (
+-- what is left is no more than there was
+told_length : {A : Type 0} (D : Type 0) (n : ℕ) (p : Parser A) (R : Rule A) (ts : List Lexeme) (x : A) (rest : List Lexeme) → Told D n p R ts (Ok (x, rest)) → length rest ≤ length ts
+told_length D n p R ts x rest (front, same, found, stays) = let e : length ts ≡ length front + length rest = ap length same ∙ length-append front rest in omega arith
+
+pub tells_length : {D : Type 0} {A : Type 0} (n : ℕ) (p : Parser A) (R : Rule A) → Tells D n p R → (ts : List Lexeme) (x : A) (rest : List Lexeme) → p ts ≡ Ok (x, rest) → length rest ≤ length ts
+tells_length {D} {A} n p R told ts x rest e = let P : Outcome A → Type 0 = λ o. Told D n p R ts o in told_length D n p R ts x rest (subst P e (told.tell ts))
+
+module _ {D : Type 0} {A B : Type 0} (n m : ℕ) (p : Parser A) (f : A → Parser B) (R : Rule A) (T : Rule B)
+    (told : Tells D n p R) (next : (x : A) → Tells D m (f x) (R x ⇒ T)) (others : Fails p → (x : A) → Exists (R x ⇒ T))
+    (room : (ts : List Lexeme) (x : A) (rest : List Lexeme) → p ts ≡ Ok (x, rest) → length ts < n → length rest < m) where
+  after : (ts : List Lexeme) (x : A × List Lexeme) (r : Outcome B) → p ts ≡ Ok x → Told D n p R ts (Ok x) → Told D m (f x.0) (R x.0 ⇒ T) x.1 r → Told D n (p >>= f) T ts r
+  after ts x (Ok y) e (front, same, found, stays) (front', same', found', stays') = (
     front ++ front',
     same ∙ ap (λ u. front ++ u) same' ∙ sym (append_assoc front front' y.1),
     λ more. joined R T x.0 y.0 front front' more more found (found' more),
     λ more h. ap (λ u. and_then (p u) f) (append_assoc front front' more)
         ∙ ap (λ (o : Outcome A). and_then o f) (stays (front' ++ more) (head_append x.1 front' y.1 more same' h)) ∙ stays' more h,
   )
-  after ts x (Err (fault.Unexpected at)) (front, same, found, stays) (front', bad, same', is, goes, stays') = (
+  after ts x (Err (fault.Unexpected at)) e (front, same, found, stays) (front', bad, same', is, goes, stays') = (
     front ++ front',
     bad,
     same ∙ ap (λ u. front ++ u) same' ∙ sym (append_assoc front front' bad),
@@ -86,56 +113,82 @@ module _ {A B : Type 0} (p : Parser A) (f : A → Parser B) (R : Rule A) (T : Ru
     λ more h. ap (λ u. and_then (p u) f) (append_assoc front front' more)
         ∙ ap (λ (o : Outcome A). and_then o f) (stays (front' ++ more) (head_append x.1 front' bad more same' h)) ∙ stays' more h,
   )
-  after ts x (Err fault.Deep) l m = tt
-  after ts x (Err fault.Memory) l m = tt
+  after ts x (Err fault.Deep) e (front, same, found, stays) deep = λ deeper small.
+      let r = deep deeper (room ts x.0 x.1 e small) in (
+        front ++ r.0,
+        r.1,
+        some_behind front r.0 r.2,
+        same ∙ ap (λ u. front ++ u) r.3 ∙ sym (append_assoc front r.0 r.1),
+        (r.4.0, r.4.1, λ follow. joined R T x.0 r.4.0 front r.0 (r.4.1 ++ follow) follow found (r.4.2 follow)),
+        λ more. ap (λ u. and_then (p u) f) (append_assoc front r.0 more)
+            ∙ ap (λ (o : Outcome A). and_then o f) (stays (r.0 ++ more) (head_some x.1 r.0 r.1 more r.3 r.2)) ∙ r.5 more,
+      )
+  after ts x (Err fault.Memory) e l deep = tt
 
-  bound : (ts : List Lexeme) (o : Outcome A) → p ts ≡ o → Told p R ts o → Told (p >>= f) T ts (and_then o f)
-  bound ts (Ok x) e l = after ts x (f x.0 x.1) l ((next x.0).tell x.1)
+  bound : (ts : List Lexeme) (o : Outcome A) → p ts ≡ o → Told D n p R ts o → Told D n (p >>= f) T ts (and_then o f)
+  bound ts (Ok x) e l = after ts x (f x.0 x.1) e l ((next x.0).tell x.1)
   bound ts (Err (fault.Unexpected at)) e (front, bad, same, is, goes, stays) =
-      (front, bad, same, is, ended R T front goes (rest (ts, at, e)), λ more h. ap (λ (o : Outcome A). and_then o f) (stays more h))
-  bound ts (Err fault.Deep) e l = tt
+      (front, bad, same, is, ended R T front goes (others (ts, fault.Unexpected at, e)), λ more h. ap (λ (o : Outcome A). and_then o f) (stays more h))
+  bound ts (Err fault.Deep) e deep = λ deeper small.
+      let r = deep deeper small in
+      (r.0, r.1, r.2, r.3, ended R T r.0 r.4 (others (ts, fault.Deep, e)), λ more. ap (λ (o : Outcome A). and_then o f) (r.5 more))
   bound ts (Err fault.Memory) e l = tt
 
-  pub tells_bind : Tells (p >>= f) T
-  tells_bind = record { tell = λ ts. bound ts (p ts) refl (told.tell ts) }
+  pub tells_bind_less : Tells D n (p >>= f) T
+  tells_bind_less = record { tell = λ ts. bound ts (p ts) refl (told.tell ts) }
 
-pub tells_then : {A B : Type 0} (p : Parser A) (f : A → Parser B) (R : Rule A) (T : Rule B) → Tells p R → ((x : A) → Good (f x) (R x ⇒ T)) → Tells (p >>= f) T
+pub tells_bind : {D : Type 0} {A B : Type 0} {n : ℕ} (p : Parser A) (f : A → Parser B) (R : Rule A) (T : Rule B)
+    → Tells D n p R → ((x : A) → Tells D n (f x) (R x ⇒ T)) → (Fails p → (x : A) → Exists (R x ⇒ T)) → Tells D n (p >>= f) T
+tells_bind {n = n} p f R T told next others = tells_bind_less n n p f R T told next others (λ ts x rest e small. omega (arith, tells_length n p R told ts x rest e))
+
+pub tells_then : {D : Type 0} {A B : Type 0} {n : ℕ} (p : Parser A) (f : A → Parser B) (R : Rule A) (T : Rule B) → Tells D n p R → ((x : A) → Good D n (f x) (R x ⇒ T)) → Tells D n (p >>= f) T
 tells_then p f R T told next = tells_bind p f R T told (λ x. (next x).0) (λ _ x. (next x).1)
 
-pub good_bind : {A B : Type 0} (p : Parser A) (f : A → Parser B) (R : Rule A) (T : Rule B) → Good p R → ((x : A) → Good (f x) (R x ⇒ T)) → Good (p >>= f) T
+pub good_bind : {D : Type 0} {A B : Type 0} {n : ℕ} (p : Parser A) (f : A → Parser B) (R : Rule A) (T : Rule B) → Good D n p R → ((x : A) → Good D n (f x) (R x ⇒ T)) → Good D n (p >>= f) T
 good_bind p f R T good next = (tells_then p f R T good.0 next, ended R T [] good.1 (λ x. (next x).1))
 
-pub tells_pure : {A : Type 0} (a : A) (T : Rule A) → ((ts : List Lexeme) → T a ts ts) → Tells (pure a) T
+pub tells_pure : {D : Type 0} {A : Type 0} {n : ℕ} (a : A) (T : Rule A) → ((ts : List Lexeme) → T a ts ts) → Tells D n (pure a) T
 tells_pure a T is = record { tell = λ ts. ([], refl, is, λ more h. refl) }
 
-pub good_pure : {A : Type 0} (a : A) (T : Rule A) → ((ts : List Lexeme) → T a ts ts) → Good (pure a) T
+pub good_pure : {D : Type 0} {A : Type 0} {n : ℕ} (a : A) (T : Rule A) → ((ts : List Lexeme) → T a ts ts) → Good D n (pure a) T
 good_pure a T is = (tells_pure a T is, (a, [], is))
 
-pub tells_deep : {A : Type 0} (T : Rule A) → Tells {A = A} (λ ts. Err fault.Deep) T
-tells_deep T = record { tell = λ ts. tt }
+-- no tokens are less than none
+pub tells_none : {D : Type 0} {A : Type 0} (p : Parser A) (T : Rule A) → ((ts : List Lexeme) → p ts ≡ Err fault.Deep) → Tells D 0 p T
+tells_none {D} {A} p T is = record { tell = λ ts. let P : Outcome A → Type 0 = λ o. Told D 0 p T ts o in subst P (sym (is ts)) (λ deeper small. absurd (omega arith)) }
+
+-- and so for less tokens
+pub tells_less : {D : Type 0} {A : Type 0} (n m : ℕ) (p : Parser A) (R : Rule A) → m ≤ n → Tells D n p R → Tells D m p R
+tells_less {D} {A} n m p R less told = record { tell = λ ts. weaker ts (p ts) (told.tell ts) }
+  where
+    weaker : (ts : List Lexeme) (o : Outcome A) → Told D n p R ts o → Told D m p R ts o
+    weaker ts (Ok x) l = l
+    weaker ts (Err (fault.Unexpected at)) l = l
+    weaker ts (Err fault.Deep) deep = λ deeper small. let room : length ts < n = omega arith in deep deeper room
+    weaker ts (Err fault.Memory) l = l
 
 -- what is of one rule is of another
-pub tells_as : {A : Type 0} (p : Parser A) (R S : Rule A) → Tells p R → ((x : A) (ts rest : List Lexeme) → R x ts rest → S x ts rest) → Tells p S
-tells_as {A} p R S told same = record { tell = λ ts. changed ts (p ts) (told.tell ts) }
+pub tells_as : {D : Type 0} {A : Type 0} {n : ℕ} (p : Parser A) (R S : Rule A) → Tells D n p R → ((x : A) (ts rest : List Lexeme) → R x ts rest → S x ts rest) → Tells D n p S
+tells_as {D} {A} {n} p R S told same = record { tell = λ ts. changed ts (p ts) (told.tell ts) }
   where
-    changed : (ts : List Lexeme) (o : Outcome A) → Told p R ts o → Told p S ts o
+    changed : (ts : List Lexeme) (o : Outcome A) → Told D n p R ts o → Told D n p S ts o
     changed ts (Ok x) (front, e, found, stays) = (front, e, λ more. same x.0 (front ++ more) more (found more), stays)
     changed ts (Err (fault.Unexpected at)) (front, bad, e, is, goes, stays) = (front, bad, e, is, (goes.0, goes.1, λ follow. same goes.0 (front ++ (goes.1 ++ follow)) follow (goes.2 follow)), stays)
-    changed ts (Err fault.Deep) l = tt
+    changed ts (Err fault.Deep) deep = λ deeper small. let r = deep deeper small in (r.0, r.1, r.2, r.3, (r.4.0, r.4.1, λ follow. same r.4.0 (r.0 ++ (r.4.1 ++ follow)) follow (r.4.2 follow)), r.5)
     changed ts (Err fault.Memory) l = tt
 
 -- what is found is of the rule
-pub tells_found : {A : Type 0} (p : Parser A) (R : Rule A) → Tells p R → (ts : List Lexeme) (x : A) (rest : List Lexeme) → p ts ≡ Ok (x, rest) → R x ts rest
-tells_found {A} p R told ts x rest e =
-    let P : Outcome A → Type 0 = λ o. Told p R ts o in
+pub tells_found : {D : Type 0} {A : Type 0} {n : ℕ} (p : Parser A) (R : Rule A) → Tells D n p R → (ts : List Lexeme) (x : A) (rest : List Lexeme) → p ts ≡ Ok (x, rest) → R x ts rest
+tells_found {D} {A} {n} p R told ts x rest e =
+    let P : Outcome A → Type 0 = λ o. Told D n p R ts o in
     let l = subst P e (told.tell ts) in
     let Q : List Lexeme → Type 0 = λ u. R x u rest in
     subst Q (sym l.1) (l.2 rest)
 
 -- ---- single tokens
 
-module _ {A : Type 0} (f : Token → Option A) (R : Rule A) (is : (l : Lexeme) (a : A) (more : List Lexeme) → f l.1 ≡ Some a → R a (l ∷ more) more) (some : Exists R) where
-  told_taken : (l : Lexeme) (ts : List Lexeme) (o : Option A) → f l.1 ≡ o → Told (expect f) R (l ∷ ts) (taken o l ts)
+module _ (D : Type 0) (n : ℕ) {A : Type 0} (f : Token → Option A) (R : Rule A) (is : (l : Lexeme) (a : A) (more : List Lexeme) → f l.1 ≡ Some a → R a (l ∷ more) more) (some : Exists R) where
+  told_taken : (l : Lexeme) (ts : List Lexeme) (o : Option A) → f l.1 ≡ o → Told D n (expect f) R (l ∷ ts) (taken o l ts)
   told_taken l ts (Some a) e = (l ∷ [], refl, λ more. is l a more e, λ more h. rw e refl)
   told_taken l ts None e = ([], l ∷ ts, refl, refl, some, λ more h. refused more h)
     where
@@ -143,7 +196,7 @@ module _ {A : Type 0} (f : Token → Option A) (R : Rule A) (is : (l : Lexeme) (
       refused [] h = absurd h
       refused (m ∷ us) h = rw (← h, e) refl
 
-  told_expect : (ts : List Lexeme) → Told (expect f) R ts (expect f ts)
+  told_expect : (ts : List Lexeme) → Told D n (expect f) R ts (expect f ts)
   told_expect [] = ([], [], refl, refl, some, λ more h. none more h)
     where
       none : (more : List Lexeme) → SameHead [] more → expect f more ≡ Err (fault.Unexpected (place more))
@@ -151,11 +204,11 @@ module _ {A : Type 0} (f : Token → Option A) (R : Rule A) (is : (l : Lexeme) (
       none (m ∷ us) h = absurd h
   told_expect (l ∷ ts) = told_taken l ts (f l.1) refl
 
-  pub good_expect : Good (expect f) R
-  good_expect = (record { tell = told_expect }, some)
+pub good_expect : {D : Type 0} {n : ℕ} {A : Type 0} (f : Token → Option A) (R : Rule A) → ((l : Lexeme) (a : A) (more : List Lexeme) → f l.1 ≡ Some a → R a (l ∷ more) more) → Exists R → Good D n (expect f) R
+good_expect {D} {n} f R is some = (record { tell = told_expect D n f R is some }, some)
 
-module _ {A : Type 0} (f : Token → Option A) (R : Rule (A × ℕ)) (is : (l : Lexeme) (a : A) (more : List Lexeme) → f l.1 ≡ Some a → R (a, l.0) (l ∷ more) more) (some : Exists R) where
-  told_taken_at : (l : Lexeme) (ts : List Lexeme) (o : Option A) → f l.1 ≡ o → Told (expect_placed f) R (l ∷ ts) (taken_at o l ts)
+module _ (D : Type 0) (n : ℕ) {A : Type 0} (f : Token → Option A) (R : Rule (A × ℕ)) (is : (l : Lexeme) (a : A) (more : List Lexeme) → f l.1 ≡ Some a → R (a, l.0) (l ∷ more) more) (some : Exists R) where
+  told_taken_at : (l : Lexeme) (ts : List Lexeme) (o : Option A) → f l.1 ≡ o → Told D n (expect_placed f) R (l ∷ ts) (taken_at o l ts)
   told_taken_at l ts (Some a) e = (l ∷ [], refl, λ more. is l a more e, λ more h. rw e refl)
   told_taken_at l ts None e = ([], l ∷ ts, refl, refl, some, λ more h. refused more h)
     where
@@ -163,7 +216,7 @@ module _ {A : Type 0} (f : Token → Option A) (R : Rule (A × ℕ)) (is : (l : 
       refused [] h = absurd h
       refused (m ∷ us) h = rw (← h, e) refl
 
-  told_placed : (ts : List Lexeme) → Told (expect_placed f) R ts (expect_placed f ts)
+  told_placed : (ts : List Lexeme) → Told D n (expect_placed f) R ts (expect_placed f ts)
   told_placed [] = ([], [], refl, refl, some, λ more h. none more h)
     where
       none : (more : List Lexeme) → SameHead [] more → expect_placed f more ≡ Err (fault.Unexpected (place more))
@@ -171,16 +224,16 @@ module _ {A : Type 0} (f : Token → Option A) (R : Rule (A × ℕ)) (is : (l : 
       none (m ∷ us) h = absurd h
   told_placed (l ∷ ts) = told_taken_at l ts (f l.1) refl
 
-  pub good_placed : Good (expect_placed f) R
-  good_placed = (record { tell = told_placed }, some)
+pub good_placed : {D : Type 0} {n : ℕ} {A : Type 0} (f : Token → Option A) (R : Rule (A × ℕ)) → ((l : Lexeme) (a : A) (more : List Lexeme) → f l.1 ≡ Some a → R (a, l.0) (l ∷ more) more) → Exists R → Good D n (expect_placed f) R
+good_placed {D} {n} f R is some = (record { tell = told_placed D n f R is some }, some)
 
 -- the token of a rule, or nothing
 abbrev pub OrNothing : {A : Type 0} → Rule A → Rule (Option A)
 OrNothing R (Some a) = R a
 OrNothing R None = Nothing
 
-module _ {A : Type 0} (f : Token → Option A) (R : Rule A) (is : (l : Lexeme) (a : A) (more : List Lexeme) → f l.1 ≡ Some a → R a (l ∷ more) more) where
-  told_tried : (l : Lexeme) (ts : List Lexeme) (o : Option A) → f l.1 ≡ o → Told (attempt f) (OrNothing R) (l ∷ ts) (tried o l ts)
+module _ (D : Type 0) (n : ℕ) {A : Type 0} (f : Token → Option A) (R : Rule A) (is : (l : Lexeme) (a : A) (more : List Lexeme) → f l.1 ≡ Some a → R a (l ∷ more) more) where
+  told_tried : (l : Lexeme) (ts : List Lexeme) (o : Option A) → f l.1 ≡ o → Told D n (attempt f) (OrNothing R) (l ∷ ts) (tried o l ts)
   told_tried l ts (Some a) e = (l ∷ [], refl, λ more. is l a more e, λ more h. rw e refl)
   told_tried l ts None e = ([], refl, λ more. refl, λ more h. kept more h)
     where
@@ -188,7 +241,7 @@ module _ {A : Type 0} (f : Token → Option A) (R : Rule A) (is : (l : Lexeme) (
       kept [] h = absurd h
       kept (m ∷ us) h = rw (← h, e) refl
 
-  told_attempt : (ts : List Lexeme) → Told (attempt f) (OrNothing R) ts (attempt f ts)
+  told_attempt : (ts : List Lexeme) → Told D n (attempt f) (OrNothing R) ts (attempt f ts)
   told_attempt [] = ([], refl, λ more. refl, λ more h. none more h)
     where
       none : (more : List Lexeme) → SameHead [] more → attempt f more ≡ Ok (None, more)
@@ -196,14 +249,14 @@ module _ {A : Type 0} (f : Token → Option A) (R : Rule A) (is : (l : Lexeme) (
       none (m ∷ us) h = absurd h
   told_attempt (l ∷ ts) = told_tried l ts (f l.1) refl
 
-  pub tells_attempt : Tells (attempt f) (OrNothing R)
-  tells_attempt = record { tell = told_attempt }
+pub tells_attempt : {D : Type 0} {n : ℕ} {A : Type 0} (f : Token → Option A) (R : Rule A) → ((l : Lexeme) (a : A) (more : List Lexeme) → f l.1 ≡ Some a → R a (l ∷ more) more) → Tells D n (attempt f) (OrNothing R)
+tells_attempt {D} {n} f R is = record { tell = told_attempt D n f R is }
 
 pub attempt_goes : {A : Type 0} (f : Token → Option A) → Fails (attempt f) → ⊥
 attempt_goes f ([], at, e) = cc
 attempt_goes {A} f (l ∷ ts, at, e) = goes (f l.1) e
   where
-    goes : (o : Option A) → tried o l ts ≡ Err (fault.Unexpected at) → ⊥
+    goes : (o : Option A) → tried o l ts ≡ Err at → ⊥
     goes (Some a) e = cc
     goes None e = cc
 
@@ -215,70 +268,70 @@ IsMay w false = Nothing
 abbrev eating : Bool → Lexeme → List Lexeme → Outcome Bool
 eating b l ts = cond b (Ok (true, ts)) (Ok (false, l ∷ ts))
 
-told_eaten : (w : Terminal) (l : Lexeme) (ts : List Lexeme) (b : Bool) → is_fixed w l.1 ≡ b → Told (eat (is_fixed w)) (IsMay w) (l ∷ ts) (eating b l ts)
-told_eaten w l ts true e = (l ∷ [], refl, λ more. (l.0, ap (λ tok. (l.0, tok) ∷ more) (eaten_is w l.1 e)), λ more h. rw e refl)
-told_eaten w l ts false e = ([], refl, λ more. refl, λ more h. kept more h)
+told_eaten : (D : Type 0) (n : ℕ) (w : Terminal) (l : Lexeme) (ts : List Lexeme) (b : Bool) → is_fixed w l.1 ≡ b → Told D n (eat (is_fixed w)) (IsMay w) (l ∷ ts) (eating b l ts)
+told_eaten D n w l ts true e = (l ∷ [], refl, λ more. (l.0, ap (λ tok. (l.0, tok) ∷ more) (eaten_is w l.1 e)), λ more h. rw e refl)
+told_eaten D n w l ts false e = ([], refl, λ more. refl, λ more h. kept more h)
   where
     kept : (more : List Lexeme) → SameHead (l ∷ ts) more → eat (is_fixed w) more ≡ Ok (false, more)
     kept [] h = absurd h
     kept (m ∷ us) h = rw (← h, e) refl
 
-told_may : (w : Terminal) (ts : List Lexeme) → Told (eat (is_fixed w)) (IsMay w) ts (eat (is_fixed w) ts)
-told_may w [] = ([], refl, λ more. refl, λ more h. none more h)
+told_may : (D : Type 0) (n : ℕ) (w : Terminal) (ts : List Lexeme) → Told D n (eat (is_fixed w)) (IsMay w) ts (eat (is_fixed w) ts)
+told_may D n w [] = ([], refl, λ more. refl, λ more h. none more h)
   where
     none : (more : List Lexeme) → SameHead [] more → eat (is_fixed w) more ≡ Ok (false, more)
     none [] h = refl
     none (m ∷ us) h = absurd h
-told_may w (l ∷ ts) = told_eaten w l ts (is_fixed w l.1) refl
+told_may D n w (l ∷ ts) = told_eaten D n w l ts (is_fixed w l.1) refl
 
-pub tells_may : (w : Terminal) → Tells (may w) (IsMay w)
+pub tells_may : {D : Type 0} {n : ℕ} (w : Terminal) → Tells D n (may w) (IsMay w)
 unfolding may
-tells_may w = record { tell = told_may w }
+tells_may {D} {n} w = record { tell = told_may D n w }
 
 pub may_goes : (w : Terminal) → Fails (may w) → ⊥
 unfolding may
 may_goes w ([], at, e) = cc
 may_goes w (l ∷ ts, at, e) = goes (is_fixed w l.1) e
   where
-    goes : (b : Bool) → eating b l ts ≡ Err (fault.Unexpected at) → ⊥
+    goes : (b : Bool) → eating b l ts ≡ Err at → ⊥
     goes true e = cc
     goes false e = cc
 
 -- a kind of token
-pub good_kind : {A : Type 0} (f : Token → Option A) (kind : A → Token) (a : A) → ((tok : Token) (b : A) → f tok ≡ Some b → tok ≡ kind b) → Good (expect f) (λ b. Is (kind b))
+pub good_kind : {D : Type 0} {A : Type 0} {n : ℕ} (f : Token → Option A) (kind : A → Token) (a : A) → ((tok : Token) (b : A) → f tok ≡ Some b → tok ≡ kind b) → Good D n (expect f) (λ b. Is (kind b))
 good_kind f kind a same = good_expect f (λ b. Is (kind b)) (λ l b more e. (l.0, ap (λ tok. (l.0, tok) ∷ more) (same l.1 b e))) (a, (0, kind a) ∷ [], λ follow. (0, refl))
 
-pub good_the : (w : Terminal) → Good (the w) (λ _. The w)
+pub good_the : {D : Type 0} {n : ℕ} (w : Terminal) → Good D n (the w) (λ _. The w)
 unfolding the
 good_the w = good_kind (as_fixed w) (λ _. t.Fixed w) tt (fixed_is w)
 
 -- one way with the token, and another without it
-pub tells_may_bind : {B : Type 0} (w : Terminal) (f : Bool → Parser B) (T : Rule B) → ((b : Bool) → Tells (f b) (IsMay w b ⇒ T)) → Tells (may w >>= f) T
+pub tells_may_bind : {D : Type 0} {B : Type 0} {n : ℕ} (w : Terminal) (f : Bool → Parser B) (T : Rule B) → ((b : Bool) → Tells D n (f b) (IsMay w b ⇒ T)) → Tells D n (may w >>= f) T
 tells_may_bind w f T next = tells_bind (may w) f (IsMay w) T (tells_may w) next (λ failed x. absurd (may_goes w failed))
 
-by_may : {B : Type 0} (w : Terminal) (p q : Parser B) (T : Rule B) → Tells p (The w ⇒ T) → Tells q T → (b : Bool) → Tells (cond b p q) (IsMay w b ⇒ T)
+by_may : {D : Type 0} {B : Type 0} {n : ℕ} (w : Terminal) (p q : Parser B) (T : Rule B) → Tells D n p (The w ⇒ T) → Tells D n q T → (b : Bool) → Tells D n (cond b p q) (IsMay w b ⇒ T)
 by_may w p q T with_it without true = with_it
 by_may w p q T with_it without false = tells_as q T (Nothing ⇒ T) without (λ x mid rest is ts same. let P : List Lexeme → Type 0 = λ u. T x u rest in subst P (sym same) is)
 
-pub tells_if : {B : Type 0} (w : Terminal) (p q : Parser B) (T : Rule B) → Tells p (The w ⇒ T) → Tells q T → Tells (may w >>= (λ b. cond b p q)) T
+pub tells_if : {D : Type 0} {B : Type 0} {n : ℕ} (w : Terminal) (p q : Parser B) (T : Rule B) → Tells D n p (The w ⇒ T) → Tells D n q T → Tells D n (may w >>= (λ b. cond b p q)) T
 tells_if w p q T with_it without = tells_may_bind w _ T (by_may w p q T with_it without)
 
 -- the end
-told_end : (ts : List Lexeme) → Told end_at (λ _. Nothing) ts (end_at ts)
+told_end : (D : Type 0) (n : ℕ) (ts : List Lexeme) → Told D n end_at (λ _. Nothing) ts (end_at ts)
 unfolding end_at
-told_end [] = ([], refl, λ more. refl, λ more h. none more h)
+told_end D n [] = ([], refl, λ more. refl, λ more h. none more h)
   where
     none : (more : List Lexeme) → SameHead [] more → end_at more ≡ Ok (tt, more)
     none [] h = refl
     none (m ∷ us) h = absurd h
-told_end (l ∷ ts) = ([], l ∷ ts, refl, refl, (tt, [], λ follow. refl), λ more h. some more h)
+told_end D n (l ∷ ts) = ([], l ∷ ts, refl, refl, (tt, [], λ follow. refl), λ more h. some more h)
   where
     some : (more : List Lexeme) → SameHead (l ∷ ts) more → end_at more ≡ Err (fault.Unexpected (place more))
     some [] h = absurd h
     some (m ∷ us) h = refl
 
-pub good_end : Good end_at (λ _. Nothing)
-good_end = (record { tell = told_end }, (tt, [], λ follow. refl))
+pub good_end : {D : Type 0} {n : ℕ} → Good D n end_at (λ _. Nothing)
+good_end {D} {n} = (record { tell = told_end D n }, (tt, [], λ follow. refl))
 
 -- ---- lists
 
@@ -291,8 +344,9 @@ one_more R Between End x (y ∷ ys) ts mid after rest r b (end, l, s) = (end, (m
 abbrev Behind : {A : Type 0} → Rule A → Rule Bool → List A → Rule (List A)
 Behind {A} R M found xs ts rest = (ys : List A) × (xs ≡ found ++ ys) × (IsList R (M true) ys ⨾ M false) ts rest
 
-module _ {A : Type 0} (item : Parser A) (more : Parser Bool) (R : Rule A) (M : Rule Bool) (told : Tells item R) (goes : Tells more M)
-    (end : (tail : List Lexeme) × ((follow : List Lexeme) → M false (tail ++ follow) follow)) (again : Fails more → Exists R) where
+module _ {D : Type 0} {A : Type 0} (item : Parser A) (more : Parser Bool) (R : Rule A) (M : Rule Bool) (told : Tells D longest item R) (goes : Tells D longest more M)
+    (end : (tail : List Lexeme) × ((follow : List Lexeme) → M false (tail ++ follow) follow)) (again : Fails more → Exists R)
+    (shorter : (x : A) (ts rest : List Lexeme) → R x ts rest → length rest < length ts) where
   -- behind an item the list can end
   one : (found : List A) (x : A) → Exists (R x ⇒ Behind R M found)
   one found x = (found ++ x ∷ [], end.0, λ follow ts r. (x ∷ [], refl, (end.0 ++ follow, r, end.1 follow)))
@@ -311,22 +365,29 @@ module _ {A : Type 0} (item : Parser A) (more : Parser Bool) (R : Rule A) (M : R
   by_end found x failed true = two found x (again failed)
   by_end found x failed false = (found ++ x ∷ [], [], λ follow mid e ts r. (x ∷ [], refl, (mid, r, e)))
 
-  turn : (n : ℕ) (found : List A) (x : A) → Tells (items_from item more n (found ++ x ∷ [])) (Behind R M (found ++ x ∷ [])) → (b : Bool)
-      → Tells (cond b (items_from item more n (found ++ x ∷ [])) (pure (found ++ x ∷ []))) (M b ⇒ (R x ⇒ Behind R M found))
+  turn : (n : ℕ) (found : List A) (x : A) → Tells D n (items_from item more n (found ++ x ∷ [])) (Behind R M (found ++ x ∷ [])) → (b : Bool)
+      → Tells D n (cond b (items_from item more n (found ++ x ∷ [])) (pure (found ++ x ∷ []))) (M b ⇒ (R x ⇒ Behind R M found))
   turn n found x next true = tells_as _ _ _ next (λ xs after rest is mid b ts r. (x ∷ is.0, is.1 ∙ append_assoc found (x ∷ []) is.0, one_more R (M true) (M false) x is.0 ts mid after rest r b is.2))
   turn n found x next false = tells_pure _ _ (λ rest mid e ts r. (x ∷ [], refl, (mid, r, e)))
 
-  tells_items_from : (n : ℕ) (found : List A) → Tells (items_from item more n found) (Behind R M found)
-  unfolding items_from
-  tells_items_from zero found = tells_deep _
-  tells_items_from (suc n) found = tells_bind item _ R _ told (λ x. tells_bind more _ M _ goes (turn n found x (tells_items_from n (found ++ x ∷ []))) (by_end found x)) (λ _ x. one found x)
+  behind_one : (n : ℕ) (found : List A) (x : A) → n ≤ longest → Tells D n (items_from item more n (found ++ x ∷ [])) (Behind R M (found ++ x ∷ []))
+      → Tells D n (more >>= (λ go. cond go (items_from item more n (found ++ x ∷ [])) (pure (found ++ x ∷ [])))) (R x ⇒ Behind R M found)
+  behind_one n found x fits next = tells_bind more _ M _ (tells_less longest n more M fits goes) (turn n found x next) (by_end found x)
 
-  pub tells_items : Tells (items item more) (λ xs. IsList R (M true) xs ⨾ M false)
+  tells_items_from : (n : ℕ) (found : List A) → n ≤ longest → Tells D n (items_from item more n found) (Behind R M found)
+  unfolding items_from
+  tells_items_from zero found fits = tells_none _ _ (λ ts. refl)
+  tells_items_from (suc n) found fits =
+      let room : n ≤ longest = omega arith in
+      tells_bind_less (suc n) n item _ R _ (tells_less longest (suc n) item R fits told) (λ x. behind_one n found x room (tells_items_from n (found ++ x ∷ []) room)) (λ _ x. one found x)
+      (λ ts x rest e small. omega (arith, shorter x ts rest (tells_found item R told ts x rest e)))
+
+  pub tells_items : Tells D longest (items item more) (λ xs. IsList R (M true) xs ⨾ M false)
   unfolding items
-  tells_items = tells_as _ _ _ (tells_items_from longest []) (λ xs ts rest is. let P : List A → Type 0 = λ ys. (IsList R (M true) ys ⨾ M false) ts rest in subst P (sym is.1) is.2)
+  tells_items = tells_as _ _ _ (tells_items_from longest [] (omega arith)) (λ xs ts rest is. let P : List A → Type 0 = λ ys. (IsList R (M true) ys ⨾ M false) ts rest in subst P (sym is.1) is.2)
 
 -- a list with this word between its items
-pub tells_list : {A : Type 0} (item : Parser A) (w : Terminal) (R : Rule A) → Tells item R → Tells (items item (may w)) (IsList R (The w))
-tells_list item w R told =
-    tells_as _ _ _ (tells_items item (may w) R (IsMay w) told (tells_may w) ([], λ follow. refl) (λ failed. absurd (may_goes w failed)))
+pub tells_list : {D : Type 0} {A : Type 0} (item : Parser A) (w : Terminal) (R : Rule A) → Tells D longest item R → ((x : A) (ts rest : List Lexeme) → R x ts rest → length rest < length ts) → Tells D longest (items item (may w)) (IsList R (The w))
+tells_list item w R told shorter =
+    tells_as _ _ _ (tells_items item (may w) R (IsMay w) told (tells_may w) ([], λ follow. refl) (λ failed. absurd (may_goes w failed)) shorter)
     (λ xs ts rest is. let P : List Lexeme → Type 0 = λ u. IsList R (The w) xs ts u in subst P is.2 is.1)

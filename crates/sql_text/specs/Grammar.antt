@@ -173,23 +173,32 @@ abbrev pub AreSelected : Columns → List Lexeme → List Lexeme → Type 0
 AreSelected columns.All = The w.Star
 AreSelected (columns.Named names) = AreNames names
 
-abbrev pub IsFilter : Option Predicate → List Lexeme → List Lexeme → Type 0
-IsFilter None = Nothing
-IsFilter (Some p) = The w.Where ⨾ IsPredicate p
+-- with predicates nested less deep than the number
+module _ (depth : ℕ) where
+  abbrev pub IsFilterUnder : Option Predicate → List Lexeme → List Lexeme → Type 0
+  IsFilterUnder None = Nothing
+  IsFilterUnder (Some p) = The w.Where ⨾ IsAny (IsNested depth) p
 
+  abbrev pub IsCommandUnder : Command → List Lexeme → List Lexeme → Type 0
+  IsCommandUnder (command.Create table definitions key) =
+      The w.Create ⨾ (The w.Table ⨾ (IsName table ⨾ (The w.Open
+      ⨾ (IsList IsDefinition (The w.Comma) definitions
+      ⨾ (The w.Comma ⨾ (The w.Primary ⨾ (The w.Key ⨾ (The w.Open ⨾ (IsList IsKeyColumn (The w.Comma) key ⨾ (The w.Close ⨾ The w.Close))))))))))
+  IsCommandUnder (command.Insert table listed values) =
+      The w.Insert ⨾ (The w.Into ⨾ (IsName table ⨾ (AreListed listed
+      ⨾ (The w.Values ⨾ (The w.Open ⨾ (IsList IsValue (The w.Comma) values ⨾ The w.Close))))))
+  IsCommandUnder (command.Update table assignments filter) =
+      The w.Update ⨾ (IsName table ⨾ (The w.Set ⨾ (IsList IsAssignment (The w.Comma) assignments ⨾ IsFilterUnder filter)))
+  IsCommandUnder (command.Delete table filter) = The w.Delete ⨾ (The w.From ⨾ (IsName table ⨾ IsFilterUnder filter))
+  IsCommandUnder (command.Select selected table filter) =
+      The w.Select ⨾ (AreSelected selected ⨾ (The w.From ⨾ (IsName table ⨾ IsFilterUnder filter)))
+
+abbrev pub IsFilter : Option Predicate → List Lexeme → List Lexeme → Type 0
+IsFilter = IsFilterUnder 65
+
+-- with predicates nested at most 64 deep
 abbrev pub IsCommand : Command → List Lexeme → List Lexeme → Type 0
-IsCommand (command.Create table definitions key) =
-    The w.Create ⨾ (The w.Table ⨾ (IsName table ⨾ (The w.Open
-    ⨾ (IsList IsDefinition (The w.Comma) definitions
-    ⨾ (The w.Comma ⨾ (The w.Primary ⨾ (The w.Key ⨾ (The w.Open ⨾ (IsList IsKeyColumn (The w.Comma) key ⨾ (The w.Close ⨾ The w.Close))))))))))
-IsCommand (command.Insert table listed values) =
-    The w.Insert ⨾ (The w.Into ⨾ (IsName table ⨾ (AreListed listed
-    ⨾ (The w.Values ⨾ (The w.Open ⨾ (IsList IsValue (The w.Comma) values ⨾ The w.Close))))))
-IsCommand (command.Update table assignments filter) =
-    The w.Update ⨾ (IsName table ⨾ (The w.Set ⨾ (IsList IsAssignment (The w.Comma) assignments ⨾ IsFilter filter)))
-IsCommand (command.Delete table filter) = The w.Delete ⨾ (The w.From ⨾ (IsName table ⨾ IsFilter filter))
-IsCommand (command.Select selected table filter) =
-    The w.Select ⨾ (AreSelected selected ⨾ (The w.From ⨾ (IsName table ⨾ IsFilter filter)))
+IsCommand = IsCommandUnder 65
 
 -- the tokens are this statement, and no more
 abbrev pub IsStatement : Command → List Lexeme → Type 0
