@@ -1,5 +1,4 @@
--- What a parser takes is spelled so; where it stops no statement goes on with that token, though one goes on otherwise.
--- What it does depends on what it takes and the token behind that.
+-- What is known of a parser and its rule of the grammar, closed under one parser after the other.
 use Rattle.std.proofs.Common.{◌≡◌, ◌≤◌, ◌<◌, ◌+◌, ℕ, zero, suc, Bool, true, false, cond, List, [], ◌∷◌, ◌++◌, length, refl, sym, ap, subst, ◌∙◌, Ok, Err, Option, Some, None, append_assoc, arith}
 use Rattle.std.proofs.lemmas.List.{length-append}
 use Rattle.sql_lex.specs.declared.terminal.Terminal.{Terminal}
@@ -31,24 +30,30 @@ infixr 10 ◌⇒◌
 abbrev pub ◌⇒◌ : {B : Type 0} → (List Lexeme → List Lexeme → Type 0) → Rule B → Rule B
 (S ⇒ T) y mid rest = (ts : List Lexeme) → S ts mid → T y ts rest
 
+-- not empty
 abbrev pub IsSome : List Lexeme → Type 0
 IsSome [] = ⊥
 IsSome (l ∷ ts) = Unit {0}
 
--- A nesting that is too deep is of the rule where this is `Deeper`, and there are less tokens than the number.
+-- What is known of a parser by what it gives.
+-- What it takes is spelled so, whatever follows, and is taken wherever the same token follows.
+-- What stands before a token that it refuses goes on to something of the rule, and the same token is refused there again.
+-- What goes up to a nesting too deep for it does so too, if the rule has what is nested `Deeper` and the tokens are fewer than the turns of a list.
 abbrev pub Told : {A : Type 0} → Type 0 → ℕ → Parser A → Rule A → List Lexeme → Outcome A → Type 0
 Told Deeper n p R ts (Ok x) = (front : List Lexeme) × (ts ≡ front ++ x.1) × ((more : List Lexeme) → R x.0 (front ++ more) more) × ((more : List Lexeme) → SameHead x.1 more → p (front ++ more) ≡ Ok (x.0, more))
 Told Deeper n p R ts (Err (fault.Unexpected at)) = (front : List Lexeme) × (bad : List Lexeme) × (ts ≡ front ++ bad) × (at ≡ place bad) × GoesOn R front × ((more : List Lexeme) → SameHead bad more → p (front ++ more) ≡ Err (fault.Unexpected (place more)))
 Told Deeper n p R ts (Err fault.Deep) = Deeper → length ts < n → (front : List Lexeme) × (rest : List Lexeme) × IsSome front × (ts ≡ front ++ rest) × GoesOn R front × ((more : List Lexeme) → p (front ++ more) ≡ Err fault.Deep)
 Told Deeper n p R ts (Err fault.Memory) = Unit {0}
 
+-- and that for all tokens
 pub record Tells {A : Type 0} (Deeper : Type 0) (n : ℕ) (p : Parser A) (R : Rule A) : Type 0 where
   pub tell : (ts : List Lexeme) → Told Deeper n p R ts (p ts)
 
+-- and there is something of the rule
 abbrev pub Good : {A : Type 0} → Type 0 → ℕ → Parser A → Rule A → Type 0
 Good Deeper n p R = Tells Deeper n p R × Exists R
 
--- the parser does not read all
+-- the parser refuses some tokens
 abbrev pub Fails : {A : Type 0} → Parser A → Type 0
 Fails p = (ts : List Lexeme) × (f : Fault) × (p ts ≡ Err f)
 
@@ -153,11 +158,11 @@ tells_pure a T is = record { tell = λ ts. ([], refl, is, λ more h. refl) }
 pub good_pure : {D : Type 0} {A : Type 0} {n : ℕ} (a : A) (T : Rule A) → ((ts : List Lexeme) → T a ts ts) → Good D n (pure a) T
 good_pure a T is = (tells_pure a T is, (a, [], is))
 
--- no tokens are less than none
+-- no tokens are fewer than none
 pub tells_none : {D : Type 0} {A : Type 0} (p : Parser A) (T : Rule A) → ((ts : List Lexeme) → p ts ≡ Err fault.Deep) → Tells D 0 p T
 tells_none {D} {A} p T is = record { tell = λ ts. let P : Outcome A → Type 0 = λ o. Told D 0 p T ts o in subst P (sym (is ts)) (λ deeper small. absurd (omega arith)) }
 
--- and so for less tokens
+-- and so for fewer tokens
 pub tells_less : {D : Type 0} {A : Type 0} (n m : ℕ) (p : Parser A) (R : Rule A) → m ≤ n → Tells D n p R → Tells D m p R
 tells_less {D} {A} n m p R less told = record { tell = λ ts. weaker ts (p ts) (told.tell ts) }
   where

@@ -299,10 +299,12 @@ module _ (D : Type 0) where
     pub tells_deepest : Tells D longest (level (neg_at zero)) (IsPrimary R)
     tells_deepest = tells_level (neg_at zero) R too_deep_not too_deep_group
 
+  -- the second number of levels above the first
   abbrev pub raised : ℕ → ℕ → ℕ
   raised b zero = b
   raised b (suc d) = suc (raised b d)
 
+  -- where the parser's innermost part stands for one of this depth
   tells_neg : (b : ℕ) → (D → Exists (IsNested b)) → (d : ℕ) → Tells D longest (neg_at (suc d)) (IsNested (suc (raised b d)))
   unfolding neg_at
   tells_neg b some zero = tells_deepest (IsNested b) some
@@ -314,25 +316,25 @@ module _ (D : Type 0) where
 
   -- ---- lists
 
+  -- one item is a list
+  some_list : {A : Type 0} (R : Rule A) (Between : List Lexeme → List Lexeme → Type 0) → Exists R → Exists (IsList R Between)
+  some_list R Between (x, more, is) = (x ∷ [], more, is)
+
   good_names : Good D longest names_at AreNames
   unfolding names_at
-  good_names = (tells_list name_at w.Comma IsName good_name.0 name_shorter, ([] ∷ [], (0, t.Name []) ∷ [], λ follow. (0, refl)))
+  good_names = (tells_list name_at w.Comma IsName good_name.0 name_shorter, some_list _ _ good_name.1)
 
   good_values : Good D longest values_at (IsList IsValue (The w.Comma))
   unfolding values_at
-  good_values = (tells_list value_at w.Comma IsValue good_value.0 value_shorter, (literal.Null ∷ [], (0, t.Fixed w.Null) ∷ [], λ follow. (0, refl)))
+  good_values = (tells_list value_at w.Comma IsValue good_value.0 value_shorter, some_list _ _ good_value.1)
 
   good_key_column : Good D longest key_column_at IsKeyColumn
   unfolding key_column_at
   good_key_column = good_bind _ _ _ _ good_placed_name (λ n. good_pure _ _ (λ rest ts is. is))
 
-  -- one item is a list
-  good_list : {A : Type 0} (R : Rule A) (Between : List Lexeme → List Lexeme → Type 0) → Exists R → Exists (IsList R Between)
-  good_list R Between (x, more, is) = (x ∷ [], more, is)
-
   good_key : Good D longest key_at (IsList IsKeyColumn (The w.Comma))
   unfolding key_at
-  good_key = (tells_list key_column_at w.Comma IsKeyColumn good_key_column.0 key_column_shorter, good_list _ _ good_key_column.1)
+  good_key = (tells_list key_column_at w.Comma IsKeyColumn good_key_column.0 key_column_shorter, some_list _ _ good_key_column.1)
 
   good_equal : Good D longest equal_at (λ _. Is (t.Compare is.Equal))
   unfolding equal_at
@@ -344,7 +346,7 @@ module _ (D : Type 0) where
 
   good_assignments : Good D longest assignments_at (IsList IsAssignment (The w.Comma))
   unfolding assignments_at
-  good_assignments = (tells_list assignment_at w.Comma IsAssignment good_assignment.0 assignment_shorter, good_list _ _ good_assignment.1)
+  good_assignments = (tells_list assignment_at w.Comma IsAssignment good_assignment.0 assignment_shorter, some_list _ _ good_assignment.1)
 
   -- ---- columns
 
