@@ -14,3 +14,4 @@ pub mod ByteSteps
 pub mod RowKeys
 pub mod ByteLaws
 pub mod Keeping
+pub mod Showing
