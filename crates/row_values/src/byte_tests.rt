@@ -225,7 +225,8 @@ fn tables_have_at_most_64_columns_and_4_in_their_key(rt: HostRuntime) -> Result<
     assert!(rt; are_row(&schema, values.as_slice()));
     let row = encode_row(alloc, &schema, values.as_slice())?;
     assert_eq!(rt; row.len(), 4 * 3 + 60);
-    assert!(rt; !are_row(&schema, &values.as_slice()[..63]));
+    let fewer = values.as_slice().get(..63).ok_or("no such length")?;
+    assert!(rt; !are_row(&schema, fewer));
     values.push(Value::Null)?;
     assert!(rt; !are_row(&schema, values.as_slice()));
     Ok(())
