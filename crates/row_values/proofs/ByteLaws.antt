@@ -1,5 +1,5 @@
 -- The bytes of schemas and changes are read back, and what is read was written so.
-use Rattle.std.proofs.Common.{◌==◌, ◌≡◌, ℕ, ◌+◌, ◌^◌, ◌<◌, ◌≤◌, zero, suc, List, [], ◌∷◌, ◌++◌, Bool, true, false, ◌&&◌, if◌then◌else◌, refl, sym, ap, subst, ◌∙◌, length, nat_le, nat_lt, Option, Some, None, option_map, arith, append_assoc, eqb-true, ltb-true}
+use Rattle.std.proofs.Common.{◌==◌, ◌≡◌, ℕ, ◌<◌, ◌≤◌, zero, suc, List, [], ◌∷◌, ◌++◌, Bool, true, false, if◌then◌else◌, refl, sym, ap, subst, ◌∙◌, length, nat_le, Some, None, option_map, arith, append_assoc, eqb-true, ltb-true}
 use Rattle.std.specs.Option.{option_and_then}
 use Rattle.std.specs.List.{flat_map, list_all}
 use Rattle.std.proofs.lemmas.Bool.Decides.{nat_tests}
@@ -7,14 +7,14 @@ use Rattle.byteorder.specs.Endian.{big_bytes, big_number}
 use Rattle.row_values.specs.declared.column.Kind.{Kind}
 use Rattle.row_values.specs.declared.column.Kind.TheVariants.{SmallInt, Integer, BigInt, VarChar, VarBinary}
 use Rattle.row_values.specs.Column.{ColumnShape}
-use Rattle.row_values.specs.Schema.{Shape, are_columns, is_column, is_key_of, is_limit, is_name, is_shape}
+use Rattle.row_values.specs.Schema.{Shape, is_column, is_limit, is_name, is_shape}
 use Rattle.row_values.specs.Row.{counted, counted_at, front_of}
 use Rattle.row_values.specs.Tables.{Deed, create, put, remove}
 use Rattle.row_values.specs.Bytes.{code_of, column_after, column_at, column_bytes, columns_at, deed_after, deed_at, deed_bytes, flag_at, flag_of, is_deed, kind_at, name_at, name_in, named, named_at, parts_after, parts_at, schema_at, schema_bytes, short_at}
 use Rattle.row_values.proofs.RowLaws.{bytes_back, counted_back, front_back}
-use Rattle.row_values.proofs.ValueLaws.{IsBytes, IsFront, chained, counted_is, first_true, front_is, mapped, second_true, two_written}
+use Rattle.row_values.proofs.ValueLaws.{IsBytes, chained, counted_is, first_true, front_is, mapped, second_true, two_written}
 use Rattle.row_values.proofs.Keys.{limit_counted, shape_columns}
-use Rattle.row_values.proofs.ByteSteps.{deed_good, name_good, schema_found, schema_good, short_good, taken, tested}
+use Rattle.row_values.proofs.ByteSteps.{deed_good, name_good, schema_found, schema_good, tested}
 
 -- ---- what is written is read back
 

@@ -1,5 +1,5 @@
 -- The bytes of schemas and changes, step by step.
-use Rattle.std.proofs.Common.{◌≡◌, ℕ, ◌+◌, ◌-◌, ◌<◌, ◌≤◌, zero, suc, List, [], ◌∷◌, ◌++◌, Bool, true, false, ◌&&◌, ◌||◌, if◌then◌else◌, refl, sym, ap, subst, ◌∙◌, map, length, drop, get_or, nat_le, nat_lt, Option, Some, None, option_map, arith, append_assoc, append-nil, add-one, length-append}
+use Rattle.std.proofs.Common.{◌≡◌, ℕ, ◌+◌, ◌<◌, ◌≤◌, zero, suc, List, [], ◌∷◌, ◌++◌, Bool, true, false, ◌&&◌, ◌||◌, if◌then◌else◌, refl, sym, ap, ◌∙◌, map, length, drop, nat_le, Option, Some, None, option_map, arith, append_assoc, append-nil, length-append}
 use Rattle.byteorder.specs.Endian.{big_bytes}
 use Rattle.std.proofs.Common.{◌==◌}
 use Rattle.std.specs.Option.{option_and_then}
@@ -10,7 +10,7 @@ use Rattle.std.proofs.lemmas.Bool.Decides.{nat_tests}
 use Rattle.row_values.specs.declared.column.Column.{Column}
 use Rattle.row_values.specs.Column.{ColumnShape, column_of}
 use Rattle.row_values.specs.Schema.{Shape, goes_on_name, is_capital, is_column, is_limit, is_name, is_shape}
-use Rattle.row_values.specs.Row.{counted_at, front_of, utf8_in}
+use Rattle.row_values.specs.Row.{counted_at, utf8_in}
 use Rattle.row_values.specs.Bytes.{Fails, Reads, code_of, deed_after, flag_of, is_deed, named, short_at, column_at, column_bytes, Reads, columns_at, name_at, name_in, named_at, parts_at, schema_at}
 use Rattle.row_values.specs.declared.row.ReadError.{ReadError}
 use Rattle.row_values.specs.declared.row.ReadError.TheVariants.{Damaged, NoMemory}

@@ -1,6 +1,6 @@
 -- What changes make of a store, seen table by table and row by row.
-use Rattle.std.proofs.Common.{◌≡◌, ℕ, List, [], ◌∷◌, Bool, true, false, cond, ◌&&◌, if◌then◌else◌, refl, sym, ap, subst, ◌∙◌, map, Option, Some, None, option_map}
-use Rattle.std.specs.Prelude.{bytes_eq, is_some, unwrap_or, not, filter}
+use Rattle.std.proofs.Common.{◌≡◌, ℕ, List, [], Bool, true, false, cond, ◌&&◌, if◌then◌else◌, refl, sym, ap, ◌∙◌, Option, Some, None, option_map}
+use Rattle.std.specs.Prelude.{bytes_eq, is_some, unwrap_or}
 use Rattle.std.specs.Option.{option_and_then}
 use Rattle.std.specs.Map.{lookup, values_of}
 use Rattle.std.specs.BTreeMap.{insert_entry}
@@ -11,7 +11,7 @@ use Rattle.std.proofs.lemmas.Map.Lookups.{exact_bytes}
 use Rattle.row_values.specs.Schema.{Shape}
 use Rattle.row_values.specs.Row.{is_row}
 use Rattle.row_values.specs.Key.{key_cmp, row_key}
-use Rattle.row_values.specs.Tables.{Creates, Deed, Puts, Removes, Store, Table, apply, create, put, put_row, remove, remove_row, row_of, rows_of, schema_of, table_of, with_table, is_row_at}
+use Rattle.row_values.specs.Tables.{Creates, Puts, Removes, Store, Table, apply, create, put, put_row, remove, remove_row, rows_of, table_of, with_table, is_row_at}
 use Rattle.row_values.proofs.KeyOrder.{key_exact, key_itself}
 use Rattle.row_values.proofs.Finding.{TellsApart, found_changed, found_put, found_taken, either_way, same_bytes}
 

@@ -1,8 +1,7 @@
 -- What is found in a list of entries after it has changed.
-use Rattle.std.proofs.Common.{◌≡◌, ◌≢◌, ℕ, List, [], ◌∷◌, Bool, true, false, cond, if◌then◌else◌, refl, sym, ap, subst, ◌∙◌, map, Option, Some, None, option_map, true≢false}
+use Rattle.std.proofs.Common.{◌≡◌, ◌≢◌, ℕ, List, [], ◌∷◌, Bool, true, false, cond, if◌then◌else◌, refl, sym, ap, subst, ◌∙◌, Option, Some, None, option_map, true≢false}
 use Rattle.std.proofs.Common.{Ordering, Less, Equal, Greater}
 use Rattle.std.specs.Prelude.{bytes_eq, not, filter}
-use Rattle.std.specs.Bool.{Decides}
 use Rattle.std.specs.Map.{lookup}
 use Rattle.std.specs.BTreeMap.{insert_entry}
 use Rattle.std.specs.Ordering.{match_ordering}
@@ -21,10 +20,10 @@ pub record TellsApart (R : List ℕ → List ℕ → Ordering) : Type 0 where
   pub exact : (a b : List ℕ) → R a b ≡ Equal → a ≡ b
   pub itself : (a : List ℕ) → R a a ≡ Equal
 
-otherwise : (b : Bool) {A : Type 0} (x y : A) → b ≡ false → cond b x y ≡ y
+pub otherwise : (b : Bool) {A : Type 0} (x y : A) → b ≡ false → cond b x y ≡ y
 otherwise b x y h = rw h refl
 
-indeed : (b : Bool) {A : Type 0} (x y : A) → b ≡ true → cond b x y ≡ x
+pub indeed : (b : Bool) {A : Type 0} (x y : A) → b ≡ true → cond b x y ≡ x
 indeed b x y h = rw h refl
 
 not_same : (R : List ℕ → List ℕ → Ordering) → TellsApart R → (k e : List ℕ) (o : Ordering) (b : Bool) → R k e ≡ o → o ≢ Equal → bytes_eq k e ≡ b → b ≡ false

@@ -1,5 +1,5 @@
 -- What fits a column.
-use Rattle.std.proofs.Common.{◌≡◌, List, ℕ, Bool, true, false, refl, sym, ap, ◌∙◌, IsTrue, OnOk, Result, Ok, Err, ◌≤◌, length, Option, Some, None, option_map, if◌then◌else◌, Bor, true≢false}
+use Rattle.std.proofs.Common.{◌≡◌, List, ℕ, Bool, true, false, refl, sym, ap, ◌∙◌, Result, Ok, Err, Option, Some, None, option_map, if◌then◌else◌, Bor, true≢false}
 use Rattle.std.specs.Prelude.{is_err, is_none, is_ok, MatchResult, ◌&&◌}
 use Rattle.std.specs.Result.{result_err, result_ok}
 use Rattle.std.specs.Str.{IsUtf8, is_utf8}

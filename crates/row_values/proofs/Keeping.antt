@@ -1,10 +1,10 @@
 -- Every change keeps a store one.
-use Rattle.std.proofs.Common.{◌≡◌, ℕ, List, [], ◌∷◌, Bool, true, false, cond, ◌&&◌, if◌then◌else◌, refl, sym, ap, subst, ◌∙◌, Option, Some, None}
+use Rattle.std.proofs.Common.{◌≡◌, ℕ, List, [], ◌∷◌, Bool, true, false, cond, ◌&&◌, if◌then◌else◌, refl, ap, subst, ◌∙◌}
 use Rattle.std.proofs.Common.{Ordering, Less, Equal, Greater}
 use Rattle.std.specs.Prelude.{bytes_eq, filter, is_some, not}
 use Rattle.std.specs.List.{list_all}
 use Rattle.std.specs.Cmp.{IsTotalOrder}
-use Rattle.std.specs.Map.{keys_of, lookup}
+use Rattle.std.specs.Map.{keys_of}
 use Rattle.std.specs.BTreeMap.{insert_entry}
 use Rattle.std.specs.Ordering.{is_lt, match_ordering, nat_cmp, ordering_reverse}
 use Rattle.std.specs.Cmp.Lexicographic.{nat_list_cmp_total, slice_cmp}
@@ -19,16 +19,16 @@ use Rattle.row_values.proofs.KeyOrder.{key_cmp_total}
 use Rattle.row_values.proofs.Finding.{TellsApart, itself}
 use Rattle.row_values.proofs.Changes.{keys_apart, names_apart}
 
-less_is : (o : Ordering) → is_lt o ≡ true → o ≡ Less
+pub less_is : (o : Ordering) → is_lt o ≡ true → o ≡ Less
 less_is Less h = refl
 less_is Equal h = absurd cc
 less_is Greater h = absurd cc
 
 -- a key comes before all of a list
-abbrev before_all : (List ℕ → List ℕ → Ordering) → List ℕ → List (List ℕ) → Bool
+abbrev pub before_all : (List ℕ → List ℕ → Ordering) → List ℕ → List (List ℕ) → Bool
 before_all R k ks = list_all (λ later. is_lt (R k later)) ks
 
-before_trans : (R : List ℕ → List ℕ → Ordering) → IsTotalOrder R → (a b : List ℕ) (ks : List (List ℕ)) → R a b ≡ Less → before_all R b ks ≡ true → before_all R a ks ≡ true
+pub before_trans : (R : List ℕ → List ℕ → Ordering) → IsTotalOrder R → (a b : List ℕ) (ks : List (List ℕ)) → R a b ≡ Less → before_all R b ks ≡ true → before_all R a ks ≡ true
 before_trans R o a b [] lt h = refl
 before_trans R o a b (k ∷ ks) lt h =
     both_true (is_lt (R a k)) (before_all R a ks) (ap is_lt (o.trans a b k lt (less_is (R b k) (first_true (is_lt (R b k)) (before_all R b ks) h)))) (before_trans R o a b ks lt (second_true (is_lt (R b k)) (before_all R b ks) h))
@@ -105,7 +105,7 @@ three true true false h = absurd cc
 three true false c h = absurd cc
 three false b c h = absurd cc
 
-parts : (t : Table) → is_table t ≡ true → (is_shape t.shape ≡ true) × (list_all (is_entry t.shape) t.rows ≡ true) × (rises (key_cmp t.shape) (keys_of t.rows) ≡ true)
+pub parts : (t : Table) → is_table t ≡ true → (is_shape t.shape ≡ true) × (list_all (is_entry t.shape) t.rows ≡ true) × (rises (key_cmp t.shape) (keys_of t.rows) ≡ true)
 parts t h = three (is_shape t.shape) (list_all (is_entry t.shape) t.rows) (rises (key_cmp t.shape) (keys_of t.rows)) h
 
 whole : (t : Table) → is_shape t.shape ≡ true → list_all (is_entry t.shape) t.rows ≡ true → rises (key_cmp t.shape) (keys_of t.rows) ≡ true → is_table t ≡ true
@@ -131,7 +131,7 @@ remove_row_good key t h =
 
 -- ---- stores
 
-abbrev named_table : List ℕ × Table → Bool
+abbrev pub named_table : List ℕ × Table → Bool
 named_table e = is_name e.0 && is_table e.1
 
 with_all_by : (f : Table → Table) → ((t : Table) → is_table t ≡ true → is_table (f t) ≡ true) → (e : List ℕ × Table) (es rest : Store) (b : Bool) → list_all named_table (e ∷ es) ≡ true → list_all named_table rest ≡ true

@@ -1,8 +1,7 @@
 -- The order of keys.
-use Rattle.std.proofs.Common.{◌≡◌, ℕ, ◌+◌, ◌<◌, ◌≤◌, zero, suc, List, [], ◌∷◌, ◌++◌, Bool, true, false, refl, sym, ap, subst, ◌∙◌, length, drop, Option, Some, None, arith}
+use Rattle.std.proofs.Common.{◌≡◌, ℕ, ◌+◌, ◌≤◌, List, [], ◌∷◌, true, refl, sym, ap, subst, ◌∙◌, length, drop, Some}
 use Rattle.std.proofs.Common.{Ordering, Less, Equal, Greater}
-use Rattle.std.specs.Prelude.{is_some, unwrap_or}
-use Rattle.std.specs.Ordering.{nat_cmp, int_cmp, ordering_then, then_cmp, on}
+use Rattle.std.specs.Ordering.{nat_cmp, int_cmp, ordering_then}
 use Rattle.std.specs.Cmp.{IsTotalOrder}
 use Rattle.std.specs.Cmp.Lexicographic.{slice_cmp}
 use Rattle.std.proofs.lemmas.Cmp.{int_cmp_total, lists_total, nat_cmp_total, nat_list_cmp_total, on_total, then_total, tied_itself}
@@ -10,12 +9,11 @@ use Rattle.std.proofs.lemmas.Map.Lookups.{exact_bytes, exact_signed}
 use Rattle.std.specs.List.{slice_get}
 use Rattle.std.proofs.lemmas.List.{drop_all}
 use Rattle.row_values.specs.Value.{Datum, null, number, text, binary, bytes_in, class_of, datum_cmp, number_in}
-use Rattle.row_values.specs.Column.{ColumnShape}
 use Rattle.row_values.specs.Schema.{Shape, key_columns}
-use Rattle.row_values.specs.Row.{row_bytes, value_at, values_at}
+use Rattle.row_values.specs.Row.{row_bytes, values_at}
 use Rattle.row_values.specs.Key.{is_key, key_cmp, key_values}
 use Rattle.row_values.proofs.ValueLaws.{IsBytes, values_at-is}
-use Rattle.row_values.proofs.ReadSteps.{all_there, drop_at, reads_at}
+use Rattle.row_values.proofs.ReadSteps.{all_there, drop_at}
 
 -- values are in order by their classes, their numbers and their bytes
 pub datum_cmp_total : IsTotalOrder datum_cmp

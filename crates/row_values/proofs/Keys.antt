@@ -1,8 +1,8 @@
 -- The columns and the values of a key.
-use Rattle.std.proofs.Common.{◌≡◌, ℕ, ◌+◌, ◌<◌, ◌≤◌, zero, suc, List, [], ◌∷◌, ◌++◌, Bool, true, false, ◌&&◌, refl, sym, ap, subst, ◌∙◌, length, get_or, Option, Some, None, arith}
-use Rattle.std.specs.Prelude.{IsSome, is_none, is_some}
-use Rattle.std.specs.List.{list_all, slice_get, filter_map}
-use Rattle.std.proofs.lemmas.Option.{slice_get-get_or, slice_get_within, slice_get_cases}
+use Rattle.std.proofs.Common.{◌≡◌, ℕ, ◌<◌, ◌≤◌, zero, suc, List, [], ◌∷◌, Bool, true, false, ◌&&◌, refl, sym, ap, ◌∙◌, length, get_or, Option, Some, None, arith}
+use Rattle.std.specs.Prelude.{is_none, is_some}
+use Rattle.std.specs.List.{list_all, slice_get}
+use Rattle.std.proofs.lemmas.Option.{slice_get_within}
 use Rattle.std.proofs.Common.{map}
 use Rattle.std.proofs.lemmas.Option.{slice_get_read}
 use Rattle.std.proofs.lemmas.List.{length-map}
@@ -18,8 +18,8 @@ use Rattle.std.specs.Str.{is_utf8}
 use Rattle.row_values.specs.declared.column.Misfit.TheVariants.{TooLong}
 use Rattle.row_values.specs.Column.{ColumnShape, column_of, fits, within}
 use Rattle.row_values.proofs.RowSteps.{column_at}
-use Rattle.row_values.specs.Schema.{Shape, are_columns, can_be_key, no_repeat, is_column, is_limit, is_name, is_shape, is_key_of, key_columns, picked}
-use Rattle.row_values.proofs.ValueLaws.{are_counted, both_true, first_true, is_within, second_true, values_at-row_bytes}
+use Rattle.row_values.specs.Schema.{Shape, are_columns, can_be_key, no_repeat, is_column, is_limit, is_name, is_shape, key_columns, picked}
+use Rattle.row_values.proofs.ValueLaws.{are_counted, both_true, first_true, second_true, values_at-row_bytes}
 
 -- each place is one of the list
 abbrev pub are_places : {A : Type 0} → List A → List ℕ → Bool

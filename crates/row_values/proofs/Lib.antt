@@ -9,7 +9,9 @@ pub mod Keys
 pub mod KeyOrder
 pub mod Finding
 pub mod Changes
+pub mod Kept
 pub mod ByteSteps
 pub mod RowKeys
 pub mod ByteLaws
 pub mod Keeping
+pub mod Showing

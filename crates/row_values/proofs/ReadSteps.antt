@@ -1,5 +1,5 @@
 -- Values read one after another.
-use Rattle.std.proofs.Common.{◌≡◌, ℕ, ◌+◌, ◌-◌, ◌<◌, ◌≤◌, zero, suc, List, [], ◌∷◌, ◌++◌, Bool, true, false, ◌&&◌, refl, sym, ap, subst, ◌∙◌, map, length, drop, take, get_or, Option, Some, None, option_map, arith, add-one, append_assoc, append-nil, length-append}
+use Rattle.std.proofs.Common.{◌≡◌, ℕ, ◌+◌, ◌<◌, ◌≤◌, zero, suc, List, [], ◌∷◌, ◌++◌, false, refl, sym, ap, subst, ◌∙◌, length, drop, take, get_or, Option, Some, None, option_map, arith, add-one, append_assoc, append-nil}
 use Rattle.std.specs.Prelude.{is_some, IsSome, unwrap_or}
 use Rattle.std.specs.Option.{option_and_then}
 use Rattle.std.proofs.Common.{◌==◌}
@@ -8,7 +8,7 @@ use Rattle.std.specs.List.{slice_get}
 use Rattle.std.proofs.Math.Seq.{drop-append_seam}
 use Rattle.std.proofs.lemmas.List.{get_or-drop, drop_all}
 use Rattle.row_values.specs.Value.{Datum}
-use Rattle.row_values.specs.Column.{ColumnShape, fits}
+use Rattle.row_values.specs.Column.{ColumnShape}
 use Rattle.row_values.specs.Row.{StandsFrom, row_bytes, value_at, value_bytes, values_at, values_or_none}
 use Rattle.row_values.proofs.ValueLaws.{IsBytes, chained, mapped, value_at-is}
 

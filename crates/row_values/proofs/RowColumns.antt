@@ -1,10 +1,10 @@
 -- The columns of a row that stands in bytes.
-use Rattle.std.proofs.Common.{◌≡◌, ℕ, ◌+◌, ◌-◌, ◌<◌, ◌≤◌, zero, suc, List, [], ◌∷◌, ◌++◌, Bool, true, false, if◌then◌else◌, IsTrue, refl, sym, ap, subst, ◌∙◌, length, drop, take, nat_le, Option, Some, None, arith, append_assoc, length-append}
+use Rattle.std.proofs.Common.{◌≡◌, ℕ, ◌+◌, ◌<◌, ◌≤◌, zero, suc, List, [], ◌∷◌, ◌++◌, Bool, true, false, if◌then◌else◌, IsTrue, refl, sym, ap, subst, ◌∙◌, length, drop, take, nat_le, Option, Some, None, arith, append_assoc, length-append}
 use Rattle.std.proofs.lemmas.Bool.Decides.{nat_tests}
 use Rattle.std.specs.Prelude.{is_some, IfSome, IsSome, unwrap_or}
 use Rattle.std.specs.List.{slice_get}
 use Rattle.std.proofs.Math.Seq.{drop-append_seam, take-append_seam}
-use Rattle.drda_words.specs.Place.{StandsAt, part}
+use Rattle.drda_words.specs.Place.{StandsAt}
 use Rattle.row_values.specs.Value.{Datum}
 use Rattle.row_values.specs.Column.{ColumnShape, fits}
 use Rattle.std.proofs.Common.{map, get_or, option_map}

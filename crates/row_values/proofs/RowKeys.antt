@@ -1,13 +1,12 @@
 -- The key of a row.
-use Rattle.std.proofs.Common.{◌≡◌, ℕ, ◌+◌, ◌<◌, ◌≤◌, zero, suc, List, [], ◌∷◌, ◌++◌, Bool, true, false, ◌&&◌, IsTrue, refl, sym, ap, subst, ◌∙◌, length, drop, get_or, Option, Some, None, arith}
+use Rattle.std.proofs.Common.{◌≡◌, ℕ, ◌<◌, ◌≤◌, List, [], ◌∷◌, true, refl, sym, ap, subst, ◌∙◌, length, drop, get_or, Option, Some, None, arith}
 use Rattle.std.specs.Prelude.{IfSome, is_some}
 use Rattle.std.specs.List.{list_all, slice_get}
-use Rattle.std.proofs.lemmas.Option.{slice_get-get_or, slice_get_read}
-use Rattle.std.proofs.lemmas.List.{drop_all}
+use Rattle.std.proofs.lemmas.Option.{slice_get-get_or}
 use Rattle.row_values.specs.Value.{Datum, null}
-use Rattle.row_values.specs.Column.{ColumnShape, fits}
+use Rattle.row_values.specs.Column.{ColumnShape}
 use Rattle.row_values.specs.Schema.{Shape, is_shape, key_columns, picked}
-use Rattle.row_values.specs.Row.{all_fit, row_bytes, values_at, values_in}
+use Rattle.row_values.specs.Row.{all_fit, row_bytes, values_in}
 use Rattle.row_values.specs.Key.{is_key, row_key}
 use Rattle.row_values.proofs.ValueLaws.{both_true, first_true, second_true}
 use Rattle.row_values.proofs.Keys.{are_places, key_count, key_good, key_places, length-picked, picked_at, within_some}

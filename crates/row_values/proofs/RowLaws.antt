@@ -1,13 +1,13 @@
 -- The bytes of values are read back, and what is read was written so.
-use Rattle.std.proofs.Common.{◌≡◌, ℕ, ◌+◌, ◌*◌, ◌^◌, ◌<◌, ◌≤◌, ◌-◌, ℤ, pos, negsuc, zero, suc, List, [], ◌∷◌, ◌++◌, Bool, true, false, ◌&&◌, if◌then◌else◌, refl, sym, ap, subst, ◌∙◌, length, take, drop, get_or, nat_le, nat_eq, arith, Option, Some, None, option_map, append-nil, length-append, length-drop, append_assoc, FitsSigned}
+use Rattle.std.proofs.Common.{◌≡◌, ℕ, ◌^◌, ◌<◌, ℤ, pos, negsuc, List, [], ◌++◌, true, ◌&&◌, refl, sym, ap, ◌∙◌, length, take, drop, nat_le, arith, Some, option_map, append-nil, length-append, append_assoc, FitsSigned}
 use Rattle.std.specs.Prelude.{int_le}
 use Rattle.std.proofs.Math.Seq.{drop-append_seam, take-append_seam}
 use Rattle.std.proofs.lemmas.Bool.Decides.{nat_tests}
-use Rattle.std.proofs.lemmas.Int.{to_z-of_z, of_z-to_z, ints}
+use Rattle.std.proofs.lemmas.Int.{to_z-of_z, ints}
 use Rattle.std.specs.Int.{Width, w16, w32, w64, cast_signed, cast_unsigned}
 use Rattle.byteorder.specs.Endian.{big_bytes, big_number}
 use Rattle.byteorder.specs.Numbers.{big_number-reads_back, length-bytes_high_first}
-use Rattle.row_values.specs.Value.{Datum, null, number, text, binary}
+use Rattle.row_values.specs.Value.{number}
 use Rattle.row_values.specs.Row.{counted, counted_at, front_of, number_at}
 use Rattle.std.specs.Option.{option_and_then}
 

@@ -1,9 +1,9 @@
 -- The bytes of a value that fits its column are read back, and what is read was written so.
-use Rattle.std.proofs.Common.{◌≡◌, ℕ, ◌+◌, ◌*◌, ◌^◌, ◌<◌, ◌≤◌, ◌-◌, ℤ, pos, negsuc, zero, suc, List, [], ◌∷◌, ◌++◌, Bool, true, false, ◌&&◌, if◌then◌else◌, IsTrue, refl, sym, ap, subst, ◌∙◌, length, take, drop, get_or, nat_le, nat_lt, nat_eq, length-take, arith, Option, Some, None, option_map, length-append, append_assoc, FitsSigned, true≢false}
-use Rattle.std.specs.Prelude.{int_le, is_none, slice_index}
+use Rattle.std.proofs.Common.{◌≡◌, ℕ, ◌+◌, ◌^◌, ◌<◌, ◌≤◌, ℤ, suc, List, [], ◌∷◌, ◌++◌, Bool, true, false, ◌&&◌, if◌then◌else◌, refl, sym, ap, subst, ◌∙◌, length, take, drop, nat_le, nat_lt, length-take, arith, Option, Some, None, option_map, append_assoc, FitsSigned}
+use Rattle.std.specs.Prelude.{is_none, slice_index}
 use Rattle.std.specs.Option.{option_and_then}
 use Rattle.std.proofs.lemmas.Bool.Decides.{nat_tests}
-use Rattle.std.proofs.lemmas.Int.{to_z-of_z, of_z-to_z, ints}
+use Rattle.std.proofs.lemmas.Int.{of_z-to_z}
 use Rattle.std.proofs.Math.Facts.{Fits-of_z}
 use mir.Val.{bits}
 use Rattle.std.specs.Int.{Width, w16, w32, w64, cast_signed, cast_unsigned}
@@ -16,7 +16,7 @@ use Rattle.std.proofs.lemmas.List.{get_or-drop, get_or-take, get_or_past, length
 use Rattle.row_values.specs.declared.column.Kind.{Kind}
 use Rattle.row_values.specs.declared.column.Kind.TheVariants.{SmallInt, Integer, BigInt, VarChar, VarBinary}
 use Rattle.row_values.specs.Value.{Datum, null, number, text, binary, is_datum}
-use Rattle.row_values.specs.Column.{ColumnShape, misfit_in, misfit_of, fits, within}
+use Rattle.row_values.specs.Column.{ColumnShape, misfit_in, fits, within}
 use Rattle.row_values.specs.declared.column.Misfit.{Misfit}
 use Rattle.row_values.specs.Row.{content_at, content_bytes, counted, counted_at, datum_at, front_of, number_at, utf8_in, value_at, value_bytes, all_fit, row_bytes, values_at}
 use Rattle.std.specs.List.{list_all}

@@ -1,5 +1,5 @@
 -- The bytes of schemas and of changes.
-use Rattle.std.specs.Prelude.{◌≡◌, ℕ, zero, suc, Bool, true, false, List, [], ◌∷◌, ◌++◌, length, drop, map, Option, Some, None, Result, Ok, Err, ◌&&◌, ◌==◌, nat_le, if◌then◌else◌, option_map}
+use Rattle.std.specs.Prelude.{◌≡◌, ℕ, zero, suc, Bool, true, false, List, [], ◌∷◌, ◌++◌, length, take, Option, Some, None, Result, Ok, Err, ◌&&◌, ◌==◌, nat_le, if◌then◌else◌, option_map}
 use Rattle.std.specs.Option.{option_and_then}
 use Rattle.std.specs.List.{flat_map}
 use Rattle.byteorder.specs.Endian.{big_bytes, big_number}
@@ -24,6 +24,10 @@ Reads view (Ok x) value = value ≡ Some (view x)
 Reads view (Err error) value = Fails error value
 
 -- ---- the bytes
+
+-- what was there stands in front
+abbrev pub Keeps : List ℕ → List ℕ → Type 0
+Keeps before after = take (length before) after ≡ before
 
 -- a name behind its length
 abbrev pub named : List ℕ → List ℕ

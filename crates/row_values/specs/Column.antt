@@ -1,5 +1,5 @@
 -- Columns, and which values fit them.
-use Rattle.std.specs.Prelude.{ℕ, ℤ, pos, negsuc, Bool, true, false, List, length, Option, Some, None, is_none, ◌&&◌, nat_le, int_le, if◌then◌else◌}
+use Rattle.std.specs.Prelude.{ℕ, pos, negsuc, Bool, true, false, List, length, Option, Some, None, is_none, ◌&&◌, nat_le, int_le}
 use Rattle.std.specs.String.{string_bytes}
 use Rattle.row_values.specs.declared.column.Kind.{Kind}
 use Rattle.row_values.specs.declared.column.Kind.TheVariants.{SmallInt, Integer, BigInt, VarChar, VarBinary}

@@ -1,6 +1,6 @@
 -- Keys: the values of the key columns in the order of PRIMARY KEY, written as in rows, and their
 -- order, which is that of their values.
-use Rattle.std.specs.Prelude.{ℕ, Bool, List, [], Option, is_some, unwrap_or}
+use Rattle.std.specs.Prelude.{ℕ, Bool, List, [], is_some, unwrap_or}
 use Rattle.std.specs.Ordering.{nat_cmp, ordering_then}
 use Rattle.std.specs.declared.cmp.Ordering.{Ordering}
 use Rattle.std.specs.Cmp.Lexicographic.{slice_cmp}

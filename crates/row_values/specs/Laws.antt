@@ -1,5 +1,5 @@
 -- The laws that tie the definitions to one another.
-use Rattle.std.specs.Prelude.{◌≡◌, ◌<◌, ℕ, List, ◌++◌, Option, Some, IsTrue, Bool, true, slice_index}
+use Rattle.std.specs.Prelude.{◌≡◌, ◌<◌, ℕ, List, ◌++◌, Some, true, slice_index}
 use Rattle.std.proofs.Common.{Equal}
 use Rattle.std.specs.List.{list_all}
 use Rattle.std.specs.Cmp.{IsTotalOrder}
@@ -11,7 +11,7 @@ use Rattle.row_values.specs.Row.{all_fit, row_bytes, values_at}
 use Rattle.row_values.specs.Key.{is_key, key_cmp, key_values}
 use Rattle.row_values.specs.Bytes.{deed_at, deed_bytes, is_deed, schema_at, schema_bytes}
 use Rattle.row_values.specs.View.{is_store}
-use Rattle.row_values.specs.Tables.{Creates, Deed, Puts, Removes, Store, apply, create, put, remove}
+use Rattle.row_values.specs.Tables.{Creates, Deed, Puts, Removes, Store, apply, create, put, remove, row_of, schema_of}
 
 -- each item is a byte
 abbrev pub IsBytes : List ℕ → Type 0
@@ -60,3 +60,7 @@ ChangeReadWasWritten = (bytes : List ℕ) (x : Deed × List ℕ) → IsBytes byt
 -- every change keeps a store one
 abbrev pub StoresAreKept : Type 0
 StoresAreKept = (change : Deed) (s : Store) → is_deed change ≡ true → is_store s ≡ true → is_store (apply change s) ≡ true
+
+-- stores that show the same are the same
+abbrev pub StoresAreWhatTheyShow : Type 0
+StoresAreWhatTheyShow = (s t : Store) → is_store s ≡ true → is_store t ≡ true → ((q : List ℕ) → schema_of s q ≡ schema_of t q) → ((q key : List ℕ) → row_of s q key ≡ row_of t q key) → s ≡ t

@@ -1,6 +1,6 @@
 -- The bytes of rows and of keys: per column 00 and the value, or FF for NULL. Numbers are two's
 -- complement, the highest byte first; texts and bytes stand behind a length of two bytes.
-use Rattle.std.specs.Prelude.{◌≡◌, ℕ, ◌+◌, zero, suc, Bool, true, false, List, [], ◌∷◌, ◌++◌, length, take, drop, Option, Some, None, ◌&&◌, ◌==◌, nat_le, is_some, if◌then◌else◌, option_map, unwrap_or, ◌≤◌, ◌<◌, Result, Ok, Err}
+use Rattle.std.specs.Prelude.{◌≡◌, ℕ, Bool, true, false, List, [], ◌∷◌, ◌++◌, length, take, drop, Option, Some, None, ◌&&◌, ◌==◌, nat_le, is_some, if◌then◌else◌, option_map, unwrap_or, ◌≤◌, ◌<◌, Result, Ok, Err}
 use Rattle.std.specs.Global.{Vec}
 use Rattle.std.specs.Option.{option_and_then}
 use Rattle.std.specs.Str.{is_utf8}

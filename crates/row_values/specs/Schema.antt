@@ -1,5 +1,5 @@
 -- Schemas: the columns of a table, and the places of its key columns.
-use Rattle.std.specs.Prelude.{ℕ, zero, Bool, true, false, List, [], ◌∷◌, length, map, ◌&&◌, ◌||◌, not, ◌==◌, nat_le, nat_lt, nat_eq, bytes_eq, Option, Some, None}
+use Rattle.std.specs.Prelude.{ℕ, Bool, true, false, List, [], ◌∷◌, length, ◌&&◌, ◌||◌, not, ◌==◌, nat_le, nat_lt, nat_eq, bytes_eq, Option, Some, None}
 use Rattle.std.specs.List.{list_all, list_any, slice_get, filter_map}
 use Rattle.row_values.specs.declared.column.Kind.{Kind}
 use Rattle.row_values.specs.declared.column.Kind.TheVariants.{SmallInt, Integer, BigInt, VarChar, VarBinary}

@@ -1,9 +1,9 @@
 -- Tables, stores, and what changes make of them.
-use Rattle.std.specs.Prelude.{ℕ, Bool, true, false, List, [], ◌∷◌, ◌≡◌, Option, Some, None, is_some, bytes_eq, ◌&&◌, not, if◌then◌else◌, map, filter, length, option_map, unwrap_or}
+use Rattle.std.specs.Prelude.{ℕ, Bool, false, List, [], ◌∷◌, ◌≡◌, Option, Some, None, is_some, bytes_eq, ◌&&◌, not, if◌then◌else◌, filter, option_map, unwrap_or}
 use Rattle.std.specs.Option.{option_and_then}
 use Rattle.std.specs.Ordering.{nat_cmp}
 use Rattle.std.specs.Cmp.Lexicographic.{slice_cmp}
-use Rattle.std.specs.Map.{lookup, keys_of, values_of}
+use Rattle.std.specs.Map.{lookup, values_of}
 use Rattle.std.specs.BTreeMap.{insert_entry}
 use Rattle.row_values.specs.Schema.{Shape}
 use Rattle.row_values.specs.Row.{is_row}

@@ -1,14 +1,14 @@
 //! Changes and their bytes.
 
-ghost use Rattle.std.specs.Prelude.{◌≡◌, ◌++◌, IfOk, OnOk, length, option_map, true};
+ghost use Rattle.std.specs.Prelude.{◌≡◌, ◌++◌, IfOk, OnErr, OnOk, length, option_map, true};
 ghost use Rattle.std.specs.String.{string_bytes};
-ghost use Rattle.row_values.specs.Bytes.{Reads, deed_after, deed_at, deed_bytes, is_deed, short_at};
+ghost use Rattle.row_values.specs.Bytes.{Keeps, Reads, deed_after, deed_at, deed_bytes, is_deed, short_at};
 ghost use Rattle.row_values.specs.Change.{deed_of};
 
 use crate::encoding::{put_counted, split_counted};
 use crate::row::{ROW_LIMIT, ReadError};
 use crate::schema::Schema;
-use crate::schema_bytes::{put_name, split_name};
+use crate::schema_bytes::{put_name, put_schema, split_name};
 use std::alloc::{AllocError, Global};
 
 /// The most bytes of a key.
@@ -40,28 +40,18 @@ impl Change {
     }
 
     /// Appends the bytes of the change. Its table has a name, its row at most 4,000 bytes, its key at
-    /// most 8,012.
+    /// most 8,012. Where memory is wanting nothing is appended.
     pub fn write(&self, out: &mut Vec<u8>) -> Result<(), AllocError>
         requires { is_deed (deed_of self.now) ≡ true }
-        ensures { OnOk result (out.new.items ≡ out.old.items ++ deed_bytes (deed_of self.now)) }
+        ensures ok { OnOk result (out.new.items ≡ out.old.items ++ deed_bytes (deed_of self.now)) }
+        ensures err { OnErr result (out.new.items ≡ out.old.items) }
     {
-        match self {
-            Change::CreateTable { table, schema } => {
-                out.push(1)?;
-                put_name(out, table.as_str())?;
-                schema.write(out)
-            }
-            Change::Put { table, row } => {
-                out.push(2)?;
-                put_name(out, table.as_str())?;
-                put_counted(out, row.as_slice())
-            }
-            Change::Remove { table, key } => {
-                out.push(3)?;
-                put_name(out, table.as_str())?;
-                put_counted(out, key.as_slice())
-            }
+        let length = out.len();
+        let written = put_change(out, self);
+        if written.is_err() {
+            out.truncate(length);
         }
+        written
     }
 
     /// The change whose bytes stand in front, with what follows. Bytes that are no change's are
@@ -77,6 +67,31 @@ impl Change {
             return Err(ReadError::Damaged);
         };
         read_of_table(alloc, *code, table, rest)
+    }
+}
+
+// Appends the bytes of a change, or some of them.
+fn put_change(out: &mut Vec<u8>, change: &Change) -> Result<(), AllocError>
+    requires { is_deed (deed_of change.now) ≡ true }
+    ensures ok { OnOk result (out.new.items ≡ out.old.items ++ deed_bytes (deed_of change.now)) }
+    ensures err { OnErr result (Keeps out.old.items out.new.items) }
+{
+    match change {
+        Change::CreateTable { table, schema } => {
+            out.push(1)?;
+            put_name(out, table.as_str())?;
+            put_schema(out, schema)
+        }
+        Change::Put { table, row } => {
+            out.push(2)?;
+            put_name(out, table.as_str())?;
+            put_counted(out, row.as_slice())
+        }
+        Change::Remove { table, key } => {
+            out.push(3)?;
+            put_name(out, table.as_str())?;
+            put_counted(out, key.as_slice())
+        }
     }
 }
 

@@ -1,8 +1,9 @@
 //! The bytes of a value.
 
-ghost use Rattle.std.specs.Prelude.{◌≡◌, ◌++◌, ◌^◌, ◌<◌, IfSome, IsSome, IsTrue, None, OnOk, is_some, length, map, option_map};
+ghost use Rattle.std.specs.Prelude.{◌≡◌, ◌++◌, ◌^◌, ◌<◌, IfSome, IsSome, IsTrue, None, OnErr, OnOk, is_some, length, map, option_map};
 ghost use Rattle.row_values.specs.Value.{datum_of, number as number_datum};
 ghost use Rattle.row_values.specs.Column.{column_of, fits, misfit_in};
+ghost use Rattle.row_values.specs.Bytes.{Keeps};
 ghost use Rattle.row_values.specs.Row.{content_at, content_bytes, counted, counted_at, datum_at, front_of, StandsFrom, utf8_in, value_at, value_bytes, values_at};
 
 use crate::column::{Column, Kind};
@@ -69,10 +70,11 @@ fn put_number(out: &mut Vec<u8>, kind: Kind, number: i64) -> Result<(), AllocErr
     }
 }
 
-/// Appends a text or bytes behind their length.
+/// Appends a text or bytes behind their length, or some of that.
 pub(crate) fn put_counted(out: &mut Vec<u8>, bytes: &[u8]) -> Result<(), AllocError>
     requires { length bytes.now < 2 ^ 16 }
-    ensures { OnOk result (out.new.items ≡ out.old.items ++ counted bytes.now) }
+    ensures ok { OnOk result (out.new.items ≡ out.old.items ++ counted bytes.now) }
+    ensures err { OnErr result (Keeps out.old.items out.new.items) }
 {
     let mut count = [0; 2];
     BigEndian::write_u16(&mut count, bytes.len() as u16);

@@ -1,6 +1,6 @@
 //! Laws of the definitions. The functions do nothing: their contracts are the laws.
 
-ghost use Rattle.row_values.specs.Laws.{ChangeReadWasWritten, ChangeWrittenIsRead, Created, KeysAreOrdered, KeysGoByValues, Put, ReadWasWritten, Removed, SchemaReadWasWritten, SchemaWrittenIsRead, StoresAreKept, WrittenIsRead};
+ghost use Rattle.row_values.specs.Laws.{ChangeReadWasWritten, ChangeWrittenIsRead, Created, KeysAreOrdered, KeysGoByValues, Put, ReadWasWritten, Removed, SchemaReadWasWritten, SchemaWrittenIsRead, StoresAreKept, StoresAreWhatTheyShow, WrittenIsRead};
 
 /// Rows and keys correspond with their values, each way.
 pub fn values_have_their_bytes()
@@ -29,4 +29,9 @@ pub fn changes_are_local()
     ensures put { Put }
     ensures removed { Removed }
     ensures kept { StoresAreKept }
+{}
+
+/// A store is known by what it shows: its schemas, and its rows at their keys.
+pub fn stores_are_what_they_show()
+    ensures { StoresAreWhatTheyShow }
 {}

@@ -1,6 +1,8 @@
 //! Values, rows, keys, schemas and changes with their bytes, and what a table is.
 #![tactic(auto)]
 
+#[cfg(test)]
+mod byte_tests;
 mod change;
 mod column;
 mod encoding;

@@ -1,11 +1,11 @@
 //! The bytes of schemas.
 
-ghost use Rattle.std.specs.Prelude.{◌≡◌, ◌≤◌, ◌++◌, ◌*◌, OnOk, length, map, option_map, true};
+ghost use Rattle.std.specs.Prelude.{◌≡◌, ◌≤◌, ◌++◌, ◌*◌, OnErr, OnOk, length, map, option_map, true};
 ghost use Rattle.std.specs.String.{string_bytes};
 ghost use Rattle.std.specs.List.{flat_map, list_all};
 ghost use Rattle.row_values.specs.Column.{column_of};
 ghost use Rattle.row_values.specs.Schema.{is_column, is_name};
-ghost use Rattle.row_values.specs.Bytes.{Reads, code_of, column_at, column_bytes, columns_at, flag_at, kind_at, name_at, name_in, named, named_at, parts_after, parts_at, schema_at, schema_bytes};
+ghost use Rattle.row_values.specs.Bytes.{Keeps, Reads, code_of, column_at, column_bytes, columns_at, flag_at, kind_at, name_at, name_in, named, named_at, parts_after, parts_at, schema_at, schema_bytes};
 
 use crate::column::{Column, Kind, is_name};
 use crate::encoding::{split_front, text_of};
@@ -23,16 +23,17 @@ impl Schema {
         2 + columns_length(self.columns()) + self.key().len()
     }
 
-    /// Appends the bytes of the schema.
+    /// Appends the bytes of the schema. Where memory is wanting nothing is appended.
     pub fn write(&self, out: &mut Vec<u8>) -> Result<(), AllocError>
-        ensures { OnOk result (out.new.items ≡ out.old.items ++ schema_bytes self.now) }
+        ensures ok { OnOk result (out.new.items ≡ out.old.items ++ schema_bytes self.now) }
+        ensures err { OnErr result (out.new.items ≡ out.old.items) }
     {
-        let columns = self.columns();
-        out.push(columns.len() as u8)?;
-        put_columns(out, columns)?;
-        let key = self.key();
-        out.push(key.len() as u8)?;
-        out.extend_from_slice(key)
+        let length = out.len();
+        let written = put_schema(out, self);
+        if written.is_err() {
+            out.truncate(length);
+        }
+        written
     }
 
     /// The schema whose bytes stand in front, with what follows. Bytes that are no schema's are
@@ -92,9 +93,23 @@ fn columns_length(columns: &[Column]) -> usize
     length
 }
 
+/// Appends the bytes of a schema, or some of them.
+pub(crate) fn put_schema(out: &mut Vec<u8>, schema: &Schema) -> Result<(), AllocError>
+    ensures ok { OnOk result (out.new.items ≡ out.old.items ++ schema_bytes schema.now) }
+    ensures err { OnErr result (Keeps out.old.items out.new.items) }
+{
+    let columns = schema.columns();
+    out.push(columns.len() as u8)?;
+    put_columns(out, columns)?;
+    let key = schema.key();
+    out.push(key.len() as u8)?;
+    out.extend_from_slice(key)
+}
+
 fn put_columns(out: &mut Vec<u8>, columns: &[Column]) -> Result<(), AllocError>
     requires { list_all is_column (map column_of columns.now) ≡ true }
-    ensures { OnOk result (out.new.items ≡ out.old.items ++ flat_map column_bytes (map column_of columns.now)) }
+    ensures ok { OnOk result (out.new.items ≡ out.old.items ++ flat_map column_bytes (map column_of columns.now)) }
+    ensures err { OnErr result (Keeps out.old.items out.new.items) }
 {
     for column in columns {
         put_column(out, column)?;
@@ -104,7 +119,8 @@ fn put_columns(out: &mut Vec<u8>, columns: &[Column]) -> Result<(), AllocError>
 
 fn put_column(out: &mut Vec<u8>, column: &Column) -> Result<(), AllocError>
     requires { is_column (column_of column.now) ≡ true }
-    ensures { OnOk result (out.new.items ≡ out.old.items ++ column_bytes (column_of column.now)) }
+    ensures ok { OnOk result (out.new.items ≡ out.old.items ++ column_bytes (column_of column.now)) }
+    ensures err { OnErr result (Keeps out.old.items out.new.items) }
 {
     put_name(out, column.name.as_str())?;
     out.push(code(column.kind))?;
@@ -114,10 +130,11 @@ fn put_column(out: &mut Vec<u8>, column: &Column) -> Result<(), AllocError>
     out.extend_from_slice(&length)
 }
 
-/// Appends a name behind its length.
+/// Appends a name behind its length, or some of that.
 pub(crate) fn put_name(out: &mut Vec<u8>, name: &str) -> Result<(), AllocError>
     requires { is_name name.now ≡ true }
-    ensures { OnOk result (out.new.items ≡ out.old.items ++ named name.now) }
+    ensures ok { OnOk result (out.new.items ≡ out.old.items ++ named name.now) }
+    ensures err { OnErr result (Keeps out.old.items out.new.items) }
 {
     out.push(name.len() as u8)?;
     out.extend_from_slice(name.as_bytes())

@@ -6,7 +6,7 @@ use std::alloc::Global;
 use std::cmp::Ordering;
 use std::test::Fail;
 
-fn column(
+pub(crate) fn column(
     alloc: Global,
     name: &str,
     kind: Kind,

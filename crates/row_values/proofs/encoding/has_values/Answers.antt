@@ -1,8 +1,6 @@
 -- A value is read, or none is, and then the bytes have no values.
-use Rattle.std.proofs.Common.{ap, map, sym, ◌∙◌}
-use Rattle.std.specs.Prelude.{is_some}
+use Rattle.std.proofs.Common.{map, sym, ◌∙◌}
 use Rattle.row_values.specs.Column.{column_of}
-use Rattle.row_values.specs.Row.{value_at}
 use Rattle.row_values.proofs.RowSteps.{column_at}
 use Rattle.row_values.proofs.ReadSteps.{none_step, some_step}
 use Rattle.row_values.proofs.encoding.has_values.Goals as goal

@@ -1,5 +1,4 @@
 -- `from_utf8` tells UTF-8 from what is not.
-use Rattle.std.proofs.Common.{◌≡◌, ap}
 use Rattle.row_values.proofs.Fitting.{utf8_told}
 use Rattle.row_values.proofs.encoding.text_of.Goals as goal
 

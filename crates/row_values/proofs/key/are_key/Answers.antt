@@ -1,5 +1,5 @@
 -- The first value that does not fit decides, and else the number of values.
-use Rattle.std.proofs.Common.{◌≡◌, ◌≤◌, ◌<◌, ap, map, length, sym, ◌∙◌, arith}
+use Rattle.std.proofs.Common.{ap, map, length, sym, ◌∙◌, arith}
 use Rattle.std.proofs.lemmas.List.{length-map}
 use Rattle.row_values.specs.declared.value.Value.TheVariants.{Null}
 use Rattle.row_values.specs.Value.{datum_of}

@@ -1,5 +1,5 @@
 -- All values fit exactly where those to come do.
-use Rattle.std.proofs.Common.{◌≡◌, map, drop, length}
+use Rattle.std.proofs.Common.{◌≡◌, map, drop}
 use Rattle.row_values.specs.Value.{datum_of}
 use Rattle.row_values.specs.Schema.{key_columns}
 use Rattle.row_values.specs.Row.{all_fit}

@@ -1,5 +1,5 @@
 -- The values of a place are read of both keys, and decide or tie.
-use Rattle.std.proofs.Common.{◌≡◌, ◌≤◌, ap, refl, sym, ◌∙◌, arith, length, option_map, Some}
+use Rattle.std.proofs.Common.{ap, refl, sym, ◌∙◌, arith, length, option_map}
 use Rattle.row_values.specs.Value.{datum_of}
 use Rattle.row_values.specs.Column.{column_of}
 use Rattle.row_values.specs.Schema.{key_columns}

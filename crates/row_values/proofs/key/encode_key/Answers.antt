@@ -1,11 +1,10 @@
 -- Each key column's value fits it, and its bytes are the next of the key.
-use Rattle.std.proofs.Common.{◌≡◌, ◌<◌, ◌≤◌, ◌+◌, ◌++◌, ℕ, List, ap, refl, sym, subst, true, ◌∙◌, arith, length, map, drop, []}
+use Rattle.std.proofs.Common.{◌≡◌, ◌<◌, ◌≤◌, ◌+◌, ◌++◌, ℕ, List, ap, sym, subst, true, ◌∙◌, arith, length, map, drop, []}
 use Rattle.std.specs.Prelude.{is_some}
 use Rattle.std.proofs.lemmas.List.{length-map}
 use Rattle.row_values.specs.declared.value.Value.{Value}
 use Rattle.row_values.specs.declared.value.Value.TheVariants.{Null}
 use Rattle.row_values.specs.Value.{datum_of}
-use Rattle.row_values.specs.Column.{column_of}
 use Rattle.row_values.specs.Schema.{Shape, is_shape, key_columns}
 use Rattle.row_values.specs.Row.{all_fit, row_bytes}
 use Rattle.row_values.specs.Key.{is_key}

@@ -1,10 +1,7 @@
 -- A value is read, or none is, and then the bytes are no key.
-use Rattle.std.proofs.Common.{◌≡◌, ◌≤◌, ap, map, refl, sym, ◌∙◌, arith, length, drop, List, []}
-use Rattle.std.proofs.lemmas.List.{drop_all}
-use Rattle.std.specs.Prelude.{is_some}
-use Rattle.row_values.specs.Column.{ColumnShape, column_of}
+use Rattle.std.proofs.Common.{◌≡◌, ◌≤◌, ap, sym, ◌∙◌, arith, length}
+use Rattle.row_values.specs.Column.{column_of}
 use Rattle.row_values.specs.Schema.{key_columns}
-use Rattle.row_values.specs.Row.{values_at}
 use Rattle.row_values.proofs.Keys.{key_count}
 use Rattle.row_values.proofs.ReadSteps.{none_left, none_step, some_step}
 use Rattle.row_values.proofs.key.is_key.Goals as goal

@@ -1,10 +1,10 @@
 -- The first value that does not fit decides, and else the number of values.
-use Rattle.std.proofs.Common.{◌≡◌, ◌≤◌, ◌<◌, ap, map, length, subst, sym, true, false, ◌∙◌, arith, Some}
+use Rattle.std.proofs.Common.{◌≡◌, ap, map, length, subst, sym, ◌∙◌, arith, Some}
 use Rattle.std.specs.List.{slice_get}
 use Rattle.std.proofs.lemmas.List.{length-map}
 use Rattle.row_values.specs.declared.value.Value.TheVariants.{Null}
 use Rattle.row_values.specs.Value.{datum_of}
-use Rattle.row_values.specs.Column.{ColumnShape, column_of, fits}
+use Rattle.row_values.specs.Column.{column_of}
 use Rattle.row_values.proofs.Fitting.{told_false, told_true}
 use Rattle.row_values.proofs.RowSteps.{column_at, datum_at_place, fit_count, fit_ends, fit_goes_on, fit_stops}
 use Rattle.row_values.proofs.row.are_row.Goals as goal

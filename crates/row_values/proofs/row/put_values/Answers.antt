@@ -1,9 +1,9 @@
 -- Each column's value fits it, and its bytes are the next of the row.
-use Rattle.std.proofs.Common.{◌≡◌, ◌<◌, ◌+◌, ◌++◌, ℕ, List, ap, sym, ◌∙◌, arith, length, map, drop, append_assoc, append-nil}
+use Rattle.std.proofs.Common.{◌+◌, ◌++◌, ℕ, List, ap, ◌∙◌, map, drop}
 use Rattle.row_values.specs.declared.value.Value.TheVariants.{Null}
 use Rattle.row_values.specs.Value.{datum_of}
 use Rattle.row_values.specs.Column.{column_of}
-use Rattle.row_values.specs.Row.{row_bytes, value_bytes}
+use Rattle.row_values.specs.Row.{row_bytes}
 use Rattle.row_values.proofs.RowSteps.{column_at, datum_at_place, fits_at, row_at, row_ends, in_columns, row_more, row_none}
 use Rattle.row_values.proofs.row.put_values.Goals as goal
 

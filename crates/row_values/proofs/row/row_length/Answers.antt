@@ -1,10 +1,9 @@
 -- Each column's value fits it, and its bytes are the next of the row.
-use Rattle.std.proofs.Common.{◌≡◌, ◌<◌, ◌+◌, ◌++◌, ℕ, List, ap, sym, ◌∙◌, arith, length, map, drop, length-append, get_or}
+use Rattle.std.proofs.Common.{arith, map}
 use Rattle.row_values.specs.declared.value.Value.TheVariants.{Null}
 use Rattle.row_values.specs.Value.{datum_of}
 use Rattle.row_values.specs.Column.{column_of}
-use Rattle.row_values.specs.Row.{row_bytes, value_bytes}
-use Rattle.row_values.proofs.RowSteps.{column_at, datum_at_place, fits_at, row_at, row_end, in_columns, row_more, row_none, step_length, end_length}
+use Rattle.row_values.proofs.RowSteps.{column_at, datum_at_place, fits_at, in_columns, step_length, end_length}
 use Rattle.row_values.proofs.row.row_length.Goals as goal
 
 pub bounds-columns-i : goal.bounds-columns-i

@@ -1,7 +1,6 @@
 -- Each column has five bytes and its name, which has at most 30.
-use Rattle.std.proofs.Common.{◌≡◌, ◌≤◌, ◌+◌, ap, map, drop, length, arith, List, []}
+use Rattle.std.proofs.Common.{◌≡◌, ap, map, drop, length, arith, List, []}
 use Rattle.std.specs.List.{flat_map}
-use Rattle.std.specs.String.{string_bytes}
 use Rattle.std.proofs.lemmas.List.{drop_all, length-map}
 use Rattle.row_values.specs.Column.{ColumnShape, column_of}
 use Rattle.row_values.specs.Schema.{is_column}

@@ -1,5 +1,5 @@
 -- A name is UTF-8.
-use Rattle.std.proofs.Common.{refl, sym, ◌∙◌}
+use Rattle.std.proofs.Common.{sym, ◌∙◌}
 use Rattle.row_values.proofs.ByteSteps.{name_found, no_name}
 use Rattle.row_values.proofs.schema_bytes.name_of.Goals as goal
 

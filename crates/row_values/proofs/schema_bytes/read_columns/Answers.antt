@@ -1,5 +1,5 @@
 -- A column is read, or none, and then there are not so many.
-use Rattle.std.proofs.Common.{◌≡◌, ◌+◌, ◌-◌, ℕ, suc, List, ap, map, sym, ◌∙◌, arith}
+use Rattle.std.proofs.Common.{◌+◌, ◌-◌, ℕ, List, ap, map, sym, ◌∙◌, arith}
 use Rattle.row_values.specs.Column.{ColumnShape, column_of}
 use Rattle.row_values.specs.Bytes.{columns_at}
 use Rattle.row_values.proofs.ByteSteps.{before, columns_go, columns_stop, pushed}

@@ -1,6 +1,5 @@
 -- An `i64` is in the range of BIGINT.
-use Rattle.std.proofs.Common.{refl, sym}
-use Rattle.row_values.specs.Column.{misfit_in}
+use Rattle.std.proofs.Common.{refl}
 use Rattle.row_values.proofs.RowLaws.{is_eight}
 use Rattle.row_values.proofs.column.Column.admit_number.Goals as goal
 

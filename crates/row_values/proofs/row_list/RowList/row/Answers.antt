@@ -1,5 +1,5 @@
 -- The rows of a list are rows of its schema.
-use Rattle.std.proofs.Common.{ap, sym, subst, ◌≡◌, ◌∙◌, map, List, ℕ, true, Some}
+use Rattle.std.proofs.Common.{ap, sym, subst, ◌≡◌, ◌∙◌, true, Some}
 use Rattle.std.specs.Prelude.{IfOk}
 use Rattle.row_values.specs.Row.{is_row}
 use Rattle.row_values.specs.RowView.{row_in, shape_in}

@@ -1,5 +1,5 @@
 -- Each key column's value is the one at its place, and its bytes are the next of the key.
-use Rattle.std.proofs.Common.{◌≡◌, ◌≤◌, ◌<◌, ◌+◌, ◌++◌, ℕ, List, IsTrue, ap, refl, sym, subst, true, ◌∙◌, arith, drop, length}
+use Rattle.std.proofs.Common.{◌+◌, ◌++◌, ℕ, List, IsTrue, ap, refl, sym, ◌∙◌, arith, drop, length}
 use Rattle.row_values.specs.Value.{datum_of}
 use Rattle.row_values.specs.Column.{column_of, fits}
 use Rattle.row_values.specs.Schema.{key_columns, picked}

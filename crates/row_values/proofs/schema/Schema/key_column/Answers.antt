@@ -1,6 +1,5 @@
 -- The key's places are places of columns.
-use Rattle.std.proofs.Common.{◌<◌, ◌≡◌, sym, ap, ◌∙◌, subst, length, get_or, map, ℕ, List, arith}
-use Rattle.row_values.specs.Schema.{Shape}
+use Rattle.std.proofs.Common.{sym, ◌∙◌, arith}
 use Rattle.row_values.proofs.Keys.{key_column_is, inside_columns, same_default}
 use Rattle.row_values.proofs.schema.Schema.key_column.Goals as goal
 
