@@ -1,0 +1,125 @@
+//! A table in memory.
+
+ghost use Rattle.std.specs.Prelude.{◌≡◌, IfOk, OnErr, OnOk, filter, find, map, not, option_copied, option_map, true, bytes_eq};
+ghost use Rattle.std.specs.List.{list_all};
+ghost use Rattle.std.specs.String.{string_bytes};
+ghost use Rattle.std.specs.Map.{values_of};
+ghost use Rattle.std.specs.BTreeMap.{insert_entry};
+ghost use Rattle.row_values.specs.Key.{is_key, key_cmp};
+ghost use Rattle.row_values.specs.Plain.{has_key, named_table, rows_before, rows_in, table_in};
+ghost use Rattle.row_values.specs.Tables.{put_row, remove_row};
+ghost use Rattle.row_values.specs.View.{is_table};
+
+use crate::key::compare_keys;
+use crate::row_ref::RowRef;
+use crate::schema::Schema;
+use std::alloc::{AllocError, Global};
+use std::cmp::Ordering;
+
+/// A row, and its key.
+#[derive(Debug, Drop)]
+pub struct PlainRow {
+    pub key: Vec<u8>,
+    pub row: Vec<u8>,
+}
+
+/// A table: its name, its schema, and its rows in the order of their keys.
+#[derive(Debug, Drop)]
+pub struct PlainTable {
+    pub name: String,
+    pub schema: Schema,
+    pub rows: Vec<PlainRow>,
+}
+
+impl PlainTable {
+    /// Puts a row in place of the one of its key. What is no row of the table changes nothing, and
+    /// neither does want of memory.
+    pub fn put(&mut self, alloc: Global, row: Vec<u8>) -> Result<(), AllocError>
+        requires { is_table (table_in self.old) ≡ true }
+        ensures name { string_bytes self.new.name ≡ string_bytes self.old.name }
+        ensures applied { OnOk result (table_in self.new ≡ put_row row.items (table_in self.old)) }
+        ensures kept { OnErr result (table_in self.new ≡ table_in self.old) }
+    {
+        let key = match RowRef::parse(&self.schema, row.as_slice()) {
+            Ok(parsed) => parsed.key(alloc)?,
+            Err(_) => return Ok(()),
+        };
+        put_entry(&self.schema, &mut self.rows, key, row)
+    }
+
+    /// Takes out the row of this key, where there is one.
+    pub fn remove(&mut self, key: &[u8])
+        ensures name { string_bytes self.new.name ≡ string_bytes self.old.name }
+        ensures removed { table_in self.new ≡ remove_row key.now (table_in self.old) }
+    {
+        remove_entry(&mut self.rows, key);
+    }
+
+    /// The row of this key.
+    pub fn get(&self, alloc: Global, key: &[u8]) -> Result<Option<Vec<u8>>, AllocError>
+        ensures { IfOk result (λ row. option_map (λ bytes. bytes.items) row ≡ option_map (λ r. r.row.items) (find (has_key key.now) self.now.rows.items)) }
+    {
+        match find_row(self.rows.as_slice(), key) {
+            Some(found) => Ok(Some(Vec::from_slice(alloc, found.row.as_slice())?)),
+            None => Ok(None),
+        }
+    }
+}
+
+/// The bytes of all rows.
+pub fn copied_rows(alloc: Global, rows: &[PlainRow]) -> Result<Vec<Vec<u8>>, AllocError>
+    ensures { IfOk result (λ copies. map (λ bytes. bytes.items) copies.items ≡ map (λ r. r.row.items) rows.now) }
+{
+    let mut copies = Vec::new(alloc);
+    for i in 0..rows.len() {
+        copies.push(Vec::from_slice(alloc, rows[i].row.as_slice())?)?;
+    }
+    Ok(copies)
+}
+
+// Puts a row at its key, in place of the one that is there. On want of memory nothing has changed.
+fn put_entry(
+    schema: &Schema,
+    rows: &mut Vec<PlainRow>,
+    key: Vec<u8>,
+    row: Vec<u8>,
+) -> Result<(), AllocError>
+    requires key { is_key schema.now key.items ≡ true }
+    requires keys { list_all (λ r. is_key schema.now r.key.items) rows.old.items ≡ true }
+    ensures applied { OnOk result (rows_in rows.new.items ≡ insert_entry (key_cmp schema.now) (rows_in rows.old.items) key.items row.items) }
+    ensures kept { OnErr result (rows.new.items ≡ rows.old.items) }
+{
+    let place = place_for(schema, rows.as_slice(), key.as_slice());
+    if place < rows.len() && rows[place].key == key {
+        rows[place].row = row;
+        return Ok(());
+    }
+    rows.insert(place, PlainRow { key, row })?;
+    Ok(())
+}
+
+// How many rows stand before the place of a key.
+fn place_for(schema: &Schema, rows: &[PlainRow], key: &[u8]) -> usize
+    requires key { is_key schema.now key.now ≡ true }
+    requires keys { list_all (λ r. is_key schema.now r.key.items) rows.now ≡ true }
+    ensures { result ≡ rows_before schema.now key.now rows.now }
+{
+    for i in 0..rows.len() {
+        if compare_keys(schema, key, rows[i].key.as_slice()) != Ordering::Greater {
+            return i;
+        }
+    }
+    rows.len()
+}
+
+fn find_row<'a>(rows: &'a [PlainRow], key: &[u8]) -> Option<&'a PlainRow>
+    ensures { option_copied result ≡ find (has_key key.now) rows.now }
+{
+    rows.iter().find(|entry| key == entry.key.as_slice())
+}
+
+fn remove_entry(rows: &mut Vec<PlainRow>, key: &[u8])
+    ensures { rows.new.items ≡ filter (λ r. not (has_key key.now r)) rows.old.items }
+{
+    rows.retain(|entry| key != entry.key.as_slice());
+}
