@@ -13,3 +13,5 @@ pub mod ByteSteps
 pub mod RowKeys
 pub mod ByteLaws
 pub mod Keeping
+pub mod Places
+pub mod PlainTables

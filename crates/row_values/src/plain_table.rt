@@ -14,7 +14,6 @@ use crate::key::compare_keys;
 use crate::row_ref::RowRef;
 use crate::schema::Schema;
 use std::alloc::{AllocError, Global};
-use std::cmp::Ordering;
 
 /// A row, and its key.
 #[derive(Debug, Drop)]
@@ -105,7 +104,7 @@ fn place_for(schema: &Schema, rows: &[PlainRow], key: &[u8]) -> usize
     ensures { result ≡ rows_before schema.now key.now rows.now }
 {
     for i in 0..rows.len() {
-        if compare_keys(schema, key, rows[i].key.as_slice()) != Ordering::Greater {
+        if !compare_keys(schema, key, rows[i].key.as_slice()).is_gt() {
             return i;
         }
     }

@@ -13,7 +13,6 @@ use crate::plain_table::{PlainTable, copied_rows};
 use crate::schema::Schema;
 use crate::table_view::TableView;
 use std::alloc::{AllocError, Global};
-use std::cmp::Ordering;
 use std::marker::Model;
 
 /// Tables in memory, as plain lists of rows, to which changes are applied.
@@ -173,7 +172,7 @@ fn place_for(tables: &[PlainTable], name: &str) -> usize
     ensures { result ≡ tables_before name.now tables.now }
 {
     for i in 0..tables.len() {
-        if name.as_bytes().cmp(tables[i].name.as_bytes()) != Ordering::Greater {
+        if !name.as_bytes().cmp(tables[i].name.as_bytes()).is_gt() {
             return i;
         }
     }
