@@ -105,7 +105,7 @@ three true true false h = absurd cc
 three true false c h = absurd cc
 three false b c h = absurd cc
 
-parts : (t : Table) → is_table t ≡ true → (is_shape t.shape ≡ true) × (list_all (is_entry t.shape) t.rows ≡ true) × (rises (key_cmp t.shape) (keys_of t.rows) ≡ true)
+pub parts : (t : Table) → is_table t ≡ true → (is_shape t.shape ≡ true) × (list_all (is_entry t.shape) t.rows ≡ true) × (rises (key_cmp t.shape) (keys_of t.rows) ≡ true)
 parts t h = three (is_shape t.shape) (list_all (is_entry t.shape) t.rows) (rises (key_cmp t.shape) (keys_of t.rows)) h
 
 whole : (t : Table) → is_shape t.shape ≡ true → list_all (is_entry t.shape) t.rows ≡ true → rises (key_cmp t.shape) (keys_of t.rows) ≡ true → is_table t ≡ true

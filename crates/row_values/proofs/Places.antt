@@ -1,15 +1,16 @@
 -- Places in lists, and what is put there.
-use Rattle.std.proofs.Common.{◌≡◌, ◌≢◌, ℕ, ◌+◌, ◌<◌, ◌≤◌, zero, suc, List, [], ◌∷◌, Bool, true, false, cond, refl, sym, ap, ◌∙◌, map, length, drop, set, Option, Some, None, option_map, arith}
+use Rattle.std.proofs.Common.{◌≡◌, ◌≢◌, ℕ, ◌+◌, ◌<◌, ◌≤◌, zero, suc, List, [], ◌∷◌, Bool, true, false, cond, refl, sym, ap, ◌∙◌, map, length, drop, get_or, set, ◌||◌, Option, Some, None, option_map, arith}
 use Rattle.std.proofs.Common.{Ordering, Less, Equal, Greater}
-use Rattle.std.specs.Prelude.{find, filter, not, nat_lt, position}
-use Rattle.std.specs.List.{insert, position_or_len, prefix_len, slice_get}
+use Rattle.std.specs.Prelude.{find, filter, is_some, not, nat_lt, position}
+use Rattle.std.specs.List.{insert, list_any, position_or_len, prefix_len, slice_get}
 use Rattle.std.specs.Map.{lookup}
 use Rattle.std.specs.BTreeMap.{insert_entry}
 use Rattle.std.specs.Ordering.{is_gt, match_ordering}
 use Rattle.std.proofs.lemmas.Bool.Decides.{nat_tests}
 use Rattle.std.proofs.lemmas.List.{drop_all}
 use Rattle.std.proofs.lemmas.List.Folds.{find_at}
-use Rattle.std.proofs.lemmas.Option.{slice_get_within}
+use Rattle.std.proofs.lemmas.Option.{slice_get_read}
+use Rattle.std.proofs.lemmas.List.Quantifiers.{position-Some}
 use Rattle.row_values.proofs.ReadSteps.{drop_at}
 
 -- ---- counting from the front
@@ -60,6 +61,39 @@ found_nowhere p xs is =
     let short = none_by (nat_lt (position_or_len p xs) (length xs)) (position_or_len p xs) is in
     let past : length xs ≤ position_or_len p xs = grind (arith, nat_tests) in
     find_at p xs ∙ slice_past xs (position_or_len p xs) past
+
+-- the item at the place that a search gives
+pub item_there : {A : Type 0} (p : A → Bool) (xs : List A) (i : ℕ) (x : A) → position p xs ≡ Some i → x ≡ get_or xs i x → slice_get xs i ≡ Some x
+item_there p xs i x is at = slice_get_read xs (length xs) i x refl (position-Some p xs i x is).0 at
+
+any_step : {A X : Type 0} (x : A) (e : X) (b rest : Bool) (more : Option X) → rest ≡ is_some more → (b || rest) ≡ is_some (cond b (Some e) more)
+any_step x e true rest more same = refl
+any_step x e false rest more same = same
+
+-- a key is there exactly where it is looked up
+pub any_found : {A X : Type 0} (f : A → List ℕ × X) (test : List ℕ → Bool) (xs : List A) → list_any (λ x. test (f x).0) xs ≡ is_some (lookup test (map f xs))
+any_found f test [] = refl
+any_found f test (x ∷ xs) = any_step x (f x).1 (test (f x).0) (list_any (λ y. test (f y).0) xs) (lookup test (map f xs)) (any_found f test xs)
+
+first_false : (a b : Bool) → (a || b) ≡ false → a ≡ false
+first_false true b h = absurd cc
+first_false false b h = refl
+
+second_false : (a b : Bool) → (a || b) ≡ false → b ≡ false
+second_false true b h = absurd cc
+second_false false b h = h
+
+-- where none passes, the one at a place does not
+pub none_passes : {A : Type 0} (p : A → Bool) (xs : List A) (i : ℕ) (x : A) → list_any p xs ≡ false → slice_get xs i ≡ Some x → p x ≡ false
+none_passes p [] i x h at = absurd cc
+none_passes p (y ∷ ys) zero x h at = let same : y ≡ x = cc in ap p (sym same) ∙ first_false (p y) (list_any p ys) h
+none_passes p (y ∷ ys) (suc i) x h at = none_passes p ys i x (second_false (p y) (list_any p ys) h) at
+
+-- an item in place of one that shows the same changes nothing that is shown
+pub same_shown : {A B : Type 0} (f : A → B) (xs : List A) (i : ℕ) (x new : A) → slice_get xs i ≡ Some x → f new ≡ f x → map f (set xs i new) ≡ map f xs
+same_shown f [] i x new at same = absurd cc
+same_shown f (y ∷ ys) zero x new at same = let here : y ≡ x = cc in ap (λ e. e ∷ map f ys) (same ∙ ap f (sym here))
+same_shown f (y ∷ ys) (suc i) x new at same = ap (λ es. f y ∷ es) (same_shown f ys i x new at same)
 
 lookup_step : {A X : Type 0} (f : A → List ℕ × X) (x : A) (b : Bool) (rest : Option X) (more : Option A) → rest ≡ option_map (λ y. (f y).1) more → cond b (Some (f x).1) rest ≡ option_map (λ y. (f y).1) (cond b (Some x) more)
 lookup_step f x true rest more same = refl

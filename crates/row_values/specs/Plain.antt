@@ -1,5 +1,5 @@
 -- Tables in memory, and what is sought in them.
-use Rattle.std.specs.Prelude.{ℕ, Bool, List, map, bytes_eq}
+use Rattle.std.specs.Prelude.{ℕ, Bool, false, List, Option, Some, None, map, bytes_eq}
 use Rattle.std.specs.String.{string_bytes}
 use Rattle.std.specs.List.{prefix_len}
 use Rattle.std.specs.Ordering.{is_gt, nat_cmp}
@@ -32,6 +32,11 @@ is_named name t = bytes_eq name (string_bytes t.name)
 
 abbrev pub has_key : List ℕ → PlainRow → Bool
 has_key key r = bytes_eq key r.key.items
+
+-- a row of the key stands there
+abbrev pub is_of_key : List ℕ → Option PlainRow → Bool
+is_of_key key None = false
+is_of_key key (Some r) = has_key key r
 
 -- how many rows stand before the place of a key
 abbrev pub rows_before : Shape → List ℕ → List PlainRow → ℕ

@@ -1,12 +1,12 @@
 //! A table in memory.
 
-ghost use Rattle.std.specs.Prelude.{◌≡◌, IfOk, OnErr, OnOk, filter, find, map, not, option_copied, option_map, true, bytes_eq};
-ghost use Rattle.std.specs.List.{list_all};
+ghost use Rattle.std.specs.Prelude.{◌≡◌, ◌≤◌, bytes_eq, IfOk, OnErr, OnOk, filter, find, length, map, not, option_copied, option_map, true};
+ghost use Rattle.std.specs.List.{list_all, slice_get};
+ghost use Rattle.std.specs.Map.{lookup, values_of};
 ghost use Rattle.std.specs.String.{string_bytes};
-ghost use Rattle.std.specs.Map.{values_of};
 ghost use Rattle.std.specs.BTreeMap.{insert_entry};
 ghost use Rattle.row_values.specs.Key.{is_key, key_cmp};
-ghost use Rattle.row_values.specs.Plain.{has_key, named_table, rows_before, rows_in, table_in};
+ghost use Rattle.row_values.specs.Plain.{has_key, is_of_key, rows_before, rows_in, table_in};
 ghost use Rattle.row_values.specs.Tables.{put_row, remove_row};
 ghost use Rattle.row_values.specs.View.{is_table};
 
@@ -56,17 +56,23 @@ impl PlainTable {
 
     /// The row of this key.
     pub fn get(&self, alloc: Global, key: &[u8]) -> Result<Option<Vec<u8>>, AllocError>
-        ensures { IfOk result (λ row. option_map (λ bytes. bytes.items) row ≡ option_map (λ r. r.row.items) (find (has_key key.now) self.now.rows.items)) }
+        ensures { IfOk result (λ row. option_map (λ bytes. bytes.items) row ≡ lookup (bytes_eq key.now) (table_in self.now).rows) }
     {
         match find_row(self.rows.as_slice(), key) {
             Some(found) => Ok(Some(Vec::from_slice(alloc, found.row.as_slice())?)),
             None => Ok(None),
         }
     }
+
+    /// All rows, in the order of their keys.
+    pub fn scan(&self, alloc: Global) -> Result<Vec<Vec<u8>>, AllocError>
+        ensures { IfOk result (λ copies. map (λ bytes. bytes.items) copies.items ≡ values_of (table_in self.now).rows) }
+    {
+        copied_rows(alloc, self.rows.as_slice())
+    }
 }
 
-/// The bytes of all rows.
-pub fn copied_rows(alloc: Global, rows: &[PlainRow]) -> Result<Vec<Vec<u8>>, AllocError>
+fn copied_rows(alloc: Global, rows: &[PlainRow]) -> Result<Vec<Vec<u8>>, AllocError>
     ensures { IfOk result (λ copies. map (λ bytes. bytes.items) copies.items ≡ map (λ r. r.row.items) rows.now) }
 {
     let mut copies = Vec::new(alloc);
@@ -89,7 +95,7 @@ fn put_entry(
     ensures kept { OnErr result (rows.new.items ≡ rows.old.items) }
 {
     let place = place_for(schema, rows.as_slice(), key.as_slice());
-    if place < rows.len() && rows[place].key == key {
+    if has_key_at(rows.as_slice(), place, key.as_slice()) {
         rows[place].row = row;
         return Ok(());
     }
@@ -101,7 +107,8 @@ fn put_entry(
 fn place_for(schema: &Schema, rows: &[PlainRow], key: &[u8]) -> usize
     requires key { is_key schema.now key.now ≡ true }
     requires keys { list_all (λ r. is_key schema.now r.key.items) rows.now ≡ true }
-    ensures { result ≡ rows_before schema.now key.now rows.now }
+    ensures place { result ≡ rows_before schema.now key.now rows.now }
+    ensures within { result ≤ length rows.now }
 {
     for i in 0..rows.len() {
         if !compare_keys(schema, key, rows[i].key.as_slice()).is_gt() {
@@ -109,6 +116,16 @@ fn place_for(schema: &Schema, rows: &[PlainRow], key: &[u8]) -> usize
         }
     }
     rows.len()
+}
+
+// Whether a row of this key stands at the place.
+fn has_key_at(rows: &[PlainRow], place: usize, key: &[u8]) -> bool
+    ensures { result ≡ is_of_key key.now (slice_get rows.now place) }
+{
+    match rows.get(place) {
+        Some(entry) => key == entry.key.as_slice(),
+        None => false,
+    }
 }
 
 fn find_row<'a>(rows: &'a [PlainRow], key: &[u8]) -> Option<&'a PlainRow>

@@ -1,15 +1,16 @@
 //! Tables in memory.
 
-ghost use Rattle.std.specs.Prelude.{◌≡◌, ◌<◌, Bool, IfOk, IfSome, OnErr, OnOk, length, position, true, [], bytes_eq};
+ghost use Rattle.std.specs.Prelude.{◌≡◌, ◌<◌, ◌≤◌, Bool, IfOk, IfSome, OnErr, OnOk, length, map, option_map, position, true, []};
+ghost use Rattle.std.specs.List.{list_any};
 ghost use Rattle.std.specs.String.{string_bytes};
 ghost use Rattle.row_values.specs.Bytes.{is_deed};
 ghost use Rattle.row_values.specs.Change.{deed_of};
 ghost use Rattle.row_values.specs.Plain.{is_named, store_of, tables_before};
-ghost use Rattle.row_values.specs.Tables.{Store, apply, create as create_deed, put as put_deed, remove as remove_deed};
+ghost use Rattle.row_values.specs.Tables.{Store, apply, create as create_deed, put as put_deed, remove as remove_deed, row_of, rows_of, schema_of};
 ghost use Rattle.row_values.specs.View.{is_store};
 
 use crate::change::Change;
-use crate::plain_table::{PlainTable, copied_rows};
+use crate::plain_table::PlainTable;
 use crate::schema::Schema;
 use crate::table_view::TableView;
 use std::alloc::{AllocError, Global};
@@ -71,10 +72,7 @@ impl TableView for PlainView {
     ghost is_told = { true };
 
     fn schema(&mut self, alloc: Global, table: &str) -> Result<Option<Schema>, AllocError> {
-        match place_of(self.tables.as_slice(), table) {
-            Some(i) => Ok(Some(self.tables[i].schema.copy(alloc)?)),
-            None => Ok(None),
-        }
+        copied_schema(self.tables.as_slice(), alloc, table)
     }
 
     fn tables(&mut self) -> Result<usize, AllocError> {
@@ -87,21 +85,58 @@ impl TableView for PlainView {
         table: &str,
         key: &[u8],
     ) -> Result<Option<Vec<u8>>, AllocError> {
-        match place_of(self.tables.as_slice(), table) {
-            Some(i) => self.tables[i].get(alloc, key),
-            None => Ok(None),
-        }
+        copied_row(self.tables.as_slice(), alloc, table, key)
     }
 
     fn scan(&mut self, alloc: Global, table: &str) -> Result<Vec<Vec<u8>>, AllocError> {
-        match place_of(self.tables.as_slice(), table) {
-            Some(i) => copied_rows(alloc, self.tables[i].rows.as_slice()),
-            None => Ok(Vec::new(alloc)),
-        }
+        copied_rows(self.tables.as_slice(), alloc, table)
     }
 
     fn damaged(&self) -> AllocError {
         AllocError
+    }
+}
+
+// The schema of the table of a name, where there is one.
+fn copied_schema(
+    tables: &[PlainTable],
+    alloc: Global,
+    name: &str,
+) -> Result<Option<Schema>, AllocError>
+    ensures { IfOk result (λ schema. schema ≡ schema_of (store_of tables.now) name.now) }
+{
+    match place_of(tables, name) {
+        Some(i) => Ok(Some(tables[i].schema.copy(alloc)?)),
+        None => Ok(None),
+    }
+}
+
+// The row of a key in the table of a name, where it has one.
+fn copied_row(
+    tables: &[PlainTable],
+    alloc: Global,
+    name: &str,
+    key: &[u8],
+) -> Result<Option<Vec<u8>>, AllocError>
+    ensures { IfOk result (λ row. option_map (λ bytes. bytes.items) row ≡ row_of (store_of tables.now) name.now key.now) }
+{
+    match place_of(tables, name) {
+        Some(i) => tables[i].get(alloc, key),
+        None => Ok(None),
+    }
+}
+
+// The rows of the table of a name, where there is one.
+fn copied_rows(
+    tables: &[PlainTable],
+    alloc: Global,
+    name: &str,
+) -> Result<Vec<Vec<u8>>, AllocError>
+    ensures { IfOk result (λ rows. map (λ bytes. bytes.items) rows.items ≡ rows_of (store_of tables.now) name.now) }
+{
+    match place_of(tables, name) {
+        Some(i) => tables[i].scan(alloc),
+        None => Ok(Vec::new(alloc)),
     }
 }
 
@@ -115,7 +150,7 @@ fn create(
     ensures applied { OnOk result (store_of tables.new.items ≡ apply (create_deed (string_bytes name) schema) (store_of tables.old.items)) }
     ensures kept { OnErr result (store_of tables.new.items ≡ store_of tables.old.items) }
 {
-    if place_of(tables.as_slice(), name.as_str()).is_some() {
+    if is_known(tables.as_slice(), name.as_str()) {
         return Ok(());
     }
     let place = place_for(tables.as_slice(), name.as_str());
@@ -157,6 +192,15 @@ fn remove(tables: &mut Vec<PlainTable>, name: &str, key: &[u8])
     }
 }
 
+// Whether there is a table of this name.
+fn is_known(tables: &[PlainTable], name: &str) -> bool
+    ensures { result ≡ list_any (is_named name.now) tables.now }
+{
+    tables
+        .iter()
+        .any(|table| name.as_bytes() == table.name.as_bytes())
+}
+
 // Where the table of a name stands.
 fn place_of(tables: &[PlainTable], name: &str) -> Option<usize>
     ensures place { result ≡ position (is_named name.now) tables.now }
@@ -169,7 +213,8 @@ fn place_of(tables: &[PlainTable], name: &str) -> Option<usize>
 
 // How many tables stand before the place of a name.
 fn place_for(tables: &[PlainTable], name: &str) -> usize
-    ensures { result ≡ tables_before name.now tables.now }
+    ensures place { result ≡ tables_before name.now tables.now }
+    ensures within { result ≤ length tables.now }
 {
     for i in 0..tables.len() {
         if !name.as_bytes().cmp(tables[i].name.as_bytes()).is_gt() {
