@@ -111,15 +111,15 @@ abbrev named_with : List ℕ → Shape → List (List ℕ × List ℕ) → List 
 named_with name shape rows = (name, record { shape = shape; rows = rows })
 
 -- a table of a new name goes to its place
-pub created : (name : List ℕ) (lent ts : List PlainTable) (new : PlainTable) (place : ℕ) → lent ≡ ts → false ≡ list_any (is_named name) lent → place ≡ tables_before name lent → string_bytes new.name ≡ name → rows_in new.rows.items ≡ []
+pub created : (name : List ℕ) (lent also ts : List PlainTable) (new : PlainTable) (place : ℕ) → lent ≡ ts → also ≡ ts → false ≡ list_any (is_named name) lent → place ≡ tables_before name also → string_bytes new.name ≡ name → rows_in new.rows.items ≡ []
     → store_of (insert ts place new) ≡ apply (create name new.schema) (store_of ts)
-created name lent ts new place same unknown at named empty =
+created name lent also ts new place same same_too unknown at named empty =
     let fresh : Table = record { shape = new.schema; rows = [] } in
     let none : list_any (is_named name) ts ≡ false = sym (unknown ∙ ap (list_any (is_named name)) same) in
     let one : named_table new ≡ (name, fresh) = ap (λ n. (n, table_in new)) named ∙ ap (named_with name new.schema) empty in
     chosen_second (is_some (table_of (store_of ts) name)) (store_of ts) (insert_entry (slice_cmp nat_cmp) (store_of ts) name fresh) (store_of (insert ts place new))
     (sym none ∙ any_found named_table (bytes_eq name) ts)
-    (ap (λ i. store_of (insert ts i new)) (at ∙ ap (tables_before name) same)
+    (ap (λ i. store_of (insert ts i new)) (at ∙ ap (tables_before name) same_too)
     ∙ put_new (slice_cmp nat_cmp) named_table name fresh new ts one (λ t there. other_name name t (none_passes (is_named name) ts (tables_before name ts) t none there)))
 
 -- ---- rows
