@@ -127,11 +127,7 @@ fn copied_row(
 }
 
 // The rows of the table of a name, where there is one.
-fn copied_rows(
-    tables: &[PlainTable],
-    alloc: Global,
-    name: &str,
-) -> Result<Vec<Vec<u8>>, AllocError>
+fn copied_rows(tables: &[PlainTable], alloc: Global, name: &str) -> Result<Vec<Vec<u8>>, AllocError>
     ensures { IfOk result (λ rows. map (λ bytes. bytes.items) rows.items ≡ rows_of (store_of tables.now) name.now) }
 {
     match place_of(tables, name) {
