@@ -1,7 +1,7 @@
 -- Places in lists, and what is put there.
-use Rattle.std.proofs.Common.{◌≡◌, ◌≢◌, ℕ, ◌+◌, ◌<◌, ◌≤◌, zero, suc, List, [], ◌∷◌, Bool, true, false, cond, refl, sym, ap, ◌∙◌, map, length, drop, get_or, set, ◌||◌, Option, Some, None, option_map, arith}
+use Rattle.std.proofs.Common.{◌≡◌, ◌≢◌, ℕ, ◌+◌, ◌≤◌, zero, suc, List, [], ◌∷◌, Bool, true, false, cond, refl, sym, ap, ◌∙◌, map, length, drop, get_or, set, ◌||◌, Option, Some, None, option_map, arith}
 use Rattle.std.proofs.Common.{Ordering, Less, Equal, Greater}
-use Rattle.std.specs.Prelude.{find, filter, is_some, not, nat_lt, position}
+use Rattle.std.specs.Prelude.{find, filter, is_some, nat_lt, position}
 use Rattle.std.specs.List.{insert, list_any, position_or_len, prefix_len, slice_get}
 use Rattle.std.specs.Map.{lookup}
 use Rattle.std.specs.BTreeMap.{insert_entry}

@@ -1,6 +1,6 @@
 -- Tables in memory, and what is done to them.
 use Rattle.std.proofs.Common.{◌≡◌, ◌≢◌, ℕ, ◌+◌, ◌<◌, zero, suc, List, [], ◌∷◌, Bool, true, false, true≢false, cond, if◌then◌else◌, refl, sym, ap, subst, ◌∙◌, get_or, length, map, set, Option, Some, None, option_map, Result, Ok, Err, OnOk, OnErr, arith}
-use Rattle.std.proofs.Common.{Ordering, Less, Equal, Greater}
+use Rattle.std.proofs.Common.{Equal}
 use Rattle.std.specs.Prelude.{bytes_eq, find, is_some, not, position, ◌&&◌}
 use Rattle.std.specs.List.{insert, list_all, list_any, position_or_len, slice_get}
 use Rattle.std.specs.String.{string_bytes}

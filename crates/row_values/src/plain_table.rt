@@ -72,6 +72,7 @@ impl PlainTable {
     }
 }
 
+// The bytes of the rows, in their order.
 fn copied_rows(alloc: Global, rows: &[PlainRow]) -> Result<Vec<Vec<u8>>, AllocError>
     ensures { IfOk result (λ copies. map (λ bytes. bytes.items) copies.items ≡ map (λ r. r.row.items) rows.now) }
 {
@@ -128,12 +129,14 @@ fn has_key_at(rows: &[PlainRow], place: usize, key: &[u8]) -> bool
     }
 }
 
+// The row of a key.
 fn find_row<'a>(rows: &'a [PlainRow], key: &[u8]) -> Option<&'a PlainRow>
     ensures { option_copied result ≡ find (has_key key.now) rows.now }
 {
     rows.iter().find(|entry| key == entry.key.as_slice())
 }
 
+// Keeps the rows of other keys.
 fn remove_entry(rows: &mut Vec<PlainRow>, key: &[u8])
     ensures { rows.new.items ≡ filter (λ r. not (has_key key.now r)) rows.old.items }
 {

@@ -1,12 +1,12 @@
 //! Tables in memory.
 
-ghost use Rattle.std.specs.Prelude.{◌≡◌, ◌<◌, ◌≤◌, Bool, IfOk, IfSome, OnErr, OnOk, length, map, option_map, position, true, []};
+ghost use Rattle.std.specs.Prelude.{◌≡◌, ◌<◌, ◌≤◌, IfOk, IfSome, OnErr, OnOk, length, map, option_map, position, true, []};
 ghost use Rattle.std.specs.List.{list_any};
 ghost use Rattle.std.specs.String.{string_bytes};
 ghost use Rattle.row_values.specs.Bytes.{is_deed};
 ghost use Rattle.row_values.specs.Change.{deed_of};
 ghost use Rattle.row_values.specs.Plain.{is_named, store_of, tables_before};
-ghost use Rattle.row_values.specs.Tables.{Store, apply, create as create_deed, put as put_deed, remove as remove_deed, row_of, rows_of, schema_of};
+ghost use Rattle.row_values.specs.Tables.{apply, create as create_deed, put as put_deed, remove as remove_deed, row_of, rows_of, schema_of};
 ghost use Rattle.row_values.specs.View.{is_store};
 
 use crate::change::Change;
@@ -16,7 +16,8 @@ use crate::table_view::TableView;
 use std::alloc::{AllocError, Global};
 use std::marker::Model;
 
-/// Tables in memory, as plain lists of rows, to which changes are applied.
+/// Tables in memory, as plain lists of rows, to which changes are applied. Tables and rows are sought
+/// one by one from the front.
 #[derive(Debug, Drop)]
 pub struct PlainView {
     tables: Vec<PlainTable>,

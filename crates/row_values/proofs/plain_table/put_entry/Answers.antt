@@ -1,5 +1,5 @@
 -- The row goes to the place of its key.
-use Rattle.std.proofs.Common.{◌≡◌, true, false, ap, refl, sym, ◌∙◌}
+use Rattle.std.proofs.Common.{ap, refl, sym, ◌∙◌}
 use Rattle.std.specs.List.{slice_get}
 use Rattle.row_values.specs.Plain.{is_of_key, rows_before, rows_in}
 use Rattle.row_values.proofs.PlainTables.{row_added, row_replaced}

@@ -1,7 +1,6 @@
 -- The schema is that of the table of the name.
-use Rattle.std.proofs.Common.{Some, option_map, ap, sym, ◌∙◌, ◌≡◌}
+use Rattle.std.proofs.Common.{Some, option_map, ap, sym, ◌∙◌}
 use Rattle.row_values.specs.declared.plain_table.PlainTable.{PlainTable}
-use Rattle.row_values.specs.Schema.{Shape}
 use Rattle.row_values.specs.Tables.{Table}
 use Rattle.row_values.proofs.PlainTables.{table_nowhere, table_there}
 use Rattle.row_values.proofs.plain_view.copied_schema.Goals as goal

@@ -2,7 +2,6 @@
 use Rattle.std.proofs.Common.{ap, not, List, ℕ, ◌∙◌}
 use Rattle.std.specs.Prelude.{bytes_eq}
 use Rattle.row_values.specs.Plain.{entry_of, rows_in}
-use Rattle.row_values.specs.Tables.{Table}
 use Rattle.row_values.proofs.Places.{map_kept}
 use Rattle.row_values.proofs.plain_table.PlainTable.remove.Goals as goal
 
