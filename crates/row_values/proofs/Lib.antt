@@ -15,3 +15,5 @@ pub mod RowKeys
 pub mod ByteLaws
 pub mod Keeping
 pub mod Showing
+pub mod Places
+pub mod PlainTables

@@ -93,7 +93,7 @@ value_at-value_bytes column value rest lt fit =
 
 -- ---- what is read was written so
 
-kept : (b : Bool) (x y : Datum × List ℕ) → (if b then Some x else None) ≡ Some y → (b ≡ true) × (x ≡ y)
+pub kept : (b : Bool) (x y : Datum × List ℕ) → (if b then Some x else None) ≡ Some y → (b ≡ true) × (x ≡ y)
 kept true x y h = (refl, cc)
 kept false x y h = absurd cc
 

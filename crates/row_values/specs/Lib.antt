@@ -11,3 +11,4 @@ pub mod View
 pub mod Laws
 pub mod Bytes
 pub mod Change
+pub mod Plain

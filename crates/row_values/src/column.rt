@@ -1,6 +1,6 @@
 //! Columns, and which values fit them.
 
-ghost use Rattle.std.specs.Prelude.{◌≡◌, is_ok};
+ghost use Rattle.std.specs.Prelude.{◌≡◌, IfOk, is_ok};
 ghost use Rattle.std.specs.List.{list_all};
 ghost use Rattle.std.specs.Result.{result_err};
 ghost use Rattle.row_values.specs.Value.{datum_of, number as number_datum, text as text_datum, binary as binary_datum};
@@ -8,6 +8,7 @@ ghost use Rattle.row_values.specs.Column.{column_of, fits, misfit_of, within};
 ghost use Rattle.row_values.specs.Schema.{goes_on_name, is_capital, is_column, is_limit, is_name};
 
 use crate::value::Value;
+use std::alloc::{AllocError, Global};
 
 /// The SQL type of a column.
 #[derive(Clone, Copy, Debug, PartialEq, Eq)]
@@ -64,6 +65,18 @@ impl Column {
         ensures { result ≡ is_column (column_of self.now) }
     {
         is_name(self.name.as_bytes()) && is_length(self.kind, self.length)
+    }
+
+    /// A copy of the column.
+    pub fn copy(&self, alloc: Global) -> Result<Column, AllocError>
+        ensures { IfOk result (λ column. column_of column ≡ column_of self.now) }
+    {
+        Ok(Column {
+            name: String::from_str(alloc, self.name.as_str())?,
+            kind: self.kind,
+            is_nullable: self.is_nullable,
+            length: self.length,
+        })
     }
 
     fn admit_number(&self, number: i64) -> Result<(), Misfit>

@@ -8,6 +8,10 @@ mod column;
 mod encoding;
 mod key;
 pub mod laws;
+mod plain_table;
+#[cfg(test)]
+mod plain_tests;
+mod plain_view;
 mod row;
 mod row_list;
 mod row_ref;
@@ -21,6 +25,7 @@ mod value;
 pub use change::Change;
 pub use column::{Column, Kind, Misfit, is_name};
 pub use key::{are_key, compare_keys, encode_key, is_key};
+pub use plain_view::PlainView;
 pub use row::{Damaged, ReadError, RowError, are_row, encode_row};
 pub use row_list::RowList;
 pub use row_ref::RowRef;

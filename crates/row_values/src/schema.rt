@@ -6,6 +6,7 @@ ghost use Rattle.row_values.specs.Column.{column_of};
 ghost use Rattle.row_values.specs.Schema.{are_columns, can_be_key, is_column, is_key_of, is_shape, key_columns, no_repeat, same_name};
 
 use crate::column::Column;
+use std::alloc::{AllocError, Global};
 use std::marker::Model;
 use thiserror::Error;
 
@@ -60,6 +61,15 @@ impl Schema {
         Ok(Schema { columns, key })
     }
 
+    /// A copy of the schema.
+    pub fn copy(&self, alloc: Global) -> Result<Schema, AllocError>
+        ensures { IfOk result (λ schema. schema ≡ self.now) }
+    {
+        let columns = copied_columns(alloc, self.columns.as_slice())?;
+        let key = Vec::from_slice(alloc, self.key.as_slice())?;
+        Ok(Schema { columns, key })
+    }
+
     /// The columns, in the order of CREATE TABLE.
     pub fn columns(&self) -> &[Column]
         ensures columns { map column_of result.now ≡ self.now.columns }
@@ -83,6 +93,16 @@ impl Schema {
     {
         &self.columns[usize::from(self.key[i])]
     }
+}
+
+fn copied_columns(alloc: Global, columns: &[Column]) -> Result<Vec<Column>, AllocError>
+    ensures { IfOk result (λ copies. map column_of copies.items ≡ map column_of columns.now) }
+{
+    let mut copies = Vec::new(alloc);
+    for i in 0..columns.len() {
+        copies.push(columns[i].copy(alloc)?)?;
+    }
+    Ok(copies)
 }
 
 fn are_columns(columns: &[Column]) -> bool

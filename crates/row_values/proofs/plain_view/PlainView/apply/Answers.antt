@@ -1,0 +1,28 @@
+-- A change keeps a store one.
+use Rattle.std.proofs.Common.{ap, sym, ◌∙◌}
+use Rattle.std.specs.String.{string_bytes}
+use Rattle.row_values.specs.Bytes.{is_deed}
+use Rattle.row_values.specs.Change.{deed_of}
+use Rattle.row_values.specs.Plain.{store_of}
+use Rattle.row_values.specs.Tables.{create, put, remove}
+use Rattle.row_values.specs.View.{is_store}
+use Rattle.row_values.proofs.Keeping.{apply_keeps}
+use Rattle.row_values.proofs.PlainTables.{still_store}
+use Rattle.row_values.proofs.plain_view.PlainView.apply.Goals as goal
+
+pub invariant_of-self : goal.invariant_of-self
+invariant_of-self c =
+    let deed = sym (ap (λ change. is_deed (deed_of change)) c.in-CreateTable.is) ∙ c.requires in
+    still_store c.create.result (create (string_bytes c.in-CreateTable.table) c.in-CreateTable.schema) (store_of c.self.inside.tables.items) (store_of c.create.new.tables.items)
+    c.create.ensures.applied c.create.ensures.kept deed c.self.invariant
+
+pub invariant_of-self-in-Put : goal.invariant_of-self-in-Put
+invariant_of-self-in-Put c =
+    let deed = ap (λ name. is_deed (put name c.in-Put.row.items)) c.as_str.ensures.value ∙ sym (ap (λ change. is_deed (deed_of change)) c.in-Put.is) ∙ c.requires in
+    still_store c.put.result (put c.as_str.result.now c.in-Put.row.items) (store_of c.self.inside.tables.items) (store_of c.put.new.tables.items) c.put.ensures.applied c.put.ensures.kept deed c.self.invariant
+
+pub invariant_of-self-in-Remove : goal.invariant_of-self-in-Remove
+invariant_of-self-in-Remove c =
+    let deed = ap (λ name. is_deed (remove name c.as_slice.result.now)) c.as_str-in-Remove.ensures.value ∙ ap (λ key. is_deed (remove (string_bytes c.in-Remove.table) key)) c.as_slice.ensures.value
+    ∙ sym (ap (λ change. is_deed (deed_of change)) c.in-Remove.is) ∙ c.requires in
+    ap is_store c.remove.ensures ∙ apply_keeps (remove c.as_str-in-Remove.result.now c.as_slice.result.now) (store_of c.self.inside.tables.items) deed c.self.invariant
