@@ -65,8 +65,8 @@ impl Schema {
     pub fn copy(&self, alloc: Global) -> Result<Schema, AllocError>
         ensures { IfOk result (λ schema. schema ≡ self.now) }
     {
-        let columns = copied_columns(alloc, self.columns.as_slice())?;
-        let key = Vec::from_slice(alloc, self.key.as_slice())?;
+        let columns = copied_columns(alloc, self.columns())?;
+        let key = Vec::from_slice(alloc, self.key())?;
         Ok(Schema { columns, key })
     }
 
