@@ -1,0 +1,23 @@
+-- A flush keeps what a run has written.
+use Rattle.std.proofs.Common.{◌≡◌, ◌∙◌, ℕ, List, [], Option, Some, None, take}
+use Rattle.std.specs.Io.KnownBytes.{Appends, Keeps}
+use Rattle.drda_node.specs.Machine.{Machine}
+use Rattle.drda_node.specs.Serving.{Runs, Serves}
+use Rattle.drda_node.specs.declared.serving.RunEnd.{RunEnd}
+use Rattle.drda_node.specs.declared.serving.RunEnd.TheVariants as ends
+
+appended_kept : (before mid now : Option (List ℕ)) (written : List ℕ) → Appends before mid written → Keeps mid now → Appends before now written
+appended_kept None mid now written a k = tt
+appended_kept (Some xs) None now written a k = absurd a
+appended_kept (Some xs) (Some ys) None written a k = absurd k
+appended_kept (Some xs) (Some ys) (Some zs) written a k = k ∙ a
+
+serves_kept : (first last : Machine) (input rest : List ℕ) (before mid now : Option (List ℕ)) → Keeps mid now → Serves first input before rest mid last → Serves first input before rest now last
+serves_kept first last input rest before mid now k s = record { written = s.written; answered = s.answered; appended = appended_kept before mid now s.written s.appended k }
+
+pub runs_kept : (first last : Machine) (input : List ℕ) (before mid now : Option (List ℕ)) (end : RunEnd) → Keeps mid now → Runs first input before end mid last → Runs first input before end now last
+runs_kept first last input before mid now ends.Ended k r = serves_kept first last input [] before mid now k r
+runs_kept first last input before mid now ends.BadEvent k (rest, bad, s) = (rest, bad, serves_kept first last input rest before mid now k s)
+runs_kept first last input before mid now ends.ReadFault k (rest, s) = (rest, serves_kept first last input rest before mid now k s)
+runs_kept first last input before mid now ends.NoMemory k (rest, between, s) = (rest, between, serves_kept first between input rest before mid now k s)
+runs_kept first last input before mid now ends.WriteFault k (written, rest, count, a, w) = (written, rest, count, a, appended_kept before mid now (take count written) w k)
