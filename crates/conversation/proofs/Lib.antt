@@ -1,3 +1,4 @@
+pub mod Closed
 mod Walked
 mod Counting
 mod Entries

@@ -10,3 +10,4 @@ pub mod Closing
 pub mod Held
 pub mod Views
 pub mod Steps
+pub mod Laws

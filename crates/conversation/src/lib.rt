@@ -6,6 +6,7 @@ mod access;
 mod front;
 mod given;
 mod judge;
+pub mod laws;
 mod levels;
 mod names;
 mod refusal;

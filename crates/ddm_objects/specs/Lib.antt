@@ -1,3 +1,4 @@
+pub mod Names
 pub mod Objects
 pub mod Fault
 pub mod Reading

@@ -1,6 +1,9 @@
 //! The code points of the commands, parameters, data objects, managers and replies that are used
 //! here, under the names of the standard (DRDA V5 volume 3, DDM).
 
+ghost use Rattle.std.specs.Prelude.{◌≡◌, Some, option_map};
+ghost use Rattle.ddm_objects.specs.Names.{four_digits, message_of, name_of, object_of, shown};
+
 use std::fmt;
 
 // Commands.
@@ -292,109 +295,148 @@ pub const CMDVLTRM: u16 = 0x221D;
 pub struct CodePoint(pub u16);
 
 impl fmt::Display for CodePoint {
+    ghost output = { λ code. Some (shown code.0) };
+
     fn fmt<W: fmt::Write>(&self, f: &mut fmt::Formatter<W>) -> fmt::Result {
+        let digits = digits(self.0);
+        let digits = str::from_utf8(&digits).map_err(|_| fmt::Error)?;
         match name(self.0) {
-            Some(name) => write!(f, "{name} {:04X}", self.0),
-            None => write!(f, "{:04X}", self.0),
+            Some(name) => write!(f, "{name} {digits}"),
+            None => f.write_str(digits),
         }
     }
 }
 
+/// The hexadecimal digits.
+static DIGITS: [u8; 16] = *b"0123456789ABCDEF";
+
+/// Four hexadecimal digits, in ASCII.
+#[tactic(auto, unfolding(crate::specs::Names::four_digits))]
+fn digits(code: u16) -> [u8; 4]
+    ensures { result ≡ four_digits code }
+{
+    [
+        DIGITS[usize::from(code / 0x1000)],
+        DIGITS[usize::from(code / 0x100 % 0x10)],
+        DIGITS[usize::from(code / 0x10 % 0x10)],
+        DIGITS[usize::from(code % 0x10)],
+    ]
+}
+
 /// The standard's name of a code point.
-fn name(code: u16) -> Option<&'static str> {
-    let name = match code {
-        EXCSAT => "EXCSAT",
-        ACCSEC => "ACCSEC",
-        SECCHK => "SECCHK",
-        SYNCCTL => "SYNCCTL",
-        ACCRDB => "ACCRDB",
-        CLSQRY => "CLSQRY",
-        CNTQRY => "CNTQRY",
-        DSCSQLSTT => "DSCSQLSTT",
-        EXCSQLIMM => "EXCSQLIMM",
-        EXCSQLSTT => "EXCSQLSTT",
-        OPNQRY => "OPNQRY",
-        PRPSQLSTT => "PRPSQLSTT",
-        RDBCMM => "RDBCMM",
-        RDBRLLBCK => "RDBRLLBCK",
-        CODPNT => "CODPNT",
-        TYPDEFNAM => "TYPDEFNAM",
-        TYPDEFOVR => "TYPDEFOVR",
-        PRDID => "PRDID",
-        SRVCLSNM => "SRVCLSNM",
-        SVRCOD => "SVRCOD",
-        SYNERRCD => "SYNERRCD",
-        SRVRLSLV => "SRVRLSLV",
-        EXTNAM => "EXTNAM",
-        SRVNAM => "SRVNAM",
-        SYNCTYPE => "SYNCTYPE",
-        CCSIDSBC => "CCSIDSBC",
-        CCSIDDBC => "CCSIDDBC",
-        CCSIDMBC => "CCSIDMBC",
-        USRID => "USRID",
-        PASSWORD => "PASSWORD",
-        SECMEC => "SECMEC",
-        SECCHKCD => "SECCHKCD",
-        MGRLVLLS => "MGRLVLLS",
-        XID => "XID",
-        XAFLAGS => "XAFLAGS",
-        XARETVAL => "XARETVAL",
-        PRPHRCLST => "PRPHRCLST",
-        XIDCNT => "XIDCNT",
-        TIMEOUT => "TIMEOUT",
-        QRYPRCTYP => "QRYPRCTYP",
-        RDBACCCL => "RDBACCCL",
-        RDBNAM => "RDBNAM",
-        PKGNAMCSN => "PKGNAMCSN",
-        QRYBLKSZ => "QRYBLKSZ",
-        UOWDSP => "UOWDSP",
-        RTNSQLDA => "RTNSQLDA",
-        SQLCSRHLD => "SQLCSRHLD",
-        TYPSQLDA => "TYPSQLDA",
-        QRYINSID => "QRYINSID",
-        LMTBLKPRC => "LMTBLKPRC",
-        FDODSC => "FDODSC",
-        FDODTA => "FDODTA",
-        SQLCARD => "SQLCARD",
-        SQLDARD => "SQLDARD",
-        SQLDTA => "SQLDTA",
-        SQLSTT => "SQLSTT",
-        QRYDSC => "QRYDSC",
-        QRYDTA => "QRYDTA",
-        SQLATTR => "SQLATTR",
-        AGENT => "AGENT",
-        SQLAM => "SQLAM",
-        RDB => "RDB",
-        SECMGR => "SECMGR",
-        CMNTCPIP => "CMNTCPIP",
-        SYNCPTMGR => "SYNCPTMGR",
-        RSYNCMGR => "RSYNCMGR",
-        XAMGR => "XAMGR",
-        UNICODEMGR => "UNICODEMGR",
-        MGRDEPRM => "MGRDEPRM",
-        SECCHKRM => "SECCHKRM",
-        AGNPRMRM => "AGNPRMRM",
-        RSCLMTRM => "RSCLMTRM",
-        PRCCNVRM => "PRCCNVRM",
-        SYNCCRD => "SYNCCRD",
-        SYNTAXRM => "SYNTAXRM",
-        CMDNSPRM => "CMDNSPRM",
-        VALNSPRM => "VALNSPRM",
-        EXCSATRD => "EXCSATRD",
-        ACCSECRD => "ACCSECRD",
-        ACCRDBRM => "ACCRDBRM",
-        QRYNOPRM => "QRYNOPRM",
-        RDBNACRM => "RDBNACRM",
-        OPNQRYRM => "OPNQRYRM",
-        RDBACCRM => "RDBACCRM",
-        ENDQRYRM => "ENDQRYRM",
-        ENDUOWRM => "ENDUOWRM",
-        QRYPOPRM => "QRYPOPRM",
-        RDBNFNRM => "RDBNFNRM",
-        OPNQFLRM => "OPNQFLRM",
-        RDBUPDRM => "RDBUPDRM",
-        CMDVLTRM => "CMDVLTRM",
-        _ => return None,
-    };
-    Some(name)
+fn name(code: u16) -> Option<&'static str>
+    ensures { option_map (λ name. name.now) result ≡ name_of code }
+{
+    message_name(code).or(object_name(code))
+}
+
+/// The name of a command or a reply.
+#[tactic(auto, unfolding(crate::specs::Names::message_of))]
+fn message_name(code: u16) -> Option<&'static str>
+    ensures { option_map (λ name. name.now) result ≡ message_of code }
+{
+    match code {
+        EXCSAT => Some("EXCSAT"),
+        ACCSEC => Some("ACCSEC"),
+        SECCHK => Some("SECCHK"),
+        SYNCCTL => Some("SYNCCTL"),
+        ACCRDB => Some("ACCRDB"),
+        CLSQRY => Some("CLSQRY"),
+        CNTQRY => Some("CNTQRY"),
+        DSCSQLSTT => Some("DSCSQLSTT"),
+        EXCSQLIMM => Some("EXCSQLIMM"),
+        EXCSQLSTT => Some("EXCSQLSTT"),
+        OPNQRY => Some("OPNQRY"),
+        PRPSQLSTT => Some("PRPSQLSTT"),
+        RDBCMM => Some("RDBCMM"),
+        RDBRLLBCK => Some("RDBRLLBCK"),
+        MGRDEPRM => Some("MGRDEPRM"),
+        SECCHKRM => Some("SECCHKRM"),
+        AGNPRMRM => Some("AGNPRMRM"),
+        RSCLMTRM => Some("RSCLMTRM"),
+        PRCCNVRM => Some("PRCCNVRM"),
+        SYNCCRD => Some("SYNCCRD"),
+        SYNTAXRM => Some("SYNTAXRM"),
+        CMDNSPRM => Some("CMDNSPRM"),
+        VALNSPRM => Some("VALNSPRM"),
+        EXCSATRD => Some("EXCSATRD"),
+        ACCSECRD => Some("ACCSECRD"),
+        ACCRDBRM => Some("ACCRDBRM"),
+        QRYNOPRM => Some("QRYNOPRM"),
+        RDBNACRM => Some("RDBNACRM"),
+        OPNQRYRM => Some("OPNQRYRM"),
+        RDBACCRM => Some("RDBACCRM"),
+        ENDQRYRM => Some("ENDQRYRM"),
+        ENDUOWRM => Some("ENDUOWRM"),
+        QRYPOPRM => Some("QRYPOPRM"),
+        RDBNFNRM => Some("RDBNFNRM"),
+        OPNQFLRM => Some("OPNQFLRM"),
+        RDBUPDRM => Some("RDBUPDRM"),
+        CMDVLTRM => Some("CMDVLTRM"),
+        _ => None,
+    }
+}
+
+/// The name of a parameter, a data object or a manager.
+#[tactic(auto, unfolding(crate::specs::Names::object_of))]
+fn object_name(code: u16) -> Option<&'static str>
+    ensures { option_map (λ name. name.now) result ≡ object_of code }
+{
+    match code {
+        CODPNT => Some("CODPNT"),
+        TYPDEFNAM => Some("TYPDEFNAM"),
+        TYPDEFOVR => Some("TYPDEFOVR"),
+        PRDID => Some("PRDID"),
+        SRVCLSNM => Some("SRVCLSNM"),
+        SVRCOD => Some("SVRCOD"),
+        SYNERRCD => Some("SYNERRCD"),
+        SRVRLSLV => Some("SRVRLSLV"),
+        EXTNAM => Some("EXTNAM"),
+        SRVNAM => Some("SRVNAM"),
+        SYNCTYPE => Some("SYNCTYPE"),
+        CCSIDSBC => Some("CCSIDSBC"),
+        CCSIDDBC => Some("CCSIDDBC"),
+        CCSIDMBC => Some("CCSIDMBC"),
+        USRID => Some("USRID"),
+        PASSWORD => Some("PASSWORD"),
+        SECMEC => Some("SECMEC"),
+        SECCHKCD => Some("SECCHKCD"),
+        MGRLVLLS => Some("MGRLVLLS"),
+        XID => Some("XID"),
+        XAFLAGS => Some("XAFLAGS"),
+        XARETVAL => Some("XARETVAL"),
+        PRPHRCLST => Some("PRPHRCLST"),
+        XIDCNT => Some("XIDCNT"),
+        TIMEOUT => Some("TIMEOUT"),
+        QRYPRCTYP => Some("QRYPRCTYP"),
+        RDBACCCL => Some("RDBACCCL"),
+        RDBNAM => Some("RDBNAM"),
+        PKGNAMCSN => Some("PKGNAMCSN"),
+        QRYBLKSZ => Some("QRYBLKSZ"),
+        UOWDSP => Some("UOWDSP"),
+        RTNSQLDA => Some("RTNSQLDA"),
+        SQLCSRHLD => Some("SQLCSRHLD"),
+        TYPSQLDA => Some("TYPSQLDA"),
+        QRYINSID => Some("QRYINSID"),
+        LMTBLKPRC => Some("LMTBLKPRC"),
+        FDODSC => Some("FDODSC"),
+        FDODTA => Some("FDODTA"),
+        SQLCARD => Some("SQLCARD"),
+        SQLDARD => Some("SQLDARD"),
+        SQLDTA => Some("SQLDTA"),
+        SQLSTT => Some("SQLSTT"),
+        QRYDSC => Some("QRYDSC"),
+        QRYDTA => Some("QRYDTA"),
+        SQLATTR => Some("SQLATTR"),
+        AGENT => Some("AGENT"),
+        SQLAM => Some("SQLAM"),
+        RDB => Some("RDB"),
+        SECMGR => Some("SECMGR"),
+        CMNTCPIP => Some("CMNTCPIP"),
+        SYNCPTMGR => Some("SYNCPTMGR"),
+        RSYNCMGR => Some("RSYNCMGR"),
+        XAMGR => Some("XAMGR"),
+        UNICODEMGR => Some("UNICODEMGR"),
+        _ => None,
+    }
 }

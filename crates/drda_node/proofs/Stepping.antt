@@ -20,7 +20,8 @@ use Rattle.drda_node.specs.declared.fed.Fed.{Fed}
 use Rattle.drda_node.specs.declared.fed.FedState.{FedState}
 use Rattle.drda_node.specs.declared.fed.FedState.TheVariants.{Open, Later, Closed as is_shut, Short as is_short}
 use Rattle.drda_node.specs.Feeding.{IsSettled, shown_held, Told, Takes, LeftAs, bytes_behind, state_for}
-use Rattle.drda_node.proofs.Conversing.{does_closed, hears_then, hears_closed}
+use Rattle.conversation.proofs.Closed.{does_closed}
+use Rattle.drda_node.proofs.Conversing.{hears_then, hears_closed}
 
 abbrev pub reply_behind : Need → List ℕ
 reply_behind Bytes = []

@@ -18,3 +18,7 @@ result_for ends.BadEvent = Err BadEvent
 result_for ends.ReadFault = Err Device
 result_for ends.WriteFault = Err Device
 result_for ends.NoMemory = Err NoMemory
+
+abbrev pub status_of : Result (Unit {0}) Fault → ℕ
+status_of (Ok done) = 0
+status_of (Err fault) = status_for fault

@@ -1,5 +1,9 @@
 //! The command line.
 
+ghost use Rattle.std.specs.Prelude.{◌≡◌, IfOk, map, option_map};
+ghost use Rattle.clap.specs.Words.{app_of, found_of, rows_of, subcommand_rows_of};
+ghost use Rattle.drdad.specs.CommandLine.{Parses, Says, drdad, said, service_by, service_in};
+
 use crate::fault::Fault;
 use clap::error::ErrorKind;
 use clap::{Arg, ArgMatches, Command};
@@ -8,7 +12,9 @@ use std::alloc::{AllocError, Global};
 use std::convert::AsStr;
 use std::io::Write;
 
-fn command<'a>(alloc: Global) -> Result<Command<'a>, AllocError> {
+fn command<'a>(alloc: Global) -> Result<Command<'a>, AllocError>
+    ensures { IfOk result (λ c. app_of c ≡ drdad) }
+{
     let rdb = Arg::new(alloc, "rdb")
         .long("rdb")
         .value_name("NAME")
@@ -31,21 +37,26 @@ fn matches_of<'a, S: AsStr, E: Write>(
     alloc: Global,
     words: &'a [S],
     err: &mut E,
-) -> Result<ArgMatches<'a>, Fault> {
+) -> Result<ArgMatches<'a>, Fault>
+    ensures { Parses subcommand_rows_of (map S.text words.now) result }
+{
     match command(alloc)?.try_get_matches_from(words) {
         Ok(matches) => Ok(matches),
-        Err(error) => {
-            if error.kind() == ErrorKind::OutOfMemory {
-                return Err(Fault::NoMemory);
+        Err(error) => match error.kind() {
+            ErrorKind::OutOfMemory => Err(Fault::NoMemory),
+            _ => {
+                let _ = writeln!(err, "{error}");
+                Err(Fault::BadArguments)
             }
-            let _ = writeln!(err, "{error}");
-            Err(Fault::BadArguments)
-        }
+        },
     }
 }
 
-fn settings_from(alloc: Global, pipe: &ArgMatches<'_>) -> Result<Settings, Fault> {
-    let (Some(user), Some(rdb)) = (pipe.get_str("user"), pipe.get_str("rdb")) else {
+// What the values of --user and --rdb say.
+fn settings_by(alloc: Global, user: Option<&str>, rdb: Option<&str>) -> Result<Settings, Fault>
+    ensures { Says (service_by (option_map (λ u. u.now) user.entry) (option_map (λ r. r.now) rdb.entry)) result }
+{
+    let (Some(user), Some(rdb)) = (user, rdb) else {
         return Err(Fault::BadArguments);
     };
     let Some((user, password)) = user.split_once(':') else {
@@ -58,13 +69,21 @@ fn settings_from(alloc: Global, pipe: &ArgMatches<'_>) -> Result<Settings, Fault
     }
 }
 
-/// The settings that the words of `drdad pipe` say. The text of a mistake in them, or of a request for
-/// help, is written to `err`.
+fn settings_from(alloc: Global, pipe: &ArgMatches<'_>) -> Result<Settings, Fault>
+    ensures { Says (service_in (rows_of (found_of pipe.now))) result }
+{
+    settings_by(alloc, pipe.get_str("user"), pipe.get_str("rdb"))
+}
+
+/// The settings that the words of `drdad pipe` say. BadArguments exactly where they say none; the text of
+/// the mistake, or of a request for help, is then written to `err`.
 pub fn settings_of<S: AsStr, E: Write>(
     alloc: Global,
     words: &[S],
     err: &mut E,
-) -> Result<Settings, Fault> {
+) -> Result<Settings, Fault>
+    ensures { Says (said (map S.text words.now)) result }
+{
     let matches = matches_of(alloc, words, err)?;
     match matches.subcommand_matches("pipe") {
         Some(pipe) => settings_from(alloc, pipe),

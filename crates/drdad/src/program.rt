@@ -1,10 +1,13 @@
 //! The program over streams that are handed in.
 
-ghost use Rattle.std.specs.Prelude.{◌≡◌};
+ghost use Rattle.std.specs.Prelude.{◌≡◌, IfSome, Some, map};
+ghost use Rattle.drdad.specs.CommandLine.{said};
+ghost use Rattle.drdad.specs.Program.{Does, Exits};
 ghost use Rattle.drdad.specs.Statuses.{result_for};
 
 use crate::command_line::settings_of;
 use crate::fault::Fault;
+use conversation::Settings;
 use drda_node::{Node, RunEnd, run};
 use std::alloc::Global;
 use std::convert::AsStr;
@@ -21,14 +24,15 @@ fn result_of(end: RunEnd) -> Result<(), Fault>
     }
 }
 
-fn try_words<S: AsStr, R: Read, W: Write, E: Write>(
+// Runs a node with these settings.
+fn serve<R: Read, W: Write>(
     alloc: Global,
-    words: &[S],
+    settings: Settings,
     reader: &mut R,
     out: &mut W,
-    err: &mut E,
-) -> Result<(), Fault> {
-    let settings = settings_of(alloc, words, err)?;
+) -> Result<(), Fault>
+    ensures { IfSome (R.remaining reader.old) (λ input. Does (Some settings) input (W.contents out.old) result (W.contents out.new)) }
+{
     let mut node = Node::start(alloc, settings)?;
     let end = run(alloc, &mut node, reader, out);
     match out.flush() {
@@ -37,15 +41,36 @@ fn try_words<S: AsStr, R: Read, W: Write, E: Write>(
     }
 }
 
+fn try_words<S: AsStr, R: Read, W: Write, E: Write>(
+    alloc: Global,
+    words: &[S],
+    reader: &mut R,
+    out: &mut W,
+    err: &mut E,
+) -> Result<(), Fault>
+    ensures { IfSome (R.remaining reader.old) (λ input. Does (said (map S.text words.now)) input (W.contents out.old) result (W.contents out.new)) }
+{
+    let settings = settings_of(alloc, words, err)?;
+    serve(alloc, settings, reader, out)
+}
+
 /// Does what the words say, the program's name first, and answers the exit status; a fault's text goes
 /// to `err`. Faults come in this order: arguments, then those of the run.
+///
+/// Where the words say a user, a password and a database (`said`), a machine that is started with them
+/// answers the events of the input. 0 and 4 come exactly for an input of events alone and for one with
+/// something else behind its events; 1 where the words say nothing, and then nothing is read or
+/// written; 2 where a stream failed; 5 where memory was refused.
 pub fn run_words<S: AsStr, R: Read, W: Write, E: Write>(
     alloc: Global,
     words: &[S],
     reader: &mut R,
     out: &mut W,
     err: &mut E,
-) -> u8 {
+) -> u8
+    ensures { IfSome (R.remaining reader.old) (λ input.
+        Exits (said (map S.text words.now)) input (W.contents out.old) result (W.contents out.new)) }
+{
     match try_words(alloc, words, reader, out, err) {
         Ok(()) => 0,
         Err(fault) => {

@@ -1,0 +1,8 @@
+use Rattle.std.proofs.Common.{rules}
+use borrow.Author.Tests.{tests}
+use Rattle.ddm_objects.specs.Names.{object_of}
+use Rattle.ddm_objects.proofs.code_point.object_name.Goals as goal
+
+pub returns-in_default : goal.returns-in_default
+unfolding object_of
+returns-in_default c = search (tests, rules)
