@@ -1,7 +1,7 @@
 use Rattle.std.proofs.Common.{rules, refl, true, ap, ap₂, ◌≡◌, ◌∙◌}
 use Rattle.std.proofs.lemmas.Result.{IfOk-weaker}
-use Rattle.clap.specs.Words.{App, app_of, new_app, rule_of, with_rule, with_subcommand}
-use Rattle.drdad.specs.CommandLine.{drdad, pipe, rdb_rule, user_rule}
+use Rattle.clap.specs.Words.{App, app_of, rule_of, with_rule, with_subcommand}
+use Rattle.drdad.specs.CommandLine.{pipe, rdb_rule, user_rule}
 use Rattle.drdad.proofs.command_line.command.Goals as goal
 
 pub returns : goal.returns
