@@ -58,9 +58,10 @@ fn try_words<S: AsStr, R: Read, W: Write, E: Write>(
 /// to `err`. Faults come in this order: arguments, then those of the run.
 ///
 /// Where the words say a user, a password and a database (`said`), a machine that is started with them
-/// answers the events of the input. 0 and 4 come exactly for an input of events alone and for one with
-/// something else behind its events; 1 where the words say nothing, and then nothing is read or
-/// written; 2 where a stream failed; 5 where memory was refused.
+/// answers the events of the input. The status is 0 only where all of the input was events and all are
+/// answered; 1 only where the words say nothing, and then nothing is written; 2 where a stream failed,
+/// the last flush of `out` included; 4 only where something else stands behind the events that are
+/// answered; 5 where memory was refused.
 pub fn run_words<S: AsStr, R: Read, W: Write, E: Write>(
     alloc: Global,
     words: &[S],

@@ -72,6 +72,9 @@ impl TableView for PlainView {
 
     ghost is_told = { true };
 
+    // It never meets damage, and has one fault.
+    ghost tells_damage = { λ _. true };
+
     fn schema(&mut self, alloc: Global, table: &str) -> Result<Option<Schema>, AllocError> {
         copied_schema(self.tables.as_slice(), alloc, table)
     }

@@ -10,7 +10,7 @@ use std::alloc::Global;
 /// A view of the tables of a store. A call that answers tells of the store truly where the view is
 /// told truly itself: `is_told` is a constant of the type, true for tables in memory, and false for
 /// tables in a file, of which no contract can say what it holds. No call changes the store, and a
-/// fault says nothing of it.
+/// fault says nothing of it; `tells_damage` are the faults by which a view says that it is damaged.
 pub trait TableView {
     /// Why a view may not answer: at least want of memory.
     type Fault;
@@ -18,6 +18,8 @@ pub trait TableView {
     ghost store: { Self → Store };
 
     ghost is_told: { Bool };
+
+    ghost tells_damage: { Self.Fault → Bool };
 
     /// The schema of the table of this name, where there is one.
     fn schema(&mut self, alloc: Global, table: &str) -> Result<Option<Schema>, Self::Fault>
@@ -47,5 +49,6 @@ pub trait TableView {
 
     /// The fault of a row that is none of its table's schema, which only a view that is not told
     /// truly can meet.
-    fn damaged(&self) -> Self::Fault;
+    fn damaged(&self) -> Self::Fault
+        ensures { tells_damage result ≡ true };
 }
