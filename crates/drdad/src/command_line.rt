@@ -75,8 +75,9 @@ fn settings_from(alloc: Global, pipe: &ArgMatches<'_>) -> Result<Settings, Fault
     settings_by(alloc, pipe.get_str("user"), pipe.get_str("rdb"))
 }
 
-/// The settings that the words of `drdad pipe` say. BadArguments exactly where they say none; the text of
-/// the mistake, or of a request for help, is then written to `err`.
+/// The settings that the words of `drdad pipe` say, the program's name first. BadArguments where they say
+/// none, NoMemory where memory is wanting. What the command-line parser has to say of a mistake, or of a
+/// request for help, is written to `err`; a U:P without a colon and a name that is none have no such text.
 pub fn settings_of<S: AsStr, E: Write>(
     alloc: Global,
     words: &[S],
