@@ -31,9 +31,9 @@ abbrev pub ◌⇒◌ : {B : Type 0} → (List Lexeme → List Lexeme → Type 0)
 (S ⇒ T) y mid rest = (ts : List Lexeme) → S ts mid → T y ts rest
 
 -- not empty
-abbrev pub IsSome : List Lexeme → Type 0
-IsSome [] = ⊥
-IsSome (l ∷ ts) = Unit {0}
+abbrev pub IsNonEmpty : List Lexeme → Type 0
+IsNonEmpty [] = ⊥
+IsNonEmpty (l ∷ ts) = Unit {0}
 
 -- What is known of a parser by what it gives.
 -- What it takes is spelled so, whatever follows, and is taken wherever the same token follows.
@@ -42,7 +42,7 @@ IsSome (l ∷ ts) = Unit {0}
 abbrev pub Told : {A : Type 0} → Type 0 → ℕ → Parser A → Rule A → List Lexeme → Outcome A → Type 0
 Told Deeper n p R ts (Ok x) = (front : List Lexeme) × (ts ≡ front ++ x.1) × ((more : List Lexeme) → R x.0 (front ++ more) more) × ((more : List Lexeme) → SameHead x.1 more → p (front ++ more) ≡ Ok (x.0, more))
 Told Deeper n p R ts (Err (fault.Unexpected at)) = (front : List Lexeme) × (bad : List Lexeme) × (ts ≡ front ++ bad) × (at ≡ place bad) × GoesOn R front × ((more : List Lexeme) → SameHead bad more → p (front ++ more) ≡ Err (fault.Unexpected (place more)))
-Told Deeper n p R ts (Err fault.Deep) = Deeper → length ts < n → (front : List Lexeme) × (rest : List Lexeme) × IsSome front × (ts ≡ front ++ rest) × GoesOn R front × ((more : List Lexeme) → p (front ++ more) ≡ Err fault.Deep)
+Told Deeper n p R ts (Err fault.Deep) = Deeper → length ts < n → (front : List Lexeme) × (rest : List Lexeme) × IsNonEmpty front × (ts ≡ front ++ rest) × GoesOn R front × ((more : List Lexeme) → p (front ++ more) ≡ Err fault.Deep)
 Told Deeper n p R ts (Err fault.Memory) = Unit {0}
 
 -- and that for all tokens
@@ -66,15 +66,15 @@ same_behind (l ∷ front) bad more h = refl
 pub head_append : (whole front bad more : List Lexeme) → whole ≡ front ++ bad → SameHead bad more → SameHead whole (front ++ more)
 head_append whole front bad more e h = let P : List Lexeme → Type 0 = λ u. SameHead u (front ++ more) in subst P (sym e) (same_behind front bad more h)
 
-some_behind : (front more : List Lexeme) → IsSome more → IsSome (front ++ more)
+some_behind : (front more : List Lexeme) → IsNonEmpty more → IsNonEmpty (front ++ more)
 some_behind [] more some = some
 some_behind (l ∷ front) more some = tt
 
-head_of : (front rest more : List Lexeme) → IsSome front → SameHead (front ++ rest) (front ++ more)
+head_of : (front rest more : List Lexeme) → IsNonEmpty front → SameHead (front ++ rest) (front ++ more)
 head_of [] rest more some = absurd some
 head_of (l ∷ front) rest more some = refl
 
-pub head_some : (whole front rest more : List Lexeme) → whole ≡ front ++ rest → IsSome front → SameHead whole (front ++ more)
+pub head_some : (whole front rest more : List Lexeme) → whole ≡ front ++ rest → IsNonEmpty front → SameHead whole (front ++ more)
 head_some whole front rest more e some = let P : List Lexeme → Type 0 = λ u. SameHead u (front ++ more) in subst P (sym e) (head_of front rest more some)
 
 module _ {A B : Type 0} (R : Rule A) (T : Rule B) where
