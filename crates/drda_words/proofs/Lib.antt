@@ -1,1 +1,4 @@
-mod Laws
+mod Strict
+pub mod Precedes
+pub mod Bytes
+pub mod Number

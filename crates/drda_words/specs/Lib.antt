@@ -1,3 +1,5 @@
 pub mod Excuse
 pub mod Place
 pub mod Order
+pub mod Bytes
+pub mod Number

@@ -1,7 +1,10 @@
 //! Words that several crates' contracts share: want of memory in place of an answer, a slice at a
-//! place, and the order of byte lists. They stand in `specs/`; the functions here state their laws.
+//! place, bytes and numbers of two bytes, and the order of byte lists. They stand in `specs/`; the
+//! functions here state their laws, and the lemmas in `proofs/` serve the crates above.
 #![tactic(auto)]
 
+mod laws;
 mod order;
 
+pub use laws::{parts_are_bytes, words_are_numbers};
 pub use order::{bytes_precede, order_is_strict};

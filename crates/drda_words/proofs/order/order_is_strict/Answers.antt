@@ -1,4 +1,4 @@
-use Rattle.drda_words.proofs.Laws.{never, onward, compared}
+use Rattle.drda_words.proofs.Strict.{never, onward, compared}
 use Rattle.drda_words.proofs.order.order_is_strict.Goals as goal
 
 pub returns : goal.returns
