@@ -1,0 +1,5 @@
+//! Tests of ordered_rows.
+#![tactic(auto)]
+
+#[cfg(test)]
+mod tests;
