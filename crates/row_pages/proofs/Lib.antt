@@ -1,0 +1,4 @@
+mod Passing
+mod RowBytes
+mod PageBytes
+mod Growing

@@ -1,0 +1,5 @@
+pub mod Page
+pub mod Reading
+pub mod Parsing
+pub mod Walk
+pub mod Filling
