@@ -7,13 +7,7 @@ pub mod ReadSteps
 pub mod RowColumns
 pub mod Keys
 pub mod KeyOrder
-pub mod Finding
-pub mod Changes
 pub mod Kept
 pub mod ByteSteps
 pub mod RowKeys
 pub mod ByteLaws
-pub mod Keeping
-pub mod Showing
-pub mod Places
-pub mod PlainTables

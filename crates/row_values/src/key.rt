@@ -1,7 +1,7 @@
 //! Keys.
 
 ghost use Rattle.std.specs.Prelude.{◌≡◌, ◌≤◌, IfOk, IsTrue, OnOk, length, map, true};
-ghost use Rattle.row_values.specs.Value.{datum_of};
+ghost use Rattle.row_values.specs.Value.{value_of};
 ghost use Rattle.row_values.specs.Row.{all_fit, row_bytes};
 ghost use Rattle.row_values.specs.Key.{is_key, key_cmp};
 ghost use Rattle.row_values.specs.Schema.{key_columns};
@@ -12,9 +12,12 @@ use crate::value::Value;
 use std::alloc::{AllocError, Global};
 use std::cmp::Ordering;
 
+/// The most bytes of a key.
+pub const MAX_KEY_BYTES: usize = 8_012;
+
 /// Whether there is one value per key column, in the order of PRIMARY KEY, and each fits.
 pub fn are_key(schema: &Schema, values: &[Value<'_>]) -> bool
-    ensures { result ≡ all_fit (key_columns schema.now) (map datum_of values.now) }
+    ensures { result ≡ all_fit (key_columns schema.now) (map value_of values.now) }
 {
     if schema.key().len() != values.len() {
         return false;
@@ -34,8 +37,8 @@ pub fn encode_key(
     schema: &Schema,
     values: &[Value<'_>],
 ) -> Result<Vec<u8>, AllocError>
-    requires { IsTrue (all_fit (key_columns schema.now) (map datum_of values.now)) }
-    ensures key { IfOk result (λ key. key.items ≡ row_bytes (key_columns schema.now) (map datum_of values.now)) }
+    requires { IsTrue (all_fit (key_columns schema.now) (map value_of values.now)) }
+    ensures key { IfOk result (λ key. key.items ≡ row_bytes (key_columns schema.now) (map value_of values.now)) }
     ensures good { IfOk result (λ key. is_key schema.now key.items ≡ true) }
     ensures short { IfOk result (λ key. length key.items ≤ 8012) }
 {

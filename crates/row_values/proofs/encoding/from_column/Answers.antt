@@ -1,6 +1,6 @@
 -- Each value up to the place is read, since the bytes have values.
 use Rattle.std.proofs.Common.{◌<◌, ap, map, sym, ◌∙◌, arith, length, option_map}
-use Rattle.row_values.specs.Value.{datum_of}
+use Rattle.row_values.specs.Value.{value_of}
 use Rattle.row_values.specs.Column.{column_of}
 use Rattle.row_values.proofs.RowSteps.{column_at}
 use Rattle.row_values.proofs.ReadSteps.{stands_first, stands_some, stands_step}
@@ -18,6 +18,6 @@ unwrap-requires c =
 pub loop-j-preserved : goal.loop-j-preserved
 loop-j-preserved c =
     let within : c.loop-j.j < length c.args.columns.now = let lt = c.loop-j-test.true in let le = c.requires.inside in omega arith in
-    stands_step (map column_of c.args.columns.now) c.args.bytes.now c.loop-j.j (column_of c.index-columns-j.result) c.loop-j.rest.now (datum_of c.unwrap.result.0, c.unwrap.result.1.now) (λ i. (c.type_inv.bytes i).fits)
+    stands_step (map column_of c.args.columns.now) c.args.bytes.now c.loop-j.j (column_of c.index-columns-j.result) c.loop-j.rest.now (value_of c.unwrap.result.0, c.unwrap.result.1.now) (λ i. (c.type_inv.bytes i).fits)
     (column_at c.args.columns.now c.loop-j.j c.index-columns-j.result within c.index-columns-j.is)
-    (sym (ap (option_map (λ x. (datum_of x.0, x.1.now))) c.unwrap.ensures) ∙ c.split_value.ensures) c.loop-j.invariant
+    (sym (ap (option_map (λ x. (value_of x.0, x.1.now))) c.unwrap.ensures) ∙ c.split_value.ensures) c.loop-j.invariant

@@ -1,0 +1,14 @@
+//! What a table is: stores, their changes with their bytes, and views of tables.
+#![tactic(auto)]
+
+mod change;
+pub mod laws;
+mod plain_table;
+mod plain_view;
+mod row_list;
+mod table_view;
+
+pub use change::Change;
+pub use plain_view::PlainView;
+pub use row_list::{MAX_SELECTED, RowList};
+pub use table_view::TableView;
