@@ -9,11 +9,12 @@ use Rattle.std.specs.List.{slice_get}
 use Rattle.std.proofs.lemmas.List.{drop_all}
 use Rattle.drda_words.specs.Bytes.{AreBytes}
 use Rattle.row_values.specs.Value.{Value, null, number, text, binary, bytes_in, class_of, value_cmp, number_in}
-use Rattle.row_values.specs.Schema.{Schema, key_columns}
+use Rattle.row_values.specs.Schema.{Schema, is_schema, key_columns}
 use Rattle.row_values.specs.Row.{row_bytes, values_at}
 use Rattle.row_values.specs.Key.{is_key, key_cmp, key_values}
 use Rattle.row_values.proofs.ValueLaws.{values_at-is}
 use Rattle.row_values.proofs.ReadSteps.{all_there, drop_at}
+use Rattle.row_values.proofs.Keys.{key_short}
 
 -- values are in order by their classes, their numbers and their bytes
 pub value_cmp_total : IsTotalOrder value_cmp
@@ -127,3 +128,9 @@ key_by_values schema a b bytes_a bytes_b good_a good_b =
     decided (slice_cmp value_cmp xs ys) (slice_cmp nat_cmp a b)
     (λ tie. let equal : a ≡ b = wa.1 ∙ ap (row_bytes (key_columns schema)) (values_exact xs ys tie) ∙ sym wb.1 in
     subst (λ (k : List ℕ). slice_cmp nat_cmp a k ≡ Equal) equal (tied_itself nat_list_cmp_total a))
+
+-- a key has at most 8,012 bytes
+pub keys_are_short : (schema : Schema) (key : List ℕ) → is_schema schema ≡ true → AreBytes key → is_key schema key ≡ true → length key ≤ 8012
+keys_are_short schema key good all is =
+    let w = values_at-is (key_columns schema) key (key_values schema key) all (key_read schema key is) in
+    subst (λ (l : List ℕ). length l ≤ 8012) (sym w.1) (key_short schema (key_values schema key) good w.0)

@@ -174,6 +174,10 @@ few_places : (schema : Schema) → is_schema schema ≡ true → nat_le (length 
 few_places schema good =
     four (nat_lt 0 (length schema.key)) (nat_le (length schema.key) 4) (list_all (λ place. can_be_key (slice_get schema.columns place)) schema.key) (no_repeat nat_eq schema.key) (are_columns schema.columns) good
 
+-- a key has at most 4 columns
+pub key_few : (schema : Schema) → is_schema schema ≡ true → length schema.key ≤ 4
+key_few schema good = let told = few_places schema good in grind (arith, nat_tests)
+
 -- a key has at most 8,012 bytes
 pub key_short : (schema : Schema) (values : List Value) → is_schema schema ≡ true → all_fit (key_columns schema) values ≡ true → length (row_bytes (key_columns schema) values) ≤ 8012
 key_short schema values good fit =

@@ -5,6 +5,8 @@ pub mod ValueLaws
 pub mod RowSteps
 pub mod ReadSteps
 pub mod RowColumns
+pub mod Known
+pub mod Gathered
 pub mod Keys
 pub mod KeyOrder
 pub mod Kept

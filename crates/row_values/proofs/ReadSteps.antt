@@ -41,7 +41,7 @@ pub read_step : (columns : List Column) (i : ℕ) (column : Column) (rest : List
     → values_at (drop i columns) rest ≡ option_and_then (λ (x : Value × List ℕ). option_map (λ values. x.0 ∷ values) (values_at (drop (i + 1) columns) x.1)) o
 read_step columns i column rest o at is = ap (λ (cs : List Column). values_at cs rest) (drop_at columns i column at) ∙ ap (option_and_then (λ (x : Value × List ℕ). option_map (λ values. x.0 ∷ values) (values_at (drop (i + 1) columns) x.1))) (sym is)
 
-still_some : {A B : Type 0} (f : A → B) (o : Option A) → is_some (option_map f o) ≡ is_some o
+pub still_some : {A B : Type 0} (f : A → B) (o : Option A) → is_some (option_map f o) ≡ is_some o
 still_some f None = refl
 still_some f (Some x) = refl
 
@@ -106,11 +106,12 @@ stands_step columns bytes i column rest x all at is stands =
     ∙ ap (λ (l : List ℕ). l ++ r.0.1) (sym (row_bytes-more columns values i column r.0.0 at r.2)) in
     subst (λ (y : Value × List ℕ). StandsFrom columns bytes (i + 1) y.1) same (r.3, whole)
 
--- something is read there
-pub stands_some : (columns : List Column) (bytes : List ℕ) (i : ℕ) (column : Column) (rest : List ℕ) {A : Type 0} (f : A → Value × List ℕ) (o : Option A) → slice_get columns i ≡ Some column → option_map f o ≡ value_at column rest
-    → StandsFrom columns bytes i rest → IsSome o
-stands_some columns bytes i column rest f (Some y) at is stands = refl
-stands_some columns bytes i column rest f None at is stands = let r = reads_at columns (values_or_none columns bytes) i column rest at stands.0 in absurd (apart r.0 (is ∙ r.1))
+-- something is read of the next column
+pub reads_there : (columns : List Column) (values : List Value) (i : ℕ) (column : Column) (rest : List ℕ) → slice_get columns i ≡ Some column → values_at (drop i columns) rest ≡ Some (drop i values) → IsSome (value_at column rest)
+reads_there columns values i column rest at read = ap is_some (reads_at columns values i column rest at read).1
+
+pub stands_there : (columns : List Column) (bytes : List ℕ) (i : ℕ) (column : Column) (rest : List ℕ) → slice_get columns i ≡ Some column → StandsFrom columns bytes i rest → IsSome (value_at column rest)
+stands_there columns bytes i column rest at stands = reads_there columns (values_or_none columns bytes) i column rest at stands.0
 
 -- at the beginning all values are to come
 pub stands_first : (columns : List Column) (bytes : List ℕ) → IsSome (values_at columns bytes) → StandsFrom columns bytes 0 bytes
@@ -123,12 +124,6 @@ all_read (byte ∷ bytes) = grind (arith, nat_tests)
 -- past the last column nothing may be left
 pub none_left : (columns : List Column) (i : ℕ) (rest : List ℕ) → length columns ≤ i → (length rest == 0) ≡ is_some (values_at (drop i columns) rest)
 none_left columns i rest past = all_read rest ∙ ap (λ (cs : List Column). is_some (values_at cs rest)) (sym (drop_all i columns past))
-
--- something is read of the next column
-pub reads_some : (columns : List Column) (values : List Value) (i : ℕ) (column : Column) (rest : List ℕ) {A : Type 0} (f : A → Value × List ℕ) (o : Option A) → slice_get columns i ≡ Some column → option_map f o ≡ value_at column rest
-    → values_at (drop i columns) rest ≡ Some (drop i values) → IsSome o
-reads_some columns values i column rest f (Some y) at is read = refl
-reads_some columns values i column rest f None at is read = let r = reads_at columns values i column rest at read in absurd (apart r.0 (is ∙ r.1))
 
 -- what is read of the next column is the next value, and leaves the others
 pub next_read : (columns : List Column) (values : List Value) (i : ℕ) (column : Column) (rest : List ℕ) (x : Value × List ℕ) → slice_get columns i ≡ Some column → Some x ≡ value_at column rest
@@ -146,3 +141,28 @@ values_count (c ∷ cs) bytes values h =
     let m = chained (λ (x : Value × List ℕ). option_map (λ vs. x.0 ∷ vs) (values_at cs x.1)) (value_at c bytes) values h in
     let t = mapped (λ (vs : List Value). m.0.0 ∷ vs) (values_at cs m.0.1) values m.2 in
     ap length (sym t.2) ∙ ap suc (values_count cs m.0.1 t.0 t.1)
+
+-- ---- the first of several columns
+
+first_there : (f : Value × List ℕ → Option (List Value)) (o : Option (Value × List ℕ)) → IsSome (option_and_then f o) → IsSome o
+first_there f (Some x) h = refl
+first_there f None h = absurd cc
+
+-- where all values are read, the first one is
+pub walk_there : (c : Column) (cs : List Column) (rest : List ℕ) → IsSome (values_at (c ∷ cs) rest) → IsSome (value_at c rest)
+walk_there c cs rest h = first_there (λ (x : Value × List ℕ). option_map (λ vs. x.0 ∷ vs) (values_at cs x.1)) (value_at c rest) h
+
+walk_by : (c : Column) (cs : List Column) (rest : List ℕ) (x : Value × List ℕ) → Some x ≡ value_at c rest → values_at (c ∷ cs) rest ≡ option_map (λ vs. x.0 ∷ vs) (values_at cs x.1)
+walk_by c cs rest x is = ap (option_and_then (λ (y : Value × List ℕ). option_map (λ vs. y.0 ∷ vs) (values_at cs y.1))) (sym is)
+
+added : (v : Value) (o : Option (List Value)) → IsSome (option_map (λ vs. v ∷ vs) o) → unwrap_or (option_map (λ vs. v ∷ vs) o) [] ≡ v ∷ unwrap_or o []
+added v (Some vs) h = refl
+added v None h = absurd cc
+
+-- the values behind the first one are read of what follows it
+pub walk_on : (c : Column) (cs : List Column) (rest : List ℕ) (x : Value × List ℕ) → IsSome (values_at (c ∷ cs) rest) → Some x ≡ value_at c rest → IsSome (values_at cs x.1)
+walk_on c cs rest x h is = sym (still_some (λ vs. x.0 ∷ vs) (values_at cs x.1)) ∙ sym (ap is_some (walk_by c cs rest x is)) ∙ h
+
+pub walk_gives : (c : Column) (cs : List Column) (rest : List ℕ) (x : Value × List ℕ) → IsSome (values_at (c ∷ cs) rest) → Some x ≡ value_at c rest → values_or_none (c ∷ cs) rest ≡ x.0 ∷ values_or_none cs x.1
+walk_gives c cs rest x h is =
+    ap (λ (o : Option (List Value)). unwrap_or o []) (walk_by c cs rest x is) ∙ added x.0 (values_at cs x.1) (sym (ap is_some (walk_by c cs rest x is)) ∙ h)

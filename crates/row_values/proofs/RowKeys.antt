@@ -3,7 +3,10 @@ use Rattle.std.proofs.Common.{◌≡◌, ℕ, ◌<◌, ◌≤◌, List, [], ◌�
 use Rattle.std.specs.Prelude.{IfSome, is_some}
 use Rattle.std.specs.List.{list_all, slice_get}
 use Rattle.std.proofs.lemmas.Option.{slice_get-get_or}
-use Rattle.row_values.specs.Value.{Value, null}
+use Rattle.std.proofs.Common.{map, take}
+use Rattle.std.proofs.lemmas.List.{length-map, take_all}
+use Rattle.row_values.specs.declared.value.Value.{Value as CodeValue}
+use Rattle.row_values.specs.Value.{Value, null, value_of}
 use Rattle.row_values.specs.Column.{Column}
 use Rattle.row_values.specs.Schema.{Schema, is_schema, key_columns, picked}
 use Rattle.row_values.specs.Row.{all_fit, row_bytes, values_in}
@@ -74,3 +77,31 @@ key_done schema values i good fit past =
     let a = key_count schema good in
     let b = length-picked values schema.key (key_places_values schema values good fit) in
     row_end (key_columns schema) (picked values schema.key) i (omega arith) (omega arith)
+
+-- ---- values of a key
+
+-- a place of the key is one of a value
+pub key_in_values : (schema : Schema) (values : List CodeValue) (key : List ℕ) (i : ℕ) → is_schema schema ≡ true → key ≡ schema.key → all_fit (key_columns schema) (map value_of values) ≡ true → i < length key → i < length values
+key_in_values schema values key i good is fit lt =
+    let a = key_count schema good in
+    let b = ap length is in
+    let d = all_fit-length (key_columns schema) (map value_of values) fit in
+    let e = length-map values value_of in
+    omega arith
+
+-- past the key's places nothing is left
+pub key_ended : (schema : Schema) (values : List CodeValue) (key : List ℕ) (i : ℕ) → is_schema schema ≡ true → key ≡ schema.key → all_fit (key_columns schema) (map value_of values) ≡ true → length key ≤ i → row_bytes (drop i (key_columns schema)) (drop i (map value_of values)) ≡ []
+key_ended schema values key i good is fit past =
+    let a = key_count schema good in
+    let b = ap length is in
+    let d = all_fit-length (key_columns schema) (map value_of values) fit in
+    row_end (key_columns schema) (map value_of values) i (omega arith) d
+
+-- the values of all places of the key are the key's
+pub gathered_all : (schema : Schema) (values : List Value) (lent : List CodeValue) (key : List ℕ) (i : ℕ) → is_schema schema ≡ true → all_fit schema.columns values ≡ true → key ≡ schema.key → i ≤ length key → length key ≤ i
+    → map value_of (take i lent) ≡ take i (picked values schema.key) → map value_of (take (length key) lent) ≡ picked values schema.key
+gathered_all schema values lent key i good fit is most least so =
+    let same : length key ≡ i = omega arith in
+    let count = length-picked values schema.key (key_places_values schema values good fit) in
+    let size = ap length is in
+    ap (λ (n : ℕ). map value_of (take n lent)) same ∙ so ∙ take_all i (picked values schema.key) (omega arith)

@@ -4,5 +4,6 @@ pub mod Row
 pub mod Schema
 pub mod Key
 pub mod RowView
+pub mod RowValues
 pub mod Laws
 pub mod Bytes

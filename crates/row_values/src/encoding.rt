@@ -12,7 +12,7 @@ use byteorder::{BigEndian, ByteOrder};
 use std::alloc::AllocError;
 
 /// The mark in front of a value.
-const PRESENT: u8 = 0;
+pub(crate) const PRESENT: u8 = 0;
 
 /// The mark in place of a NULL.
 const ABSENT: u8 = 0xFF;
@@ -120,19 +120,6 @@ pub(crate) fn has_values(columns: &[Column], bytes: &[u8]) -> bool
     rest.is_empty()
 }
 
-/// The bytes from the value of column `i` on.
-pub(crate) fn from_column<'a>(columns: &[Column], bytes: &'a [u8], i: usize) -> &'a [u8]
-    requires values { IsSome (values_at (map column_of columns.now) bytes.now) }
-    requires inside { i < length columns.now }
-    ensures { StandsFrom (map column_of columns.now) bytes.now i result.now }
-{
-    let mut rest = bytes;
-    for j in 0..i {
-        rest = split_value(&columns[j], rest).unwrap().1;
-    }
-    rest
-}
-
 /// A value that fits the column, in front of the bytes, with what follows it.
 #[tactic(auto, unfolding(crate::specs::Row::value_at))]
 pub(crate) fn split_value<'a>(column: &Column, bytes: &'a [u8]) -> Option<(Value<'a>, &'a [u8])>
@@ -145,8 +132,8 @@ pub(crate) fn split_value<'a>(column: &Column, bytes: &'a [u8]) -> Option<(Value
     Some((value, rest))
 }
 
-// A value of a type, with what follows.
-fn split_any(kind: Kind, bytes: &[u8]) -> Option<(Value<'_>, &[u8])>
+/// A value of a type, with what follows.
+pub(crate) fn split_any(kind: Kind, bytes: &[u8]) -> Option<(Value<'_>, &[u8])>
     ensures { option_map (λ x. (value_of x.0, x.1.now)) result ≡ typed_value_at kind bytes.now }
 {
     let [mark, rest @ ..] = bytes else {

@@ -3,10 +3,12 @@
 
 mod column;
 mod encoding;
+mod judged;
 mod key;
 pub mod laws;
 mod row;
 mod row_ref;
+mod row_values;
 mod schema;
 mod schema_bytes;
 mod value;
@@ -16,6 +18,7 @@ pub use encoding::{put_counted, split_counted};
 pub use key::{MAX_KEY_BYTES, are_key, compare_keys, encode_key, is_key};
 pub use row::{Damaged, MAX_ROW_BYTES, ReadError, RowError, are_row, encode_row};
 pub use row_ref::RowRef;
+pub use row_values::RowValues;
 pub use schema::{
     BadSchema, MAX_COLUMN_LENGTH, MAX_COLUMNS, MAX_KEY_COLUMNS, MAX_NAME_BYTES, Schema,
 };

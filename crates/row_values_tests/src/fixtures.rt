@@ -80,6 +80,21 @@ pub(crate) fn is_row(schema: &Schema, bytes: &[u8]) -> bool {
     RowRef::parse(schema, bytes).is_ok()
 }
 
+/// Whether the bytes are a row of the schema that has these values, one after another.
+pub(crate) fn has_values(schema: &Schema, bytes: &[u8], values: &[Value<'_>]) -> bool {
+    let Ok(row) = RowRef::parse(schema, bytes) else {
+        return false;
+    };
+    let mut i = 0usize;
+    for value in row.values() {
+        if values.get(i) != Some(&value) {
+            return false;
+        }
+        i = i.wrapping_add(1);
+    }
+    i == values.len()
+}
+
 /// Whether the bytes are a row of the schema with this value in column `i`.
 pub(crate) fn has_value(schema: &Schema, bytes: &[u8], i: usize, value: Value<'_>) -> bool {
     match RowRef::parse(schema, bytes) {

@@ -1,6 +1,6 @@
 //! The bytes of rows, and what is read from them.
 
-use crate::fixtures::{every_type, has_value, is_row, one_column, row, schema};
+use crate::fixtures::{every_type, has_value, has_values, is_row, one_column, row, schema};
 use row_values::{Kind, RowError, RowRef, Value, are_row, encode_row};
 use std::test::Fail;
 
@@ -63,6 +63,7 @@ fn rows_have_their_bytes(rt: HostRuntime) -> Result<(), Fail> {
         let values: &[Value<'_>] = values;
         let written = row(alloc, &schema, values)?;
         assert_eq!(rt; written.as_slice(), *bytes);
+        assert!(rt; has_values(&schema, bytes, values));
         for i in 0..values.len() {
             assert!(rt; has_value(&schema, bytes, i, values[i]), "{i}");
         }

@@ -2,7 +2,7 @@
 use Rattle.std.proofs.Common.{map}
 use Rattle.row_values.specs.Column.{column_of}
 use Rattle.row_values.specs.Row.{StandsFrom}
-use Rattle.row_values.proofs.encoding.from_column.Given as goal
+use Rattle.row_values.proofs.judged.from_column.Given as goal
 
 abbrev pub invariant-loop-j : goal.invariant-loop-j
 invariant-loop-j l = StandsFrom (map column_of l.columns) l.bytes l.j l.rest
