@@ -4,7 +4,7 @@ use crate::fixtures::{key, row, schema};
 use row_values::{Kind, Schema, Value, is_name};
 use std::alloc::Global;
 use std::test::Fail;
-use tables::{Change, PlainView, TableView};
+use tables::{Change, PlainFault, PlainView, TableView};
 
 // `N BIGINT NOT NULL, T VARCHAR(5) NOT NULL, V INTEGER, PRIMARY KEY (N, T)`.
 fn two_key_columns(alloc: Global) -> Result<Schema, Fail> {
@@ -43,7 +43,7 @@ fn create(view: &mut PlainView, alloc: Global, name: &str, schema: Schema) -> Re
     if !is_name(table.as_str().as_bytes()) || schema.columns().is_empty() {
         return Err(Fail::from("no name"));
     }
-    view.apply(alloc, Change::CreateTable { table, schema })?;
+    view.apply(alloc, Change::create(table, schema))?;
     Ok(())
 }
 
@@ -52,7 +52,7 @@ fn put(view: &mut PlainView, alloc: Global, name: &str, row: Vec<u8>) -> Result<
     if !is_name(table.as_str().as_bytes()) || row.len() > 4_000 {
         return Err(Fail::from("no name, or a long row"));
     }
-    view.apply(alloc, Change::Put { table, row })?;
+    view.apply(alloc, Change::put(table, row))?;
     Ok(())
 }
 
@@ -61,7 +61,7 @@ fn remove(view: &mut PlainView, alloc: Global, name: &str, key: Vec<u8>) -> Resu
     if !is_name(table.as_str().as_bytes()) || key.len() > 8_012 {
         return Err(Fail::from("no name, or a long key"));
     }
-    view.apply(alloc, Change::Remove { table, key })?;
+    view.apply(alloc, Change::remove(table, key))?;
     Ok(())
 }
 
@@ -84,7 +84,7 @@ fn has_rows(view: &mut PlainView, alloc: Global, expected: &[Row<'_>]) -> Result
         return Ok(false);
     }
     for i in 0..expected.len() {
-        if rows[i] != row_of(alloc, expected[i])? {
+        if rows.row(i)[..] != row_of(alloc, expected[i])?[..] {
             return Ok(false);
         }
     }
@@ -226,5 +226,13 @@ fn what_is_no_row_is_not_put(rt: HostRuntime) -> Result<(), Fail> {
     put(&mut view, alloc, "U", row_of(alloc, (1, "x", 1))?)?;
     assert_eq!(rt; view.tables()?, 1);
     assert!(rt; has_rows(&mut view, alloc, &[(-2, "a", 3), (-2, "b", 2), (3, "a", 1)])?);
+    Ok(())
+}
+
+#[test]
+fn damage_is_told_apart_from_want_of_memory(rt: HostRuntime) -> Result<(), Fail> {
+    let view = PlainView::new(rt.alloc());
+    assert!(rt; view.damaged() == PlainFault::Damaged);
+    assert!(rt; PlainFault::from(std::alloc::AllocError) == PlainFault::NoMemory);
     Ok(())
 }

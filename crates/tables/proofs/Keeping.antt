@@ -10,10 +10,10 @@ use Rattle.std.specs.Cmp.Lexicographic.{nat_list_cmp_total, slice_cmp}
 use Rattle.row_values.specs.Schema.{Schema, is_name, is_schema}
 use Rattle.row_values.specs.Row.{is_row}
 use Rattle.row_values.specs.Key.{key_cmp, row_key}
-use Rattle.tables.specs.Change.{Change, create, put, remove, is_change}
+use Rattle.tables.specs.Change.{Change, create, put, remove}
 use Rattle.tables.specs.Tables.{Store, Table, apply, put_row, remove_row, table_of, with_table}
 use Rattle.drda_words.specs.Order.{rises}
-use Rattle.tables.specs.View.{is_entry, is_store, is_table}
+use Rattle.tables.specs.View.{is_entry, is_sound, is_store, is_table}
 use Rattle.row_values.proofs.ValueLaws.{both_true, first_true, second_true}
 use Rattle.row_values.proofs.KeyOrder.{key_cmp_total}
 use Rattle.tables.proofs.Finding.{TellsApart, itself}
@@ -171,7 +171,7 @@ create_store name schema s false named good h =
     (rises_put (slice_cmp nat_cmp) nat_list_cmp_total name fresh s (second_true (list_all named_table s) (rises (slice_cmp nat_cmp) (keys_of s)) h))
 
 -- every change keeps a store one
-pub apply_keeps : (d : Change) (s : Store) → is_change d ≡ true → is_store s ≡ true → is_store (apply d s) ≡ true
+pub apply_keeps : (d : Change) (s : Store) → is_sound d ≡ true → is_store s ≡ true → is_store (apply d s) ≡ true
 apply_keeps (create name schema) s good h = create_store name schema s (is_some (table_of s name)) (first_true (is_name name) (is_schema schema) good) (second_true (is_name name) (is_schema schema) good) h
 apply_keeps (put name row) s good h = with_store (put_row row) (put_row_good row) name s h
 apply_keeps (remove name key) s good h = with_store (remove_row key) (remove_row_good key) name s h

@@ -6,3 +6,5 @@ pub mod Keeping
 pub mod Showing
 pub mod Places
 pub mod PlainTables
+pub mod Found
+pub mod Pieces

@@ -3,6 +3,7 @@ use Rattle.std.proofs.Common.{◌≡◌, ◌≢◌, ℕ, ◌+◌, ◌<◌, zero,
 use Rattle.std.specs.Prelude.{bytes_eq, find, is_some, not, position, ◌&&◌}
 use Rattle.std.specs.List.{insert, list_all, list_any, position_or_len, slice_get}
 use Rattle.std.specs.String.{string_bytes}
+use Rattle.std.specs.Arc.{arc_value}
 use Rattle.std.specs.BTreeMap.{insert_entry}
 use Rattle.std.specs.Ordering.{nat_cmp}
 use Rattle.std.specs.Map.{keys_of, lookup, values_of}
@@ -15,10 +16,10 @@ use Rattle.row_values.specs.Column.{Column, fits}
 use Rattle.row_values.specs.Schema.{Schema, is_name, is_schema}
 use Rattle.row_values.specs.Row.{all_fit, typed_value_at, is_row, value_at, values_at, values_in}
 use Rattle.row_values.specs.Key.{is_key, key_cmp, row_key}
-use Rattle.tables.specs.Change.{Change, create, is_change}
+use Rattle.tables.specs.Change.{Change, create}
 use Rattle.tables.specs.Tables.{Store, Table, apply, table_of, with_table}
 use Rattle.drda_words.specs.Order.{rises}
-use Rattle.tables.specs.View.{is_entry, is_store, is_table}
+use Rattle.tables.specs.View.{is_entry, is_sound, is_store, is_table}
 use Rattle.tables.specs.Plain.{entry_of, has_key, is_named, is_of_key, named_table, rows_before, rows_in, store_of, table_in, tables_before}
 use Rattle.row_values.proofs.ValueLaws.{both_true, chained, first_true, kept, mapped, second_true}
 use Rattle.row_values.proofs.RowColumns.{row_values_at}
@@ -112,11 +113,11 @@ named_with name schema rows = (name, record { schema = schema; rows = rows })
 
 -- a table of a new name goes to its place
 pub created : (name : List ℕ) (lent also ts : List PlainTable) (new : PlainTable) (place : ℕ) → lent ≡ ts → also ≡ ts → false ≡ list_any (is_named name) lent → place ≡ tables_before name also → string_bytes new.name ≡ name → rows_in new.rows.items ≡ []
-    → store_of (insert ts place new) ≡ apply (create name new.schema) (store_of ts)
+    → store_of (insert ts place new) ≡ apply (create name (arc_value new.schema)) (store_of ts)
 created name lent also ts new place same same_too unknown at named empty =
-    let fresh : Table = record { schema = new.schema; rows = [] } in
+    let fresh : Table = record { schema = arc_value new.schema; rows = [] } in
     let none : list_any (is_named name) ts ≡ false = sym (unknown ∙ ap (list_any (is_named name)) same) in
-    let one : named_table new ≡ (name, fresh) = ap (λ n. (n, table_in new)) named ∙ ap (named_with name new.schema) empty in
+    let one : named_table new ≡ (name, fresh) = ap (λ n. (n, table_in new)) named ∙ ap (named_with name (arc_value new.schema)) empty in
     chosen_second (is_some (table_of (store_of ts) name)) (store_of ts) (insert_entry (slice_cmp nat_cmp) (store_of ts) name fresh) (store_of (insert ts place new))
     (sym none ∙ any_found named_table (bytes_eq name) ts)
     (ap (λ i. store_of (insert ts i new)) (at ∙ ap (tables_before name) same_too)
@@ -178,7 +179,7 @@ on_err (Ok x) f h = tt
 on_err (Err e) f h = f h
 
 -- a change that is made or not keeps a store one
-pub still_store : {A E : Type 0} (r : Result A E) (d : Change) (old new : Store) → OnOk r (new ≡ apply d old) → OnErr r (new ≡ old) → is_change d ≡ true → is_store old ≡ true → is_store new ≡ true
+pub still_store : {A E : Type 0} (r : Result A E) (d : Change) (old new : Store) → OnOk r (new ≡ apply d old) → OnErr r (new ≡ old) → is_sound d ≡ true → is_store old ≡ true → is_store new ≡ true
 still_store (Ok x) d old new made kept is_one good = ap is_store made ∙ apply_keeps d old is_one good
 still_store (Err e) d old new made kept is_one good = ap is_store kept ∙ good
 

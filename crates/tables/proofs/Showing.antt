@@ -19,17 +19,17 @@ use Rattle.tables.proofs.Changes.{keys_apart, names_apart}
 use Rattle.tables.proofs.Keeping.{before_all, before_trans, less_is, named_table, parts}
 
 -- a key that comes before all is not found
-absent : (R : List ℕ → List ℕ → Ordering) {X : Type 0} → TellsApart R → (k : List ℕ) (es : List (List ℕ × X)) → before_all R k (keys_of es) ≡ true → lookup (bytes_eq k) es ≡ None
+pub absent : (R : List ℕ → List ℕ → Ordering) {X : Type 0} → TellsApart R → (k : List ℕ) (es : List (List ℕ × X)) → before_all R k (keys_of es) ≡ true → lookup (bytes_eq k) es ≡ None
 absent R t k [] h = refl
 absent R t k (e ∷ es) h =
     let less : R k e.0 ≡ Less = less_is (R k e.0) (first_true (is_lt (R k e.0)) (before_all R k (keys_of es)) h) in
     let apart : bytes_eq k e.0 ≡ false = told_apart R t k e.0 Less less (λ h. cc) in
     otherwise (bytes_eq k e.0) (Some e.1) (lookup (bytes_eq k) es) apart ∙ absent R t k es (second_true (is_lt (R k e.0)) (before_all R k (keys_of es)) h)
 
-found_first : {X : Type 0} (e : List ℕ × X) (es : List (List ℕ × X)) → lookup (bytes_eq e.0) (e ∷ es) ≡ Some e.1
+pub found_first : {X : Type 0} (e : List ℕ × X) (es : List (List ℕ × X)) → lookup (bytes_eq e.0) (e ∷ es) ≡ Some e.1
 found_first e es = indeed (bytes_eq e.0 e.0) (Some e.1) (lookup (bytes_eq e.0) es) (itself e.0)
 
-some_is_not_none : {X : Type 0} (x : X) → Some x ≡ None → ⊥
+pub some_is_not_none : {X : Type 0} (x : X) → Some x ≡ None → ⊥
 some_is_not_none x h = absurd cc
 
 -- a first key is not before the first of a list in which it is found
@@ -53,7 +53,7 @@ later_by R t k v w es ds up_e up_d q true is same =
 later_by R t k v w es ds up_e up_d q false is same =
     sym (otherwise (bytes_eq q k) (Some v) (lookup (bytes_eq q) es) is) ∙ same ∙ otherwise (bytes_eq q k) (Some w) (lookup (bytes_eq q) ds) is
 
-inside : {X : Type 0} (x y : X) → Some x ≡ Some y → x ≡ y
+pub inside : {X : Type 0} (x y : X) → Some x ≡ Some y → x ≡ y
 inside x y h = cc
 
 same_entries : {X : Type 0} (e d : List ℕ × X) (es ds : List (List ℕ × X)) → e.0 ≡ d.0 → e.1 ≡ d.1 → es ≡ ds → e ∷ es ≡ d ∷ ds
@@ -61,7 +61,7 @@ same_entries e d es ds keys values rest =
     ap (λ (k : List ℕ). (k, e.1) ∷ es) keys ∙ ap (λ v. (d.0, v) ∷ es) values ∙ ap (λ l. d ∷ l) rest
 
 -- lists with rising keys in which the same is found are the same
-lists_same : (R : List ℕ → List ℕ → Ordering) {X : Type 0} → IsTotalOrder R → TellsApart R → (s t : List (List ℕ × X)) → rises R (keys_of s) ≡ true → rises R (keys_of t) ≡ true
+pub lists_same : (R : List ℕ → List ℕ → Ordering) {X : Type 0} → IsTotalOrder R → TellsApart R → (s t : List (List ℕ × X)) → rises R (keys_of s) ≡ true → rises R (keys_of t) ≡ true
     → ((q : List ℕ) → lookup (bytes_eq q) s ≡ lookup (bytes_eq q) t) → s ≡ t
 lists_same R total apart [] [] up_s up_t same = refl
 lists_same R total apart [] (d ∷ ds) up_s up_t same = absurd (some_is_not_none d.1 (sym (found_first d ds) ∙ sym (same d.0)))
@@ -78,7 +78,7 @@ lists_same R total apart (e ∷ es) (d ∷ ds) up_s up_t same =
 
 -- ---- tables
 
-abbrev GoodTable : Option Table → Type 0
+abbrev pub GoodTable : Option Table → Type 0
 GoodTable None = Unit {0}
 GoodTable (Some t) = is_table t ≡ true
 
@@ -87,20 +87,20 @@ good_by true t rest one more = one
 good_by false t rest one more = more
 
 -- each table of a store is one
-good_table : (s : Store) (q : List ℕ) → list_all named_table s ≡ true → GoodTable (table_of s q)
+pub good_table : (s : Store) (q : List ℕ) → list_all named_table s ≡ true → GoodTable (table_of s q)
 good_table [] q h = tt
 good_table (e ∷ es) q h =
     let one : is_table e.1 ≡ true = second_true (is_name e.0) (is_table e.1) (first_true (named_table e) (list_all named_table es) h) in
     good_by (bytes_eq q e.0) e.1 (table_of es q) one (good_table es q (second_true (named_table e) (list_all named_table es) h))
 
-same_table : (t u : Table) → is_table t ≡ true → is_table u ≡ true → t.schema ≡ u.schema → ((key : List ℕ) → lookup (bytes_eq key) t.rows ≡ lookup (bytes_eq key) u.rows) → t ≡ u
+pub same_table : (t u : Table) → is_table t ≡ true → is_table u ≡ true → t.schema ≡ u.schema → ((key : List ℕ) → lookup (bytes_eq key) t.rows ≡ lookup (bytes_eq key) u.rows) → t ≡ u
 same_table t u good_t good_u schemas same =
     let rows : t.rows ≡ u.rows = lists_same (key_cmp t.schema) (key_cmp_total t.schema) (keys_apart t.schema) t.rows u.rows (parts t good_t).2 (subst (λ (schema : Schema). rises (key_cmp schema) (keys_of u.rows) ≡ true) (sym schemas) (parts u good_u).2) same in
     let first : t ≡ record { schema = u.schema; rows = t.rows } = ap (λ (schema : Schema). record { schema = schema; rows = t.rows }) schemas in
     let second : record { schema = u.schema; rows = t.rows } ≡ u = ap (λ (l : List (List ℕ × List ℕ)). record { schema = u.schema; rows = l }) rows in
     first ∙ second
 
-same_at : (a b : Option Table) → GoodTable a → GoodTable b → option_map (λ (t : Table). t.schema) a ≡ option_map (λ (t : Table). t.schema) b
+pub same_at : (a b : Option Table) → GoodTable a → GoodTable b → option_map (λ (t : Table). t.schema) a ≡ option_map (λ (t : Table). t.schema) b
     → ((key : List ℕ) → option_and_then (λ (t : Table). lookup (bytes_eq key) t.rows) a ≡ option_and_then (λ (t : Table). lookup (bytes_eq key) t.rows) b) → a ≡ b
 same_at None None good_a good_b schemas same = refl
 same_at None (Some u) good_a good_b schemas same = absurd (some_is_not_none u.schema (sym schemas))

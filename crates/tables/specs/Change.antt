@@ -5,8 +5,8 @@ use Rattle.row_values.specs.Schema.{Schema, is_name, is_schema}
 use Rattle.row_values.specs.Row.{counted, counted_at}
 use Rattle.row_values.specs.Bytes.{name_at, named, schema_at, schema_bytes}
 use Rattle.std.specs.String.{string_bytes}
-use Rattle.tables.specs.declared.change.Change.{Change as CodeChange}
-use Rattle.tables.specs.declared.change.Change.TheVariants.{CreateTable, Put, Remove}
+use Rattle.tables.specs.declared.action.Action.{Action}
+use Rattle.tables.specs.declared.action.Action.TheVariants.{CreateTable, Put, Remove}
 
 -- a new table without rows; a row, in place of the one of its key; the row of a key taken out
 pub data Change : Type 0 where
@@ -14,10 +14,10 @@ pub data Change : Type 0 where
   put : List ℕ → List ℕ → Change
   remove : List ℕ → List ℕ → Change
 
-abbrev pub change_of : CodeChange → Change
-change_of (CreateTable table schema) = create (string_bytes table) schema
-change_of (Put table row) = put (string_bytes table) row.items
-change_of (Remove table key) = remove (string_bytes table) key.items
+abbrev pub action_of : Action → Change
+action_of (CreateTable table schema) = create (string_bytes table) schema
+action_of (Put table row) = put (string_bytes table) row.items
+action_of (Remove table key) = remove (string_bytes table) key.items
 
 abbrev pub change_bytes : Change → List ℕ
 change_bytes (create name schema) = 1 ∷ named name ++ schema_bytes schema

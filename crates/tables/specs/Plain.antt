@@ -1,6 +1,7 @@
 -- Tables in memory, and what is sought in them.
 use Rattle.std.specs.Prelude.{ℕ, Bool, false, List, Option, Some, None, map, bytes_eq}
 use Rattle.std.specs.String.{string_bytes}
+use Rattle.std.specs.Arc.{arc_value}
 use Rattle.std.specs.List.{prefix_len}
 use Rattle.std.specs.Ordering.{is_gt, nat_cmp}
 use Rattle.std.specs.Cmp.Lexicographic.{slice_cmp}
@@ -18,7 +19,7 @@ abbrev pub rows_in : List PlainRow → List (List ℕ × List ℕ)
 rows_in rows = map entry_of rows
 
 abbrev pub table_in : PlainTable → Table
-table_in t = record { schema = t.schema; rows = rows_in t.rows.items }
+table_in t = record { schema = arc_value t.schema; rows = rows_in t.rows.items }
 
 -- a table, at its name
 abbrev pub named_table : PlainTable → List ℕ × Table

@@ -10,8 +10,10 @@ ghost use Rattle.tables.specs.Plain.{has_key, is_of_key, rows_before, rows_in, t
 ghost use Rattle.tables.specs.Tables.{put_row, remove_row};
 ghost use Rattle.tables.specs.View.{is_table};
 
+use crate::rows::Rows;
 use row_values::{RowRef, Schema, compare_keys};
 use std::alloc::{AllocError, Global};
+use std::sync::Arc;
 
 /// A row, and its key.
 #[derive(Debug, Drop)]
@@ -24,7 +26,7 @@ pub struct PlainRow {
 #[derive(Debug, Drop)]
 pub struct PlainTable {
     pub name: String,
-    pub schema: Schema,
+    pub schema: Arc<Schema, Global>,
     pub rows: Vec<PlainRow>,
 }
 
@@ -63,20 +65,20 @@ impl PlainTable {
     }
 
     /// All rows, in the order of their keys.
-    pub fn scan(&self, alloc: Global) -> Result<Vec<Vec<u8>>, AllocError>
-        ensures { IfOk result (λ copies. map (λ bytes. bytes.items) copies.items ≡ values_of (table_in self.now).rows) }
+    pub fn scan(&self, alloc: Global) -> Result<Rows, AllocError>
+        ensures { IfOk result (λ copies. copies ≡ values_of (table_in self.now).rows) }
     {
         copied_rows(alloc, self.rows.as_slice())
     }
 }
 
 // The bytes of the rows, in their order.
-fn copied_rows(alloc: Global, rows: &[PlainRow]) -> Result<Vec<Vec<u8>>, AllocError>
-    ensures { IfOk result (λ copies. map (λ bytes. bytes.items) copies.items ≡ map (λ r. r.row.items) rows.now) }
+fn copied_rows(alloc: Global, rows: &[PlainRow]) -> Result<Rows, AllocError>
+    ensures { IfOk result (λ copies. copies ≡ map (λ r. r.row.items) rows.now) }
 {
-    let mut copies = Vec::new(alloc);
+    let mut copies = Rows::new(alloc);
     for i in 0..rows.len() {
-        copies.push(Vec::from_slice(alloc, rows[i].row.as_slice())?)?;
+        copies.push(rows[i].row.as_slice())?;
     }
     Ok(copies)
 }

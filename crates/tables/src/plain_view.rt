@@ -3,17 +3,23 @@
 ghost use Rattle.std.specs.Prelude.{◌≡◌, ◌<◌, ◌≤◌, IfOk, IfSome, OnErr, OnOk, length, map, option_map, position, true, []};
 ghost use Rattle.std.specs.List.{list_any};
 ghost use Rattle.std.specs.String.{string_bytes};
-ghost use Rattle.tables.specs.Change.{is_change, change_of, create as create_change, put as put_change, remove as remove_change};
+ghost use Rattle.std.specs.Arc.{arc_value};
+ghost use Rattle.tables.specs.ChangeView.{change_of};
+ghost use Rattle.tables.specs.Change.{create as create_change, put as put_change, remove as remove_change};
 ghost use Rattle.tables.specs.Plain.{is_named, store_of, tables_before};
 ghost use Rattle.tables.specs.Tables.{apply, row_of, rows_of, schema_of};
 ghost use Rattle.tables.specs.View.{is_store};
 
+use crate::action::Action;
 use crate::change::Change;
 use crate::plain_table::PlainTable;
+use crate::rows::Rows;
 use crate::table_view::TableView;
 use row_values::Schema;
 use std::alloc::{AllocError, Global};
 use std::marker::Model;
+use std::sync::Arc;
+use thiserror::Error;
 
 /// Tables in memory, as plain lists of rows, to which changes are applied. Tables and rows are sought
 /// one by one from the front.
@@ -49,14 +55,14 @@ impl PlainView {
     /// no table nothing is put, and neither is what is no row of the table. On want of memory nothing
     /// has changed.
     pub fn apply(&mut self, alloc: Global, change: Change) -> Result<(), AllocError>
-        requires { is_change (change_of change) ≡ true }
         ensures applied { OnOk result (self.new ≡ apply (change_of change) self.old) }
         ensures kept { OnErr result (self.new ≡ self.old) }
     {
-        match change {
-            Change::CreateTable { table, schema } => create(&mut self.tables, alloc, table, schema),
-            Change::Put { table, row } => put(&mut self.tables, alloc, table.as_str(), row),
-            Change::Remove { table, key } => {
+        let action = change.action;
+        match action {
+            Action::CreateTable { table, schema } => create(&mut self.tables, alloc, table, schema),
+            Action::Put { table, row } => put(&mut self.tables, alloc, table.as_str(), row),
+            Action::Remove { table, key } => {
                 remove(&mut self.tables, table.as_str(), key.as_slice());
                 Ok(())
             }
@@ -64,21 +70,46 @@ impl PlainView {
     }
 }
 
+/// Why tables in memory don't answer.
+#[derive(Clone, Copy, Debug, PartialEq, Eq, Error)]
+pub enum PlainFault {
+    #[error("out of memory")]
+    NoMemory,
+    #[error("damaged")]
+    Damaged,
+}
+
+impl From<AllocError> for PlainFault {
+    ghost use Rattle.tables.specs.declared.plain_view.PlainFault.TheVariants.{NoMemory};
+
+    ghost from_gives = { λ _ e. e ≡ NoMemory };
+
+    fn from(_: AllocError) -> PlainFault {
+        PlainFault::NoMemory
+    }
+}
+
 impl TableView for PlainView {
-    type Fault = AllocError;
+    ghost use Rattle.std.specs.Prelude.{Bool, false, true};
+    ghost use Rattle.tables.specs.PlainFault.{is_damage, no_damage};
+
+    type Fault = PlainFault;
 
     ghost store = { λ s. s };
 
     ghost is_told = { true };
 
-    // It never meets damage, and has one fault.
-    ghost tells_damage = { λ _. true };
+    ghost tells_damage = { is_damage };
 
-    fn schema(&mut self, alloc: Global, table: &str) -> Result<Option<Schema>, AllocError> {
-        copied_schema(self.tables.as_slice(), alloc, table)
+    fn schema(
+        &mut self,
+        alloc: Global,
+        table: &str,
+    ) -> Result<Option<Arc<Schema, Global>>, PlainFault> {
+        Ok(shared_schema(self.tables.as_slice(), table)?)
     }
 
-    fn tables(&mut self) -> Result<usize, AllocError> {
+    fn tables(&mut self) -> Result<usize, PlainFault> {
         Ok(self.tables.len())
     }
 
@@ -87,29 +118,30 @@ impl TableView for PlainView {
         alloc: Global,
         table: &str,
         key: &[u8],
-    ) -> Result<Option<Vec<u8>>, AllocError> {
-        copied_row(self.tables.as_slice(), alloc, table, key)
+    ) -> Result<Option<Vec<u8>>, PlainFault> {
+        Ok(copied_row(self.tables.as_slice(), alloc, table, key)?)
     }
 
-    fn scan(&mut self, alloc: Global, table: &str) -> Result<Vec<Vec<u8>>, AllocError> {
-        copied_rows(self.tables.as_slice(), alloc, table)
+    fn scan(&mut self, alloc: Global, table: &str) -> Result<Rows, PlainFault> {
+        Ok(copied_rows(self.tables.as_slice(), alloc, table)?)
     }
 
-    fn damaged(&self) -> AllocError {
-        AllocError
+    fn damaged(&self) -> PlainFault {
+        PlainFault::Damaged
     }
+
+    ghost memory_is_no_damage = { no_damage };
 }
 
 // The schema of the table of a name, where there is one.
-fn copied_schema(
+fn shared_schema(
     tables: &[PlainTable],
-    alloc: Global,
     name: &str,
-) -> Result<Option<Schema>, AllocError>
-    ensures { IfOk result (λ schema. schema ≡ schema_of (store_of tables.now) name.now) }
+) -> Result<Option<Arc<Schema, Global>>, AllocError>
+    ensures { IfOk result (λ schema. option_map arc_value schema ≡ schema_of (store_of tables.now) name.now) }
 {
     match place_of(tables, name) {
-        Some(i) => Ok(Some(tables[i].schema.copy(alloc)?)),
+        Some(i) => Ok(Some(Arc::try_clone(&tables[i].schema)?)),
         None => Ok(None),
     }
 }
@@ -130,12 +162,12 @@ fn copied_row(
 }
 
 // The rows of the table of a name, where there is one.
-fn copied_rows(tables: &[PlainTable], alloc: Global, name: &str) -> Result<Vec<Vec<u8>>, AllocError>
-    ensures { IfOk result (λ rows. map (λ bytes. bytes.items) rows.items ≡ rows_of (store_of tables.now) name.now) }
+fn copied_rows(tables: &[PlainTable], alloc: Global, name: &str) -> Result<Rows, AllocError>
+    ensures { IfOk result (λ rows. rows ≡ rows_of (store_of tables.now) name.now) }
 {
     match place_of(tables, name) {
         Some(i) => tables[i].scan(alloc),
-        None => Ok(Vec::new(alloc)),
+        None => Ok(Rows::new(alloc)),
     }
 }
 
@@ -153,6 +185,7 @@ fn create(
         return Ok(());
     }
     let place = place_for(tables.as_slice(), name.as_str());
+    let schema = Arc::new(alloc, schema)?;
     tables.insert(
         place,
         PlainTable {

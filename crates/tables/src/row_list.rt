@@ -4,51 +4,56 @@ ghost use Rattle.std.specs.Prelude.{◌≡◌, ◌<◌, ◌∷◌, [], ◌++◌,
 ghost use Rattle.row_values.specs.Row.{is_row};
 ghost use Rattle.tables.specs.RowList.{is_list, is_selection};
 ghost use Rattle.tables.specs.Lent.{IsRowAt};
+ghost use Rattle.std.specs.Arc.{arc_value};
 
+use crate::rows::Rows;
 use row_values::{RowRef, Schema};
 use std::alloc::{AllocError, Global};
 use std::marker::Model;
+use std::sync::Arc;
 
 /// The most columns that a query asks for.
 pub const MAX_SELECTED: usize = 64;
 
-/// Rows of one schema, kept as they are stored, and the places of the columns asked for.
+/// Rows of one schema, kept as they are stored in one buffer, and the places of the columns asked for.
+/// The schema is shared with the view that gave it.
 #[derive(Debug, Drop)]
 pub struct RowList {
-    schema: Schema,
+    schema: Arc<Schema, Global>,
     selected: Vec<u8>,
-    rows: Vec<Vec<u8>>,
+    rows: Rows,
 }
 
 impl Model for RowList {
-    ghost use Rattle.std.specs.Prelude.{◌≡◌, true, map};
+    ghost use Rattle.std.specs.Prelude.{◌≡◌, true};
+    ghost use Rattle.std.specs.Arc.{arc_value};
     ghost use Rattle.tables.specs.RowList.{RowList, is_list};
 
     ghost Value = { RowList };
 
-    ghost view = { λ l. record { schema = l.schema; selected = l.selected.items; rows = map (λ row. row.items) l.rows.items } };
+    ghost view = { λ l. record { schema = arc_value l.schema; selected = l.selected.items; rows = l.rows } };
 
-    ghost invariant = { λ l. is_list (record { schema = l.schema; selected = l.selected.items; rows = map (λ row. row.items) l.rows.items }) ≡ true };
+    ghost invariant = { λ l. is_list (record { schema = arc_value l.schema; selected = l.selected.items; rows = l.rows }) ≡ true };
 }
 
 impl RowList {
     /// No rows yet, of which these columns are asked for by their places: at most 64, a place perhaps
     /// more than once.
-    pub fn new(alloc: Global, schema: Schema, selected: Vec<u8>) -> RowList
-        requires { is_selection schema selected.items ≡ true }
-        ensures { result ≡ record { schema = schema; selected = selected.items; rows = [] } }
+    pub fn new(alloc: Global, schema: Arc<Schema, Global>, selected: Vec<u8>) -> RowList
+        requires { is_selection (arc_value schema) selected.items ≡ true }
+        ensures { result ≡ record { schema = arc_value schema; selected = selected.items; rows = [] } }
     {
         RowList {
             schema,
             selected,
-            rows: Vec::new(alloc),
+            rows: Rows::new(alloc),
         }
     }
 
-    /// Adds a row of the schema. Where memory is wanting the row is dropped.
-    pub fn push(&mut self, row: Vec<u8>) -> Result<(), AllocError>
-        requires { is_row self.old.schema row.items ≡ true }
-        ensures ok { OnOk result (self.new ≡ record self.old { rows = self.old.rows ++ row.items ∷ [] }) }
+    /// Adds a copy of a row of the schema. Out of memory, nothing is added.
+    pub fn push(&mut self, row: &[u8]) -> Result<(), AllocError>
+        requires { is_row self.old.schema row.now ≡ true }
+        ensures ok { OnOk result (self.new ≡ record self.old { rows = self.old.rows ++ row.now ∷ [] }) }
         ensures err { OnErr result (self.new ≡ self.old) }
     {
         self.rows.push(row)?;
@@ -89,6 +94,6 @@ impl RowList {
         requires { i < length self.now.rows }
         ensures { IsRowAt self.now i result }
     {
-        RowRef::parse(&self.schema, self.rows[i].as_slice()).unwrap()
+        RowRef::of_row(self.schema(), self.rows.row(i))
     }
 }

@@ -3,4 +3,4 @@ use Rattle.std.proofs.Common.{◌≡◌, map, take}
 use Rattle.tables.proofs.plain_table.copied_rows.Given as goal
 
 abbrev pub invariant-loop-i : goal.invariant-loop-i
-invariant-loop-i l = map (λ bytes. bytes.items) l.copies.items ≡ map (λ r. r.row.items) (take l.i l.rows)
+invariant-loop-i l = l.copies ≡ map (λ r. r.row.items) (take l.i l.rows)

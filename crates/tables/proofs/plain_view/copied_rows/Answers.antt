@@ -8,10 +8,9 @@ use Rattle.tables.proofs.plain_view.copied_rows.Goals as goal
 
 pub returns-in-Some : goal.returns-in-Some
 returns-in-Some c =
-    subst (λ (o : Option Table). IfOk c.scan.result (λ rows. map (λ bytes. bytes.items) rows.items ≡ unwrap_or (option_map (λ (t : Table). values_of t.rows) o) []))
+    subst (λ (o : Option Table). IfOk c.scan.result (λ rows. rows ≡ unwrap_or (option_map (λ (t : Table). values_of t.rows) o) []))
     (sym (table_there c.args.name.now c.args.tables.now c.in-Some.i c.index-tables-i.result (sym c.place_of.ensures.place ∙ c.in-Some.is) c.index-tables-i.is)) c.scan.ensures
 
 pub returns-in-None : goal.returns-in-None
 returns-in-None c =
-    ap (map (λ bytes. bytes.items)) c.new.ensures.items
-    ∙ sym (ap (λ (o : Option Table). unwrap_or (option_map (λ (t : Table). values_of t.rows) o) []) (table_nowhere c.args.name.now c.args.tables.now (sym c.place_of.ensures.place ∙ c.in-None.is)))
+    c.new.ensures ∙ sym (ap (λ (o : Option Table). unwrap_or (option_map (λ (t : Table). values_of t.rows) o) []) (table_nowhere c.args.name.now c.args.tables.now (sym c.place_of.ensures.place ∙ c.in-None.is)))

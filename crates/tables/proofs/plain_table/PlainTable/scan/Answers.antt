@@ -5,5 +5,5 @@ use Rattle.tables.proofs.plain_table.PlainTable.scan.Goals as goal
 
 pub returns : goal.returns
 returns c =
-    subst (λ (rows : List (List ℕ)). IfOk c.copied_rows.result (λ copies. map (λ bytes. bytes.items) copies.items ≡ rows))
+    subst (λ (rows : List (List ℕ)). IfOk c.copied_rows.result (λ copies. copies ≡ rows))
     (ap (map (λ (r : PlainRow). r.row.items)) c.as_slice.ensures.value ∙ values_in_rows c.args.self.now.rows.items) c.copied_rows.ensures
