@@ -59,15 +59,20 @@ const DAMAGED: [&'static [u8]; 10] = [
     &[1, 1, b'T', 1, 1, b'A', 2, 0, 0, 4, 1, 0],
 ];
 
-fn is_damaged(alloc: Global, bytes: &[u8]) -> bool {
-    matches!(&Change::read(alloc, bytes), Err(ReadError::Damaged))
+// Whether the bytes are damaged; want of memory says nothing of it.
+fn is_damaged(alloc: Global, bytes: &[u8]) -> Result<bool, Fail> {
+    match Change::read(alloc, bytes) {
+        Ok(_) => Ok(false),
+        Err(ReadError::Damaged) => Ok(true),
+        Err(error) => Err(Fail::from(error)),
+    }
 }
 
 #[test]
 fn damaged_changes_are_refused(rt: HostRuntime) -> Result<(), Fail> {
     let alloc = rt.alloc();
     for bytes in &DAMAGED {
-        assert!(rt; is_damaged(alloc, bytes), "{bytes:?}");
+        assert!(rt; is_damaged(alloc, bytes)?, "{bytes:?}");
     }
     Ok(())
 }
@@ -100,20 +105,20 @@ fn long_changes_are_refused(rt: HostRuntime) -> Result<(), Fail> {
         if *expected {
             assert!(rt; reads_back(alloc, bytes.as_slice())?);
         } else {
-            assert!(rt; is_damaged(alloc, bytes.as_slice()), "{count}");
+            assert!(rt; is_damaged(alloc, bytes.as_slice())?, "{count}");
         }
     }
     Ok(())
 }
 
 // Whether no change is read in a part of the bytes.
-fn has_no_change_in_front(alloc: Global, whole: &[u8]) -> bool {
+fn has_no_change_in_front(alloc: Global, whole: &[u8]) -> Result<bool, Fail> {
     for length in 0..whole.len() {
-        if !is_damaged(alloc, &whole[..length]) {
-            return false;
+        if !is_damaged(alloc, &whole[..length])? {
+            return Ok(false);
         }
     }
-    true
+    Ok(true)
 }
 
 #[test]
@@ -123,8 +128,8 @@ fn a_part_of_a_change_is_damaged(rt: HostRuntime) -> Result<(), Fail> {
     let longest = filled(alloc, front, 4_000)?;
     let create: &[u8] = &[1, 1, b'T', 1, 1, b'A', 5, 0, 0, 1, 1, 0];
     assert!(rt;
-        reads_back(alloc, longest.as_slice())? && has_no_change_in_front(alloc, longest.as_slice())
+        reads_back(alloc, longest.as_slice())? && has_no_change_in_front(alloc, longest.as_slice())?
     );
-    assert!(rt; reads_back(alloc, create)? && has_no_change_in_front(alloc, create));
+    assert!(rt; reads_back(alloc, create)? && has_no_change_in_front(alloc, create)?);
     Ok(())
 }
