@@ -1,23 +1,19 @@
--- The bytes of schemas and changes, step by step.
-use Rattle.std.proofs.Common.{◌≡◌, ℕ, ◌+◌, ◌<◌, ◌≤◌, zero, suc, List, [], ◌∷◌, ◌++◌, Bool, true, false, ◌&&◌, ◌||◌, if◌then◌else◌, refl, sym, ap, ◌∙◌, map, length, drop, nat_le, Option, Some, None, option_map, arith, append_assoc, append-nil, length-append}
+-- The bytes of schemas, step by step.
+use Rattle.std.proofs.Common.{◌≡◌, ℕ, ◌+◌, ◌<◌, ◌≤◌, zero, suc, List, [], ◌∷◌, ◌++◌, Bool, true, false, ◌&&◌, ◌||◌, if◌then◌else◌, refl, sym, ap, ◌∙◌, map, length, drop, nat_le, Option, Some, None, option_map, arith, append_assoc, append-nil, length-append, ◌==◌}
 use Rattle.byteorder.specs.Endian.{big_bytes}
-use Rattle.std.proofs.Common.{◌==◌}
 use Rattle.std.specs.Option.{option_and_then}
 use Rattle.std.specs.List.{flat_map, list_all, slice_get}
 use Rattle.std.specs.Str.{IsAscii, is_utf8}
 use Rattle.std.proofs.lemmas.Str.{IsUtf8-from_ascii, is_utf8-from_IsUtf8}
 use Rattle.std.proofs.lemmas.Bool.Decides.{nat_tests}
-use Rattle.row_values.specs.declared.column.Column.{Column}
-use Rattle.row_values.specs.Column.{ColumnShape, column_of}
-use Rattle.row_values.specs.Schema.{Shape, goes_on_name, is_capital, is_column, is_limit, is_name, is_shape}
-use Rattle.row_values.specs.Row.{counted_at, utf8_in}
-use Rattle.row_values.specs.Bytes.{Fails, Reads, code_of, deed_after, flag_of, is_deed, named, short_at, column_at, column_bytes, Reads, columns_at, name_at, name_in, named_at, parts_at, schema_at}
+use Rattle.row_values.specs.declared.column.Column.{Column as CodeColumn}
+use Rattle.row_values.specs.Column.{Column, column_of}
+use Rattle.row_values.specs.Schema.{Schema, goes_on_name, is_capital, is_column, is_limit, is_name, is_schema}
+use Rattle.row_values.specs.Row.{utf8_in}
+use Rattle.row_values.specs.Bytes.{Fails, code_of, flag_of, named, column_at, column_bytes, columns_at, name_at, name_in, named_at, parts_at, schema_at}
 use Rattle.row_values.specs.declared.row.ReadError.{ReadError}
 use Rattle.row_values.specs.declared.row.ReadError.TheVariants.{Damaged, NoMemory}
-use Rattle.row_values.proofs.ValueLaws.{both_true, chained, first_true, mapped, second_true}
-use Rattle.row_values.specs.Tables.{Deed, create, put, remove}
-use Rattle.std.specs.Prelude.{IfOk}
-use Rattle.std.proofs.Common.{Result, Ok, Err}
+use Rattle.row_values.proofs.ValueLaws.{chained, first_true, mapped, second_true}
 use Rattle.row_values.proofs.ReadSteps.{drop_at}
 
 capital_ascii : (c : ℕ) → is_capital c ≡ true → c < 128
@@ -53,37 +49,37 @@ name_utf8 name h = let u : is_utf8 name ≡ true = is_utf8-from_IsUtf8 name (IsU
 -- ---- columns
 
 -- columns read already, before others
-abbrev pub before : List ColumnShape → Option (List ColumnShape × List ℕ) → Option (List ColumnShape × List ℕ)
-before columns o = option_map (λ (y : List ColumnShape × List ℕ). (columns ++ y.0, y.1)) o
+abbrev pub before : List Column → Option (List Column × List ℕ) → Option (List Column × List ℕ)
+before columns o = option_map (λ (y : List Column × List ℕ). (columns ++ y.0, y.1)) o
 
-one_more : (columns : List ColumnShape) (c : ColumnShape) (o : Option (List ColumnShape × List ℕ)) → before columns (option_map (λ (y : List ColumnShape × List ℕ). (c ∷ y.0, y.1)) o) ≡ before (columns ++ c ∷ []) o
+one_more : (columns : List Column) (c : Column) (o : Option (List Column × List ℕ)) → before columns (option_map (λ (y : List Column × List ℕ). (c ∷ y.0, y.1)) o) ≡ before (columns ++ c ∷ []) o
 one_more columns c None = refl
-one_more columns c (Some y) = ap (λ (l : List ColumnShape). Some (l, y.1)) (sym (append_assoc columns (c ∷ []) y.0))
+one_more columns c (Some y) = ap (λ (l : List Column). Some (l, y.1)) (sym (append_assoc columns (c ∷ []) y.0))
 
-pub columns_go : (columns : List ColumnShape) (n left : ℕ) (rest : List ℕ) (x : ColumnShape × List ℕ) → n ≡ suc left → Some x ≡ column_at rest → before (columns ++ x.0 ∷ []) (columns_at left x.1) ≡ before columns (columns_at n rest)
+pub columns_go : (columns : List Column) (n left : ℕ) (rest : List ℕ) (x : Column × List ℕ) → n ≡ suc left → Some x ≡ column_at rest → before (columns ++ x.0 ∷ []) (columns_at left x.1) ≡ before columns (columns_at n rest)
 columns_go columns n left rest x count is =
     sym (ap (λ (m : ℕ). before columns (columns_at m rest)) count
-    ∙ ap (λ (o : Option (ColumnShape × List ℕ)). before columns (option_and_then (λ (c : ColumnShape × List ℕ). option_map (λ (y : List ColumnShape × List ℕ). (c.0 ∷ y.0, y.1)) (columns_at left c.1)) o)) (sym is)
+    ∙ ap (λ (o : Option (Column × List ℕ)). before columns (option_and_then (λ (c : Column × List ℕ). option_map (λ (y : List Column × List ℕ). (c.0 ∷ y.0, y.1)) (columns_at left c.1)) o)) (sym is)
     ∙ one_more columns x.0 (columns_at left x.1))
 
-pub columns_stop : (columns : List ColumnShape) (n left : ℕ) (rest : List ℕ) → n ≡ suc left → None ≡ column_at rest → before columns (columns_at n rest) ≡ None
+pub columns_stop : (columns : List Column) (n left : ℕ) (rest : List ℕ) → n ≡ suc left → None ≡ column_at rest → before columns (columns_at n rest) ≡ None
 columns_stop columns n left rest count is =
     ap (λ (m : ℕ). before columns (columns_at m rest)) count
-    ∙ ap (λ (o : Option (ColumnShape × List ℕ)). before columns (option_and_then (λ (c : ColumnShape × List ℕ). option_map (λ (y : List ColumnShape × List ℕ). (c.0 ∷ y.0, y.1)) (columns_at left c.1)) o)) (sym is)
+    ∙ ap (λ (o : Option (Column × List ℕ)). before columns (option_and_then (λ (c : Column × List ℕ). option_map (λ (y : List Column × List ℕ). (c.0 ∷ y.0, y.1)) (columns_at left c.1)) o)) (sym is)
 
-pub columns_end : (columns : List ColumnShape) (n : ℕ) (rest : List ℕ) → n ≡ 0 → before columns (columns_at n rest) ≡ Some (columns, rest)
-columns_end columns n rest none = ap (λ (m : ℕ). before columns (columns_at m rest)) none ∙ ap (λ (l : List ColumnShape). Some (l, rest)) (append-nil columns)
+pub columns_end : (columns : List Column) (n : ℕ) (rest : List ℕ) → n ≡ 0 → before columns (columns_at n rest) ≡ Some (columns, rest)
+columns_end columns n rest none = ap (λ (m : ℕ). before columns (columns_at m rest)) none ∙ ap (λ (l : List Column). Some (l, rest)) (append-nil columns)
 
-pub columns_first : (o : Option (List ColumnShape × List ℕ)) → before [] o ≡ o
+pub columns_first : (o : Option (List Column × List ℕ)) → before [] o ≡ o
 columns_first None = refl
 columns_first (Some y) = refl
 
-push_map : (items : List Column) (c : Column) → map column_of (items ++ c ∷ []) ≡ map column_of items ++ column_of c ∷ []
+push_map : (items : List CodeColumn) (c : CodeColumn) → map column_of (items ++ c ∷ []) ≡ map column_of items ++ column_of c ∷ []
 push_map [] c = refl
-push_map (x ∷ xs) c = ap (λ (l : List ColumnShape). column_of x ∷ l) (push_map xs c)
+push_map (x ∷ xs) c = ap (λ (l : List Column). column_of x ∷ l) (push_map xs c)
 
 -- the bytes of the columns from a place on
-pub columns_from : (columns : List ColumnShape) (i : ℕ) (column : ColumnShape) → slice_get columns i ≡ Some column → flat_map column_bytes (drop i columns) ≡ column_bytes column ++ flat_map column_bytes (drop (i + 1) columns)
+pub columns_from : (columns : List Column) (i : ℕ) (column : Column) → slice_get columns i ≡ Some column → flat_map column_bytes (drop i columns) ≡ column_bytes column ++ flat_map column_bytes (drop (i + 1) columns)
 columns_from columns i column at = ap (flat_map column_bytes) (drop_at columns i column at)
 
 pub name_found : (name : List ℕ) → is_name name ≡ true → utf8_in name ≡ name_in name
@@ -103,31 +99,31 @@ refused : {A : Type 0} (b : Bool) (x : A) → (b ≡ true → ⊥) → (if b the
 refused true x h = absurd (h refl)
 refused false x h = refl
 
-pub schema_found : (bytes : List ℕ) (x : Shape × List ℕ) → parts_at bytes ≡ Some x → is_shape x.0 ≡ true → schema_at bytes ≡ Some x
+pub schema_found : (bytes : List ℕ) (x : Schema × List ℕ) → parts_at bytes ≡ Some x → is_schema x.0 ≡ true → schema_at bytes ≡ Some x
 unfolding schema_at
-schema_found bytes x is good = ap (option_and_then (λ (y : Shape × List ℕ). if is_shape y.0 then Some y else None)) is ∙ tested (is_shape x.0) x good
+schema_found bytes x is good = ap (option_and_then (λ (y : Schema × List ℕ). if is_schema y.0 then Some y else None)) is ∙ tested (is_schema x.0) x good
 
-pub no_schema : (bytes : List ℕ) (x : Shape × List ℕ) → parts_at bytes ≡ Some x → (is_shape x.0 ≡ true → ⊥) → schema_at bytes ≡ None
+pub no_schema : (bytes : List ℕ) (x : Schema × List ℕ) → parts_at bytes ≡ Some x → (is_schema x.0 ≡ true → ⊥) → schema_at bytes ≡ None
 unfolding schema_at
-no_schema bytes x is bad = ap (option_and_then (λ (y : Shape × List ℕ). if is_shape y.0 then Some y else None)) is ∙ refused (is_shape x.0) x bad
+no_schema bytes x is bad = ap (option_and_then (λ (y : Schema × List ℕ). if is_schema y.0 then Some y else None)) is ∙ refused (is_schema x.0) x bad
 
 no_parts : (bytes : List ℕ) → parts_at bytes ≡ None → schema_at bytes ≡ None
 unfolding schema_at
-no_parts bytes is = ap (option_and_then (λ (y : Shape × List ℕ). if is_shape y.0 then Some y else None)) is
+no_parts bytes is = ap (option_and_then (λ (y : Schema × List ℕ). if is_schema y.0 then Some y else None)) is
 
 pub schema_error : (bytes : List ℕ) (e : ReadError) → Fails e (parts_at bytes) → Fails e (schema_at bytes)
 schema_error bytes Damaged is = no_parts bytes is
 schema_error bytes NoMemory is = tt
 
-pub pushed : (items new : List Column) (c : Column) (shape : ColumnShape) → new ≡ items ++ c ∷ [] → column_of c ≡ shape → map column_of new ≡ map column_of items ++ shape ∷ []
-pushed items new c shape is same = ap (map column_of) is ∙ push_map items c ∙ ap (λ (s : ColumnShape). map column_of items ++ s ∷ []) same
+pub pushed : (items new : List CodeColumn) (c : CodeColumn) (schema : Column) → new ≡ items ++ c ∷ [] → column_of c ≡ schema → map column_of new ≡ map column_of items ++ schema ∷ []
+pushed items new c schema is same = ap (map column_of) is ∙ push_map items c ∙ ap (λ (s : Column). map column_of items ++ s ∷ []) same
 
 -- ---- lengths
 
-pub column_length : (c : ColumnShape) → length (column_bytes c) ≡ 5 + length c.name
+pub column_length : (c : Column) → length (column_bytes c) ≡ 5 + length c.name
 column_length c = let sum = length-append (named c.name) (code_of c.kind ∷ flag_of c.is_nullable ∷ big_bytes 2 c.limit) in omega (arith, sum)
 
-pub columns_length_from : (columns : List ColumnShape) (i : ℕ) (column : ColumnShape) → slice_get columns i ≡ Some column → length (flat_map column_bytes (drop i columns)) ≡ 5 + length column.name + length (flat_map column_bytes (drop (i + 1) columns))
+pub columns_length_from : (columns : List Column) (i : ℕ) (column : Column) → slice_get columns i ≡ Some column → length (flat_map column_bytes (drop i columns)) ≡ 5 + length column.name + length (flat_map column_bytes (drop (i + 1) columns))
 columns_length_from columns i column at =
     let one = column_length column in
     let sum = length-append (column_bytes column) (flat_map column_bytes (drop (i + 1) columns)) in
@@ -140,7 +136,7 @@ short_name (c ∷ cs) h =
     let few : length cs ≤ 29 = grind (arith, nat_tests) in
     omega arith
 
-pub name_short : (c : ColumnShape) → is_column c ≡ true → length c.name ≤ 30
+pub name_short : (c : Column) → is_column c ≡ true → length c.name ≤ 30
 name_short c h = short_name c.name (first_true (is_name c.name) (is_limit c.kind c.limit) h)
 
 -- ---- changes
@@ -149,11 +145,11 @@ pub taken : {A : Type 0} (p : A → Bool) (b : Bool) (y x : A) → (if b then So
 taken p true y x h is = let same : y ≡ x = cc in ap p (sym same) ∙ is
 taken p false y x h is = absurd cc
 
-pub schema_good : (bytes : List ℕ) (x : Shape × List ℕ) → schema_at bytes ≡ Some x → is_shape x.0 ≡ true
+pub schema_good : (bytes : List ℕ) (x : Schema × List ℕ) → schema_at bytes ≡ Some x → is_schema x.0 ≡ true
 unfolding schema_at
 schema_good bytes x h =
-    let m = chained (λ (y : Shape × List ℕ). if is_shape y.0 then Some y else None) (parts_at bytes) x h in
-    taken (λ (y : Shape × List ℕ). is_shape y.0) (is_shape m.0.0) m.0 x m.2 refl
+    let m = chained (λ (y : Schema × List ℕ). if is_schema y.0 then Some y else None) (parts_at bytes) x h in
+    taken (λ (y : Schema × List ℕ). is_schema y.0) (is_schema m.0.0) m.0 x m.2 refl
 
 pub name_good : (bytes : List ℕ) (x : List ℕ × List ℕ) → name_at bytes ≡ Some x → is_name x.0 ≡ true
 unfolding name_in
@@ -162,32 +158,3 @@ name_good bytes x h =
     let t = mapped (λ (name : List ℕ). (name, m.0.1)) (name_in m.0.0) x m.2 in
     let first : t.0 ≡ x.0 = ap (λ (y : List ℕ × List ℕ). y.0) t.2 in
     ap is_name (sym first) ∙ taken is_name (is_name m.0.0) m.0.0 t.0 t.1 refl
-
-pub short_good : (limit : ℕ) (bytes : List ℕ) (x : List ℕ × List ℕ) → short_at limit bytes ≡ Some x → nat_le (length x.0) limit ≡ true
-short_good limit bytes x h =
-    let m = chained (λ (y : List ℕ × List ℕ). if nat_le (length y.0) limit then Some y else None) (counted_at bytes) x h in
-    taken (λ (y : List ℕ × List ℕ). nat_le (length y.0) limit) (nat_le (length m.0.0) limit) m.0 x m.2 refl
-
-deed_cases : (a b c : Bool) (name bytes : List ℕ) (x : Deed × List ℕ) → is_name name ≡ true
-    → (if a then option_map (λ (y : Shape × List ℕ). (create name y.0, y.1)) (schema_at bytes)
-    else (if b then option_map (λ (y : List ℕ × List ℕ). (put name y.0, y.1)) (short_at 4000 bytes)
-    else (if c then option_map (λ (y : List ℕ × List ℕ). (remove name y.0, y.1)) (short_at 8012 bytes) else None))) ≡ Some x → is_deed x.0 ≡ true
-deed_cases true b c name bytes x good h =
-    let m = mapped (λ (y : Shape × List ℕ). (create name y.0, y.1)) (schema_at bytes) x h in
-    ap (λ (y : Deed × List ℕ). is_deed y.0) (sym m.2) ∙ both_true (is_name name) (is_shape m.0.0) good (schema_good bytes m.0 m.1)
-deed_cases false true c name bytes x good h =
-    let m = mapped (λ (y : List ℕ × List ℕ). (put name y.0, y.1)) (short_at 4000 bytes) x h in
-    ap (λ (y : Deed × List ℕ). is_deed y.0) (sym m.2) ∙ both_true (is_name name) (nat_le (length m.0.0) 4000) good (short_good 4000 bytes m.0 m.1)
-deed_cases false false true name bytes x good h =
-    let m = mapped (λ (y : List ℕ × List ℕ). (remove name y.0, y.1)) (short_at 8012 bytes) x h in
-    ap (λ (y : Deed × List ℕ). is_deed y.0) (sym m.2) ∙ both_true (is_name name) (nat_le (length m.0.0) 8012) good (short_good 8012 bytes m.0 m.1)
-deed_cases false false false name bytes x good h = absurd cc
-
--- a change that is read can be written
-pub deed_good : (code : ℕ) (name bytes : List ℕ) (x : Deed × List ℕ) → is_name name ≡ true → deed_after code name bytes ≡ Some x → is_deed x.0 ≡ true
-unfolding deed_after
-deed_good code name bytes x good h = deed_cases (code == 1) (code == 2) (code == 3) name bytes x good h
-
-pub reads_good : {X : Type 0} (view : X → Deed × List ℕ) (r : Result X ReadError) (code : ℕ) (name bytes : List ℕ) → is_name name ≡ true → Reads view r (deed_after code name bytes) → IfOk r (λ x. is_deed (view x).0 ≡ true)
-reads_good view (Ok x) code name bytes good is = deed_good code name bytes (view x) good is
-reads_good view (Err e) code name bytes good is = tt

@@ -5,8 +5,8 @@ use Rattle.std.specs.Result.{result_err, result_ok}
 use Rattle.std.specs.Str.{IsUtf8, is_utf8}
 use Rattle.std.proofs.lemmas.Str.{is_utf8-from_IsUtf8, IsUtf8-from_is_utf8}
 use Rattle.row_values.specs.declared.column.Misfit.{Misfit}
-use Rattle.row_values.specs.Value.{Datum, is_datum, text}
-use Rattle.row_values.specs.Column.{ColumnShape, misfit_of, fits}
+use Rattle.row_values.specs.Value.{Value, is_value, text}
+use Rattle.row_values.specs.Column.{Column, misfit_of, fits}
 use Rattle.row_values.specs.Row.{utf8_in}
 
 -- a value is admitted exactly where it fits
@@ -14,11 +14,11 @@ verdict : (r : Result (Unit {0}) Misfit) (o : Option Misfit) (whole : Bool) → 
 verdict (Ok x) o whole same is = rw (← same, is) refl
 verdict (Err e) o whole same is = rw (← same) refl
 
-pub fits_text : (column : ColumnShape) (value : Datum) (bytes : List ℕ) (r : Result (Unit {0}) Misfit) → value ≡ text bytes → result_err r ≡ misfit_of column (text bytes) → IsUtf8 bytes → is_ok r ≡ fits column value
+pub fits_text : (column : Column) (value : Value) (bytes : List ℕ) (r : Result (Unit {0}) Misfit) → value ≡ text bytes → result_err r ≡ misfit_of column (text bytes) → IsUtf8 bytes → is_ok r ≡ fits column value
 fits_text column value bytes r is same utf8 = verdict r (misfit_of column (text bytes)) (is_utf8 bytes) same (is_utf8-from_IsUtf8 bytes utf8) ∙ ap (fits column) (sym is)
 
-pub fits_other : (column : ColumnShape) (value other : Datum) (r : Result (Unit {0}) Misfit) → value ≡ other → is_datum other ≡ true → result_err r ≡ misfit_of column other → is_ok r ≡ fits column value
-fits_other column value other r is whole same = verdict r (misfit_of column other) (is_datum other) same whole ∙ ap (fits column) (sym is)
+pub fits_other : (column : Column) (value other : Value) (r : Result (Unit {0}) Misfit) → value ≡ other → is_value other ≡ true → result_err r ≡ misfit_of column other → is_ok r ≡ fits column value
+fits_other column value other r is whole same = verdict r (misfit_of column other) (is_value other) same whole ∙ ap (fits column) (sym is)
 
 -- `from_utf8` tells UTF-8 from what is not
 told : (bytes : List ℕ) {E : Type 0} (P : E → Type 0) (r : Result (Bor (List ℕ)) E) (b : Bool) → is_utf8 bytes ≡ b → MatchResult r (λ s. (s.now ≡ bytes) × IsUtf8 bytes) (λ e. ¬ (IsUtf8 bytes) × P e)

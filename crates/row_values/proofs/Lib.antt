@@ -5,15 +5,11 @@ pub mod ValueLaws
 pub mod RowSteps
 pub mod ReadSteps
 pub mod RowColumns
+pub mod Known
+pub mod Gathered
 pub mod Keys
 pub mod KeyOrder
-pub mod Finding
-pub mod Changes
 pub mod Kept
 pub mod ByteSteps
 pub mod RowKeys
 pub mod ByteLaws
-pub mod Keeping
-pub mod Showing
-pub mod Places
-pub mod PlainTables

@@ -3,9 +3,12 @@ use Rattle.std.proofs.Common.{◌≡◌, ℕ, ◌<◌, ◌≤◌, List, [], ◌�
 use Rattle.std.specs.Prelude.{IfSome, is_some}
 use Rattle.std.specs.List.{list_all, slice_get}
 use Rattle.std.proofs.lemmas.Option.{slice_get-get_or}
-use Rattle.row_values.specs.Value.{Datum, null}
-use Rattle.row_values.specs.Column.{ColumnShape}
-use Rattle.row_values.specs.Schema.{Shape, is_shape, key_columns, picked}
+use Rattle.std.proofs.Common.{map, take}
+use Rattle.std.proofs.lemmas.List.{length-map, take_all}
+use Rattle.row_values.specs.declared.value.Value.{Value as CodeValue}
+use Rattle.row_values.specs.Value.{Value, null, value_of}
+use Rattle.row_values.specs.Column.{Column}
+use Rattle.row_values.specs.Schema.{Schema, is_schema, key_columns, picked}
 use Rattle.row_values.specs.Row.{all_fit, row_bytes, values_in}
 use Rattle.row_values.specs.Key.{is_key, row_key}
 use Rattle.row_values.proofs.ValueLaws.{both_true, first_true, second_true}
@@ -24,10 +27,10 @@ places_by_length xs ys (p ∷ ps) d same all =
     (places_by_length xs ys ps d same (second_true (is_some (slice_get xs p)) (list_all (λ place. is_some (slice_get xs place)) ps) all))
 
 -- the key's values are at the places of the key
-pub key_places_values : (shape : Shape) (values : List Datum) → is_shape shape ≡ true → all_fit shape.columns values ≡ true → are_places values shape.key ≡ true
-key_places_values shape values good fit = places_by_length shape.columns values shape.key null (all_fit-length shape.columns values fit) (key_places shape good)
+pub key_places_values : (schema : Schema) (values : List Value) → is_schema schema ≡ true → all_fit schema.columns values ≡ true → are_places values schema.key ≡ true
+key_places_values schema values good fit = places_by_length schema.columns values schema.key null (all_fit-length schema.columns values fit) (key_places schema good)
 
-picked_fit_by : (columns : List ColumnShape) (values : List Datum) (p : ℕ) (ps : List ℕ) (c : Option ColumnShape) (v : Option Datum) → all_fit columns values ≡ true → slice_get columns p ≡ c → slice_get values p ≡ v → is_some c ≡ true → is_some v ≡ true
+picked_fit_by : (columns : List Column) (values : List Value) (p : ℕ) (ps : List ℕ) (c : Option Column) (v : Option Value) → all_fit columns values ≡ true → slice_get columns p ≡ c → slice_get values p ≡ v → is_some c ≡ true → is_some v ≡ true
     → all_fit (picked columns ps) (picked values ps) ≡ true → all_fit (picked columns (p ∷ ps)) (picked values (p ∷ ps)) ≡ true
 picked_fit_by columns values p ps (Some c) (Some v) fit at_c at_v some_c some_v rest =
     let one = fits_at columns values p c v fit at_c at_v in
@@ -36,7 +39,7 @@ picked_fit_by columns values p ps None v fit at_c at_v some_c some_v rest = absu
 picked_fit_by columns values p ps (Some c) None fit at_c at_v some_c some_v rest = absurd cc
 
 -- the values that are picked fit the columns that are picked
-pub picked_fit : (columns : List ColumnShape) (values : List Datum) (places : List ℕ) → all_fit columns values ≡ true → are_places columns places ≡ true → are_places values places ≡ true → all_fit (picked columns places) (picked values places) ≡ true
+pub picked_fit : (columns : List Column) (values : List Value) (places : List ℕ) → all_fit columns values ≡ true → are_places columns places ≡ true → are_places values places ≡ true → all_fit (picked columns places) (picked values places) ≡ true
 picked_fit columns values [] fit all_c all_v = refl
 picked_fit columns values (p ∷ ps) fit all_c all_v =
     picked_fit_by columns values p ps (slice_get columns p) (slice_get values p) fit refl refl
@@ -46,31 +49,59 @@ picked_fit columns values (p ∷ ps) fit all_c all_v =
     (second_true (is_some (slice_get columns p)) (list_all (λ place. is_some (slice_get columns place)) ps) all_c)
     (second_true (is_some (slice_get values p)) (list_all (λ place. is_some (slice_get values place)) ps) all_v))
 
-pub key_fits : (shape : Shape) (values : List Datum) → is_shape shape ≡ true → all_fit shape.columns values ≡ true → all_fit (key_columns shape) (picked values shape.key) ≡ true
-key_fits shape values good fit = picked_fit shape.columns values shape.key fit (key_places shape good) (key_places_values shape values good fit)
+pub key_fits : (schema : Schema) (values : List Value) → is_schema schema ≡ true → all_fit schema.columns values ≡ true → all_fit (key_columns schema) (picked values schema.key) ≡ true
+key_fits schema values good fit = picked_fit schema.columns values schema.key fit (key_places schema good) (key_places_values schema values good fit)
 
 -- the key of a row is a key
-pub row_key_good : (shape : Shape) (row : List ℕ) → is_shape shape ≡ true → all_fit shape.columns (values_in shape row) ≡ true → is_key shape (row_key shape row) ≡ true
-row_key_good shape row good fit = ap is_some (key_good shape (picked (values_in shape row) shape.key) good (key_fits shape (values_in shape row) good fit))
+pub row_key_good : (schema : Schema) (row : List ℕ) → is_schema schema ≡ true → all_fit schema.columns (values_in schema row) ≡ true → is_key schema (row_key schema row) ≡ true
+row_key_good schema row good fit = ap is_some (key_good schema (picked (values_in schema row) schema.key) good (key_fits schema (values_in schema row) good fit))
 
 -- ---- the key, place by place
 
-pub key_place : (shape : Shape) (key : List ℕ) (i place : ℕ) → key ≡ shape.key → i < length key → place ≡ get_or key i 0 → slice_get shape.key i ≡ Some place
-key_place shape key i place is lt at = ap (λ (k : List ℕ). slice_get k i) (sym is) ∙ slice_get-get_or key i 0 lt ∙ ap Some (sym at)
+pub key_place : (schema : Schema) (key : List ℕ) (i place : ℕ) → key ≡ schema.key → i < length key → place ≡ get_or key i 0 → slice_get schema.key i ≡ Some place
+key_place schema key i place is lt at = ap (λ (k : List ℕ). slice_get k i) (sym is) ∙ slice_get-get_or key i 0 lt ∙ ap Some (sym at)
 
 -- the column at a place of the key
-pub key_column_at : (shape : Shape) (i place : ℕ) (column : ColumnShape) → is_shape shape ≡ true → slice_get shape.key i ≡ Some place → slice_get (key_columns shape) i ≡ Some column → slice_get shape.columns place ≡ Some column
-key_column_at shape i place column good at is = sym (picked_at shape.columns shape.key i place (key_places shape good) at) ∙ is
+pub key_column_at : (schema : Schema) (i place : ℕ) (column : Column) → is_schema schema ≡ true → slice_get schema.key i ≡ Some place → slice_get (key_columns schema) i ≡ Some column → slice_get schema.columns place ≡ Some column
+key_column_at schema i place column good at is = sym (picked_at schema.columns schema.key i place (key_places schema good) at) ∙ is
 
 -- the value at a place of the key
-pub key_value_at : (shape : Shape) (values : List Datum) (i place : ℕ) (value : Datum) → is_shape shape ≡ true → all_fit shape.columns values ≡ true → slice_get shape.key i ≡ Some place → slice_get values place ≡ Some value → slice_get (picked values shape.key) i ≡ Some value
-key_value_at shape values i place value good fit at is = picked_at values shape.key i place (key_places_values shape values good fit) at ∙ is
+pub key_value_at : (schema : Schema) (values : List Value) (i place : ℕ) (value : Value) → is_schema schema ≡ true → all_fit schema.columns values ≡ true → slice_get schema.key i ≡ Some place → slice_get values place ≡ Some value → slice_get (picked values schema.key) i ≡ Some value
+key_value_at schema values i place value good fit at is = picked_at values schema.key i place (key_places_values schema values good fit) at ∙ is
 
-pub fits_there : (P : ColumnShape → Type 0) (o : Option ColumnShape) (column : ColumnShape) → o ≡ Some column → IfSome o P → P column
-fits_there P o column is h = subst (λ (q : Option ColumnShape). IfSome q P) is h
+pub fits_there : (P : Column → Type 0) (o : Option Column) (column : Column) → o ≡ Some column → IfSome o P → P column
+fits_there P o column is h = subst (λ (q : Option Column). IfSome q P) is h
 
-pub key_done : (shape : Shape) (values : List Datum) (i : ℕ) → is_shape shape ≡ true → all_fit shape.columns values ≡ true → length shape.key ≤ i → row_bytes (drop i (key_columns shape)) (drop i (picked values shape.key)) ≡ []
-key_done shape values i good fit past =
-    let a = key_count shape good in
-    let b = length-picked values shape.key (key_places_values shape values good fit) in
-    row_end (key_columns shape) (picked values shape.key) i (omega arith) (omega arith)
+pub key_done : (schema : Schema) (values : List Value) (i : ℕ) → is_schema schema ≡ true → all_fit schema.columns values ≡ true → length schema.key ≤ i → row_bytes (drop i (key_columns schema)) (drop i (picked values schema.key)) ≡ []
+key_done schema values i good fit past =
+    let a = key_count schema good in
+    let b = length-picked values schema.key (key_places_values schema values good fit) in
+    row_end (key_columns schema) (picked values schema.key) i (omega arith) (omega arith)
+
+-- ---- values of a key
+
+-- a place of the key is one of a value
+pub key_in_values : (schema : Schema) (values : List CodeValue) (key : List ℕ) (i : ℕ) → is_schema schema ≡ true → key ≡ schema.key → all_fit (key_columns schema) (map value_of values) ≡ true → i < length key → i < length values
+key_in_values schema values key i good is fit lt =
+    let a = key_count schema good in
+    let b = ap length is in
+    let d = all_fit-length (key_columns schema) (map value_of values) fit in
+    let e = length-map values value_of in
+    omega arith
+
+-- past the key's places nothing is left
+pub key_ended : (schema : Schema) (values : List CodeValue) (key : List ℕ) (i : ℕ) → is_schema schema ≡ true → key ≡ schema.key → all_fit (key_columns schema) (map value_of values) ≡ true → length key ≤ i → row_bytes (drop i (key_columns schema)) (drop i (map value_of values)) ≡ []
+key_ended schema values key i good is fit past =
+    let a = key_count schema good in
+    let b = ap length is in
+    let d = all_fit-length (key_columns schema) (map value_of values) fit in
+    row_end (key_columns schema) (map value_of values) i (omega arith) d
+
+-- the values of all places of the key are the key's
+pub gathered_all : (schema : Schema) (values : List Value) (lent : List CodeValue) (key : List ℕ) (i : ℕ) → is_schema schema ≡ true → all_fit schema.columns values ≡ true → key ≡ schema.key → i ≤ length key → length key ≤ i
+    → map value_of (take i lent) ≡ take i (picked values schema.key) → map value_of (take (length key) lent) ≡ picked values schema.key
+gathered_all schema values lent key i good fit is most least so =
+    let same : length key ≡ i = omega arith in
+    let count = length-picked values schema.key (key_places_values schema values good fit) in
+    let size = ap length is in
+    ap (λ (n : ℕ). map value_of (take n lent)) same ∙ so ∙ take_all i (picked values schema.key) (omega arith)

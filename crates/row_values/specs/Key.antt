@@ -4,22 +4,22 @@ use Rattle.std.specs.Prelude.{ℕ, Bool, List, [], is_some, unwrap_or}
 use Rattle.std.specs.Ordering.{nat_cmp, ordering_then}
 use Rattle.std.specs.declared.cmp.Ordering.{Ordering}
 use Rattle.std.specs.Cmp.Lexicographic.{slice_cmp}
-use Rattle.row_values.specs.Value.{Datum, datum_cmp}
-use Rattle.row_values.specs.Schema.{Shape, key_columns, picked}
+use Rattle.row_values.specs.Value.{Value, value_cmp}
+use Rattle.row_values.specs.Schema.{Schema, key_columns, picked}
 use Rattle.row_values.specs.Row.{row_bytes, values_at, values_in}
 
-abbrev pub is_key : Shape → List ℕ → Bool
-is_key shape key = is_some (values_at (key_columns shape) key)
+abbrev pub is_key : Schema → List ℕ → Bool
+is_key schema key = is_some (values_at (key_columns schema) key)
 
 -- the values of bytes that are a key
-abbrev pub key_values : Shape → List ℕ → List Datum
-key_values shape key = unwrap_or (values_at (key_columns shape) key) []
+abbrev pub key_values : Schema → List ℕ → List Value
+key_values schema key = unwrap_or (values_at (key_columns schema) key) []
 
 -- the key of a row
-abbrev pub row_key : Shape → List ℕ → List ℕ
-row_key shape row = row_bytes (key_columns shape) (picked (values_in shape row) shape.key)
+abbrev pub row_key : Schema → List ℕ → List ℕ
+row_key schema row = row_bytes (key_columns schema) (picked (values_in schema row) schema.key)
 
 -- the order of keys: by their values, the first key column first. Of bytes that are no keys, and so
 -- have no values, their own order decides.
-abbrev pub key_cmp : Shape → List ℕ → List ℕ → Ordering
-key_cmp shape a b = ordering_then (slice_cmp datum_cmp (key_values shape a) (key_values shape b)) (slice_cmp nat_cmp a b)
+abbrev pub key_cmp : Schema → List ℕ → List ℕ → Ordering
+key_cmp schema a b = ordering_then (slice_cmp value_cmp (key_values schema a) (key_values schema b)) (slice_cmp nat_cmp a b)

@@ -4,11 +4,6 @@ pub mod Row
 pub mod Schema
 pub mod Key
 pub mod RowView
-pub mod RowList
-pub mod Lent
-pub mod Tables
-pub mod View
+pub mod RowValues
 pub mod Laws
 pub mod Bytes
-pub mod Change
-pub mod Plain

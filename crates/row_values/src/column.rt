@@ -3,7 +3,7 @@
 ghost use Rattle.std.specs.Prelude.{◌≡◌, IfOk, is_ok};
 ghost use Rattle.std.specs.List.{list_all};
 ghost use Rattle.std.specs.Result.{result_err};
-ghost use Rattle.row_values.specs.Value.{datum_of, number as number_datum, text as text_datum, binary as binary_datum};
+ghost use Rattle.row_values.specs.Value.{value_of, number as number_value, text as text_value, binary as binary_value};
 ghost use Rattle.row_values.specs.Column.{column_of, fits, misfit_of, within};
 ghost use Rattle.row_values.specs.Schema.{goes_on_name, is_capital, is_column, is_limit, is_name};
 
@@ -48,8 +48,8 @@ impl Column {
     /// Whether the value fits the column, and else the first reason why not: its class, NULL, its
     /// range, its length. NULL is of every class.
     pub fn admit(&self, value: &Value<'_>) -> Result<(), Misfit>
-        ensures reason { result_err result ≡ misfit_of (column_of self.now) (datum_of value.now) }
-        ensures fits { is_ok result ≡ fits (column_of self.now) (datum_of value.now) }
+        ensures reason { result_err result ≡ misfit_of (column_of self.now) (value_of value.now) }
+        ensures fits { is_ok result ≡ fits (column_of self.now) (value_of value.now) }
     {
         match value {
             Value::Null => check(self.is_nullable, Misfit::IsNull),
@@ -80,7 +80,7 @@ impl Column {
     }
 
     fn admit_number(&self, number: i64) -> Result<(), Misfit>
-        ensures { result_err result ≡ misfit_of (column_of self.now) (number_datum number) }
+        ensures { result_err result ≡ misfit_of (column_of self.now) (number_value number) }
     {
         match self.kind {
             Kind::SmallInt => check(-32_768 <= number && number <= 32_767, Misfit::OutOfRange),
@@ -94,7 +94,7 @@ impl Column {
     }
 
     fn admit_text(&self, text: &[u8]) -> Result<(), Misfit>
-        ensures { result_err result ≡ misfit_of (column_of self.now) (text_datum text.now) }
+        ensures { result_err result ≡ misfit_of (column_of self.now) (text_value text.now) }
     {
         match self.kind {
             Kind::VarChar => check(text.len() <= usize::from(self.length), Misfit::TooLong),
@@ -103,7 +103,7 @@ impl Column {
     }
 
     fn admit_bytes(&self, bytes: &[u8]) -> Result<(), Misfit>
-        ensures { result_err result ≡ misfit_of (column_of self.now) (binary_datum bytes.now) }
+        ensures { result_err result ≡ misfit_of (column_of self.now) (binary_value bytes.now) }
     {
         match self.kind {
             Kind::VarBinary => check(bytes.len() <= usize::from(self.length), Misfit::TooLong),

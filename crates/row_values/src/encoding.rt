@@ -1,10 +1,10 @@
 //! The bytes of a value.
 
 ghost use Rattle.std.specs.Prelude.{◌≡◌, ◌++◌, ◌^◌, ◌<◌, IfSome, IsSome, IsTrue, None, OnErr, OnOk, is_some, length, map, option_map};
-ghost use Rattle.row_values.specs.Value.{datum_of, number as number_datum};
+ghost use Rattle.row_values.specs.Value.{value_of, number as number_value};
 ghost use Rattle.row_values.specs.Column.{column_of, fits, misfit_in};
 ghost use Rattle.row_values.specs.Bytes.{Keeps};
-ghost use Rattle.row_values.specs.Row.{content_at, content_bytes, counted, counted_at, datum_at, front_of, StandsFrom, utf8_in, value_at, value_bytes, values_at};
+ghost use Rattle.row_values.specs.Row.{content_at, content_bytes, counted, counted_at, typed_value_at, front_of, StandsFrom, utf8_in, value_at, value_bytes, values_at};
 
 use crate::column::{Column, Kind};
 use crate::value::Value;
@@ -12,7 +12,7 @@ use byteorder::{BigEndian, ByteOrder};
 use std::alloc::AllocError;
 
 /// The mark in front of a value.
-const PRESENT: u8 = 0;
+pub(crate) const PRESENT: u8 = 0;
 
 /// The mark in place of a NULL.
 const ABSENT: u8 = 0xFF;
@@ -23,8 +23,8 @@ pub(crate) fn put_value(
     column: &Column,
     value: &Value<'_>,
 ) -> Result<(), AllocError>
-    requires { IsTrue (fits (column_of column.now) (datum_of value.now)) }
-    ensures { OnOk result (out.new.items ≡ out.old.items ++ value_bytes column.now.kind (datum_of value.now)) }
+    requires { IsTrue (fits (column_of column.now) (value_of value.now)) }
+    ensures { OnOk result (out.new.items ≡ out.old.items ++ value_bytes column.now.kind (value_of value.now)) }
 {
     match *value {
         Value::Null => out.push(ABSENT)?,
@@ -47,8 +47,8 @@ pub(crate) fn put_value(
 }
 
 fn put_number(out: &mut Vec<u8>, kind: Kind, number: i64) -> Result<(), AllocError>
-    requires { misfit_in kind 0 (number_datum number) ≡ None }
-    ensures { OnOk result (out.new.items ≡ out.old.items ++ content_bytes kind (number_datum number)) }
+    requires { misfit_in kind 0 (number_value number) ≡ None }
+    ensures { OnOk result (out.new.items ≡ out.old.items ++ content_bytes kind (number_value number)) }
 {
     match kind {
         Kind::SmallInt => {
@@ -71,7 +71,7 @@ fn put_number(out: &mut Vec<u8>, kind: Kind, number: i64) -> Result<(), AllocErr
 }
 
 /// Appends a text or bytes behind their length, or some of that.
-pub(crate) fn put_counted(out: &mut Vec<u8>, bytes: &[u8]) -> Result<(), AllocError>
+pub fn put_counted(out: &mut Vec<u8>, bytes: &[u8]) -> Result<(), AllocError>
     requires { length bytes.now < 2 ^ 16 }
     ensures ok { OnOk result (out.new.items ≡ out.old.items ++ counted bytes.now) }
     ensures err { OnErr result (Keeps out.old.items out.new.items) }
@@ -84,8 +84,8 @@ pub(crate) fn put_counted(out: &mut Vec<u8>, bytes: &[u8]) -> Result<(), AllocEr
 
 /// How many bytes a value that fits the column has.
 pub(crate) fn value_length(column: &Column, value: &Value<'_>) -> usize
-    requires { IsTrue (fits (column_of column.now) (datum_of value.now)) }
-    ensures exact { result ≡ length (value_bytes column.now.kind (datum_of value.now)) }
+    requires { IsTrue (fits (column_of column.now) (value_of value.now)) }
+    ensures exact { result ≡ length (value_bytes column.now.kind (value_of value.now)) }
     ensures short { result < 2 ^ 17 }
 {
     match *value {
@@ -120,23 +120,10 @@ pub(crate) fn has_values(columns: &[Column], bytes: &[u8]) -> bool
     rest.is_empty()
 }
 
-/// The bytes from the value of column `i` on.
-pub(crate) fn from_column<'a>(columns: &[Column], bytes: &'a [u8], i: usize) -> &'a [u8]
-    requires values { IsSome (values_at (map column_of columns.now) bytes.now) }
-    requires inside { i < length columns.now }
-    ensures { StandsFrom (map column_of columns.now) bytes.now i result.now }
-{
-    let mut rest = bytes;
-    for j in 0..i {
-        rest = split_value(&columns[j], rest).unwrap().1;
-    }
-    rest
-}
-
 /// A value that fits the column, in front of the bytes, with what follows it.
 #[tactic(auto, unfolding(crate::specs::Row::value_at))]
 pub(crate) fn split_value<'a>(column: &Column, bytes: &'a [u8]) -> Option<(Value<'a>, &'a [u8])>
-    ensures { option_map (λ x. (datum_of x.0, x.1.now)) result ≡ value_at (column_of column.now) bytes.now }
+    ensures { option_map (λ x. (value_of x.0, x.1.now)) result ≡ value_at (column_of column.now) bytes.now }
 {
     let (value, rest) = split_any(column.kind, bytes)?;
     if column.admit(&value).is_err() {
@@ -145,9 +132,9 @@ pub(crate) fn split_value<'a>(column: &Column, bytes: &'a [u8]) -> Option<(Value
     Some((value, rest))
 }
 
-// A value of a type, with what follows.
-fn split_any(kind: Kind, bytes: &[u8]) -> Option<(Value<'_>, &[u8])>
-    ensures { option_map (λ x. (datum_of x.0, x.1.now)) result ≡ datum_at kind bytes.now }
+/// A value of a type, with what follows.
+pub(crate) fn split_any(kind: Kind, bytes: &[u8]) -> Option<(Value<'_>, &[u8])>
+    ensures { option_map (λ x. (value_of x.0, x.1.now)) result ≡ typed_value_at kind bytes.now }
 {
     let [mark, rest @ ..] = bytes else {
         return None;
@@ -161,7 +148,7 @@ fn split_any(kind: Kind, bytes: &[u8]) -> Option<(Value<'_>, &[u8])>
 
 // The bytes of a value of a type behind its mark, with what follows.
 fn split_content(kind: Kind, bytes: &[u8]) -> Option<(Value<'_>, &[u8])>
-    ensures { option_map (λ x. (datum_of x.0, x.1.now)) result ≡ content_at kind bytes.now }
+    ensures { option_map (λ x. (value_of x.0, x.1.now)) result ≡ content_at kind bytes.now }
 {
     match kind {
         Kind::SmallInt => {
@@ -187,7 +174,7 @@ fn split_content(kind: Kind, bytes: &[u8]) -> Option<(Value<'_>, &[u8])>
     }
 }
 
-// The first bytes, with what follows.
+/// The first bytes, with what follows.
 #[tactic(auto, unfolding(crate::specs::Row::front_of))]
 pub(crate) fn split_front(bytes: &[u8], count: usize) -> Option<(&[u8], &[u8])>
     ensures parts { option_map (λ x. (x.0.now, x.1.now)) result ≡ front_of count bytes.now }
@@ -200,7 +187,7 @@ pub(crate) fn split_front(bytes: &[u8], count: usize) -> Option<(&[u8], &[u8])>
 }
 
 /// The bytes behind a length of two bytes in front, with what follows.
-pub(crate) fn split_counted(bytes: &[u8]) -> Option<(&[u8], &[u8])>
+pub fn split_counted(bytes: &[u8]) -> Option<(&[u8], &[u8])>
     ensures { option_map (λ x. (x.0.now, x.1.now)) result ≡ counted_at bytes.now }
 {
     let (count, rest) = split_front(bytes, 2)?;

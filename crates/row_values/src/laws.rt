@@ -1,6 +1,6 @@
 //! Laws of the definitions. The functions do nothing: their contracts are the laws.
 
-ghost use Rattle.row_values.specs.Laws.{ChangeReadWasWritten, ChangeWrittenIsRead, Created, KeysAreOrdered, KeysGoByValues, Put, ReadWasWritten, Removed, SchemaReadWasWritten, SchemaWrittenIsRead, StoresAreKept, StoresAreWhatTheyShow, WrittenIsRead};
+ghost use Rattle.row_values.specs.Laws.{KeysAreOrdered, KeysAreShort, KeysGoByValues, ReadWasWritten, RowsHaveKeys, RowsHaveTheirValues, SchemaReadWasWritten, SchemaWrittenIsRead, ValuesAreOrdered, WrittenIsRead};
 
 /// Rows and keys correspond with their values, each way.
 pub fn values_have_their_bytes()
@@ -8,30 +8,26 @@ pub fn values_have_their_bytes()
     ensures read { ReadWasWritten }
 {}
 
-/// Schemas and changes correspond with their bytes, each way.
-pub fn schemas_and_changes_have_their_bytes()
-    ensures schema_written { SchemaWrittenIsRead }
-    ensures schema_read { SchemaReadWasWritten }
-    ensures change_written { ChangeWrittenIsRead }
-    ensures change_read { ChangeReadWasWritten }
+/// Schemas correspond with their bytes, each way.
+pub fn schemas_have_their_bytes()
+    ensures written { SchemaWrittenIsRead }
+    ensures read { SchemaReadWasWritten }
 {}
 
-/// Keys are totally ordered, by their values.
+/// Values are totally ordered, and those that tie are equal.
+pub fn values_are_ordered()
+    ensures { ValuesAreOrdered }
+{}
+
+/// A row has a value for each column, and a key.
+pub fn rows_have_values_and_keys()
+    ensures values { RowsHaveTheirValues }
+    ensures keys { RowsHaveKeys }
+{}
+
+/// Keys are totally ordered, by their values, and have at most 8,012 bytes.
 pub fn keys_are_ordered()
     ensures total { KeysAreOrdered }
     ensures values { KeysGoByValues }
-{}
-
-/// What a change does to a store, seen table by table and row by row. Where it has no place, a
-/// change does nothing.
-pub fn changes_are_local()
-    ensures created { Created }
-    ensures put { Put }
-    ensures removed { Removed }
-    ensures kept { StoresAreKept }
-{}
-
-/// A store is known by what it shows: its schemas, and its rows at their keys.
-pub fn stores_are_what_they_show()
-    ensures { StoresAreWhatTheyShow }
+    ensures short { KeysAreShort }
 {}

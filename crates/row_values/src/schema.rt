@@ -3,7 +3,7 @@
 ghost use Rattle.std.specs.Prelude.{◌≡◌, ◌↔◌, ◌<◌, IfOk, IsOk, Some, length, true, map, nat_eq};
 ghost use Rattle.std.specs.List.{list_all, list_any, slice_get};
 ghost use Rattle.row_values.specs.Column.{column_of};
-ghost use Rattle.row_values.specs.Schema.{are_columns, can_be_key, is_column, is_key_of, is_shape, key_columns, no_repeat, same_name};
+ghost use Rattle.row_values.specs.Schema.{are_columns, can_be_key, is_column, is_key_of, is_schema, key_columns, no_repeat, same_name};
 
 use crate::column::Column;
 use std::alloc::{AllocError, Global};
@@ -11,16 +11,16 @@ use std::marker::Model;
 use thiserror::Error;
 
 /// The most columns of a table.
-pub const MOST_COLUMNS: usize = 64;
+pub const MAX_COLUMNS: usize = 64;
 
 /// The most columns of a key.
-pub const MOST_KEY_COLUMNS: usize = 4;
+pub const MAX_KEY_COLUMNS: usize = 4;
 
 /// The most bytes of a name.
-pub const MOST_NAME_BYTES: usize = 30;
+pub const MAX_NAME_BYTES: usize = 30;
 
 /// The most bytes that a text or bytes column may be declared with.
-pub const MOST_LENGTH: u16 = 2_000;
+pub const MAX_COLUMN_LENGTH: u16 = 2_000;
 
 /// These columns and this key are no schema.
 #[derive(Clone, Copy, Debug, PartialEq, Eq, Error)]
@@ -36,14 +36,14 @@ pub struct Schema {
 
 impl Model for Schema {
     ghost use Rattle.std.specs.Prelude.{◌≡◌, true, map};
-    ghost use Rattle.row_values.specs.Schema.{Shape, is_shape};
+    ghost use Rattle.row_values.specs.Schema.{Schema, is_schema};
     ghost use Rattle.row_values.specs.Column.{column_of};
 
-    ghost Value = { Shape };
+    ghost Value = { Schema };
 
     ghost view = { λ s. record { columns = map column_of s.columns.items; key = s.key.items } };
 
-    ghost invariant = { λ s. is_shape (record { columns = map column_of s.columns.items; key = s.key.items }) ≡ true };
+    ghost invariant = { λ s. is_schema (record { columns = map column_of s.columns.items; key = s.key.items }) ≡ true };
 }
 
 impl Schema {
@@ -53,7 +53,7 @@ impl Schema {
     /// have a length of 1 to 2,000 bytes, numbers 0. Anything else is refused.
     pub fn new(columns: Vec<Column>, key: Vec<u8>) -> Result<Schema, BadSchema>
         ensures made { IfOk result (λ schema. schema ≡ record { columns = map column_of columns.items; key = key.items }) }
-        ensures only { IsOk result ↔ (is_shape (record { columns = map column_of columns.items; key = key.items }) ≡ true) }
+        ensures only { IsOk result ↔ (is_schema (record { columns = map column_of columns.items; key = key.items }) ≡ true) }
     {
         if !are_columns(&columns) || !is_key_of(&columns, &key) {
             return Err(BadSchema);
@@ -73,7 +73,7 @@ impl Schema {
     /// The columns, in the order of CREATE TABLE.
     pub fn columns(&self) -> &[Column]
         ensures columns { map column_of result.now ≡ self.now.columns }
-        ensures good { is_shape self.now ≡ true }
+        ensures good { is_schema self.now ≡ true }
     {
         self.columns.as_slice()
     }
@@ -81,7 +81,7 @@ impl Schema {
     /// The places of the key columns from 0, in the order of PRIMARY KEY.
     pub fn key(&self) -> &[u8]
         ensures key { result.now ≡ self.now.key }
-        ensures good { is_shape self.now ≡ true }
+        ensures good { is_schema self.now ≡ true }
     {
         self.key.as_slice()
     }
@@ -108,7 +108,7 @@ fn copied_columns(alloc: Global, columns: &[Column]) -> Result<Vec<Column>, Allo
 fn are_columns(columns: &[Column]) -> bool
     ensures { result ≡ are_columns (map column_of columns.now) }
 {
-    if columns.len() > MOST_COLUMNS {
+    if columns.len() > MAX_COLUMNS {
         return false;
     }
     if !are_valid(columns) {
@@ -149,7 +149,7 @@ fn is_key_of(columns: &[Column], key: &[u8]) -> bool
     ensures { result ≡ is_key_of (map column_of columns.now) key.now }
 {
     !key.is_empty()
-        && key.len() <= MOST_KEY_COLUMNS
+        && key.len() <= MAX_KEY_COLUMNS
         && can_all_be_key(columns, key)
         && are_different(key)
 }

@@ -93,8 +93,8 @@ fn columns_length(columns: &[Column]) -> usize
     length
 }
 
-/// Appends the bytes of a schema, or some of them.
-pub(crate) fn put_schema(out: &mut Vec<u8>, schema: &Schema) -> Result<(), AllocError>
+// Appends the bytes of a schema, or some of them.
+fn put_schema(out: &mut Vec<u8>, schema: &Schema) -> Result<(), AllocError>
     ensures ok { OnOk result (out.new.items ≡ out.old.items ++ schema_bytes schema.now) }
     ensures err { OnErr result (Keeps out.old.items out.new.items) }
 {
@@ -131,7 +131,7 @@ fn put_column(out: &mut Vec<u8>, column: &Column) -> Result<(), AllocError>
 }
 
 /// Appends a name behind its length, or some of that.
-pub(crate) fn put_name(out: &mut Vec<u8>, name: &str) -> Result<(), AllocError>
+pub fn put_name(out: &mut Vec<u8>, name: &str) -> Result<(), AllocError>
     requires { is_name name.now ≡ true }
     ensures ok { OnOk result (out.new.items ≡ out.old.items ++ named name.now) }
     ensures err { OnErr result (Keeps out.old.items out.new.items) }
@@ -176,7 +176,7 @@ fn flag_of(byte: u8) -> Option<bool>
 }
 
 /// The bytes behind their length of one byte in front, with what follows.
-pub(crate) fn split_named(bytes: &[u8]) -> Option<(&[u8], &[u8])>
+pub fn split_named(bytes: &[u8]) -> Option<(&[u8], &[u8])>
     ensures { option_map (λ x. (x.0.now, x.1.now)) result ≡ named_at bytes.now }
 {
     let [count, rest @ ..] = bytes else {
@@ -186,7 +186,7 @@ pub(crate) fn split_named(bytes: &[u8]) -> Option<(&[u8], &[u8])>
 }
 
 /// The name that stands in front, with what follows.
-pub(crate) fn split_name(bytes: &[u8]) -> Option<(&str, &[u8])>
+pub fn split_name(bytes: &[u8]) -> Option<(&str, &[u8])>
     ensures { option_map (λ x. (x.0.now, x.1.now)) result ≡ name_at bytes.now }
 {
     let (name, rest) = split_named(bytes)?;

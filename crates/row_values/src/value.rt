@@ -1,7 +1,7 @@
 //! SQL values.
 
 ghost use Rattle.std.specs.Prelude.{◌≡◌};
-ghost use Rattle.row_values.specs.Value.{class_of, datum_cmp, datum_of};
+ghost use Rattle.row_values.specs.Value.{class_of, value_cmp, value_of};
 
 use std::cmp::Ordering;
 
@@ -22,7 +22,7 @@ impl Value<'_> {
     /// The order of values: numbers by value, texts and bytes by their bytes; of two classes NULL
     /// comes first, then numbers, texts and bytes.
     pub fn order(&self, other: &Value<'_>) -> Ordering
-        ensures { result ≡ datum_cmp (datum_of self.now) (datum_of other.now) }
+        ensures { result ≡ value_cmp (value_of self.now) (value_of other.now) }
     {
         match (*self, *other) {
             (Value::Number(a), Value::Number(b)) => a.cmp(&b),
@@ -34,7 +34,7 @@ impl Value<'_> {
 
     /// The place of a value's class in the order.
     fn class(&self) -> u8
-        ensures { result ≡ class_of (datum_of self.now) }
+        ensures { result ≡ class_of (value_of self.now) }
     {
         match self {
             Value::Null => 0,

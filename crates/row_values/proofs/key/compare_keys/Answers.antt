@@ -1,11 +1,11 @@
 -- The values of a place are read of both keys, and decide or tie.
-use Rattle.std.proofs.Common.{ap, refl, sym, ◌∙◌, arith, length, option_map}
-use Rattle.row_values.specs.Value.{datum_of}
+use Rattle.std.proofs.Common.{ap, refl, sym, ◌∙◌, arith, length}
+use Rattle.row_values.specs.Value.{value_of}
 use Rattle.row_values.specs.Column.{column_of}
 use Rattle.row_values.specs.Schema.{key_columns}
 use Rattle.row_values.specs.Key.{key_values}
 use Rattle.row_values.proofs.Keys.{key_count}
-use Rattle.row_values.proofs.ReadSteps.{next_read, reads_some, values_count}
+use Rattle.row_values.proofs.ReadSteps.{next_read, reads_there, values_count}
 use Rattle.row_values.proofs.KeyOrder.{key_read, order_equal, order_goes_on, order_greater, order_less}
 use Rattle.row_values.proofs.key.compare_keys.Goals as goal
 
@@ -16,34 +16,34 @@ loop-i-init c = record {
   order = refl;
 }
 
-pub unwrap-requires : goal.unwrap-requires
-unwrap-requires c = reads_some (key_columns c.args.schema.now) (key_values c.args.schema.now c.args.a.now) c.loop-i.i (column_of c.key_column-column.result.now) c.loop-i.rest_a.now _ c.split_value.result c.key_column-column.ensures c.split_value.ensures c.loop-i.invariant.first
+pub take_value-requires : goal.take_value-requires
+take_value-requires c = reads_there (key_columns c.args.schema.now) (key_values c.args.schema.now c.args.a.now) c.loop-i.i (column_of c.key_column-column.result.now) c.loop-i.rest_a.now c.key_column-column.ensures c.loop-i.invariant.first
 
-pub unwrap-requires-in-loop-i : goal.unwrap-requires-in-loop-i
-unwrap-requires-in-loop-i c = reads_some (key_columns c.args.schema.now) (key_values c.args.schema.now c.args.b.now) c.loop-i.i (column_of c.key_column-column.result.now) c.loop-i.rest_b.now _ c.split_value-in-loop-i.result c.key_column-column.ensures c.split_value-in-loop-i.ensures c.loop-i.invariant.second
+pub take_value-requires-in-loop-i : goal.take_value-requires-in-loop-i
+take_value-requires-in-loop-i c = reads_there (key_columns c.args.schema.now) (key_values c.args.schema.now c.args.b.now) c.loop-i.i (column_of c.key_column-column.result.now) c.loop-i.rest_b.now c.key_column-column.ensures c.loop-i.invariant.second
 
 pub returns-in-Less : goal.returns-in-Less
 returns-in-Less c =
-    let one = next_read (key_columns c.args.schema.now) (key_values c.args.schema.now c.args.a.now) c.loop-i.i (column_of c.key_column-column.result.now) c.loop-i.rest_a.now (datum_of c.unwrap.result.0, c.unwrap.result.1.now) c.key_column-column.ensures
-    (sym (ap (option_map (λ x. (datum_of x.0, x.1.now))) c.unwrap.ensures) ∙ c.split_value.ensures) c.loop-i.invariant.first in
-    let two = next_read (key_columns c.args.schema.now) (key_values c.args.schema.now c.args.b.now) c.loop-i.i (column_of c.key_column-column.result.now) c.loop-i.rest_b.now (datum_of c.unwrap-in-loop-i.result.0, c.unwrap-in-loop-i.result.1.now) c.key_column-column.ensures
-    (sym (ap (option_map (λ x. (datum_of x.0, x.1.now))) c.unwrap-in-loop-i.ensures) ∙ c.split_value-in-loop-i.ensures) c.loop-i.invariant.second in
+    let one = next_read (key_columns c.args.schema.now) (key_values c.args.schema.now c.args.a.now) c.loop-i.i (column_of c.key_column-column.result.now) c.loop-i.rest_a.now (value_of c.take_value.result.0, c.take_value.result.1.now) c.key_column-column.ensures
+    c.take_value.ensures c.loop-i.invariant.first in
+    let two = next_read (key_columns c.args.schema.now) (key_values c.args.schema.now c.args.b.now) c.loop-i.i (column_of c.key_column-column.result.now) c.loop-i.rest_b.now (value_of c.take_value-in-loop-i.result.0, c.take_value-in-loop-i.result.1.now) c.key_column-column.ensures
+    c.take_value-in-loop-i.ensures c.loop-i.invariant.second in
     order_less c.args.schema.now c.args.a.now c.args.b.now c.loop-i.i _ _ one.0 two.0 (sym c.order.ensures ∙ c.in-Less.is) c.loop-i.invariant.order
 
 pub returns-in-Greater : goal.returns-in-Greater
 returns-in-Greater c =
-    let one = next_read (key_columns c.args.schema.now) (key_values c.args.schema.now c.args.a.now) c.loop-i.i (column_of c.key_column-column.result.now) c.loop-i.rest_a.now (datum_of c.unwrap.result.0, c.unwrap.result.1.now) c.key_column-column.ensures
-    (sym (ap (option_map (λ x. (datum_of x.0, x.1.now))) c.unwrap.ensures) ∙ c.split_value.ensures) c.loop-i.invariant.first in
-    let two = next_read (key_columns c.args.schema.now) (key_values c.args.schema.now c.args.b.now) c.loop-i.i (column_of c.key_column-column.result.now) c.loop-i.rest_b.now (datum_of c.unwrap-in-loop-i.result.0, c.unwrap-in-loop-i.result.1.now) c.key_column-column.ensures
-    (sym (ap (option_map (λ x. (datum_of x.0, x.1.now))) c.unwrap-in-loop-i.ensures) ∙ c.split_value-in-loop-i.ensures) c.loop-i.invariant.second in
+    let one = next_read (key_columns c.args.schema.now) (key_values c.args.schema.now c.args.a.now) c.loop-i.i (column_of c.key_column-column.result.now) c.loop-i.rest_a.now (value_of c.take_value.result.0, c.take_value.result.1.now) c.key_column-column.ensures
+    c.take_value.ensures c.loop-i.invariant.first in
+    let two = next_read (key_columns c.args.schema.now) (key_values c.args.schema.now c.args.b.now) c.loop-i.i (column_of c.key_column-column.result.now) c.loop-i.rest_b.now (value_of c.take_value-in-loop-i.result.0, c.take_value-in-loop-i.result.1.now) c.key_column-column.ensures
+    c.take_value-in-loop-i.ensures c.loop-i.invariant.second in
     order_greater c.args.schema.now c.args.a.now c.args.b.now c.loop-i.i _ _ one.0 two.0 (sym c.order.ensures ∙ c.in-Greater.is) c.loop-i.invariant.order
 
 pub loop-i-preserved : goal.loop-i-preserved
 loop-i-preserved c =
-    let one = next_read (key_columns c.args.schema.now) (key_values c.args.schema.now c.args.a.now) c.loop-i.i (column_of c.key_column-column.result.now) c.loop-i.rest_a.now (datum_of c.unwrap.result.0, c.unwrap.result.1.now) c.key_column-column.ensures
-    (sym (ap (option_map (λ x. (datum_of x.0, x.1.now))) c.unwrap.ensures) ∙ c.split_value.ensures) c.loop-i.invariant.first in
-    let two = next_read (key_columns c.args.schema.now) (key_values c.args.schema.now c.args.b.now) c.loop-i.i (column_of c.key_column-column.result.now) c.loop-i.rest_b.now (datum_of c.unwrap-in-loop-i.result.0, c.unwrap-in-loop-i.result.1.now) c.key_column-column.ensures
-    (sym (ap (option_map (λ x. (datum_of x.0, x.1.now))) c.unwrap-in-loop-i.ensures) ∙ c.split_value-in-loop-i.ensures) c.loop-i.invariant.second in
+    let one = next_read (key_columns c.args.schema.now) (key_values c.args.schema.now c.args.a.now) c.loop-i.i (column_of c.key_column-column.result.now) c.loop-i.rest_a.now (value_of c.take_value.result.0, c.take_value.result.1.now) c.key_column-column.ensures
+    c.take_value.ensures c.loop-i.invariant.first in
+    let two = next_read (key_columns c.args.schema.now) (key_values c.args.schema.now c.args.b.now) c.loop-i.i (column_of c.key_column-column.result.now) c.loop-i.rest_b.now (value_of c.take_value-in-loop-i.result.0, c.take_value-in-loop-i.result.1.now) c.key_column-column.ensures
+    c.take_value-in-loop-i.ensures c.loop-i.invariant.second in
     record {
       first = one.1;
       second = two.1;

@@ -1,9 +1,9 @@
 -- The bytes so far, with those of the values to come, are the key's.
 use Rattle.std.proofs.Common.{◌≡◌, ◌++◌, map, drop}
-use Rattle.row_values.specs.Value.{datum_of}
+use Rattle.row_values.specs.Value.{value_of}
 use Rattle.row_values.specs.Schema.{key_columns}
 use Rattle.row_values.specs.Row.{row_bytes}
 use Rattle.row_values.proofs.key.encode_key.Given as goal
 
 abbrev pub invariant-loop-i : goal.invariant-loop-i
-invariant-loop-i l = l.key.items ++ row_bytes (drop l.i (key_columns l.schema)) (drop l.i (map datum_of l.values)) ≡ row_bytes (key_columns l.schema) (map datum_of l.values)
+invariant-loop-i l = l.key.items ++ row_bytes (drop l.i (key_columns l.schema)) (drop l.i (map value_of l.values)) ≡ row_bytes (key_columns l.schema) (map value_of l.values)

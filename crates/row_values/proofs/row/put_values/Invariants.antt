@@ -1,10 +1,10 @@
 -- The bytes so far, with those of the values to come, are the row's.
 use Rattle.std.proofs.Common.{◌≡◌, ◌++◌, map, drop}
-use Rattle.row_values.specs.Value.{datum_of}
+use Rattle.row_values.specs.Value.{value_of}
 use Rattle.row_values.specs.Column.{column_of}
 use Rattle.row_values.specs.Row.{row_bytes}
 use Rattle.row_values.proofs.row.put_values.Given as goal
 
 abbrev pub invariant-loop-i : goal.invariant-loop-i
 invariant-loop-i l =
-    l.out.items ++ row_bytes (drop l.i (map column_of l.columns)) (drop l.i (map datum_of l.values)) ≡ l.initial.out.items ++ row_bytes (map column_of l.columns) (map datum_of l.values)
+    l.out.items ++ row_bytes (drop l.i (map column_of l.columns)) (drop l.i (map value_of l.values)) ≡ l.initial.out.items ++ row_bytes (map column_of l.columns) (map value_of l.values)

@@ -2,7 +2,7 @@
 use Rattle.std.proofs.Common.{◌≡◌, ap, map, drop, length, arith, List, []}
 use Rattle.std.specs.List.{flat_map}
 use Rattle.std.proofs.lemmas.List.{drop_all, length-map}
-use Rattle.row_values.specs.Column.{ColumnShape, column_of}
+use Rattle.row_values.specs.Column.{Column, column_of}
 use Rattle.row_values.specs.Schema.{is_column}
 use Rattle.row_values.specs.Bytes.{column_bytes}
 use Rattle.row_values.proofs.Keys.{all_at}
@@ -35,5 +35,5 @@ returns c =
     let end = c.loop-column-test.false in
     let at_most = c.loop-column.auto.column-index-end in
     let none : drop c.loop-column.column-index (map column_of c.args.columns.now) ≡ [] = drop_all c.loop-column.column-index (map column_of c.args.columns.now) (omega (arith, count)) in
-    let rest = ap (λ (cs : List ColumnShape). length (flat_map column_bytes cs)) none in
+    let rest = ap (λ (cs : List Column). length (flat_map column_bytes cs)) none in
     record { exact = omega (arith, rest, c.loop-column.invariant.whole); short = omega (arith, c.loop-column.invariant.short, c.requires.few) }

@@ -3,7 +3,7 @@ use Rattle.std.proofs.Common.{◌≡◌, ◌+◌, ◌++◌, ℕ, List, [], ap, m
 use Rattle.std.proofs.lemmas.List.{drop_all, length-map}
 use Rattle.std.specs.List.{flat_map}
 use Rattle.std.proofs.lemmas.Result.{err_from_is_err_and}
-use Rattle.row_values.specs.Column.{ColumnShape, column_of}
+use Rattle.row_values.specs.Column.{Column, column_of}
 use Rattle.row_values.specs.Schema.{is_column}
 use Rattle.row_values.specs.Bytes.{column_bytes}
 use Rattle.row_values.proofs.Keys.{all_at}
@@ -32,7 +32,7 @@ returns c =
     let count = length-map c.args.columns.now column_of in
     let end = c.loop-column-test.false in
     let none : drop c.loop-column.column-index (map column_of c.args.columns.now) ≡ [] = drop_all c.loop-column.column-index (map column_of c.args.columns.now) (omega (arith, count)) in
-    record { ok = row_none c.loop-column.out.items _ _ (ap (λ (cs : List ColumnShape). flat_map column_bytes cs) none) c.loop-column.invariant.bytes; err = tt }
+    record { ok = row_none c.loop-column.out.items _ _ (ap (λ (cs : List Column). flat_map column_bytes cs) none) c.loop-column.invariant.bytes; err = tt }
 
 pub returns-in_err-put_column-clause-err : goal.returns-in_err-put_column-clause-err
 returns-in_err-put_column-clause-err c =

@@ -1,6 +1,6 @@
 -- A column is read, or none, and then there are not so many.
 use Rattle.std.proofs.Common.{◌+◌, ◌-◌, ℕ, List, ap, map, sym, ◌∙◌, arith}
-use Rattle.row_values.specs.Column.{ColumnShape, column_of}
+use Rattle.row_values.specs.Column.{Column, column_of}
 use Rattle.row_values.specs.Bytes.{columns_at}
 use Rattle.row_values.proofs.ByteSteps.{before, columns_go, columns_stop, pushed}
 use Rattle.row_values.proofs.schema_bytes.read_columns.Goals as goal
@@ -13,9 +13,9 @@ returns-in_default c =
 pub loop-preserved : goal.loop-preserved
 loop-preserved c =
     let lt = c.loop-test.true in
-    let shape : ColumnShape = record { name = c.in-Some.name.now; kind = c.in-Some.kind; is_nullable = c.in-Some.is_nullable; limit = c.in-Some.length } in
-    let more = pushed c.loop.columns.items c.push.new.self.items _ shape c.in_ok-push.ensures.items
-    (ap (λ (n : List ℕ). let s : ColumnShape = record { name = n; kind = c.in-Some.kind; is_nullable = c.in-Some.is_nullable; limit = c.in-Some.length } in s) c.in_ok-name.ensures.ok) in
-    ap (λ (cs : List ColumnShape). before cs (columns_at (c.args.count - (c.loop.counter + 1)) c.in-Some.after.now)) more
-    ∙ columns_go (map column_of c.loop.columns.items) (c.args.count - c.loop.counter) (c.args.count - (c.loop.counter + 1)) c.loop.rest.now (shape, c.in-Some.after.now) (omega arith) c.in-Some.ensures
+    let schema : Column = record { name = c.in-Some.name.now; kind = c.in-Some.kind; is_nullable = c.in-Some.is_nullable; limit = c.in-Some.length } in
+    let more = pushed c.loop.columns.items c.push.new.self.items _ schema c.in_ok-push.ensures.items
+    (ap (λ (n : List ℕ). let s : Column = record { name = n; kind = c.in-Some.kind; is_nullable = c.in-Some.is_nullable; limit = c.in-Some.length } in s) c.in_ok-name.ensures.ok) in
+    ap (λ (cs : List Column). before cs (columns_at (c.args.count - (c.loop.counter + 1)) c.in-Some.after.now)) more
+    ∙ columns_go (map column_of c.loop.columns.items) (c.args.count - c.loop.counter) (c.args.count - (c.loop.counter + 1)) c.loop.rest.now (schema, c.in-Some.after.now) (omega arith) c.in-Some.ensures
     ∙ c.loop.invariant

@@ -1,9 +1,0 @@
-use Rattle.std.proofs.Common.{List, ℕ, ap, map, subst, ◌∙◌, ◌≡◌, IfOk}
-use Rattle.row_values.specs.declared.plain_table.PlainRow.{PlainRow}
-use Rattle.row_values.proofs.PlainTables.{values_in_rows}
-use Rattle.row_values.proofs.plain_table.PlainTable.scan.Goals as goal
-
-pub returns : goal.returns
-returns c =
-    subst (λ (rows : List (List ℕ)). IfOk c.copied_rows.result (λ copies. map (λ bytes. bytes.items) copies.items ≡ rows))
-    (ap (map (λ (r : PlainRow). r.row.items)) c.as_slice.ensures.value ∙ values_in_rows c.args.self.now.rows.items) c.copied_rows.ensures

@@ -1,6 +1,0 @@
--- The rows so far are copied.
-use Rattle.std.proofs.Common.{◌≡◌, map, take}
-use Rattle.row_values.proofs.plain_table.copied_rows.Given as goal
-
-abbrev pub invariant-loop-i : goal.invariant-loop-i
-invariant-loop-i l = map (λ bytes. bytes.items) l.copies.items ≡ map (λ r. r.row.items) (take l.i l.rows)

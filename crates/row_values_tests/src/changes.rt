@@ -1,0 +1,135 @@
+//! The bytes of changes.
+
+use crate::fixtures::are_equal;
+use row_values::ReadError;
+use std::alloc::Global;
+use std::test::Fail;
+use tables::Change;
+
+const CHANGES: [&'static [u8]; 5] = [
+    &[1, 1, b'T', 1, 1, b'A', 2, 0, 0, 0, 1, 0],
+    &[
+        1, 1, b'T', 2, 1, b'A', 2, 0, 0, 0, 2, b'B', b'_', 4, 1, 0x07, 0xD0, 1, 0,
+    ],
+    &[2, 1, b'T', 0, 5, 0, 0, 0, 0, 1],
+    &[3, 1, b'T', 0, 5, 0, 0, 0, 0, 1],
+    &[3, 1, b'T', 0, 0],
+];
+
+// Whether the bytes with others behind them are read as a change, which writes them again behind
+// what is there, and tells their number.
+fn reads_back(alloc: Global, bytes: &[u8]) -> Result<bool, Fail> {
+    let behind: &[u8] = b"next";
+    let followed = [bytes, behind].concat(alloc)?;
+    let (change, rest) = Change::read(alloc, followed.as_slice())?;
+    let mut out = [9u8, 8, 7].to_vec(alloc)?;
+    if change.write(&mut out).is_err() {
+        return if out.as_slice() == [9u8, 8, 7].as_slice() {
+            Err(Fail::from("no memory"))
+        } else {
+            Ok(false)
+        };
+    }
+    let front: &[u8] = &[9, 8, 7];
+    let want = [front, bytes].concat(alloc)?;
+    Ok(are_equal(rest, behind) && out == want && change.length() == bytes.len())
+}
+
+#[test]
+fn changes_have_their_bytes(rt: HostRuntime) -> Result<(), Fail> {
+    let alloc = rt.alloc();
+    for bytes in &CHANGES {
+        assert!(rt; reads_back(alloc, bytes)?, "{bytes:?}");
+    }
+    Ok(())
+}
+
+// No change; a code that is none, names that are none, a row that is cut; then a key that takes NULL,
+// a key column that is not there, one twice, no key, a number with a length.
+const DAMAGED: [&'static [u8]; 10] = [
+    &[],
+    &[4, 1, b'T', 0, 0],
+    &[2, 1, b't', 0, 0],
+    &[2, 0, 0, 0],
+    &[2, 1, b'T', 0, 2, 1],
+    &[1, 1, b'T', 1, 1, b'A', 2, 1, 0, 0, 1, 0],
+    &[1, 1, b'T', 1, 1, b'A', 2, 0, 0, 0, 1, 1],
+    &[1, 1, b'T', 1, 1, b'A', 2, 0, 0, 0, 2, 0, 0],
+    &[1, 1, b'T', 1, 1, b'A', 2, 0, 0, 0, 0],
+    &[1, 1, b'T', 1, 1, b'A', 2, 0, 0, 4, 1, 0],
+];
+
+// Whether the bytes are damaged; want of memory says nothing of it.
+fn is_damaged(alloc: Global, bytes: &[u8]) -> Result<bool, Fail> {
+    match Change::read(alloc, bytes) {
+        Ok(_) => Ok(false),
+        Err(ReadError::Damaged) => Ok(true),
+        Err(error) => Err(Fail::from(error)),
+    }
+}
+
+#[test]
+fn damaged_changes_are_refused(rt: HostRuntime) -> Result<(), Fail> {
+    let alloc = rt.alloc();
+    for bytes in &DAMAGED {
+        assert!(rt; is_damaged(alloc, bytes)?, "{bytes:?}");
+    }
+    Ok(())
+}
+
+// A change of these front bytes and of so many bytes of a row or a key.
+fn filled(alloc: Global, front: &[u8], count: usize) -> Result<Vec<u8>, Fail> {
+    let mut bytes = front.to_vec(alloc)?;
+    for _ in 0..count {
+        bytes.push(0)?;
+    }
+    Ok(bytes)
+}
+
+// A put and a remove at the limits of their bytes, and of the name's, and how many bytes are read of
+// them.
+const LONGEST: [(&'static [u8], usize, bool); 6] = [
+    (&[2, 1, b'T', 0x0F, 0xA0], 4_000, true),
+    (&[2, 1, b'T', 0x0F, 0xA1], 4_001, false),
+    (&[3, 1, b'T', 0x1F, 0x4C], 8_012, true),
+    (&[3, 1, b'T', 0x1F, 0x4D], 8_013, false),
+    (b"\x03\x1EA23456789_123456789_123456789_\x00\x00", 0, true),
+    (b"\x03\x1FA23456789_123456789_123456789_1\x00\x00", 0, false),
+];
+
+#[test]
+fn long_changes_are_refused(rt: HostRuntime) -> Result<(), Fail> {
+    let alloc = rt.alloc();
+    for (front, count, expected) in &LONGEST {
+        let bytes = filled(alloc, front, *count)?;
+        if *expected {
+            assert!(rt; reads_back(alloc, bytes.as_slice())?);
+        } else {
+            assert!(rt; is_damaged(alloc, bytes.as_slice())?, "{count}");
+        }
+    }
+    Ok(())
+}
+
+// Whether no change is read in a part of the bytes.
+fn has_no_change_in_front(alloc: Global, whole: &[u8]) -> Result<bool, Fail> {
+    for length in 0..whole.len() {
+        if !is_damaged(alloc, &whole[..length])? {
+            return Ok(false);
+        }
+    }
+    Ok(true)
+}
+
+#[test]
+fn a_part_of_a_change_is_damaged(rt: HostRuntime) -> Result<(), Fail> {
+    let alloc = rt.alloc();
+    let front: &[u8] = b"\x02\x1EA23456789_123456789_123456789_\x0F\xA0";
+    let longest = filled(alloc, front, 4_000)?;
+    let create: &[u8] = &[1, 1, b'T', 1, 1, b'A', 5, 0, 0, 1, 1, 0];
+    assert!(rt;
+        reads_back(alloc, longest.as_slice())? && has_no_change_in_front(alloc, longest.as_slice())?
+    );
+    assert!(rt; reads_back(alloc, create)? && has_no_change_in_front(alloc, create)?);
+    Ok(())
+}

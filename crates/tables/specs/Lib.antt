@@ -1,0 +1,10 @@
+pub mod Change
+pub mod ChangeView
+pub mod Tables
+pub mod View
+pub mod Rows
+pub mod RowList
+pub mod Lent
+pub mod Plain
+pub mod PlainFault
+pub mod Laws
