@@ -21,6 +21,3 @@ pub use tree::{
     Addend, Assignment, ColumnType, Columns, Command, Definition, KeyColumn, Literal, Operation,
     Predicate, Statement, Sum, Term,
 };
-
-#[cfg(test)]
-mod tests;

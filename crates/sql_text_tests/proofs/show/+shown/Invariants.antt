@@ -1,4 +1,4 @@
-use Rattle.sql_text.proofs.tests.show.+shown.Given as goal
+use Rattle.sql_text_tests.proofs.show.+shown.Given as goal
 
 abbrev pub decreases-joined : goal.decreases-joined
 decreases-joined l = l.depth

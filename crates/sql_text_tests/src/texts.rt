@@ -1,10 +1,7 @@
 //! Texts, and what each is answered.
 
-mod show;
-
-use crate::error::SqlError;
-use crate::text::parse;
-use crate::tree::Statement;
+use crate::show;
+use sql_text::{SqlError, Statement, parse};
 use std::alloc::{AllocError, Global};
 use std::rt::HostRuntime;
 

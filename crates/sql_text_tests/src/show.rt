@@ -1,10 +1,10 @@
 //! Writes a statement in a form that shows its tree.
 
-use crate::tree::{
+use sql_lex::{Comparison, Part};
+use sql_text::{
     Assignment, ColumnType, Columns, Command, Definition, KeyColumn, Literal, Operation, Predicate,
     Sum, Term,
 };
-use sql_lex::{Comparison, Part};
 use std::alloc::{AllocError, Global};
 
 fn part(out: &mut String, part: &Part<'_>) -> Result<(), AllocError> {
