@@ -22,10 +22,10 @@ use Rattle.sql_text.specs.declared.tree.Operation.{Operation}
 use Rattle.sql_text.specs.declared.tree.Addend.{Addend}
 use Rattle.sql_text.specs.declared.tree.Predicate.{Predicate}
 use Rattle.sql_text.specs.declared.tree.Predicate.TheVariants as predicate
-use Rattle.sql_text.specs.declared.tree.ColumnType.TheVariants as column
-use Rattle.sql_text.specs.declared.tree.Definition.{Definition}
+use Rattle.sql_text.specs.declared.draft.DraftType.TheVariants as column
+use Rattle.sql_text.specs.declared.draft.DraftColumn.{DraftColumn}
 use Rattle.sql_text.specs.declared.tree.Columns.TheVariants as columns
-use Rattle.sql_text.specs.declared.tree.Command.{Command}
+use Rattle.sql_text.specs.declared.draft.Draft.{Draft}
 use Rattle.sql_text.specs.Grammar as g
 use Rattle.sql_text.specs.Grammar.{◌⨾◌, Nothing, At, Is, The, IsList, IsName, IsValue, IsTerm, IsOperation, AreAddends, IsSum, IsAll, IsAny, IsPrimary, IsNested, IsLength, IsType, IsNullable, IsDefinition, IsKeyColumn, IsAssignment, AreNames, AreListed, AreSelected, IsFilterUnder, IsCommandUnder, IsCommand, IsStatement}
 use Rattle.sql_text.specs.Place.{SameHead}
@@ -419,7 +419,7 @@ module _ (D : Type 0) where
       (λ _ _. (false, (0, t.Fixed w.Primary) ∷ [], λ follow ts comma. ((0, t.Fixed w.Primary) ∷ follow, comma, (0, refl))))
 
   -- columns up to the PRIMARY behind them
-  abbrev AreDefinitions : Rule (List Definition)
+  abbrev AreDefinitions : Rule (List DraftColumn)
   AreDefinitions ds = IsList IsDefinition (The w.Comma) ds ⨾ (The w.Comma ⨾ The w.Primary)
 
   behind_columns : (tail : List Lexeme) × ((follow : List Lexeme) → (The w.Comma ⨾ The w.Primary) (tail ++ follow) follow)
@@ -557,7 +557,7 @@ at_end [] rest u e = sym (ok_parts (tt, []) (u, rest) _ refl e).1
 at_end (l ∷ ts) rest u e = absurd (cc)
 
 -- nothing is left behind a statement
-nothing_left : (ts : List Lexeme) (x : Command) (rest : List Lexeme) → command_at ts ≡ Ok (x, rest) → rest ≡ []
+nothing_left : (ts : List Lexeme) (x : Draft) (rest : List Lexeme) → command_at ts ≡ Ok (x, rest) → rest ≡ []
 unfolding command_at
 nothing_left ts x rest e =
     let v = bind_ok (verb_at ts) _ x rest e in
@@ -566,5 +566,5 @@ nothing_left ts x rest e =
     sym (ok_parts (c.0.0, n.0.1) (x, rest) _ refl n.2).1 ∙ at_end c.0.1 n.0.1 n.0.0 n.1
 
 -- what is read is a statement
-pub command_found : (ts : List Lexeme) (x : Command) (rest : List Lexeme) → command_at ts ≡ Ok (x, rest) → IsStatement x ts
+pub command_found : (ts : List Lexeme) (x : Draft) (rest : List Lexeme) → command_at ts ≡ Ok (x, rest) → IsStatement x ts
 command_found ts x rest e = let P : List Lexeme → Type 0 = λ u. IsCommand x ts u in subst P (nothing_left ts x rest e) (tells_found command_at IsCommand tells_command ts x rest e)

@@ -2,6 +2,7 @@ pub mod Checks
 pub mod Grammar
 pub mod Number
 pub mod Place
+pub mod Plain
 pub mod Reading
 pub mod Rules
 pub mod Spelled

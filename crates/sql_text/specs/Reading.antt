@@ -20,7 +20,7 @@ use Rattle.sql_text.specs.declared.token.Verb.TheVariants as verb
 use Rattle.sql_text.specs.declared.tree.Literal.TheVariants as literal
 use Rattle.sql_text.specs.declared.tree.Operation.{Operation}
 use Rattle.sql_text.specs.declared.tree.Operation.TheVariants as operation
-use Rattle.sql_text.specs.declared.tree.ColumnType.TheVariants as column
+use Rattle.sql_text.specs.declared.draft.DraftType.TheVariants as column
 
 abbrev pub Outcome : Type 0 → Type 0
 Outcome A = Result (A × List Lexeme) Fault

@@ -5,10 +5,10 @@ ghost use Rattle.sql_lex.specs.Tokens.{tokens_ahead};
 ghost use Rattle.sql_text.specs.Reading.{Reads};
 ghost use Rattle.sql_text.specs.Rules as spec;
 
+use crate::draft::{DraftColumn, DraftType};
 use crate::fault::Fault;
 use crate::list::longest;
 use crate::token::{TypeWord, eat, expect, length, placed_name, type_word};
-use crate::tree::{ColumnType, Definition};
 use sql_lex::{Cursor, Terminal};
 use sqlite_items::Items;
 use std::alloc::Global;
@@ -27,7 +27,7 @@ pub(crate) fn length_in_parentheses<'a>(
 }
 
 #[tactic(auto, unfolding(crate::specs::Rules::type_at))]
-pub(crate) fn column_type<'a>(cursor: Cursor<'a>) -> Result<(ColumnType, Cursor<'a>), Fault>
+pub(crate) fn column_type<'a>(cursor: Cursor<'a>) -> Result<(DraftType, Cursor<'a>), Fault>
     ensures { Reads (spec.type_at (tokens_ahead cursor.entry)) result }
 {
     let (word, rest) = type_word(cursor)?;
@@ -35,11 +35,11 @@ pub(crate) fn column_type<'a>(cursor: Cursor<'a>) -> Result<(ColumnType, Cursor<
         TypeWord::Whole(column_type) => Ok((column_type, rest)),
         TypeWord::OfText => {
             let ((length, left), rest) = length_in_parentheses(rest)?;
-            Ok((ColumnType::VarChar { length, left }, rest))
+            Ok((DraftType::VarChar { length, left }, rest))
         }
         TypeWord::OfBytes => {
             let ((length, left), rest) = length_in_parentheses(rest)?;
-            Ok((ColumnType::VarBinary { length, left }, rest))
+            Ok((DraftType::VarBinary { length, left }, rest))
         }
     }
 }
@@ -58,13 +58,13 @@ pub(crate) fn nullable<'a>(cursor: Cursor<'a>) -> Result<(bool, Cursor<'a>), Fau
 }
 
 #[tactic(auto, unfolding(crate::specs::Rules::definition_at))]
-pub(crate) fn definition<'a>(cursor: Cursor<'a>) -> Result<(Definition<'a>, Cursor<'a>), Fault>
+pub(crate) fn definition<'a>(cursor: Cursor<'a>) -> Result<(DraftColumn<'a>, Cursor<'a>), Fault>
     ensures { Reads (spec.definition_at (tokens_ahead cursor.entry)) result }
 {
     let ((name, left), rest) = placed_name(cursor)?;
     let (column_type, rest) = column_type(rest)?;
     let (nullable, rest) = nullable(rest)?;
-    let definition = Definition {
+    let definition = DraftColumn {
         name,
         left,
         column_type,
@@ -87,7 +87,7 @@ pub(crate) fn another<'a>(cursor: Cursor<'a>) -> Result<(bool, Cursor<'a>), Faul
 pub(crate) fn definitions<'a>(
     alloc: Global,
     cursor: Cursor<'a>,
-) -> Result<(Items<Definition<'a>>, Cursor<'a>), Fault>
+) -> Result<(Items<DraftColumn<'a>>, Cursor<'a>), Fault>
     ensures { Reads (spec.definitions_at (tokens_ahead cursor.entry)) result }
 {
     let turns = longest();

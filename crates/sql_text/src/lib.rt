@@ -3,6 +3,7 @@
 
 mod check;
 mod column;
+mod draft;
 mod error;
 mod fault;
 pub mod laws;

@@ -5,10 +5,11 @@ ghost use Rattle.sql_lex.specs.Tokens.{tokens_ahead};
 ghost use Rattle.sql_text.specs.Reading.{Reads};
 ghost use Rattle.sql_text.specs.Rules as spec;
 
+use crate::draft::DraftKey;
 use crate::fault::Fault;
 use crate::sum::{sum, value};
 use crate::token::{eat, equal, name, placed_name};
-use crate::tree::{Assignment, KeyColumn, Literal};
+use crate::tree::{Assignment, Literal};
 use sql_lex::{Cursor, Part, Terminal};
 use sqlite_items::Items;
 use std::alloc::Global;
@@ -66,18 +67,18 @@ pub(crate) fn values<'a>(
 }
 
 #[tactic(auto, unfolding(crate::specs::Rules::key_column_at))]
-pub(crate) fn key_column<'a>(cursor: Cursor<'a>) -> Result<(KeyColumn<'a>, Cursor<'a>), Fault>
+pub(crate) fn key_column<'a>(cursor: Cursor<'a>) -> Result<(DraftKey<'a>, Cursor<'a>), Fault>
     ensures { Reads (spec.key_column_at (tokens_ahead cursor.entry)) result }
 {
     let ((name, left), rest) = placed_name(cursor)?;
-    Ok((KeyColumn { name, left }, rest))
+    Ok((DraftKey { name, left }, rest))
 }
 
 /// The columns of a key.
 pub(crate) fn key<'a>(
     alloc: Global,
     cursor: Cursor<'a>,
-) -> Result<(Items<KeyColumn<'a>>, Cursor<'a>), Fault>
+) -> Result<(Items<DraftKey<'a>>, Cursor<'a>), Fault>
     ensures { Reads (spec.key_at (tokens_ahead cursor.entry)) result }
 {
     let turns = longest();

@@ -6,11 +6,12 @@ ghost use Rattle.sql_text.specs.Reading.{Reads};
 ghost use Rattle.sql_text.specs.Rules as spec;
 
 use crate::column::definitions;
+use crate::draft::Draft;
 use crate::fault::Fault;
 use crate::list::{assignments, key, names, values};
 use crate::predicate::whole_predicate;
 use crate::token::{Verb, eat, end, expect, first_word, name};
-use crate::tree::{Columns, Command, Predicate};
+use crate::tree::{Columns, Predicate};
 use sql_lex::{Cursor, Terminal};
 use std::alloc::Global;
 
@@ -67,7 +68,7 @@ pub(crate) fn filter<'a>(
 pub(crate) fn create<'a>(
     alloc: Global,
     cursor: Cursor<'a>,
-) -> Result<(Command<'a>, Cursor<'a>), Fault>
+) -> Result<(Draft<'a>, Cursor<'a>), Fault>
     ensures { Reads (spec.create_at (tokens_ahead cursor.entry)) result }
 {
     let rest = expect(Terminal::Table, cursor)?;
@@ -80,7 +81,7 @@ pub(crate) fn create<'a>(
     let rest = expect(Terminal::Close, rest)?;
     let rest = expect(Terminal::Close, rest)?;
     Ok((
-        Command::Create {
+        Draft::Create {
             table,
             columns,
             key,
@@ -93,7 +94,7 @@ pub(crate) fn create<'a>(
 pub(crate) fn insert<'a>(
     alloc: Global,
     cursor: Cursor<'a>,
-) -> Result<(Command<'a>, Cursor<'a>), Fault>
+) -> Result<(Draft<'a>, Cursor<'a>), Fault>
     ensures { Reads (spec.insert_at (tokens_ahead cursor.entry)) result }
 {
     let rest = expect(Terminal::Into, cursor)?;
@@ -104,7 +105,7 @@ pub(crate) fn insert<'a>(
     let (values, rest) = values(alloc, rest)?;
     let rest = expect(Terminal::Close, rest)?;
     Ok((
-        Command::Insert {
+        Draft::Insert {
             table,
             columns,
             values,
@@ -117,7 +118,7 @@ pub(crate) fn insert<'a>(
 pub(crate) fn update<'a>(
     alloc: Global,
     cursor: Cursor<'a>,
-) -> Result<(Command<'a>, Cursor<'a>), Fault>
+) -> Result<(Draft<'a>, Cursor<'a>), Fault>
     ensures { Reads (spec.update_at (tokens_ahead cursor.entry)) result }
 {
     let (table, rest) = name(cursor)?;
@@ -125,7 +126,7 @@ pub(crate) fn update<'a>(
     let (assignments, rest) = assignments(alloc, rest)?;
     let (filter, rest) = filter(alloc, rest)?;
     Ok((
-        Command::Update {
+        Draft::Update {
             table,
             assignments,
             filter,
@@ -138,20 +139,20 @@ pub(crate) fn update<'a>(
 pub(crate) fn delete<'a>(
     alloc: Global,
     cursor: Cursor<'a>,
-) -> Result<(Command<'a>, Cursor<'a>), Fault>
+) -> Result<(Draft<'a>, Cursor<'a>), Fault>
     ensures { Reads (spec.delete_at (tokens_ahead cursor.entry)) result }
 {
     let rest = expect(Terminal::From, cursor)?;
     let (table, rest) = name(rest)?;
     let (filter, rest) = filter(alloc, rest)?;
-    Ok((Command::Delete { table, filter }, rest))
+    Ok((Draft::Delete { table, filter }, rest))
 }
 
 #[tactic(auto, unfolding(crate::specs::Rules::select_at))]
 pub(crate) fn select<'a>(
     alloc: Global,
     cursor: Cursor<'a>,
-) -> Result<(Command<'a>, Cursor<'a>), Fault>
+) -> Result<(Draft<'a>, Cursor<'a>), Fault>
     ensures { Reads (spec.select_at (tokens_ahead cursor.entry)) result }
 {
     let (columns, rest) = selected(alloc, cursor)?;
@@ -159,7 +160,7 @@ pub(crate) fn select<'a>(
     let (table, rest) = name(rest)?;
     let (filter, rest) = filter(alloc, rest)?;
     Ok((
-        Command::Select {
+        Draft::Select {
             columns,
             table,
             filter,
@@ -173,7 +174,7 @@ pub(crate) fn by_verb<'a>(
     alloc: Global,
     verb: Verb,
     cursor: Cursor<'a>,
-) -> Result<(Command<'a>, Cursor<'a>), Fault>
+) -> Result<(Draft<'a>, Cursor<'a>), Fault>
     ensures { Reads (spec.command_by verb (tokens_ahead cursor.entry)) result }
 {
     match verb {
@@ -190,7 +191,7 @@ pub(crate) fn by_verb<'a>(
 pub(crate) fn whole_command<'a>(
     alloc: Global,
     cursor: Cursor<'a>,
-) -> Result<(Command<'a>, Cursor<'a>), Fault>
+) -> Result<(Draft<'a>, Cursor<'a>), Fault>
     ensures { Reads (spec.command_at (tokens_ahead cursor.entry)) result }
 {
     let (verb, rest) = first_word(cursor)?;

@@ -5,9 +5,10 @@ ghost use Rattle.sql_lex.specs.Tokens.{tokens_ahead};
 ghost use Rattle.sql_text.specs.Reading as spec;
 ghost use Rattle.sql_text.specs.Reading.{Reads, Passes};
 
+use crate::draft::DraftType;
 use crate::fault::Fault;
 use crate::number::{is_bigint, is_negative_bigint, length_of};
-use crate::tree::{ColumnType, Literal, Operation};
+use crate::tree::{Literal, Operation};
 use sql_lex::{Comparison, Cursor, Part, Terminal, Token};
 
 /// What a value begins with.
@@ -23,7 +24,7 @@ pub(crate) enum ValueStart<'a> {
 #[derive(Clone, Copy)]
 pub(crate) enum TypeWord {
     /// The type.
-    Whole(ColumnType),
+    Whole(DraftType),
     OfText,
     OfBytes,
 }
@@ -217,11 +218,11 @@ fn type_word_of(token: &Token<'_>) -> Option<TypeWord>
     ensures { result ≡ spec.as_type token.now }
 {
     match token {
-        Token::Fixed(Terminal::SmallInt) => Some(TypeWord::Whole(ColumnType::SmallInt)),
+        Token::Fixed(Terminal::SmallInt) => Some(TypeWord::Whole(DraftType::SmallInt)),
         Token::Fixed(Terminal::Integer | Terminal::Int) => {
-            Some(TypeWord::Whole(ColumnType::Integer))
+            Some(TypeWord::Whole(DraftType::Integer))
         }
-        Token::Fixed(Terminal::BigInt) => Some(TypeWord::Whole(ColumnType::BigInt)),
+        Token::Fixed(Terminal::BigInt) => Some(TypeWord::Whole(DraftType::BigInt)),
         Token::Fixed(Terminal::VarChar) => Some(TypeWord::OfText),
         Token::Fixed(Terminal::VarBinary) => Some(TypeWord::OfBytes),
         _ => None,

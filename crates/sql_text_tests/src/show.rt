@@ -158,17 +158,9 @@ fn columns(out: &mut String, columns: &Columns<'_>) -> Result<(), AllocError> {
     }
 }
 
-fn sized(
-    alloc: Global,
-    out: &mut String,
-    name: &str,
-    length: usize,
-    left: usize,
-) -> Result<(), AllocError> {
+fn sized(alloc: Global, out: &mut String, name: &str, length: usize) -> Result<(), AllocError> {
     out.push_str(name)?;
-    number(alloc, out, length)?;
-    out.push('@')?;
-    number(alloc, out, left)
+    number(alloc, out, length)
 }
 
 fn definition(
@@ -177,22 +169,18 @@ fn definition(
     definition: &Definition<'_>,
 ) -> Result<(), AllocError> {
     part(out, &definition.name)?;
-    out.push('@')?;
-    number(alloc, out, definition.left)?;
     match definition.column_type {
         ColumnType::SmallInt => out.push_str(":smallint")?,
         ColumnType::Integer => out.push_str(":integer")?,
         ColumnType::BigInt => out.push_str(":bigint")?,
-        ColumnType::VarChar { length, left } => sized(alloc, out, ":text", length, left)?,
-        ColumnType::VarBinary { length, left } => sized(alloc, out, ":bytes", length, left)?,
+        ColumnType::VarChar { length } => sized(alloc, out, ":text", length)?,
+        ColumnType::VarBinary { length } => sized(alloc, out, ":bytes", length)?,
     }
     out.push_str(if definition.nullable { "," } else { "!," })
 }
 
-fn key_column(alloc: Global, out: &mut String, column: &KeyColumn<'_>) -> Result<(), AllocError> {
+fn key_column(out: &mut String, column: &KeyColumn<'_>) -> Result<(), AllocError> {
     part(out, &column.name)?;
-    out.push('@')?;
-    number(alloc, out, column.left)?;
     out.push(',')
 }
 
@@ -222,7 +210,7 @@ fn create(
     }
     out.push_str(" key ")?;
     for column in key {
-        key_column(alloc, out, column)?;
+        key_column(out, column)?;
     }
     Ok(())
 }

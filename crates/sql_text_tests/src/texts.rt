@@ -237,27 +237,27 @@ static TEXTS_3: [(&str, &str); 38] = [
     ),
     (
         "CREATE TABLE T (A INTEGER, PRIMARY KEY (A))",
-        "0 create T A@27:integer, key A@3,",
+        "0 create T A:integer, key A,",
     ),
     (
         "CREATE TABLE T (K INT NOT NULL, V VARCHAR(10), PRIMARY KEY (K))",
-        "0 create T K@47:integer!,V@31:text10@21, key K@3,",
+        "0 create T K:integer!,V:text10, key K,",
     ),
     (
         "create table t(a smallint,b bigint not null,c varbinary(2000),primary key(a,c))",
-        "0 create t a@64:smallint,b@53:bigint!,c@35:bytes2000@23, key a@5,c@3,",
+        "0 create t a:smallint,b:bigint!,c:bytes2000, key a,c,",
     ),
     (
         "CREATE TABLE T (A VARCHAR(007), PRIMARY KEY (a))",
-        "0 create T A@32:text7@22, key a@3,",
+        "0 create T A:text7, key a,",
     ),
     (
         "CREATE TABLE T (A VARCHAR ( 1 ) NOT NULL , PRIMARY KEY ( A ) )",
-        "0 create T A@46:text1@34!, key A@5,",
+        "0 create T A:text1!, key A,",
     ),
     (
         "CREATE TABLE X (X INT, PRIMARY KEY (X))",
-        "0 create X X@23:integer, key X@3,",
+        "0 create X X:integer, key X,",
     ),
     ("", "at 0"),
     (" ", "at 1"),
