@@ -1,5 +1,6 @@
 -- Markers are numbered in the order of the text.
 use Rattle.std.proofs.Common.{◌≡◌, ℕ, zero, suc, ◌+◌, ◌-◌, Bool, true, false, cond, List, [], ◌∷◌, Some, None, refl, sym, ap, ◌∙◌, arith, slice_index, length}
+use Rattle.sql_lex.proofs.Ahead.{ahead-all}
 use Rattle.sql_lex.proofs.Cases.{Cut, cut_token}
 use Rattle.sql_lex.specs.Markers.{markers_in, markers_of, HasNumber, AreNumbered}
 use Rattle.sql_lex.specs.Tokens.{Lexeme, token, tokens, tokens_from, tokens_ahead, is_blank, counted}
@@ -54,3 +55,12 @@ numbered_from zero m (b ∷ z) =
 pub all_numbered : (text : List ℕ) → AreNumbered 0 (tokens text)
 unfolding tokens
 all_numbered text = numbered_from 0 0 text
+
+-- the beginning of a text has all markers to come, and its end has them behind it
+pub all_markers : (text : List ℕ) → markers_of (0, text) ≡ markers_in (tokens text)
+unfolding markers_of
+all_markers text = omega (arith, ap markers_in (ahead-all text))
+
+pub markers_at_end : (cursor : ℕ × List ℕ) → tokens_ahead cursor ≡ [] → markers_of cursor ≡ cursor.0
+unfolding markers_of
+markers_at_end cursor e = omega (arith, ap markers_in e)

@@ -1,10 +1,7 @@
 -- What is checked of a statement behind its grammar.
-use Rattle.std.specs.Prelude.{ℕ, Bool, true, false, not, ◌||◌, if◌then◌else◌, ◌==◌, nat_lt, List, [], ◌∷◌, ◌++◌, length, count_by, Option, Some, None}
+use Rattle.std.specs.Prelude.{ℕ, Bool, true, false, not, ◌||◌, if◌then◌else◌, ◌==◌, nat_lt, List, [], ◌∷◌, ◌++◌, length, Option, Some, None}
 use Rattle.std.specs.List.{list_any}
 use Rattle.std.specs.Str.{str_eq_ignore_ascii_case}
-use Rattle.sql_lex.specs.Tokens.{Lexeme}
-use Rattle.sql_lex.specs.declared.token.Token.{Token}
-use Rattle.sql_lex.specs.declared.token.Token.TheVariants as t
 use Rattle.sql_text.specs.declared.check.Refusal.{Refusal}
 use Rattle.sql_text.specs.declared.check.Refusal.TheVariants as refusal
 use Rattle.sql_text.specs.declared.draft.DraftType.{DraftType}
@@ -14,14 +11,6 @@ use Rattle.sql_text.specs.declared.draft.DraftKey.{DraftKey}
 use Rattle.sql_text.specs.declared.tree.Columns.TheVariants as columns
 use Rattle.sql_text.specs.declared.draft.Draft.{Draft}
 use Rattle.sql_text.specs.declared.draft.Draft.TheVariants as draft
-
-abbrev pub is_marker : Token → Bool
-is_marker (t.Marker n) = true
-is_marker _ = false
-
--- how many markers these tokens have
-abbrev pub markers_in : List Lexeme → ℕ
-markers_in ts = count_by (λ l. is_marker l.1) ts
 
 -- two names are the same whatever the case of their letters
 abbrev pub same_name : List ℕ → List ℕ → Bool

@@ -7,3 +7,4 @@ pub mod Reading
 pub mod Rules
 pub mod Spelled
 pub mod Text
+pub mod Valid

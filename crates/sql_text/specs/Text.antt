@@ -1,7 +1,8 @@
 -- What a text is answered.
 use Rattle.std.specs.Prelude.{ℕ, ◌-◌, List, length, Option, Some, None, Result, Ok, Err}
+use Rattle.sql_lex.specs.Markers.{markers_in}
 use Rattle.sql_lex.specs.Tokens.{tokens}
-use Rattle.sql_text.specs.Checks.{markers_in, refusal_of}
+use Rattle.sql_text.specs.Checks.{refusal_of}
 use Rattle.sql_text.specs.Plain.{command}
 use Rattle.sql_text.specs.Reading.{Outcome}
 use Rattle.sql_text.specs.Rules.{command_at}

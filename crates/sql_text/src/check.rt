@@ -2,12 +2,13 @@
 
 ghost use Rattle.std.specs.Prelude.{◌≡◌, ◌<◌, ◌^◌, length, nat_lt, ◌||◌};
 ghost use Rattle.std.specs.List.{list_any};
+ghost use Rattle.sql_lex.specs.Markers.{markers_in};
 ghost use Rattle.sql_lex.specs.Tokens.{tokens};
 ghost use Rattle.sql_text.specs.Checks as spec;
 
 use crate::draft::{Draft, DraftColumn, DraftKey, DraftType};
 use crate::tree::Columns;
-use sql_lex::{Cursor, Token};
+use sql_lex::Cursor;
 
 /// Why a statement of the grammar is refused.
 #[derive(Clone, Copy, Debug, PartialEq, Eq)]
@@ -21,26 +22,16 @@ pub(crate) enum Refusal {
     KeyUnknown,
 }
 
-fn is_marker(token: &Token<'_>) -> bool
-    ensures { result ≡ spec.is_marker token.now }
-{
-    matches!(token, Token::Marker(_))
-}
-
 /// How many markers a text has.
 pub(crate) fn markers_in(text: &[u8]) -> usize
     requires { length text.now < 2 ^ 63 }
-    ensures { result ≡ spec.markers_in (tokens text.now) }
+    ensures { result ≡ markers_in (tokens text.now) }
 {
     let mut cursor = Cursor::new(text);
-    let mut found = 0;
-    while let Some((token, _, rest)) = cursor.next() {
-        if is_marker(&token) {
-            found += 1;
-        }
+    while let Some((_, _, rest)) = cursor.next() {
         cursor = rest;
     }
-    found
+    cursor.markers()
 }
 
 fn is_too_long(column_type: DraftType) -> bool

@@ -8,6 +8,7 @@ ghost use Rattle.sql_text.specs.Checks as checks;
 ghost use Rattle.sql_text.specs.Place.{Explains};
 ghost use Rattle.sql_text.specs.Text as spec;
 ghost use Rattle.sql_text.specs.Text.{but_memory};
+ghost use Rattle.sql_text.specs.Valid.{IsValidStatement};
 ghost use Rattle.sql_text.specs.declared.error.SqlError.TheVariants as error;
 
 use crate::check::{Refusal, markers_in, refusal_of};
@@ -17,6 +18,7 @@ use crate::fault::Fault;
 use crate::statement::whole_command;
 use crate::tree::Statement;
 use sql_lex::Cursor;
+use sql_lex::laws::{markers_are_numbered, texts_are_utf8, tokens_are_spelled_so};
 use std::alloc::Global;
 
 fn refusal_error(length: usize, refusal: Refusal) -> SqlError
@@ -90,8 +92,13 @@ pub fn parse<'a>(alloc: Global, text: &'a str) -> Result<Statement<'a>, SqlError
     // What is refused is refused for a reason that stands where it says: at the first token that
     // no statement can have there, at what a check refuses, or for a limit.
     ensures refused { IfErr result (λ e. Explains text.now e) }
+    // What is parsed is what plain words say.
+    ensures valid { IfOk result IsValidStatement }
     ensures exact { length text.now ≤ 32767 → Answers (λ s. s) but_memory result (spec.reading text.now) }
 {
+    tokens_are_spelled_so();
+    texts_are_utf8();
+    markers_are_numbered();
     let bytes = text.as_bytes();
     if bytes.len() > 32767 {
         return Err(SqlError::Limit);
