@@ -1,8 +1,10 @@
 -- What a text is answered, by what it is in the grammar.
 use Rattle.std.proofs.Common.{◌≡◌, ℕ, ◌≤◌, List, length, Ok, Err, Result, Option, Some, None, IfOk, refl, sym, ap, subst, ◌∙◌, arith}
 use Rattle.drda_words.specs.Excuse.{Answers}
+use Rattle.sql_lex.specs.Markers.{markers_in, markers_of}
 use Rattle.sql_lex.specs.Tokens.{Lexeme, tokens, tokens_ahead}
 use Rattle.sql_lex.proofs.Ahead.{ahead-all, tokens-length}
+use Rattle.sql_lex.proofs.Numbered.{all_markers, markers_at_end}
 use Rattle.sql_text.specs.Grammar.{IsStatement}
 use Rattle.sql_text.specs.Reading.{Outcome, Reads}
 use Rattle.sql_text.specs.Rules.{command_at, longest}
@@ -15,7 +17,7 @@ use Rattle.sql_text.specs.declared.fault.Fault.{Fault}
 use Rattle.sql_text.specs.declared.fault.Fault.TheVariants as fault
 use Rattle.sql_text.specs.declared.draft.Draft.{Draft}
 use Rattle.sql_text.specs.declared.tree.Statement.{Statement}
-use Rattle.sql_text.proofs.ToldRules.{command_found}
+use Rattle.sql_text.proofs.ToldRules.{command_found, nothing_left}
 use Rattle.sql_text.proofs.OnlyRules.{command_only}
 
 begun : (text : List ℕ) (cursor : ℕ × List ℕ) → cursor ≡ (0, text) → tokens_ahead cursor ≡ tokens text
@@ -33,6 +35,11 @@ pub faulted : (text : List ℕ) (cursor : ℕ × List ℕ) (f : Fault) → curso
 faulted text cursor (fault.Unexpected left) start e = refused_so text cursor (fault.Unexpected left) start e
 faulted text cursor fault.Deep start e = refused_so text cursor fault.Deep start e
 faulted text cursor fault.Memory start e = tt
+
+-- the place behind a statement has all markers of the text before it
+pub all_counted : (text : List ℕ) (cursor rest : ℕ × List ℕ) (d : Draft) → cursor ≡ (0, text) → command_at (tokens_ahead cursor) ≡ Ok (d, tokens_ahead rest) → markers_of rest ≡ markers_of cursor → rest.0 ≡ markers_in (tokens text)
+all_counted text cursor rest d start e keeps =
+    sym (markers_at_end rest (nothing_left (tokens_ahead cursor) d (tokens_ahead rest) e)) ∙ keeps ∙ ap markers_of start ∙ all_markers text
 
 -- a refusal is an answer of its own
 pub is_refused : (len : ℕ) (r : Refusal) (given : Result Statement SqlError) → given ≡ Err (refusal_error len r) → Answers (λ s. s) but_memory (Err (refusal_error len r)) given

@@ -9,6 +9,7 @@ use Rattle.sql_lex.specs.Terminal.{is_same}
 use Rattle.sql_lex.specs.Tokens.{Lexeme}
 use Rattle.sql_text.specs.Number.{is_bigint, is_negative_bigint}
 use Rattle.sql_text.specs.declared.token.ValueStart.TheVariants as start
+use Rattle.sql_text.specs.declared.token.TermStart.TheVariants as begins
 use Rattle.sql_text.specs.declared.token.TypeWord.TheVariants as type
 use Rattle.sql_text.specs.declared.token.Verb.TheVariants as verb
 use Rattle.sql_text.specs.declared.tree.Literal.{Literal}
@@ -30,7 +31,7 @@ use Rattle.sql_text.specs.declared.tree.Columns.{Columns}
 use Rattle.sql_text.specs.declared.tree.Columns.TheVariants as columns
 use Rattle.sql_text.specs.declared.draft.Draft.{Draft}
 use Rattle.sql_text.specs.declared.draft.Draft.TheVariants as draft
-use Rattle.sql_text.specs.Reading.{Parser, is_fixed, as_name, as_start, as_type, as_verb, may, name_at, optional_name_at, operation_at, start_at, type_word_at, verb_at, end_at}
+use Rattle.sql_text.specs.Reading.{Parser, is_fixed, as_name, as_start, as_value_term, as_term, as_type, as_verb, may, name_at, operation_at, start_at, term_start_at, type_word_at, verb_at, end_at}
 use Rattle.sql_text.specs.Rules.{longest, value_at, term_at, addends_from, addends_at, sum_at, Else, opening_of, compared, null_test, named, comparison, all_at, any_at, group, negation, level, neg_at, predicate_at, names_at, values_at, key_column_at, key_at, assignment_at, assignments_at, length_within, type_at, nullable_at, definition_at, another, definitions_at, listed_at, selected_at, filter_at, create_at, insert_at, update_at, delete_at, select_at, command_at}
 use Rattle.sql_text.specs.Grammar as g
 use Rattle.sql_text.specs.Grammar.{◌⨾◌, Nothing, At, Is, The, IsList, IsName, IsNumber, IsValue, IsTerm, IsOperation, AreAddends, IsSum, IsAll, IsAny, IsPrimary, IsNested, IsPredicate, IsLength, IsType, IsNullable, IsDefinition, IsKeyColumn, IsAssignment, AreNames, AreListed, AreSelected, IsFilter, IsCommand, IsStatement}
@@ -120,26 +121,21 @@ value_only (literal.Bytes z) ts rest is = rw (again as_start (t.Bytes z) (start.
 value_only (literal.Marker n) ts rest is = rw (again as_start (t.Marker n) (start.Whole (literal.Marker n)) ts rest refl is) refl
 value_only literal.Null ts rest is = rw (again as_start (t.Fixed w.Null) (start.Whole literal.Null) ts rest refl is) refl
 
-no_name : (tok : Token) (ts rest : List Lexeme) → as_name tok ≡ None → Is tok ts rest → optional_name_at ts ≡ Ok (None, ts)
-unfolding optional_name_at
-no_name tok ts rest e (k, same) = rw (same, e) refl
-
-value_no_name : (v : Literal) (ts rest : List Lexeme) → IsValue v ts rest → optional_name_at ts ≡ Ok (None, ts)
-value_no_name (literal.Number n) ts rest (inl (is, fits)) = no_name (t.Number n) ts rest refl is
-value_no_name (literal.Number n) ts rest (inr (digits, (mid, is, d), fits)) = no_name (t.Minus (Some n)) ts mid refl is
-value_no_name (literal.Text z) ts rest is = no_name (t.Text z) ts rest refl is
-value_no_name (literal.Bytes z) ts rest is = no_name (t.Bytes z) ts rest refl is
-value_no_name (literal.Marker n) ts rest is = no_name (t.Marker n) ts rest refl is
-value_no_name literal.Null ts rest is = no_name (t.Fixed w.Null) ts rest refl is
-
-name_found_again : (n : List ℕ) (ts rest : List Lexeme) → IsName n ts rest → optional_name_at ts ≡ Ok (Some n, rest)
-unfolding optional_name_at
-name_found_again n ts rest (k, same) = rw same refl
+value_term_only : (v : Literal) (ts rest : List Lexeme) → IsValue v ts rest → term_at ts ≡ Ok (term.Value v, rest)
+unfolding term_at term_start_at
+value_term_only (literal.Number n) ts rest (inl (is, fits)) =
+    rw (again as_term (t.Number n) (begins.Value (start.Whole (literal.Number n))) ts rest (ap as_value_term (bigint_start n fits)) is) refl
+value_term_only (literal.Number n) ts rest (inr (digits, (mid, is, d), fits)) =
+    rw (again as_term (t.Minus (Some n)) (begins.Value (start.Negative n)) ts mid (ap as_value_term (negative_start n fits)) is, digits_again digits mid rest d) refl
+value_term_only (literal.Text z) ts rest is = rw (again as_term (t.Text z) (begins.Value (start.Whole (literal.Text z))) ts rest refl is) refl
+value_term_only (literal.Bytes z) ts rest is = rw (again as_term (t.Bytes z) (begins.Value (start.Whole (literal.Bytes z))) ts rest refl is) refl
+value_term_only (literal.Marker n) ts rest is = rw (again as_term (t.Marker n) (begins.Value (start.Whole (literal.Marker n))) ts rest refl is) refl
+value_term_only literal.Null ts rest is = rw (again as_term (t.Fixed w.Null) (begins.Value (start.Whole literal.Null)) ts rest refl is) refl
 
 pub term_only : (a : Term) (ts rest : List Lexeme) → IsTerm a ts rest → term_at ts ≡ Ok (a, rest)
-unfolding term_at
-term_only (term.Column n) ts rest is = rw (name_found_again n ts rest is) refl
-term_only (term.Value v) ts rest is = rw (value_no_name v ts rest is, value_only v ts rest is) refl
+unfolding term_at term_start_at
+term_only (term.Column n) ts rest is = rw (again as_term (t.Name n) (begins.Column n) ts rest refl is) refl
+term_only (term.Value v) ts rest is = value_term_only v ts rest is
 
 addends_from_only : (n : ℕ) (found xs : List Addend) (ts rest : List Lexeme) → length xs < n → NoSign rest → AreAddends xs ts rest → addends_from n found ts ≡ Ok (found ++ xs, rest)
 unfolding addends_from

@@ -4,10 +4,12 @@ use Rattle.sql_lex.specs.declared.terminal.Terminal.TheVariants as w
 use Rattle.sql_lex.specs.declared.token.Token.{Token}
 use Rattle.sql_lex.specs.declared.token.Token.TheVariants as t
 use Rattle.sql_lex.specs.Tokens.{Lexeme}
-use Rattle.sql_text.specs.Reading.{Parser, ◌>>=◌, ◌>>◌, pure, the, may, name_at, optional_name_at, placed_name_at, digits_at, length_at, comparison_at, equal_at, operation_at, start_at, type_word_at, verb_at, end_at}
+use Rattle.sql_text.specs.Reading.{Parser, ◌>>=◌, ◌>>◌, pure, the, may, name_at, placed_name_at, digits_at, length_at, comparison_at, equal_at, operation_at, start_at, term_start_at, type_word_at, verb_at, end_at}
 use Rattle.sql_text.specs.declared.fault.Fault.TheVariants as fault
 use Rattle.sql_text.specs.declared.token.ValueStart.{ValueStart}
 use Rattle.sql_text.specs.declared.token.ValueStart.TheVariants as start
+use Rattle.sql_text.specs.declared.token.TermStart.{TermStart}
+use Rattle.sql_text.specs.declared.token.TermStart.TheVariants as begins
 use Rattle.sql_text.specs.declared.token.TypeWord.{TypeWord}
 use Rattle.sql_text.specs.declared.token.TypeWord.TheVariants as type
 use Rattle.sql_text.specs.declared.token.Verb.{Verb}
@@ -57,15 +59,15 @@ value_by (start.Negative n) = do
 unfoldable pub value_at : Parser Literal
 value_at = start_at >>= value_by
 
-abbrev pub term_by : Option (List ℕ) → Parser Term
-term_by (Some n) = pure (term.Column n)
-term_by None = do
-  v ← value_at
+abbrev pub term_by : TermStart → Parser Term
+term_by (begins.Column n) = pure (term.Column n)
+term_by (begins.Value s) = do
+  v ← value_by s
   pure (term.Value v)
 
 -- a column where a name comes next, and else a value
 unfoldable pub term_at : Parser Term
-term_at = optional_name_at >>= term_by
+term_at = term_start_at >>= term_by
 
 abbrev pub addend : Operation → Term → Addend
 addend o a = record { operation = o; term = a }

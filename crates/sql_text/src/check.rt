@@ -1,14 +1,11 @@
 //! What is checked of a statement behind its grammar.
 
-ghost use Rattle.std.specs.Prelude.{◌≡◌, ◌<◌, ◌^◌, length, nat_lt, ◌||◌};
+ghost use Rattle.std.specs.Prelude.{◌≡◌, length, nat_lt, ◌||◌};
 ghost use Rattle.std.specs.List.{list_any};
-ghost use Rattle.sql_lex.specs.Markers.{markers_in};
-ghost use Rattle.sql_lex.specs.Tokens.{tokens};
 ghost use Rattle.sql_text.specs.Checks as spec;
 
 use crate::draft::{Draft, DraftColumn, DraftKey, DraftType};
 use crate::tree::Columns;
-use sql_lex::Cursor;
 
 /// Why a statement of the grammar is refused.
 #[derive(Clone, Copy, Debug, PartialEq, Eq)]
@@ -20,18 +17,6 @@ pub(crate) enum Refusal {
     Wrong(usize),
     /// A key column that is no column.
     KeyUnknown,
-}
-
-/// How many markers a text has.
-pub(crate) fn markers_in(text: &[u8]) -> usize
-    requires { length text.now < 2 ^ 63 }
-    ensures { result ≡ markers_in (tokens text.now) }
-{
-    let mut cursor = Cursor::new(text);
-    while let Some((_, _, rest)) = cursor.next() {
-        cursor = rest;
-    }
-    cursor.markers()
 }
 
 fn is_too_long(column_type: DraftType) -> bool

@@ -2,7 +2,7 @@
 
 ghost use Rattle.std.specs.Prelude.{◌≡◌};
 ghost use Rattle.sql_lex.specs.Tokens.{tokens_ahead};
-ghost use Rattle.sql_text.specs.Reading.{Reads};
+ghost use Rattle.sql_text.specs.Reading.{Reads, Keeps};
 ghost use Rattle.sql_text.specs.Rules as spec;
 
 use crate::draft::{DraftColumn, DraftType};
@@ -18,7 +18,8 @@ use std::alloc::Global;
 pub(crate) fn length_in_parentheses<'a>(
     cursor: Cursor<'a>,
 ) -> Result<((usize, usize), Cursor<'a>), Fault>
-    ensures { Reads (spec.length_within (tokens_ahead cursor.entry)) result }
+    ensures value { Reads (spec.length_within (tokens_ahead cursor.entry)) result }
+    ensures markers { Keeps cursor.entry result }
 {
     let rest = expect(Terminal::Open, cursor)?;
     let (length, rest) = length(rest)?;
@@ -28,7 +29,8 @@ pub(crate) fn length_in_parentheses<'a>(
 
 #[tactic(auto, unfolding(crate::specs::Rules::type_at))]
 pub(crate) fn column_type<'a>(cursor: Cursor<'a>) -> Result<(DraftType, Cursor<'a>), Fault>
-    ensures { Reads (spec.type_at (tokens_ahead cursor.entry)) result }
+    ensures value { Reads (spec.type_at (tokens_ahead cursor.entry)) result }
+    ensures markers { Keeps cursor.entry result }
 {
     let (word, rest) = type_word(cursor)?;
     match word {
@@ -47,7 +49,8 @@ pub(crate) fn column_type<'a>(cursor: Cursor<'a>) -> Result<(DraftType, Cursor<'
 /// Whether a column may be null: `NOT NULL` or nothing.
 #[tactic(auto, unfolding(crate::specs::Rules::nullable_at))]
 pub(crate) fn nullable<'a>(cursor: Cursor<'a>) -> Result<(bool, Cursor<'a>), Fault>
-    ensures { Reads (spec.nullable_at (tokens_ahead cursor.entry)) result }
+    ensures value { Reads (spec.nullable_at (tokens_ahead cursor.entry)) result }
+    ensures markers { Keeps cursor.entry result }
 {
     let (bars, rest) = eat(Terminal::Not, cursor);
     if !bars {
@@ -59,7 +62,8 @@ pub(crate) fn nullable<'a>(cursor: Cursor<'a>) -> Result<(bool, Cursor<'a>), Fau
 
 #[tactic(auto, unfolding(crate::specs::Rules::definition_at))]
 pub(crate) fn definition<'a>(cursor: Cursor<'a>) -> Result<(DraftColumn<'a>, Cursor<'a>), Fault>
-    ensures { Reads (spec.definition_at (tokens_ahead cursor.entry)) result }
+    ensures value { Reads (spec.definition_at (tokens_ahead cursor.entry)) result }
+    ensures markers { Keeps cursor.entry result }
 {
     let ((name, left), rest) = placed_name(cursor)?;
     let (column_type, rest) = column_type(rest)?;
@@ -76,7 +80,8 @@ pub(crate) fn definition<'a>(cursor: Cursor<'a>) -> Result<(DraftColumn<'a>, Cur
 /// Whether a further column comes behind the comma, and not `PRIMARY`.
 #[tactic(auto, unfolding(crate::specs::Rules::another))]
 pub(crate) fn another<'a>(cursor: Cursor<'a>) -> Result<(bool, Cursor<'a>), Fault>
-    ensures { Reads (spec.another (tokens_ahead cursor.entry)) result }
+    ensures value { Reads (spec.another (tokens_ahead cursor.entry)) result }
+    ensures markers { Keeps cursor.entry result }
 {
     let rest = expect(Terminal::Comma, cursor)?;
     let (primary, rest) = eat(Terminal::Primary, rest);
@@ -88,7 +93,8 @@ pub(crate) fn definitions<'a>(
     alloc: Global,
     cursor: Cursor<'a>,
 ) -> Result<(Items<DraftColumn<'a>>, Cursor<'a>), Fault>
-    ensures { Reads (spec.definitions_at (tokens_ahead cursor.entry)) result }
+    ensures value { Reads (spec.definitions_at (tokens_ahead cursor.entry)) result }
+    ensures markers { Keeps cursor.entry result }
 {
     let turns = longest();
     let mut found = Items::new(alloc);

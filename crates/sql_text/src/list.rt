@@ -2,7 +2,7 @@
 
 ghost use Rattle.std.specs.Prelude.{◌≡◌};
 ghost use Rattle.sql_lex.specs.Tokens.{tokens_ahead};
-ghost use Rattle.sql_text.specs.Reading.{Reads};
+ghost use Rattle.sql_text.specs.Reading.{Reads, Keeps};
 ghost use Rattle.sql_text.specs.Rules as spec;
 
 use crate::draft::DraftKey;
@@ -27,7 +27,8 @@ pub(crate) fn names<'a>(
     alloc: Global,
     cursor: Cursor<'a>,
 ) -> Result<(Items<Part<'a>>, Cursor<'a>), Fault>
-    ensures { Reads (spec.names_at (tokens_ahead cursor.entry)) result }
+    ensures value { Reads (spec.names_at (tokens_ahead cursor.entry)) result }
+    ensures markers { Keeps cursor.entry result }
 {
     let turns = longest();
     let mut found = Items::new(alloc);
@@ -49,7 +50,8 @@ pub(crate) fn values<'a>(
     alloc: Global,
     cursor: Cursor<'a>,
 ) -> Result<(Items<Literal<'a>>, Cursor<'a>), Fault>
-    ensures { Reads (spec.values_at (tokens_ahead cursor.entry)) result }
+    ensures value { Reads (spec.values_at (tokens_ahead cursor.entry)) result }
+    ensures markers { Keeps cursor.entry result }
 {
     let turns = longest();
     let mut found = Items::new(alloc);
@@ -68,7 +70,8 @@ pub(crate) fn values<'a>(
 
 #[tactic(auto, unfolding(crate::specs::Rules::key_column_at))]
 pub(crate) fn key_column<'a>(cursor: Cursor<'a>) -> Result<(DraftKey<'a>, Cursor<'a>), Fault>
-    ensures { Reads (spec.key_column_at (tokens_ahead cursor.entry)) result }
+    ensures value { Reads (spec.key_column_at (tokens_ahead cursor.entry)) result }
+    ensures markers { Keeps cursor.entry result }
 {
     let ((name, left), rest) = placed_name(cursor)?;
     Ok((DraftKey { name, left }, rest))
@@ -79,7 +82,8 @@ pub(crate) fn key<'a>(
     alloc: Global,
     cursor: Cursor<'a>,
 ) -> Result<(Items<DraftKey<'a>>, Cursor<'a>), Fault>
-    ensures { Reads (spec.key_at (tokens_ahead cursor.entry)) result }
+    ensures value { Reads (spec.key_at (tokens_ahead cursor.entry)) result }
+    ensures markers { Keeps cursor.entry result }
 {
     let turns = longest();
     let mut found = Items::new(alloc);
@@ -101,7 +105,8 @@ pub(crate) fn assignment<'a>(
     alloc: Global,
     cursor: Cursor<'a>,
 ) -> Result<(Assignment<'a>, Cursor<'a>), Fault>
-    ensures { Reads (spec.assignment_at (tokens_ahead cursor.entry)) result }
+    ensures value { Reads (spec.assignment_at (tokens_ahead cursor.entry)) result }
+    ensures markers { Keeps cursor.entry result }
 {
     let (column, rest) = name(cursor)?;
     let rest = equal(rest)?;
@@ -114,7 +119,8 @@ pub(crate) fn assignments<'a>(
     alloc: Global,
     cursor: Cursor<'a>,
 ) -> Result<(Items<Assignment<'a>>, Cursor<'a>), Fault>
-    ensures { Reads (spec.assignments_at (tokens_ahead cursor.entry)) result }
+    ensures value { Reads (spec.assignments_at (tokens_ahead cursor.entry)) result }
+    ensures markers { Keeps cursor.entry result }
 {
     let turns = longest();
     let mut found = Items::new(alloc);

@@ -2,7 +2,7 @@
 
 ghost use Rattle.std.specs.Prelude.{◌≡◌};
 ghost use Rattle.sql_lex.specs.Tokens.{tokens_ahead};
-ghost use Rattle.sql_text.specs.Reading.{Reads};
+ghost use Rattle.sql_text.specs.Reading.{Reads, Keeps};
 ghost use Rattle.sql_text.specs.Rules as spec;
 
 use crate::column::definitions;
@@ -21,7 +21,8 @@ pub(crate) fn listed<'a>(
     alloc: Global,
     cursor: Cursor<'a>,
 ) -> Result<(Columns<'a>, Cursor<'a>), Fault>
-    ensures { Reads (spec.listed_at (tokens_ahead cursor.entry)) result }
+    ensures value { Reads (spec.listed_at (tokens_ahead cursor.entry)) result }
+    ensures markers { Keeps cursor.entry result }
 {
     let (opens, rest) = eat(Terminal::Open, cursor);
     if !opens {
@@ -38,7 +39,8 @@ pub(crate) fn selected<'a>(
     alloc: Global,
     cursor: Cursor<'a>,
 ) -> Result<(Columns<'a>, Cursor<'a>), Fault>
-    ensures { Reads (spec.selected_at (tokens_ahead cursor.entry)) result }
+    ensures value { Reads (spec.selected_at (tokens_ahead cursor.entry)) result }
+    ensures markers { Keeps cursor.entry result }
 {
     let (all, rest) = eat(Terminal::Star, cursor);
     if all {
@@ -54,7 +56,8 @@ pub(crate) fn filter<'a>(
     alloc: Global,
     cursor: Cursor<'a>,
 ) -> Result<(Option<Predicate<'a>>, Cursor<'a>), Fault>
-    ensures { Reads (spec.filter_at (tokens_ahead cursor.entry)) result }
+    ensures value { Reads (spec.filter_at (tokens_ahead cursor.entry)) result }
+    ensures markers { Keeps cursor.entry result }
 {
     let (filters, rest) = eat(Terminal::Where, cursor);
     if !filters {
@@ -69,7 +72,8 @@ pub(crate) fn create<'a>(
     alloc: Global,
     cursor: Cursor<'a>,
 ) -> Result<(Draft<'a>, Cursor<'a>), Fault>
-    ensures { Reads (spec.create_at (tokens_ahead cursor.entry)) result }
+    ensures value { Reads (spec.create_at (tokens_ahead cursor.entry)) result }
+    ensures markers { Keeps cursor.entry result }
 {
     let rest = expect(Terminal::Table, cursor)?;
     let (table, rest) = name(rest)?;
@@ -95,7 +99,8 @@ pub(crate) fn insert<'a>(
     alloc: Global,
     cursor: Cursor<'a>,
 ) -> Result<(Draft<'a>, Cursor<'a>), Fault>
-    ensures { Reads (spec.insert_at (tokens_ahead cursor.entry)) result }
+    ensures value { Reads (spec.insert_at (tokens_ahead cursor.entry)) result }
+    ensures markers { Keeps cursor.entry result }
 {
     let rest = expect(Terminal::Into, cursor)?;
     let (table, rest) = name(rest)?;
@@ -119,7 +124,8 @@ pub(crate) fn update<'a>(
     alloc: Global,
     cursor: Cursor<'a>,
 ) -> Result<(Draft<'a>, Cursor<'a>), Fault>
-    ensures { Reads (spec.update_at (tokens_ahead cursor.entry)) result }
+    ensures value { Reads (spec.update_at (tokens_ahead cursor.entry)) result }
+    ensures markers { Keeps cursor.entry result }
 {
     let (table, rest) = name(cursor)?;
     let rest = expect(Terminal::Set, rest)?;
@@ -140,7 +146,8 @@ pub(crate) fn delete<'a>(
     alloc: Global,
     cursor: Cursor<'a>,
 ) -> Result<(Draft<'a>, Cursor<'a>), Fault>
-    ensures { Reads (spec.delete_at (tokens_ahead cursor.entry)) result }
+    ensures value { Reads (spec.delete_at (tokens_ahead cursor.entry)) result }
+    ensures markers { Keeps cursor.entry result }
 {
     let rest = expect(Terminal::From, cursor)?;
     let (table, rest) = name(rest)?;
@@ -153,7 +160,8 @@ pub(crate) fn select<'a>(
     alloc: Global,
     cursor: Cursor<'a>,
 ) -> Result<(Draft<'a>, Cursor<'a>), Fault>
-    ensures { Reads (spec.select_at (tokens_ahead cursor.entry)) result }
+    ensures value { Reads (spec.select_at (tokens_ahead cursor.entry)) result }
+    ensures markers { Keeps cursor.entry result }
 {
     let (columns, rest) = selected(alloc, cursor)?;
     let rest = expect(Terminal::From, rest)?;
@@ -175,7 +183,8 @@ pub(crate) fn by_verb<'a>(
     verb: Verb,
     cursor: Cursor<'a>,
 ) -> Result<(Draft<'a>, Cursor<'a>), Fault>
-    ensures { Reads (spec.command_by verb (tokens_ahead cursor.entry)) result }
+    ensures value { Reads (spec.command_by verb (tokens_ahead cursor.entry)) result }
+    ensures markers { Keeps cursor.entry result }
 {
     match verb {
         Verb::Create => create(alloc, cursor),
@@ -192,7 +201,8 @@ pub(crate) fn whole_command<'a>(
     alloc: Global,
     cursor: Cursor<'a>,
 ) -> Result<(Draft<'a>, Cursor<'a>), Fault>
-    ensures { Reads (spec.command_at (tokens_ahead cursor.entry)) result }
+    ensures value { Reads (spec.command_at (tokens_ahead cursor.entry)) result }
+    ensures markers { Keeps cursor.entry result }
 {
     let (verb, rest) = first_word(cursor)?;
     let (command, rest) = by_verb(alloc, verb, rest)?;

@@ -11,7 +11,7 @@ ghost use Rattle.sql_text.specs.Text.{but_memory};
 ghost use Rattle.sql_text.specs.Valid.{IsValidStatement};
 ghost use Rattle.sql_text.specs.declared.error.SqlError.TheVariants as error;
 
-use crate::check::{Refusal, markers_in, refusal_of};
+use crate::check::{Refusal, refusal_of};
 use crate::draft::{Draft, command};
 use crate::error::SqlError;
 use crate::fault::Fault;
@@ -69,7 +69,7 @@ fn read<'a>(alloc: Global, text: &'a [u8]) -> Result<Statement<'a>, SqlError>
     ensures { Answers (λ s. s) but_memory result (spec.reading text.now) }
 {
     match whole_command(alloc, Cursor::new(text)) {
-        Ok((draft, _)) => judged(alloc, text.len(), markers_in(text), draft),
+        Ok((draft, rest)) => judged(alloc, text.len(), rest.markers(), draft),
         Err(fault) => Err(fault_error(text.len(), fault)),
     }
 }

@@ -7,23 +7,23 @@ use Rattle.sql_text.proofs.column.definitions.Goals as goal
 
 pub loop-turn-init : goal.loop-turn-init
 unfolding definitions_at items
-loop-turn-init c = record { same = begun (λ n found. items_from definition_at another n found (tokens_ahead c.args.cursor)) _ _ _ _ c.longest-turns.ensures c.new-found.ensures }
+loop-turn-init c = record { same = begun (λ n found. items_from definition_at another n found (tokens_ahead c.args.cursor)) _ _ _ _ c.longest-turns.ensures c.new-found.ensures; markers = first_of (search rules, grind (arith, common_steps)) }
 
-pub returns-in_err-item : goal.returns-in_err-item
+pub returns-in_err-item-clause-value : goal.returns-in_err-item-clause-value
 unfolding items_from
-returns-in_err-item c =
+returns-in_err-item-clause-value c =
     let e = one_more (λ n. items_from definition_at another n c.loop-turn.found (tokens_ahead c.loop-turn.rest)) _ c.loop-turn._turn c.loop-turn-test.true c.loop-turn.invariant.same in
     first_of (search rules, grind (arith, common_steps))
 
-pub returns-then-not-goes : goal.returns-then-not-goes
+pub returns-then-not-goes-clause-value : goal.returns-then-not-goes-clause-value
 unfolding items_from
-returns-then-not-goes c =
+returns-then-not-goes-clause-value c =
     let e = one_more (λ n. items_from definition_at another n c.loop-turn.found (tokens_ahead c.loop-turn.rest)) _ c.loop-turn._turn c.loop-turn-test.true c.loop-turn.invariant.same in
     first_of (search rules, grind (arith, common_steps))
 
-pub returns-in_err-goes : goal.returns-in_err-goes
+pub returns-in_err-goes-clause-value : goal.returns-in_err-goes-clause-value
 unfolding items_from
-returns-in_err-goes c =
+returns-in_err-goes-clause-value c =
     let e = one_more (λ n. items_from definition_at another n c.loop-turn.found (tokens_ahead c.loop-turn.rest)) _ c.loop-turn._turn c.loop-turn-test.true c.loop-turn.invariant.same in
     first_of (search rules, grind (arith, common_steps))
 
@@ -31,10 +31,10 @@ pub loop-turn-preserved : goal.loop-turn-preserved
 unfolding items_from
 loop-turn-preserved c =
     let e = one_more (λ n. items_from definition_at another n c.loop-turn.found (tokens_ahead c.loop-turn.rest)) _ c.loop-turn._turn c.loop-turn-test.true c.loop-turn.invariant.same in
-    record { same = first_of (search rules, grind (arith, common_steps)) }
+    record { same = first_of (search rules, grind (arith, common_steps)); markers = first_of (search rules, grind (arith, common_steps)) }
 
-pub returns : goal.returns
+pub returns-clause-value : goal.returns-clause-value
 unfolding items_from
-returns c =
+returns-clause-value c =
     let e = no_more (λ n. items_from definition_at another n c.loop-turn.found (tokens_ahead c.loop-turn.rest)) _ c.loop-turn._turn c.loop-turn-test.false c.loop-turn.invariant.same in
     first_of (search rules, grind (arith, common_steps))

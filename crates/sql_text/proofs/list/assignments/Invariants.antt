@@ -1,4 +1,5 @@
 use Rattle.std.proofs.Common.{◌≡◌, ◌-◌}
+use Rattle.sql_lex.specs.Markers.{markers_of}
 use Rattle.sql_lex.specs.Tokens.{tokens_ahead}
 use Rattle.sql_lex.specs.declared.terminal.Terminal.TheVariants as w
 use Rattle.sql_text.specs.Reading.{may}
@@ -8,4 +9,5 @@ use Rattle.sql_text.proofs.list.assignments.Given as goal
 abbrev pub invariant-loop-turn : goal.invariant-loop-turn
 invariant-loop-turn l = record {
   same : assignments_at (tokens_ahead l.fn.cursor) ≡ items_from assignment_at (may w.Comma) (l.turns - l._turn) l.found (tokens_ahead l.rest);
+  markers : markers_of l.rest ≡ markers_of l.fn.cursor;
 }

@@ -9,17 +9,17 @@ use Rattle.sql_text.proofs.list.names.Goals as goal
 
 pub loop-turn-init : goal.loop-turn-init
 unfolding names_at items
-loop-turn-init c = record { same = begun (λ n found. items_from name_at (may w.Comma) n found (tokens_ahead c.args.cursor)) _ _ _ _ c.longest-turns.ensures c.new-found.ensures }
+loop-turn-init c = record { same = begun (λ n found. items_from name_at (may w.Comma) n found (tokens_ahead c.args.cursor)) _ _ _ _ c.longest-turns.ensures c.new-found.ensures; markers = first_of (search rules, grind (arith, common_steps)) }
 
-pub returns-in_err-item : goal.returns-in_err-item
+pub returns-in_err-item-clause-value : goal.returns-in_err-item-clause-value
 unfolding items_from
-returns-in_err-item c =
+returns-in_err-item-clause-value c =
     let e = one_more (λ n. items_from name_at (may w.Comma) n c.loop-turn.found (tokens_ahead c.loop-turn.rest)) _ c.loop-turn._turn c.loop-turn-test.true c.loop-turn.invariant.same in
     first_of (search rules, grind (arith, common_steps))
 
-pub returns-then-not-goes : goal.returns-then-not-goes
+pub returns-then-not-goes-clause-value : goal.returns-then-not-goes-clause-value
 unfolding items_from
-returns-then-not-goes c =
+returns-then-not-goes-clause-value c =
     let e = one_more (λ n. items_from name_at (may w.Comma) n c.loop-turn.found (tokens_ahead c.loop-turn.rest)) _ c.loop-turn._turn c.loop-turn-test.true c.loop-turn.invariant.same in
     first_of (search rules, grind (arith, common_steps))
 
@@ -27,10 +27,10 @@ pub loop-turn-preserved : goal.loop-turn-preserved
 unfolding items_from
 loop-turn-preserved c =
     let e = one_more (λ n. items_from name_at (may w.Comma) n c.loop-turn.found (tokens_ahead c.loop-turn.rest)) _ c.loop-turn._turn c.loop-turn-test.true c.loop-turn.invariant.same in
-    record { same = first_of (search rules, grind (arith, common_steps)) }
+    record { same = first_of (search rules, grind (arith, common_steps)); markers = first_of (search rules, grind (arith, common_steps)) }
 
-pub returns : goal.returns
+pub returns-clause-value : goal.returns-clause-value
 unfolding items_from
-returns c =
+returns-clause-value c =
     let e = no_more (λ n. items_from name_at (may w.Comma) n c.loop-turn.found (tokens_ahead c.loop-turn.rest)) _ c.loop-turn._turn c.loop-turn-test.false c.loop-turn.invariant.same in
     first_of (search rules, grind (arith, common_steps))
