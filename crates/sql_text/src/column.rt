@@ -7,11 +7,8 @@ ghost use Rattle.sql_text.specs.Rules as spec;
 
 use crate::draft::{DraftColumn, DraftType};
 use crate::fault::Fault;
-use crate::list::longest;
 use crate::token::{TypeWord, eat, expect, length, placed_name, type_word};
 use sql_lex::{Cursor, Terminal};
-use sqlite_items::Items;
-use std::alloc::Global;
 
 /// A length in parentheses, and its place.
 #[tactic(auto, unfolding(crate::specs::Rules::length_within))]
@@ -86,27 +83,4 @@ pub(crate) fn another<'a>(cursor: Cursor<'a>) -> Result<(bool, Cursor<'a>), Faul
     let rest = expect(Terminal::Comma, cursor)?;
     let (primary, rest) = eat(Terminal::Primary, rest);
     Ok((!primary, rest))
-}
-
-/// The columns, up to the `PRIMARY` behind them.
-pub(crate) fn definitions<'a>(
-    alloc: Global,
-    cursor: Cursor<'a>,
-) -> Result<(Items<DraftColumn<'a>>, Cursor<'a>), Fault>
-    ensures value { Reads (spec.definitions_at (tokens_ahead cursor.entry)) result }
-    ensures markers { Keeps cursor.entry result }
-{
-    let turns = longest();
-    let mut found = Items::new(alloc);
-    let mut rest = cursor;
-    for _turn in 0..turns {
-        let (item, after) = definition(rest)?;
-        found.push(item)?;
-        let (goes, after) = another(after)?;
-        if !goes {
-            return Ok((found, after));
-        }
-        rest = after;
-    }
-    Err(Fault::Deep)
 }

@@ -5,18 +5,17 @@ ghost use Rattle.sql_lex.specs.Tokens.{tokens_ahead};
 ghost use Rattle.sql_text.specs.Reading.{Reads, Keeps};
 ghost use Rattle.sql_text.specs.Rules as spec;
 
-use crate::column::definitions;
-use crate::draft::Draft;
+use crate::draft::{Draft, DraftColumn, DraftKey};
 use crate::fault::Fault;
-use crate::list::{assignments, key, names, values};
+use crate::list::items;
 use crate::predicate::whole_predicate;
 use crate::token::{Verb, eat, end, expect, first_word, name};
-use crate::tree::{Columns, Predicate};
-use sql_lex::{Cursor, Terminal};
+use crate::tree::{Assignment, Columns, Literal, Predicate};
+use sql_lex::{Cursor, Part, Terminal};
 use std::alloc::Global;
 
 /// The columns that an INSERT gives.
-#[tactic(auto, unfolding(crate::specs::Rules::listed_at))]
+#[tactic(auto, unfolding(crate::specs::Rules::listed_at, crate::specs::Rules::names_at))]
 pub(crate) fn listed<'a>(
     alloc: Global,
     cursor: Cursor<'a>,
@@ -28,13 +27,13 @@ pub(crate) fn listed<'a>(
     if !opens {
         return Ok((Columns::All, rest));
     }
-    let (names, rest) = names(alloc, rest)?;
+    let (names, rest) = items::<Part<'a>>(alloc, rest)?;
     let rest = expect(Terminal::Close, rest)?;
     Ok((Columns::Named(names), rest))
 }
 
 /// The columns that a SELECT asks for.
-#[tactic(auto, unfolding(crate::specs::Rules::selected_at))]
+#[tactic(auto, unfolding(crate::specs::Rules::selected_at, crate::specs::Rules::names_at))]
 pub(crate) fn selected<'a>(
     alloc: Global,
     cursor: Cursor<'a>,
@@ -46,7 +45,7 @@ pub(crate) fn selected<'a>(
     if all {
         return Ok((Columns::All, rest));
     }
-    let (names, rest) = names(alloc, rest)?;
+    let (names, rest) = items::<Part<'a>>(alloc, rest)?;
     Ok((Columns::Named(names), rest))
 }
 
@@ -67,7 +66,7 @@ pub(crate) fn filter<'a>(
     Ok((Some(predicate), rest))
 }
 
-#[tactic(auto, unfolding(crate::specs::Rules::create_at))]
+#[tactic(auto, unfolding(crate::specs::Rules::create_at, crate::specs::Rules::definitions_at, crate::specs::Rules::key_at))]
 pub(crate) fn create<'a>(
     alloc: Global,
     cursor: Cursor<'a>,
@@ -78,10 +77,10 @@ pub(crate) fn create<'a>(
     let rest = expect(Terminal::Table, cursor)?;
     let (table, rest) = name(rest)?;
     let rest = expect(Terminal::Open, rest)?;
-    let (columns, rest) = definitions(alloc, rest)?;
+    let (columns, rest) = items::<DraftColumn<'a>>(alloc, rest)?;
     let rest = expect(Terminal::Key, rest)?;
     let rest = expect(Terminal::Open, rest)?;
-    let (key, rest) = key(alloc, rest)?;
+    let (key, rest) = items::<DraftKey<'a>>(alloc, rest)?;
     let rest = expect(Terminal::Close, rest)?;
     let rest = expect(Terminal::Close, rest)?;
     Ok((
@@ -94,7 +93,7 @@ pub(crate) fn create<'a>(
     ))
 }
 
-#[tactic(auto, unfolding(crate::specs::Rules::insert_at))]
+#[tactic(auto, unfolding(crate::specs::Rules::insert_at, crate::specs::Rules::values_at))]
 pub(crate) fn insert<'a>(
     alloc: Global,
     cursor: Cursor<'a>,
@@ -107,7 +106,7 @@ pub(crate) fn insert<'a>(
     let (columns, rest) = listed(alloc, rest)?;
     let rest = expect(Terminal::Values, rest)?;
     let rest = expect(Terminal::Open, rest)?;
-    let (values, rest) = values(alloc, rest)?;
+    let (values, rest) = items::<Literal<'a>>(alloc, rest)?;
     let rest = expect(Terminal::Close, rest)?;
     Ok((
         Draft::Insert {
@@ -119,7 +118,7 @@ pub(crate) fn insert<'a>(
     ))
 }
 
-#[tactic(auto, unfolding(crate::specs::Rules::update_at))]
+#[tactic(auto, unfolding(crate::specs::Rules::update_at, crate::specs::Rules::assignments_at))]
 pub(crate) fn update<'a>(
     alloc: Global,
     cursor: Cursor<'a>,
@@ -129,7 +128,7 @@ pub(crate) fn update<'a>(
 {
     let (table, rest) = name(cursor)?;
     let rest = expect(Terminal::Set, rest)?;
-    let (assignments, rest) = assignments(alloc, rest)?;
+    let (assignments, rest) = items::<Assignment<'a>>(alloc, rest)?;
     let (filter, rest) = filter(alloc, rest)?;
     Ok((
         Draft::Update {
