@@ -1,6 +1,7 @@
 pub mod Answered
 pub mod Carried
 pub mod Checked
+pub mod Deeper
 pub mod Explained
 pub mod Limits
 pub mod Names

@@ -34,13 +34,13 @@ use Rattle.sql_text.specs.declared.draft.Draft.TheVariants as draft
 use Rattle.sql_text.specs.Reading.{Parser, is_fixed, as_name, as_start, as_value_term, as_term, as_type, as_verb, may, name_at, operation_at, start_at, term_start_at, type_word_at, verb_at, end_at}
 use Rattle.sql_text.specs.Rules.{longest, value_at, term_at, addends_from, addends_at, sum_at, Else, opening_of, compared, null_test, named, comparison, all_at, any_at, group, negation, level, neg_at, predicate_at, names_at, values_at, key_column_at, key_at, assignment_at, assignments_at, length_within, type_at, nullable_at, definition_at, another, definitions_at, listed_at, selected_at, filter_at, create_at, insert_at, update_at, delete_at, select_at, command_at}
 use Rattle.sql_text.specs.Grammar as g
-use Rattle.sql_text.specs.Grammar.{◌⨾◌, Nothing, At, Is, The, IsList, IsName, IsNumber, IsValue, IsTerm, IsOperation, AreAddends, IsSum, IsAll, IsAny, IsPrimary, IsNested, IsPredicate, IsLength, IsType, IsNullable, IsDefinition, IsKeyColumn, IsAssignment, AreNames, AreListed, AreSelected, IsFilter, IsCommand, IsStatement}
+use Rattle.sql_text.specs.Grammar.{◌⨾◌, Nothing, At, Is, The, IsList, IsName, IsNumber, IsValue, IsTerm, IsOperation, AreAddends, IsSum, IsAll, IsAny, IsPrimary, IsNested, IsPredicate, IsLength, IsType, IsNullable, IsDefinition, IsKeyColumn, IsAssignment, AreNames, AreListed, AreSelected, IsFilter, IsFilterUnder, IsCommand, IsStatement}
 use Rattle.sql_lex.specs.Terminal.{number}
 use Rattle.std.specs.Prelude.{◌==◌}
 use Rattle.sql_text.proofs.Only.{again, the_again, may_again, name_again, placed_name_again, digits_again, length_again, comparison_again, equal_again, operation_again, Lacks, NoSign, lacks_nil, no_sign_nil, lacks, no_sign, is_length, at_length, list_shorter, items_only, list_only}
 
 -- two words that are not the same
-is_apart : (a b : Terminal) → number a == number b ≡ false → is_fixed b (t.Fixed a) ≡ false
+pub is_apart : (a b : Terminal) → number a == number b ≡ false → is_fixed b (t.Fixed a) ≡ false
 unfolding is_same
 is_apart a b e = e
 
@@ -283,7 +283,7 @@ assignment_only a ts rest fits stops (mid, n, (after, e, s)) =
     let room : length after ≤ longest = omega (arith, is_length _ ts mid n, is_length _ mid after e) in
     rw (name_again a.column ts mid n, equal_again mid after e, sum_only a.sum after rest room stops s) refl
 
-assignments_only : (xs : List Assignment) (ts rest : List Lexeme) → length ts ≤ longest → NoSign rest → Lacks w.Comma rest → IsList IsAssignment (The w.Comma) xs ts rest → assignments_at ts ≡ Ok (xs, rest)
+pub assignments_only : (xs : List Assignment) (ts rest : List Lexeme) → length ts ≤ longest → NoSign rest → Lacks w.Comma rest → IsList IsAssignment (The w.Comma) xs ts rest → assignments_at ts ≡ Ok (xs, rest)
 unfolding assignments_at
 assignments_only xs ts rest fits signs stops m = list_only assignment_at w.Comma IsAssignment NoSign assignment_shorter assignment_only (λ us vs b. no_sign (t.Fixed w.Comma) us vs refl b) xs ts rest fits signs stops m
 
@@ -341,7 +341,7 @@ names_lack [] w ts rest m = absurd m
 names_lack (n ∷ []) w ts rest is = lacks w (t.Name n) ts rest refl is
 names_lack (n ∷ k ∷ ns) w ts rest (mid, is, m) = lacks w (t.Name n) ts mid refl is
 
-selected_only : (l : Columns) (ts rest : List Lexeme) → length ts ≤ longest → Lacks w.Comma rest → AreSelected l ts rest → selected_at ts ≡ Ok (l, rest)
+pub selected_only : (l : Columns) (ts rest : List Lexeme) → length ts ≤ longest → Lacks w.Comma rest → AreSelected l ts rest → selected_at ts ≡ Ok (l, rest)
 unfolding selected_at
 selected_only columns.All ts rest fits stops is = rw (may_again w.Star ts rest is) refl
 selected_only (columns.Named names) ts rest fits stops m = rw (names_lack names w.Star ts rest m, names_only names ts rest fits stops m) refl
@@ -353,13 +353,13 @@ filter_only (Some p) ts fits (mid, is, m) =
     let room : length mid ≤ longest = omega (arith, is_length _ ts mid is) in
     rw (may_again w.Where ts mid is, predicate_only p mid [] room (lacks_nil w.And) (lacks_nil w.Or) m) refl
 
-filter_no_sign : (f : Option Predicate) (ts : List Lexeme) → IsFilter f ts [] → NoSign ts
-filter_no_sign None ts same = rw same no_sign_nil
-filter_no_sign (Some p) ts (mid, is, m) = no_sign (t.Fixed w.Where) ts mid refl is
+pub no_filter_sign : (depth : ℕ) (f : Option Predicate) (ts : List Lexeme) → IsFilterUnder depth f ts [] → NoSign ts
+no_filter_sign depth None ts same = rw same no_sign_nil
+no_filter_sign depth (Some p) ts (mid, is, m) = no_sign (t.Fixed w.Where) ts mid refl is
 
-filter_no_comma : (f : Option Predicate) (ts : List Lexeme) → IsFilter f ts [] → Lacks w.Comma ts
-filter_no_comma None ts same = rw same (lacks_nil w.Comma)
-filter_no_comma (Some p) ts (mid, is, m) = lacks w.Comma (t.Fixed w.Where) ts mid (is_apart w.Where w.Comma refl) is
+pub no_filter_comma : (depth : ℕ) (f : Option Predicate) (ts : List Lexeme) → IsFilterUnder depth f ts [] → Lacks w.Comma ts
+no_filter_comma depth None ts same = rw same (lacks_nil w.Comma)
+no_filter_comma depth (Some p) ts (mid, is, m) = lacks w.Comma (t.Fixed w.Where) ts mid (is_apart w.Where w.Comma refl) is
 
 pub end_only : end_at [] ≡ Ok (tt, [])
 unfolding end_at
@@ -370,7 +370,7 @@ listed_within columns.All ts rest same = let e : length ts ≡ length rest = ap 
 listed_within (columns.Named names) ts rest (mid, o, (after, m, c)) =
     omega (arith, is_length _ ts mid o, list_shorter IsName (The w.Comma) name_shorter (is_length (t.Fixed w.Comma)) names mid after m, is_length _ after rest c)
 
-selected_shorter : (l : Columns) (ts rest : List Lexeme) → AreSelected l ts rest → length rest < length ts
+pub selected_shorter : (l : Columns) (ts rest : List Lexeme) → AreSelected l ts rest → length rest < length ts
 selected_shorter columns.All ts rest is = is_length _ ts rest is
 selected_shorter (columns.Named names) ts rest m = list_shorter IsName (The w.Comma) name_shorter (is_length (t.Fixed w.Comma)) names ts rest m
 
@@ -416,7 +416,7 @@ command_only (draft.Update table assignments filter) ts fits (m1, first, (m2, na
       again as_verb (t.Fixed w.Update) verb.Update ts m1 refl first,
       name_again table m1 m2 name,
       the_again w.Set m2 m3 s,
-      assignments_only assignments m3 m4 room (filter_no_sign filter m4 f) (filter_no_comma filter m4 f) list,
+      assignments_only assignments m3 m4 room (no_filter_sign 65 filter m4 f) (no_filter_comma 65 filter m4 f) list,
       filter_only filter m4 room' f,
       end_only,
     ) refl

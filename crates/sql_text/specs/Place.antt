@@ -18,6 +18,10 @@ SameHead _ _ = ⊥
 abbrev pub IsDead : List Lexeme → List Lexeme → Type 0
 IsDead front bad = (more : List Lexeme) (c : Draft) → length (front ++ more) ≤ 32767 → SameHead bad more → IsStatement c (front ++ more) → ⊥
 
+-- and none would, were predicates nested less deep than the number allowed
+abbrev pub IsDeadUnder : ℕ → List Lexeme → List Lexeme → Type 0
+IsDeadUnder depth front bad = (more : List Lexeme) (c : Draft) → length (front ++ more) ≤ 32767 → SameHead bad more → IsCommandUnder depth c (front ++ more) [] → ⊥
+
 -- the tokens of some statement would begin with these, were predicates nested less deep than the number allowed
 abbrev pub BeginsUnder : ℕ → List Lexeme → Type 0
 BeginsUnder depth front = (c : Draft) × (more : List Lexeme) × IsCommandUnder depth c (front ++ more) []
@@ -31,9 +35,9 @@ abbrev pub BeginsNone : List Lexeme → Type 0
 BeginsNone front = (more : List Lexeme) (c : Draft) → length (front ++ more) ≤ 32767 → IsStatement c (front ++ more) → ⊥
 
 -- at this offset stands the first token, or the end, that no statement can have there: the tokens before it begin a
--- statement, and with it they begin none
+-- statement, and with it they begin none, nor would they if parentheses and NOTs could be nested 65 deep
 abbrev pub IsStuck : List ℕ → ℕ → Type 0
-IsStuck text at = (front : List Lexeme) × (bad : List Lexeme) × (tokens text ≡ front ++ bad) × (at ≡ length text - place bad) × Begins front × IsDead front bad
+IsStuck text at = (front : List Lexeme) × (bad : List Lexeme) × (tokens text ≡ front ++ bad) × (at ≡ length text - place bad) × Begins front × IsDead front bad × IsDeadUnder 66 front bad
 
 -- the text begins as no statement does, but would begin one if parentheses and NOTs could be nested 65 deep
 abbrev pub IsTooDeep : List ℕ → Type 0
