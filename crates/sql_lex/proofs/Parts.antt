@@ -40,7 +40,7 @@ drop_twice (suc k) j [] = drop_none j [] refl ∙ sym (drop_none (suc k + j) [] 
 drop_twice (suc k) j (b ∷ z) = let e : suc (k + j) ≡ suc k + j = omega arith in drop_twice k j z ∙ ap (λ n. drop n (b ∷ z)) e
 
 -- these bytes are the text from a place on
-abbrev Rests : List ℕ → List ℕ → Type 0
+abbrev pub Rests : List ℕ → List ℕ → Type 0
 Rests text z = (k : ℕ) × (z ≡ drop k text) × (k + length z ≡ length text)
 
 part_stands : (text z : List ℕ) (j n : ℕ) → Rests text z → j ≤ length z → StandsAt text (length text - length z + j) (take n (drop j z))
@@ -131,7 +131,7 @@ module _ (text z : List ℕ) (rests : Rests text z) (some : 0 < length z) where
   unfolding S
   here m = token_stands m
 
-tail_rests : (text : List ℕ) (b : ℕ) (z : List ℕ) → Rests text (b ∷ z) → Rests text z
+pub tail_rests : (text : List ℕ) (b : ℕ) (z : List ℕ) → Rests text (b ∷ z) → Rests text z
 tail_rests text b z (k, same, len) = (k + 1, ap (λ u. drop 1 u) same ∙ drop_twice k 1 text, omega arith)
 
 by_blank : (text : List ℕ) (w : Bool) (l : Lexeme) (xs ys : List Lexeme) → AllStand text xs → Stands text l → AllStand text ys → AllStand text (cond w xs (l ∷ ys))

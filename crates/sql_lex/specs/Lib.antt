@@ -1,3 +1,5 @@
+pub mod Markers
+pub mod Spelling
 pub mod Stands
 pub mod Terminal
 pub mod Tokens

@@ -1,6 +1,7 @@
 //! A place in a text, from which tokens are cut.
 
 ghost use Rattle.std.specs.Prelude.{◌≡◌, ◌<◌, ◌≤◌, ◌^◌, length, IfSome, slice_index, false};
+ghost use Rattle.sql_lex.specs.Markers.{markers_of};
 ghost use Rattle.sql_lex.specs.Tokens as spec;
 ghost use Rattle.sql_lex.specs.Tokens.{Next};
 
@@ -52,11 +53,19 @@ impl<'a> Cursor<'a> {
         Cursor { markers: 0, text }
     }
 
+    /// How many markers stand before.
+    pub fn markers(&self) -> usize
+        ensures { result ≡ self.now.0 }
+    {
+        self.markers
+    }
+
     /// The next token, how many bytes there are from it on, and the place behind it; nothing at
     /// the text's end.
     pub fn next(&self) -> Option<(Token<'a>, usize, Cursor<'a>)>
         ensures token { Next self.now result }
         ensures shorter { IfSome result (λ x. length x.2.1 < length self.now.1) }
+        ensures markers { IfSome result (λ x. markers_of x.2 ≡ markers_of self.now) }
     {
         let text = skip_blanks(self.markers, self.text);
         if text.is_empty() {

@@ -1,6 +1,10 @@
 pub mod Answered
+pub mod Carried
+pub mod Checked
+pub mod Deeper
 pub mod Explained
 pub mod Limits
+pub mod Names
 pub mod Only
 pub mod OnlyRules
 pub mod Outcomes
@@ -9,3 +13,5 @@ pub mod TokenKinds
 pub mod Told
 pub mod ToldRules
 pub mod Turns
+pub mod Undone
+pub mod Valid

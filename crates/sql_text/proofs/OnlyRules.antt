@@ -9,6 +9,7 @@ use Rattle.sql_lex.specs.Terminal.{is_same}
 use Rattle.sql_lex.specs.Tokens.{Lexeme}
 use Rattle.sql_text.specs.Number.{is_bigint, is_negative_bigint}
 use Rattle.sql_text.specs.declared.token.ValueStart.TheVariants as start
+use Rattle.sql_text.specs.declared.token.TermStart.TheVariants as begins
 use Rattle.sql_text.specs.declared.token.TypeWord.TheVariants as type
 use Rattle.sql_text.specs.declared.token.Verb.TheVariants as verb
 use Rattle.sql_text.specs.declared.tree.Literal.{Literal}
@@ -21,25 +22,25 @@ use Rattle.sql_text.specs.declared.tree.Addend.{Addend}
 use Rattle.sql_text.specs.declared.tree.Sum.{Sum}
 use Rattle.sql_text.specs.declared.tree.Predicate.{Predicate}
 use Rattle.sql_text.specs.declared.tree.Predicate.TheVariants as predicate
-use Rattle.sql_text.specs.declared.tree.ColumnType.{ColumnType}
-use Rattle.sql_text.specs.declared.tree.ColumnType.TheVariants as column
-use Rattle.sql_text.specs.declared.tree.Definition.{Definition}
-use Rattle.sql_text.specs.declared.tree.KeyColumn.{KeyColumn}
+use Rattle.sql_text.specs.declared.draft.DraftType.{DraftType}
+use Rattle.sql_text.specs.declared.draft.DraftType.TheVariants as column
+use Rattle.sql_text.specs.declared.draft.DraftColumn.{DraftColumn}
+use Rattle.sql_text.specs.declared.draft.DraftKey.{DraftKey}
 use Rattle.sql_text.specs.declared.tree.Assignment.{Assignment}
 use Rattle.sql_text.specs.declared.tree.Columns.{Columns}
 use Rattle.sql_text.specs.declared.tree.Columns.TheVariants as columns
-use Rattle.sql_text.specs.declared.tree.Command.{Command}
-use Rattle.sql_text.specs.declared.tree.Command.TheVariants as command
-use Rattle.sql_text.specs.Reading.{Parser, is_fixed, as_name, as_start, as_type, as_verb, may, name_at, optional_name_at, operation_at, start_at, type_word_at, verb_at, end_at}
+use Rattle.sql_text.specs.declared.draft.Draft.{Draft}
+use Rattle.sql_text.specs.declared.draft.Draft.TheVariants as draft
+use Rattle.sql_text.specs.Reading.{Parser, is_fixed, as_name, as_start, as_value_term, as_term, as_type, as_verb, may, name_at, operation_at, start_at, term_start_at, type_word_at, verb_at, end_at}
 use Rattle.sql_text.specs.Rules.{longest, value_at, term_at, addends_from, addends_at, sum_at, Else, opening_of, compared, null_test, named, comparison, all_at, any_at, group, negation, level, neg_at, predicate_at, names_at, values_at, key_column_at, key_at, assignment_at, assignments_at, length_within, type_at, nullable_at, definition_at, another, definitions_at, listed_at, selected_at, filter_at, create_at, insert_at, update_at, delete_at, select_at, command_at}
 use Rattle.sql_text.specs.Grammar as g
-use Rattle.sql_text.specs.Grammar.{◌⨾◌, Nothing, At, Is, The, IsList, IsName, IsNumber, IsValue, IsTerm, IsOperation, AreAddends, IsSum, IsAll, IsAny, IsPrimary, IsNested, IsPredicate, IsLength, IsType, IsNullable, IsDefinition, IsKeyColumn, IsAssignment, AreNames, AreListed, AreSelected, IsFilter, IsCommand, IsStatement}
+use Rattle.sql_text.specs.Grammar.{◌⨾◌, Nothing, At, Is, The, IsList, IsName, IsNumber, IsValue, IsTerm, IsOperation, AreAddends, IsSum, IsAll, IsAny, IsPrimary, IsNested, IsPredicate, IsLength, IsType, IsNullable, IsDefinition, IsKeyColumn, IsAssignment, AreNames, AreListed, AreSelected, IsFilter, IsFilterUnder, IsCommand, IsStatement}
 use Rattle.sql_lex.specs.Terminal.{number}
 use Rattle.std.specs.Prelude.{◌==◌}
 use Rattle.sql_text.proofs.Only.{again, the_again, may_again, name_again, placed_name_again, digits_again, length_again, comparison_again, equal_again, operation_again, Lacks, NoSign, lacks_nil, no_sign_nil, lacks, no_sign, is_length, at_length, list_shorter, items_only, list_only}
 
 -- two words that are not the same
-is_apart : (a b : Terminal) → number a == number b ≡ false → is_fixed b (t.Fixed a) ≡ false
+pub is_apart : (a b : Terminal) → number a == number b ≡ false → is_fixed b (t.Fixed a) ≡ false
 unfolding is_same
 is_apart a b e = e
 
@@ -77,7 +78,7 @@ assignment_shorter a ts rest (mid, n, (after, e, s)) = omega (arith, is_length _
 within_shorter : (n k : ℕ) (ts rest : List Lexeme) → (The w.Open ⨾ (IsLength n k ⨾ The w.Close)) ts rest → length rest < length ts
 within_shorter n k ts rest (mid, o, (after, (d, l, same), c)) = omega (arith, is_length _ ts mid o, at_length k _ mid after l, is_length _ after rest c)
 
-type_shorter : (c : ColumnType) (ts rest : List Lexeme) → IsType c ts rest → length rest < length ts
+type_shorter : (c : DraftType) (ts rest : List Lexeme) → IsType c ts rest → length rest < length ts
 type_shorter column.SmallInt ts rest is = is_length _ ts rest is
 type_shorter column.Integer ts rest (inl is) = is_length _ ts rest is
 type_shorter column.Integer ts rest (inr is) = is_length _ ts rest is
@@ -89,10 +90,10 @@ nullable_within : (b : Bool) (ts rest : List Lexeme) → IsNullable b ts rest �
 nullable_within true ts rest same = let e : length ts ≡ length rest = ap length same in omega arith
 nullable_within false ts rest (mid, n, u) = omega (arith, is_length _ ts mid n, is_length _ mid rest u)
 
-pub definition_shorter : (d : Definition) (ts rest : List Lexeme) → IsDefinition d ts rest → length rest < length ts
+pub definition_shorter : (d : DraftColumn) (ts rest : List Lexeme) → IsDefinition d ts rest → length rest < length ts
 definition_shorter d ts rest (mid, n, (after, c, b)) = omega (arith, at_length d.left _ ts mid n, type_shorter d.column_type mid after c, nullable_within d.nullable after rest b)
 
-pub key_column_shorter : (k : KeyColumn) (ts rest : List Lexeme) → IsKeyColumn k ts rest → length rest < length ts
+pub key_column_shorter : (k : DraftKey) (ts rest : List Lexeme) → IsKeyColumn k ts rest → length rest < length ts
 key_column_shorter k ts rest is = at_length k.left _ ts rest is
 
 pub name_shorter : (n : List ℕ) (ts rest : List Lexeme) → IsName n ts rest → length rest < length ts
@@ -120,26 +121,21 @@ value_only (literal.Bytes z) ts rest is = rw (again as_start (t.Bytes z) (start.
 value_only (literal.Marker n) ts rest is = rw (again as_start (t.Marker n) (start.Whole (literal.Marker n)) ts rest refl is) refl
 value_only literal.Null ts rest is = rw (again as_start (t.Fixed w.Null) (start.Whole literal.Null) ts rest refl is) refl
 
-no_name : (tok : Token) (ts rest : List Lexeme) → as_name tok ≡ None → Is tok ts rest → optional_name_at ts ≡ Ok (None, ts)
-unfolding optional_name_at
-no_name tok ts rest e (k, same) = rw (same, e) refl
-
-value_no_name : (v : Literal) (ts rest : List Lexeme) → IsValue v ts rest → optional_name_at ts ≡ Ok (None, ts)
-value_no_name (literal.Number n) ts rest (inl (is, fits)) = no_name (t.Number n) ts rest refl is
-value_no_name (literal.Number n) ts rest (inr (digits, (mid, is, d), fits)) = no_name (t.Minus (Some n)) ts mid refl is
-value_no_name (literal.Text z) ts rest is = no_name (t.Text z) ts rest refl is
-value_no_name (literal.Bytes z) ts rest is = no_name (t.Bytes z) ts rest refl is
-value_no_name (literal.Marker n) ts rest is = no_name (t.Marker n) ts rest refl is
-value_no_name literal.Null ts rest is = no_name (t.Fixed w.Null) ts rest refl is
-
-name_found_again : (n : List ℕ) (ts rest : List Lexeme) → IsName n ts rest → optional_name_at ts ≡ Ok (Some n, rest)
-unfolding optional_name_at
-name_found_again n ts rest (k, same) = rw same refl
+value_term_only : (v : Literal) (ts rest : List Lexeme) → IsValue v ts rest → term_at ts ≡ Ok (term.Value v, rest)
+unfolding term_at term_start_at
+value_term_only (literal.Number n) ts rest (inl (is, fits)) =
+    rw (again as_term (t.Number n) (begins.Value (start.Whole (literal.Number n))) ts rest (ap as_value_term (bigint_start n fits)) is) refl
+value_term_only (literal.Number n) ts rest (inr (digits, (mid, is, d), fits)) =
+    rw (again as_term (t.Minus (Some n)) (begins.Value (start.Negative n)) ts mid (ap as_value_term (negative_start n fits)) is, digits_again digits mid rest d) refl
+value_term_only (literal.Text z) ts rest is = rw (again as_term (t.Text z) (begins.Value (start.Whole (literal.Text z))) ts rest refl is) refl
+value_term_only (literal.Bytes z) ts rest is = rw (again as_term (t.Bytes z) (begins.Value (start.Whole (literal.Bytes z))) ts rest refl is) refl
+value_term_only (literal.Marker n) ts rest is = rw (again as_term (t.Marker n) (begins.Value (start.Whole (literal.Marker n))) ts rest refl is) refl
+value_term_only literal.Null ts rest is = rw (again as_term (t.Fixed w.Null) (begins.Value (start.Whole literal.Null)) ts rest refl is) refl
 
 pub term_only : (a : Term) (ts rest : List Lexeme) → IsTerm a ts rest → term_at ts ≡ Ok (a, rest)
-unfolding term_at
-term_only (term.Column n) ts rest is = rw (name_found_again n ts rest is) refl
-term_only (term.Value v) ts rest is = rw (value_no_name v ts rest is, value_only v ts rest is) refl
+unfolding term_at term_start_at
+term_only (term.Column n) ts rest is = rw (again as_term (t.Name n) (begins.Column n) ts rest refl is) refl
+term_only (term.Value v) ts rest is = value_term_only v ts rest is
 
 addends_from_only : (n : ℕ) (found xs : List Addend) (ts rest : List Lexeme) → length xs < n → NoSign rest → AreAddends xs ts rest → addends_from n found ts ≡ Ok (found ++ xs, rest)
 unfolding addends_from
@@ -273,11 +269,11 @@ values_only : (xs : List Literal) (ts rest : List Lexeme) → length ts ≤ long
 unfolding values_at
 values_only xs ts rest fits stops m = list_only value_at w.Comma IsValue (λ _. Unit {0}) value_shorter (λ v us vs _ _ r. value_only v us vs r) (λ us vs b. tt) xs ts rest fits tt stops m
 
-key_column_only : (k : KeyColumn) (ts rest : List Lexeme) → IsKeyColumn k ts rest → key_column_at ts ≡ Ok (k, rest)
+key_column_only : (k : DraftKey) (ts rest : List Lexeme) → IsKeyColumn k ts rest → key_column_at ts ≡ Ok (k, rest)
 unfolding key_column_at
 key_column_only k ts rest is = rw (placed_name_again (k.name, k.left) ts rest is) refl
 
-key_only : (xs : List KeyColumn) (ts rest : List Lexeme) → length ts ≤ longest → Lacks w.Comma rest → IsList IsKeyColumn (The w.Comma) xs ts rest → key_at ts ≡ Ok (xs, rest)
+key_only : (xs : List DraftKey) (ts rest : List Lexeme) → length ts ≤ longest → Lacks w.Comma rest → IsList IsKeyColumn (The w.Comma) xs ts rest → key_at ts ≡ Ok (xs, rest)
 unfolding key_at
 key_only xs ts rest fits stops m = list_only key_column_at w.Comma IsKeyColumn (λ _. Unit {0}) key_column_shorter (λ k us vs _ _ r. key_column_only k us vs r) (λ us vs b. tt) xs ts rest fits tt stops m
 
@@ -287,7 +283,7 @@ assignment_only a ts rest fits stops (mid, n, (after, e, s)) =
     let room : length after ≤ longest = omega (arith, is_length _ ts mid n, is_length _ mid after e) in
     rw (name_again a.column ts mid n, equal_again mid after e, sum_only a.sum after rest room stops s) refl
 
-assignments_only : (xs : List Assignment) (ts rest : List Lexeme) → length ts ≤ longest → NoSign rest → Lacks w.Comma rest → IsList IsAssignment (The w.Comma) xs ts rest → assignments_at ts ≡ Ok (xs, rest)
+pub assignments_only : (xs : List Assignment) (ts rest : List Lexeme) → length ts ≤ longest → NoSign rest → Lacks w.Comma rest → IsList IsAssignment (The w.Comma) xs ts rest → assignments_at ts ≡ Ok (xs, rest)
 unfolding assignments_at
 assignments_only xs ts rest fits signs stops m = list_only assignment_at w.Comma IsAssignment NoSign assignment_shorter assignment_only (λ us vs b. no_sign (t.Fixed w.Comma) us vs refl b) xs ts rest fits signs stops m
 
@@ -297,7 +293,7 @@ within_only : (n : ℕ × ℕ) (ts rest : List Lexeme) → (The w.Open ⨾ (IsLe
 unfolding length_within
 within_only n ts rest (mid, o, (after, l, c)) = rw (the_again w.Open ts mid o, length_again n mid after l, the_again w.Close after rest c) refl
 
-type_only : (c : ColumnType) (ts rest : List Lexeme) → IsType c ts rest → type_at ts ≡ Ok (c, rest)
+type_only : (c : DraftType) (ts rest : List Lexeme) → IsType c ts rest → type_at ts ≡ Ok (c, rest)
 unfolding type_at type_word_at
 type_only column.SmallInt ts rest is = rw (again as_type (t.Fixed w.SmallInt) (type.Whole column.SmallInt) ts rest refl is) refl
 type_only column.Integer ts rest (inl is) = rw (again as_type (t.Fixed w.Integer) (type.Whole column.Integer) ts rest refl is) refl
@@ -311,12 +307,12 @@ unfolding nullable_at
 nullable_only true ts rest stops same = let here : may w.Not ts ≡ Ok (false, rest) = rw same stops in rw here refl
 nullable_only false ts rest stops (mid, n, u) = rw (may_again w.Not ts mid n, the_again w.Null mid rest u) refl
 
-definition_only : (d : Definition) (ts rest : List Lexeme) → Lacks w.Not rest → IsDefinition d ts rest → definition_at ts ≡ Ok (d, rest)
+definition_only : (d : DraftColumn) (ts rest : List Lexeme) → Lacks w.Not rest → IsDefinition d ts rest → definition_at ts ≡ Ok (d, rest)
 unfolding definition_at
 definition_only d ts rest stops (mid, n, (after, c, b)) =
     rw (placed_name_again (d.name, d.left) ts mid n, type_only d.column_type mid after c, nullable_only d.nullable after rest stops b) refl
 
-another_goes : (d : Definition) (ts mid rest : List Lexeme) → The w.Comma ts mid → IsDefinition d mid rest → another ts ≡ Ok (true, mid)
+another_goes : (d : DraftColumn) (ts mid rest : List Lexeme) → The w.Comma ts mid → IsDefinition d mid rest → another ts ≡ Ok (true, mid)
 unfolding another
 another_goes d ts mid rest c (after, n, m) = rw (the_again w.Comma ts mid c, lacks w.Primary (t.Name d.name) mid after refl (d.left, n)) refl
 
@@ -324,7 +320,7 @@ another_ends : (ts mid rest : List Lexeme) → The w.Comma ts mid → The w.Prim
 unfolding another
 another_ends ts mid rest c p = rw (the_again w.Comma ts mid c, may_again w.Primary mid rest p) refl
 
-definitions_only : (xs : List Definition) (ts mid after rest : List Lexeme) → length ts ≤ longest → IsList IsDefinition (The w.Comma) xs ts mid → The w.Comma mid after → The w.Primary after rest → definitions_at ts ≡ Ok (xs, rest)
+definitions_only : (xs : List DraftColumn) (ts mid after rest : List Lexeme) → length ts ≤ longest → IsList IsDefinition (The w.Comma) xs ts mid → The w.Comma mid after → The w.Primary after rest → definitions_at ts ≡ Ok (xs, rest)
 unfolding definitions_at
 definitions_only xs ts mid after rest fits m c p =
     items_only definition_at another IsDefinition (The w.Comma) (Lacks w.Not) definition_shorter (is_length (t.Fixed w.Comma)) (λ d us vs _ stops r. definition_only d us vs stops r) another_goes
@@ -345,7 +341,7 @@ names_lack [] w ts rest m = absurd m
 names_lack (n ∷ []) w ts rest is = lacks w (t.Name n) ts rest refl is
 names_lack (n ∷ k ∷ ns) w ts rest (mid, is, m) = lacks w (t.Name n) ts mid refl is
 
-selected_only : (l : Columns) (ts rest : List Lexeme) → length ts ≤ longest → Lacks w.Comma rest → AreSelected l ts rest → selected_at ts ≡ Ok (l, rest)
+pub selected_only : (l : Columns) (ts rest : List Lexeme) → length ts ≤ longest → Lacks w.Comma rest → AreSelected l ts rest → selected_at ts ≡ Ok (l, rest)
 unfolding selected_at
 selected_only columns.All ts rest fits stops is = rw (may_again w.Star ts rest is) refl
 selected_only (columns.Named names) ts rest fits stops m = rw (names_lack names w.Star ts rest m, names_only names ts rest fits stops m) refl
@@ -357,13 +353,13 @@ filter_only (Some p) ts fits (mid, is, m) =
     let room : length mid ≤ longest = omega (arith, is_length _ ts mid is) in
     rw (may_again w.Where ts mid is, predicate_only p mid [] room (lacks_nil w.And) (lacks_nil w.Or) m) refl
 
-filter_no_sign : (f : Option Predicate) (ts : List Lexeme) → IsFilter f ts [] → NoSign ts
-filter_no_sign None ts same = rw same no_sign_nil
-filter_no_sign (Some p) ts (mid, is, m) = no_sign (t.Fixed w.Where) ts mid refl is
+pub no_filter_sign : (depth : ℕ) (f : Option Predicate) (ts : List Lexeme) → IsFilterUnder depth f ts [] → NoSign ts
+no_filter_sign depth None ts same = rw same no_sign_nil
+no_filter_sign depth (Some p) ts (mid, is, m) = no_sign (t.Fixed w.Where) ts mid refl is
 
-filter_no_comma : (f : Option Predicate) (ts : List Lexeme) → IsFilter f ts [] → Lacks w.Comma ts
-filter_no_comma None ts same = rw same (lacks_nil w.Comma)
-filter_no_comma (Some p) ts (mid, is, m) = lacks w.Comma (t.Fixed w.Where) ts mid (is_apart w.Where w.Comma refl) is
+pub no_filter_comma : (depth : ℕ) (f : Option Predicate) (ts : List Lexeme) → IsFilterUnder depth f ts [] → Lacks w.Comma ts
+no_filter_comma depth None ts same = rw same (lacks_nil w.Comma)
+no_filter_comma depth (Some p) ts (mid, is, m) = lacks w.Comma (t.Fixed w.Where) ts mid (is_apart w.Where w.Comma refl) is
 
 pub end_only : end_at [] ≡ Ok (tt, [])
 unfolding end_at
@@ -374,14 +370,14 @@ listed_within columns.All ts rest same = let e : length ts ≡ length rest = ap 
 listed_within (columns.Named names) ts rest (mid, o, (after, m, c)) =
     omega (arith, is_length _ ts mid o, list_shorter IsName (The w.Comma) name_shorter (is_length (t.Fixed w.Comma)) names mid after m, is_length _ after rest c)
 
-selected_shorter : (l : Columns) (ts rest : List Lexeme) → AreSelected l ts rest → length rest < length ts
+pub selected_shorter : (l : Columns) (ts rest : List Lexeme) → AreSelected l ts rest → length rest < length ts
 selected_shorter columns.All ts rest is = is_length _ ts rest is
 selected_shorter (columns.Named names) ts rest m = list_shorter IsName (The w.Comma) name_shorter (is_length (t.Fixed w.Comma)) names ts rest m
 
 -- what is in the grammar is read
-pub command_only : (c : Command) (ts : List Lexeme) → length ts ≤ longest → IsStatement c ts → command_at ts ≡ Ok (c, [])
+pub command_only : (c : Draft) (ts : List Lexeme) → length ts ≤ longest → IsStatement c ts → command_at ts ≡ Ok (c, [])
 unfolding command_at verb_at create_at insert_at update_at delete_at select_at
-command_only (command.Create table definitions key) ts fits (m1, first, (m2, tab, (m3, name, (m4, brace, (m5, defs, (m6, comma, (m7, primary, (m8, k, (m9, brace', (m10, keys, (m11, close, close'))))))))))) =
+command_only (draft.Create table definitions key) ts fits (m1, first, (m2, tab, (m3, name, (m4, brace, (m5, defs, (m6, comma, (m7, primary, (m8, k, (m9, brace', (m10, keys, (m11, close, close'))))))))))) =
     let room : length m4 ≤ longest = omega (arith, is_length _ ts m1 first, is_length _ m1 m2 tab, is_length _ m2 m3 name, is_length _ m3 m4 brace) in
     let less : length m5 < length m4 = list_shorter IsDefinition (The w.Comma) definition_shorter (is_length (t.Fixed w.Comma)) definitions m4 m5 defs in
     let room' : length m9 ≤ longest = omega (arith, is_length _ m5 m6 comma, is_length _ m6 m7 primary, is_length _ m7 m8 k, is_length _ m8 m9 brace') in
@@ -398,7 +394,7 @@ command_only (command.Create table definitions key) ts fits (m1, first, (m2, tab
       the_again w.Close m11 [] close',
       end_only,
     ) refl
-command_only (command.Insert table listed values) ts fits (m1, first, (m2, into, (m3, name, (m4, l, (m5, vals, (m6, brace, (m7, vs, close))))))) =
+command_only (draft.Insert table listed values) ts fits (m1, first, (m2, into, (m3, name, (m4, l, (m5, vals, (m6, brace, (m7, vs, close))))))) =
     let room : length m3 ≤ longest = omega (arith, is_length _ ts m1 first, is_length _ m1 m2 into, is_length _ m2 m3 name) in
     let room' : length m6 ≤ longest = omega (arith, listed_within listed m3 m4 l, is_length _ m4 m5 vals, is_length _ m5 m6 brace) in
     rw (
@@ -412,7 +408,7 @@ command_only (command.Insert table listed values) ts fits (m1, first, (m2, into,
       the_again w.Close m7 [] close,
       end_only,
     ) refl
-command_only (command.Update table assignments filter) ts fits (m1, first, (m2, name, (m3, s, (m4, list, f)))) =
+command_only (draft.Update table assignments filter) ts fits (m1, first, (m2, name, (m3, s, (m4, list, f)))) =
     let room : length m3 ≤ longest = omega (arith, is_length _ ts m1 first, is_length _ m1 m2 name, is_length _ m2 m3 s) in
     let less : length m4 < length m3 = list_shorter IsAssignment (The w.Comma) assignment_shorter (is_length (t.Fixed w.Comma)) assignments m3 m4 list in
     let room' : length m4 ≤ longest = omega arith in
@@ -420,14 +416,14 @@ command_only (command.Update table assignments filter) ts fits (m1, first, (m2, 
       again as_verb (t.Fixed w.Update) verb.Update ts m1 refl first,
       name_again table m1 m2 name,
       the_again w.Set m2 m3 s,
-      assignments_only assignments m3 m4 room (filter_no_sign filter m4 f) (filter_no_comma filter m4 f) list,
+      assignments_only assignments m3 m4 room (no_filter_sign 65 filter m4 f) (no_filter_comma 65 filter m4 f) list,
       filter_only filter m4 room' f,
       end_only,
     ) refl
-command_only (command.Delete table filter) ts fits (m1, first, (m2, from, (m3, name, f))) =
+command_only (draft.Delete table filter) ts fits (m1, first, (m2, from, (m3, name, f))) =
     let room : length m3 ≤ longest = omega (arith, is_length _ ts m1 first, is_length _ m1 m2 from, is_length _ m2 m3 name) in
     rw (again as_verb (t.Fixed w.Delete) verb.Delete ts m1 refl first, the_again w.From m1 m2 from, name_again table m2 m3 name, filter_only filter m3 room f, end_only) refl
-command_only (command.Select selected table filter) ts fits (m1, first, (m2, l, (m3, from, (m4, name, f)))) =
+command_only (draft.Select selected table filter) ts fits (m1, first, (m2, l, (m3, from, (m4, name, f)))) =
     let room : length m1 ≤ longest = omega (arith, is_length _ ts m1 first) in
     let room' : length m4 ≤ longest = omega (arith, selected_shorter selected m1 m2 l, is_length _ m2 m3 from, is_length _ m3 m4 name) in
     rw (

@@ -193,7 +193,7 @@ tells_found {D} {A} {n} p R told ts x rest e =
 -- ---- single tokens
 
 module _ (D : Type 0) (n : ℕ) {A : Type 0} (f : Token → Option A) (R : Rule A) (is : (l : Lexeme) (a : A) (more : List Lexeme) → f l.1 ≡ Some a → R a (l ∷ more) more) (some : Exists R) where
-  told_taken : (l : Lexeme) (ts : List Lexeme) (o : Option A) → f l.1 ≡ o → Told D n (expect f) R (l ∷ ts) (taken o l ts)
+  told_taken : (l : Lexeme) (ts : List Lexeme) (o : Option A) → f l.1 ≡ o → Told D n (expect f) R (l ∷ ts) (taken o l.0 ts)
   told_taken l ts (Some a) e = (l ∷ [], refl, λ more. is l a more e, λ more h. rw e refl)
   told_taken l ts None e = ([], l ∷ ts, refl, refl, some, λ more h. refused more h)
     where
@@ -213,7 +213,7 @@ pub good_expect : {D : Type 0} {n : ℕ} {A : Type 0} (f : Token → Option A) (
 good_expect {D} {n} f R is some = (record { tell = told_expect D n f R is some }, some)
 
 module _ (D : Type 0) (n : ℕ) {A : Type 0} (f : Token → Option A) (R : Rule (A × ℕ)) (is : (l : Lexeme) (a : A) (more : List Lexeme) → f l.1 ≡ Some a → R (a, l.0) (l ∷ more) more) (some : Exists R) where
-  told_taken_at : (l : Lexeme) (ts : List Lexeme) (o : Option A) → f l.1 ≡ o → Told D n (expect_placed f) R (l ∷ ts) (taken_at o l ts)
+  told_taken_at : (l : Lexeme) (ts : List Lexeme) (o : Option A) → f l.1 ≡ o → Told D n (expect_placed f) R (l ∷ ts) (taken_at o l.0 ts)
   told_taken_at l ts (Some a) e = (l ∷ [], refl, λ more. is l a more e, λ more h. rw e refl)
   told_taken_at l ts None e = ([], l ∷ ts, refl, refl, some, λ more h. refused more h)
     where

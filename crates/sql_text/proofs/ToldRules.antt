@@ -10,6 +10,8 @@ use Rattle.sql_text.specs.Number.{is_bigint, is_negative_bigint, length_of}
 use Rattle.sql_text.specs.declared.fault.Fault.TheVariants as fault
 use Rattle.sql_text.specs.declared.token.ValueStart.{ValueStart}
 use Rattle.sql_text.specs.declared.token.ValueStart.TheVariants as start
+use Rattle.sql_text.specs.declared.token.TermStart.{TermStart}
+use Rattle.sql_text.specs.declared.token.TermStart.TheVariants as begins
 use Rattle.sql_text.specs.declared.token.TypeWord.{TypeWord}
 use Rattle.sql_text.specs.declared.token.TypeWord.TheVariants as type
 use Rattle.sql_text.specs.declared.token.Verb.{Verb}
@@ -22,14 +24,14 @@ use Rattle.sql_text.specs.declared.tree.Operation.{Operation}
 use Rattle.sql_text.specs.declared.tree.Addend.{Addend}
 use Rattle.sql_text.specs.declared.tree.Predicate.{Predicate}
 use Rattle.sql_text.specs.declared.tree.Predicate.TheVariants as predicate
-use Rattle.sql_text.specs.declared.tree.ColumnType.TheVariants as column
-use Rattle.sql_text.specs.declared.tree.Definition.{Definition}
+use Rattle.sql_text.specs.declared.draft.DraftType.TheVariants as column
+use Rattle.sql_text.specs.declared.draft.DraftColumn.{DraftColumn}
 use Rattle.sql_text.specs.declared.tree.Columns.TheVariants as columns
-use Rattle.sql_text.specs.declared.tree.Command.{Command}
+use Rattle.sql_text.specs.declared.draft.Draft.{Draft}
 use Rattle.sql_text.specs.Grammar as g
 use Rattle.sql_text.specs.Grammar.{◌⨾◌, Nothing, At, Is, The, IsList, IsName, IsValue, IsTerm, IsOperation, AreAddends, IsSum, IsAll, IsAny, IsPrimary, IsNested, IsLength, IsType, IsNullable, IsDefinition, IsKeyColumn, IsAssignment, AreNames, AreListed, AreSelected, IsFilterUnder, IsCommandUnder, IsCommand, IsStatement}
 use Rattle.sql_text.specs.Place.{SameHead}
-use Rattle.sql_text.specs.Reading.{Parser, Outcome, ◌>>=◌, pure, as_name, as_digits, as_length, as_comparison, as_equal, as_operation, as_start, as_type, as_verb, name_at, optional_name_at, placed_name_at, digits_at, length_at, comparison_at, equal_at, operation_at, start_at, type_word_at, verb_at, end_at}
+use Rattle.sql_text.specs.Reading.{Parser, Outcome, ◌>>=◌, pure, as_name, as_digits, as_length, as_comparison, as_equal, as_operation, as_start, as_value_term, as_term, as_type, as_verb, name_at, placed_name_at, digits_at, length_at, comparison_at, equal_at, operation_at, start_at, term_start_at, type_word_at, verb_at, end_at}
 use Rattle.sql_text.specs.Rules.{longest, items_from, items, value_by, value_at, term_by, term_at, addend, addends_by, addends_from, addends_at, sum_at, Opening, Negates, Opens, Names, Else, opening_of, compared, null_test, named, comparison, all_at, any_at, group, negation, level_by, level, neg_at, predicate_at, names_at, values_at, key_column_at, key_at, assignment_at, assignments_at, length_within, type_by, type_at, nullable_at, definition_at, another, definitions_at, listed_at, selected_at, filter_at, create_at, insert_at, update_at, delete_at, select_at, command_by, command_at}
 use Rattle.sql_text.proofs.Only.{is_length}
 use Rattle.sql_text.proofs.OnlyRules.{value_shorter, term_shorter, assignment_shorter, definition_shorter, key_column_shorter, name_shorter, all_shorter, nested_shorter}
@@ -101,17 +103,39 @@ module _ (D : Type 0) where
   unfolding value_at
   good_value = good_bind _ _ _ _ good_start good_value_by
 
-  tells_name_or : Tells D longest optional_name_at (OrNothing IsName)
-  unfolding optional_name_at
-  tells_name_or = tells_attempt as_name IsName (λ l n more e. (l.0, ap (λ tok. (l.0, tok) ∷ more) (name_is l.1 n e)))
+  -- what a term begins with
+  abbrev IsTermStart : Rule TermStart
+  IsTermStart (begins.Column n) = IsName n
+  IsTermStart (begins.Value s) = IsStart s
 
-  tells_term_by : (o : Option (List ℕ)) → Tells D longest (term_by o) (OrNothing IsName o ⇒ IsTerm)
-  tells_term_by (Some n) = tells_pure _ _ (λ rest ts is. is)
-  tells_term_by None = tells_then _ _ _ _ good_value.0 (λ v. good_pure _ _ (λ rest mid is ts same. let P : List Lexeme → Type 0 = λ u. IsValue v u rest in subst P (sym same) is))
+  value_starts : (l : Lexeme) (o : Option ValueStart) (s : TermStart) (more : List Lexeme) → as_start l.1 ≡ o → as_value_term o ≡ Some s → IsTermStart s (l ∷ more) more
+  value_starts l None s more e f = absurd (cc)
+  value_starts l (Some v) s more e f =
+      let same : begins.Value v ≡ s = cc in
+      let P : TermStart → Type 0 = λ u. IsTermStart u (l ∷ more) more in
+      subst P same (starts l v more e)
+
+  name_starts : (l : Lexeme) (n : List ℕ) (s : TermStart) (more : List Lexeme) → l.1 ≡ t.Name n → Some (begins.Column n) ≡ Some s → IsTermStart s (l ∷ more) more
+  name_starts l n s more e f =
+      let same : begins.Column n ≡ s = cc in
+      let P : TermStart → Type 0 = λ u. IsTermStart u (l ∷ more) more in
+      subst P same (l.0, ap (λ tok. (l.0, tok) ∷ more) e)
+
+  term_starts : (l : Lexeme) (s : TermStart) (more : List Lexeme) → as_term l.1 ≡ Some s → IsTermStart s (l ∷ more) more
+  term_starts (k, t.Name n) s more e = name_starts (k, t.Name n) n s more refl e
+  term_starts (k, tok) s more e = value_starts (k, tok) (as_start tok) s more refl e
+
+  good_term_start : Good D longest term_start_at IsTermStart
+  unfolding term_start_at
+  good_term_start = good_expect as_term IsTermStart term_starts (begins.Column [], (0, t.Name []) ∷ [], λ follow. (0, refl))
+
+  good_term_by : (s : TermStart) → Good D longest (term_by s) (IsTermStart s ⇒ IsTerm)
+  good_term_by (begins.Column n) = good_pure _ _ (λ rest ts is. is)
+  good_term_by (begins.Value s) = good_bind _ _ _ _ (good_value_by s) (λ v. good_pure _ _ (λ rest mid is ts start. is ts start))
 
   good_term : Good D longest term_at IsTerm
-  unfolding term_at optional_name_at
-  good_term = (tells_bind _ _ _ _ tells_name_or tells_term_by (λ failed x. absurd (attempt_goes as_name failed)), (term.Column [], (0, t.Name []) ∷ [], λ follow. (0, refl)))
+  unfolding term_at
+  good_term = good_bind _ _ _ _ good_term_start good_term_by
 
   -- the addends that are read behind these
   abbrev AddedTo : List Addend → Rule (List Addend)
@@ -419,7 +443,7 @@ module _ (D : Type 0) where
       (λ _ _. (false, (0, t.Fixed w.Primary) ∷ [], λ follow ts comma. ((0, t.Fixed w.Primary) ∷ follow, comma, (0, refl))))
 
   -- columns up to the PRIMARY behind them
-  abbrev AreDefinitions : Rule (List Definition)
+  abbrev AreDefinitions : Rule (List DraftColumn)
   AreDefinitions ds = IsList IsDefinition (The w.Comma) ds ⨾ (The w.Comma ⨾ The w.Primary)
 
   behind_columns : (tail : List Lexeme) × ((follow : List Lexeme) → (The w.Comma ⨾ The w.Primary) (tail ++ follow) follow)
@@ -557,7 +581,7 @@ at_end [] rest u e = sym (ok_parts (tt, []) (u, rest) _ refl e).1
 at_end (l ∷ ts) rest u e = absurd (cc)
 
 -- nothing is left behind a statement
-nothing_left : (ts : List Lexeme) (x : Command) (rest : List Lexeme) → command_at ts ≡ Ok (x, rest) → rest ≡ []
+pub nothing_left : (ts : List Lexeme) (x : Draft) (rest : List Lexeme) → command_at ts ≡ Ok (x, rest) → rest ≡ []
 unfolding command_at
 nothing_left ts x rest e =
     let v = bind_ok (verb_at ts) _ x rest e in
@@ -566,5 +590,5 @@ nothing_left ts x rest e =
     sym (ok_parts (c.0.0, n.0.1) (x, rest) _ refl n.2).1 ∙ at_end c.0.1 n.0.1 n.0.0 n.1
 
 -- what is read is a statement
-pub command_found : (ts : List Lexeme) (x : Command) (rest : List Lexeme) → command_at ts ≡ Ok (x, rest) → IsStatement x ts
+pub command_found : (ts : List Lexeme) (x : Draft) (rest : List Lexeme) → command_at ts ≡ Ok (x, rest) → IsStatement x ts
 command_found ts x rest e = let P : List Lexeme → Type 0 = λ u. IsCommand x ts u in subst P (nothing_left ts x rest e) (tells_found command_at IsCommand tells_command ts x rest e)

@@ -30,19 +30,19 @@ use Rattle.sql_text.specs.declared.tree.Addend.{Addend}
 use Rattle.sql_text.specs.declared.tree.Sum.{Sum}
 use Rattle.sql_text.specs.declared.tree.Predicate.{Predicate}
 use Rattle.sql_text.specs.declared.tree.Predicate.TheVariants as predicate
-use Rattle.sql_text.specs.declared.tree.ColumnType.{ColumnType}
-use Rattle.sql_text.specs.declared.tree.ColumnType.TheVariants as column
-use Rattle.sql_text.specs.declared.tree.Definition.{Definition}
-use Rattle.sql_text.specs.declared.tree.KeyColumn.{KeyColumn}
+use Rattle.sql_text.specs.declared.draft.DraftType.{DraftType}
+use Rattle.sql_text.specs.declared.draft.DraftType.TheVariants as column
+use Rattle.sql_text.specs.declared.draft.DraftColumn.{DraftColumn}
+use Rattle.sql_text.specs.declared.draft.DraftKey.{DraftKey}
 use Rattle.sql_text.specs.declared.tree.Assignment.{Assignment}
 use Rattle.sql_text.specs.declared.tree.Columns.{Columns}
 use Rattle.sql_text.specs.declared.tree.Columns.TheVariants as columns
-use Rattle.sql_text.specs.declared.tree.Command.{Command}
-use Rattle.sql_text.specs.declared.tree.Command.TheVariants as command
+use Rattle.sql_text.specs.declared.draft.Draft.{Draft}
+use Rattle.sql_text.specs.declared.draft.Draft.TheVariants as draft
 
 -- a statement's tree
 abbrev pub Tree : Type 0
-Tree = Command
+Tree = Draft
 
 -- what stands between two places of a list of tokens: the tokens from the one, and those from the other
 abbrev pub Span : Type 1
@@ -138,7 +138,7 @@ IsPredicate = IsAny (IsNested 65)
 abbrev pub IsLength : ℕ → ℕ → List Lexeme → List Lexeme → Type 0
 IsLength n left ts rest = (digits : List ℕ) × At left (t.Number digits) ts rest × (n ≡ length_of digits)
 
-abbrev pub IsType : ColumnType → List Lexeme → List Lexeme → Type 0
+abbrev pub IsType : DraftType → List Lexeme → List Lexeme → Type 0
 IsType column.SmallInt = The w.SmallInt
 IsType column.Integer = λ ts rest. The w.Integer ts rest ⊎ The w.Int ts rest
 IsType column.BigInt = The w.BigInt
@@ -149,10 +149,10 @@ abbrev pub IsNullable : Bool → List Lexeme → List Lexeme → Type 0
 IsNullable true = Nothing
 IsNullable false = The w.Not ⨾ The w.Null
 
-abbrev pub IsDefinition : Definition → List Lexeme → List Lexeme → Type 0
+abbrev pub IsDefinition : DraftColumn → List Lexeme → List Lexeme → Type 0
 IsDefinition d = At d.left (t.Name d.name) ⨾ (IsType d.column_type ⨾ IsNullable d.nullable)
 
-abbrev pub IsKeyColumn : KeyColumn → List Lexeme → List Lexeme → Type 0
+abbrev pub IsKeyColumn : DraftKey → List Lexeme → List Lexeme → Type 0
 IsKeyColumn k = At k.left (t.Name k.name)
 
 -- ---- statements
@@ -179,27 +179,27 @@ module _ (depth : ℕ) where
   IsFilterUnder None = Nothing
   IsFilterUnder (Some p) = The w.Where ⨾ IsAny (IsNested depth) p
 
-  abbrev pub IsCommandUnder : Command → List Lexeme → List Lexeme → Type 0
-  IsCommandUnder (command.Create table definitions key) =
+  abbrev pub IsCommandUnder : Draft → List Lexeme → List Lexeme → Type 0
+  IsCommandUnder (draft.Create table definitions key) =
       The w.Create ⨾ (The w.Table ⨾ (IsName table ⨾ (The w.Open
       ⨾ (IsList IsDefinition (The w.Comma) definitions
       ⨾ (The w.Comma ⨾ (The w.Primary ⨾ (The w.Key ⨾ (The w.Open ⨾ (IsList IsKeyColumn (The w.Comma) key ⨾ (The w.Close ⨾ The w.Close))))))))))
-  IsCommandUnder (command.Insert table listed values) =
+  IsCommandUnder (draft.Insert table listed values) =
       The w.Insert ⨾ (The w.Into ⨾ (IsName table ⨾ (AreListed listed
       ⨾ (The w.Values ⨾ (The w.Open ⨾ (IsList IsValue (The w.Comma) values ⨾ The w.Close))))))
-  IsCommandUnder (command.Update table assignments filter) =
+  IsCommandUnder (draft.Update table assignments filter) =
       The w.Update ⨾ (IsName table ⨾ (The w.Set ⨾ (IsList IsAssignment (The w.Comma) assignments ⨾ IsFilterUnder filter)))
-  IsCommandUnder (command.Delete table filter) = The w.Delete ⨾ (The w.From ⨾ (IsName table ⨾ IsFilterUnder filter))
-  IsCommandUnder (command.Select selected table filter) =
+  IsCommandUnder (draft.Delete table filter) = The w.Delete ⨾ (The w.From ⨾ (IsName table ⨾ IsFilterUnder filter))
+  IsCommandUnder (draft.Select selected table filter) =
       The w.Select ⨾ (AreSelected selected ⨾ (The w.From ⨾ (IsName table ⨾ IsFilterUnder filter)))
 
 abbrev pub IsFilter : Option Predicate → List Lexeme → List Lexeme → Type 0
 IsFilter = IsFilterUnder 65
 
 -- with predicates nested at most 64 deep
-abbrev pub IsCommand : Command → List Lexeme → List Lexeme → Type 0
+abbrev pub IsCommand : Draft → List Lexeme → List Lexeme → Type 0
 IsCommand = IsCommandUnder 65
 
 -- the tokens are this statement, and no more
-abbrev pub IsStatement : Command → List Lexeme → Type 0
+abbrev pub IsStatement : Draft → List Lexeme → Type 0
 IsStatement c ts = IsCommand c ts []

@@ -2,7 +2,9 @@ pub mod Checks
 pub mod Grammar
 pub mod Number
 pub mod Place
+pub mod Plain
 pub mod Reading
 pub mod Rules
 pub mod Spelled
 pub mod Text
+pub mod Valid

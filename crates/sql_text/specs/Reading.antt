@@ -1,5 +1,5 @@
 -- How a statement is read from its tokens, from left to right.
-use Rattle.std.specs.Prelude.{◌≡◌, ℕ, List, [], ◌∷◌, Result, Ok, Err, Option, Some, None, Bool, true, false, if◌then◌else◌}
+use Rattle.std.specs.Prelude.{◌≡◌, ℕ, List, [], ◌∷◌, Result, Ok, Err, Option, Some, None, Bool, true, false, if◌then◌else◌, IfOk}
 use Rattle.sql_lex.specs.declared.terminal.Terminal.{Terminal}
 use Rattle.sql_lex.specs.declared.terminal.Terminal.TheVariants as w
 use Rattle.sql_lex.specs.declared.token.Comparison.{Comparison}
@@ -7,12 +7,15 @@ use Rattle.sql_lex.specs.declared.token.Comparison.TheVariants as is
 use Rattle.sql_lex.specs.declared.token.Token.{Token}
 use Rattle.sql_lex.specs.declared.token.Token.TheVariants as t
 use Rattle.sql_lex.specs.Terminal.{is_same}
+use Rattle.sql_lex.specs.Markers.{markers_of}
 use Rattle.sql_lex.specs.Tokens.{Lexeme, tokens_ahead}
 use Rattle.sql_text.specs.Number.{is_bigint, is_negative_bigint, length_of}
 use Rattle.sql_text.specs.declared.fault.Fault.{Fault}
 use Rattle.sql_text.specs.declared.fault.Fault.TheVariants as fault
 use Rattle.sql_text.specs.declared.token.ValueStart.{ValueStart}
 use Rattle.sql_text.specs.declared.token.ValueStart.TheVariants as start
+use Rattle.sql_text.specs.declared.token.TermStart.{TermStart}
+use Rattle.sql_text.specs.declared.token.TermStart.TheVariants as begins
 use Rattle.sql_text.specs.declared.token.TypeWord.{TypeWord}
 use Rattle.sql_text.specs.declared.token.TypeWord.TheVariants as type
 use Rattle.sql_text.specs.declared.token.Verb.{Verb}
@@ -20,7 +23,7 @@ use Rattle.sql_text.specs.declared.token.Verb.TheVariants as verb
 use Rattle.sql_text.specs.declared.tree.Literal.TheVariants as literal
 use Rattle.sql_text.specs.declared.tree.Operation.{Operation}
 use Rattle.sql_text.specs.declared.tree.Operation.TheVariants as operation
-use Rattle.sql_text.specs.declared.tree.ColumnType.TheVariants as column
+use Rattle.sql_text.specs.declared.draft.DraftType.TheVariants as column
 
 abbrev pub Outcome : Type 0 → Type 0
 Outcome A = Result (A × List Lexeme) Fault
@@ -54,23 +57,26 @@ refuse = λ ts. Err (fault.Unexpected (place ts))
 
 -- ---- single tokens
 
-abbrev pub taken : {A : Type 0} → Option A → Lexeme → List Lexeme → Outcome A
-taken (Some a) l ts = Ok (a, ts)
-taken None l ts = refuse (l ∷ ts)
+-- the next token, and its place
+abbrev pub next_at : Parser (Token × ℕ)
+next_at [] = refuse []
+next_at (l ∷ ts) = Ok ((l.1, l.0), ts)
+
+abbrev pub taken : {A : Type 0} → Option A → ℕ → Parser A
+taken (Some a) left ts = Ok (a, ts)
+taken None left ts = Err (fault.Unexpected left)
 
 -- the token, where it is of a kind
 abbrev pub expect : {A : Type 0} → (Token → Option A) → Parser A
-expect f [] = refuse []
-expect f (l ∷ ts) = taken (f l.1) l ts
+expect f = next_at >>= (λ x. taken (f x.0) x.1)
 
-abbrev pub taken_at : {A : Type 0} → Option A → Lexeme → List Lexeme → Outcome (A × ℕ)
-taken_at (Some a) l ts = Ok ((a, l.0), ts)
-taken_at None l ts = refuse (l ∷ ts)
+abbrev pub taken_at : {A : Type 0} → Option A → ℕ → Parser (A × ℕ)
+taken_at (Some a) left ts = Ok ((a, left), ts)
+taken_at None left ts = Err (fault.Unexpected left)
 
 -- the token and its place, where it is of a kind
 abbrev pub expect_placed : {A : Type 0} → (Token → Option A) → Parser (A × ℕ)
-expect_placed f [] = refuse []
-expect_placed f (l ∷ ts) = taken_at (f l.1) l ts
+expect_placed f = next_at >>= (λ x. taken_at (f x.0) x.1)
 
 abbrev pub tried : {A : Type 0} → Option A → Lexeme → List Lexeme → Outcome (Option A)
 tried (Some a) l ts = Ok (Some a, ts)
@@ -129,6 +135,15 @@ as_start (t.Marker n) = Some (start.Whole (literal.Marker n))
 as_start (t.Fixed w.Null) = Some (start.Whole literal.Null)
 as_start _ = None
 
+abbrev pub as_value_term : Option ValueStart → Option TermStart
+as_value_term (Some s) = Some (begins.Value s)
+as_value_term None = None
+
+-- what a term begins with: a name, or what a value does
+abbrev pub as_term : Token → Option TermStart
+as_term (t.Name n) = Some (begins.Column n)
+as_term tok = as_value_term (as_start tok)
+
 abbrev pub as_type : Token → Option TypeWord
 as_type (t.Fixed w.SmallInt) = Some (type.Whole column.SmallInt)
 as_type (t.Fixed w.Integer) = Some (type.Whole column.Integer)
@@ -155,9 +170,6 @@ may w = eat (is_fixed w)
 unfoldable pub name_at : Parser (List ℕ)
 name_at = expect as_name
 
-unfoldable pub optional_name_at : Parser (Option (List ℕ))
-optional_name_at = attempt as_name
-
 unfoldable pub placed_name_at : Parser (List ℕ × ℕ)
 placed_name_at = expect_placed as_name
 
@@ -178,6 +190,9 @@ operation_at = attempt as_operation
 
 unfoldable pub start_at : Parser ValueStart
 start_at = expect as_start
+
+unfoldable pub term_start_at : Parser TermStart
+term_start_at = expect as_term
 
 unfoldable pub type_word_at : Parser TypeWord
 type_word_at = expect as_type
@@ -202,3 +217,7 @@ abbrev pub Passes : Outcome (Unit {0}) → Result (ℕ × List ℕ) Fault → Ty
 Passes outcome (Ok x) = outcome ≡ Ok (tt, tokens_ahead x)
 Passes outcome (Err fault.Memory) = Unit {0}
 Passes outcome (Err e) = outcome ≡ Err e
+
+-- no marker of the text is lost or made: those before the place and those to come are as many as before
+abbrev pub Keeps : {A : Type 0} → ℕ × List ℕ → Result (A × (ℕ × List ℕ)) Fault → Type 0
+Keeps cursor result = IfOk result (λ x. markers_of x.1 ≡ markers_of cursor)

@@ -4,10 +4,12 @@ use Rattle.sql_lex.specs.declared.terminal.Terminal.TheVariants as w
 use Rattle.sql_lex.specs.declared.token.Token.{Token}
 use Rattle.sql_lex.specs.declared.token.Token.TheVariants as t
 use Rattle.sql_lex.specs.Tokens.{Lexeme}
-use Rattle.sql_text.specs.Reading.{Parser, ◌>>=◌, ◌>>◌, pure, the, may, name_at, optional_name_at, placed_name_at, digits_at, length_at, comparison_at, equal_at, operation_at, start_at, type_word_at, verb_at, end_at}
+use Rattle.sql_text.specs.Reading.{Parser, ◌>>=◌, ◌>>◌, pure, the, may, name_at, placed_name_at, digits_at, length_at, comparison_at, equal_at, operation_at, start_at, term_start_at, type_word_at, verb_at, end_at}
 use Rattle.sql_text.specs.declared.fault.Fault.TheVariants as fault
 use Rattle.sql_text.specs.declared.token.ValueStart.{ValueStart}
 use Rattle.sql_text.specs.declared.token.ValueStart.TheVariants as start
+use Rattle.sql_text.specs.declared.token.TermStart.{TermStart}
+use Rattle.sql_text.specs.declared.token.TermStart.TheVariants as begins
 use Rattle.sql_text.specs.declared.token.TypeWord.{TypeWord}
 use Rattle.sql_text.specs.declared.token.TypeWord.TheVariants as type
 use Rattle.sql_text.specs.declared.token.Verb.{Verb}
@@ -21,15 +23,15 @@ use Rattle.sql_text.specs.declared.tree.Addend.{Addend}
 use Rattle.sql_text.specs.declared.tree.Sum.{Sum}
 use Rattle.sql_text.specs.declared.tree.Predicate.{Predicate}
 use Rattle.sql_text.specs.declared.tree.Predicate.TheVariants as predicate
-use Rattle.sql_text.specs.declared.tree.ColumnType.{ColumnType}
-use Rattle.sql_text.specs.declared.tree.ColumnType.TheVariants as column
-use Rattle.sql_text.specs.declared.tree.Definition.{Definition}
-use Rattle.sql_text.specs.declared.tree.KeyColumn.{KeyColumn}
+use Rattle.sql_text.specs.declared.draft.DraftType.{DraftType}
+use Rattle.sql_text.specs.declared.draft.DraftType.TheVariants as column
+use Rattle.sql_text.specs.declared.draft.DraftColumn.{DraftColumn}
+use Rattle.sql_text.specs.declared.draft.DraftKey.{DraftKey}
 use Rattle.sql_text.specs.declared.tree.Assignment.{Assignment}
 use Rattle.sql_text.specs.declared.tree.Columns.{Columns}
 use Rattle.sql_text.specs.declared.tree.Columns.TheVariants as columns
-use Rattle.sql_text.specs.declared.tree.Command.{Command}
-use Rattle.sql_text.specs.declared.tree.Command.TheVariants as command
+use Rattle.sql_text.specs.declared.draft.Draft.{Draft}
+use Rattle.sql_text.specs.declared.draft.Draft.TheVariants as draft
 
 -- a list has at most as many items as the longest text has bytes
 unfoldable pub longest : ℕ
@@ -57,15 +59,15 @@ value_by (start.Negative n) = do
 unfoldable pub value_at : Parser Literal
 value_at = start_at >>= value_by
 
-abbrev pub term_by : Option (List ℕ) → Parser Term
-term_by (Some n) = pure (term.Column n)
-term_by None = do
-  v ← value_at
+abbrev pub term_by : TermStart → Parser Term
+term_by (begins.Column n) = pure (term.Column n)
+term_by (begins.Value s) = do
+  v ← value_by s
   pure (term.Value v)
 
 -- a column where a name comes next, and else a value
 unfoldable pub term_at : Parser Term
-term_at = optional_name_at >>= term_by
+term_at = term_start_at >>= term_by
 
 abbrev pub addend : Operation → Term → Addend
 addend o a = record { operation = o; term = a }
@@ -182,15 +184,15 @@ names_at = items name_at (may w.Comma)
 unfoldable pub values_at : Parser (List Literal)
 values_at = items value_at (may w.Comma)
 
-abbrev pub key_column : List ℕ × ℕ → KeyColumn
+abbrev pub key_column : List ℕ × ℕ → DraftKey
 key_column n = record { name = n.0; left = n.1 }
 
-unfoldable pub key_column_at : Parser KeyColumn
+unfoldable pub key_column_at : Parser DraftKey
 key_column_at = do
   n ← placed_name_at
   pure (key_column n)
 
-unfoldable pub key_at : Parser (List KeyColumn)
+unfoldable pub key_at : Parser (List DraftKey)
 key_at = items key_column_at (may w.Comma)
 
 abbrev pub assignment : List ℕ → Sum → Assignment
@@ -215,7 +217,7 @@ length_within = do
   the w.Close
   pure n
 
-abbrev pub type_by : TypeWord → Parser ColumnType
+abbrev pub type_by : TypeWord → Parser DraftType
 type_by (type.Whole c) = pure c
 type_by type.OfText = do
   n ← length_within
@@ -224,7 +226,7 @@ type_by type.OfBytes = do
   n ← length_within
   pure (column.VarBinary n.0 n.1)
 
-unfoldable pub type_at : Parser ColumnType
+unfoldable pub type_at : Parser DraftType
 type_at = type_word_at >>= type_by
 
 unfoldable pub nullable_at : Parser Bool
@@ -232,10 +234,10 @@ nullable_at = do
   bars ← may w.Not
   if bars then (do the w.Null; pure false) else pure true
 
-abbrev pub definition : List ℕ × ℕ → ColumnType → Bool → Definition
+abbrev pub definition : List ℕ × ℕ → DraftType → Bool → DraftColumn
 definition n c nullable = record { name = n.0; left = n.1; column_type = c; nullable = nullable }
 
-unfoldable pub definition_at : Parser Definition
+unfoldable pub definition_at : Parser DraftColumn
 definition_at = do
   n ← placed_name_at
   c ← type_at
@@ -249,7 +251,7 @@ another = do
   primary ← may w.Primary
   pure (not primary)
 
-unfoldable pub definitions_at : Parser (List Definition)
+unfoldable pub definitions_at : Parser (List DraftColumn)
 definitions_at = items definition_at another
 
 -- ---- statements
@@ -269,7 +271,7 @@ filter_at = do
   filters ← may w.Where
   if filters then (do p ← predicate_at; pure (Some p)) else pure None
 
-unfoldable pub create_at : Parser Command
+unfoldable pub create_at : Parser Draft
 create_at = do
   the w.Table
   table ← name_at
@@ -280,9 +282,9 @@ create_at = do
   key ← key_at
   the w.Close
   the w.Close
-  pure (command.Create table definitions key)
+  pure (draft.Create table definitions key)
 
-unfoldable pub insert_at : Parser Command
+unfoldable pub insert_at : Parser Draft
 insert_at = do
   the w.Into
   table ← name_at
@@ -291,39 +293,39 @@ insert_at = do
   the w.Open
   values ← values_at
   the w.Close
-  pure (command.Insert table listed values)
+  pure (draft.Insert table listed values)
 
-unfoldable pub update_at : Parser Command
+unfoldable pub update_at : Parser Draft
 update_at = do
   table ← name_at
   the w.Set
   assignments ← assignments_at
   filter ← filter_at
-  pure (command.Update table assignments filter)
+  pure (draft.Update table assignments filter)
 
-unfoldable pub delete_at : Parser Command
+unfoldable pub delete_at : Parser Draft
 delete_at = do
   the w.From
   table ← name_at
   filter ← filter_at
-  pure (command.Delete table filter)
+  pure (draft.Delete table filter)
 
-unfoldable pub select_at : Parser Command
+unfoldable pub select_at : Parser Draft
 select_at = do
   selected ← selected_at
   the w.From
   table ← name_at
   filter ← filter_at
-  pure (command.Select selected table filter)
+  pure (draft.Select selected table filter)
 
-abbrev pub command_by : Verb → Parser Command
+abbrev pub command_by : Verb → Parser Draft
 command_by verb.Create = create_at
 command_by verb.Insert = insert_at
 command_by verb.Update = update_at
 command_by verb.Delete = delete_at
 command_by verb.Select = select_at
 
-unfoldable pub command_at : Parser Command
+unfoldable pub command_at : Parser Draft
 command_at = do
   v ← verb_at
   x ← command_by v

@@ -1,18 +1,20 @@
 -- What the parts of a statement stand for.
-use Rattle.std.specs.Prelude.{ℕ, ◌+◌, ◌-◌, ◌*◌, ◌==◌, nat_lt, if◌then◌else◌, List, [], ◌∷◌, map, ℤ, pos, neg_ℤ}
-use Rattle.std.specs.Char.{to_ascii_uppercase}
+use Rattle.std.specs.Prelude.{◌≡◌, ◌≤◌, ◌<◌, ℕ, ◌+◌, ◌-◌, ◌*◌, ◌/◌, ◌%◌, ◌==◌, nat_lt, if◌then◌else◌, List, [], ◌∷◌, length, slice_index, ℤ, pos, neg_ℤ}
+use Rattle.sql_lex.specs.Spelling.{AreDigits}
 use Rattle.sql_text.specs.Number.{number_of}
 use Rattle.sql_text.specs.declared.tree.Literal.{Literal}
 use Rattle.sql_text.specs.declared.tree.Literal.TheVariants as literal
-
 -- names are kept in capitals
-abbrev pub capitals : List ℕ → List ℕ
-capitals = map to_ascii_uppercase
+pub use Rattle.sql_lex.specs.Spelling.{capitals}
 
 -- a number, with or without a '-'
 abbrev pub number_value : List ℕ → ℤ
 number_value [] = pos 0
 number_value (b ∷ z) = if b == 45 then neg_ℤ (pos (number_of z)) else pos (number_of (b ∷ z))
+
+-- digits without a zero before them
+abbrev pub IsPlain : List ℕ → Type 0
+IsPlain z = AreDigits z × (slice_index z 0 ≡ 48 → length z ≡ 1)
 
 -- a text, in which a doubled quote is one
 abbrev pub undoubled : List ℕ → List ℕ
@@ -28,6 +30,15 @@ digit_value b = if nat_lt b 58 then b - 48 else (if nat_lt b 71 then b - 55 else
 abbrev pub bytes_of_pairs : List ℕ → List ℕ
 bytes_of_pairs (a ∷ b ∷ z) = (digit_value a * 16 + digit_value b) ∷ bytes_of_pairs z
 bytes_of_pairs _ = []
+
+-- the hexadecimal digit that counts n
+abbrev pub hexadecimal_digit : ℕ → ℕ
+hexadecimal_digit n = if nat_lt n 10 then n + 48 else n + 55
+
+-- two digits of each byte, as capitals
+abbrev pub pairs_of : List ℕ → List ℕ
+pairs_of [] = []
+pairs_of (b ∷ z) = hexadecimal_digit (b / 16) ∷ hexadecimal_digit (b % 16) ∷ pairs_of z
 
 -- the value of a literal
 pub data LiteralValue : Type 0 where

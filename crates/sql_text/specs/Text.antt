@@ -1,7 +1,9 @@
 -- What a text is answered.
 use Rattle.std.specs.Prelude.{ℕ, ◌-◌, List, length, Option, Some, None, Result, Ok, Err}
+use Rattle.sql_lex.specs.Markers.{markers_in}
 use Rattle.sql_lex.specs.Tokens.{tokens}
-use Rattle.sql_text.specs.Checks.{markers_in, refusal_of}
+use Rattle.sql_text.specs.Checks.{refusal_of}
+use Rattle.sql_text.specs.Plain.{command}
 use Rattle.sql_text.specs.Reading.{Outcome}
 use Rattle.sql_text.specs.Rules.{command_at}
 use Rattle.sql_text.specs.declared.check.Refusal.{Refusal}
@@ -10,7 +12,7 @@ use Rattle.sql_text.specs.declared.fault.Fault.{Fault}
 use Rattle.sql_text.specs.declared.fault.Fault.TheVariants as fault
 use Rattle.sql_text.specs.declared.error.SqlError.{SqlError}
 use Rattle.sql_text.specs.declared.error.SqlError.TheVariants as error
-use Rattle.sql_text.specs.declared.tree.Command.{Command}
+use Rattle.sql_text.specs.declared.draft.Draft.{Draft}
 use Rattle.sql_text.specs.declared.tree.Statement.{Statement}
 
 -- want of memory may come in place of any answer
@@ -31,18 +33,18 @@ fault_error len (fault.Unexpected left) = error.SqlText (len - left)
 fault_error len fault.Deep = error.Limit
 fault_error len fault.Memory = error.NoMemory
 
-abbrev pub statement : ℕ → Command → Statement
-statement markers c = record { command = c; markers = markers }
+abbrev pub statement : ℕ → Draft → Statement
+statement markers d = record { command = command d; markers = markers }
 
-abbrev pub answer_by : ℕ → ℕ → Command → Option Refusal → Result Statement SqlError
+abbrev pub answer_by : ℕ → ℕ → Draft → Option Refusal → Result Statement SqlError
 answer_by len markers c None = Ok (statement markers c)
 answer_by len markers c (Some r) = Err (refusal_error len r)
 
 -- what a text is answered that is this statement
-unfoldable pub answer : List ℕ → Command → Result Statement SqlError
+unfoldable pub answer : List ℕ → Draft → Result Statement SqlError
 answer text c = answer_by (length text) (markers_in (tokens text)) c (refusal_of (markers_in (tokens text)) c)
 
-abbrev pub outcome_answer : List ℕ → Outcome Command → Result Statement SqlError
+abbrev pub outcome_answer : List ℕ → Outcome Draft → Result Statement SqlError
 outcome_answer text (Ok x) = answer text x.0
 outcome_answer text (Err f) = Err (fault_error (length text) f)
 

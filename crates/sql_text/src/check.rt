@@ -1,12 +1,11 @@
 //! What is checked of a statement behind its grammar.
 
-ghost use Rattle.std.specs.Prelude.{◌≡◌, ◌<◌, ◌^◌, length, nat_lt, ◌||◌};
+ghost use Rattle.std.specs.Prelude.{◌≡◌, length, nat_lt, ◌||◌};
 ghost use Rattle.std.specs.List.{list_any};
-ghost use Rattle.sql_lex.specs.Tokens.{tokens};
 ghost use Rattle.sql_text.specs.Checks as spec;
 
-use crate::tree::{ColumnType, Columns, Command, Definition, KeyColumn};
-use sql_lex::{Cursor, Token};
+use crate::draft::{Draft, DraftColumn, DraftKey, DraftType};
+use crate::tree::Columns;
 
 /// Why a statement of the grammar is refused.
 #[derive(Clone, Copy, Debug, PartialEq, Eq)]
@@ -20,51 +19,29 @@ pub(crate) enum Refusal {
     KeyUnknown,
 }
 
-fn is_marker(token: &Token<'_>) -> bool
-    ensures { result ≡ spec.is_marker token.now }
-{
-    matches!(token, Token::Marker(_))
-}
-
-/// How many markers a text has.
-pub(crate) fn markers_in(text: &[u8]) -> usize
-    requires { length text.now < 2 ^ 63 }
-    ensures { result ≡ spec.markers_in (tokens text.now) }
-{
-    let mut cursor = Cursor::new(text);
-    let mut found = 0;
-    while let Some((token, _, rest)) = cursor.next() {
-        if is_marker(&token) {
-            found += 1;
-        }
-        cursor = rest;
-    }
-    found
-}
-
-fn is_too_long(column_type: ColumnType) -> bool
+fn is_too_long(column_type: DraftType) -> bool
     ensures { result ≡ spec.is_too_long column_type }
 {
     match column_type {
-        ColumnType::VarChar { length, .. } | ColumnType::VarBinary { length, .. } => length > 2000,
+        DraftType::VarChar { length, .. } | DraftType::VarBinary { length, .. } => length > 2000,
         _ => false,
     }
 }
 
-fn has_too_long(columns: &[Definition<'_>]) -> bool
+fn has_too_long(columns: &[DraftColumn<'_>]) -> bool
     ensures { result ≡ list_any (λ d. spec.is_too_long d.column_type) columns.now }
 {
     columns.iter().any(|column| is_too_long(column.column_type))
 }
 
-fn is_too_large(command: &Command<'_>) -> bool
+fn is_too_large(command: &Draft<'_>) -> bool
     ensures { result ≡ spec.is_too_large command.now }
 {
     match command {
-        Command::Create { columns, key, .. } => {
+        Draft::Create { columns, key, .. } => {
             columns.len() > 64 || key.len() > 4 || has_too_long(columns.as_slice())
         }
-        Command::Select {
+        Draft::Select {
             columns: Columns::Named(names),
             ..
         } => names.len() > 64,
@@ -72,11 +49,11 @@ fn is_too_large(command: &Command<'_>) -> bool
     }
 }
 
-fn empty_at(column_type: ColumnType) -> Option<usize>
+fn empty_at(column_type: DraftType) -> Option<usize>
     ensures { result ≡ spec.empty_at column_type }
 {
     match column_type {
-        ColumnType::VarChar { length, left } | ColumnType::VarBinary { length, left } => {
+        DraftType::VarChar { length, left } | DraftType::VarBinary { length, left } => {
             if length == 0 { Some(left) } else { None }
         }
         _ => None,
@@ -84,7 +61,7 @@ fn empty_at(column_type: ColumnType) -> Option<usize>
 }
 
 /// The place of the first length that is 0.
-fn first_empty(mut columns: &[Definition<'_>]) -> Option<usize>
+fn first_empty(mut columns: &[DraftColumn<'_>]) -> Option<usize>
     ensures { result ≡ spec.first_empty columns.entry.now }
 {
     while let [column, rest @ ..] = columns {
@@ -102,7 +79,7 @@ fn is_same(a: &[u8], b: &[u8]) -> bool
     a.eq_ignore_ascii_case(b)
 }
 
-fn is_column(columns: &[Definition<'_>], name: &[u8]) -> bool
+fn is_column(columns: &[DraftColumn<'_>], name: &[u8]) -> bool
     ensures { result ≡ spec.is_column columns.now name.now }
 {
     columns
@@ -110,14 +87,14 @@ fn is_column(columns: &[Definition<'_>], name: &[u8]) -> bool
         .any(|column| is_same(column.name.bytes(), name))
 }
 
-fn is_key_column(key: &[KeyColumn<'_>], name: &[u8]) -> bool
+fn is_key_column(key: &[DraftKey<'_>], name: &[u8]) -> bool
     ensures { result ≡ list_any (λ k. spec.same_name k.name name.now) key.now }
 {
     key.iter().any(|column| is_same(column.name.bytes(), name))
 }
 
 /// The place of the first column whose name is one of an earlier column.
-fn repeated_column(columns: &[Definition<'_>]) -> Option<usize>
+fn repeated_column(columns: &[DraftColumn<'_>]) -> Option<usize>
     ensures { result ≡ spec.repeated_column columns.now }
 {
     for (at, column) in columns.iter().enumerate() {
@@ -129,7 +106,7 @@ fn repeated_column(columns: &[Definition<'_>]) -> Option<usize>
 }
 
 /// The place of the first key column whose name is one of an earlier key column.
-fn repeated_key(key: &[KeyColumn<'_>]) -> Option<usize>
+fn repeated_key(key: &[DraftKey<'_>]) -> Option<usize>
     ensures { result ≡ spec.repeated_key key.now }
 {
     for (at, column) in key.iter().enumerate() {
@@ -140,7 +117,7 @@ fn repeated_key(key: &[KeyColumn<'_>]) -> Option<usize>
     None
 }
 
-fn has_unknown(columns: &[Definition<'_>], key: &[KeyColumn<'_>]) -> bool
+fn has_unknown(columns: &[DraftColumn<'_>], key: &[DraftKey<'_>]) -> bool
     ensures { result ≡ spec.has_unknown columns.now key.now }
 {
     key.iter()
@@ -148,7 +125,7 @@ fn has_unknown(columns: &[Definition<'_>], key: &[KeyColumn<'_>]) -> bool
 }
 
 #[tactic(auto, unfolding(crate::specs::Checks::table_refusal))]
-fn table_refusal(columns: &[Definition<'_>], key: &[KeyColumn<'_>]) -> Option<Refusal>
+fn table_refusal(columns: &[DraftColumn<'_>], key: &[DraftKey<'_>]) -> Option<Refusal>
     ensures { result ≡ spec.table_refusal columns.now key.now }
 {
     if let Some(left) = first_empty(columns) {
@@ -168,14 +145,14 @@ fn table_refusal(columns: &[Definition<'_>], key: &[KeyColumn<'_>]) -> Option<Re
 
 /// Why a statement with so many markers is refused.
 #[tactic(auto, unfolding(crate::specs::Checks::refusal_of))]
-pub(crate) fn refusal_of(markers: usize, command: &Command<'_>) -> Option<Refusal>
+pub(crate) fn refusal_of(markers: usize, command: &Draft<'_>) -> Option<Refusal>
     ensures { result ≡ spec.refusal_of markers command.now }
 {
     if markers > 128 || is_too_large(command) {
         return Some(Refusal::Limit);
     }
     match command {
-        Command::Create { columns, key, .. } => table_refusal(columns.as_slice(), key.as_slice()),
+        Draft::Create { columns, key, .. } => table_refusal(columns.as_slice(), key.as_slice()),
         _ => None,
     }
 }

@@ -2,23 +2,21 @@
 
 ghost use Rattle.std.specs.Prelude.{◌≡◌};
 ghost use Rattle.sql_lex.specs.Tokens.{tokens_ahead};
-ghost use Rattle.sql_text.specs.Reading.{Reads};
+ghost use Rattle.sql_text.specs.Reading.{Reads, Keeps};
 ghost use Rattle.sql_text.specs.Rules as spec;
 
+use crate::draft::{DraftColumn, DraftType};
 use crate::fault::Fault;
-use crate::list::longest;
 use crate::token::{TypeWord, eat, expect, length, placed_name, type_word};
-use crate::tree::{ColumnType, Definition};
 use sql_lex::{Cursor, Terminal};
-use sqlite_items::Items;
-use std::alloc::Global;
 
 /// A length in parentheses, and its place.
 #[tactic(auto, unfolding(crate::specs::Rules::length_within))]
 pub(crate) fn length_in_parentheses<'a>(
     cursor: Cursor<'a>,
 ) -> Result<((usize, usize), Cursor<'a>), Fault>
-    ensures { Reads (spec.length_within (tokens_ahead cursor.entry)) result }
+    ensures value { Reads (spec.length_within (tokens_ahead cursor.entry)) result }
+    ensures markers { Keeps cursor.entry result }
 {
     let rest = expect(Terminal::Open, cursor)?;
     let (length, rest) = length(rest)?;
@@ -27,19 +25,20 @@ pub(crate) fn length_in_parentheses<'a>(
 }
 
 #[tactic(auto, unfolding(crate::specs::Rules::type_at))]
-pub(crate) fn column_type<'a>(cursor: Cursor<'a>) -> Result<(ColumnType, Cursor<'a>), Fault>
-    ensures { Reads (spec.type_at (tokens_ahead cursor.entry)) result }
+pub(crate) fn column_type<'a>(cursor: Cursor<'a>) -> Result<(DraftType, Cursor<'a>), Fault>
+    ensures value { Reads (spec.type_at (tokens_ahead cursor.entry)) result }
+    ensures markers { Keeps cursor.entry result }
 {
     let (word, rest) = type_word(cursor)?;
     match word {
         TypeWord::Whole(column_type) => Ok((column_type, rest)),
         TypeWord::OfText => {
             let ((length, left), rest) = length_in_parentheses(rest)?;
-            Ok((ColumnType::VarChar { length, left }, rest))
+            Ok((DraftType::VarChar { length, left }, rest))
         }
         TypeWord::OfBytes => {
             let ((length, left), rest) = length_in_parentheses(rest)?;
-            Ok((ColumnType::VarBinary { length, left }, rest))
+            Ok((DraftType::VarBinary { length, left }, rest))
         }
     }
 }
@@ -47,7 +46,8 @@ pub(crate) fn column_type<'a>(cursor: Cursor<'a>) -> Result<(ColumnType, Cursor<
 /// Whether a column may be null: `NOT NULL` or nothing.
 #[tactic(auto, unfolding(crate::specs::Rules::nullable_at))]
 pub(crate) fn nullable<'a>(cursor: Cursor<'a>) -> Result<(bool, Cursor<'a>), Fault>
-    ensures { Reads (spec.nullable_at (tokens_ahead cursor.entry)) result }
+    ensures value { Reads (spec.nullable_at (tokens_ahead cursor.entry)) result }
+    ensures markers { Keeps cursor.entry result }
 {
     let (bars, rest) = eat(Terminal::Not, cursor);
     if !bars {
@@ -58,13 +58,14 @@ pub(crate) fn nullable<'a>(cursor: Cursor<'a>) -> Result<(bool, Cursor<'a>), Fau
 }
 
 #[tactic(auto, unfolding(crate::specs::Rules::definition_at))]
-pub(crate) fn definition<'a>(cursor: Cursor<'a>) -> Result<(Definition<'a>, Cursor<'a>), Fault>
-    ensures { Reads (spec.definition_at (tokens_ahead cursor.entry)) result }
+pub(crate) fn definition<'a>(cursor: Cursor<'a>) -> Result<(DraftColumn<'a>, Cursor<'a>), Fault>
+    ensures value { Reads (spec.definition_at (tokens_ahead cursor.entry)) result }
+    ensures markers { Keeps cursor.entry result }
 {
     let ((name, left), rest) = placed_name(cursor)?;
     let (column_type, rest) = column_type(rest)?;
     let (nullable, rest) = nullable(rest)?;
-    let definition = Definition {
+    let definition = DraftColumn {
         name,
         left,
         column_type,
@@ -76,31 +77,10 @@ pub(crate) fn definition<'a>(cursor: Cursor<'a>) -> Result<(Definition<'a>, Curs
 /// Whether a further column comes behind the comma, and not `PRIMARY`.
 #[tactic(auto, unfolding(crate::specs::Rules::another))]
 pub(crate) fn another<'a>(cursor: Cursor<'a>) -> Result<(bool, Cursor<'a>), Fault>
-    ensures { Reads (spec.another (tokens_ahead cursor.entry)) result }
+    ensures value { Reads (spec.another (tokens_ahead cursor.entry)) result }
+    ensures markers { Keeps cursor.entry result }
 {
     let rest = expect(Terminal::Comma, cursor)?;
     let (primary, rest) = eat(Terminal::Primary, rest);
     Ok((!primary, rest))
-}
-
-/// The columns, up to the `PRIMARY` behind them.
-pub(crate) fn definitions<'a>(
-    alloc: Global,
-    cursor: Cursor<'a>,
-) -> Result<(Items<Definition<'a>>, Cursor<'a>), Fault>
-    ensures { Reads (spec.definitions_at (tokens_ahead cursor.entry)) result }
-{
-    let turns = longest();
-    let mut found = Items::new(alloc);
-    let mut rest = cursor;
-    for _turn in 0..turns {
-        let (item, after) = definition(rest)?;
-        found.push(item)?;
-        let (goes, after) = another(after)?;
-        if !goes {
-            return Ok((found, after));
-        }
-        rest = after;
-    }
-    Err(Fault::Deep)
 }

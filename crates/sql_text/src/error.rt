@@ -1,5 +1,9 @@
 //! Why a text is refused.
 
+ghost use Rattle.std.specs.Prelude.{◌≡◌};
+
+use std::alloc::AllocError;
+
 /// Why a text is refused.
 #[derive(Clone, Copy, Debug, PartialEq, Eq)]
 pub enum SqlError {
@@ -13,4 +17,14 @@ pub enum SqlError {
     /// A column of the key is no column of the table.
     KeyUnknown,
     NoMemory,
+}
+
+impl From<AllocError> for SqlError {
+    ghost use Rattle.sql_text.specs.declared.error.SqlError.TheVariants.{NoMemory};
+
+    ghost from_gives = { λ _ e. e ≡ NoMemory };
+
+    fn from(_: AllocError) -> SqlError {
+        SqlError::NoMemory
+    }
 }

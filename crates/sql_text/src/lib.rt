@@ -3,6 +3,7 @@
 
 mod check;
 mod column;
+mod draft;
 mod error;
 mod fault;
 pub mod laws;
@@ -21,6 +22,3 @@ pub use tree::{
     Addend, Assignment, ColumnType, Columns, Command, Definition, KeyColumn, Literal, Operation,
     Predicate, Statement, Sum, Term,
 };
-
-#[cfg(test)]
-mod tests;

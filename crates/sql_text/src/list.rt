@@ -1,14 +1,18 @@
-//! Reads lists whose items have commas between them.
+//! Reads lists.
 
-ghost use Rattle.std.specs.Prelude.{◌≡◌};
+ghost use Rattle.std.specs.Prelude.{◌≡◌, Bool};
 ghost use Rattle.sql_lex.specs.Tokens.{tokens_ahead};
-ghost use Rattle.sql_text.specs.Reading.{Reads};
+ghost use Rattle.sql_lex.specs.declared.terminal.Terminal.TheVariants as terminal;
+ghost use Rattle.sql_text.specs.Reading as reading;
+ghost use Rattle.sql_text.specs.Reading.{Parser, Reads, Keeps};
 ghost use Rattle.sql_text.specs.Rules as spec;
 
+use crate::column::{another, definition};
+use crate::draft::{DraftColumn, DraftKey};
 use crate::fault::Fault;
 use crate::sum::{sum, value};
 use crate::token::{eat, equal, name, placed_name};
-use crate::tree::{Assignment, KeyColumn, Literal};
+use crate::tree::{Assignment, Literal};
 use sql_lex::{Cursor, Part, Terminal};
 use sqlite_items::Items;
 use std::alloc::Global;
@@ -21,20 +25,37 @@ pub(crate) fn longest() -> usize
     32767
 }
 
-/// Names.
-pub(crate) fn names<'a>(
+/// What a list has as its items.
+pub(crate) trait Listed<'a>: Drop {
+    ghost item_at: { Parser Self };
+
+    ghost more_at: { Parser Bool };
+
+    fn item(alloc: Global, cursor: Cursor<'a>) -> Result<(Self, Cursor<'a>), Fault>
+        ensures value { Reads (item_at (tokens_ahead cursor.entry)) result }
+        ensures markers { Keeps cursor.entry result };
+
+    /// Whether a further item comes.
+    fn more(cursor: Cursor<'a>) -> Result<(bool, Cursor<'a>), Fault>
+        ensures value { Reads (more_at (tokens_ahead cursor.entry)) result }
+        ensures markers { Keeps cursor.entry result };
+}
+
+/// One item or more.
+pub(crate) fn items<'a, T: Listed<'a>>(
     alloc: Global,
     cursor: Cursor<'a>,
-) -> Result<(Items<Part<'a>>, Cursor<'a>), Fault>
-    ensures { Reads (spec.names_at (tokens_ahead cursor.entry)) result }
+) -> Result<(Items<T>, Cursor<'a>), Fault>
+    ensures value { Reads (spec.items T.item_at T.more_at (tokens_ahead cursor.entry)) result }
+    ensures markers { Keeps cursor.entry result }
 {
     let turns = longest();
     let mut found = Items::new(alloc);
     let mut rest = cursor;
     for _turn in 0..turns {
-        let (item, after) = name(rest)?;
+        let (item, after) = T::item(alloc, rest)?;
         found.push(item)?;
-        let (goes, after) = eat(Terminal::Comma, after);
+        let (goes, after) = T::more(after)?;
         if !goes {
             return Ok((found, after));
         }
@@ -43,56 +64,64 @@ pub(crate) fn names<'a>(
     Err(Fault::Deep)
 }
 
-/// Values.
-pub(crate) fn values<'a>(
-    alloc: Global,
-    cursor: Cursor<'a>,
-) -> Result<(Items<Literal<'a>>, Cursor<'a>), Fault>
-    ensures { Reads (spec.values_at (tokens_ahead cursor.entry)) result }
+/// Whether a comma comes next, which is then taken.
+fn comma<'a>(cursor: Cursor<'a>) -> Result<(bool, Cursor<'a>), Fault>
+    ensures value { Reads (reading.may terminal.Comma (tokens_ahead cursor.entry)) result }
+    ensures markers { Keeps cursor.entry result }
 {
-    let turns = longest();
-    let mut found = Items::new(alloc);
-    let mut rest = cursor;
-    for _turn in 0..turns {
-        let (item, after) = value(rest)?;
-        found.push(item)?;
-        let (goes, after) = eat(Terminal::Comma, after);
-        if !goes {
-            return Ok((found, after));
-        }
-        rest = after;
+    let (goes, rest) = eat(Terminal::Comma, cursor);
+    Ok((goes, rest))
+}
+
+impl<'a> Listed<'a> for Part<'a> {
+    ghost item_at = { reading.name_at };
+
+    ghost more_at = { reading.may terminal.Comma };
+
+    fn item(_alloc: Global, cursor: Cursor<'a>) -> Result<(Part<'a>, Cursor<'a>), Fault> {
+        name(cursor)
     }
-    Err(Fault::Deep)
+
+    fn more(cursor: Cursor<'a>) -> Result<(bool, Cursor<'a>), Fault> {
+        comma(cursor)
+    }
+}
+
+impl<'a> Listed<'a> for Literal<'a> {
+    ghost item_at = { spec.value_at };
+
+    ghost more_at = { reading.may terminal.Comma };
+
+    fn item(_alloc: Global, cursor: Cursor<'a>) -> Result<(Literal<'a>, Cursor<'a>), Fault> {
+        value(cursor)
+    }
+
+    fn more(cursor: Cursor<'a>) -> Result<(bool, Cursor<'a>), Fault> {
+        comma(cursor)
+    }
 }
 
 #[tactic(auto, unfolding(crate::specs::Rules::key_column_at))]
-pub(crate) fn key_column<'a>(cursor: Cursor<'a>) -> Result<(KeyColumn<'a>, Cursor<'a>), Fault>
-    ensures { Reads (spec.key_column_at (tokens_ahead cursor.entry)) result }
+pub(crate) fn key_column<'a>(cursor: Cursor<'a>) -> Result<(DraftKey<'a>, Cursor<'a>), Fault>
+    ensures value { Reads (spec.key_column_at (tokens_ahead cursor.entry)) result }
+    ensures markers { Keeps cursor.entry result }
 {
     let ((name, left), rest) = placed_name(cursor)?;
-    Ok((KeyColumn { name, left }, rest))
+    Ok((DraftKey { name, left }, rest))
 }
 
-/// The columns of a key.
-pub(crate) fn key<'a>(
-    alloc: Global,
-    cursor: Cursor<'a>,
-) -> Result<(Items<KeyColumn<'a>>, Cursor<'a>), Fault>
-    ensures { Reads (spec.key_at (tokens_ahead cursor.entry)) result }
-{
-    let turns = longest();
-    let mut found = Items::new(alloc);
-    let mut rest = cursor;
-    for _turn in 0..turns {
-        let (item, after) = key_column(rest)?;
-        found.push(item)?;
-        let (goes, after) = eat(Terminal::Comma, after);
-        if !goes {
-            return Ok((found, after));
-        }
-        rest = after;
+impl<'a> Listed<'a> for DraftKey<'a> {
+    ghost item_at = { spec.key_column_at };
+
+    ghost more_at = { reading.may terminal.Comma };
+
+    fn item(_alloc: Global, cursor: Cursor<'a>) -> Result<(DraftKey<'a>, Cursor<'a>), Fault> {
+        key_column(cursor)
     }
-    Err(Fault::Deep)
+
+    fn more(cursor: Cursor<'a>) -> Result<(bool, Cursor<'a>), Fault> {
+        comma(cursor)
+    }
 }
 
 #[tactic(auto, unfolding(crate::specs::Rules::assignment_at))]
@@ -100,7 +129,8 @@ pub(crate) fn assignment<'a>(
     alloc: Global,
     cursor: Cursor<'a>,
 ) -> Result<(Assignment<'a>, Cursor<'a>), Fault>
-    ensures { Reads (spec.assignment_at (tokens_ahead cursor.entry)) result }
+    ensures value { Reads (spec.assignment_at (tokens_ahead cursor.entry)) result }
+    ensures markers { Keeps cursor.entry result }
 {
     let (column, rest) = name(cursor)?;
     let rest = equal(rest)?;
@@ -108,24 +138,30 @@ pub(crate) fn assignment<'a>(
     Ok((Assignment { column, sum }, rest))
 }
 
-/// Assignments.
-pub(crate) fn assignments<'a>(
-    alloc: Global,
-    cursor: Cursor<'a>,
-) -> Result<(Items<Assignment<'a>>, Cursor<'a>), Fault>
-    ensures { Reads (spec.assignments_at (tokens_ahead cursor.entry)) result }
-{
-    let turns = longest();
-    let mut found = Items::new(alloc);
-    let mut rest = cursor;
-    for _turn in 0..turns {
-        let (item, after) = assignment(alloc, rest)?;
-        found.push(item)?;
-        let (goes, after) = eat(Terminal::Comma, after);
-        if !goes {
-            return Ok((found, after));
-        }
-        rest = after;
+impl<'a> Listed<'a> for Assignment<'a> {
+    ghost item_at = { spec.assignment_at };
+
+    ghost more_at = { reading.may terminal.Comma };
+
+    fn item(alloc: Global, cursor: Cursor<'a>) -> Result<(Assignment<'a>, Cursor<'a>), Fault> {
+        assignment(alloc, cursor)
     }
-    Err(Fault::Deep)
+
+    fn more(cursor: Cursor<'a>) -> Result<(bool, Cursor<'a>), Fault> {
+        comma(cursor)
+    }
+}
+
+impl<'a> Listed<'a> for DraftColumn<'a> {
+    ghost item_at = { spec.definition_at };
+
+    ghost more_at = { spec.another };
+
+    fn item(_alloc: Global, cursor: Cursor<'a>) -> Result<(DraftColumn<'a>, Cursor<'a>), Fault> {
+        definition(cursor)
+    }
+
+    fn more(cursor: Cursor<'a>) -> Result<(bool, Cursor<'a>), Fault> {
+        another(cursor)
+    }
 }

@@ -2,7 +2,7 @@
 
 ghost use Rattle.std.specs.Prelude.{◌≡◌};
 ghost use Rattle.sql_lex.specs.Tokens.{tokens_ahead};
-ghost use Rattle.sql_text.specs.Reading.{Reads};
+ghost use Rattle.sql_text.specs.Reading.{Reads, Keeps};
 ghost use Rattle.sql_text.specs.Rules as spec;
 
 use crate::fault::Fault;
@@ -20,7 +20,8 @@ pub(crate) fn compared<'a>(
     a: Term<'a>,
     cursor: Cursor<'a>,
 ) -> Result<(Predicate<'a>, Cursor<'a>), Fault>
-    ensures { Reads (spec.compared a.entry (tokens_ahead cursor.entry)) result }
+    ensures value { Reads (spec.compared a.entry (tokens_ahead cursor.entry)) result }
+    ensures markers { Keeps cursor.entry result }
 {
     let (comparison, rest) = comparison(cursor)?;
     let (b, rest) = term(rest)?;
@@ -33,7 +34,8 @@ pub(crate) fn null_test<'a>(
     name: Part<'a>,
     cursor: Cursor<'a>,
 ) -> Result<(Predicate<'a>, Cursor<'a>), Fault>
-    ensures { Reads (spec.null_test name.entry (tokens_ahead cursor.entry)) result }
+    ensures value { Reads (spec.null_test name.entry (tokens_ahead cursor.entry)) result }
+    ensures markers { Keeps cursor.entry result }
 {
     let (negated, rest) = eat(Terminal::Not, cursor);
     let rest = expect(Terminal::Null, rest)?;
@@ -46,7 +48,8 @@ pub(crate) fn named<'a>(
     name: Part<'a>,
     cursor: Cursor<'a>,
 ) -> Result<(Predicate<'a>, Cursor<'a>), Fault>
-    ensures { Reads (spec.named name.entry (tokens_ahead cursor.entry)) result }
+    ensures value { Reads (spec.named name.entry (tokens_ahead cursor.entry)) result }
+    ensures markers { Keeps cursor.entry result }
 {
     let (is, rest) = eat(Terminal::Is, cursor);
     if is {
@@ -61,7 +64,8 @@ pub(crate) fn named<'a>(
 pub(crate) fn comparison_of_value<'a>(
     cursor: Cursor<'a>,
 ) -> Result<(Predicate<'a>, Cursor<'a>), Fault>
-    ensures { Reads (spec.comparison (tokens_ahead cursor.entry)) result }
+    ensures value { Reads (spec.comparison (tokens_ahead cursor.entry)) result }
+    ensures markers { Keeps cursor.entry result }
 {
     let (value, rest) = value(cursor)?;
     compared(Term::Value(value), rest)
@@ -74,7 +78,8 @@ pub(crate) fn all<'a>(
     depth: usize,
     cursor: Cursor<'a>,
 ) -> Result<(Predicate<'a>, Cursor<'a>), Fault>
-    ensures { Reads (spec.all_at (spec.neg_at depth) (tokens_ahead cursor.entry)) result }
+    ensures value { Reads (spec.all_at (spec.neg_at depth) (tokens_ahead cursor.entry)) result }
+    ensures markers { Keeps cursor.entry result }
 {
     let turns = longest();
     let mut found = Items::new(alloc);
@@ -98,7 +103,8 @@ pub(crate) fn any<'a>(
     depth: usize,
     cursor: Cursor<'a>,
 ) -> Result<(Predicate<'a>, Cursor<'a>), Fault>
-    ensures { Reads (spec.any_at (spec.neg_at depth) (tokens_ahead cursor.entry)) result }
+    ensures value { Reads (spec.any_at (spec.neg_at depth) (tokens_ahead cursor.entry)) result }
+    ensures markers { Keeps cursor.entry result }
 {
     let turns = longest();
     let mut found = Items::new(alloc);
@@ -123,7 +129,8 @@ pub(crate) fn level<'a>(
     depth: usize,
     cursor: Cursor<'a>,
 ) -> Result<(Predicate<'a>, Cursor<'a>), Fault>
-    ensures { Reads (spec.level (spec.neg_at depth) (tokens_ahead cursor.entry)) result }
+    ensures value { Reads (spec.level (spec.neg_at depth) (tokens_ahead cursor.entry)) result }
+    ensures markers { Keeps cursor.entry result }
 {
     let Some((token, _, rest)) = cursor.next() else {
         return comparison_of_value(cursor);
@@ -151,7 +158,8 @@ pub(crate) fn neg<'a>(
     depth: usize,
     cursor: Cursor<'a>,
 ) -> Result<(Predicate<'a>, Cursor<'a>), Fault>
-    ensures { Reads (spec.neg_at depth (tokens_ahead cursor.entry)) result }
+    ensures value { Reads (spec.neg_at depth (tokens_ahead cursor.entry)) result }
+    ensures markers { Keeps cursor.entry result }
 {
     if depth == 0 {
         return Err(Fault::Deep);
@@ -165,7 +173,8 @@ pub(crate) fn whole_predicate<'a>(
     alloc: Global,
     cursor: Cursor<'a>,
 ) -> Result<(Predicate<'a>, Cursor<'a>), Fault>
-    ensures { Reads (spec.predicate_at (tokens_ahead cursor.entry)) result }
+    ensures value { Reads (spec.predicate_at (tokens_ahead cursor.entry)) result }
+    ensures markers { Keeps cursor.entry result }
 {
     any(alloc, 65, cursor)
 }

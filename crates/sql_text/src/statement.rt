@@ -2,48 +2,50 @@
 
 ghost use Rattle.std.specs.Prelude.{◌≡◌};
 ghost use Rattle.sql_lex.specs.Tokens.{tokens_ahead};
-ghost use Rattle.sql_text.specs.Reading.{Reads};
+ghost use Rattle.sql_text.specs.Reading.{Reads, Keeps};
 ghost use Rattle.sql_text.specs.Rules as spec;
 
-use crate::column::definitions;
+use crate::draft::{Draft, DraftColumn, DraftKey};
 use crate::fault::Fault;
-use crate::list::{assignments, key, names, values};
+use crate::list::items;
 use crate::predicate::whole_predicate;
 use crate::token::{Verb, eat, end, expect, first_word, name};
-use crate::tree::{Columns, Command, Predicate};
-use sql_lex::{Cursor, Terminal};
+use crate::tree::{Assignment, Columns, Literal, Predicate};
+use sql_lex::{Cursor, Part, Terminal};
 use std::alloc::Global;
 
 /// The columns that an INSERT gives.
-#[tactic(auto, unfolding(crate::specs::Rules::listed_at))]
+#[tactic(auto, unfolding(crate::specs::Rules::listed_at, crate::specs::Rules::names_at))]
 pub(crate) fn listed<'a>(
     alloc: Global,
     cursor: Cursor<'a>,
 ) -> Result<(Columns<'a>, Cursor<'a>), Fault>
-    ensures { Reads (spec.listed_at (tokens_ahead cursor.entry)) result }
+    ensures value { Reads (spec.listed_at (tokens_ahead cursor.entry)) result }
+    ensures markers { Keeps cursor.entry result }
 {
     let (opens, rest) = eat(Terminal::Open, cursor);
     if !opens {
         return Ok((Columns::All, rest));
     }
-    let (names, rest) = names(alloc, rest)?;
+    let (names, rest) = items::<Part<'a>>(alloc, rest)?;
     let rest = expect(Terminal::Close, rest)?;
     Ok((Columns::Named(names), rest))
 }
 
 /// The columns that a SELECT asks for.
-#[tactic(auto, unfolding(crate::specs::Rules::selected_at))]
+#[tactic(auto, unfolding(crate::specs::Rules::selected_at, crate::specs::Rules::names_at))]
 pub(crate) fn selected<'a>(
     alloc: Global,
     cursor: Cursor<'a>,
 ) -> Result<(Columns<'a>, Cursor<'a>), Fault>
-    ensures { Reads (spec.selected_at (tokens_ahead cursor.entry)) result }
+    ensures value { Reads (spec.selected_at (tokens_ahead cursor.entry)) result }
+    ensures markers { Keeps cursor.entry result }
 {
     let (all, rest) = eat(Terminal::Star, cursor);
     if all {
         return Ok((Columns::All, rest));
     }
-    let (names, rest) = names(alloc, rest)?;
+    let (names, rest) = items::<Part<'a>>(alloc, rest)?;
     Ok((Columns::Named(names), rest))
 }
 
@@ -53,7 +55,8 @@ pub(crate) fn filter<'a>(
     alloc: Global,
     cursor: Cursor<'a>,
 ) -> Result<(Option<Predicate<'a>>, Cursor<'a>), Fault>
-    ensures { Reads (spec.filter_at (tokens_ahead cursor.entry)) result }
+    ensures value { Reads (spec.filter_at (tokens_ahead cursor.entry)) result }
+    ensures markers { Keeps cursor.entry result }
 {
     let (filters, rest) = eat(Terminal::Where, cursor);
     if !filters {
@@ -63,24 +66,25 @@ pub(crate) fn filter<'a>(
     Ok((Some(predicate), rest))
 }
 
-#[tactic(auto, unfolding(crate::specs::Rules::create_at))]
+#[tactic(auto, unfolding(crate::specs::Rules::create_at, crate::specs::Rules::definitions_at, crate::specs::Rules::key_at))]
 pub(crate) fn create<'a>(
     alloc: Global,
     cursor: Cursor<'a>,
-) -> Result<(Command<'a>, Cursor<'a>), Fault>
-    ensures { Reads (spec.create_at (tokens_ahead cursor.entry)) result }
+) -> Result<(Draft<'a>, Cursor<'a>), Fault>
+    ensures value { Reads (spec.create_at (tokens_ahead cursor.entry)) result }
+    ensures markers { Keeps cursor.entry result }
 {
     let rest = expect(Terminal::Table, cursor)?;
     let (table, rest) = name(rest)?;
     let rest = expect(Terminal::Open, rest)?;
-    let (columns, rest) = definitions(alloc, rest)?;
+    let (columns, rest) = items::<DraftColumn<'a>>(alloc, rest)?;
     let rest = expect(Terminal::Key, rest)?;
     let rest = expect(Terminal::Open, rest)?;
-    let (key, rest) = key(alloc, rest)?;
+    let (key, rest) = items::<DraftKey<'a>>(alloc, rest)?;
     let rest = expect(Terminal::Close, rest)?;
     let rest = expect(Terminal::Close, rest)?;
     Ok((
-        Command::Create {
+        Draft::Create {
             table,
             columns,
             key,
@@ -89,22 +93,23 @@ pub(crate) fn create<'a>(
     ))
 }
 
-#[tactic(auto, unfolding(crate::specs::Rules::insert_at))]
+#[tactic(auto, unfolding(crate::specs::Rules::insert_at, crate::specs::Rules::values_at))]
 pub(crate) fn insert<'a>(
     alloc: Global,
     cursor: Cursor<'a>,
-) -> Result<(Command<'a>, Cursor<'a>), Fault>
-    ensures { Reads (spec.insert_at (tokens_ahead cursor.entry)) result }
+) -> Result<(Draft<'a>, Cursor<'a>), Fault>
+    ensures value { Reads (spec.insert_at (tokens_ahead cursor.entry)) result }
+    ensures markers { Keeps cursor.entry result }
 {
     let rest = expect(Terminal::Into, cursor)?;
     let (table, rest) = name(rest)?;
     let (columns, rest) = listed(alloc, rest)?;
     let rest = expect(Terminal::Values, rest)?;
     let rest = expect(Terminal::Open, rest)?;
-    let (values, rest) = values(alloc, rest)?;
+    let (values, rest) = items::<Literal<'a>>(alloc, rest)?;
     let rest = expect(Terminal::Close, rest)?;
     Ok((
-        Command::Insert {
+        Draft::Insert {
             table,
             columns,
             values,
@@ -113,19 +118,20 @@ pub(crate) fn insert<'a>(
     ))
 }
 
-#[tactic(auto, unfolding(crate::specs::Rules::update_at))]
+#[tactic(auto, unfolding(crate::specs::Rules::update_at, crate::specs::Rules::assignments_at))]
 pub(crate) fn update<'a>(
     alloc: Global,
     cursor: Cursor<'a>,
-) -> Result<(Command<'a>, Cursor<'a>), Fault>
-    ensures { Reads (spec.update_at (tokens_ahead cursor.entry)) result }
+) -> Result<(Draft<'a>, Cursor<'a>), Fault>
+    ensures value { Reads (spec.update_at (tokens_ahead cursor.entry)) result }
+    ensures markers { Keeps cursor.entry result }
 {
     let (table, rest) = name(cursor)?;
     let rest = expect(Terminal::Set, rest)?;
-    let (assignments, rest) = assignments(alloc, rest)?;
+    let (assignments, rest) = items::<Assignment<'a>>(alloc, rest)?;
     let (filter, rest) = filter(alloc, rest)?;
     Ok((
-        Command::Update {
+        Draft::Update {
             table,
             assignments,
             filter,
@@ -138,28 +144,30 @@ pub(crate) fn update<'a>(
 pub(crate) fn delete<'a>(
     alloc: Global,
     cursor: Cursor<'a>,
-) -> Result<(Command<'a>, Cursor<'a>), Fault>
-    ensures { Reads (spec.delete_at (tokens_ahead cursor.entry)) result }
+) -> Result<(Draft<'a>, Cursor<'a>), Fault>
+    ensures value { Reads (spec.delete_at (tokens_ahead cursor.entry)) result }
+    ensures markers { Keeps cursor.entry result }
 {
     let rest = expect(Terminal::From, cursor)?;
     let (table, rest) = name(rest)?;
     let (filter, rest) = filter(alloc, rest)?;
-    Ok((Command::Delete { table, filter }, rest))
+    Ok((Draft::Delete { table, filter }, rest))
 }
 
 #[tactic(auto, unfolding(crate::specs::Rules::select_at))]
 pub(crate) fn select<'a>(
     alloc: Global,
     cursor: Cursor<'a>,
-) -> Result<(Command<'a>, Cursor<'a>), Fault>
-    ensures { Reads (spec.select_at (tokens_ahead cursor.entry)) result }
+) -> Result<(Draft<'a>, Cursor<'a>), Fault>
+    ensures value { Reads (spec.select_at (tokens_ahead cursor.entry)) result }
+    ensures markers { Keeps cursor.entry result }
 {
     let (columns, rest) = selected(alloc, cursor)?;
     let rest = expect(Terminal::From, rest)?;
     let (table, rest) = name(rest)?;
     let (filter, rest) = filter(alloc, rest)?;
     Ok((
-        Command::Select {
+        Draft::Select {
             columns,
             table,
             filter,
@@ -173,8 +181,9 @@ pub(crate) fn by_verb<'a>(
     alloc: Global,
     verb: Verb,
     cursor: Cursor<'a>,
-) -> Result<(Command<'a>, Cursor<'a>), Fault>
-    ensures { Reads (spec.command_by verb (tokens_ahead cursor.entry)) result }
+) -> Result<(Draft<'a>, Cursor<'a>), Fault>
+    ensures value { Reads (spec.command_by verb (tokens_ahead cursor.entry)) result }
+    ensures markers { Keeps cursor.entry result }
 {
     match verb {
         Verb::Create => create(alloc, cursor),
@@ -190,8 +199,9 @@ pub(crate) fn by_verb<'a>(
 pub(crate) fn whole_command<'a>(
     alloc: Global,
     cursor: Cursor<'a>,
-) -> Result<(Command<'a>, Cursor<'a>), Fault>
-    ensures { Reads (spec.command_at (tokens_ahead cursor.entry)) result }
+) -> Result<(Draft<'a>, Cursor<'a>), Fault>
+    ensures value { Reads (spec.command_at (tokens_ahead cursor.entry)) result }
+    ensures markers { Keeps cursor.entry result }
 {
     let (verb, rest) = first_word(cursor)?;
     let (command, rest) = by_verb(alloc, verb, rest)?;

@@ -2,42 +2,57 @@
 
 ghost use Rattle.std.specs.Prelude.{◌≡◌};
 ghost use Rattle.sql_lex.specs.Tokens.{tokens_ahead};
-ghost use Rattle.sql_text.specs.Reading.{Reads};
+ghost use Rattle.sql_text.specs.Reading.{Reads, Keeps};
 ghost use Rattle.sql_text.specs.Rules as spec;
 
 use crate::fault::Fault;
 use crate::list::longest;
-use crate::token::{ValueStart, digits, operation, optional_name, start};
+use crate::token::{TermStart, ValueStart, digits, operation, start, term_start};
 use crate::tree::{Addend, Literal, Sum, Term};
 use sql_lex::Cursor;
 use sqlite_items::Items;
 use std::alloc::Global;
 
-#[tactic(auto, unfolding(crate::specs::Rules::value_at))]
-pub(crate) fn value<'a>(cursor: Cursor<'a>) -> Result<(Literal<'a>, Cursor<'a>), Fault>
-    ensures { Reads (spec.value_at (tokens_ahead cursor.entry)) result }
+/// The value that begins so.
+pub(crate) fn value_behind<'a>(
+    start: ValueStart<'a>,
+    cursor: Cursor<'a>,
+) -> Result<(Literal<'a>, Cursor<'a>), Fault>
+    ensures value { Reads (spec.value_by start.entry (tokens_ahead cursor.entry)) result }
+    ensures markers { Keeps cursor.entry result }
 {
-    let (start, rest) = start(cursor)?;
     match start {
-        ValueStart::Whole(value) => Ok((value, rest)),
+        ValueStart::Whole(value) => Ok((value, cursor)),
         ValueStart::Negative(number) => {
-            let (_, rest) = digits(rest)?;
+            let (_, rest) = digits(cursor)?;
             Ok((Literal::Number(number), rest))
         }
     }
 }
 
+#[tactic(auto, unfolding(crate::specs::Rules::value_at))]
+pub(crate) fn value<'a>(cursor: Cursor<'a>) -> Result<(Literal<'a>, Cursor<'a>), Fault>
+    ensures value { Reads (spec.value_at (tokens_ahead cursor.entry)) result }
+    ensures markers { Keeps cursor.entry result }
+{
+    let (start, rest) = start(cursor)?;
+    value_behind(start, rest)
+}
+
 /// A column where a name comes next, and else a value.
 #[tactic(auto, unfolding(crate::specs::Rules::term_at))]
 pub(crate) fn term<'a>(cursor: Cursor<'a>) -> Result<(Term<'a>, Cursor<'a>), Fault>
-    ensures { Reads (spec.term_at (tokens_ahead cursor.entry)) result }
+    ensures value { Reads (spec.term_at (tokens_ahead cursor.entry)) result }
+    ensures markers { Keeps cursor.entry result }
 {
-    let (name, rest) = optional_name(cursor);
-    if let Some(name) = name {
-        return Ok((Term::Column(name), rest));
+    let (start, rest) = term_start(cursor)?;
+    match start {
+        TermStart::Column(name) => Ok((Term::Column(name), rest)),
+        TermStart::Value(start) => {
+            let (value, rest) = value_behind(start, rest)?;
+            Ok((Term::Value(value), rest))
+        }
     }
-    let (value, rest) = value(rest)?;
-    Ok((Term::Value(value), rest))
 }
 
 /// The further terms of a sum.
@@ -45,7 +60,8 @@ pub(crate) fn addends<'a>(
     alloc: Global,
     cursor: Cursor<'a>,
 ) -> Result<(Items<Addend<'a>>, Cursor<'a>), Fault>
-    ensures { Reads (spec.addends_at (tokens_ahead cursor.entry)) result }
+    ensures value { Reads (spec.addends_at (tokens_ahead cursor.entry)) result }
+    ensures markers { Keeps cursor.entry result }
 {
     let turns = longest();
     let mut found = Items::new(alloc);
@@ -64,7 +80,8 @@ pub(crate) fn addends<'a>(
 
 #[tactic(auto, unfolding(crate::specs::Rules::sum_at))]
 pub(crate) fn sum<'a>(alloc: Global, cursor: Cursor<'a>) -> Result<(Sum<'a>, Cursor<'a>), Fault>
-    ensures { Reads (spec.sum_at (tokens_ahead cursor.entry)) result }
+    ensures value { Reads (spec.sum_at (tokens_ahead cursor.entry)) result }
+    ensures markers { Keeps cursor.entry result }
 {
     let (first, rest) = term(cursor)?;
     let (addends, rest) = addends(alloc, rest)?;

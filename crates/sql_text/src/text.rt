@@ -8,14 +8,17 @@ ghost use Rattle.sql_text.specs.Checks as checks;
 ghost use Rattle.sql_text.specs.Place.{Explains};
 ghost use Rattle.sql_text.specs.Text as spec;
 ghost use Rattle.sql_text.specs.Text.{but_memory};
+ghost use Rattle.sql_text.specs.Valid.{IsValidStatement};
 ghost use Rattle.sql_text.specs.declared.error.SqlError.TheVariants as error;
 
-use crate::check::{Refusal, markers_in, refusal_of};
+use crate::check::{Refusal, refusal_of};
+use crate::draft::{Draft, command};
 use crate::error::SqlError;
 use crate::fault::Fault;
 use crate::statement::whole_command;
-use crate::tree::{Command, Statement};
+use crate::tree::Statement;
 use sql_lex::Cursor;
+use sql_lex::laws::{markers_are_numbered, texts_are_utf8, tokens_are_spelled_so};
 use std::alloc::Global;
 
 fn refusal_error(length: usize, refusal: Refusal) -> SqlError
@@ -44,14 +47,18 @@ fn fault_error(length: usize, fault: Fault) -> SqlError
 
 /// The statement, unless a check refuses it.
 fn judged<'a>(
+    alloc: Global,
     length: usize,
     markers: usize,
-    command: Command<'a>,
+    draft: Draft<'a>,
 ) -> Result<Statement<'a>, SqlError>
-    ensures { result ≡ spec.answer_by length markers command.entry (checks.refusal_of markers command.entry) }
+    ensures { Answers (λ s. s) but_memory result (spec.answer_by length markers draft.entry (checks.refusal_of markers draft.entry)) }
 {
-    match refusal_of(markers, &command) {
-        None => Ok(Statement { command, markers }),
+    match refusal_of(markers, &draft) {
+        None => {
+            let command = command(alloc, draft)?;
+            Ok(Statement { command, markers })
+        }
         Some(refusal) => Err(refusal_error(length, refusal)),
     }
 }
@@ -62,7 +69,7 @@ fn read<'a>(alloc: Global, text: &'a [u8]) -> Result<Statement<'a>, SqlError>
     ensures { Answers (λ s. s) but_memory result (spec.reading text.now) }
 {
     match whole_command(alloc, Cursor::new(text)) {
-        Ok((command, _)) => judged(text.len(), markers_in(text), command),
+        Ok((draft, rest)) => judged(alloc, text.len(), rest.markers(), draft),
         Err(fault) => Err(fault_error(text.len(), fault)),
     }
 }
@@ -79,14 +86,19 @@ fn read<'a>(alloc: Global, text: &'a [u8]) -> Result<Statement<'a>, SqlError>
 pub fn parse<'a>(alloc: Global, text: &'a str) -> Result<Statement<'a>, SqlError>
     ensures too_long { 32767 < length text.now → result ≡ Err error.Limit }
     // What is parsed is in the grammar.
-    ensures found { IfOk result (λ s. IsStatement s.command (tokens text.now) × (spec.answer text.now s.command ≡ Ok s)) }
+    ensures found { IfOk result (λ s. (d : Tree) × IsStatement d (tokens text.now) × (spec.answer text.now d ≡ Ok s)) }
     // What is in the grammar is parsed, or refused by what is checked behind it.
-    ensures only { (c : Tree) → length text.now ≤ 32767 → IsStatement c (tokens text.now) → Answers (λ s. s) but_memory result (spec.answer text.now c) }
+    ensures only { (d : Tree) → length text.now ≤ 32767 → IsStatement d (tokens text.now) → Answers (λ s. s) but_memory result (spec.answer text.now d) }
     // What is refused is refused for a reason that stands where it says: at the first token that
     // no statement can have there, at what a check refuses, or for a limit.
     ensures refused { IfErr result (λ e. Explains text.now e) }
+    // What is parsed is what plain words say.
+    ensures valid { IfOk result IsValidStatement }
     ensures exact { length text.now ≤ 32767 → Answers (λ s. s) but_memory result (spec.reading text.now) }
 {
+    tokens_are_spelled_so();
+    texts_are_utf8();
+    markers_are_numbered();
     let bytes = text.as_bytes();
     if bytes.len() > 32767 {
         return Err(SqlError::Limit);

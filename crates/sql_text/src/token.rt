@@ -1,13 +1,15 @@
 //! Reads single tokens.
 
-ghost use Rattle.std.specs.Prelude.{◌≡◌, Ok};
+ghost use Rattle.std.specs.Prelude.{◌≡◌, Ok, IfOk};
+ghost use Rattle.sql_lex.specs.Markers.{markers_of};
 ghost use Rattle.sql_lex.specs.Tokens.{tokens_ahead};
 ghost use Rattle.sql_text.specs.Reading as spec;
-ghost use Rattle.sql_text.specs.Reading.{Reads, Passes};
+ghost use Rattle.sql_text.specs.Reading.{Reads, Passes, Keeps};
 
+use crate::draft::DraftType;
 use crate::fault::Fault;
 use crate::number::{is_bigint, is_negative_bigint, length_of};
-use crate::tree::{ColumnType, Literal, Operation};
+use crate::tree::{Literal, Operation};
 use sql_lex::{Comparison, Cursor, Part, Terminal, Token};
 
 /// What a value begins with.
@@ -19,11 +21,19 @@ pub(crate) enum ValueStart<'a> {
     Negative(Part<'a>),
 }
 
+/// What a term begins with.
+#[derive(Drop)]
+pub(crate) enum TermStart<'a> {
+    /// The name of a column.
+    Column(Part<'a>),
+    Value(ValueStart<'a>),
+}
+
 /// What a column's type begins with.
 #[derive(Clone, Copy)]
 pub(crate) enum TypeWord {
     /// The type.
-    Whole(ColumnType),
+    Whole(DraftType),
     OfText,
     OfBytes,
 }
@@ -38,14 +48,24 @@ pub(crate) enum Verb {
     Select,
 }
 
+/// The next token, and how many bytes there are from it on. At the end of the text no rule goes on.
+pub(crate) fn next<'a>(cursor: Cursor<'a>) -> Result<((Token<'a>, usize), Cursor<'a>), Fault>
+    ensures value { Reads (spec.next_at (tokens_ahead cursor.entry)) result }
+    ensures markers { Keeps cursor.entry result }
+{
+    match cursor.next() {
+        Some((token, left, rest)) => Ok(((token, left), rest)),
+        None => Err(Fault::Unexpected(0)),
+    }
+}
+
 /// Takes this token, which has to come next.
 #[tactic(auto, unfolding(crate::specs::Reading::the))]
 pub(crate) fn expect<'a>(want: Terminal, cursor: Cursor<'a>) -> Result<Cursor<'a>, Fault>
-    ensures { Passes (spec.the want (tokens_ahead cursor.entry)) result }
+    ensures value { Passes (spec.the want (tokens_ahead cursor.entry)) result }
+    ensures markers { IfOk result (λ rest. markers_of rest ≡ markers_of cursor.entry) }
 {
-    let Some((token, left, rest)) = cursor.next() else {
-        return Err(Fault::Unexpected(0));
-    };
+    let ((token, left), rest) = next(cursor)?;
     match token {
         Token::Fixed(found) if found.is(want) => Ok(rest),
         _ => Err(Fault::Unexpected(left)),
@@ -55,7 +75,8 @@ pub(crate) fn expect<'a>(want: Terminal, cursor: Cursor<'a>) -> Result<Cursor<'a
 /// Whether this token comes next, which is then taken.
 #[tactic(auto, unfolding(crate::specs::Reading::may))]
 pub(crate) fn eat<'a>(want: Terminal, cursor: Cursor<'a>) -> (bool, Cursor<'a>)
-    ensures { spec.may want (tokens_ahead cursor.entry) ≡ Ok (result.0, tokens_ahead result.1) }
+    ensures value { spec.may want (tokens_ahead cursor.entry) ≡ Ok (result.0, tokens_ahead result.1) }
+    ensures markers { markers_of result.1 ≡ markers_of cursor.entry }
 {
     let Some((token, _, rest)) = cursor.next() else {
         return (false, cursor);
@@ -68,39 +89,23 @@ pub(crate) fn eat<'a>(want: Terminal, cursor: Cursor<'a>) -> (bool, Cursor<'a>)
 
 #[tactic(auto, unfolding(crate::specs::Reading::name_at))]
 pub(crate) fn name<'a>(cursor: Cursor<'a>) -> Result<(Part<'a>, Cursor<'a>), Fault>
-    ensures { Reads (spec.name_at (tokens_ahead cursor.entry)) result }
+    ensures value { Reads (spec.name_at (tokens_ahead cursor.entry)) result }
+    ensures markers { Keeps cursor.entry result }
 {
-    let Some((token, left, rest)) = cursor.next() else {
-        return Err(Fault::Unexpected(0));
-    };
+    let ((token, left), rest) = next(cursor)?;
     match token {
         Token::Name(name) => Ok((name, rest)),
         _ => Err(Fault::Unexpected(left)),
     }
 }
 
-/// A name, if one comes next.
-#[tactic(auto, unfolding(crate::specs::Reading::optional_name_at))]
-pub(crate) fn optional_name<'a>(cursor: Cursor<'a>) -> (Option<Part<'a>>, Cursor<'a>)
-    ensures { spec.optional_name_at (tokens_ahead cursor.entry) ≡ Ok (result.0, tokens_ahead result.1) }
-{
-    let Some((token, _, rest)) = cursor.next() else {
-        return (None, cursor);
-    };
-    match token {
-        Token::Name(name) => (Some(name), rest),
-        _ => (None, cursor),
-    }
-}
-
 /// A name, and its place.
 #[tactic(auto, unfolding(crate::specs::Reading::placed_name_at))]
 pub(crate) fn placed_name<'a>(cursor: Cursor<'a>) -> Result<((Part<'a>, usize), Cursor<'a>), Fault>
-    ensures { Reads (spec.placed_name_at (tokens_ahead cursor.entry)) result }
+    ensures value { Reads (spec.placed_name_at (tokens_ahead cursor.entry)) result }
+    ensures markers { Keeps cursor.entry result }
 {
-    let Some((token, left, rest)) = cursor.next() else {
-        return Err(Fault::Unexpected(0));
-    };
+    let ((token, left), rest) = next(cursor)?;
     match token {
         Token::Name(name) => Ok(((name, left), rest)),
         _ => Err(Fault::Unexpected(left)),
@@ -109,11 +114,10 @@ pub(crate) fn placed_name<'a>(cursor: Cursor<'a>) -> Result<((Part<'a>, usize), 
 
 #[tactic(auto, unfolding(crate::specs::Reading::digits_at))]
 pub(crate) fn digits<'a>(cursor: Cursor<'a>) -> Result<(Part<'a>, Cursor<'a>), Fault>
-    ensures { Reads (spec.digits_at (tokens_ahead cursor.entry)) result }
+    ensures value { Reads (spec.digits_at (tokens_ahead cursor.entry)) result }
+    ensures markers { Keeps cursor.entry result }
 {
-    let Some((token, left, rest)) = cursor.next() else {
-        return Err(Fault::Unexpected(0));
-    };
+    let ((token, left), rest) = next(cursor)?;
     match token {
         Token::Number(digits) => Ok((digits, rest)),
         _ => Err(Fault::Unexpected(left)),
@@ -123,11 +127,10 @@ pub(crate) fn digits<'a>(cursor: Cursor<'a>) -> Result<(Part<'a>, Cursor<'a>), F
 /// The length of a type, and its place.
 #[tactic(auto, unfolding(crate::specs::Reading::length_at))]
 pub(crate) fn length<'a>(cursor: Cursor<'a>) -> Result<((usize, usize), Cursor<'a>), Fault>
-    ensures { Reads (spec.length_at (tokens_ahead cursor.entry)) result }
+    ensures value { Reads (spec.length_at (tokens_ahead cursor.entry)) result }
+    ensures markers { Keeps cursor.entry result }
 {
-    let Some((token, left, rest)) = cursor.next() else {
-        return Err(Fault::Unexpected(0));
-    };
+    let ((token, left), rest) = next(cursor)?;
     match token {
         Token::Number(digits) => Ok(((length_of(digits.bytes()), left), rest)),
         _ => Err(Fault::Unexpected(left)),
@@ -136,11 +139,10 @@ pub(crate) fn length<'a>(cursor: Cursor<'a>) -> Result<((usize, usize), Cursor<'
 
 #[tactic(auto, unfolding(crate::specs::Reading::comparison_at))]
 pub(crate) fn comparison<'a>(cursor: Cursor<'a>) -> Result<(Comparison, Cursor<'a>), Fault>
-    ensures { Reads (spec.comparison_at (tokens_ahead cursor.entry)) result }
+    ensures value { Reads (spec.comparison_at (tokens_ahead cursor.entry)) result }
+    ensures markers { Keeps cursor.entry result }
 {
-    let Some((token, left, rest)) = cursor.next() else {
-        return Err(Fault::Unexpected(0));
-    };
+    let ((token, left), rest) = next(cursor)?;
     match token {
         Token::Compare(comparison) => Ok((comparison, rest)),
         _ => Err(Fault::Unexpected(left)),
@@ -150,11 +152,10 @@ pub(crate) fn comparison<'a>(cursor: Cursor<'a>) -> Result<(Comparison, Cursor<'
 /// The `=` of an assignment.
 #[tactic(auto, unfolding(crate::specs::Reading::equal_at))]
 pub(crate) fn equal<'a>(cursor: Cursor<'a>) -> Result<Cursor<'a>, Fault>
-    ensures { Passes (spec.equal_at (tokens_ahead cursor.entry)) result }
+    ensures value { Passes (spec.equal_at (tokens_ahead cursor.entry)) result }
+    ensures markers { IfOk result (λ rest. markers_of rest ≡ markers_of cursor.entry) }
 {
-    let Some((token, left, rest)) = cursor.next() else {
-        return Err(Fault::Unexpected(0));
-    };
+    let ((token, left), rest) = next(cursor)?;
     match token {
         Token::Compare(Comparison::Equal) => Ok(rest),
         _ => Err(Fault::Unexpected(left)),
@@ -164,7 +165,8 @@ pub(crate) fn equal<'a>(cursor: Cursor<'a>) -> Result<Cursor<'a>, Fault>
 /// The sign before a further term of a sum, if one comes next.
 #[tactic(auto, unfolding(crate::specs::Reading::operation_at))]
 pub(crate) fn operation<'a>(cursor: Cursor<'a>) -> (Option<Operation>, Cursor<'a>)
-    ensures { spec.operation_at (tokens_ahead cursor.entry) ≡ Ok (result.0, tokens_ahead result.1) }
+    ensures value { spec.operation_at (tokens_ahead cursor.entry) ≡ Ok (result.0, tokens_ahead result.1) }
+    ensures markers { markers_of result.1 ≡ markers_of cursor.entry }
 {
     let Some((token, _, rest)) = cursor.next() else {
         return (None, cursor);
@@ -202,12 +204,35 @@ fn start_of<'a>(token: Token<'a>) -> Option<ValueStart<'a>>
 
 #[tactic(auto, unfolding(crate::specs::Reading::start_at))]
 pub(crate) fn start<'a>(cursor: Cursor<'a>) -> Result<(ValueStart<'a>, Cursor<'a>), Fault>
-    ensures { Reads (spec.start_at (tokens_ahead cursor.entry)) result }
+    ensures value { Reads (spec.start_at (tokens_ahead cursor.entry)) result }
+    ensures markers { Keeps cursor.entry result }
 {
-    let Some((token, left, rest)) = cursor.next() else {
-        return Err(Fault::Unexpected(0));
-    };
+    let ((token, left), rest) = next(cursor)?;
     match start_of(token) {
+        Some(start) => Ok((start, rest)),
+        None => Err(Fault::Unexpected(left)),
+    }
+}
+
+fn term_start_of<'a>(token: Token<'a>) -> Option<TermStart<'a>>
+    ensures { result ≡ spec.as_term token.entry }
+{
+    match token {
+        Token::Name(name) => Some(TermStart::Column(name)),
+        token => match start_of(token) {
+            Some(start) => Some(TermStart::Value(start)),
+            None => None,
+        },
+    }
+}
+
+#[tactic(auto, unfolding(crate::specs::Reading::term_start_at))]
+pub(crate) fn term_start<'a>(cursor: Cursor<'a>) -> Result<(TermStart<'a>, Cursor<'a>), Fault>
+    ensures value { Reads (spec.term_start_at (tokens_ahead cursor.entry)) result }
+    ensures markers { Keeps cursor.entry result }
+{
+    let ((token, left), rest) = next(cursor)?;
+    match term_start_of(token) {
         Some(start) => Ok((start, rest)),
         None => Err(Fault::Unexpected(left)),
     }
@@ -217,11 +242,11 @@ fn type_word_of(token: &Token<'_>) -> Option<TypeWord>
     ensures { result ≡ spec.as_type token.now }
 {
     match token {
-        Token::Fixed(Terminal::SmallInt) => Some(TypeWord::Whole(ColumnType::SmallInt)),
+        Token::Fixed(Terminal::SmallInt) => Some(TypeWord::Whole(DraftType::SmallInt)),
         Token::Fixed(Terminal::Integer | Terminal::Int) => {
-            Some(TypeWord::Whole(ColumnType::Integer))
+            Some(TypeWord::Whole(DraftType::Integer))
         }
-        Token::Fixed(Terminal::BigInt) => Some(TypeWord::Whole(ColumnType::BigInt)),
+        Token::Fixed(Terminal::BigInt) => Some(TypeWord::Whole(DraftType::BigInt)),
         Token::Fixed(Terminal::VarChar) => Some(TypeWord::OfText),
         Token::Fixed(Terminal::VarBinary) => Some(TypeWord::OfBytes),
         _ => None,
@@ -230,11 +255,10 @@ fn type_word_of(token: &Token<'_>) -> Option<TypeWord>
 
 #[tactic(auto, unfolding(crate::specs::Reading::type_word_at))]
 pub(crate) fn type_word<'a>(cursor: Cursor<'a>) -> Result<(TypeWord, Cursor<'a>), Fault>
-    ensures { Reads (spec.type_word_at (tokens_ahead cursor.entry)) result }
+    ensures value { Reads (spec.type_word_at (tokens_ahead cursor.entry)) result }
+    ensures markers { Keeps cursor.entry result }
 {
-    let Some((token, left, rest)) = cursor.next() else {
-        return Err(Fault::Unexpected(0));
-    };
+    let ((token, left), rest) = next(cursor)?;
     match type_word_of(&token) {
         Some(word) => Ok((word, rest)),
         None => Err(Fault::Unexpected(left)),
@@ -256,11 +280,10 @@ fn verb_of(token: &Token<'_>) -> Option<Verb>
 
 #[tactic(auto, unfolding(crate::specs::Reading::verb_at))]
 pub(crate) fn first_word<'a>(cursor: Cursor<'a>) -> Result<(Verb, Cursor<'a>), Fault>
-    ensures { Reads (spec.verb_at (tokens_ahead cursor.entry)) result }
+    ensures value { Reads (spec.verb_at (tokens_ahead cursor.entry)) result }
+    ensures markers { Keeps cursor.entry result }
 {
-    let Some((token, left, rest)) = cursor.next() else {
-        return Err(Fault::Unexpected(0));
-    };
+    let ((token, left), rest) = next(cursor)?;
     match verb_of(&token) {
         Some(verb) => Ok((verb, rest)),
         None => Err(Fault::Unexpected(left)),
@@ -270,7 +293,8 @@ pub(crate) fn first_word<'a>(cursor: Cursor<'a>) -> Result<(Verb, Cursor<'a>), F
 /// The end of the text.
 #[tactic(auto, unfolding(crate::specs::Reading::end_at))]
 pub(crate) fn end<'a>(cursor: Cursor<'a>) -> Result<Cursor<'a>, Fault>
-    ensures { Passes (spec.end_at (tokens_ahead cursor.entry)) result }
+    ensures value { Passes (spec.end_at (tokens_ahead cursor.entry)) result }
+    ensures markers { IfOk result (λ rest. markers_of rest ≡ markers_of cursor.entry) }
 {
     match cursor.next() {
         None => Ok(cursor),

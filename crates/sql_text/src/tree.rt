@@ -1,7 +1,5 @@
 //! Statements, whose names and literals lie in the text.
 
-ghost use Rattle.std.specs.Prelude.{◌≡◌};
-
 use sql_lex::{Comparison, Part};
 use sqlite_items::{Boxed, Items};
 
@@ -68,19 +66,16 @@ pub enum ColumnType {
     SmallInt,
     Integer,
     BigInt,
-    /// At most so many bytes of text. `left` counts the bytes of the statement from this length
-    /// on.
-    VarChar { length: usize, left: usize },
-    /// At most so many bytes. `left` counts the bytes of the statement from this length on.
-    VarBinary { length: usize, left: usize },
+    /// At most so many bytes of text.
+    VarChar { length: usize },
+    /// At most so many bytes.
+    VarBinary { length: usize },
 }
 
 /// A column of a table to be made.
 #[derive(Drop)]
 pub struct Definition<'a> {
     pub name: Part<'a>,
-    /// How many bytes of the statement there are from the name on.
-    pub left: usize,
     pub column_type: ColumnType,
     pub nullable: bool,
 }
@@ -89,8 +84,6 @@ pub struct Definition<'a> {
 #[derive(Drop)]
 pub struct KeyColumn<'a> {
     pub name: Part<'a>,
-    /// How many bytes of the statement there are from the name on.
-    pub left: usize,
 }
 
 /// A column, and the sum that becomes its value.

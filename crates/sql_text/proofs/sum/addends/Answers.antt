@@ -7,23 +7,23 @@ use Rattle.sql_text.proofs.sum.addends.Goals as goal
 
 pub loop-turn-init : goal.loop-turn-init
 unfolding addends_at
-loop-turn-init c = record { same = begun (λ n found. addends_from n found (tokens_ahead c.args.cursor)) _ _ _ _ c.longest-turns.ensures c.new-found.ensures }
+loop-turn-init c = record { same = begun (λ n found. addends_from n found (tokens_ahead c.args.cursor)) _ _ _ _ c.longest-turns.ensures c.new-found.ensures; markers = first_of (search rules, grind (arith, common_steps)) }
 
-pub returns-in_default : goal.returns-in_default
+pub returns-in_default-clause-value : goal.returns-in_default-clause-value
 unfolding addends_from
-returns-in_default c =
+returns-in_default-clause-value c =
     let e = one_more (λ n. addends_from n c.loop-turn.found (tokens_ahead c.loop-turn.rest)) _ c.loop-turn._turn c.loop-turn-test.true c.loop-turn.invariant.same in
     first_of (search rules, grind (arith, common_steps))
 
-pub returns-in_err-term : goal.returns-in_err-term
+pub returns-in_err-term-clause-value : goal.returns-in_err-term-clause-value
 unfolding addends_from
-returns-in_err-term c =
+returns-in_err-term-clause-value c =
     let e = one_more (λ n. addends_from n c.loop-turn.found (tokens_ahead c.loop-turn.rest)) _ c.loop-turn._turn c.loop-turn-test.true c.loop-turn.invariant.same in
     first_of (search rules, grind (arith, common_steps))
 
-pub returns : goal.returns
+pub returns-clause-value : goal.returns-clause-value
 unfolding addends_from
-returns c =
+returns-clause-value c =
     let e = no_more (λ n. addends_from n c.loop-turn.found (tokens_ahead c.loop-turn.rest)) _ c.loop-turn._turn c.loop-turn-test.false c.loop-turn.invariant.same in
     first_of (search rules, grind (arith, common_steps))
 
@@ -31,4 +31,4 @@ pub loop-turn-preserved : goal.loop-turn-preserved
 unfolding addends_from
 loop-turn-preserved c =
     let e = one_more (λ n. addends_from n c.loop-turn.found (tokens_ahead c.loop-turn.rest)) _ c.loop-turn._turn c.loop-turn-test.true c.loop-turn.invariant.same in
-    record { same = first_of (search rules, grind (arith, common_steps)) }
+    record { same = first_of (search rules, grind (arith, common_steps)); markers = first_of (search rules, grind (arith, common_steps)) }

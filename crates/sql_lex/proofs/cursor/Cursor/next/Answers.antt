@@ -1,7 +1,8 @@
 use Rattle.std.proofs.Common.{◌≡◌, ◌<◌, ◌≤◌, length, sym, ◌∙◌, ap, arith, rules}
 use Rattle.std.proofs.lemmas.List.{take_rest}
-use Rattle.sql_lex.specs.Tokens.{token, tokens_ahead}
+use Rattle.sql_lex.specs.Tokens.{token, tokens_ahead, counted}
 use Rattle.sql_lex.proofs.Ahead.{ahead-none, ahead-next}
+use Rattle.sql_lex.proofs.Numbered.{counts_on}
 use Rattle.sql_lex.proofs.cursor.Cursor.next.Goals as goal
 
 pub returns-clause-token : goal.returns-clause-token
@@ -19,3 +20,8 @@ returns-then-is_empty-clause-token c =
     let view : c.args.self.now ≡ (c.self.inside.markers, c.self.inside.text.now) = first_of (cc, search rules) in
     let none : length c.skip_blanks-text.result.now ≡ 0 = first_of (omega arith, search rules) in
     ap tokens_ahead view ∙ sym c.skip_blanks-text.ensures.rest ∙ ahead-none _ _ none
+
+pub returns-clause-markers : goal.returns-clause-markers
+returns-clause-markers c =
+    let view : c.args.self.now ≡ (c.self.inside.markers, c.self.inside.text.now) = first_of (cc, search rules) in
+    counts_on _ _ c.token-token.result.0 _ (returns-clause-token c) (c.counted-markers.ensures ∙ ap (λ x. counted c.token-token.result.0 x.0) (sym view))
