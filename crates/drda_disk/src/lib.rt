@@ -9,8 +9,6 @@ mod laws;
 mod memory;
 mod region;
 mod replay;
-#[cfg(test)]
-mod tests;
 mod through;
 
 pub use disk::{Disk, DiskFault};

@@ -9,8 +9,6 @@ mod laws;
 mod lay;
 mod open;
 mod record;
-#[cfg(test)]
-mod tests;
 
 pub use errors::{AppendError, Full, LayError, OpenError};
 pub use journal::Journal;
