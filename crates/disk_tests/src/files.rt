@@ -1,12 +1,12 @@
 //! Real files as disks.
 use crate::bytes_on_a_disk::{TEN, TEN_AT_3, ZEROS, first_16, put};
-use drda_disk::{Disk, DiskFault, FileDisk, FileFault};
+use drda_disk::{Disk, DiskFault, FileDisk, FileFault, FilePath, SystemFile};
 use std::fs::{self, OpenFile, OpenOptions};
 use std::io::ErrorKind;
 use std::process;
 use std::test::Fail;
 
-fn refused_as(fault: Result<FileDisk, FileFault>) -> Option<ErrorKind> {
+fn refused_as(fault: Result<FileDisk<SystemFile>, FileFault>) -> Option<ErrorKind> {
     match fault {
         Err(FileFault::Io(error)) => Some(error.kind()),
         _ => None,
@@ -22,7 +22,7 @@ fn path_in_temp(rt: &HostRuntime, name: &str) -> Result<String, Fail> {
 #[test]
 fn a_file_is_a_disk(rt: HostRuntime) -> Result<(), Fail> {
     let path = path_in_temp(&rt, "is_a_disk")?;
-    let mut disk = FileDisk::create(&rt, path.as_str(), 16)?;
+    let mut disk = FileDisk::create(&mut FilePath::new(&rt, path.as_str()), 16)?;
     let before = first_16(&mut disk);
     let wrote = put(&mut disk, 3, &TEN);
     let synced = disk.sync();
@@ -31,7 +31,7 @@ fn a_file_is_a_disk(rt: HostRuntime) -> Result<(), Fail> {
     assert_eq!(rt; (wrote, synced, disk.failures()), (Ok(()), Ok(()), 0));
     drop(disk);
 
-    let mut again = FileDisk::open(&rt, path.as_str())?;
+    let mut again = FileDisk::open(&mut FilePath::new(&rt, path.as_str()))?;
     assert_eq!(rt; (again.size(), first_16(&mut again)), (16, Ok(TEN_AT_3)));
     fs::remove_file(&rt, path.as_str())?;
     Ok(())
@@ -40,7 +40,7 @@ fn a_file_is_a_disk(rt: HostRuntime) -> Result<(), Fail> {
 #[test]
 fn a_file_that_was_cut_off_is_a_fault(rt: HostRuntime) -> Result<(), Fail> {
     let path = path_in_temp(&rt, "cut_off")?;
-    let mut disk = FileDisk::create(&rt, path.as_str(), 16)?;
+    let mut disk = FileDisk::create(&mut FilePath::new(&rt, path.as_str()), 16)?;
     // Somebody cuts the file off behind the disk's back: a read past its end is a fault.
     OpenOptions::new()
         .write(true)
@@ -56,11 +56,14 @@ fn a_file_that_was_cut_off_is_a_fault(rt: HostRuntime) -> Result<(), Fail> {
 fn a_file_has_one_disk(rt: HostRuntime) -> Result<(), Fail> {
     let path = path_in_temp(&rt, "one_disk")?;
     let path = path.as_str();
-    let missing = refused_as(FileDisk::open(&rt, path));
-    let too_long = refused_as(FileDisk::create(&rt, path, usize::MAX));
-    let disk = FileDisk::create(&rt, path, 16)?;
-    let is_in_use = matches!(FileDisk::open(&rt, path), Err(FileFault::InUse));
-    let is_there = refused_as(FileDisk::create(&rt, path, 16));
+    let missing = refused_as(FileDisk::open(&mut FilePath::new(&rt, path)));
+    let too_long = refused_as(FileDisk::create(&mut FilePath::new(&rt, path), usize::MAX));
+    let disk = FileDisk::create(&mut FilePath::new(&rt, path), 16)?;
+    let is_in_use = matches!(
+        FileDisk::open(&mut FilePath::new(&rt, path)),
+        Err(FileFault::InUse)
+    );
+    let is_there = refused_as(FileDisk::create(&mut FilePath::new(&rt, path), 16));
     drop(disk);
     fs::remove_file(&rt, path)?;
     assert_eq!(rt;
@@ -77,7 +80,7 @@ fn a_file_has_one_disk(rt: HostRuntime) -> Result<(), Fail> {
 #[test]
 fn a_folder_is_no_disk(rt: HostRuntime) -> Result<(), Fail> {
     let folder = std::env::temp_dir(&rt)?;
-    let fault = refused_as(FileDisk::open(&rt, folder.as_str()));
+    let fault = refused_as(FileDisk::open(&mut FilePath::new(&rt, folder.as_str())));
     assert_eq!(rt; fault, Some(ErrorKind::IsADirectory));
     Ok(())
 }
@@ -86,11 +89,11 @@ fn a_folder_is_no_disk(rt: HostRuntime) -> Result<(), Fail> {
 fn a_file_that_may_not_be_written_is_no_disk(rt: HostRuntime) -> Result<(), Fail> {
     let path = path_in_temp(&rt, "read_only")?;
     let path = path.as_str();
-    drop(FileDisk::create(&rt, path, 16)?);
+    drop(FileDisk::create(&mut FilePath::new(&rt, path), 16)?);
     let mut permissions = fs::metadata(&rt, path)?.permissions();
     permissions.set_readonly(true);
     fs::set_permissions(&rt, path, permissions)?;
-    let opened = FileDisk::open(&rt, path);
+    let opened = FileDisk::open(&mut FilePath::new(&rt, path));
     fs::remove_file(&rt, path)?;
     // The system lets a privileged user write all the same.
     let is_right = match opened {

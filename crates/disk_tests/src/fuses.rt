@@ -86,3 +86,14 @@ fn a_write_through_stays(rt: HostRuntime) -> Result<(), Fail> {
     }
     Ok(())
 }
+
+#[test]
+fn a_fuse_adds_no_sync(rt: HostRuntime) -> Result<(), Fail> {
+    let mut disk = FuseDisk::new(MemDisk::new(rt.alloc(), 16)?, 2, false);
+    let wrote = put(&mut disk, 3, &TEN);
+    let read = first_16(&mut disk);
+    assert_eq!(rt; (wrote, read), (Ok(()), Ok(TEN_AT_3)));
+    let mut left = disk.into_inner().after_crash(0);
+    assert_eq!(rt; first_16(&mut left)?, ZEROS);
+    Ok(())
+}

@@ -34,6 +34,7 @@ pub fn open<D: Disk>(
 }
 
 pub fn lay<D: Disk>(
+    alloc: Global,
     disk: &mut D,
     region: Region,
     records: &[Record],
@@ -42,7 +43,7 @@ pub fn lay<D: Disk>(
     if !may_be_a_journal(disk, region) {
         return Err(LayError::DeviceFailed);
     }
-    Journal::lay(disk, region, records, held)
+    Journal::lay(alloc, disk, region, records, held)
 }
 
 /// What an append says, and what it holds and releases.

@@ -41,7 +41,7 @@ fn laid_with<D: Disk>(
     records: &[Record],
     held: usize,
 ) -> Result<(Result<usize, (usize, usize)>, Result<usize, usize>), Fail> {
-    let room = match lay(disk, SMALL, records, held) {
+    let room = match lay(alloc, disk, SMALL, records, held) {
         Ok(journal) => Ok(journal.room()),
         Err(LayError::Full(Full { need, room })) => Err((need, room)),
         Err(error) => return Err(error.into()),
@@ -75,7 +75,7 @@ fn a_laid_record_is_the_same(rt: HostRuntime) -> Result<(), Fail> {
     let mut disk = MemDisk::new(rt.alloc(), 64)?;
     let _ = begun_anew(rt.alloc(), &mut disk)?;
     let (_, records) = open(rt.alloc(), &mut disk, SMALL)?;
-    let mut journal = lay(&mut disk, SMALL, &records, 31)?;
+    let mut journal = lay(rt.alloc(), &mut disk, SMALL, &records, 31)?;
     assert_eq!(rt; journal.hold(1), Err(Full { need: 1, room: 0 }));
     let (_, found) = open(rt.alloc(), &mut disk, SMALL)?;
     for record in &found {

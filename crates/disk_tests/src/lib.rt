@@ -8,6 +8,8 @@ mod changed_bytes;
 #[cfg(test)]
 mod crashes;
 #[cfg(test)]
+mod fake_file;
+#[cfg(test)]
 mod files;
 #[cfg(test)]
 mod full_journals;
@@ -17,5 +19,7 @@ mod fuses;
 mod journals;
 #[cfg(test)]
 mod laid_records;
+#[cfg(test)]
+mod short_files;
 #[cfg(test)]
 mod stops;

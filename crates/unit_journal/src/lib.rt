@@ -13,5 +13,5 @@ mod record;
 pub use errors::{AppendError, Full, LayError, OpenError};
 pub use journal::Journal;
 pub use kind::Kind;
-pub use laws::a_region_has_one_reading;
+pub use laws::{a_region_has_one_reading, a_region_has_some_reading};
 pub use record::Record;
