@@ -1,4 +1,5 @@
 mod Recorded
 mod Replaying
+mod Transfers
 pub mod Moments
 pub mod Parts

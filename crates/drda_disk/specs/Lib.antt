@@ -2,10 +2,12 @@ pub mod Disk
 pub mod Count
 pub mod Region
 pub mod Replay
+pub mod Recorded
 pub mod Images
 pub mod MemDisk
 pub mod Fuse
 pub mod FuseDisk
 pub mod File
+pub mod PositionalFile
 pub mod FileDisk
 pub mod Through

@@ -2,34 +2,16 @@
 use Rattle.std.specs.Prelude.{◌≡◌, ℕ, ◌+◌, ◌≤◌, List, [], ◌∷◌, length, take, drop, reverse, nat_le, if◌then◌else◌}
 use Rattle.std.proofs.Common.{arith}
 use Rattle.drda_disk.specs.Disk.{Torn, overlaid, Life}
-use Rattle.drda_disk.specs.declared.replay.Call.{Call}
-use Rattle.drda_disk.specs.declared.replay.Call.TheVariants.{Write, Sync}
 
 pub data Step : Type 0 where
   wrote : ℕ → List ℕ → Step
   synced : Step
 
--- the recorded calls, the oldest first; the bytes of their writes lie one behind another
-abbrev pub steps_from : List Call → List ℕ → List Step
-steps_from [] written = []
-steps_from (Write at len ∷ calls) written = wrote at (take len written) ∷ steps_from calls (drop len written)
-steps_from (Sync ∷ calls) written = synced ∷ steps_from calls written
-
--- the newest first
-abbrev pub steps_of : List Call → List ℕ → List Step
-steps_of calls written = reverse (steps_from calls written)
-
--- how many bytes they wrote
-abbrev pub recorded_len : List Call → ℕ
-recorded_len [] = 0
-recorded_len (Write at len ∷ calls) = len + recorded_len calls
-recorded_len (Sync ∷ calls) = recorded_len calls
-
 -- a write of what lies in the file
 abbrev pub written_over : List ℕ → ℕ → List ℕ → List ℕ
 written_over file at bytes = if nat_le (at + length bytes) (length file) then overlaid file at bytes else file
 
--- what is read
+-- Below, the newest step comes first. What is read:
 abbrev pub read_after : List ℕ → List Step → List ℕ
 read_after first [] = first
 read_after first (wrote at bytes ∷ earlier) = written_over (read_after first earlier) at bytes
@@ -40,6 +22,12 @@ abbrev pub synced_after : List ℕ → List Step → List ℕ
 synced_after first [] = first
 synced_after first (wrote at bytes ∷ earlier) = synced_after first earlier
 synced_after first (synced ∷ earlier) = read_after first earlier
+
+-- the writes since the last sync
+abbrev pub unsynced : List Step → List Step
+unsynced [] = []
+unsynced (wrote at bytes ∷ earlier) = wrote at bytes ∷ unsynced earlier
+unsynced (synced ∷ earlier) = []
 
 -- what a crash may leave: of what the last sync made durable, with any bytes where a write came since
 abbrev pub Reaches : List ℕ → List Step → List ℕ → Type 0

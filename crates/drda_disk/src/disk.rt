@@ -1,5 +1,5 @@
 //! What a disk does.
-ghost use Rattle.std.specs.Prelude.{◌≡◌, ◌+◌, ◌-◌, ◌^◌, ◌≤◌, min, Bool, IsTrue, ℕ, length, OnOk};
+ghost use Rattle.std.specs.Prelude.{◌≡◌, ◌+◌, ◌-◌, ◌^◌, ◌≤◌, min, Bool, is_ok, IsTrue, ℕ, List, length, OnOk};
 ghost use Rattle.drda_words.specs.Place.{part};
 ghost use Rattle.drda_disk.specs.Disk.{Life, overlaid, Stays, Tears, Only, Now, CountsFault};
 
@@ -25,6 +25,16 @@ pub trait Disk {
     /// What a read gives, what a crash may leave, and the count of failures.
     ghost life: { Self → Life };
 
+    /// What a read of these bytes from an offset on, successful or not, makes of the disk. It is for
+    /// those who pass a call on, to say that they made that call and no other; so are the next two.
+    ghost reads: { Self → ℕ → List ℕ → Bool → Self → Type 0 } = { λ _ _ _ _ _. Unit {0} };
+
+    /// What a write of these bytes from an offset on makes of it.
+    ghost writes: { Self → ℕ → List ℕ → Bool → Self → Type 0 } = { λ _ _ _ _ _. Unit {0} };
+
+    /// What a sync makes of it.
+    ghost syncs: { Self → Bool → Self → Type 0 } = { λ _ _ _. Unit {0} };
+
     /// The number of bytes.
     fn size(&self) -> usize
         ensures { result ≡ length (life self.now).seen };
@@ -39,6 +49,7 @@ pub trait Disk {
         requires { at + length into.old ≤ length (life self.old).seen }
         ensures read { OnOk result (IsTrue is_modelled → into.new ≡ part (life self.old).seen at (length into.old)) }
         ensures stays { Stays (life self.old) (life self.new) }
+        ensures call { reads self.old at into.new (is_ok result) self.new }
         ensures faults { CountsFault result (life self.old).faults (life self.new).faults };
 
     /// Writes the bytes from `at` on. The range lies inside the disk. A write that fails may have
@@ -47,12 +58,14 @@ pub trait Disk {
         requires { at + length bytes.now ≤ length (life self.old).seen }
         ensures written { OnOk result (IsTrue is_modelled → (life self.new).seen ≡ overlaid (life self.old).seen at bytes.now) }
         ensures tears { Tears at (length bytes.now) (life self.old) (life self.new) }
+        ensures call { writes self.old at bytes.now (is_ok result) self.new }
         ensures faults { CountsFault result (life self.old).faults (life self.new).faults };
 
     /// Once it succeeds, a crash leaves what is read and nothing else.
     fn sync(&mut self) -> Result<(), DiskFault>
         ensures durable { OnOk result (Only (life self.new)) }
         ensures stays { Stays (life self.old) (life self.new) }
+        ensures call { syncs self.old (is_ok result) self.new }
         ensures faults { CountsFault result (life self.old).faults (life self.new).faults };
 
     /// What is read is one of the images that a crash may leave.

@@ -1,12 +1,13 @@
 //! A disk that fails on purpose.
-ghost use Rattle.std.specs.Prelude.{◌≡◌, ◌≢◌, ◌+◌, ◌-◌, ◌^◌, ◌≤◌, ◌↔◌, min, IsTrue, IsErr, OnOk, Some, length};
+ghost use Rattle.std.specs.Prelude.{◌≡◌, ◌≢◌, ◌+◌, ◌-◌, ◌^◌, ◌≤◌, ◌↔◌, min, is_ok, IsTrue, IsErr, OnOk, IfOk, Some, length};
 ghost use Rattle.drda_words.specs.Place.{part};
 ghost use Rattle.drda_disk.specs.Disk.{overlaid, Stays, Tears, Only, CountsFault};
 ghost use Rattle.drda_disk.specs.Fuse.{with_more_faults, left_after};
 ghost use Rattle.drda_disk.specs.Count.{count_of};
 
 use crate::count::FaultCount;
-use crate::{Disk, DiskFault};
+use crate::{Disk, DiskFault, MemDisk};
+use std::alloc::{AllocError, Global};
 
 /// Passes so many calls of `read_at`, `write_at` and `sync` on to the disk inside, and then fails:
 /// the next one alone, or all later ones. A call that it fails does not reach the disk inside, so a
@@ -86,6 +87,13 @@ impl<D: Disk> FuseDisk<D> {
         inner
     }
 
+    /// The disk inside, to be looked at.
+    pub fn inner(&self) -> &D
+        ensures { result.now ≡ inner_of self.now }
+    {
+        &self.inner
+    }
+
     /// How many calls of `read_at`, `write_at` and `sync` have come, those that failed included. It
     /// stays at its greatest value.
     pub fn calls(&self) -> u64
@@ -95,12 +103,39 @@ impl<D: Disk> FuseDisk<D> {
     }
 }
 
+impl FuseDisk<MemDisk> {
+    ghost use Rattle.drda_disk.specs.FuseDisk.{inner_of, left_of, is_once, calls_of, own_faults_of};
+    ghost use Rattle.drda_disk.specs.MemDisk.{IsCopy};
+
+    /// The same fuse over a copy of the disk inside, of which no call has failed.
+    pub fn copy(&self, alloc: Global) -> Result<FuseDisk<MemDisk>, AllocError>
+        ensures inner { IfOk result (λ disk. IsCopy (inner_of self.now) (inner_of disk)) }
+        ensures left { IfOk result (λ disk. left_of disk ≡ left_of self.now) }
+        ensures once { IfOk result (λ disk. is_once disk ≡ is_once self.now) }
+        ensures calls { IfOk result (λ disk. calls_of disk ≡ calls_of self.now) }
+        ensures faults { IfOk result (λ disk. own_faults_of disk ≡ 0) }
+    {
+        let inner = self.inner.copy(alloc)?;
+        Ok(FuseDisk {
+            inner,
+            fuse: self.fuse,
+            faults: FaultCount::new(),
+        })
+    }
+}
+
 impl<D: Disk> Disk for FuseDisk<D> {
-    ghost use Rattle.drda_disk.specs.FuseDisk.{life_of, left_of, IsCalled, IsRefused, IsPassed};
+    ghost use Rattle.drda_disk.specs.FuseDisk.{life_of, inner_of, left_of, IsCalled, IsRefused, IsPassed};
 
     ghost is_modelled = { D.is_modelled };
 
     ghost life = { λ f. with_more_faults (D.life f.inner) (count_of f.faults) };
+
+    ghost reads = { λ f at bytes ok f'. left_of f ≢ Some 0 → D.reads (inner_of f) at bytes ok (inner_of f') };
+
+    ghost writes = { λ f at bytes ok f'. left_of f ≢ Some 0 → D.writes (inner_of f) at bytes ok (inner_of f') };
+
+    ghost syncs = { λ f ok f'. left_of f ≢ Some 0 → D.syncs (inner_of f) ok (inner_of f') };
 
     ghost read_is_image = { λ f. D.read_is_image f.inner };
 
@@ -122,6 +157,7 @@ impl<D: Disk> Disk for FuseDisk<D> {
         ensures called { IsCalled self.old self.new }
         ensures blown { left_of self.old ≡ Some 0 → IsErr result × IsRefused self.old self.new }
         ensures passed { left_of self.old ≢ Some 0 → IsPassed D.life result self.old self.new }
+        ensures call { left_of self.old ≢ Some 0 → D.reads (inner_of self.old) at into.new (is_ok result) (inner_of self.new) }
     {
         if !self.fuse.passes() {
             self.faults.raise();
@@ -138,6 +174,7 @@ impl<D: Disk> Disk for FuseDisk<D> {
         ensures called { IsCalled self.old self.new }
         ensures blown { left_of self.old ≡ Some 0 → IsErr result × IsRefused self.old self.new }
         ensures passed { left_of self.old ≢ Some 0 → IsPassed D.life result self.old self.new }
+        ensures call { left_of self.old ≢ Some 0 → D.writes (inner_of self.old) at bytes.now (is_ok result) (inner_of self.new) }
     {
         if !self.fuse.passes() {
             self.faults.raise();
@@ -153,6 +190,7 @@ impl<D: Disk> Disk for FuseDisk<D> {
         ensures called { IsCalled self.old self.new }
         ensures blown { left_of self.old ≡ Some 0 → IsErr result × IsRefused self.old self.new }
         ensures passed { left_of self.old ≢ Some 0 → IsPassed D.life result self.old self.new }
+        ensures call { left_of self.old ≢ Some 0 → D.syncs (inner_of self.old) (is_ok result) (inner_of self.new) }
     {
         if !self.fuse.passes() {
             self.faults.raise();

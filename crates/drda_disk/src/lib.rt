@@ -5,18 +5,23 @@ mod count;
 mod disk;
 mod file;
 mod fuse;
+mod history;
 mod laws;
 mod memory;
+mod positional;
 mod region;
 mod replay;
-#[cfg(test)]
-mod tests;
+mod system;
 mod through;
+mod transfer;
 
 pub use disk::{Disk, DiskFault};
 pub use file::{FileDisk, FileFault};
 pub use fuse::FuseDisk;
 pub use laws::a_write_is_read_back;
 pub use memory::MemDisk;
+pub use positional::{FilePlace, PositionalFile};
 pub use region::Region;
+pub use system::{FilePath, SystemFile};
 pub use through::{ReadFault, read_bytes, write_through};
+pub use transfer::DeviceFault;

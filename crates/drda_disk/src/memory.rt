@@ -1,32 +1,38 @@
 //! A disk in memory, which can tell what a crash may leave.
-ghost use Rattle.std.specs.Prelude.{◌≡◌, ◌+◌, ◌-◌, ◌^◌, ◌≤◌, ◌∷◌, ℕ, length, true, IsTrue, IsOk, OnOk, IfOk, replicate};
+ghost use Rattle.std.specs.Prelude.{◌≡◌, ◌+◌, ◌-◌, ◌^◌, ◌≤◌, ◌∷◌, ℕ, length, true, is_ok, IsTrue, IsOk, OnOk, IfOk, replicate};
 ghost use Rattle.drda_words.specs.Place.{part};
-ghost use Rattle.drda_disk.specs.Replay.{replayed, read_after, steps_of, recorded_len, counts};
+ghost use Rattle.drda_disk.specs.Replay.{replayed, read_after, synced_after, unsynced, counts};
+ghost use Rattle.drda_disk.specs.Recorded.{steps_of, recorded_len};
 ghost use Rattle.drda_disk.specs.Images.{read_is_image};
 ghost use Rattle.drda_disk.specs.Disk.{overlaid, Stays, Tears, Now, Only, CountsFault};
 ghost use Rattle.drda_disk.specs.Count.{count_of};
 
 use crate::count::FaultCount;
-use crate::replay::{Call, note_sync, note_write, overwrite, replay};
+use crate::history::History;
+use crate::replay::{Write, history_of, leave_all, overwrite, record_write, redo_all};
 use crate::{Disk, DiskFault};
 use std::alloc::{AllocError, Global};
 
-/// A disk in memory. It keeps a record of its writes and syncs, so that `after_crash` can give what
-/// a crash may leave. A call whose record finds no memory is a fault; none is where `set_aside` made
-/// room for it. No read fails.
+/// A disk in memory. It keeps what was read at the last sync and a record of the writes since, so
+/// that `after_crash` can give what a crash may leave; a sync empties the record. A write whose record
+/// finds no memory is a fault; none is where `set_aside` made room for it. No read and no sync fails.
 #[derive(Drop)]
 pub struct MemDisk {
-    first: Vec<u8>,
-    calls: Vec<Call>,
-    written: Vec<u8>,
+    size: usize,
     bytes: Vec<u8>,
+    synced: Vec<u8>,
+    writes: Vec<Write>,
+    written: Vec<u8>,
+    history: History,
     faults: FaultCount,
-    ghost whole: { recorded_len calls.items ≡ length written.items },
-    ghost same: { bytes.items ≡ read_after first.items (steps_of calls.items written.items) },
+    ghost whole: { recorded_len writes.items ≡ length written.items },
+    ghost read: { bytes.items ≡ read_after (replicate size 0) history.steps },
+    ghost durable: { synced.items ≡ synced_after (replicate size 0) history.steps },
+    ghost since: { steps_of writes.items written.items ≡ unsynced history.steps },
 }
 
 impl MemDisk {
-    ghost use Rattle.drda_disk.specs.MemDisk.{life_of, read_of, synced_of, HasRoom};
+    ghost use Rattle.drda_disk.specs.MemDisk.{life_of, read_of, synced_of, HasRoom, IsCopy};
 
     /// A disk of `size` zeros.
     pub fn new(alloc: Global, size: usize) -> Result<MemDisk, AllocError>
@@ -36,31 +42,49 @@ impl MemDisk {
         ensures faults { IfOk result (λ disk. (life_of disk).faults ≡ 0) }
     {
         Ok(MemDisk {
-            first: vec![in alloc; 0; size]?,
-            calls: Vec::new(alloc),
-            written: Vec::new(alloc),
+            size,
             bytes: vec![in alloc; 0; size]?,
+            synced: vec![in alloc; 0; size]?,
+            writes: Vec::new(alloc),
+            written: Vec::new(alloc),
+            history: History::new(),
             faults: FaultCount::new(),
         })
     }
 
-    /// Makes room for the record of so many more writes and syncs, whose writes have so many bytes
-    /// in all. No such call is a fault then.
-    pub fn set_aside(&mut self, calls: usize, bytes: usize) -> Result<(), AllocError>
-        ensures room { OnOk result (HasRoom self.new calls bytes) }
+    /// A copy, of which no call has failed.
+    pub fn copy(&self, alloc: Global) -> Result<MemDisk, AllocError>
+        ensures copy { IfOk result (λ disk. IsCopy self.now disk) }
+        ensures faults { IfOk result (λ disk. (life_of disk).faults ≡ 0) }
+    {
+        Ok(MemDisk {
+            size: self.size,
+            bytes: Vec::from_slice(alloc, &self.bytes)?,
+            synced: Vec::from_slice(alloc, &self.synced)?,
+            writes: Vec::from_slice(alloc, &self.writes)?,
+            written: Vec::from_slice(alloc, &self.written)?,
+            history: history_of(&self.synced, &self.writes, &self.written),
+            faults: FaultCount::new(),
+        })
+    }
+
+    /// Makes room for the record of so many more writes, which have so many bytes in all. No such
+    /// write is a fault then.
+    pub fn set_aside(&mut self, writes: usize, bytes: usize) -> Result<(), AllocError>
+        ensures room { OnOk result (HasRoom self.new writes bytes) }
         ensures stays { Stays (life_of self.old) (life_of self.new) }
         ensures read { read_of self.new ≡ read_of self.old }
         ensures synced { synced_of self.new ≡ synced_of self.old }
         ensures faults { (life_of self.new).faults ≡ (life_of self.old).faults }
     {
-        self.calls.reserve(calls)?;
+        self.writes.reserve(writes)?;
         self.written.reserve(bytes)?;
         Ok(())
     }
 
     /// What a crash now may leave, as a disk. Of the writes since the last sync it has none where
-    /// `pick` is 0 and all where it is 1; any other `pick` gives a mixture of the bytes before them
-    /// and of theirs.
+    /// `pick` is 0 and all where it is 1. Any other `pick` settles for each write by itself whether a
+    /// crash leaves none of it, all of it, each byte old or new, or each byte old, new or any other.
     pub fn after_crash(self, pick: u64) -> MemDisk
         ensures image { Now (life_of self) (read_of result) }
         ensures none { pick ≡ 0 → read_of result ≡ synced_of self }
@@ -70,37 +94,47 @@ impl MemDisk {
         ensures faults { (life_of result).faults ≡ (life_of self).faults }
     {
         let MemDisk {
-            mut first,
-            mut calls,
-            mut written,
+            size,
             mut bytes,
+            mut synced,
+            mut writes,
+            mut written,
+            history: _,
             faults,
         } = self;
-        bytes.copy_from_slice(&first);
-        replay(&calls, &written, &mut first, &mut bytes, pick);
-        first.copy_from_slice(&bytes);
-        calls.clear();
+        leave_all(&writes, &written, &mut synced, pick);
+        bytes.copy_from_slice(&synced);
+        writes.clear();
         written.clear();
+        let history = History::of(&bytes);
         MemDisk {
-            first,
-            calls,
-            written,
+            size,
             bytes,
+            synced,
+            writes,
+            written,
+            history,
             faults,
         }
     }
 }
 
 impl Disk for MemDisk {
-    ghost use Rattle.drda_disk.specs.MemDisk.{life_of, synced_of, read_of, HasRoom};
+    ghost use Rattle.drda_disk.specs.MemDisk.{life_of, synced_of, read_of, HasRoom, IsWritten};
 
     ghost is_modelled = { true };
 
-    ghost life = { λ m. replayed m.first.items m.bytes.items (steps_of m.calls.items m.written.items) (count_of m.faults) };
+    ghost life = { λ m. replayed (replicate m.size 0) m.bytes.items m.history.steps (count_of m.faults) };
 
-    ghost read_is_image = { λ m _. read_is_image m.first.items m.bytes.items (steps_of m.calls.items m.written.items) m.same };
+    ghost reads = { λ m at bytes ok m'. m' ≡ m };
 
-    ghost now_counts = { λ m t c le now. counts m.first.items (steps_of m.calls.items m.written.items) t c le now };
+    ghost writes = { λ m at bytes ok m'. IsWritten at bytes m ok m' };
+
+    ghost syncs = { λ m ok m'. (read_of m' ≡ read_of m) × (synced_of m' ≡ read_of m) };
+
+    ghost read_is_image = { λ m _. read_is_image (replicate m.size 0) m.bytes.items m.history.steps m.read };
+
+    ghost now_counts = { λ m t c le now. counts (replicate m.size 0) m.history.steps t c le now };
 
     fn size(&self) -> usize {
         self.bytes.len()
@@ -114,9 +148,9 @@ impl Disk for MemDisk {
         requires { at + length into.old ≤ length (read_of self.old) }
         ensures read { OnOk result (into.new ≡ part (read_of self.old) at (length into.old)) }
         ensures stays { Stays (life_of self.old) (life_of self.new) }
+        ensures call { self.new ≡ self.old }
         ensures faults { CountsFault result (life_of self.old).faults (life_of self.new).faults }
         ensures never { IsOk result }
-        ensures same { self.new ≡ self.old }
     {
         into.copy_from_slice(&self.bytes[at..at + into.len()]);
         Ok(())
@@ -126,12 +160,14 @@ impl Disk for MemDisk {
         requires { at + length bytes.now ≤ length (read_of self.old) }
         ensures written { OnOk result (read_of self.new ≡ overlaid (read_of self.old) at bytes.now) }
         ensures tears { Tears at (length bytes.now) (life_of self.old) (life_of self.new) }
+        ensures call { IsWritten at bytes.now self.old (is_ok result) self.new }
         ensures faults { CountsFault result (life_of self.old).faults (life_of self.new).faults }
         ensures synced { synced_of self.new ≡ synced_of self.old }
-        ensures room { (calls n : ℕ) → HasRoom self.old (calls + 1) (n + length bytes.now) → IsOk result × HasRoom self.new calls n }
+        ensures room { (writes n : ℕ) → HasRoom self.old (writes + 1) (n + length bytes.now) → IsOk result × HasRoom self.new writes n }
     {
-        match note_write(&mut self.calls, &mut self.written, at, bytes) {
+        match record_write(&mut self.writes, &mut self.written, at, bytes) {
             Ok(()) => {
+                self.history.note_write(&[at as u64], bytes);
                 overwrite(&mut self.bytes, at, bytes);
                 Ok(())
             }
@@ -145,16 +181,15 @@ impl Disk for MemDisk {
     fn sync(&mut self) -> Result<(), DiskFault>
         ensures durable { OnOk result (Only (life_of self.new)) }
         ensures stays { Stays (life_of self.old) (life_of self.new) }
+        ensures call { (read_of self.new ≡ read_of self.old) × (synced_of self.new ≡ read_of self.old) }
         ensures faults { CountsFault result (life_of self.old).faults (life_of self.new).faults }
-        ensures synced { OnOk result (synced_of self.new ≡ read_of self.old) }
-        ensures room { (calls n : ℕ) → HasRoom self.old (calls + 1) n → IsOk result × HasRoom self.new calls n }
+        ensures never { IsOk result }
+        ensures room { (writes n : ℕ) → HasRoom self.old writes n → HasRoom self.new writes n }
     {
-        match note_sync(&mut self.calls, &self.written) {
-            Ok(()) => Ok(()),
-            Err(_) => {
-                self.faults.raise();
-                Err(DiskFault)
-            }
-        }
+        redo_all(&self.writes, &self.written, &mut self.synced);
+        self.writes.clear();
+        self.written.clear();
+        self.history.note_sync();
+        Ok(())
     }
 }

@@ -3,5 +3,6 @@ pub mod Appending
 mod Reading
 mod Opening
 pub mod Readings
+mod SomeReading
 mod Laying
 pub mod Settled

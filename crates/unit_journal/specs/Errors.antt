@@ -28,15 +28,19 @@ CountsAppend (Err append.DeviceFailed) old new = new ≡ old + 1
 
 abbrev pub SaysFullToLay : {T : Type 0} → Result T LayError → ℕ → ℕ → Type 0
 SaysFullToLay (Ok x) asked room = asked ≤ room
+SaysFullToLay (Err lay.NoMemory) asked room = asked ≤ room
 SaysFullToLay (Err lay.DeviceFailed) asked room = asked ≤ room
 SaysFullToLay (Err (lay.Full full)) asked room = (full.need ≡ min asked (2 ^ 64 - 1)) × (full.room ≡ room) × (room < asked)
 
-abbrev pub OnFullToLay : {T : Type 0} → Result T LayError → Type 0 → Type 0
-OnFullToLay (Ok x) P = Unit {0}
-OnFullToLay (Err (lay.Full full)) P = P
-OnFullToLay (Err lay.DeviceFailed) P = Unit {0}
+-- what holds where no record is laid, for want of memory or room
+abbrev pub OnRefusedToLay : {T : Type 0} → Result T LayError → Type 0 → Type 0
+OnRefusedToLay (Ok x) P = Unit {0}
+OnRefusedToLay (Err lay.NoMemory) P = P
+OnRefusedToLay (Err (lay.Full full)) P = P
+OnRefusedToLay (Err lay.DeviceFailed) P = Unit {0}
 
 abbrev pub CountsLay : {T : Type 0} → Result T LayError → ℕ → ℕ → Type 0
 CountsLay (Ok x) old new = new ≡ old
+CountsLay (Err lay.NoMemory) old new = new ≡ old
 CountsLay (Err (lay.Full full)) old new = new ≡ old
 CountsLay (Err lay.DeviceFailed) old new = new ≡ old + 1

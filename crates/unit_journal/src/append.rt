@@ -1,5 +1,5 @@
 //! Adding a record.
-ghost use Rattle.std.specs.Prelude.{◌≡◌, ◌+◌, ◌-◌, ◌^◌, ◌<◌, ◌≤◌, ◌++◌, ◌∷◌, [], List, length, OnOk};
+ghost use Rattle.std.specs.Prelude.{◌≡◌, ◌+◌, ◌-◌, ◌^◌, ◌<◌, ◌≤◌, ◌++◌, ◌∷◌, [], List, length, OnOk, OnErr};
 ghost use Rattle.drda_disk.specs.Region.{end_of, SameOutside};
 ghost use Rattle.drda_disk.specs.Disk.{LeavesOnly};
 ghost use Rattle.unit_journal.specs.Record.{Entry};
@@ -19,8 +19,8 @@ impl Journal {
     ///
     /// With it the journal holds `hold` more bytes back and `release` fewer, at most all that it
     /// holds. `Full` comes exactly where the record and `hold` are longer than the room and `release`.
-    /// It and `NoMemory` come before any device call. After `DeviceFailed` the journal is not used
-    /// again: whether the record is there shows when it is opened anew.
+    /// It and `NoMemory` come before any device call. On an error the journal is as it was; but after
+    /// `DeviceFailed` it is not used again: whether the record is there shows when it is opened anew.
     pub fn append<D: Disk>(
         &mut self,
         alloc: Global,
@@ -43,6 +43,7 @@ impl Journal {
         ensures others { SameOutside (region_of self.old) (D.life disk.old).seen (D.life disk.new).seen }
 
         ensures full { SaysFull result (6 + length body.now + hold) release (room_of self.old) }
+        ensures same { OnErr result (self.new ≡ self.old) }
         ensures refused { OnRefused result ((self.new ≡ self.old) × (disk.new ≡ disk.old)) }
         ensures cause { CountsAppend result (D.life disk.old).faults (D.life disk.new).faults }
 

@@ -47,10 +47,22 @@ impl From<DiskFault> for AppendError {
 /// Why no records were laid.
 #[derive(Clone, Copy, Debug, PartialEq, Eq, Error)]
 pub enum LayError {
+    #[error("no memory")]
+    NoMemory,
     #[error(transparent)]
     Full(Full),
     #[error("the device failed")]
     DeviceFailed,
+}
+
+impl From<AllocError> for LayError {
+    ghost use Rattle.unit_journal.specs.declared.errors.LayError.TheVariants.{NoMemory};
+
+    ghost from_gives = { λ _ e. e ≡ NoMemory };
+
+    fn from(_: AllocError) -> Self {
+        LayError::NoMemory
+    }
 }
 
 impl From<DiskFault> for LayError {

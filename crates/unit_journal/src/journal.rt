@@ -46,6 +46,20 @@ impl Journal {
         })
     }
 
+    /// The part of the disk that it has.
+    pub fn region(&self) -> Region
+        ensures { result ≡ region_of self.now }
+    {
+        self.region
+    }
+
+    /// How many bytes are held back.
+    pub fn held(&self) -> usize
+        ensures { result ≡ held_of self.now }
+    {
+        self.held
+    }
+
     /// How many bytes are left for records: those behind the last one, but for a closed gate and for
     /// the bytes that are held.
     pub fn room(&self) -> usize

@@ -1,7 +1,12 @@
 //! What the words on a region say.
-ghost use Rattle.unit_journal.specs.Laws.{OneReading};
+ghost use Rattle.unit_journal.specs.Laws.{OneReading, SomeReading};
 
 /// A region reads in one way at most: as one list of records, or as damaged at one offset.
 pub fn a_region_has_one_reading()
     ensures { OneReading }
+{}
+
+/// A region of bytes reads in one way at least: as records, or as damaged at an offset.
+pub fn a_region_has_some_reading()
+    ensures { SomeReading }
 {}

@@ -1,17 +1,17 @@
 //! Laying records into a region that does not count yet.
-ghost use Rattle.std.specs.Prelude.{◌≡◌, ◌+◌, ◌-◌, ◌^◌, ◌<◌, ◌≤◌, ◌++◌, ◌∷◌, min, ℕ, List, IsTrue, OnOk, IfOk, length};
+ghost use Rattle.std.specs.Prelude.{◌≡◌, ◌+◌, ◌-◌, ◌^◌, ◌<◌, ◌≤◌, ◌++◌, ◌∷◌, [], min, ℕ, List, IsTrue, OnOk, IfOk, length};
 ghost use Rattle.std.specs.Int.{w32, to_be_bytes};
-ghost use Rattle.drda_words.specs.Place.{part};
-ghost use Rattle.drda_disk.specs.Disk.{LeavesOnly, Torn, Within, CountsFault};
+ghost use Rattle.drda_disk.specs.Disk.{LeavesOnly, Torn, Within};
 ghost use Rattle.drda_disk.specs.Region.{end_of, SameOutside};
 ghost use Rattle.unit_journal.specs.Record.{laid, behind, entry_of, entries_of};
 ghost use Rattle.unit_journal.specs.Kind.{code_of};
 ghost use Rattle.unit_journal.specs.Stands.{Stands};
-ghost use Rattle.unit_journal.specs.Errors.{SaysFullToLay, OnFullToLay, CountsLay};
+ghost use Rattle.unit_journal.specs.Errors.{SaysFullToLay, OnRefusedToLay, CountsLay};
 
 use crate::record::{CLOSED, HEAD, OPEN};
 use crate::{Full, Journal, Kind, LayError, Record};
-use drda_disk::{Disk, DiskFault, Region};
+use drda_disk::{Disk, Region};
+use std::alloc::{AllocError, Global};
 
 /// How many bytes the records take, up to 2^64 - 1.
 fn laid_len(records: &[Record]) -> usize
@@ -32,32 +32,43 @@ fn head_of(kind: Kind, len: u32) -> [u8; 6]
     [OPEN, kind.code(), a, b, c, d]
 }
 
-fn lay_record<D: Disk>(disk: &mut D, at: usize, item: &Record) -> Result<(), DiskFault>
-    requires inside { at + 6 + length item.now.body.items ≤ length (D.life disk.old).seen }
-    requires short { length item.now.body.items < 2 ^ 32 }
-    requires counted { at + 6 + length item.now.body.items < 2 ^ 64 }
-    ensures written { IsTrue D.is_modelled → OnOk result (part (D.life disk.new).seen at (6 + length item.now.body.items) ≡ 165 ∷ behind (entry_of item.now)) }
-    ensures others { Torn at (6 + length item.now.body.items) (D.life disk.old).seen (D.life disk.new).seen }
-    ensures within { (from m : ℕ) (base : List ℕ) → from ≤ at → at + (6 + length item.now.body.items) ≤ from + m → Within from m base (D.life disk.old)
-        → LeavesOnly (D.life disk.old) (D.life disk.new) (Torn from m base) }
-    ensures faults { CountsFault result (D.life disk.old).faults (D.life disk.new).faults }
+/// Puts a record behind other bytes, with an open gate.
+fn push_record(bytes: &mut Vec<u8>, item: &Record) -> Result<(), AllocError>
+    requires { length item.now.body.items < 2 ^ 32 }
+    ensures { OnOk result (bytes.new.items ≡ bytes.old.items ++ 165 ∷ behind (entry_of item.now)) }
 {
-    disk.write_at(at, &head_of(item.kind, item.body.len() as u32))?;
-    disk.write_at(at + HEAD, &item.body)?;
+    bytes.extend_from_slice(&head_of(item.kind, item.body.len() as u32))?;
+    bytes.extend_from_slice(&item.body)?;
     Ok(())
+}
+
+/// The bytes of the records, `len` of them, and a closed gate behind them.
+fn laid_bytes(alloc: Global, records: &[Record], len: usize) -> Result<Vec<u8>, AllocError>
+    requires len { len ≡ length (laid (entries_of records.now)) }
+    requires small { len < 2 ^ 32 }
+    ensures { IfOk result (λ bytes. bytes.items ≡ laid (entries_of records.now) ++ 0 ∷ []) }
+{
+    let mut bytes = Vec::with_capacity(alloc, len + 1)?;
+    for item in records {
+        push_record(&mut bytes, item)?;
+    }
+    bytes.push(CLOSED)?;
+    Ok(bytes)
 }
 
 impl Journal {
     ghost use Rattle.unit_journal.specs.Journal.{region_of, next_of, held_of};
 
-    /// Lays just these records into a region, with open gates and a closed gate behind them, and
-    /// makes their journal, which holds `held` bytes back. Nothing is synced, so a crash may leave any
-    /// bytes in the region: it has to be one whose records do not count yet. The region has at least a
-    /// byte and at most 2^32, and lies in the disk.
+    /// Lays these records and no others into a region, with open gates and a closed gate behind them,
+    /// by one write, and makes their journal, which holds `held` bytes back. Nothing is synced, so a
+    /// crash may leave any bytes in the region: it has to be one whose records do not count yet. The
+    /// region has at least a byte and at most 2^32, and lies in the disk.
     ///
     /// `Full` comes exactly where the records and `held` are longer than the room of an empty journal,
-    /// the region less one byte; its `need` stops at 2^64 - 1. It comes before any device call.
+    /// the region less one byte; its `need` stops at 2^64 - 1. It and `NoMemory` come before any
+    /// device call.
     pub fn lay<D: Disk>(
+        alloc: Global,
         disk: &mut D,
         region: Region,
         records: &[Record],
@@ -74,23 +85,20 @@ impl Journal {
             → LeavesOnly (D.life disk.old) (D.life disk.new) (Torn from m base) }
         ensures others { SameOutside region (D.life disk.old).seen (D.life disk.new).seen }
         ensures full { SaysFullToLay result (length (laid (entries_of records.now)) + held) (region.length - 1) }
-        ensures refused { OnFullToLay result (disk.new ≡ disk.old) }
+        ensures refused { OnRefusedToLay result (disk.new ≡ disk.old) }
         ensures cause { CountsLay result (D.life disk.old).faults (D.life disk.new).faults }
     {
-        let need = laid_len(records).saturating_add(held);
+        let len = laid_len(records);
+        let need = len.saturating_add(held);
         let room = region.length - 1;
         if need > room {
             return Err(LayError::Full(Full { need, room }));
         }
-        let mut at = region.at;
-        for item in records {
-            lay_record(disk, at, item)?;
-            at += HEAD + item.body.len();
-        }
-        disk.write_at(at, &[CLOSED])?;
+        let bytes = laid_bytes(alloc, records, len)?;
+        disk.write_at(region.at, &bytes)?;
         Ok(Journal {
             region,
-            next: at,
+            next: region.at + len,
             held,
         })
     }

@@ -9,11 +9,9 @@ mod laws;
 mod lay;
 mod open;
 mod record;
-#[cfg(test)]
-mod tests;
 
 pub use errors::{AppendError, Full, LayError, OpenError};
 pub use journal::Journal;
 pub use kind::Kind;
-pub use laws::a_region_has_one_reading;
+pub use laws::{a_region_has_one_reading, a_region_has_some_reading};
 pub use record::Record;

@@ -1,5 +1,5 @@
 //! Reading the records back.
-ghost use Rattle.std.specs.Prelude.{◌≡◌, ◌+◌, ◌-◌, ◌^◌, ◌<◌, ◌≤◌, List, IsTrue, length, IfOk, IfSome};
+ghost use Rattle.std.specs.Prelude.{◌≡◌, ◌+◌, ◌-◌, ◌^◌, ◌<◌, ◌≤◌, List, IsTrue, length, IfOk, IfSome, IsNone};
 ghost use Rattle.std.specs.Int.{w32, from_be_bytes, to_be_bytes};
 ghost use Rattle.drda_disk.specs.Disk.{Stays};
 ghost use Rattle.drda_disk.specs.Region.{end_of};
@@ -21,6 +21,28 @@ fn number_of(bytes: [u8; 4]) -> u32
     u32::from_be_bytes([a, b, c, d])
 }
 
+/// The gate at an offset with too few bytes behind it for a record.
+fn read_last_gate<D: Disk>(
+    disk: &mut D,
+    at: usize,
+    limit: usize,
+) -> Result<Option<Record>, OpenError>
+    requires before { at < limit }
+    requires last { limit < at + 7 }
+    requires inside { limit ≤ length (D.life disk.old).seen }
+    ensures next { IsTrue D.is_modelled → ReadsNext (D.life disk.old).seen at limit result }
+    ensures none { IfOk result (λ found. IsNone found) }
+    ensures stays { Stays (D.life disk.old) (D.life disk.new) }
+    ensures cause { CountsOpen result (D.life disk.old).faults (D.life disk.new).faults }
+{
+    let mut gate = [0u8; 1];
+    disk.read_at(at, &mut gate)?;
+    if gate[0] != OPEN {
+        return Ok(None);
+    }
+    Err(OpenError::Damaged { at })
+}
+
 /// The record at an offset below `limit`, if its gate is open.
 fn read_record<D: Disk>(
     alloc: Global,
@@ -35,21 +57,19 @@ fn read_record<D: Disk>(
     ensures stays { Stays (D.life disk.old) (D.life disk.new) }
     ensures cause { CountsOpen result (D.life disk.old).faults (D.life disk.new).faults }
 {
-    let mut gate = [0u8; 1];
-    disk.read_at(at, &mut gate)?;
-    if gate[0] != OPEN {
-        return Ok(None);
-    }
     let room = limit - at - 1;
     if room < HEAD {
-        return Err(OpenError::Damaged { at });
+        return read_last_gate(disk, at, limit);
     }
-    let mut head = [0u8; 5];
-    disk.read_at(at + 1, &mut head)?;
-    let Some(kind) = Kind::from_code(head[0]) else {
+    let mut head = [0u8; HEAD];
+    disk.read_at(at, &mut head)?;
+    if head[0] != OPEN {
+        return Ok(None);
+    }
+    let Some(kind) = Kind::from_code(head[1]) else {
         return Err(OpenError::Damaged { at });
     };
-    let len = number_of([head[1], head[2], head[3], head[4]]) as usize;
+    let len = number_of([head[2], head[3], head[4], head[5]]) as usize;
     if len > room - HEAD {
         return Err(OpenError::Damaged { at });
     }

@@ -30,7 +30,7 @@ pub(crate) fn behind_gate(alloc: Global, kind: Kind, body: &[u8]) -> Result<Vec<
     requires { length body.now < 2 ^ 32 }
     ensures { IfOk result (λ bytes. bytes.items ≡ code_of kind ∷ (to_be_bytes w32 (length body.now) ++ (body.now ++ 0 ∷ []))) }
 {
-    let mut bytes = Vec::new(alloc);
+    let mut bytes = Vec::with_capacity(alloc, HEAD + body.len())?;
     bytes.push(kind.code())?;
     bytes.extend_from_slice(&(body.len() as u32).to_be_bytes())?;
     bytes.extend_from_slice(body)?;

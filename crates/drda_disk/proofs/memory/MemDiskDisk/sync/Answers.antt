@@ -1,20 +1,28 @@
-use Rattle.std.proofs.Common.{List, sym, subst}
-use Rattle.drda_disk.specs.Disk.{Only, Stays}
+use Rattle.std.proofs.Common.{◌≡◌, ℕ, List, [], length, replicate, sym, ◌∙◌, ap, subst}
+use Rattle.drda_disk.specs.Disk.{Stays}
 use Rattle.drda_disk.specs.Count.{count_of}
-use Rattle.drda_disk.specs.Replay.{Step, replayed, steps_of}
-use Rattle.drda_disk.proofs.Replaying.{stays_synced, only_synced}
+use Rattle.drda_disk.specs.Replay.{Step, replayed, read_after, synced_after, unsynced}
+use Rattle.drda_disk.specs.Recorded.{steps_of, recorded_len}
+use Rattle.drda_disk.specs.declared.replay.Write.{Write}
+use Rattle.drda_disk.proofs.Replaying.{stays_synced, all_again}
 use Rattle.drda_disk.proofs.memory.MemDiskDisk.sync.Goals as goal
 
-pub returns-in-Ok-clause-stays : goal.returns-in-Ok-clause-stays
-returns-in-Ok-clause-stays c =
+pub invariant_of-self : goal.invariant_of-self
+invariant_of-self c =
     let m = c.args.self.now in
-    let steps = steps_of m.calls.items m.written.items in
-    subst (λ (s : List Step). Stays (replayed m.first.items m.bytes.items steps (count_of m.faults)) (replayed m.first.items m.bytes.items s (count_of m.faults))) (sym c.in-Ok.ensures.ok)
-    (stays_synced m.first.items m.bytes.items steps (count_of m.faults) m.same)
+    let zeros = replicate m.size 0 in
+    let redone : c.redo_all.new.file.items ≡ read_after m.synced.items (steps_of m.writes.items m.written.items) =
+    c.redo_all.ensures ∙ ap (λ (l : List Write). read_after m.synced.items (steps_of l c.deref-2.result.now)) c.deref.ensures.value ∙ ap (λ (l : List ℕ). read_after m.synced.items (steps_of m.writes.items l)) c.deref-2.ensures.value in
+    record {
+      whole = ap recorded_len c.clear.ensures.items ∙ sym (ap length c.clear-2.ensures.items);
+      read = m.read ∙ sym (ap (λ (s : List Step). read_after zeros s) c.note_sync.ensures);
+      durable = redone ∙ all_again zeros m.bytes.items m.synced.items m.history.steps (steps_of m.writes.items m.written.items) m.read m.durable m.since ∙ m.read ∙ sym (ap (λ (s : List Step). synced_after zeros s) c.note_sync.ensures);
+      since = ap (λ (l : List Write). steps_of l c.clear-2.new.self.items) c.clear.ensures.items ∙ sym (ap (λ (s : List Step). unsynced s) c.note_sync.ensures);
+    }
 
-pub returns-in-Ok-clause-durable : goal.returns-in-Ok-clause-durable
-returns-in-Ok-clause-durable c =
+pub returns-clause-stays : goal.returns-clause-stays
+returns-clause-stays c =
     let m = c.args.self.now in
-    let steps = steps_of m.calls.items m.written.items in
-    subst (λ (s : List Step). Only (replayed m.first.items m.bytes.items s (count_of m.faults))) (sym c.in-Ok.ensures.ok)
-    (only_synced m.first.items m.bytes.items steps (count_of m.faults) m.same)
+    let zeros = replicate m.size 0 in
+    subst (λ (s : List Step). Stays (replayed zeros m.bytes.items m.history.steps (count_of m.faults)) (replayed zeros m.bytes.items s (count_of m.faults))) (sym c.note_sync.ensures)
+    (stays_synced zeros m.bytes.items m.history.steps (count_of m.faults) m.read)

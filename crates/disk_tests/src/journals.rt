@@ -1,0 +1,101 @@
+//! Calls on journals whose conditions are tested, for tests. One that does not hold shows as a
+//! fault of the device.
+ghost use Rattle.std.specs.Prelude.{◌≡◌, ◌^◌, ◌<◌, ◌≤◌, IsTrue, length};
+ghost use Rattle.drda_disk.specs.Region.{end_of};
+
+use drda_disk::{Disk, DiskFault, Region};
+use std::alloc::Global;
+use unit_journal::{AppendError, Journal, Kind, LayError, OpenError, Record};
+
+fn may_be_a_journal<D: Disk>(disk: &D, region: Region) -> bool
+    ensures some { IsTrue result → 0 < region.length }
+    ensures small { IsTrue result → region.length ≤ 2 ^ 32 }
+    ensures inside { IsTrue result → end_of region ≤ length (D.life disk.now).seen }
+{
+    0 < region.length && region.length <= 1 << 32 && region.end() <= disk.size()
+}
+
+pub fn start<D: Disk>(disk: &mut D, region: Region) -> Result<Journal, DiskFault> {
+    if !may_be_a_journal(disk, region) {
+        return Err(DiskFault);
+    }
+    Journal::start(disk, region)
+}
+
+pub fn open<D: Disk>(
+    alloc: Global,
+    disk: &mut D,
+    region: Region,
+) -> Result<(Journal, Vec<Record>), OpenError> {
+    if !may_be_a_journal(disk, region) {
+        return Err(OpenError::DeviceFailed);
+    }
+    Journal::open(alloc, disk, region)
+}
+
+pub fn lay<D: Disk>(
+    alloc: Global,
+    disk: &mut D,
+    region: Region,
+    records: &[Record],
+    held: usize,
+) -> Result<Journal, LayError> {
+    if !may_be_a_journal(disk, region) {
+        return Err(LayError::DeviceFailed);
+    }
+    Journal::lay(alloc, disk, region, records, held)
+}
+
+/// What an append says, and what it holds and releases.
+#[derive(Clone, Copy)]
+pub struct Said<'a> {
+    pub kind: Kind,
+    pub body: &'a [u8],
+    pub hold: usize,
+    pub release: usize,
+}
+
+/// Only a record.
+pub fn record_of(kind: Kind, body: &[u8]) -> Said<'_> {
+    Said {
+        kind,
+        body,
+        hold: 0,
+        release: 0,
+    }
+}
+
+pub fn append<D: Disk>(
+    alloc: Global,
+    journal: &mut Journal,
+    disk: &mut D,
+    said: Said<'_>,
+) -> Result<(), AppendError> {
+    let Said {
+        kind,
+        body,
+        hold,
+        release,
+    } = said;
+    if journal.region().end() > disk.size()
+        || body.len() >= 1 << 32
+        || hold >= 1 << 32
+        || release > journal.held()
+    {
+        return Err(AppendError::DeviceFailed);
+    }
+    journal.append(alloc, disk, kind, body, hold, release)
+}
+
+/// What opening finds: how many records there are, or where the region is damaged.
+pub fn found<D: Disk>(
+    alloc: Global,
+    disk: &mut D,
+    region: Region,
+) -> Result<Result<usize, usize>, OpenError> {
+    match open(alloc, disk, region) {
+        Ok((_, records)) => Ok(Ok(records.len())),
+        Err(OpenError::Damaged { at }) => Ok(Err(at)),
+        Err(error) => Err(error),
+    }
+}
