@@ -1,4 +1,3 @@
-pub mod Reading
 pub mod Order
 pub mod Rising
 pub mod Places

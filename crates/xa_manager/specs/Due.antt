@@ -4,12 +4,12 @@ use Rattle.std.specs.Prelude.{ℕ, List, Option, Some, None, ◌==◌, nat_le, i
 use Rattle.xa_manager.specs.declared.branch.Branch.{Branch}
 use Rattle.xa_manager.specs.declared.branch.BranchState.{BranchState}
 use Rattle.xa_manager.specs.declared.branch.BranchState.TheVariants.{Active, Idle, RollbackOnly, Prepared}
-use Rattle.xa_manager.specs.declared.request.Ending.{Ending}
-use Rattle.xa_manager.specs.declared.request.Ending.TheVariants.{Kept, Failed}
-use Rattle.xa_manager.specs.declared.request.Verb.{Verb}
-use Rattle.xa_manager.specs.declared.request.Verb.TheVariants as verb
-use Rattle.xa_manager.specs.declared.code.XaCode.{XaCode}
-use Rattle.xa_manager.specs.declared.code.XaCode.TheVariants as code
+use Rattle.xa_calls.specs.declared.request.Ending.{Ending}
+use Rattle.xa_calls.specs.declared.request.Ending.TheVariants.{Kept, Failed}
+use Rattle.xa_calls.specs.declared.request.Verb.{Verb}
+use Rattle.xa_calls.specs.declared.request.Verb.TheVariants as verb
+use Rattle.xa_calls.specs.declared.code.XaCode.{XaCode}
+use Rattle.xa_calls.specs.declared.code.XaCode.TheVariants as code
 use Rattle.xa_manager.specs.declared.due.Outcome.TheVariants as outcome
 use Rattle.xa_manager.specs.declared.due.Action.{Action}
 use Rattle.xa_manager.specs.declared.due.Action.TheVariants as action

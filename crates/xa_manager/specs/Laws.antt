@@ -4,7 +4,7 @@ use Rattle.std.specs.Prelude.{◌≡◌, ◌⊎◌, ◌≤◌, ℕ, Bool, true, 
 use Rattle.drda_words.specs.Order.{IsRising}
 use Rattle.xa_manager.specs.declared.branch.Branch.{Branch}
 use Rattle.xa_manager.specs.declared.branch.BranchState.TheVariants.{Active, Prepared}
-use Rattle.xa_manager.specs.declared.request.Verb.{Verb}
+use Rattle.xa_calls.specs.declared.request.Verb.{Verb}
 use Rattle.xa_manager.specs.declared.due.Action.{Action}
 use Rattle.xa_manager.specs.declared.due.Action.TheVariants as action
 use Rattle.xa_manager.specs.declared.due.Work.{Work}

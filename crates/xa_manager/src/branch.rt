@@ -3,7 +3,7 @@
 ghost use Rattle.std.specs.Prelude.{◌≡◌};
 ghost use Rattle.xa_manager.specs.Branch.{is_joined_by, is_last_joined_by, is_in_doubt};
 
-use crate::xid::Xid;
+use xa_calls::Xid;
 
 /// Where a branch stands (C193 chapter 6, the table of states of transaction branches). A
 /// conversation is named by a number of the caller's.

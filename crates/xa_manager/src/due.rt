@@ -4,8 +4,7 @@ ghost use Rattle.std.specs.Prelude.{◌≡◌};
 ghost use Rattle.xa_manager.specs.Due.{due_at, due_of_new, due_of_join, due_of_end, due_of_prepare, due_of_commit, due_of_one_phase, due_of_roll_back};
 
 use crate::branch::BranchState;
-use crate::code::XaCode;
-use crate::request::{Ending, Verb};
+use xa_calls::{Ending, Verb, XaCode};
 
 /// How many branches the table knows at most.
 pub const KNOWN_LIMIT: usize = 1024;

@@ -8,12 +8,11 @@ ghost use Rattle.xa_manager.specs.Place.{IsAt, IsGapFor, MayRestore};
 
 use crate::branch::{Branch, BranchState};
 use crate::due::{Action, Due, Facts, IN_DOUBT_LIMIT, KNOWN_LIMIT, Work};
-use crate::request::{Ending, Verb};
-use crate::xid::Xid;
 use crate::xids::Xids;
 use std::alloc::{AllocError, Global};
 use std::marker::Model;
 use thiserror::Error;
+use xa_calls::{Ending, Verb, Xid};
 
 /// Why a branch in doubt could not be restored.
 #[derive(Clone, Copy, Debug, PartialEq, Eq, Error)]

@@ -1,5 +1,5 @@
-use Rattle.xa_manager.proofs.Reading.{found_in, read_again, read_on}
-use Rattle.xa_manager.proofs.xid.one_reading.Goals as goal
+use Rattle.xa_calls.proofs.Reading.{found_in, read_again, read_on}
+use Rattle.xa_calls.proofs.xid.one_reading.Goals as goal
 
 pub returns-clause-found : goal.returns-clause-found
 returns-clause-found c = found_in

@@ -1,6 +1,6 @@
 use Rattle.std.proofs.Common.{ℕ, List, ◌++◌, length, drop, replicate, ap, ◌∙◌}
 use Rattle.std.proofs.lemmas.List.{drop-replicate}
-use Rattle.xa_manager.proofs.xid.padded.Goals as goal
+use Rattle.xa_calls.proofs.xid.padded.Goals as goal
 
 -- the first bytes are written over, and the zeros after them stay
 pub returns : goal.returns

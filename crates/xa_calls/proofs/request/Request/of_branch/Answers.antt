@@ -1,11 +1,11 @@
 use Rattle.std.proofs.Common.{◌≡◌, ℕ, List, refl, true}
 use Rattle.std.specs.Prelude.{option_and_then}
-use Rattle.xa_manager.specs.declared.sync_type.SyncType.{SyncType}
-use Rattle.xa_manager.specs.declared.sync_type.SyncType.TheVariants as sync
-use Rattle.xa_manager.specs.Xid.{xid_in}
-use Rattle.xa_manager.specs.Numbers.{flags_of}
-use Rattle.xa_manager.specs.Request.{asked, verb_of, branch_request}
-use Rattle.xa_manager.proofs.request.Request.of_branch.Goals as goal
+use Rattle.xa_calls.specs.declared.sync_type.SyncType.{SyncType}
+use Rattle.xa_calls.specs.declared.sync_type.SyncType.TheVariants as sync
+use Rattle.xa_calls.specs.Xid.{xid_in}
+use Rattle.xa_calls.specs.Numbers.{flags_of}
+use Rattle.xa_calls.specs.Request.{asked, verb_of, branch_request}
+use Rattle.xa_calls.proofs.request.Request.of_branch.Goals as goal
 
 -- what is asked of a branch by any call but a recover
 asks : (s : SyncType) → (s ≡ sync.Recover → ⊥) → (flags : ℕ) (text : List ℕ) → branch_request s flags text ≡ option_and_then (λ xid. asked (option_and_then (verb_of s) (flags_of flags)) xid) (xid_in text)

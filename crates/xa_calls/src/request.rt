@@ -2,7 +2,7 @@
 
 ghost use Rattle.std.specs.Prelude.{◌≡◌, option_copied};
 ghost use Rattle.std.specs.Result.{result_ok};
-ghost use Rattle.xa_manager.specs.Request.{verb_of, flags_in, branch_request, request_in};
+ghost use Rattle.xa_calls.specs.Request.{verb_of, flags_in, branch_request, request_in};
 
 use crate::flags::Flags;
 use crate::sync_type::SyncType;

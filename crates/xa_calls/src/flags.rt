@@ -1,7 +1,7 @@
 //! The flags of an XA call.
 
 ghost use Rattle.std.specs.Prelude.{◌≡◌, ◌≢◌, IfSome, IfNone};
-ghost use Rattle.xa_manager.specs.Numbers.{flags_number, flags_of};
+ghost use Rattle.xa_calls.specs.Numbers.{flags_number, flags_of};
 
 /// The XAFLAGS that some call takes (C193 chapter 4, "Flag Definitions"), with their numbers. No call here takes two
 /// at once.

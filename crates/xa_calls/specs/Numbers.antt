@@ -1,11 +1,11 @@
 -- The numbers of SYNCTYPE (this server's profile), and of XAFLAGS and XARETVAL (C193 chapter 4).
 use Rattle.std.specs.Prelude.{ℕ, ℤ, pos, negsuc, Option, Some, None, if◌then◌else◌, ◌==◌}
-use Rattle.xa_manager.specs.declared.sync_type.SyncType.{SyncType}
-use Rattle.xa_manager.specs.declared.sync_type.SyncType.TheVariants as sync
-use Rattle.xa_manager.specs.declared.flags.Flags.{Flags}
-use Rattle.xa_manager.specs.declared.flags.Flags.TheVariants as flag
-use Rattle.xa_manager.specs.declared.code.XaCode.{XaCode}
-use Rattle.xa_manager.specs.declared.code.XaCode.TheVariants as code
+use Rattle.xa_calls.specs.declared.sync_type.SyncType.{SyncType}
+use Rattle.xa_calls.specs.declared.sync_type.SyncType.TheVariants as sync
+use Rattle.xa_calls.specs.declared.flags.Flags.{Flags}
+use Rattle.xa_calls.specs.declared.flags.Flags.TheVariants as flag
+use Rattle.xa_calls.specs.declared.code.XaCode.{XaCode}
+use Rattle.xa_calls.specs.declared.code.XaCode.TheVariants as code
 
 abbrev pub sync_number : SyncType → ℕ
 sync_number sync.Prepare = 0x01

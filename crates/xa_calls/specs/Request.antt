@@ -1,17 +1,17 @@
 -- The XA call that a SYNCCTL spells (DRDA V5 volume 3, SYNCCTL).
 use Rattle.std.specs.Prelude.{ℕ, List, length, Option, Some, None, option_map, option_and_then, if◌then◌else◌, ◌==◌}
 use Rattle.std.specs.Int.{w32, from_be_bytes}
-use Rattle.xa_manager.specs.declared.sync_type.SyncType.{SyncType}
-use Rattle.xa_manager.specs.declared.sync_type.SyncType.TheVariants as sync
-use Rattle.xa_manager.specs.declared.flags.Flags.{Flags}
-use Rattle.xa_manager.specs.declared.flags.Flags.TheVariants as flag
-use Rattle.xa_manager.specs.declared.request.Verb.{Verb}
-use Rattle.xa_manager.specs.declared.request.Verb.TheVariants as verb
-use Rattle.xa_manager.specs.declared.request.Ending.TheVariants.{Kept, Failed}
-use Rattle.xa_manager.specs.declared.request.Request.{Request}
-use Rattle.xa_manager.specs.declared.request.Request.TheVariants as request
-use Rattle.xa_manager.specs.Xid.{xid_in}
-use Rattle.xa_manager.specs.Numbers.{sync_type_of, flags_of}
+use Rattle.xa_calls.specs.declared.sync_type.SyncType.{SyncType}
+use Rattle.xa_calls.specs.declared.sync_type.SyncType.TheVariants as sync
+use Rattle.xa_calls.specs.declared.flags.Flags.{Flags}
+use Rattle.xa_calls.specs.declared.flags.Flags.TheVariants as flag
+use Rattle.xa_calls.specs.declared.request.Verb.{Verb}
+use Rattle.xa_calls.specs.declared.request.Verb.TheVariants as verb
+use Rattle.xa_calls.specs.declared.request.Ending.TheVariants.{Kept, Failed}
+use Rattle.xa_calls.specs.declared.request.Request.{Request}
+use Rattle.xa_calls.specs.declared.request.Request.TheVariants as request
+use Rattle.xa_calls.specs.Xid.{xid_in}
+use Rattle.xa_calls.specs.Numbers.{sync_type_of, flags_of}
 
 -- the flags that each call takes
 abbrev pub verb_of : SyncType → Flags → Option Verb

@@ -7,7 +7,7 @@ ghost use Rattle.std.specs.Ordering.{nat_cmp};
 ghost use Rattle.std.specs.Cmp.{partial_equiv_from_equiv};
 ghost use Rattle.std.specs.Cmp.Lexicographic.{slice_cmp, nat_list_eq_equiv, nat_list_cmp_total, texts_po, texts_ties};
 ghost use Rattle.std.proofs.Common.{refl};
-ghost use Rattle.xa_manager.specs.Xid.{AreBytes, Parts, AreParts, IsXid, BeginsWith, wire, parts_of, number_at, begins_with_xid, xid_length, xid_in};
+ghost use Rattle.xa_calls.specs.Xid.{AreBytes, Parts, AreParts, IsXid, BeginsWith, wire, parts_of, number_at, begins_with_xid, xid_length, xid_in};
 
 use std::alloc::AllocError;
 use std::cmp::Ordering;
@@ -45,7 +45,7 @@ impl Model for Xid {
     ghost use Rattle.std.specs.Cmp.{partial_equiv_from_equiv};
     ghost use Rattle.std.specs.Cmp.Lexicographic.{slice_cmp, nat_list_eq_equiv, nat_list_cmp_total, texts_po, texts_ties};
     ghost use Rattle.std.proofs.Common.{refl};
-    ghost use Rattle.xa_manager.specs.Xid.{AreBytes, IsPadded, padded-take, length-take_padded};
+    ghost use Rattle.xa_calls.specs.Xid.{AreBytes, IsPadded, padded-take, length-take_padded};
 
     ghost Value = { List ℕ };
 

@@ -1,7 +1,7 @@
 use Rattle.std.proofs.Common.{sym, ◌∙◌, arith}
-use Rattle.xa_manager.specs.Xid.{begins_with_xid, xid_length}
-use Rattle.xa_manager.proofs.Reading.{found, none_there, tested, untested}
-use Rattle.xa_manager.proofs.xid.Xid.read.Goals as goal
+use Rattle.xa_calls.specs.Xid.{begins_with_xid, xid_length}
+use Rattle.xa_calls.proofs.Reading.{found, none_there, tested, untested}
+use Rattle.xa_calls.proofs.xid.Xid.read.Goals as goal
 
 pub returns-in-Some-clause-ok : goal.returns-in-Some-clause-ok
 returns-in-Some-clause-ok c =

@@ -1,7 +1,7 @@
 //! What a SYNCCTL asks of the XA manager.
 
 ghost use Rattle.std.specs.Prelude.{◌≡◌, ◌≢◌, IfSome, IfNone};
-ghost use Rattle.xa_manager.specs.Numbers.{sync_number, sync_type_of};
+ghost use Rattle.xa_calls.specs.Numbers.{sync_number, sync_type_of};
 
 /// The SYNCTYPE of a SYNCCTL (DRDA V5 volume 3, SYNCTYPE), with its number. The numbers are this
 /// server's profile.

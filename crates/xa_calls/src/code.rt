@@ -1,7 +1,7 @@
 //! What an XA call is answered.
 
 ghost use Rattle.std.specs.Prelude.{◌≡◌};
-ghost use Rattle.xa_manager.specs.Numbers.{code_number};
+ghost use Rattle.xa_calls.specs.Numbers.{code_number};
 
 /// The XARETVAL of an XA call (C193 chapter 4, "Return Codes"), with its number.
 #[derive(Clone, Copy, Debug, PartialEq, Eq)]
