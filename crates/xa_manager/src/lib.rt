@@ -4,13 +4,18 @@
 #![tactic(auto)]
 
 mod branch;
+mod counts;
 mod due;
 mod laws;
+mod search;
 mod table;
 mod xids;
 
 pub use branch::{Branch, BranchState};
 pub use due::{Action, Due, Facts, IN_DOUBT_LIMIT, KNOWN_LIMIT, Outcome, Work};
-pub use laws::{joined_to_one, moves_one_branch, prepared_until_decided, works_while_active};
+pub use laws::{
+    actions_fit_states, joined_to_one, moves_one_branch, prepared_until_decided,
+    refusals_do_nothing, works_while_active,
+};
 pub use table::{RestoreError, XaTable};
 pub use xids::Xids;
