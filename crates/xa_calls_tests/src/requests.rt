@@ -1,7 +1,8 @@
 //! Which SYNCTYPE, XAFLAGS and XID data name a call, with values from C193 chapters 4 and 5 and this
 //! server's profile.
 
-use xa_calls::{Request, XaCode};
+use std::test::Fail;
+use xa_calls::{Ending, Request, Verb, XaCode, Xid};
 
 const NONE: u32 = 0;
 
@@ -20,20 +21,30 @@ const ONE_PHASE: u32 = 0x4000_0000;
 // Format 1, global part 47, branch part 42.
 const XID: &[u8] = &[0, 0, 0, 1, 0, 0, 0, 1, 0, 0, 0, 1, 0x47, 0x42];
 
-// The flags that each SYNCTYPE takes, but for a recover, which takes any.
-const TAKEN: [(u8, u32); 11] = [
-    (0x09, NONE),
-    (0x09, JOIN),
-    (0x09, RESUME),
-    (0x0B, SUCCESS),
-    (0x0B, SUSPEND),
-    (0x0B, FAIL),
-    (0x01, NONE),
-    (0x04, NONE),
-    (0x04, ONE_PHASE),
-    (0x07, NONE),
-    (0x06, NONE),
+// The flags that each SYNCTYPE takes, but for a recover, which takes any, and what they ask.
+const TAKEN: [(u8, u32, Verb); 11] = [
+    (0x09, NONE, Verb::Start),
+    (0x09, JOIN, Verb::Join),
+    (0x09, RESUME, Verb::Join),
+    (0x0B, SUCCESS, Verb::End(Ending::Kept)),
+    (0x0B, SUSPEND, Verb::End(Ending::Kept)),
+    (0x0B, FAIL, Verb::End(Ending::Failed)),
+    (0x01, NONE, Verb::Prepare),
+    (0x04, NONE, Verb::Commit),
+    (0x04, ONE_PHASE, Verb::CommitOnePhase),
+    (0x07, NONE, Verb::RollBack),
+    (0x06, NONE, Verb::Forget),
 ];
+
+#[test]
+fn names_each_call(rt: HostRuntime) -> Result<(), Fail> {
+    let xid = Xid::read(XID)?;
+    for (sync_type, flags, verb) in TAKEN {
+        let request = Request::read(sync_type, Some(&flags.to_be_bytes()), Some(XID))?;
+        assert_eq!(rt; request, Request::Branch(verb, xid), "{sync_type} {flags}");
+    }
+    Ok(())
+}
 
 const FLAGS: [u32; 9] = [
     NONE,
