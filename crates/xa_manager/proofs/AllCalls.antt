@@ -2,24 +2,28 @@
 use Rattle.std.proofs.Common.{◌≡◌, ℕ, ◌+◌, ◌≤◌, Bool, true, false, cond, not, eqb, List, [], ◌∷◌, Option, Some, None, refl, sym, ap, subst, inl, inr, ◌⊎◌, arith, ◌∙◌}
 use Rattle.std.specs.Prelude.{find, is_some, option_map, nat_le}
 use Rattle.std.specs.Str.{bytes_eq}
-use Rattle.std.proofs.lemmas.Bool.{eqb-true}
+use Rattle.std.proofs.lemmas.Bool.{eqb-true, leb-false}
 use Rattle.drda_words.specs.Order.{precedes}
+use Rattle.drda_words.proofs.Precedes.{bytes_eq-refl, same_bytes}
+use Rattle.xa_calls.specs.declared.request.Ending.{Ending}
+use Rattle.xa_calls.specs.declared.request.Ending.TheVariants.{Kept, Failed}
+use Rattle.xa_calls.specs.declared.code.XaCode.{XaCode}
+use Rattle.xa_calls.specs.declared.code.XaCode.TheVariants as code
+use Rattle.xa_calls.specs.declared.request.Verb.{Verb}
+use Rattle.xa_calls.specs.declared.request.Verb.TheVariants as verb
 use Rattle.xa_manager.specs.declared.branch.Branch.{Branch}
 use Rattle.xa_manager.specs.declared.branch.BranchState.{BranchState}
 use Rattle.xa_manager.specs.declared.branch.BranchState.TheVariants.{Active, Idle, RollbackOnly, Prepared}
-use Rattle.xa_manager.specs.declared.request.Ending.TheVariants.{Kept, Failed}
-use Rattle.xa_manager.specs.declared.code.XaCode.TheVariants as code
-use Rattle.xa_manager.specs.declared.request.Verb.{Verb}
-use Rattle.xa_manager.specs.declared.request.Verb.TheVariants as verb
+use Rattle.xa_manager.specs.declared.due.Outcome.TheVariants as outcome
 use Rattle.xa_manager.specs.declared.due.Action.{Action}
 use Rattle.xa_manager.specs.declared.due.Action.TheVariants as action
 use Rattle.xa_manager.specs.declared.due.Due.{Due}
 use Rattle.xa_manager.specs.declared.due.Facts.{Facts}
-use Rattle.xa_manager.specs.Branch.{is_joined_by, is_last_joined_by, state_of, joined_xid, with_branch, with_state, without, without_those_of}
-use Rattle.xa_manager.specs.Due.{due_at, due_of_free, refused, done, facts_of, left_by, next_state, after}
-use Rattle.xa_manager.specs.Laws.{is_decision, action_of, MovesOne, PreparedStays, PreparedOutlives, OnlyPreparedDecided, JoinedIsActive, OneEach, OneEachStays, OneEachOutlives}
-use Rattle.xa_manager.proofs.Order.{bytes_eq-refl, same_bytes}
-use Rattle.xa_manager.proofs.Rising.{Above, Rises, rises, state_of_above, unknown_parts, count_of, count_of-with_branch, count_of-with_state, count_of-filter, counted, weight}
+use Rattle.xa_manager.specs.Branch.{is_joined_by, is_last_joined_by, count_of, state_of, joined_xid, with_branch, with_state, without, without_those_of}
+use Rattle.xa_manager.specs.Due.{due_at, due_of_new, due_of_free, due_of_join, due_of_end, due_of_prepare, due_of_commit, due_of_one_phase, due_of_roll_back, refused, done, facts_of, IsDue, left_by, next_state, after}
+use Rattle.xa_manager.specs.Laws.{is_decision, is_refusal, FitsAction, action_of, RefusalsDoNothing, ActionsFit, MovesOne, PreparedStays, PreparedOutlives, OnlyPreparedDecided, JoinedIsActive, OneEach, OneEachStays, OneEachOutlives}
+use Rattle.xa_manager.proofs.Rising.{Above, Rises, rises, state_of_above, unknown_parts, count_of-with_branch, count_of-with_state, count_of-filter, counted}
+use Rattle.xa_manager.specs.Counts.{weight}
 
 -- ---- what an edit at one XID leaves of the others
 
@@ -69,67 +73,116 @@ other_after bs c y x action.RollBack d = other_without bs y x d
 
 -- ---- rows
 
--- one of two answers
-abbrev due_if : Bool → Due → Due → Due
-due_if t d e = cond t d e
+-- a test decides, and each answer may use how it came out
+either : (P : Due → Type 0) (t : Bool) (d e : Due) → (t ≡ true → P d) → (t ≡ false → P e) → P (cond t d e)
+either P true d e first second = first refl
+either P false d e first second = second refl
 
--- what a test of the action fails at, it fails at by either way
-pick : (p : Action → Bool) (t : Bool) (d e : Due) → p d.action ≡ false → p e.action ≡ false → p (due_if t d e).action ≡ false
-pick p true d e f g = f
-pick p false d e f g = g
+-- what every row of the table keeps to
+record IsRow (s : Option BranchState) (f : Facts) (d : Due) : Type 0 where
+  fits : FitsAction d.action s f
+  refusal : is_refusal d.code ≡ true → d.action ≡ action.Nothing
+
+refuses : (s : Option BranchState) (f : Facts) (c : XaCode) → IsRow s f (refused c)
+refuses s f c = record { fits = tt; refusal = λ e. refl }
+
+does : (s : Option BranchState) (f : Facts) (a : Action) → FitsAction a s f → IsRow s f (done a)
+does s f a fits = record { fits = fits; refusal = λ e. absurd cc }
+
+free_row : (s : BranchState) (f : Facts) → f.is_joined ≡ false → IsRow (Some s) f (due_of_free s)
+free_row (Active c) f j = refuses (Some (Active c)) f code.Protocol
+free_row (Idle c) f j = does (Some (Idle c)) f action.Join ((c, refl), j)
+free_row (RollbackOnly c) f j = refuses (Some (RollbackOnly c)) f code.RolledBack
+free_row Prepared f j = refuses (Some Prepared) f code.Protocol
+
+new_row : (f : Facts) → IsRow None f (due_of_new f)
+new_row f =
+    either (IsRow None f) f.is_joined (refused code.Protocol) (cond f.work.is_local (refused code.Outside) (cond (nat_le 1024 f.known) (refused code.Limit) (done action.Start))) (λ e. refuses None f code.Protocol) (λ j.
+    either (IsRow None f) f.work.is_local (refused code.Outside) (cond (nat_le 1024 f.known) (refused code.Limit) (done action.Start)) (λ e. refuses None f code.Outside) (λ l.
+    either (IsRow None f) (nat_le 1024 f.known) (refused code.Limit) (done action.Start) (λ e. refuses None f code.Limit) (λ k. does None f action.Start (refl, j, leb-false 1024 f.known k))))
+
+join_row : (s : BranchState) (f : Facts) → IsRow (Some s) f (due_of_join s f)
+join_row s f =
+    either (IsRow (Some s) f) f.is_joined (refused code.Protocol) (cond f.work.is_local (refused code.Outside) (due_of_free s)) (λ e. refuses (Some s) f code.Protocol) (λ j.
+    either (IsRow (Some s) f) f.work.is_local (refused code.Outside) (due_of_free s) (λ e. refuses (Some s) f code.Outside) (λ l. free_row s f j))
+
+end_row : (g : Ending) (s : BranchState) (f : Facts) → IsRow (Some s) f (due_of_end g s f.conversation)
+end_row g (Active c) f = either (IsRow (Some (Active c)) f) (eqb c f.conversation) (done (action.End g)) (refused code.Protocol)
+    (λ e. does (Some (Active c)) f (action.End g) (inl (ap (λ (n : ℕ). let s : Option BranchState = Some (Active n) in s) (eqb-true c f.conversation e)))) (λ e. refuses (Some (Active c)) f code.Protocol)
+end_row g (Idle c) f = either (IsRow (Some (Idle c)) f) (eqb c f.conversation) (done (action.End g)) (refused code.Protocol)
+    (λ e. does (Some (Idle c)) f (action.End g) (inr (ap (λ (n : ℕ). let s : Option BranchState = Some (Idle n) in s) (eqb-true c f.conversation e)))) (λ e. refuses (Some (Idle c)) f code.Protocol)
+end_row g (RollbackOnly c) f = refuses (Some (RollbackOnly c)) f code.Protocol
+end_row g Prepared f = refuses (Some Prepared) f code.Protocol
+
+prepare_row : (s : BranchState) (f : Facts) → IsRow (Some s) f (due_of_prepare s f)
+prepare_row (Active c) f = refuses (Some (Active c)) f code.Protocol
+prepare_row (Idle c) f =
+    either (IsRow (Some (Idle c)) f) f.work.has_changes (cond (nat_le 256 f.in_doubt) (refused code.Limit) (done action.Prepare)) (record { code = code.ReadOnly; action = action.Forget })
+    (λ e. either (IsRow (Some (Idle c)) f) (nat_le 256 f.in_doubt) (refused code.Limit) (done action.Prepare) (λ d. refuses (Some (Idle c)) f code.Limit) (λ d. does (Some (Idle c)) f action.Prepare ((c, refl), leb-false 256 f.in_doubt d)))
+    (λ e. record { fits = (c, refl); refusal = λ d. absurd cc })
+prepare_row (RollbackOnly c) f = record { fits = inr (c, refl); refusal = λ e. absurd cc }
+prepare_row Prepared f = refuses (Some Prepared) f code.Protocol
+
+one_phase_row : (s : BranchState) (f : Facts) → IsRow (Some s) f (due_of_one_phase s)
+one_phase_row (Active c) f = refuses (Some (Active c)) f code.Protocol
+one_phase_row (Idle c) f = does (Some (Idle c)) f action.CommitOnePhase (c, refl)
+one_phase_row (RollbackOnly c) f = record { fits = inr (c, refl); refusal = λ e. absurd cc }
+one_phase_row Prepared f = refuses (Some Prepared) f code.Protocol
+
+commit_row : (s : BranchState) (f : Facts) → IsRow (Some s) f (due_of_commit s)
+commit_row (Active c) f = refuses (Some (Active c)) f code.Protocol
+commit_row (Idle c) f = refuses (Some (Idle c)) f code.Protocol
+commit_row (RollbackOnly c) f = refuses (Some (RollbackOnly c)) f code.Protocol
+commit_row Prepared f = does (Some Prepared) f (action.Decide outcome.Commit) refl
+
+roll_back_row : (s : BranchState) (f : Facts) → IsRow (Some s) f (due_of_roll_back s)
+roll_back_row (Active c) f = refuses (Some (Active c)) f code.Protocol
+roll_back_row (Idle c) f = does (Some (Idle c)) f action.RollBack (inl (c, refl))
+roll_back_row (RollbackOnly c) f = does (Some (RollbackOnly c)) f action.RollBack (inr (c, refl))
+roll_back_row Prepared f = does (Some Prepared) f (action.Decide outcome.RollBack) refl
+
+row : (v : Verb) (s : Option BranchState) (f : Facts) → IsRow s f (due_at v s f)
+row verb.Start None f = new_row f
+row verb.Start (Some s) f = refuses (Some s) f code.Duplicate
+row verb.Join (Some s) f = join_row s f
+row (verb.End g) (Some s) f = end_row g s f
+row verb.Prepare (Some s) f = prepare_row s f
+row verb.Commit (Some s) f = commit_row s f
+row verb.CommitOnePhase (Some s) f = one_phase_row s f
+row verb.RollBack (Some s) f = roll_back_row s f
+row verb.Forget (Some s) f = refuses (Some s) f code.Protocol
+row verb.Join None f = refuses None f code.Unknown
+row (verb.End g) None f = refuses None f code.Unknown
+row verb.Prepare None f = refuses None f code.Unknown
+row verb.Commit None f = refuses None f code.Unknown
+row verb.CommitOnePhase None f = refuses None f code.Unknown
+row verb.RollBack None f = refuses None f code.Unknown
+row verb.Forget None f = refuses None f code.Unknown
+
+pub refusals_do_nothing : RefusalsDoNothing
+refusals_do_nothing bs c v x work e = (row v (state_of bs x) (facts_of bs c work)).refusal e
+
+pub actions_fit : ActionsFit
+actions_fit bs c v x work = (row v (state_of bs x) (facts_of bs c work)).fits
+
+-- the same of what is due by some call
+pub fits : (bs : List Branch) (c : ℕ) (x : List ℕ) (d : Due) (due : IsDue bs c x d) → FitsAction d.action (state_of bs x) (facts_of bs c due.work)
+fits bs c x d due = subst (λ (e : Due). FitsAction e.action (state_of bs x) (facts_of bs c due.work)) (sym due.answer) (actions_fit bs c due.verb x due.work)
 
 -- no decision is due but of a prepared branch
-undecided : (v : Verb) (o : Option BranchState) (f : Facts) → (is_decision (due_at v o f).action ≡ false) ⊎ (o ≡ Some Prepared)
-undecided verb.Start None f =
-    inl (pick is_decision f.is_joined (refused code.Protocol) (due_if f.work.is_local (refused code.Outside) (due_if (nat_le 1024 f.known) (refused code.Limit) (done action.Start))) refl
-    (pick is_decision f.work.is_local (refused code.Outside) (due_if (nat_le 1024 f.known) (refused code.Limit) (done action.Start)) refl
-    (pick is_decision (nat_le 1024 f.known) (refused code.Limit) (done action.Start) refl refl)))
-undecided verb.Start (Some s) f = inl refl
-undecided verb.Join (Some s) f =
-    inl (pick is_decision f.is_joined (refused code.Protocol) (due_if f.work.is_local (refused code.Outside) (due_of_free s)) refl
-    (pick is_decision f.work.is_local (refused code.Outside) (due_of_free s) refl (free s)))
-  where
-    free : (s : BranchState) → is_decision (due_of_free s).action ≡ false
-    free (Active c) = refl
-    free (Idle c) = refl
-    free (RollbackOnly c) = refl
-    free Prepared = refl
-undecided (verb.End g) (Some (Active c)) f = inl (pick is_decision (eqb c f.conversation) (done (action.End g)) (refused code.Protocol) refl refl)
-undecided (verb.End g) (Some (Idle c)) f = inl (pick is_decision (eqb c f.conversation) (done (action.End g)) (refused code.Protocol) refl refl)
-undecided (verb.End g) (Some (RollbackOnly c)) f = inl refl
-undecided (verb.End g) (Some Prepared) f = inr refl
-undecided verb.Prepare (Some (Active c)) f = inl refl
-undecided verb.Prepare (Some (Idle c)) f =
-    inl (pick is_decision f.work.has_changes (due_if (nat_le 256 f.in_doubt) (refused code.Limit) (done action.Prepare)) (record { code = code.ReadOnly; action = action.Forget })
-    (pick is_decision (nat_le 256 f.in_doubt) (refused code.Limit) (done action.Prepare) refl refl) refl)
-undecided verb.Prepare (Some (RollbackOnly c)) f = inl refl
-undecided verb.Prepare (Some Prepared) f = inr refl
-undecided verb.Commit (Some (Active c)) f = inl refl
-undecided verb.Commit (Some (Idle c)) f = inl refl
-undecided verb.Commit (Some (RollbackOnly c)) f = inl refl
-undecided verb.Commit (Some Prepared) f = inr refl
-undecided verb.CommitOnePhase (Some (Active c)) f = inl refl
-undecided verb.CommitOnePhase (Some (Idle c)) f = inl refl
-undecided verb.CommitOnePhase (Some (RollbackOnly c)) f = inl refl
-undecided verb.CommitOnePhase (Some Prepared) f = inr refl
-undecided verb.RollBack (Some (Active c)) f = inl refl
-undecided verb.RollBack (Some (Idle c)) f = inl refl
-undecided verb.RollBack (Some (RollbackOnly c)) f = inl refl
-undecided verb.RollBack (Some Prepared) f = inr refl
-undecided verb.Forget (Some s) f = inl refl
-undecided verb.Join None f = inl refl
-undecided (verb.End g) None f = inl refl
-undecided verb.Prepare None f = inl refl
-undecided verb.Commit None f = inl refl
-undecided verb.CommitOnePhase None f = inl refl
-undecided verb.RollBack None f = inl refl
-undecided verb.Forget None f = inl refl
+decided : (a : Action) (s : Option BranchState) (f : Facts) → FitsAction a s f → is_decision a ≡ true → s ≡ Some Prepared
+decided action.Nothing s f h e = absurd cc
+decided action.Start s f h e = absurd cc
+decided action.Join s f h e = absurd cc
+decided (action.End g) s f h e = absurd cc
+decided action.Forget s f h e = absurd cc
+decided action.Prepare s f h e = absurd cc
+decided action.CommitOnePhase s f h e = absurd cc
+decided (action.Decide o) s f h e = h
+decided action.RollBack s f h e = absurd cc
 
 pub only_prepared_decided : OnlyPreparedDecided
-only_prepared_decided bs c v x work e = elim (undecided v (state_of bs x) (facts_of bs c work)) [
-  | inl not_so ↦ absurd cc
-  | inr is ↦ is
-]
+only_prepared_decided bs c v x work e = decided (action_of bs c v x work) (state_of bs x) (facts_of bs c work) (actions_fit bs c v x work) e
 
 -- the conversation is joined to the branch
 abbrev begins : Action → Bool
@@ -138,105 +191,16 @@ begins action.Join = true
 begins _ = false
 
 -- a conversation that is joined to a branch begins and joins no other
-not_begun : (v : Verb) (o : Option BranchState) (f : Facts) → (begins (due_at v o f).action ≡ false) ⊎ (f.is_joined ≡ false)
-not_begun verb.Start None f = by_case f.is_joined (due_if f.work.is_local (refused code.Outside) (due_if (nat_le 1024 f.known) (refused code.Limit) (done action.Start)))
-  where
-    by_case : (j : Bool) (d : Due) → (begins (due_if j (refused code.Protocol) d).action ≡ false) ⊎ (j ≡ false)
-    by_case true d = inl refl
-    by_case false d = inr refl
-not_begun verb.Start (Some s) f = inl refl
-not_begun verb.Join (Some s) f = by_case f.is_joined (due_if f.work.is_local (refused code.Outside) (due_of_free s))
-  where
-    by_case : (j : Bool) (d : Due) → (begins (due_if j (refused code.Protocol) d).action ≡ false) ⊎ (j ≡ false)
-    by_case true d = inl refl
-    by_case false d = inr refl
-not_begun (verb.End g) (Some (Active c)) f = inl (pick begins (eqb c f.conversation) (done (action.End g)) (refused code.Protocol) refl refl)
-not_begun (verb.End g) (Some (Idle c)) f = inl (pick begins (eqb c f.conversation) (done (action.End g)) (refused code.Protocol) refl refl)
-not_begun (verb.End g) (Some (RollbackOnly c)) f = inl refl
-not_begun (verb.End g) (Some Prepared) f = inl refl
-not_begun verb.Prepare (Some (Active c)) f = inl refl
-not_begun verb.Prepare (Some (Idle c)) f =
-    inl (pick begins f.work.has_changes (due_if (nat_le 256 f.in_doubt) (refused code.Limit) (done action.Prepare)) (record { code = code.ReadOnly; action = action.Forget })
-    (pick begins (nat_le 256 f.in_doubt) (refused code.Limit) (done action.Prepare) refl refl) refl)
-not_begun verb.Prepare (Some (RollbackOnly c)) f = inl refl
-not_begun verb.Prepare (Some Prepared) f = inl refl
-not_begun verb.Commit (Some (Active c)) f = inl refl
-not_begun verb.Commit (Some (Idle c)) f = inl refl
-not_begun verb.Commit (Some (RollbackOnly c)) f = inl refl
-not_begun verb.Commit (Some Prepared) f = inl refl
-not_begun verb.CommitOnePhase (Some (Active c)) f = inl refl
-not_begun verb.CommitOnePhase (Some (Idle c)) f = inl refl
-not_begun verb.CommitOnePhase (Some (RollbackOnly c)) f = inl refl
-not_begun verb.CommitOnePhase (Some Prepared) f = inl refl
-not_begun verb.RollBack (Some (Active c)) f = inl refl
-not_begun verb.RollBack (Some (Idle c)) f = inl refl
-not_begun verb.RollBack (Some (RollbackOnly c)) f = inl refl
-not_begun verb.RollBack (Some Prepared) f = inl refl
-not_begun verb.Forget (Some s) f = inl refl
-not_begun verb.Join None f = inl refl
-not_begun (verb.End g) None f = inl refl
-not_begun verb.Prepare None f = inl refl
-not_begun verb.Commit None f = inl refl
-not_begun verb.CommitOnePhase None f = inl refl
-not_begun verb.RollBack None f = inl refl
-not_begun verb.Forget None f = inl refl
-
--- an XID that is not known begins, or nothing is due of it
-at_unknown : (v : Verb) (f : Facts) → ((due_at v None f).action ≡ action.Nothing) ⊎ ((due_at v None f).action ≡ action.Start)
-at_unknown verb.Start f = new f.is_joined f.work.is_local (nat_le 1024 f.known)
-  where
-    new : (j l k : Bool) → (let d : Due = due_if j (refused code.Protocol) (due_if l (refused code.Outside) (due_if k (refused code.Limit) (done action.Start))) in (d.action ≡ action.Nothing) ⊎ (d.action ≡ action.Start))
-    new true l k = inl refl
-    new false true k = inl refl
-    new false false true = inl refl
-    new false false false = inr refl
-at_unknown verb.Join f = inl refl
-at_unknown (verb.End e) f = inl refl
-at_unknown verb.Prepare f = inl refl
-at_unknown verb.Commit f = inl refl
-at_unknown verb.CommitOnePhase f = inl refl
-at_unknown verb.RollBack f = inl refl
-at_unknown verb.Forget f = inl refl
-
-abbrev is_start : Action → Bool
-is_start action.Start = true
-is_start _ = false
-
--- one that is known does not begin
-not_started : (v : Verb) (s : BranchState) (f : Facts) → is_start (due_at v (Some s) f).action ≡ false
-not_started verb.Start s f = refl
-not_started verb.Join s f =
-    pick is_start f.is_joined (refused code.Protocol) (due_if f.work.is_local (refused code.Outside) (due_of_free s)) refl
-    (pick is_start f.work.is_local (refused code.Outside) (due_of_free s) refl (free s))
-  where
-    free : (s : BranchState) → is_start (due_of_free s).action ≡ false
-    free (Active c) = refl
-    free (Idle c) = refl
-    free (RollbackOnly c) = refl
-    free Prepared = refl
-not_started (verb.End g) (Active c) f = pick is_start (eqb c f.conversation) (done (action.End g)) (refused code.Protocol) refl refl
-not_started (verb.End g) (Idle c) f = pick is_start (eqb c f.conversation) (done (action.End g)) (refused code.Protocol) refl refl
-not_started (verb.End g) (RollbackOnly c) f = refl
-not_started (verb.End g) Prepared f = refl
-not_started verb.Prepare (Active c) f = refl
-not_started verb.Prepare (Idle c) f =
-    pick is_start f.work.has_changes (due_if (nat_le 256 f.in_doubt) (refused code.Limit) (done action.Prepare)) (record { code = code.ReadOnly; action = action.Forget })
-    (pick is_start (nat_le 256 f.in_doubt) (refused code.Limit) (done action.Prepare) refl refl) refl
-not_started verb.Prepare (RollbackOnly c) f = refl
-not_started verb.Prepare Prepared f = refl
-not_started verb.Commit (Active c) f = refl
-not_started verb.Commit (Idle c) f = refl
-not_started verb.Commit (RollbackOnly c) f = refl
-not_started verb.Commit Prepared f = refl
-not_started verb.CommitOnePhase (Active c) f = refl
-not_started verb.CommitOnePhase (Idle c) f = refl
-not_started verb.CommitOnePhase (RollbackOnly c) f = refl
-not_started verb.CommitOnePhase Prepared f = refl
-not_started verb.RollBack (Active c) f = refl
-not_started verb.RollBack (Idle c) f = refl
-not_started verb.RollBack (RollbackOnly c) f = refl
-not_started verb.RollBack Prepared f = refl
-not_started verb.Forget s f = refl
+not_begun : (a : Action) (s : Option BranchState) (f : Facts) → FitsAction a s f → (begins a ≡ false) ⊎ (f.is_joined ≡ false)
+not_begun action.Nothing s f h = inl refl
+not_begun action.Start s f h = inr h.1
+not_begun action.Join s f h = inr h.1
+not_begun (action.End g) s f h = inl refl
+not_begun action.Forget s f h = inl refl
+not_begun action.Prepare s f h = inl refl
+not_begun action.CommitOnePhase s f h = inl refl
+not_begun (action.Decide o) s f h = inl refl
+not_begun action.RollBack s f h = inl refl
 
 -- ---- the branch that a call names
 
@@ -266,34 +230,25 @@ same_without (b ∷ bs) x =
     let kept : bytes_eq b.xid x ≡ false → state_of (b ∷ without bs x) x ≡ None = λ f. rw f rest in
     elim (bytes_eq b.xid x) as (λ q. bytes_eq b.xid x ≡ q → state_of (cond (not q) (b ∷ without bs x) (without bs x)) x ≡ None) [ true ↦ λ f. rest | false ↦ kept ] refl
 
--- of a branch that is known, whatever is done but to begin it
-same_after : (bs : List Branch) (c : ℕ) (x : List ℕ) (a : Action) (s : BranchState) → state_of bs x ≡ Some s → is_start a ≡ false → state_of (after bs c x a) x ≡ next_state c a (Some s)
-same_after bs c x action.Nothing s e n = e
-same_after bs c x action.Start s e n = absurd cc
-same_after bs c x action.Join s e n = same_with_state bs x (Active c) s e
-same_after bs c x (action.End g) s e n = same_with_state bs x (left_by c g) s e
-same_after bs c x action.Forget s e n = same_without bs x
-same_after bs c x action.Prepare s e n = same_with_state bs x Prepared s e
-same_after bs c x action.CommitOnePhase s e n = same_without bs x
-same_after bs c x (action.Decide o) s e n = same_without bs x
-same_after bs c x action.RollBack s e n = same_without bs x
-
-same_moves : (bs : List Branch) (c : ℕ) (v : Verb) (x : List ℕ) (f : Facts) (o : Option BranchState) → state_of bs x ≡ o
-    → (let d : Due = due_at v o f in state_of (after bs c x d.action) x ≡ next_state c d.action o)
-same_moves bs c v x f (Some s) e = same_after bs c x (due_at v (Some s) f).action s e (not_started v s f)
-same_moves bs c v x f None e =
-    let moved : Action → Type 0 = λ a. state_of (after bs c x a) x ≡ next_state c a None in
-    elim (at_unknown v f) [
-      | inl nothing ↦ subst moved (sym nothing) e
-      | inr start ↦ subst moved (sym start) (same_with_branch bs (record { xid = x; state = Active c }) e)
-    ]
+-- where the branch stands of which an action is due, what the action leaves is its next state
+same_after : (bs : List Branch) (c : ℕ) (x : List ℕ) (a : Action) (f : Facts) → FitsAction a (state_of bs x) f → state_of (after bs c x a) x ≡ next_state c a (state_of bs x)
+same_after bs c x action.Nothing f h = refl
+same_after bs c x action.Start f h = same_with_branch bs (record { xid = x; state = Active c }) h.0
+same_after bs c x action.Join f h = same_with_state bs x (Active c) (Idle h.0.0) h.0.1
+same_after bs c x (action.End g) f (inl active) = same_with_state bs x (left_by c g) (Active f.conversation) active
+same_after bs c x (action.End g) f (inr idle) = same_with_state bs x (left_by c g) (Idle f.conversation) idle
+same_after bs c x action.Forget f h = same_without bs x
+same_after bs c x action.Prepare f h = same_with_state bs x Prepared (Idle h.0.0) h.0.1
+same_after bs c x action.CommitOnePhase f h = same_without bs x
+same_after bs c x (action.Decide o) f h = same_without bs x
+same_after bs c x action.RollBack f h = same_without bs x
 
 pub moves_one : MovesOne
 moves_one bs c v asked xid work =
     let a = action_of bs c v asked work in
     let same : bytes_eq asked xid ≡ true → state_of (after bs c asked a) xid ≡ next_state c a (state_of bs asked) = λ e.
     let it : asked ≡ xid = same_bytes asked xid e in
-    subst (λ (y : List ℕ). state_of (after bs c asked a) y ≡ next_state c a (state_of bs asked)) it (same_moves bs c v asked (facts_of bs c work) (state_of bs asked) refl) in
+    subst (λ (y : List ℕ). state_of (after bs c asked a) y ≡ next_state c a (state_of bs asked)) it (same_after bs c asked a (facts_of bs c work) (actions_fit bs c v asked work)) in
     elim (bytes_eq asked xid) as (λ t. bytes_eq asked xid ≡ t → state_of (after bs c asked a) xid ≡ cond t (next_state c a (state_of bs asked)) (state_of bs xid)) [
       | true ↦ same
       | false ↦ λ e. other_after bs c asked xid a e
@@ -302,20 +257,18 @@ moves_one bs c v asked xid work =
 -- ---- a prepared branch
 
 -- of a prepared branch, a decision is due, or nothing
-at_prepared : (v : Verb) (f : Facts) → ((due_at v (Some Prepared) f).action ≡ action.Nothing) ⊎ (is_decision (due_at v (Some Prepared) f).action ≡ true)
-at_prepared verb.Start f = inl refl
-at_prepared verb.Join f = inl (both f.is_joined f.work.is_local)
-  where
-    both : (j l : Bool) → (due_if j (refused code.Protocol) (due_if l (refused code.Outside) (refused code.Protocol))).action ≡ action.Nothing
-    both true l = refl
-    both false true = refl
-    both false false = refl
-at_prepared (verb.End e) f = inl refl
-at_prepared verb.Prepare f = inl refl
-at_prepared verb.Commit f = inr refl
-at_prepared verb.CommitOnePhase f = inl refl
-at_prepared verb.RollBack f = inr refl
-at_prepared verb.Forget f = inl refl
+at_prepared : (a : Action) (s : Option BranchState) (f : Facts) → s ≡ Some Prepared → FitsAction a s f → (a ≡ action.Nothing) ⊎ (is_decision a ≡ true)
+at_prepared action.Nothing s f p h = inl refl
+at_prepared action.Start s f p h = let e : None ≡ Some Prepared = sym h.0 ∙ p in absurd cc
+at_prepared action.Join s f p h = let e : Some (Idle h.0.0) ≡ Some Prepared = sym h.0.1 ∙ p in absurd cc
+at_prepared (action.End g) s f p (inl h) = let e : Some (Active f.conversation) ≡ Some Prepared = sym h ∙ p in absurd cc
+at_prepared (action.End g) s f p (inr h) = let e : Some (Idle f.conversation) ≡ Some Prepared = sym h ∙ p in absurd cc
+at_prepared action.Forget s f p h = let e : Some (Idle h.0) ≡ Some Prepared = sym h.1 ∙ p in absurd cc
+at_prepared action.Prepare s f p h = let e : Some (Idle h.0.0) ≡ Some Prepared = sym h.0.1 ∙ p in absurd cc
+at_prepared action.CommitOnePhase s f p h = let e : Some (Idle h.0) ≡ Some Prepared = sym h.1 ∙ p in absurd cc
+at_prepared (action.Decide o) s f p h = inr refl
+at_prepared action.RollBack s f p (inl h) = let e : Some (Idle h.0) ≡ Some Prepared = sym h.1 ∙ p in absurd cc
+at_prepared action.RollBack s f p (inr h) = let e : Some (RollbackOnly h.0) ≡ Some Prepared = sym h.1 ∙ p in absurd cc
 
 pub prepared_stays : PreparedStays
 prepared_stays bs c v asked xid work known =
@@ -323,8 +276,7 @@ prepared_stays bs c v asked xid work known =
     let same : bytes_eq asked xid ≡ true → (state_of (after bs c asked a) xid ≡ Some Prepared) ⊎ ((asked ≡ xid) × (is_decision a ≡ true)) = λ e.
     let it : asked ≡ xid = same_bytes asked xid e in
     let here : state_of bs asked ≡ Some Prepared = rw it known in
-    let row : (a ≡ action.Nothing) ⊎ (is_decision a ≡ true) =
-    subst (λ (s : Option BranchState). let d : Due = due_at v s (facts_of bs c work) in (d.action ≡ action.Nothing) ⊎ (is_decision d.action ≡ true)) (sym here) (at_prepared v (facts_of bs c work)) in
+    let row : (a ≡ action.Nothing) ⊎ (is_decision a ≡ true) = at_prepared a (state_of bs asked) (facts_of bs c work) here (actions_fit bs c v asked work) in
     elim row [
       | inl nothing ↦ inl (subst (λ (k : Action). state_of (after bs c asked k) xid ≡ Some Prepared) (sym nothing) known)
       | inr decided ↦ inr (it, decided)
@@ -398,25 +350,29 @@ one_more bs c d one none = elim (eqb c d) as (λ t. eqb c d ≡ t → cond t 1 0
   | false ↦ λ e. omega (arith, one d)
 ] refl
 
-one_after : (bs : List Branch) (c : ℕ) (x : List ℕ) (a : Action) → Rises bs → OneEach bs → ((begins a ≡ false) ⊎ (count_of (is_joined_by c) bs ≡ 0)) → OneEach (after bs c x a)
-one_after bs c x action.Nothing h one begun d = one d
-one_after bs c x action.Start h one (inl not_so) d = absurd cc
-one_after bs c x action.Start h one (inr none) d = omega (arith, one_more bs c d one none, count_of-with_branch (is_joined_by d) bs (record { xid = x; state = Active c }))
-one_after bs c x action.Join h one (inl not_so) d = absurd cc
-one_after bs c x action.Join h one (inr none) d = omega (arith, one_more bs c d one none, count_of-with_state (is_joined_by d) bs x (Active c) h)
-one_after bs c x (action.End Kept) h one begun d = omega (arith, one d, count_of-with_state (is_joined_by d) bs x (Idle c) h)
-one_after bs c x (action.End Failed) h one begun d = omega (arith, one d, count_of-with_state (is_joined_by d) bs x (RollbackOnly c) h)
-one_after bs c x action.Prepare h one begun d = omega (arith, one d, count_of-with_state (is_joined_by d) bs x Prepared h)
-one_after bs c x action.Forget h one begun d = omega (arith, one d, count_of-filter (is_joined_by d) (λ b. not (bytes_eq b.xid x)) bs)
-one_after bs c x action.CommitOnePhase h one begun d = omega (arith, one d, count_of-filter (is_joined_by d) (λ b. not (bytes_eq b.xid x)) bs)
-one_after bs c x (action.Decide o) h one begun d = omega (arith, one d, count_of-filter (is_joined_by d) (λ b. not (bytes_eq b.xid x)) bs)
-one_after bs c x action.RollBack h one begun d = omega (arith, one d, count_of-filter (is_joined_by d) (λ b. not (bytes_eq b.xid x)) bs)
+one_after : (bs : List Branch) (c : ℕ) (x : List ℕ) (a : Action) (f : Facts) → Rises bs → OneEach bs → FitsAction a (state_of bs x) f → ((begins a ≡ false) ⊎ (count_of (is_joined_by c) bs ≡ 0)) → OneEach (after bs c x a)
+one_after bs c x action.Nothing f h one fit begun d = one d
+one_after bs c x action.Start f h one fit (inl not_so) d = absurd cc
+one_after bs c x action.Start f h one fit (inr none) d = omega (arith, one_more bs c d one none, count_of-with_branch (is_joined_by d) bs (record { xid = x; state = Active c }))
+one_after bs c x action.Join f h one fit (inl not_so) d = absurd cc
+one_after bs c x action.Join f h one fit (inr none) d = omega (arith, one_more bs c d one none, count_of-with_state (is_joined_by d) bs x (Active c) (Idle fit.0.0) h fit.0.1)
+one_after bs c x (action.End Kept) f h one (inl active) begun d = omega (arith, one d, count_of-with_state (is_joined_by d) bs x (Idle c) (Active f.conversation) h active)
+one_after bs c x (action.End Kept) f h one (inr idle) begun d = omega (arith, one d, count_of-with_state (is_joined_by d) bs x (Idle c) (Idle f.conversation) h idle)
+one_after bs c x (action.End Failed) f h one (inl active) begun d = omega (arith, one d, count_of-with_state (is_joined_by d) bs x (RollbackOnly c) (Active f.conversation) h active)
+one_after bs c x (action.End Failed) f h one (inr idle) begun d = omega (arith, one d, count_of-with_state (is_joined_by d) bs x (RollbackOnly c) (Idle f.conversation) h idle)
+one_after bs c x action.Prepare f h one fit begun d = omega (arith, one d, count_of-with_state (is_joined_by d) bs x Prepared (Idle fit.0.0) h fit.0.1)
+one_after bs c x action.Forget f h one fit begun d = omega (arith, one d, count_of-filter (is_joined_by d) (λ b. not (bytes_eq b.xid x)) bs)
+one_after bs c x action.CommitOnePhase f h one fit begun d = omega (arith, one d, count_of-filter (is_joined_by d) (λ b. not (bytes_eq b.xid x)) bs)
+one_after bs c x (action.Decide o) f h one fit begun d = omega (arith, one d, count_of-filter (is_joined_by d) (λ b. not (bytes_eq b.xid x)) bs)
+one_after bs c x action.RollBack f h one fit begun d = omega (arith, one d, count_of-filter (is_joined_by d) (λ b. not (bytes_eq b.xid x)) bs)
 
 pub one_each_stays : OneEachStays
 one_each_stays bs c v x work h one =
+    let f = facts_of bs c work in
+    let fit = actions_fit bs c v x work in
     let begun : (begins (action_of bs c v x work) ≡ false) ⊎ (count_of (is_joined_by c) bs ≡ 0) =
-    elim (not_begun v (state_of bs x) (facts_of bs c work)) [ inl not_so ↦ inl not_so | inr free ↦ inr (none_counted bs c free) ] in
-    one_after bs c x (action_of bs c v x work) (rises bs h) one begun
+    elim (not_begun (action_of bs c v x work) (state_of bs x) f fit) [ inl not_so ↦ inl not_so | inr free ↦ inr (none_counted bs c free) ] in
+    one_after bs c x (action_of bs c v x work) f (rises bs h) one fit begun
 
 pub one_each_outlives : OneEachOutlives
 one_each_outlives bs c one d = omega (arith, one d, count_of-filter (is_joined_by d) (λ b. not (is_last_joined_by c b.state)) bs)

@@ -1,5 +1,3 @@
-pub mod Reading
-pub mod Order
 pub mod Rising
 pub mod Places
 pub mod AllCalls

@@ -1,20 +1,20 @@
 -- What a search finds among branches that rise, and what an edit there does.
-use Rattle.std.proofs.Common.{◌≡◌, ℕ, zero, suc, ◌<◌, true, false, List, [], ◌∷◌, length, get_or, set, Some, None, Result, Ok, Err, IfOk, IfErr, refl, ap, subst, inl, inr, arith}
+use Rattle.std.proofs.Common.{◌≡◌, ℕ, zero, suc, ◌+◌, ◌<◌, ◌≤◌, true, false, List, [], ◌∷◌, length, get_or, set, Option, Some, None, refl, sym, ◌∙◌, ap, subst, inl, inr, arith}
 use Rattle.std.specs.List.{insert, remove}
-use Rattle.std.specs.List.Sorted.{IsSearchInRange, IsBinarySearchResult, IsNonDecreasingBy}
-use Rattle.std.specs.Ordering.{nat_cmp, is_lt, ordering_index}
+use Rattle.std.specs.Ordering.{nat_cmp, is_lt}
 use Rattle.std.specs.declared.cmp.Ordering.{Ordering}
+use Rattle.std.specs.declared.cmp.Ordering.TheVariants.{Less, Equal, Greater}
 use Rattle.std.specs.Cmp.Lexicographic.{slice_cmp}
 use Rattle.std.specs.Str.{bytes_eq}
 use Rattle.std.proofs.lemmas.Bool.{cases_lt}
-use Rattle.std.proofs.lemmas.List.Sorted.{IsNonDecreasingBy-from_default}
+use Rattle.std.proofs.lemmas.List.{get_or_default}
 use Rattle.std.proofs.lemmas.Map.Lookups.{exact_bytes}
 use Rattle.drda_words.specs.Order.{precedes, IsRising}
+use Rattle.drda_words.proofs.Precedes.{precedes-trans, precedes_one_way, precedes_other, precedes_from_Greater, bytes_eq-refl}
 use Rattle.xa_manager.specs.declared.branch.Branch.{Branch}
 use Rattle.xa_manager.specs.declared.branch.BranchState.{BranchState}
 use Rattle.xa_manager.specs.Branch.{state_of, with_branch, with_state, without}
 use Rattle.xa_manager.specs.Place.{no_branch, xid_at, IsAt, IsGapFor}
-use Rattle.xa_manager.proofs.Order.{precedes_one_way, precedes_other, precedes_from_Greater, bytes_eq-refl, index_rises}
 use Rattle.xa_manager.proofs.Rising.{Above, Rises, rises, with_state_above, without_above, state_of_above}
 
 above_at : (x : List ℕ) (bs : List Branch) → Above x bs → (i : ℕ) → i < length bs → precedes x (xid_at bs i) ≡ true
@@ -28,28 +28,61 @@ in_order (b ∷ bs) h i zero lt in_range = absurd (omega arith)
 in_order (b ∷ bs) h zero (suc j) lt in_range = above_at b.xid bs h.0 j (omega arith)
 in_order (b ∷ bs) h (suc i) (suc j) lt in_range = in_order bs h.1 i j (omega arith) (omega arith)
 
--- ---- the search
+-- ---- the search: what is left is from low to high
 
-comparisons_rise : (bs : List Branch) → Rises bs → (x : List ℕ) → IsNonDecreasingBy (λ b. ordering_index (slice_cmp nat_cmp b.xid x)) bs
-comparisons_rise bs h x = IsNonDecreasingBy-from_default (λ b. ordering_index (slice_cmp nat_cmp b.xid x)) bs no_branch (λ i j le in_range.
-    elim (cases_lt i j) [
-      | inl lt ↦ index_rises (xid_at bs i) (xid_at bs j) x (in_order bs h i j lt in_range)
-      | inr ge ↦ let same : i ≡ j = omega arith in rw same (omega arith)
-    ])
+pub record IsLeft (bs : List Branch) (x : List ℕ) (low high : ℕ) : Type 0 where
+  pub ordered : low ≤ high
+  pub in_range : high ≤ length bs
+  pub smaller_before : (j : ℕ) → j < low → precedes (xid_at bs j) x ≡ true
+  pub greater_after : (j : ℕ) → high ≤ j → j < length bs → precedes x (xid_at bs j) ≡ true
 
-pub searched : (bs : List Branch) → IsRising (λ b. b.xid) bs → (x : List ℕ) (r : Result ℕ ℕ) → IsSearchInRange r (length bs) → IsBinarySearchResult (λ b. slice_cmp nat_cmp b.xid x) bs r
-    → record { found : IfOk r (IsAt bs x); absent : IfErr r (IsGapFor bs x) }
-searched bs up x (Ok at) in_range equal = record { found = record { in_range = in_range; has_xid = exact_bytes (xid_at bs at) x (equal no_branch) }; absent = tt }
-searched bs up x (Err at) in_range parted =
-    let split = parted (comparisons_rise bs (rises bs up) x) in
-    record {
-      found = tt;
-      absent = record {
-        in_range = in_range;
-        smaller_before = λ j lt. ap (λ (o : Ordering). is_lt o) (split.0 j no_branch (omega arith) lt);
-        greater_after = λ j le lt. precedes_from_Greater (xid_at bs j) x (split.1 j no_branch le lt);
-      };
-    }
+pub all_left : (bs : List Branch) (x : List ℕ) → IsLeft bs x 0 (length bs)
+all_left bs x = record {
+  ordered = omega arith;
+  in_range = omega arith;
+  smaller_before = λ j lt. absurd (omega arith);
+  greater_after = λ j le lt. absurd (omega arith);
+}
+
+module _ (bs : List Branch) (up : IsRising (λ b. b.xid) bs) (x : List ℕ) (low high middle : ℕ) (left : IsLeft bs x low high) (inside : low ≤ middle) (below : middle < high) where
+  -- the one in the middle is smaller, and so are those before it
+  pub left_above : slice_cmp nat_cmp (xid_at bs middle) x ≡ Less → IsLeft bs x (middle + 1) high
+  left_above less = record {
+    ordered = omega arith;
+    in_range = left.in_range;
+    smaller_before = λ j lt. elim (cases_lt j middle) [
+      | inl before ↦ precedes-trans (xid_at bs j) (xid_at bs middle) x (in_order bs (rises bs up) j middle before (omega (arith, left.in_range))) smaller
+      | inr not_before ↦ let same : j ≡ middle = omega arith in rw same smaller
+    ];
+    greater_after = left.greater_after;
+  }
+    where
+      smaller : precedes (xid_at bs middle) x ≡ true
+      smaller = ap (λ (o : Ordering). is_lt o) less
+
+  pub left_below : slice_cmp nat_cmp (xid_at bs middle) x ≡ Greater → IsLeft bs x low middle
+  left_below greater = record {
+    ordered = inside;
+    in_range = omega (arith, left.in_range);
+    smaller_before = left.smaller_before;
+    greater_after = λ j le lt. elim (cases_lt middle j) [
+      | inl after ↦ precedes-trans x (xid_at bs middle) (xid_at bs j) greater_one (in_order bs (rises bs up) middle j after lt)
+      | inr not_after ↦ let same : j ≡ middle = omega arith in rw same greater_one
+    ];
+  }
+    where
+      greater_one : precedes x (xid_at bs middle) ≡ true
+      greater_one = precedes_from_Greater (xid_at bs middle) x greater
+
+  pub found : slice_cmp nat_cmp (xid_at bs middle) x ≡ Equal → IsAt bs x middle
+  found equal = record { in_range = omega (arith, left.in_range); has_xid = exact_bytes (xid_at bs middle) x equal }
+
+pub none_left : (bs : List Branch) (x : List ℕ) (low high : ℕ) → IsLeft bs x low high → high ≤ low → IsGapFor bs x low
+none_left bs x low high left le = record {
+  in_range = omega (arith, left.ordered, left.in_range);
+  smaller_before = left.smaller_before;
+  greater_after = λ j from lt. left.greater_after j (omega arith) lt;
+}
 
 -- ---- at the place of a branch
 
@@ -67,6 +100,12 @@ pub state_at : (bs : List Branch) → Rises bs → (x : List ℕ) (i : ℕ) → 
 state_at [] h x i at = absurd (omega (arith, at.in_range))
 state_at (b ∷ bs) h x zero at = rw (first_is_it b x at.has_xid) refl
 state_at (b ∷ bs) h x (suc i) at = rw (first_is_other b bs x i h.0 (at_tail b bs x i at)) (state_at bs h.1 x i (at_tail b bs x i at))
+
+-- the branch that is read there
+pub known_at : (bs : List Branch) → IsRising (λ b. b.xid) bs → (x : List ℕ) (i : ℕ) (b : Branch) → IsAt bs x i → b ≡ get_or bs i b → state_of bs x ≡ Some b.state
+known_at bs up x i b at is =
+    let it : b ≡ get_or bs i no_branch = is ∙ get_or_default bs i b no_branch at.in_range in
+    state_at bs (rises bs up) x i at ∙ sym (ap (λ (d : Branch). let s : Option BranchState = Some d.state in s) it)
 
 pub set_at : (bs : List Branch) → Rises bs → (x : List ℕ) (i : ℕ) (s : BranchState) → IsAt bs x i → set bs i (record { xid = x; state = s }) ≡ with_state bs x s
 set_at [] h x i s at = absurd (omega (arith, at.in_range))

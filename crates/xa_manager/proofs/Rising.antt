@@ -1,13 +1,15 @@
 -- Branches whose XIDs rise, and what an edit does to them.
-use Rattle.std.proofs.Common.{◌≡◌, ℕ, suc, ◌+◌, ◌<◌, ◌≤◌, Bool, true, false, cond, List, [], ◌∷◌, length, Some, None, refl, ap, subst, arith}
-use Rattle.std.specs.Prelude.{filter, count_by}
+use Rattle.std.proofs.Common.{◌≡◌, ℕ, suc, ◌+◌, ◌<◌, ◌≤◌, Bool, true, false, cond, not, List, [], ◌∷◌, length, Some, None, refl, ap, subst, arith}
+use Rattle.std.specs.Prelude.{filter}
 use Rattle.std.specs.Str.{bytes_eq}
 use Rattle.std.proofs.lemmas.List.Sums.{sum_by-cons}
 use Rattle.drda_words.specs.Order.{precedes, IsRising}
 use Rattle.xa_manager.specs.declared.branch.Branch.{Branch}
 use Rattle.xa_manager.specs.declared.branch.BranchState.{BranchState}
-use Rattle.xa_manager.specs.Branch.{IsTable, is_in_doubt, state_of, in_doubt_count, with_branch, with_state, without}
-use Rattle.xa_manager.proofs.Order.{precedes-trans, precedes_another, precedes_or, same_bytes}
+use Rattle.xa_manager.specs.declared.branch.BranchState.TheVariants.{Active, Idle, RollbackOnly, Prepared}
+use Rattle.xa_manager.specs.Branch.{IsTable, is_in_doubt, is_active, is_joined_by, count_of, state_of, joined_xid, in_doubt_count, with_branch, with_state, without}
+use Rattle.xa_manager.specs.Counts.{weight}
+use Rattle.drda_words.proofs.Precedes.{precedes-trans, precedes_another, precedes_or, same_bytes}
 
 -- an XID comes before each branch
 abbrev pub Above : List ℕ → List Branch → Type 0
@@ -107,14 +109,6 @@ length-with_branch (b ∷ bs) new =
       | false ↦ ap (λ (n : ℕ). suc n) rest
     ]
 
--- how many branches stand so that the test holds
-abbrev pub count_of : (BranchState → Bool) → List Branch → ℕ
-count_of p bs = count_by (λ b. p b.state) bs
-
--- 1 where the test holds, else 0
-abbrev pub weight : (BranchState → Bool) → BranchState → ℕ
-weight p s = cond (p s) 1 0
-
 module _ (p : BranchState → Bool) where
   -- the first counts for itself
   pub counted : (b : Branch) (bs : List Branch) → count_of p (b ∷ bs) ≡ weight p b.state + count_of p bs
@@ -162,18 +156,57 @@ pub state_of_above : (bs : List Branch) (x : List ℕ) → Above x bs → state_
 state_of_above [] x h = refl
 state_of_above (b ∷ bs) x h = rw (precedes_another x b.xid h.0) (state_of_above bs x h.1)
 
--- one branch at most gets the state
-pub count_of-with_state : (p : BranchState → Bool) (bs : List Branch) (x : List ℕ) (s : BranchState) → Rises bs → count_of p (with_state bs x s) ≤ weight p s + count_of p bs
-count_of-with_state p [] x s h = omega arith
-count_of-with_state p (b ∷ bs) x s h =
-    let rest = count_of-with_state p bs x s h.1 in
+-- the branch of x, which is known, counts by its new state in place of the old one
+pub count_of-with_state : (p : BranchState → Bool) (bs : List Branch) (x : List ℕ) (s old : BranchState) → Rises bs → state_of bs x ≡ Some old → count_of p (with_state bs x s) + weight p old ≡ weight p s + count_of p bs
+count_of-with_state p [] x s old h known = absurd cc
+count_of-with_state p (b ∷ bs) x s old h known =
     let set_to : Branch = record { xid = b.xid; state = s } in
-    let kept : count_of p (b ∷ with_state bs x s) ≤ weight p s + count_of p (b ∷ bs) = omega (arith, rest, counted p b (with_state bs x s), counted p b bs) in
-    let changed : bytes_eq b.xid x ≡ true → count_of p (set_to ∷ with_state bs x s) ≤ weight p s + count_of p (b ∷ bs) = λ f.
+    let here : bytes_eq b.xid x ≡ true → count_of p (set_to ∷ with_state bs x s) + weight p old ≡ weight p s + count_of p (b ∷ bs) = λ f.
     let behind : Above x bs = subst (λ (y : List ℕ). Above y bs) (same_bytes b.xid x f) h.0 in
     let others : count_of p (with_state bs x s) ≡ count_of p bs = ap (λ (l : List Branch). count_of p l) (with_state_above bs x s behind) in
-    omega (arith, others, counted p set_to (with_state bs x s), counted p b bs) in
-    elim (bytes_eq b.xid x) as (λ t. bytes_eq b.xid x ≡ t → count_of p ((cond t set_to b) ∷ with_state bs x s) ≤ weight p s + count_of p (b ∷ bs)) [ true ↦ changed | false ↦ λ f. kept ] refl
+    let it : Some b.state ≡ Some old = rw f at known in
+    let state : b.state ≡ old = cc in
+    let same : weight p b.state ≡ weight p old = ap (λ (t : BranchState). weight p t) state in
+    omega (arith, others, same, counted p set_to (with_state bs x s), counted p b bs) in
+    let behind : bytes_eq b.xid x ≡ false → count_of p (b ∷ with_state bs x s) + weight p old ≡ weight p s + count_of p (b ∷ bs) = λ f.
+    let rest = count_of-with_state p bs x s old h.1 (rw f at known) in
+    omega (arith, rest, counted p b (with_state bs x s), counted p b bs) in
+    elim (bytes_eq b.xid x) as (λ t. bytes_eq b.xid x ≡ t → count_of p ((cond t set_to b) ∷ with_state bs x s) + weight p old ≡ weight p s + count_of p (b ∷ bs)) [ true ↦ here | false ↦ behind ] refl
+
+-- and no longer counts once it is gone
+pub count_of-without : (p : BranchState → Bool) (bs : List Branch) (x : List ℕ) (old : BranchState) → Rises bs → state_of bs x ≡ Some old → count_of p (without bs x) + weight p old ≡ count_of p bs
+count_of-without p [] x old h known = absurd cc
+count_of-without p (b ∷ bs) x old h known =
+    let here : bytes_eq b.xid x ≡ true → count_of p (without bs x) + weight p old ≡ count_of p (b ∷ bs) = λ f.
+    let behind : Above x bs = subst (λ (y : List ℕ). Above y bs) (same_bytes b.xid x f) h.0 in
+    let others : count_of p (without bs x) ≡ count_of p bs = ap (λ (l : List Branch). count_of p l) (without_above bs x behind) in
+    let it : Some b.state ≡ Some old = rw f at known in
+    let state : b.state ≡ old = cc in
+    let same : weight p b.state ≡ weight p old = ap (λ (t : BranchState). weight p t) state in
+    omega (arith, others, same, counted p b bs) in
+    let behind : bytes_eq b.xid x ≡ false → count_of p (b ∷ without bs x) + weight p old ≡ count_of p (b ∷ bs) = λ f.
+    let rest = count_of-without p bs x old h.1 (rw f at known) in
+    omega (arith, rest, counted p b (without bs x), counted p b bs) in
+    elim (bytes_eq b.xid x) as (λ t. bytes_eq b.xid x ≡ t → count_of p (cond (not t) (b ∷ without bs x) (without bs x)) + weight p old ≡ count_of p (b ∷ bs)) [ true ↦ here | false ↦ behind ] refl
+
+-- where no branch is active, a conversation is joined to none
+joined_active : (c : ℕ) (s : BranchState) → is_active s ≡ false → is_joined_by c s ≡ false
+joined_active c (Active d) e = absurd cc
+joined_active c (Idle d) e = refl
+joined_active c (RollbackOnly d) e = refl
+joined_active c Prepared e = refl
+
+pub none_joined : (bs : List Branch) (c : ℕ) → count_of is_active bs ≡ 0 → joined_xid bs c ≡ None
+none_joined [] c e = refl
+none_joined (b ∷ bs) c e =
+    let one = counted is_active b bs in
+    let rest = none_joined bs c (omega (arith, one, e)) in
+    let idle : is_active b.state ≡ false = by_case (is_active b.state) (omega (arith, one, e)) in
+    rw (joined_active c b.state idle) rest
+  where
+    by_case : (t : Bool) → cond t 1 0 ≤ 0 → t ≡ false
+    by_case true le = absurd (omega arith)
+    by_case false le = refl
 
 -- ---- the whole
 
@@ -191,10 +224,10 @@ weight_room s n h room = by_case (is_in_doubt s) refl
     by_case true f = let r = room f in omega arith
     by_case false f = omega arith
 
-pub table_state : (bs : List Branch) (x : List ℕ) (s : BranchState) → IsTable bs → (is_in_doubt s ≡ true → in_doubt_count bs < 256) → IsTable (with_state bs x s)
-table_state bs x s t room =
+pub table_state : (bs : List Branch) (x : List ℕ) (s old : BranchState) → IsTable bs → state_of bs x ≡ Some old → (is_in_doubt s ≡ true → in_doubt_count bs < 256) → IsTable (with_state bs x s)
+table_state bs x s old t is room =
     let r = rises bs t.rising in
-    let count = count_of-with_state is_in_doubt bs x s r in
+    let count = count_of-with_state is_in_doubt bs x s old r is in
     let fits = weight_room s (in_doubt_count bs) t.in_doubt room in
     record {
       rising = rising (with_state bs x s) (rises_state x s bs r);
@@ -211,3 +244,21 @@ table_branch bs new t unknown known room =
       known = rw (length-with_branch bs new) known;
       in_doubt = omega arith;
     }
+
+-- ---- the counts that are kept
+
+-- one branch counts once at most, and no more than all
+pub weight-le : (p : BranchState → Bool) (s : BranchState) → weight p s ≤ 1
+weight-le p s = by_case (p s)
+  where
+    by_case : (t : Bool) → cond t 1 0 ≤ 1
+    by_case true = omega arith
+    by_case false = omega arith
+
+pub count_of-le : (p : BranchState → Bool) (bs : List Branch) → count_of p bs ≤ length bs
+count_of-le p [] = omega arith
+count_of-le p (b ∷ bs) = omega (arith, count_of-le p bs, counted p b bs, weight-le p b.state)
+
+-- a branch that is known is counted
+pub weight-known : (p : BranchState → Bool) (bs : List Branch) (x : List ℕ) (old : BranchState) → Rises bs → state_of bs x ≡ Some old → weight p old ≤ count_of p bs
+weight-known p bs x old h known = omega (arith, count_of-without p bs x old h known)

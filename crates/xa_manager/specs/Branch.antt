@@ -10,7 +10,16 @@ use Rattle.xa_manager.specs.declared.branch.BranchState.TheVariants.{Active, Idl
 -- the conversation is joined to it
 abbrev pub is_joined_by : ℕ → BranchState → Bool
 is_joined_by conversation (Active joined) = joined == conversation
-is_joined_by conversation _ = false
+is_joined_by conversation (Idle _) = false
+is_joined_by conversation (RollbackOnly _) = false
+is_joined_by conversation Prepared = false
+
+-- some conversation is joined to it
+abbrev pub is_active : BranchState → Bool
+is_active (Active _) = true
+is_active (Idle _) = false
+is_active (RollbackOnly _) = false
+is_active Prepared = false
 
 -- the conversation was the last to start or join it, and it is not prepared
 abbrev pub is_last_joined_by : ℕ → BranchState → Bool
@@ -21,8 +30,10 @@ is_last_joined_by conversation Prepared = false
 
 -- it waits for a decision
 abbrev pub is_in_doubt : BranchState → Bool
+is_in_doubt (Active _) = false
+is_in_doubt (Idle _) = false
+is_in_doubt (RollbackOnly _) = false
 is_in_doubt Prepared = true
-is_in_doubt _ = false
 
 -- ---- the table
 
@@ -35,9 +46,13 @@ state_of (b ∷ bs) xid = if bytes_eq b.xid xid then Some b.state else state_of 
 abbrev pub joined_xid : List Branch → ℕ → Option (List ℕ)
 joined_xid bs conversation = option_map (λ b. b.xid) (find (λ b. is_joined_by conversation b.state) bs)
 
+-- how many branches stand so that a test holds
+abbrev pub count_of : (BranchState → Bool) → List Branch → ℕ
+count_of p bs = count_by (λ b. p b.state) bs
+
 -- how many branches are in doubt
 abbrev pub in_doubt_count : List Branch → ℕ
-in_doubt_count bs = count_by (λ b. is_in_doubt b.state) bs
+in_doubt_count bs = count_of is_in_doubt bs
 
 -- the XIDs in doubt
 abbrev pub in_doubt_xids : List Branch → List (List ℕ)

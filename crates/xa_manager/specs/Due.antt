@@ -1,15 +1,15 @@
 -- The XA table: the answer to each call, by the state of its branch. In each row the first answer
 -- that holds counts (C193 chapter 6; the limits are this server's).
-use Rattle.std.specs.Prelude.{ℕ, List, Option, Some, None, ◌==◌, nat_le, is_some, length, if◌then◌else◌}
+use Rattle.std.specs.Prelude.{◌≡◌, ℕ, List, Option, Some, None, ◌==◌, nat_le, is_some, length, if◌then◌else◌}
 use Rattle.xa_manager.specs.declared.branch.Branch.{Branch}
 use Rattle.xa_manager.specs.declared.branch.BranchState.{BranchState}
 use Rattle.xa_manager.specs.declared.branch.BranchState.TheVariants.{Active, Idle, RollbackOnly, Prepared}
-use Rattle.xa_manager.specs.declared.request.Ending.{Ending}
-use Rattle.xa_manager.specs.declared.request.Ending.TheVariants.{Kept, Failed}
-use Rattle.xa_manager.specs.declared.request.Verb.{Verb}
-use Rattle.xa_manager.specs.declared.request.Verb.TheVariants as verb
-use Rattle.xa_manager.specs.declared.code.XaCode.{XaCode}
-use Rattle.xa_manager.specs.declared.code.XaCode.TheVariants as code
+use Rattle.xa_calls.specs.declared.request.Ending.{Ending}
+use Rattle.xa_calls.specs.declared.request.Ending.TheVariants.{Kept, Failed}
+use Rattle.xa_calls.specs.declared.request.Verb.{Verb}
+use Rattle.xa_calls.specs.declared.request.Verb.TheVariants as verb
+use Rattle.xa_calls.specs.declared.code.XaCode.{XaCode}
+use Rattle.xa_calls.specs.declared.code.XaCode.TheVariants as code
 use Rattle.xa_manager.specs.declared.due.Outcome.TheVariants as outcome
 use Rattle.xa_manager.specs.declared.due.Action.{Action}
 use Rattle.xa_manager.specs.declared.due.Action.TheVariants as action
@@ -70,8 +70,10 @@ due_of_prepare (Idle _) f =
 
 -- commit of a prepared branch
 abbrev pub due_of_commit : BranchState → Due
+due_of_commit (Active _) = refused code.Protocol
+due_of_commit (Idle _) = refused code.Protocol
+due_of_commit (RollbackOnly _) = refused code.Protocol
 due_of_commit Prepared = done (action.Decide outcome.Commit)
-due_of_commit _ = refused code.Protocol
 
 -- commit with TMONEPHASE
 abbrev pub due_of_one_phase : BranchState → Due
@@ -115,6 +117,12 @@ facts_of bs conversation work = record {
 -- the answer to what a conversation asks of an XID
 abbrev pub due_of : List Branch → ℕ → Verb → List ℕ → Work → Due
 due_of bs conversation v xid work = due_at v (state_of bs xid) (facts_of bs conversation work)
+
+-- this is what some call of a conversation makes due of an XID
+pub record IsDue (bs : List Branch) (conversation : ℕ) (xid : List ℕ) (due : Due) : Type 0 where
+  pub verb : Verb
+  pub work : Work
+  pub answer : due ≡ due_of bs conversation verb xid work
 
 -- how a branch stands that a conversation has left
 abbrev pub left_by : ℕ → Ending → BranchState

@@ -1,24 +1,73 @@
 -- What holds over all calls: a prepared branch waits for its decision, and a conversation works in one
 -- branch at most, which is active.
-use Rattle.std.specs.Prelude.{◌≡◌, ◌⊎◌, ◌≤◌, ℕ, Bool, true, false, IsTrue, bytes_eq, List, count_by, Some, if◌then◌else◌}
+use Rattle.std.specs.Prelude.{◌≡◌, ◌⊎◌, ◌<◌, ◌≤◌, ℕ, Bool, true, false, IsTrue, bytes_eq, List, Option, Some, None, if◌then◌else◌}
 use Rattle.drda_words.specs.Order.{IsRising}
 use Rattle.xa_manager.specs.declared.branch.Branch.{Branch}
-use Rattle.xa_manager.specs.declared.branch.BranchState.TheVariants.{Active, Prepared}
-use Rattle.xa_manager.specs.declared.request.Verb.{Verb}
+use Rattle.xa_manager.specs.declared.branch.BranchState.{BranchState}
+use Rattle.xa_manager.specs.declared.branch.BranchState.TheVariants.{Active, Idle, RollbackOnly, Prepared}
+use Rattle.xa_calls.specs.declared.code.XaCode.{XaCode}
+use Rattle.xa_calls.specs.declared.code.XaCode.TheVariants as code
+use Rattle.xa_calls.specs.declared.request.Verb.{Verb}
 use Rattle.xa_manager.specs.declared.due.Action.{Action}
 use Rattle.xa_manager.specs.declared.due.Action.TheVariants as action
 use Rattle.xa_manager.specs.declared.due.Work.{Work}
-use Rattle.xa_manager.specs.Branch.{state_of, joined_xid, is_joined_by, without_those_of}
-use Rattle.xa_manager.specs.Due.{due_of, next_state, after}
+use Rattle.xa_manager.specs.declared.due.Facts.{Facts}
+use Rattle.xa_manager.specs.Branch.{state_of, joined_xid, is_joined_by, count_of, without_those_of}
+use Rattle.xa_manager.specs.Due.{due_of, facts_of, next_state, after}
 
 -- what is due is the branch's decision
 abbrev pub is_decision : Action → Bool
 is_decision (action.Decide _) = true
-is_decision _ = false
+is_decision action.Nothing = false
+is_decision action.Start = false
+is_decision action.Join = false
+is_decision (action.End _) = false
+is_decision action.Forget = false
+is_decision action.Prepare = false
+is_decision action.CommitOnePhase = false
+is_decision action.RollBack = false
 
 -- what a conversation makes due by asking this of an XID
 abbrev pub action_of : List Branch → ℕ → Verb → List ℕ → Work → Action
 action_of bs conversation v xid work = (due_of bs conversation v xid work).action
+
+-- a code that refuses a call (C193 chapter 4: the negative ones)
+abbrev pub is_refusal : XaCode → Bool
+is_refusal code.Done = false
+is_refusal code.ReadOnly = false
+is_refusal code.RolledBack = false
+is_refusal code.Limit = true
+is_refusal code.Unknown = true
+is_refusal code.Invalid = true
+is_refusal code.Protocol = true
+is_refusal code.Duplicate = true
+is_refusal code.Outside = true
+
+-- a call that is refused makes nothing due
+abbrev pub RefusalsDoNothing : Type 0
+RefusalsDoNothing =
+    (bs : List Branch) (conversation : ℕ) (v : Verb) (xid : List ℕ) (work : Work) → IsTrue (is_refusal (due_of bs conversation v xid work).code) → action_of bs conversation v xid work ≡ action.Nothing
+
+-- no conversation is joined to the branch
+abbrev pub IsIdle : Option BranchState → Type 0
+IsIdle s = (last : ℕ) × (s ≡ Some (Idle last))
+
+-- where a branch stands of which an action is due, and what else is so
+abbrev pub FitsAction : Action → Option BranchState → Facts → Type 0
+FitsAction action.Nothing s f = Unit {0}
+FitsAction action.Start s f = (s ≡ None) × (f.is_joined ≡ false) × (f.known < 1024)
+FitsAction action.Join s f = IsIdle s × (f.is_joined ≡ false)
+FitsAction (action.End _) s f = (s ≡ Some (Active f.conversation)) ⊎ (s ≡ Some (Idle f.conversation))
+FitsAction action.Forget s f = IsIdle s
+FitsAction action.Prepare s f = IsIdle s × (f.in_doubt < 256)
+FitsAction action.CommitOnePhase s f = IsIdle s
+FitsAction (action.Decide _) s f = s ≡ Some Prepared
+FitsAction action.RollBack s f = IsIdle s ⊎ ((last : ℕ) × (s ≡ Some (RollbackOnly last)))
+
+-- each action is due only of a branch that stands so
+abbrev pub ActionsFit : Type 0
+ActionsFit =
+    (bs : List Branch) (conversation : ℕ) (v : Verb) (xid : List ℕ) (work : Work) → FitsAction (action_of bs conversation v xid work) (state_of bs xid) (facts_of bs conversation work)
 
 -- a call moves the branch that it names to its next state, and leaves the others where they stand
 abbrev pub MovesOne : Type 0
@@ -51,7 +100,7 @@ JoinedIsActive =
 
 -- each conversation is joined to one branch at most
 abbrev pub OneEach : List Branch → Type 0
-OneEach bs = (conversation : ℕ) → count_by (λ b. is_joined_by conversation b.state) bs ≤ 1
+OneEach bs = (conversation : ℕ) → count_of (is_joined_by conversation) bs ≤ 1
 
 -- this stays so over each call, and over the loss of a conversation
 abbrev pub OneEachStays : Type 0

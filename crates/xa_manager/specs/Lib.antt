@@ -1,7 +1,5 @@
-pub mod Xid
-pub mod Numbers
-pub mod Request
 pub mod Branch
+pub mod Counts
 pub mod Due
 pub mod Place
 pub mod Laws

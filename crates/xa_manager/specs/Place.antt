@@ -1,5 +1,7 @@
 -- Where the branch of an XID stands in the list, or where it would go.
-use Rattle.std.specs.Prelude.{◌≡◌, ◌<◌, ◌≤◌, ℕ, IsTrue, List, [], length, slice_index_or, None}
+use Rattle.std.specs.Prelude.{◌≡◌, ◌⊎◌, ◌<◌, ◌≤◌, ℕ, IsTrue, List, [], length, slice_index_or, None, IsSome, Result, Ok, Err}
+use Rattle.xa_manager.specs.declared.table.RestoreError.{RestoreError}
+use Rattle.xa_manager.specs.declared.table.RestoreError.TheVariants as error
 use Rattle.drda_words.specs.Order.{precedes}
 use Rattle.xa_manager.specs.declared.branch.Branch.{Branch}
 use Rattle.xa_manager.specs.Branch.{state_of, in_doubt_count}
@@ -29,3 +31,10 @@ pub record MayRestore (bs : List Branch) (xid : List ℕ) : Type 0 where
   pub unknown : state_of bs xid ≡ None
   pub known : length bs < 1024
   pub in_doubt : in_doubt_count bs < 256
+
+-- when each answer is given to a branch in doubt that is to be added; memory may be refused where it may be added
+abbrev pub Restores : {T : Type 0} → Result T RestoreError → List Branch → List ℕ → Type 0
+Restores (Ok x) bs xid = MayRestore bs xid
+Restores (Err error.NoMemory) bs xid = MayRestore bs xid
+Restores (Err error.Known) bs xid = IsSome (state_of bs xid)
+Restores (Err error.Full) bs xid = (state_of bs xid ≡ None) × ((1024 ≤ length bs) ⊎ (256 ≤ in_doubt_count bs))

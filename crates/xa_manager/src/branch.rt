@@ -1,9 +1,9 @@
 //! A transaction branch that the table knows.
 
 ghost use Rattle.std.specs.Prelude.{◌≡◌};
-ghost use Rattle.xa_manager.specs.Branch.{is_joined_by, is_last_joined_by, is_in_doubt};
+ghost use Rattle.xa_manager.specs.Branch.{is_joined_by, is_active, is_last_joined_by, is_in_doubt};
 
-use crate::xid::Xid;
+use xa_calls::Xid;
 
 /// Where a branch stands (C193 chapter 6, the table of states of transaction branches). A
 /// conversation is named by a number of the caller's.
@@ -26,7 +26,17 @@ impl BranchState {
     {
         match self {
             BranchState::Active(joined) => joined == conversation,
-            _ => false,
+            BranchState::Idle(_) | BranchState::RollbackOnly(_) | BranchState::Prepared => false,
+        }
+    }
+
+    /// Whether some conversation is joined to the branch.
+    pub fn is_active(self) -> bool
+        ensures { result ≡ is_active self }
+    {
+        match self {
+            BranchState::Active(_) => true,
+            BranchState::Idle(_) | BranchState::RollbackOnly(_) | BranchState::Prepared => false,
         }
     }
 

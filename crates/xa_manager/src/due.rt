@@ -4,8 +4,7 @@ ghost use Rattle.std.specs.Prelude.{◌≡◌};
 ghost use Rattle.xa_manager.specs.Due.{due_at, due_of_new, due_of_join, due_of_end, due_of_prepare, due_of_commit, due_of_one_phase, due_of_roll_back};
 
 use crate::branch::BranchState;
-use crate::code::XaCode;
-use crate::request::{Ending, Verb};
+use xa_calls::{Ending, Verb, XaCode};
 
 /// How many branches the table knows at most.
 pub const KNOWN_LIMIT: usize = 1024;
@@ -22,28 +21,27 @@ pub enum Outcome {
     RollBack,
 }
 
-/// What a call makes due of its branch: what the caller first records on its journal, if anything,
-/// and the call of `XaTable` by which it then settles it.
+/// What a call makes due of its branch, and what the caller first records on its journal, if
+/// anything; then `XaTable::settle` brings the table up to date.
 #[derive(Clone, Copy, Debug, PartialEq, Eq)]
 pub enum Action {
     /// Nothing: the branch, if it is known, is as before.
     Nothing,
-    /// The branch begins, joined by the conversation: `XaTable::start`.
+    /// The branch begins, joined by the conversation.
     Start,
-    /// The conversation is joined to the branch: `XaTable::join`.
+    /// The conversation is joined to the branch.
     Join,
-    /// The conversation leaves the branch: `XaTable::end`.
+    /// The conversation leaves the branch.
     End(Ending),
-    /// The branch changed nothing and ends, with nothing to record: `XaTable::forget`.
+    /// The branch changed nothing and ends, with nothing to record.
     Forget,
-    /// A Prepare record is due: then `XaTable::prepare`.
+    /// A Prepare record is due; then the branch is in doubt.
     Prepare,
-    /// The branch is committed in one phase, with a Commit record where it has changes: then
-    /// `XaTable::commit`.
+    /// The branch is committed in one phase, with a Commit record where it has changes.
     CommitOnePhase,
-    /// A Decide record is due: then `XaTable::commit` or `XaTable::rollback`.
+    /// A Decide record is due; then the branch has ended.
     Decide(Outcome),
-    /// The branch is rolled back, with nothing to record: `XaTable::rollback`.
+    /// The branch is rolled back, with nothing to record.
     RollBack,
 }
 
@@ -169,7 +167,10 @@ impl Due {
             BranchState::Active(last) | BranchState::Idle(last) if last == conversation => {
                 Due::done(Action::End(ending))
             }
-            _ => Due::refused(XaCode::Protocol),
+            BranchState::Active(_)
+            | BranchState::Idle(_)
+            | BranchState::RollbackOnly(_)
+            | BranchState::Prepared => Due::refused(XaCode::Protocol),
         }
     }
 
@@ -195,7 +196,9 @@ impl Due {
     {
         match state {
             BranchState::Prepared => Due::done(Action::Decide(Outcome::Commit)),
-            _ => Due::refused(XaCode::Protocol),
+            BranchState::Active(_) | BranchState::Idle(_) | BranchState::RollbackOnly(_) => {
+                Due::refused(XaCode::Protocol)
+            }
         }
     }
 

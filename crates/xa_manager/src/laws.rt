@@ -1,6 +1,16 @@
 //! What holds over all calls of a table.
 
-ghost use Rattle.xa_manager.specs.Laws.{MovesOne, PreparedStays, PreparedOutlives, OnlyPreparedDecided, JoinedIsActive, OneEachStays, OneEachOutlives};
+ghost use Rattle.xa_manager.specs.Laws.{RefusalsDoNothing, ActionsFit, MovesOne, PreparedStays, PreparedOutlives, OnlyPreparedDecided, JoinedIsActive, OneEachStays, OneEachOutlives};
+
+/// A call that is refused, by one of the codes below 0, makes nothing due.
+pub fn refusals_do_nothing()
+    ensures { RefusalsDoNothing }
+{}
+
+/// Each action is due only of a branch that stands so, and where the limits and what else is so allow it.
+pub fn actions_fit_states()
+    ensures { ActionsFit }
+{}
 
 /// What a call makes due moves the branch that it names to its next state, and leaves every other
 /// branch where it stands.

@@ -4,25 +4,18 @@
 #![tactic(auto)]
 
 mod branch;
-mod code;
+mod counts;
 mod due;
-mod flags;
 mod laws;
-mod request;
-mod sync_type;
+mod search;
 mod table;
-#[cfg(test)]
-mod tests;
-mod xid;
 mod xids;
 
 pub use branch::{Branch, BranchState};
-pub use code::XaCode;
 pub use due::{Action, Due, Facts, IN_DOUBT_LIMIT, KNOWN_LIMIT, Outcome, Work};
-pub use flags::Flags;
-pub use laws::{joined_to_one, moves_one_branch, prepared_until_decided, works_while_active};
-pub use request::{Ending, InvalidRequest, Request, Verb};
-pub use sync_type::SyncType;
+pub use laws::{
+    actions_fit_states, joined_to_one, moves_one_branch, prepared_until_decided,
+    refusals_do_nothing, works_while_active,
+};
 pub use table::{RestoreError, XaTable};
-pub use xid::{BadXid, Xid, one_reading};
 pub use xids::Xids;

@@ -1,19 +1,19 @@
 //! The table of branches.
 
-ghost use Rattle.std.specs.Prelude.{◌≡◌, ◌<◌, ◌≤◌, ◌↔◌, ◌⊎◌, [], List, length, None, Err, true, IfOk, IfErr, OnOk, OnErr, IsSome, option_copied, is_some};
-ghost use Rattle.drda_words.specs.Order.{IsRising};
+ghost use Rattle.std.specs.Prelude.{◌≡◌, ◌<◌, ◌≤◌, [], List, length, None, Some, true, IfOk, OnOk, OnErr, option_copied};
 ghost use Rattle.xa_manager.specs.Branch.{IsTable, is_in_doubt, state_of, joined_xid, in_doubt_count, in_doubt_xids, with_branch, with_state, without, without_those_of};
-ghost use Rattle.xa_manager.specs.Due.{due_of, left_by};
-ghost use Rattle.xa_manager.specs.Place.{IsAt, IsGapFor, MayRestore};
+ghost use Rattle.xa_manager.specs.Due.{IsDue, due_of, after};
+ghost use Rattle.xa_manager.specs.Place.{Restores};
 
 use crate::branch::{Branch, BranchState};
+use crate::counts::Counts;
 use crate::due::{Action, Due, Facts, IN_DOUBT_LIMIT, KNOWN_LIMIT, Work};
-use crate::request::{Ending, Verb};
-use crate::xid::Xid;
+use crate::search::place;
 use crate::xids::Xids;
 use std::alloc::{AllocError, Global};
 use std::marker::Model;
 use thiserror::Error;
+use xa_calls::{Ending, Verb, Xid};
 
 /// Why a branch in doubt could not be restored.
 #[derive(Clone, Copy, Debug, PartialEq, Eq, Error)]
@@ -24,32 +24,43 @@ pub enum RestoreError {
     /// As many branches are known, or in doubt, as may be.
     #[error("too many branches")]
     Full,
-    /// Memory is wanting.
+    /// Memory was refused.
     #[error("no memory")]
     NoMemory,
+}
+
+impl From<AllocError> for RestoreError {
+    ghost use Rattle.xa_manager.specs.declared.table.RestoreError.TheVariants.{NoMemory};
+
+    ghost from_gives = { λ _ e. e ≡ NoMemory };
+
+    fn from(_: AllocError) -> Self {
+        RestoreError::NoMemory
+    }
 }
 
 /// The transaction branches that a resource manager knows, each with its state (C193 chapter 6).
 /// Contracts see it as the list of its branches, which rises by the bytes of their XIDs.
 ///
 /// A call of a transaction manager takes two steps: `due` tells its code and what it makes due, and
-/// changes nothing; once the caller has recorded that, one of the settling calls brings the table
-/// up to date. Those take no memory and can't fail, but for `start`, which adds a branch.
+/// changes nothing; once the caller has recorded that, `settle` brings the table up to date. That
+/// takes memory, and so can fail, only where a branch begins, for which nothing is recorded.
 #[derive(Debug, Drop)]
 pub struct XaTable {
     branches: Vec<Branch>,
+    counts: Counts,
 }
 
 impl Model for XaTable {
     ghost use Rattle.std.specs.Prelude.{List};
     ghost use Rattle.xa_manager.specs.declared.branch.Branch.{Branch};
-    ghost use Rattle.xa_manager.specs.Branch.{IsTable};
+    ghost use Rattle.xa_manager.specs.Counts.{IsKept};
 
     ghost Value = { List Branch };
 
     ghost view = { λ t. t.branches.items };
 
-    ghost invariant = { λ t. IsTable t.branches.items };
+    ghost invariant = { λ t. IsKept t.branches.items t.counts.in_doubt t.counts.active };
 }
 
 impl XaTable {
@@ -59,6 +70,7 @@ impl XaTable {
     {
         XaTable {
             branches: Vec::new(alloc),
+            counts: Counts::NONE,
         }
     }
 
@@ -84,6 +96,9 @@ impl XaTable {
     pub fn joined(&self, conversation: u64) -> Option<&Xid>
         ensures { option_copied result ≡ joined_xid self.now conversation }
     {
+        if self.counts.active == 0 {
+            return None;
+        }
         self.branches
             .iter()
             .find(|branch| branch.state.is_joined_by(conversation))
@@ -94,82 +109,45 @@ impl XaTable {
     /// changes. `work` is what the caller knows of its units.
     pub fn due(&self, conversation: u64, verb: Verb, xid: &Xid, work: Work) -> Due
         ensures answer { result ≡ due_of self.now conversation verb xid.now work }
-
-        // What the settling calls require.
-        ensures begins { result.action ≡ Action.Start → state_of self.now xid.now ≡ None }
-        ensures room_to_begin { result.action ≡ Action.Start → length self.now < KNOWN_LIMIT }
-        ensures room_in_doubt { result.action ≡ Action.Prepare → in_doubt_count self.now < IN_DOUBT_LIMIT }
+        ensures due { IsDue self.now conversation xid.now result }
     {
         let facts = Facts {
             conversation,
             is_joined: self.joined(conversation).is_some(),
             work,
             known: self.branches.len(),
-            in_doubt: self.in_doubt(),
+            in_doubt: self.counts.in_doubt,
         };
         Due::at(verb, self.state(xid), &facts)
     }
 
-    /// A branch begins, joined by the conversation. Where memory is wanting, nothing changes.
-    pub fn start(&mut self, conversation: u64, xid: &Xid) -> Result<(), AllocError>
-        requires unknown { state_of self.old xid.now ≡ None }
-        requires room { length self.old < KNOWN_LIMIT }
-        ensures ok { OnOk result (self.new ≡ with_branch self.old (record { xid = xid.now; state = BranchState.Active conversation })) }
+    /// Does what is due: the table is then the one that C193's table of states gives. What is due is
+    /// what `due` told of this conversation and XID, and nothing was settled since.
+    ///
+    /// Memory is taken, and so may be refused, only where a branch begins; nothing changes then.
+    pub fn settle(&mut self, conversation: u64, xid: &Xid, due: Due) -> Result<(), AllocError>
+        requires { IsDue self.old conversation xid.now due }
+        ensures ok { OnOk result (self.new ≡ after self.old conversation xid.now due.action) }
         ensures err { OnErr result (self.new ≡ self.old) }
+        ensures only_start { OnErr result (due.action ≡ Action.Start) }
     {
-        self.add(Branch {
-            xid: *xid,
-            state: BranchState::Active(conversation),
-        })
-    }
-
-    /// The conversation is joined to the branch.
-    pub fn join(&mut self, conversation: u64, xid: &Xid)
-        ensures { self.new ≡ with_state self.old xid.now (BranchState.Active conversation) }
-    {
-        self.set(xid, BranchState::Active(conversation));
-    }
-
-    /// The conversation leaves the branch: its work stays, or can only be rolled back.
-    pub fn end(&mut self, conversation: u64, xid: &Xid, ending: Ending)
-        ensures { self.new ≡ with_state self.old xid.now (left_by conversation ending) }
-    {
-        self.set(
-            xid,
-            match ending {
-                Ending::Kept => BranchState::Idle(conversation),
-                Ending::Failed => BranchState::RollbackOnly(conversation),
-            },
-        );
-    }
-
-    /// The branch has been prepared, and is in doubt from now on.
-    pub fn prepare(&mut self, xid: &Xid)
-        requires { in_doubt_count self.old < IN_DOUBT_LIMIT }
-        ensures { self.new ≡ with_state self.old xid.now BranchState.Prepared }
-    {
-        self.set(xid, BranchState::Prepared);
-    }
-
-    /// The branch has been committed, in one phase or by a decision, and is no longer known.
-    pub fn commit(&mut self, xid: &Xid)
-        ensures { self.new ≡ without self.old xid.now }
-    {
-        self.remove(xid);
-    }
-
-    /// The branch has been rolled back, and is no longer known.
-    pub fn rollback(&mut self, xid: &Xid)
-        ensures { self.new ≡ without self.old xid.now }
-    {
-        self.remove(xid);
-    }
-
-    /// The branch, which changed nothing, is no longer known.
-    pub fn forget(&mut self, xid: &Xid)
-        ensures { self.new ≡ without self.old xid.now }
-    {
-        self.remove(xid);
+        match due.action {
+            Action::Nothing => {}
+            Action::Start => {
+                return self.add(Branch {
+                    xid: *xid,
+                    state: BranchState::Active(conversation),
+                });
+            }
+            Action::Join => self.set(xid, BranchState::Active(conversation)),
+            Action::End(Ending::Kept) => self.set(xid, BranchState::Idle(conversation)),
+            Action::End(Ending::Failed) => self.set(xid, BranchState::RollbackOnly(conversation)),
+            Action::Prepare => self.set(xid, BranchState::Prepared),
+            Action::Forget | Action::CommitOnePhase | Action::Decide(_) | Action::RollBack => {
+                self.remove(xid)
+            }
+        }
+        Ok(())
     }
 
     /// The XIDs that are in doubt, by rising bytes: the answer to `xa_recover`.
@@ -185,38 +163,28 @@ impl XaTable {
         ensures { self.new ≡ without_those_of self.old conversation }
     {
         keep_others(&mut self.branches, conversation);
+        self.counts = Counts::of(&self.branches);
     }
 
-    /// A branch that was found in doubt where the caller's journal was read: it is prepared. On an
-    /// error nothing changes.
+    /// Adds a branch that was found in doubt where the caller's journal was read: it is prepared. On an
+    /// error nothing changes. Each error comes exactly where it is so, `Known` first; memory may be
+    /// refused where the branch could be added.
     pub fn restore(&mut self, xid: &Xid) -> Result<(), RestoreError>
         ensures ok { OnOk result (self.new ≡ with_branch self.old (record { xid = xid.now; state = BranchState.Prepared })) }
-        ensures fits { OnOk result (MayRestore self.old xid.now) }
         ensures err { OnErr result (self.new ≡ self.old) }
-        ensures known { (result ≡ Err RestoreError.Known) ↔ IsSome (state_of self.old xid.now) }
-        ensures full { result ≡ Err RestoreError.Full → (length self.old ≡ KNOWN_LIMIT) ⊎ (in_doubt_count self.old ≡ IN_DOUBT_LIMIT) }
+        ensures exact { Restores result self.old xid.now }
     {
         if self.state(xid).is_some() {
             return Err(RestoreError::Known);
         }
-        if self.branches.len() >= KNOWN_LIMIT || self.in_doubt() >= IN_DOUBT_LIMIT {
+        if self.branches.len() >= KNOWN_LIMIT || self.counts.in_doubt >= IN_DOUBT_LIMIT {
             return Err(RestoreError::Full);
         }
-        let branch = Branch {
+        self.add(Branch {
             xid: *xid,
             state: BranchState::Prepared,
-        };
-        self.add(branch).map_err(|_| RestoreError::NoMemory)
-    }
-
-    // How many branches are in doubt.
-    fn in_doubt(&self) -> usize
-        ensures { result ≡ in_doubt_count self.now }
-    {
-        self.branches
-            .iter()
-            .filter(|branch| branch.state.is_in_doubt())
-            .count()
+        })?;
+        Ok(())
     }
 
     // Adds a branch in its place.
@@ -229,7 +197,12 @@ impl XaTable {
     {
         match place(&self.branches, &branch.xid) {
             Ok(_) => unreachable!(),
-            Err(at) => Ok(self.branches.insert(at, branch)?),
+            Err(at) => {
+                let counts = self.counts.with(branch.state);
+                self.branches.insert(at, branch)?;
+                self.counts = counts;
+                Ok(())
+            }
         }
     }
 
@@ -239,6 +212,8 @@ impl XaTable {
         ensures { self.new ≡ with_state self.old xid.now state }
     {
         if let Ok(at) = place(&self.branches, xid) {
+            let old = self.branches[at].state;
+            self.counts = self.counts.without(old).with(state);
             self.branches[at] = Branch { xid: *xid, state };
         }
     }
@@ -248,6 +223,8 @@ impl XaTable {
         ensures { self.new ≡ without self.old xid.now }
     {
         if let Ok(at) = place(&self.branches, xid) {
+            let old = self.branches[at].state;
+            self.counts = self.counts.without(old);
             self.branches.remove(at);
         }
     }
@@ -258,13 +235,4 @@ fn keep_others(branches: &mut Vec<Branch>, conversation: u64)
     ensures { branches.new.items ≡ without_those_of branches.old.items conversation }
 {
     branches.retain(|branch| !branch.state.is_last_joined_by(conversation));
-}
-
-// Where the branch of an XID stands, or where it would go.
-fn place(branches: &[Branch], xid: &Xid) -> Result<usize, usize>
-    requires { IsRising (λ b. b.xid) branches.now }
-    ensures found { IfOk result (IsAt branches.now xid.now) }
-    ensures absent { IfErr result (IsGapFor branches.now xid.now) }
-{
-    branches.binary_search_by_key(xid, |branch| branch.xid)
 }

@@ -5,9 +5,9 @@ ghost use Rattle.xa_manager.specs.Branch.{IsTable, in_doubt_xids};
 
 use crate::branch::Branch;
 use crate::due::IN_DOUBT_LIMIT;
-use crate::xid::Xid;
 use std::alloc::{AllocError, Global};
 use std::marker::Model;
+use xa_calls::Xid;
 
 /// XIDs that are in doubt, 256 at most.
 #[derive(Debug, Drop)]

@@ -10,7 +10,7 @@ pub returns-in-Ok : goal.returns-in-Ok
 returns-in-Ok c =
     let at = rw c.deref.ensures.value at c.in-Ok.ensures.found in
     let read = get_or_default c.self.inside.branches.items c.in-Ok.at c.index.result.now no_branch at.in_range in
-    let found = state_at c.self.inside.branches.items (rises c.self.inside.branches.items c.self.invariant.rising) c.args.xid.now c.in-Ok.at at in
+    let found = state_at c.self.inside.branches.items (rises c.self.inside.branches.items c.self.invariant.table.rising) c.args.xid.now c.in-Ok.at at in
     rw (← c.self.view_is, found) (ap (λ (b : Branch). Some b.state) (c.index.ensures ∙ read))
 
 pub returns-in-Err : goal.returns-in-Err

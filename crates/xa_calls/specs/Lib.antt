@@ -1,0 +1,3 @@
+pub mod Xid
+pub mod Numbers
+pub mod Request
