@@ -1,0 +1,2 @@
+pub mod Claim
+pub mod Clash

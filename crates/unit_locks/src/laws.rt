@@ -1,0 +1,14 @@
+//! Laws of claims. The functions do nothing: their contracts are the laws.
+
+ghost use Rattle.unit_locks.specs.Claim.{OneReading};
+ghost use Rattle.unit_locks.specs.Clash.{IsSymmetric, clash};
+
+/// A claim clashes with another exactly where that one clashes with it.
+pub fn clash_is_symmetric()
+    ensures { IsSymmetric clash }
+{}
+
+/// Bytes begin with one claim at most: what follows it is what follows.
+pub fn one_reading()
+    ensures { OneReading }
+{}
