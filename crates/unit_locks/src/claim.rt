@@ -2,7 +2,8 @@
 
 ghost use Rattle.std.specs.Prelude.{◌≡◌, ◌≢◌, ◌≤◌, ◌<◌, ◌+◌, ◌^◌, ◌++◌, List, ℕ, Ok, Err, IfOk, OnOk, length, option_map, drop, take};
 ghost use Rattle.unit_locks.specs.Claim.{Claim as ClaimIs, IsClaim, access_of, claim_bytes, key_of, key_or_empty, length_at, mode_of, scope_bytes, scope_length_at};
-ghost use Rattle.unit_locks.specs.Clash.{clash, overlap, is_write};
+ghost use Rattle.unit_locks.specs.Clash.{clash, overlap};
+ghost use Rattle.unit_locks.specs.Claims.{is_same};
 
 use crate::access::Access;
 use std::alloc::{AllocError, Global};
@@ -152,6 +153,13 @@ impl Claim {
         (self.access() == Access::Write || other.access() == Access::Write)
             && self.table() == other.table()
             && keys_overlap(self.key(), other.key())
+    }
+
+    /// Whether two claims are the same.
+    pub(crate) fn is_same(&self, other: &Claim) -> bool
+        ensures { result ≡ is_same self.now other.now }
+    {
+        self.to_bytes() == other.to_bytes()
     }
 }
 
