@@ -1,0 +1,10 @@
+pub mod Bytes
+pub mod Symmetry
+pub mod ListRows
+pub mod AddedClaims
+pub mod Tests
+pub mod Buckets
+pub mod Counts
+pub mod Indexed
+pub mod Keeping
+pub mod Whole

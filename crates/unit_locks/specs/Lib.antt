@@ -1,0 +1,5 @@
+pub mod Claim
+pub mod Clash
+pub mod Lists
+pub mod Claims
+pub mod Index

@@ -1,0 +1,19 @@
+//! What units of work claim of tables, and when two claims clash.
+#![tactic(auto)]
+
+mod access;
+mod claim;
+mod claims;
+mod hash;
+mod holder;
+mod index;
+mod laws;
+mod lists;
+mod place;
+mod unit_id;
+
+pub use access::Access;
+pub use claim::{Claim, MAX_KEY_BYTES, MAX_NAME_BYTES, ReadError};
+pub use claims::Claims;
+pub use laws::{adding, clash_is_symmetric, one_reading};
+pub use unit_id::UnitId;
