@@ -12,8 +12,8 @@ ghost use Rattle.ddm_objects.specs.declared.code_point.TheConstants.{TYPDEFOVR};
 use crate::levels::push_levels;
 use crate::names::{push_name, push_padded};
 use crate::refusal::Refusal;
+use crate::session::Mechanism;
 use crate::settings::Settings;
-use crate::talk::Mechanism;
 use ddm_objects::{close, code_point, open, put};
 use std::alloc::AllocError;
 
