@@ -13,13 +13,13 @@ use Rattle.conversation.specs.Settings.{Settings}
 use Rattle.conversation.specs.Held.{Held}
 use Rattle.conversation.specs.Replies.{fault_bytes}
 use Rattle.conversation.specs.Exchange.{exchanged}
-use Rattle.conversation.specs.Steps.{Steps, Does, Converses, KeepsToOne, IsWanted}
+use Rattle.conversation.specs.Steps.{Steps, Does, Converses, KeepsToOne}
 use Rattle.drda_node.specs.Machine.{Conversation}
 use Rattle.drda_node.specs.Hearing.{Hears}
 use Rattle.drda_node.specs.declared.fed.Fed.{Fed}
 use Rattle.drda_node.specs.declared.fed.FedState.{FedState}
 use Rattle.drda_node.specs.declared.fed.FedState.TheVariants.{Open, Later, Closed as is_shut, Short as is_short}
-use Rattle.drda_node.specs.Feeding.{IsBetweenCommands, IsLeft, KeepsToWanted, EndsAtFault, shown_held, Told, Takes, LeftAs, bytes_behind, state_for}
+use Rattle.drda_node.specs.Feeding.{IsBetweenCommands, KeepsToWanted, EndsAtFault, shown_held, Told, Takes, LeftAs, bytes_behind, state_for}
 use Rattle.conversation.proofs.Closed.{does_closed}
 use Rattle.drda_node.proofs.Conversing.{hears_then, hears_closed}
 

@@ -1,5 +1,5 @@
 -- A flush keeps what a run has written, and what is reported of a run.
-use Rattle.std.proofs.Common.{◌≡◌, ◌∙◌, refl, sym, subst, ap, ℕ, Bool, List, [], ◌++◌, Option, Some, None, IfSome, Result, Ok, Err, OnOk, OnErr, length, take, take_all, append-nil, le_refl}
+use Rattle.std.proofs.Common.{◌≡◌, ◌∙◌, refl, sym, subst, ap, ℕ, Bool, List, [], Option, Some, None, IfSome, Result, Ok, Err, OnOk, OnErr, length, take, take_all, le_refl}
 use Rattle.std.specs.Io.KnownBytes.{Appends, Keeps}
 use Rattle.std.proofs.KnownBytes.{Appends-nil, Appends-trans}
 use Rattle.conversation.specs.Settings.{Settings}
@@ -7,11 +7,9 @@ use Rattle.drda_node.specs.Machine.{Machine, at_start}
 use Rattle.drda_node.specs.Serving.{Runs, Serves as ServesRecords}
 use Rattle.drda_node.specs.declared.serving.RunEnd.{RunEnd}
 use Rattle.drda_node.specs.declared.serving.RunEnd.TheVariants as ends
-use Rattle.drda_program.specs.CommandLine.{Says, Tells}
-use Rattle.drda_program.specs.Program.{Does, Exits, Serves, Ran, EndsSo, IsServed, SaysBefore}
+use Rattle.drda_program.specs.Program.{Does, Exits, Serves, Ran, EndsSo, IsServed}
 use Rattle.drda_program.specs.Endings.{Ending, no_settings, no_memory, ran, result_for, result_of, status_of, line_of}
 use Rattle.drda_program.specs.declared.fault.Fault.{Fault}
-use Rattle.drda_program.specs.declared.fault.Fault.TheVariants.{BadArguments, Device, BadEvent, NoMemory}
 
 appended_kept : (before mid now : Option (List ℕ)) (written : List ℕ) → Appends before mid written → Keeps mid now → Appends before now written
 appended_kept None mid now written a k = tt
