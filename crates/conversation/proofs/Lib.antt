@@ -3,3 +3,6 @@ mod Walked
 mod Counting
 mod Entries
 mod Faults
+mod Chains
+mod Checks
+mod TreesOf

@@ -6,8 +6,8 @@ use Rattle.ddm_objects.specs.declared.fault.ObjFault.{ObjFault}
 use Rattle.ddm_objects.specs.Objects.{Obj}
 use Rattle.ddm_objects.specs.Reading.{walk}
 use Rattle.conversation.specs.declared.table.Command.{Command}
-use Rattle.conversation.specs.declared.table.Place.{Place}
-use Rattle.conversation.specs.declared.table.Place.TheVariants.{Parameter, DataObject}
+use Rattle.conversation.specs.declared.table.ItemKind.{ItemKind}
+use Rattle.conversation.specs.declared.table.ItemKind.TheVariants.{Parameter, DataObject}
 use Rattle.conversation.specs.declared.table.Form.{Form}
 use Rattle.conversation.specs.declared.table.Form.TheVariants.{ManagerLevels, AnyBytes, TwoBytes, DefinitionName, DefinitionOverrides}
 use Rattle.conversation.specs.Tables.{items_for}
@@ -37,7 +37,7 @@ seen_in_texts code before [] = before
 seen_in_texts code before (text ∷ texts) = seen_in_texts code (seen_in code before (walk text).objects) texts
 
 -- where a code point may stand
-abbrev pub found_at : Place → ℕ → Given → Occurs
+abbrev pub found_at : ItemKind → ℕ → Given → Occurs
 found_at Parameter code given = seen_in code never (walk given.parameters).objects
 found_at DataObject code given = seen_in_texts code never given.objects
 
@@ -60,14 +60,14 @@ is_container TwoBytes = false
 is_container DefinitionName = false
 is_container DefinitionOverrides = true
 
-abbrev pub is_at : Place → Place → Bool
+abbrev pub is_at : ItemKind → ItemKind → Bool
 is_at Parameter Parameter = true
 is_at DataObject DataObject = true
-is_at place other = false
+is_at kind other = false
 
 -- the command reads a container of this code point at this place
-abbrev pub reads_inside : Command → Place → ℕ → Bool
-reads_inside command place code = list_any (λ i. is_at i.place place && (i.code == code && is_container i.form)) (items_for command)
+abbrev pub reads_inside : Command → ItemKind → ℕ → Bool
+reads_inside command kind code = list_any (λ i. is_at i.kind kind && (i.code == code && is_container i.form)) (items_for command)
 
 abbrev pub fault_inside : Bool → List ℕ → Option ObjFault
 fault_inside true value = (walk value).fault

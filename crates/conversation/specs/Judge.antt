@@ -11,8 +11,8 @@ use Rattle.conversation.specs.declared.refusal.Refusal.TheVariants.{Syntax, OutO
 use Rattle.conversation.specs.declared.refusal.SyntaxError.TheVariants.{InObject, BytesLeft, Missing, TooManyObjects, Twice}
 use Rattle.conversation.specs.declared.table.Command.{Command}
 use Rattle.conversation.specs.declared.table.Command.TheVariants.{Excsat, Accsec, Secchk, Accrdb, Unserved}
-use Rattle.conversation.specs.declared.talk.Stage.{Stage}
-use Rattle.conversation.specs.declared.talk.Stage.TheVariants.{Known, Asked, Checked, Opened}
+use Rattle.conversation.specs.declared.session.Stage.{Stage}
+use Rattle.conversation.specs.declared.session.Stage.TheVariants.{Known, Asked, Checked, Opened}
 use Rattle.conversation.specs.declared.table.Item.{Item}
 use Rattle.conversation.specs.declared.table.Form.{Form}
 use Rattle.conversation.specs.declared.table.Form.TheVariants.{ManagerLevels, AnyBytes, TwoBytes, DefinitionName, DefinitionOverrides}
@@ -94,10 +94,10 @@ has_twice form (once value) = is_twice_inside form value
 has_twice form twice = true
 
 abbrev pub item_twice : Given → Item → Bool
-item_twice given item = has_twice item.form (found_at item.place item.code given)
+item_twice given item = has_twice item.form (found_at item.kind item.code given)
 
 abbrev pub item_missing : Given → Item → Bool
-item_missing given item = item.is_required && is_never (found_at item.place item.code given)
+item_missing given item = item.is_required && is_never (found_at item.kind item.code given)
 
 -- a CCSID, where it stands, is 1208
 abbrev pub is_1208 : Occurs → Bool
@@ -118,7 +118,7 @@ has_bad_value unicode form (once value) = not (is_supported unicode form value)
 has_bad_value unicode form twice = false
 
 abbrev pub item_bad : Bool → Given → Item → Bool
-item_bad unicode given item = has_bad_value unicode item.form (found_at item.place item.code given)
+item_bad unicode given item = has_bad_value unicode item.form (found_at item.kind item.code given)
 
 abbrev pub none_twice : List Item → Given → Result (Unit {0}) Refusal
 none_twice items given = if list_any (item_twice given) items then Err (Syntax Twice) else Ok tt
@@ -134,13 +134,13 @@ none_bad unicode (item ∷ items) given = if item_bad unicode given item then Er
 -- ---- all of it
 
 -- a command that is not refused, and what it brought
-pub record Order : Type 0 where
+pub record Accepted : Type 0 where
   pub command : Command
   pub given : Given
 
 -- the command in a request DSS with these contents, and object DSSs with those, at a stage; whether
 -- names may come in UTF-8
-abbrev pub judged : Stage → Bool → List ℕ → List (List ℕ) → Result Order Refusal
+abbrev pub judged : Stage → Bool → List ℕ → List (List ℕ) → Result Accepted Refusal
 judged stage unicode contents objects = do
   o ← command_object contents
   command ← is_known o.code (command_for o.code)

@@ -1,11 +1,11 @@
 pub mod Names
-pub mod Service
+pub mod Settings
 pub mod Levels
 pub mod Tables
 pub mod Given
 pub mod Judge
 pub mod Replies
-pub mod Turn
+pub mod Exchange
 pub mod Closing
 pub mod Held
 pub mod Views

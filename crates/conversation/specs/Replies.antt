@@ -12,11 +12,11 @@ use Rattle.conversation.specs.declared.refusal.Refusal.TheVariants.{Syntax, OutO
 use Rattle.conversation.specs.declared.refusal.SyntaxError.{SyntaxError}
 use Rattle.conversation.specs.declared.refusal.SyntaxError.TheVariants.{InObject, BytesLeft, Missing, TooManyObjects, Twice}
 use Rattle.conversation.specs.declared.reply.TheConstants.{SERVER_NAME, SERVER_CLASS, RELEASE_LEVEL}
-use Rattle.conversation.specs.declared.talk.Mechanism.{Mechanism}
-use Rattle.conversation.specs.declared.talk.Mechanism.TheVariants.{UserAndPassword, UserOnly}
+use Rattle.conversation.specs.declared.session.Mechanism.{Mechanism}
+use Rattle.conversation.specs.declared.session.Mechanism.TheVariants.{UserAndPassword, UserOnly}
 use Rattle.conversation.specs.Levels.{levels_for}
 use Rattle.conversation.specs.Names.{in_encoding, padded_in}
-use Rattle.conversation.specs.Service.{Service}
+use Rattle.conversation.specs.Settings.{Settings}
 
 -- a reply: its DSS type (2 a reply message, 3 an object), its severity (0 where it has none), its text
 pub record Reply : Type 0 where
@@ -37,17 +37,17 @@ synerrcd_for TooManyObjects = 0x0F
 synerrcd_for Twice = 0x12
 
 -- the database's name, as it is answered
-abbrev pub rdb_part : Service → Bool → List ℕ
-rdb_part service unicode = spelled RDBNAM (padded_in unicode service.rdb)
+abbrev pub rdb_part : Settings → Bool → List ℕ
+rdb_part settings unicode = spelled RDBNAM (padded_in unicode settings.rdb)
 
 -- the message of a refusal, of severity ERROR (8)
-abbrev pub refusal_reply : Service → Bool → Refusal → Reply
-refusal_reply service unicode (Syntax error) = message SYNTAXRM 8 (spelled SYNERRCD (synerrcd_for error ∷ []))
-refusal_reply service unicode OutOfTurn = message PRCCNVRM 8 []
-refusal_reply service unicode RdbAccessed = message RDBACCRM 8 (rdb_part service unicode)
-refusal_reply service unicode RdbNotAccessed = message RDBNACRM 8 (rdb_part service unicode)
-refusal_reply service unicode (CommandNotSupported code) = message CMDNSPRM 8 (spelled CODPNT (to_be_bytes w16 code))
-refusal_reply service unicode (ValueNotSupported code) = message VALNSPRM 8 (spelled CODPNT (to_be_bytes w16 code))
+abbrev pub refusal_reply : Settings → Bool → Refusal → Reply
+refusal_reply settings unicode (Syntax error) = message SYNTAXRM 8 (spelled SYNERRCD (synerrcd_for error ∷ []))
+refusal_reply settings unicode OutOfTurn = message PRCCNVRM 8 []
+refusal_reply settings unicode RdbAccessed = message RDBACCRM 8 (rdb_part settings unicode)
+refusal_reply settings unicode RdbNotAccessed = message RDBNACRM 8 (rdb_part settings unicode)
+refusal_reply settings unicode (CommandNotSupported code) = message CMDNSPRM 8 (spelled CODPNT (to_be_bytes w16 code))
+refusal_reply settings unicode (ValueNotSupported code) = message VALNSPRM 8 (spelled CODPNT (to_be_bytes w16 code))
 
 -- no database has this name, which is answered as it came
 abbrev pub rdb_not_found : List ℕ → Reply

@@ -3,33 +3,37 @@
 -- The order is the one in which values are judged.
 use Rattle.std.specs.Prelude.{ℕ, ◌==◌, Bool, true, false, List, [], ◌∷◌, ◌++◌, Option, Some, None, if◌then◌else◌}
 use Rattle.std.specs.List.{list_any}
-use Rattle.ddm_objects.specs.declared.code_point.TheConstants.{EXCSAT, ACCSEC, SECCHK, ACCRDB, MGRLVLLS, SECMEC, RDBNAM, USRID, PASSWORD, TYPDEFNAM, TYPDEFOVR}
+use Rattle.ddm_objects.specs.declared.code_point.TheConstants.{MGRLVLLS, SECMEC, RDBNAM, USRID, PASSWORD, TYPDEFNAM, TYPDEFOVR}
 use Rattle.conversation.specs.declared.table.Command.{Command}
 use Rattle.conversation.specs.declared.table.Command.TheVariants.{Excsat, Accsec, Secchk, Accrdb, Unserved}
 use Rattle.conversation.specs.declared.table.Item.{Item}
-use Rattle.conversation.specs.declared.table.Place.TheVariants.{Parameter, DataObject}
+use Rattle.conversation.specs.declared.table.ItemKind.TheVariants.{Parameter, DataObject}
 use Rattle.conversation.specs.declared.table.Form.{Form}
 use Rattle.conversation.specs.declared.table.Form.TheVariants.{ManagerLevels, AnyBytes, TwoBytes, DefinitionName, DefinitionOverrides}
-use Rattle.conversation.specs.declared.table.TheConstants.{UNSERVED}
 
--- commands that need the database and are not served yet
+-- The commands that need the database and are not served yet: SYNCCTL, then CLSQRY, CNTQRY, DSCSQLSTT,
+-- EXCSQLIMM, EXCSQLSTT, OPNQRY, PRPSQLSTT, RDBCMM and RDBRLLBCK.
+abbrev pub unserved : List ℕ
+unserved = 0x1055 ∷ 0x2005 ∷ 0x2006 ∷ 0x2008 ∷ 0x200A ∷ 0x200B ∷ 0x200C ∷ 0x200D ∷ 0x200E ∷ 0x200F ∷ []
+
 abbrev pub is_unserved : ℕ → Bool
-is_unserved code = list_any (λ c. c == code) UNSERVED
+is_unserved code = list_any (λ c. c == code) unserved
 
+-- a command by its code point: EXCSAT, ACCSEC, SECCHK, ACCRDB, and those that are not served
 abbrev pub command_for : ℕ → Option Command
 command_for code =
-    if code == EXCSAT then Some Excsat else if code == ACCSEC then Some Accsec else if code == SECCHK then Some Secchk
-    else if code == ACCRDB then Some Accrdb else if is_unserved code then Some (Unserved code) else None
+    if code == 0x1041 then Some Excsat else if code == 0x106D then Some Accsec else if code == 0x106E then Some Secchk
+    else if code == 0x2001 then Some Accrdb else if is_unserved code then Some (Unserved code) else None
 
 -- a parameter that may come, and one that has to
 abbrev pub parameter : ℕ → Form → Item
-parameter code form = record { place = Parameter; code = code; is_required = false; form = form }
+parameter code form = record { kind = Parameter; code = code; is_required = false; form = form }
 
 abbrev pub required : ℕ → Form → Item
-required code form = record { place = Parameter; code = code; is_required = true; form = form }
+required code form = record { kind = Parameter; code = code; is_required = true; form = form }
 
 abbrev pub data_object : ℕ → Form → Item
-data_object code form = record { place = DataObject; code = code; is_required = false; form = form }
+data_object code form = record { kind = DataObject; code = code; is_required = false; form = form }
 
 -- what a command of its own reads
 abbrev pub own_items : Command → List Item

@@ -1,19 +1,19 @@
 //! Access to the database: ACCSEC, SECCHK and ACCRDB.
 
 ghost use Rattle.std.specs.Prelude.{◌≡◌, IfOk};
-ghost use Rattle.conversation.specs.Turn as spec;
+ghost use Rattle.conversation.specs.Exchange as spec;
 ghost use Rattle.conversation.specs.Replies.{rdb_not_found};
 ghost use Rattle.conversation.specs.Views.{answer_of, occurs_of};
 
+use crate::exchange::Answer;
 use crate::given::Occurs;
 use crate::names::{is_name, is_padded_name};
 use crate::reply::{
     severity_of, write_accrdbrm, write_accsecrd, write_accsecrd_refused, write_rdb_not_found,
     write_secchkrm,
 };
+use crate::session::{Mechanism, Session, Stage};
 use crate::settings::Settings;
-use crate::talk::{Mechanism, Stage, Talk};
-use crate::turn::Answer;
 use dss_frames::DssType;
 use std::alloc::AllocError;
 
@@ -51,39 +51,39 @@ fn mechanism_for(value: &[u8]) -> Option<Mechanism>
     None
 }
 
-fn not_found(talk: Talk, name: Occurs<'_>, text: &mut Vec<u8>) -> Result<Answer, AllocError>
-    ensures { IfOk result (λ a. answer_of a text.new.items ≡ record { talk = talk; reply = rdb_not_found (spec.bytes_of (occurs_of name.entry)) }) }
+fn not_found(session: Session, name: Occurs<'_>, text: &mut Vec<u8>) -> Result<Answer, AllocError>
+    ensures { IfOk result (λ a. answer_of a text.new.items ≡ record { session = session; reply = rdb_not_found (spec.bytes_of (occurs_of name.entry)) }) }
 {
     write_rdb_not_found(text, bytes_of(name))?;
     Ok(Answer {
-        talk,
+        session,
         dss_type: DssType::Reply,
         severity: 8,
     })
 }
 
 fn asked_for(
-    talk: Talk,
+    session: Session,
     mechanism: Option<Mechanism>,
     text: &mut Vec<u8>,
 ) -> Result<Answer, AllocError>
-    ensures { IfOk result (λ a. answer_of a text.new.items ≡ spec.asked_for talk mechanism) }
+    ensures { IfOk result (λ a. answer_of a text.new.items ≡ spec.asked_for session mechanism) }
 {
-    let talk = match mechanism {
+    let session = match mechanism {
         Some(mechanism) => {
             write_accsecrd(text, mechanism)?;
-            Talk {
+            Session {
                 stage: Stage::Asked(mechanism),
-                ..talk
+                ..session
             }
         }
         None => {
             write_accsecrd_refused(text)?;
-            talk
+            session
         }
     };
     Ok(Answer {
-        talk,
+        session,
         dss_type: DssType::Object,
         severity: 0,
     })
@@ -93,17 +93,17 @@ fn asked_for(
 /// mechanism that there is not, which lists those that there are and leaves the stage.
 pub(crate) fn accsec(
     settings: &Settings,
-    talk: Talk,
+    session: Session,
     mechanism: Occurs<'_>,
     rdb: Occurs<'_>,
     text: &mut Vec<u8>,
 ) -> Result<Answer, AllocError>
-    ensures { IfOk result (λ a. answer_of a text.new.items ≡ spec.accsec_done settings.now talk (occurs_of mechanism.entry) (occurs_of rdb.entry)) }
+    ensures { IfOk result (λ a. answer_of a text.new.items ≡ spec.accsec_done settings.now session (occurs_of mechanism.entry) (occurs_of rdb.entry)) }
 {
-    if is_ours(settings, talk.agreed.unicode, rdb) {
-        asked_for(talk, mechanism_for(bytes_of(mechanism)), text)
+    if is_ours(settings, session.agreed.unicode, rdb) {
+        asked_for(session, mechanism_for(bytes_of(mechanism)), text)
     } else {
-        not_found(talk, rdb, text)
+        not_found(session, rdb, text)
     }
 }
 
@@ -164,18 +164,18 @@ fn code_of_password(settings: &Settings, unicode: bool, password: Occurs<'_>) ->
 /// password is compared byte by byte to its end, whichever byte differs first.
 pub(crate) fn check_code(
     settings: &Settings,
-    talk: Talk,
+    session: Session,
     mechanism: Occurs<'_>,
     user: Occurs<'_>,
     password: Occurs<'_>,
 ) -> u8
-    ensures { result ≡ spec.check_code settings.now talk (occurs_of mechanism.entry) (occurs_of user.entry) (occurs_of password.entry) }
+    ensures { result ≡ spec.check_code settings.now session (occurs_of mechanism.entry) (occurs_of user.entry) (occurs_of password.entry) }
 {
-    if !is_agreed(talk.stage, bytes_of(mechanism)) {
+    if !is_agreed(session.stage, bytes_of(mechanism)) {
         return 0x01;
     }
-    let unicode = talk.agreed.unicode;
-    let right = if wants_password(talk.stage) {
+    let unicode = session.agreed.unicode;
+    let right = if wants_password(session.stage) {
         code_of_password(settings, unicode, password)
     } else {
         0
@@ -184,17 +184,17 @@ pub(crate) fn check_code(
 }
 
 /// SECCHK with its code: where it is 00 the user is checked, and else the stage stays.
-pub(crate) fn checked(talk: Talk, code: u8, text: &mut Vec<u8>) -> Result<Answer, AllocError>
-    ensures { IfOk result (λ a. answer_of a text.new.items ≡ spec.checked_with talk code) }
+pub(crate) fn checked(session: Session, code: u8, text: &mut Vec<u8>) -> Result<Answer, AllocError>
+    ensures { IfOk result (λ a. answer_of a text.new.items ≡ spec.checked_with session code) }
 {
     write_secchkrm(text, code)?;
     let stage = if code == 0 {
         Stage::Checked
     } else {
-        talk.stage
+        session.stage
     };
     Ok(Answer {
-        talk: Talk { stage, ..talk },
+        session: Session { stage, ..session },
         dss_type: DssType::Reply,
         severity: severity_of(code),
     })
@@ -203,20 +203,20 @@ pub(crate) fn checked(talk: Talk, code: u8, text: &mut Vec<u8>) -> Result<Answer
 /// ACCRDB: opens the database, or answers RDBNFNRM where it is not this one.
 pub(crate) fn accrdb(
     settings: &Settings,
-    talk: Talk,
+    session: Session,
     rdb: Occurs<'_>,
     text: &mut Vec<u8>,
 ) -> Result<Answer, AllocError>
-    ensures { IfOk result (λ a. answer_of a text.new.items ≡ spec.accrdb_done settings.now talk (occurs_of rdb.entry)) }
+    ensures { IfOk result (λ a. answer_of a text.new.items ≡ spec.accrdb_done settings.now session (occurs_of rdb.entry)) }
 {
-    if !is_ours(settings, talk.agreed.unicode, rdb) {
-        return not_found(talk, rdb, text);
+    if !is_ours(settings, session.agreed.unicode, rdb) {
+        return not_found(session, rdb, text);
     }
-    write_accrdbrm(text, talk.agreed.unicode)?;
+    write_accrdbrm(text, session.agreed.unicode)?;
     Ok(Answer {
-        talk: Talk {
+        session: Session {
             stage: Stage::Opened,
-            ..talk
+            ..session
         },
         dss_type: DssType::Reply,
         severity: 0,

@@ -1,8 +1,8 @@
 //! One conversation.
 
+use crate::exchange::{Exchanged, do_command};
+use crate::session::{Session, fresh_session};
 use crate::settings::Settings;
-use crate::talk::{Talk, fresh_talk};
-use crate::turn::{Turned, take_turn};
 use dss_frames::{Format, FrameFault, Segments, write_dss};
 use std::alloc::{AllocError, Global};
 use std::marker::Model;
@@ -26,7 +26,7 @@ pub enum Need {
 pub struct Front {
     settings: Settings,
     segments: Segments,
-    talk: Talk,
+    session: Session,
     text: Vec<u8>,
 }
 
@@ -36,24 +36,25 @@ impl Model for Front {
 
     ghost Value = { Held };
 
-    ghost view = { λ f. record { service = f.settings; rest = f.segments.rest; talk = f.talk } };
+    ghost view = { λ f. record { settings = f.settings; rest = f.segments.rest; session = f.session } };
 
-    ghost invariant = { λ f. IsOpenAtFault f.segments.at_fault f.talk.is_closed };
+    ghost invariant = { λ f. IsOpenAtFault f.segments.at_fault f.session.is_closed };
 }
 
 impl Front {
     ghost use Rattle.std.specs.Prelude.{◌≡◌, ◌≤◌, ◌+◌, ◌++◌, [], IfOk, OnOk, IsTrue, false, length, take, vec_len, vec_capacity};
-    ghost use Rattle.conversation.specs.Turn.{fresh};
-    ghost use Rattle.conversation.specs.Steps.{Steps, KeepsToOne};
+    ghost use Rattle.conversation.specs.Exchange.{fresh};
+    ghost use Rattle.dss_frames.specs.Fault.{IsUnfinished};
+    ghost use Rattle.conversation.specs.Steps.{Steps, KeepsToOne, IsWanted};
 
     /// A conversation of which nothing has come.
     pub fn new(alloc: Global, settings: &Settings) -> Result<Front, AllocError>
-        ensures { IfOk result (λ f. f ≡ record { service = settings.now; rest = []; talk = fresh }) }
+        ensures { IfOk result (λ f. f ≡ record { settings = settings.now; rest = []; session = fresh }) }
     {
         Ok(Front {
             settings: settings.copied(alloc)?,
             segments: Segments::new(alloc),
-            talk: fresh_talk(),
+            session: fresh_session(),
             text: Vec::new(alloc),
         })
     }
@@ -61,11 +62,18 @@ impl Front {
     /// Begins anew, with the same settings: what came and what was agreed on is forgotten, and its
     /// memory given back.
     pub fn restart(&mut self, alloc: Global)
-        ensures { self.new ≡ record { service = self.old.service; rest = []; talk = fresh } }
+        ensures { self.new ≡ record { settings = self.old.settings; rest = []; session = fresh } }
     {
         self.segments = Segments::new(alloc);
-        self.talk = fresh_talk();
+        self.session = fresh_session();
         self.text = Vec::new(alloc);
+    }
+
+    /// Whether a fault of the framing closed the conversation.
+    pub fn is_closed(&self) -> bool
+        ensures { result ≡ self.now.session.is_closed }
+    {
+        self.session.is_closed
     }
 
     /// Takes the bytes that come next, and says how many it took: all of them, none once it is
@@ -73,19 +81,20 @@ impl Front {
     pub fn feed(&mut self, piece: &[u8]) -> usize
         ensures taken { self.new ≡ record self.old { rest = self.old.rest ++ take result piece.now } }
         ensures within { result ≤ length piece.now }
-        ensures closed { IsTrue self.old.talk.is_closed → result ≡ 0 }
+        ensures closed { IsTrue self.old.session.is_closed → result ≡ 0 }
     {
-        if self.talk.is_closed {
+        if self.is_closed() {
             return 0;
         }
         self.segments.feed(piece)
     }
 
-    /// How many bytes at the least are missing until the next header, segment or command can be
-    /// judged: at least one. A caller that feeds no more than these between two calls of `next`
-    /// never has a byte of a second command here.
+    /// How many bytes are missing until the next header, segment or command can be judged: at least
+    /// one, and of unfinished bytes exactly so many. A caller that feeds no more than these between
+    /// two calls of `next` never has a byte of a second command here.
     pub fn wanted(&self) -> usize
         ensures some { 1 ≤ result }
+        ensures exact { IsUnfinished self.now.rest → IsWanted self.now.rest result }
         ensures one_command { KeepsToOne self.now.rest result }
     {
         self.segments.wanted()
@@ -98,23 +107,23 @@ impl Front {
         requires room { vec_len out.old + 21 ≤ vec_capacity out.old }
         ensures { Steps self.old out.old.items result self.new out.new.items }
     {
-        if self.talk.is_closed {
+        if self.is_closed() {
             return Need::Closed;
         }
         match self.segments.next() {
             Ok(None) => Need::Bytes,
-            Ok(Some(group)) => match take_turn(
+            Ok(Some(group)) => match do_command(
                 &self.settings,
-                &mut self.talk,
+                &mut self.session,
                 group,
                 &mut self.text,
                 out,
             ) {
-                Turned::Done => Need::Local,
-                Turned::Short(bytes) => Need::Short(bytes),
+                Exchanged::Done => Need::Local,
+                Exchanged::Short(bytes) => Need::Short(bytes),
             },
             Err(fault) => {
-                self.talk.is_closed = true;
+                self.session = closed(self.session);
                 answer_fault(fault, out);
                 Need::Closed
             }
@@ -124,6 +133,17 @@ impl Front {
 
 ghost use Rattle.std.specs.Prelude.{◌≡◌, ◌≤◌, ◌+◌, ◌++◌, vec_len, vec_capacity};
 ghost use Rattle.conversation.specs.Replies.{fault_bytes};
+ghost use Rattle.conversation.specs.Steps as steps;
+
+// A fault of the framing closes a conversation, and leaves all else.
+fn closed(session: Session) -> Session
+    ensures { result ≡ steps.closed session }
+{
+    Session {
+        is_closed: true,
+        ..session
+    }
+}
 
 // SYNTAXRM with the code of the fault and the correlator of its DSS, in no chain.
 fn answer_fault(fault: FrameFault, out: &mut Vec<u8>)

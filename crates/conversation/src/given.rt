@@ -3,11 +3,11 @@
 ghost use Rattle.std.specs.Prelude.{◌≡◌, ◌==◌, if◌then◌else◌, ◌+◌, ◌^◌, ◌-◌, List, ℕ, min, length};
 ghost use Rattle.ddm_objects.specs.Reading.{walk};
 ghost use Rattle.dss_frames.specs.Group.{command_of};
-ghost use Rattle.conversation.specs.Turn.{contents_of};
+ghost use Rattle.conversation.specs.Exchange.{contents_of};
 ghost use Rattle.conversation.specs.Given.{seen_again, seen_in, seen_in_texts, found_at, count_in, is_container, is_at, reads_inside, fault_inside, fault_in, fault_in_texts, first_fault, never};
 ghost use Rattle.conversation.specs.Views.{occurs_of, given_of};
 
-use crate::table::{Command, Form, Item, Place, items_of};
+use crate::table::{Command, Form, Item, ItemKind, items_of};
 use ddm_objects::{ObjFault, Object, parts_of};
 use dss_frames::Group;
 
@@ -90,16 +90,19 @@ fn is_container(form: Form) -> bool
     }
 }
 
-fn is_at(place: Place, other: Place) -> bool
-    ensures { result ≡ is_at place other }
+fn is_at(kind: ItemKind, other: ItemKind) -> bool
+    ensures { result ≡ is_at kind other }
 {
-    place == other
+    matches!(
+        (kind, other),
+        (ItemKind::Parameter, ItemKind::Parameter) | (ItemKind::DataObject, ItemKind::DataObject)
+    )
 }
 
-fn reads_inside(command: Command, place: Place, code: u16) -> bool
-    ensures { result ≡ reads_inside command place code }
+fn reads_inside(command: Command, kind: ItemKind, code: u16) -> bool
+    ensures { result ≡ reads_inside command kind code }
 {
-    items_of(command).iter().any(|item| is_at(item.place, place)
+    items_of(command).iter().any(|item| is_at(item.kind, kind)
         && item.code == code
         && is_container(item.form))
 }
@@ -123,13 +126,13 @@ fn fault_inside(is_read: bool, value: &[u8]) -> Option<ObjFault>
     if is_read { own_fault(value) } else { None }
 }
 
-fn fault_in(command: Command, place: Place, text: &[u8]) -> Option<ObjFault>
-    ensures { result ≡ fault_in (reads_inside command place) text.now }
+fn fault_in(command: Command, kind: ItemKind, text: &[u8]) -> Option<ObjFault>
+    ensures { result ≡ fault_in (reads_inside command kind) text.now }
 {
     for part in parts_of(text) {
         match part {
             Ok(object) => {
-                let inside = fault_inside(reads_inside(command, place, object.code), object.value);
+                let inside = fault_inside(reads_inside(command, kind, object.code), object.value);
                 if inside.is_some() {
                     return inside;
                 }
@@ -141,11 +144,11 @@ fn fault_in(command: Command, place: Place, text: &[u8]) -> Option<ObjFault>
 }
 
 fn fault_in_dsss(command: Command, objects: Group<'_>) -> Option<ObjFault>
-    ensures { result ≡ fault_in_texts (reads_inside command Place.DataObject) (contents_of (command_of objects.entry)) }
+    ensures { result ≡ fault_in_texts (reads_inside command ItemKind.DataObject) (contents_of (command_of objects.entry)) }
 {
     let mut left = objects;
     'dsss: while let Some((dss, more)) = left.split_first() {
-        let fault = fault_in(command, Place::DataObject, dss.contents);
+        let fault = fault_in(command, ItemKind::DataObject, dss.contents);
         if fault.is_some() {
             return fault;
         }
@@ -171,11 +174,11 @@ fn count_of(text: &[u8]) -> usize
 impl<'a> Given<'a> {
     /// How often an item stands where it may stand.
     pub fn found(&self, item: Item) -> Occurs<'a>
-        ensures { occurs_of result ≡ found_at item.place item.code (given_of self.now) }
+        ensures { occurs_of result ≡ found_at item.kind item.code (given_of self.now) }
     {
-        match item.place {
-            Place::Parameter => found_in(item.code, self.parameters),
-            Place::DataObject => found_in_dsss(item.code, self.objects),
+        match item.kind {
+            ItemKind::Parameter => found_in(item.code, self.parameters),
+            ItemKind::DataObject => found_in_dsss(item.code, self.objects),
         }
     }
 
@@ -184,7 +187,7 @@ impl<'a> Given<'a> {
     pub fn first_fault(&self, command: Command) -> Option<ObjFault>
         ensures { result ≡ first_fault command (given_of self.now) }
     {
-        let fault = fault_in(command, Place::Parameter, self.parameters);
+        let fault = fault_in(command, ItemKind::Parameter, self.parameters);
         if fault.is_some() {
             return fault;
         }

@@ -6,21 +6,21 @@ ghost use Rattle.drda_words.specs.Excuse.{Answers};
 ghost use Rattle.ddm_objects.specs.Source.{view};
 ghost use Rattle.dss_frames.specs.Group.{command_of};
 ghost use Rattle.conversation.specs.Tables.{command_for};
-ghost use Rattle.conversation.specs.Turn.{contents_of};
+ghost use Rattle.conversation.specs.Exchange.{contents_of};
 ghost use Rattle.conversation.specs.Judge as spec;
-ghost use Rattle.conversation.specs.Views.{occurs_of, given_of, order_of};
+ghost use Rattle.conversation.specs.Views.{occurs_of, given_of, accepted_of};
 
 use crate::given::{Given, Occurs, found_in};
 use crate::names::is_name;
 use crate::refusal::{Refusal, SyntaxError};
+use crate::session::Stage;
 use crate::table::{Command, Form, Item, command_of, items_of};
-use crate::talk::Stage;
 use ddm_objects::{Object, code_point};
 use dss_frames::Group;
 
 /// A command that is not refused, and what it brought.
 #[derive(Clone, Copy)]
-pub(crate) struct Order<'a> {
+pub(crate) struct Accepted<'a> {
     pub command: Command,
     pub given: Given<'a>,
 }
@@ -197,8 +197,8 @@ pub(crate) fn judge<'a>(
     unicode: bool,
     contents: &'a [u8],
     objects: Group<'a>,
-) -> Result<Order<'a>, Refusal>
-    ensures { Answers order_of Some result (spec.judged stage unicode contents.now (contents_of (command_of objects.entry))) }
+) -> Result<Accepted<'a>, Refusal>
+    ensures { Answers accepted_of Some result (spec.judged stage unicode contents.now (contents_of (command_of objects.entry))) }
 {
     let object = command_object(contents)?;
     let command = known(object.code)?;
@@ -212,5 +212,5 @@ pub(crate) fn judge<'a>(
     check_twice(items, &given)?;
     check_missing(items, &given)?;
     check_values(unicode, items, &given)?;
-    Ok(Order { command, given })
+    Ok(Accepted { command, given })
 }

@@ -3,7 +3,7 @@
 ghost use Rattle.std.specs.Prelude.{◌≡◌, ◌<◌, ◌++◌, OnOk, IfSome, MatchOption, length};
 ghost use Rattle.conversation.specs.Levels.{highest, level_for, levels_for, agreed_on, agreed_after, nothing_agreed};
 
-use crate::talk::Agreed;
+use crate::session::Agreed;
 use ddm_objects::code_point;
 use std::alloc::AllocError;
 

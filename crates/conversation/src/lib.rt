@@ -3,6 +3,7 @@
 #![tactic(auto)]
 
 mod access;
+mod exchange;
 mod front;
 mod given;
 mod judge;
@@ -11,15 +12,10 @@ mod levels;
 mod names;
 mod refusal;
 mod reply;
+mod session;
 mod settings;
 mod table;
-mod talk;
-#[cfg(test)]
-mod tests;
-mod turn;
 
 pub use front::{Front, Need};
-pub use refusal::{Refusal, SyntaxError};
+pub use session::{Agreed, Mechanism, Session, Stage};
 pub use settings::{Settings, SettingsError};
-pub use table::{Command, Form, Item, Place};
-pub use talk::{Agreed, Mechanism, Stage, Talk};

@@ -3,7 +3,7 @@
 use ddm_objects::ObjFault;
 
 /// What a SYNTAXRM tells by its SYNERRCD (DRDA V5 volume 3) of a command whose DSSs are whole.
-#[derive(Clone, Copy, Debug, PartialEq, Eq)]
+#[derive(Clone, Copy)]
 pub enum SyntaxError {
     /// 07, 08 or 0C: an object has a length that can't be, or runs past its container.
     InObject(ObjFault),
@@ -36,7 +36,7 @@ impl SyntaxError {
 }
 
 /// Why a command is refused, by the reply message that says so.
-#[derive(Clone, Copy, Debug, PartialEq, Eq)]
+#[derive(Clone, Copy)]
 pub enum Refusal {
     /// SYNTAXRM.
     Syntax(SyntaxError),

@@ -7,13 +7,13 @@ ghost use Rattle.ebcdic_500.specs.CodePage.{byte_for};
 ghost use Rattle.conversation.specs.Replies.{message, refusal_reply, rdb_part, rdb_not_found, levels_part, excsatrd, accsecrd, accsecrd_refused, secchkrm, check_severity, ccsids, accrdbrm};
 ghost use Rattle.conversation.specs.Replies as spec;
 ghost use Rattle.conversation.specs.Names.{in_encoding};
-ghost use Rattle.ddm_objects.specs.declared.code_point.TheConstants.{TYPDEFOVR};
+ghost use Rattle.ddm_objects.specs.declared.code_point.TheConstants.{EXTNAM, SRVCLSNM, SRVNAM, SRVRLSLV, TYPDEFOVR};
 
 use crate::levels::push_levels;
 use crate::names::{push_name, push_padded};
 use crate::refusal::Refusal;
+use crate::session::Mechanism;
 use crate::settings::Settings;
-use crate::talk::Mechanism;
 use ddm_objects::{close, code_point, open, put};
 use std::alloc::AllocError;
 
@@ -141,17 +141,36 @@ fn write_levels(text: &mut Vec<u8>, asked: Option<&[u8]>) -> Result<(), AllocErr
     close(text, container)
 }
 
+// EXTNAM with the server's name, as an object.
+const EXTERNAL_NAME: [u8; 9] = [0x00, 0x09, 0x11, 0x5E, 0x84, 0x99, 0x84, 0x81, 0x84];
+
+// SRVCLSNM, SRVNAM and SRVRLSLV, one behind the other.
+const SERVER_NAMES: [u8; 30] = [
+    0x00, 0x09, 0x11, 0x47, 0xC4, 0xD9, 0xC4, 0xC1, 0xC4, 0x00, 0x09, 0x11, 0x6D, 0x84, 0x99, 0x84,
+    0x81, 0x84, 0x00, 0x0C, 0x11, 0x5A, 0xD9, 0xC4, 0xC1, 0xF0, 0xF1, 0xF0, 0xF0, 0xF0,
+];
+
+fn write_external_name(text: &mut Vec<u8>) -> Result<(), AllocError>
+    ensures { OnOk result (text.new.items ≡ text.old.items ++ spelled EXTNAM SERVER_NAME) }
+{
+    text.extend_from_slice(&EXTERNAL_NAME)
+}
+
+fn write_server_names(text: &mut Vec<u8>) -> Result<(), AllocError>
+    ensures { OnOk result (text.new.items ≡ text.old.items ++ spelled SRVCLSNM SERVER_CLASS ++ spelled SRVNAM SERVER_NAME ++ spelled SRVRLSLV RELEASE_LEVEL) }
+{
+    text.extend_from_slice(&SERVER_NAMES)
+}
+
 /// Writes EXCSATRD in place of what the text was.
 pub(crate) fn write_excsatrd(text: &mut Vec<u8>, asked: Option<&[u8]>) -> Result<(), AllocError>
     ensures { OnOk result (text.new.items ≡ (excsatrd (option_copied asked.entry)).text) }
 {
     text.clear();
     let container = open(text, code_point::EXCSATRD)?;
-    put(text, code_point::EXTNAM, &SERVER_NAME)?;
+    write_external_name(text)?;
     write_levels(text, asked)?;
-    put(text, code_point::SRVCLSNM, &SERVER_CLASS)?;
-    put(text, code_point::SRVNAM, &SERVER_NAME)?;
-    put(text, code_point::SRVRLSLV, &RELEASE_LEVEL)?;
+    write_server_names(text)?;
     close(text, container)
 }
 

@@ -36,9 +36,10 @@ pub struct Settings {
 
 impl Model for Settings {
     ghost use Rattle.std.specs.Prelude.{string_bytes, IsTrue};
-    ghost use Rattle.conversation.specs.Service.{Service, is_rdb_name};
+    ghost use Rattle.conversation.specs.Settings as model;
+    ghost use Rattle.conversation.specs.Settings.{is_rdb_name};
 
-    ghost Value = { Service };
+    ghost Value = { model.Settings };
 
     ghost view = { λ s. record { user = string_bytes s.user; password = string_bytes s.password; rdb = string_bytes s.rdb } };
 
@@ -59,7 +60,7 @@ fn is_rdb_name(name: &str) -> bool
 
 ghost use Rattle.std.specs.Prelude.{◌≡◌};
 ghost use Rattle.std.specs.List.{list_all};
-ghost use Rattle.conversation.specs.Service.{is_printable, is_rdb_name};
+ghost use Rattle.conversation.specs.Settings.{is_printable, is_rdb_name};
 
 impl Settings {
     ghost use Rattle.std.specs.Prelude.{◌↔◌, IfOk, false, Err};
@@ -108,28 +109,28 @@ impl Settings {
     }
 
     /// The one user's name, in ASCII or whatever it was given in.
-    pub fn user(&self) -> &[u8]
+    pub(crate) fn user(&self) -> &[u8]
         ensures { result.now ≡ self.now.user }
     {
         self.user.as_bytes()
     }
 
     /// The password.
-    pub fn password(&self) -> &[u8]
+    pub(crate) fn password(&self) -> &[u8]
         ensures { result.now ≡ self.now.password }
     {
         self.password.as_bytes()
     }
 
     /// The database's name: 1 to 18 printable ASCII characters without blanks.
-    pub fn rdb(&self) -> &[u8]
+    pub(crate) fn rdb(&self) -> &[u8]
         ensures { result.now ≡ self.now.rdb }
     {
         self.rdb.as_bytes()
     }
 
     /// A copy.
-    pub fn copied(&self, alloc: Global) -> Result<Settings, AllocError>
+    pub(crate) fn copied(&self, alloc: Global) -> Result<Settings, AllocError>
         ensures { IfOk result (λ s. s ≡ self.now) }
     {
         Ok(Settings {

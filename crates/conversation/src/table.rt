@@ -6,7 +6,7 @@ ghost use Rattle.conversation.specs.Tables.{command_for, is_unserved, items_for}
 use ddm_objects::code_point;
 
 /// A command that is known here (DRDA V5 volume 3).
-#[derive(Clone, Copy, Debug, PartialEq, Eq)]
+#[derive(Clone, Copy)]
 pub enum Command {
     /// Exchange server attributes.
     Excsat,
@@ -21,14 +21,14 @@ pub enum Command {
 }
 
 /// Where an item stands: among the parameters of the command object, or in an object DSS.
-#[derive(Clone, Copy, Debug, PartialEq, Eq)]
-pub enum Place {
+#[derive(Clone, Copy)]
+pub enum ItemKind {
     Parameter,
     DataObject,
 }
 
 /// Which values an item may have.
-#[derive(Clone, Copy, Debug, PartialEq, Eq)]
+#[derive(Clone, Copy)]
 pub enum Form {
     /// Code points and levels, of two bytes each.
     ManagerLevels,
@@ -43,9 +43,9 @@ pub enum Form {
 }
 
 /// A parameter or a data object that a command reads.
-#[derive(Clone, Copy, Debug, PartialEq, Eq)]
+#[derive(Clone, Copy)]
 pub struct Item {
-    pub place: Place,
+    pub kind: ItemKind,
     pub code: u16,
     pub is_required: bool,
     pub form: Form,
@@ -98,70 +98,70 @@ pub(crate) fn items_of(command: Command) -> &'static [Item]
 }
 
 const MANAGER_LEVELS: Item = Item {
-    place: Place::Parameter,
+    kind: ItemKind::Parameter,
     code: code_point::MGRLVLLS,
     is_required: false,
     form: Form::ManagerLevels,
 };
 
 const SECURITY_MECHANISM: Item = Item {
-    place: Place::Parameter,
+    kind: ItemKind::Parameter,
     code: code_point::SECMEC,
     is_required: true,
     form: Form::TwoBytes,
 };
 
 const WANTED_RDB: Item = Item {
-    place: Place::Parameter,
+    kind: ItemKind::Parameter,
     code: code_point::RDBNAM,
     is_required: false,
     form: Form::AnyBytes,
 };
 
 const USER: Item = Item {
-    place: Place::Parameter,
+    kind: ItemKind::Parameter,
     code: code_point::USRID,
     is_required: false,
     form: Form::AnyBytes,
 };
 
 const PASSWORD: Item = Item {
-    place: Place::Parameter,
+    kind: ItemKind::Parameter,
     code: code_point::PASSWORD,
     is_required: false,
     form: Form::AnyBytes,
 };
 
 const RDB: Item = Item {
-    place: Place::Parameter,
+    kind: ItemKind::Parameter,
     code: code_point::RDBNAM,
     is_required: true,
     form: Form::AnyBytes,
 };
 
 const DEFINITION_NAME: Item = Item {
-    place: Place::Parameter,
+    kind: ItemKind::Parameter,
     code: code_point::TYPDEFNAM,
     is_required: true,
     form: Form::DefinitionName,
 };
 
 const DEFINITION_OVERRIDES: Item = Item {
-    place: Place::Parameter,
+    kind: ItemKind::Parameter,
     code: code_point::TYPDEFOVR,
     is_required: false,
     form: Form::DefinitionOverrides,
 };
 
 const NAME_BEHIND: Item = Item {
-    place: Place::DataObject,
+    kind: ItemKind::DataObject,
     code: code_point::TYPDEFNAM,
     is_required: false,
     form: Form::DefinitionName,
 };
 
 const OVERRIDES_BEHIND: Item = Item {
-    place: Place::DataObject,
+    kind: ItemKind::DataObject,
     code: code_point::TYPDEFOVR,
     is_required: false,
     form: Form::DefinitionOverrides,

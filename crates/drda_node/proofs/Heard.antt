@@ -13,13 +13,13 @@ use Rattle.drda_node.proofs.Stepping.{told_then}
 use Rattle.drda_node.proofs.Rows.{get_set, one_value}
 
 set_again : (machine : Machine) (place : ℕ) (x y : Option Conversation) → with_place (with_place machine place x) place y ≡ with_place machine place y
-set_again machine place x y = ap (λ (row : List (Option Conversation)). let m : Machine = record { service = machine.service; row = row } in m) (set-set machine.row place x y)
+set_again machine place x y = ap (λ (row : List (Option Conversation)). let m : Machine = record { settings = machine.settings; row = row } in m) (set-set machine.row place x y)
 
 pub record Heard (old : Machine) (place : ℕ) (bytes out behind : List ℕ) (after : Conversation) (new : Machine) (out' : List ℕ) : Type 0 where
   pub before : Conversation
   pub was : slice_get old.row place ≡ Some (Some before)
   pub row : new ≡ with_place old place (Some after)
-  pub told : Told old.service before bytes out behind after out'
+  pub told : Told old.settings before bytes out behind after out'
 
 -- nothing yet, or so many bytes in front
 abbrev pub HeardSoFar : Machine → ℕ → List ℕ → ℕ → List ℕ → Machine → List ℕ → Type 0
@@ -44,23 +44,23 @@ module _ (fault_more : (bytes more : List ℕ) (fault : FrameFault) → FaultAt 
         before = f.before;
         was = subst (λ (m : Machine). slice_get m.row place ≡ Some (Some f.before)) h.1 f.was;
         row = f.row ∙ ap (λ (m : Machine). with_place m place (Some f.after)) h.1;
-        told = subst (λ (z : List ℕ). Told old.service f.before z out (bytes_behind fed.state) f.after out') all
-            (subst (λ (z : List ℕ). Told old.service f.before (take fed.taken (drop taken bytes)) z (bytes_behind fed.state) f.after out') h.2
-            (subst (λ (m : Machine). Told m.service f.before (take fed.taken (drop taken bytes)) outm (bytes_behind fed.state) f.after out') h.1 f.takes.told));
+        told = subst (λ (z : List ℕ). Told old.settings f.before z out (bytes_behind fed.state) f.after out') all
+            (subst (λ (z : List ℕ). Told old.settings f.before (take fed.taken (drop taken bytes)) z (bytes_behind fed.state) f.after out') h.2
+            (subst (λ (m : Machine). Told m.settings f.before (take fed.taken (drop taken bytes)) outm (bytes_behind fed.state) f.after out') h.1 f.takes.told));
       }
   heard_more old mid new place taken bytes out outm out' fed (inr (between, h)) f =
       let now : slice_get mid.row place ≡ Some (Some between) = subst (λ (m : Machine). slice_get m.row place ≡ Some (Some between)) (sym h.row) (get_set old.row place (Some h.before) (Some between) h.was) in
       let both : Some f.before ≡ Some between = one_value (slice_get mid.row place) (Some f.before) (Some between) f.was now in
       let same : f.before ≡ between = cc both in
-      let here : Told old.service f.before (take fed.taken (drop taken bytes)) outm (bytes_behind fed.state) f.after out' =
-      subst (λ (m : Machine). Told m.service f.before (take fed.taken (drop taken bytes)) outm (bytes_behind fed.state) f.after out') h.row f.takes.told in
-      let next : Told old.service between (take fed.taken (drop taken bytes)) outm (bytes_behind fed.state) f.after out' = subst (λ (c : Conversation). Told old.service c (take fed.taken (drop taken bytes)) outm (bytes_behind fed.state) f.after out') same here in
+      let here : Told old.settings f.before (take fed.taken (drop taken bytes)) outm (bytes_behind fed.state) f.after out' =
+      subst (λ (m : Machine). Told m.settings f.before (take fed.taken (drop taken bytes)) outm (bytes_behind fed.state) f.after out') h.row f.takes.told in
+      let next : Told old.settings between (take fed.taken (drop taken bytes)) outm (bytes_behind fed.state) f.after out' = subst (λ (c : Conversation). Told old.settings c (take fed.taken (drop taken bytes)) outm (bytes_behind fed.state) f.after out') same here in
       record {
         before = h.before;
         was = h.was;
         row = f.row ∙ ap (λ (m : Machine). with_place m place (Some f.after)) h.row ∙ set_again old place (Some between) (Some f.after);
-        told = subst (λ (z : List ℕ). Told old.service h.before z out (bytes_behind fed.state) f.after out') (sym (take-add taken fed.taken bytes))
-            (told_then old.service fault_more h.before between f.after (take taken bytes) (take fed.taken (drop taken bytes)) out (bytes_behind fed.state) outm out' h.told next);
+        told = subst (λ (z : List ℕ). Told old.settings h.before z out (bytes_behind fed.state) f.after out') (sym (take-add taken fed.taken bytes))
+            (told_then old.settings fault_more h.before between f.after (take taken bytes) (take fed.taken (drop taken bytes)) out (bytes_behind fed.state) outm out' h.told next);
       }
 
   -- all bytes were taken
@@ -69,18 +69,18 @@ module _ (fault_more : (bytes more : List ℕ) (fault : FrameFault) → FaultAt 
   heard_all old new place count bytes out out' after whole h = record {
     before = h.before;
     was = h.was;
-    hears = subst (λ (z : List ℕ). Hears old.service h.before z (h.told.replies ++ []) after) (take_all count bytes whole) h.told.hears;
+    hears = subst (λ (z : List ℕ). Hears old.settings h.before z (h.told.replies ++ []) after) (take_all count bytes whole) h.told.hears;
     row = h.row;
   }
 
   -- the conversation is closed, whatever stands behind
-  pub heard_closed : (old new : Machine) (place count : ℕ) (bytes out out' : List ℕ) (after : Conversation) → after.talk.is_closed ≡ true → (h : Heard old place (take count bytes) out [] after new out')
+  pub heard_closed : (old new : Machine) (place count : ℕ) (bytes out out' : List ℕ) (after : Conversation) → after.session.is_closed ≡ true → (h : Heard old place (take count bytes) out [] after new out')
       → HearsAt old place bytes ((h.told.replies ++ []) ++ []) after new
   heard_closed old new place count bytes out out' after shut h = record {
     before = h.before;
     was = h.was;
-    hears = subst (λ (z : List ℕ). Hears old.service h.before z ((h.told.replies ++ []) ++ []) after) (take-append-drop count bytes)
-        (hears_then old.service fault_more h.before after after (take count bytes) (drop count bytes) (h.told.replies ++ []) [] h.told.hears (inr (record { closed = shut; silent = refl; same = refl })));
+    hears = subst (λ (z : List ℕ). Hears old.settings h.before z ((h.told.replies ++ []) ++ []) after) (take-append-drop count bytes)
+        (hears_then old.settings fault_more h.before after after (take count bytes) (drop count bytes) (h.told.replies ++ []) [] h.told.hears (inr (record { closed = shut; silent = refl; same = refl })));
     row = h.row;
   }
 
@@ -94,6 +94,6 @@ said_behind old new place bytes out behind out' out'' after h e = record {
   told = record {
     replies = h.told.replies ++ behind;
     appended = e ∙ ap (λ (z : List ℕ). z ++ behind) h.told.appended ∙ append_assoc out h.told.replies behind;
-    hears = subst (λ (z : List ℕ). Hears old.service h.before bytes z after) (sym (append-nil (h.told.replies ++ behind))) h.told.hears;
+    hears = subst (λ (z : List ℕ). Hears old.settings h.before bytes z after) (sym (append-nil (h.told.replies ++ behind))) h.told.hears;
   };
 }

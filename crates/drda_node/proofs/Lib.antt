@@ -1,6 +1,7 @@
 pub mod Written
 pub mod Conversing
 pub mod Stepping
+pub mod Pieces
 pub mod Recording
 pub mod Runs
 pub mod Rows

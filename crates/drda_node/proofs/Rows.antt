@@ -4,7 +4,7 @@ use Rattle.std.proofs.lemmas.List.{map-set}
 use Rattle.drda_node.specs.declared.place.Place.{Place}
 use Rattle.std.specs.List.{list_all}
 use Rattle.drda_node.specs.Machine.{Conversation, Machine}
-use Rattle.conversation.specs.Service.{Service}
+use Rattle.conversation.specs.Settings.{Settings}
 use Rattle.drda_node.specs.Feeding.{shown_held}
 use Rattle.drda_node.specs.Register.{shown, Register}
 
@@ -85,8 +85,8 @@ not_full (Some c ∷ row) zero free full = cc free
 not_full (Some c ∷ row) (suc place) free full = not_full row place free full
 
 -- a machine whose row is this
-pub same_row : (service : Service) (rows row : List (Option Conversation)) → rows ≡ row → (let m : Machine = record { service = service; row = rows } in m) ≡ record { service = service; row = row }
-same_row service rows row e = ap (λ (r : List (Option Conversation)). let m : Machine = record { service = service; row = r } in m) e
+pub same_row : (settings : Settings) (rows row : List (Option Conversation)) → rows ≡ row → (let m : Machine = record { settings = settings; row = rows } in m) ≡ record { settings = settings; row = row }
+same_row settings rows row e = ap (λ (r : List (Option Conversation)). let m : Machine = record { settings = settings; row = r } in m) e
 
 pub same_numbers : (numbers before : List ℕ) (given : ℕ) → numbers ≡ before → (let r : Register = record { numbers = numbers; given = given } in r) ≡ record { numbers = before; given = given }
 same_numbers numbers before given e = ap (λ (ns : List ℕ). let r : Register = record { numbers = ns; given = given } in r) e

@@ -1,9 +1,12 @@
 -- What feeding a conversation gives.
-use Rattle.std.specs.Prelude.{◌≡◌, ◌≤◌, ◌<◌, ℕ, Bool, true, false, List, [], ◌++◌, length, take, Some, slice_get, if◌then◌else◌}
+use Rattle.std.specs.Prelude.{◌≡◌, ◌⊎◌, ◌≤◌, ◌<◌, ◌-◌, ℕ, Bool, true, false, List, [], ◌++◌, length, take, Some, slice_get, if◌then◌else◌}
+use Rattle.dss_frames.specs.Dss.{Dss}
 use Rattle.dss_frames.specs.Fault.{IsUnfinished}
+use Rattle.dss_frames.specs.Lending.{IsWanted}
+use Rattle.dss_frames.specs.Reading.{unfinished, Reads}
 use Rattle.conversation.specs.declared.front.Need.{Need}
 use Rattle.conversation.specs.declared.front.Need.TheVariants.{Bytes, Local, Short as short, Closed as closed}
-use Rattle.conversation.specs.Service.{Service}
+use Rattle.conversation.specs.Settings.{Settings}
 use Rattle.conversation.specs.Held.{Held}
 use Rattle.drda_node.specs.declared.fed.Fed.{Fed}
 use Rattle.drda_node.specs.declared.fed.FedState.{FedState}
@@ -20,25 +23,39 @@ bytes_behind Later = []
 
 -- what a state says of the conversation, and of how many bytes were taken
 abbrev pub LeftAs : FedState → ℕ → Conversation → Type 0
-LeftAs Open taken after = after.talk.is_closed ≡ false
-LeftAs Closed taken after = after.talk.is_closed ≡ true
-LeftAs (Short bytes) taken after = (0 < taken) × (after.talk.is_closed ≡ false)
-LeftAs Later taken after = Unit {0}
+LeftAs Open taken after = after.session.is_closed ≡ false
+LeftAs Closed taken after = after.session.is_closed ≡ true
+LeftAs (Short bytes) taken after = (0 < taken) × (after.session.is_closed ≡ false)
+LeftAs Later taken after = after.session.is_closed ≡ false
 
 -- bytes were heard, and the replies appended, but for what comes behind them
-pub record Told (service : Service) (before : Conversation) (bytes out behind : List ℕ) (after : Conversation) (out' : List ℕ) : Type 0 where
+pub record Told (settings : Settings) (before : Conversation) (bytes out behind : List ℕ) (after : Conversation) (out' : List ℕ) : Type 0 where
   pub replies : List ℕ
   pub appended : out' ≡ out ++ replies
-  pub hears : Hears service before bytes (replies ++ behind) after
+  pub hears : Hears settings before bytes (replies ++ behind) after
+
+-- bytes of the piece are left, or it had none
+abbrev pub IsLeft : ℕ → List ℕ → Type 0
+IsLeft taken piece = (taken < length piece) ⊎ (piece ≡ [])
+
+-- The last byte that was taken is the last one of a faulty header: without it there is no fault, but
+-- commands and what may still become one.
+pub record EndsAtFault (before : Conversation) (piece : List ℕ) (taken : ℕ) : Type 0 where
+  pub some : 0 < taken
+  pub commands : List (List Dss)
+  pub rest : List ℕ
+  pub one_less : Reads (before.rest ++ take (taken - 1) piece) commands (unfinished rest)
 
 -- The conversation heard the bytes of the piece that were taken, and its replies were appended. All of
 -- the piece is taken where the conversation stays open, and nothing where it was closed before.
-pub record Takes (service : Service) (before : Conversation) (piece out : List ℕ) (fed : Fed) (after : Conversation) (out' : List ℕ) : Type 0 where
+pub record Takes (settings : Settings) (before : Conversation) (piece out : List ℕ) (fed : Fed) (after : Conversation) (out' : List ℕ) : Type 0 where
   pub within : fed.taken ≤ length piece
-  pub told : Told service before (take fed.taken piece) out (bytes_behind fed.state) after out'
+  pub told : Told settings before (take fed.taken piece) out (bytes_behind fed.state) after out'
   pub state : LeftAs fed.state fed.taken after
   pub all : fed.state ≡ Open → fed.taken ≡ length piece
-  pub none : before.talk.is_closed ≡ true → fed.taken ≡ 0
+  pub later : fed.state ≡ Later → IsLeft fed.taken piece
+  pub closed : fed.state ≡ Closed → before.session.is_closed ≡ false → EndsAtFault before piece fed.taken
+  pub none : before.session.is_closed ≡ true → fed.taken ≡ 0
 
 -- the same of the conversation at this place; all others stay as they are
 pub record Feeds (old : Machine) (place : ℕ) (piece out : List ℕ) (fed : Fed) (new : Machine) (out' : List ℕ) : Type 0 where
@@ -46,14 +63,18 @@ pub record Feeds (old : Machine) (place : ℕ) (piece out : List ℕ) (fed : Fed
   pub after : Conversation
   pub was : slice_get old.row place ≡ Some (Some before)
   pub row : new ≡ with_place old place (Some after)
-  pub takes : Takes old.service before piece out fed after out'
+  pub takes : Takes old.settings before piece out fed after out'
 
 -- between two calls the rest of an open conversation holds no whole command and no fault
-abbrev pub IsSettled : Held → Type 0
-IsSettled held = held.talk.is_closed ≡ false → IsUnfinished held.rest
+abbrev pub IsBetweenCommands : Held → Type 0
+IsBetweenCommands held = held.session.is_closed ≡ false → IsUnfinished held.rest
 
 abbrev pub shown_held : Held → Conversation
-shown_held held = record { rest = held.rest; talk = held.talk }
+shown_held held = record { rest = held.rest; session = held.session }
+
+-- no more bytes than unfinished ones want
+abbrev pub KeepsToWanted : List ℕ → ℕ → Type 0
+KeepsToWanted bytes count = IsUnfinished bytes → (wanted : ℕ) × IsWanted bytes wanted × (count ≤ wanted)
 
 -- how it stands after one step of the conversation, by whether all the bytes were taken
 abbrev pub state_for : Need → Bool → FedState

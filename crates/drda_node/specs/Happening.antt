@@ -28,8 +28,8 @@ OpensAt (Some None) machine number written new =
 pub record Replies (before : Conversation) (machine : Machine) (number : ℕ) (bytes written : List ℕ) (new : Machine) : Type 0 where
   pub replies : List ℕ
   pub after : Conversation
-  pub hears : Hears machine.service before bytes replies after
-  pub written_is : written ≡ record_text 2 number replies ++ closing number after.talk.is_closed
+  pub hears : Hears machine.settings before bytes replies after
+  pub written_is : written ≡ record_text 2 number replies ++ closing number after.session.is_closed
   pub row : new ≡ with_place machine number (Some after)
 
 abbrev pub SendsAt : Option (Option Conversation) → Machine → ℕ → List ℕ → List ℕ → Machine → Type 0

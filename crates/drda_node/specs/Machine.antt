@@ -2,27 +2,27 @@
 -- conversation.
 use Rattle.std.specs.Prelude.{◌≡◌, ℕ, List, [], Option, Some, None, Bool, slice_get, slice_set, is_some, replicate}
 use Rattle.std.specs.List.{list_all}
-use Rattle.conversation.specs.declared.talk.Talk.{Talk}
-use Rattle.conversation.specs.Service.{Service}
-use Rattle.conversation.specs.Turn.{fresh}
+use Rattle.conversation.specs.declared.session.Session.{Session}
+use Rattle.conversation.specs.Settings.{Settings}
+use Rattle.conversation.specs.Exchange.{fresh}
 
 -- what is left of a conversation between two events: the bytes that came after its last completed
 -- command, and what is remembered of it
 pub record Conversation : Type 0 where
   pub rest : List ℕ
-  pub talk : Talk
+  pub session : Session
 
 pub record Machine : Type 0 where
-  pub service : Service
+  pub settings : Settings
   pub row : List (Option Conversation)
 
 -- no conversation is open
-abbrev pub at_start : Service → Machine
-at_start service = record { service = service; row = replicate 64 None }
+abbrev pub at_start : Settings → Machine
+at_start settings = record { settings = settings; row = replicate 64 None }
 
 -- a conversation of which nothing has come
 abbrev pub beginning : Conversation
-beginning = record { rest = []; talk = fresh }
+beginning = record { rest = []; session = fresh }
 
 -- this stands at the place then, and all others stay as they are
 abbrev pub with_place : Machine → ℕ → Option Conversation → Machine

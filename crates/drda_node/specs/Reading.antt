@@ -49,11 +49,11 @@ pub record Receives (old new : Option (List ℕ)) (incoming : Event) : Type 0 wh
   pub consumed : Consumes old new (event_text incoming)
 
 -- an event was read, its bytes to the front of these; or there was nothing more, or no event's record
-abbrev pub Reads : Option (List ℕ) → Option (List ℕ) → Incoming → List ℕ → Type 0
-Reads old new (event head) bytes = Receives old new (event_of head bytes)
-Reads old new Ended bytes = IfSome old (λ left. left ≡ [])
-Reads old new Bad bytes = IfSome old IsBad
-Reads old new Fault bytes = Unit {0}
+abbrev pub ReadsEvent : Option (List ℕ) → Option (List ℕ) → Incoming → List ℕ → Type 0
+ReadsEvent old new (event head) bytes = Receives old new (event_of head bytes)
+ReadsEvent old new Ended bytes = IfSome old (λ left. left ≡ [])
+ReadsEvent old new Bad bytes = IfSome old IsBad
+ReadsEvent old new Fault bytes = Unit {0}
 
 abbrev pub IsWithin : Incoming → Type 0
 IsWithin (event head) = size_of head ≤ 65536

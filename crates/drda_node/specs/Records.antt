@@ -6,6 +6,10 @@ use Rattle.std.specs.Int.{w32, to_be_bytes}
 abbrev pub record_text : ℕ → ℕ → List ℕ → List ℕ
 record_text kind number contents = kind ∷ number ∷ to_be_bytes w32 (length contents) ++ contents
 
+-- a record of replies whose length is still to be written
+abbrev pub StartsUnsized : ℕ → List ℕ → Type 0
+StartsUnsized number text = (replies : List ℕ) × (text ≡ 2 ∷ number ∷ 0 ∷ 0 ∷ 0 ∷ 0 ∷ replies)
+
 -- what can happen to a node: a conversation of this number is opened, sends bytes, or is lost; the
 -- store is to be checkpointed
 pub data Event : Type 0 where

@@ -11,7 +11,7 @@ shown place = if place.is_open then Some (shown_held place.front) else None
 
 -- the machine that a node is
 abbrev pub machine : Node → Machine
-machine node = record { service = node.settings; row = map shown node.places.items }
+machine node = record { settings = node.settings; row = map shown node.places.items }
 
 -- the number that was last given at each place, and how many numbers were given
 pub record Register : Type 0 where

@@ -1,11 +1,11 @@
 -- All places of a node serve alike.
 use Rattle.std.specs.Prelude.{◌≡◌, List}
 use Rattle.std.specs.List.{All}
-use Rattle.conversation.specs.Service.{Service}
+use Rattle.conversation.specs.Settings.{Settings}
 use Rattle.drda_node.specs.declared.place.Place.{Place}
 
-abbrev pub ServesWith : Service → Place → Type 0
-ServesWith service place = place.front.service ≡ service
+abbrev pub ServesWith : Settings → Place → Type 0
+ServesWith settings place = place.front.settings ≡ settings
 
-abbrev pub AllServe : Service → List Place → Type 0
-AllServe service places = All (ServesWith service) places
+abbrev pub AllServe : Settings → List Place → Type 0
+AllServe settings places = All (ServesWith settings) places

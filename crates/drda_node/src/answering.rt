@@ -1,9 +1,9 @@
 //! Events done by a node, and the records that answer them.
 
-ghost use Rattle.std.specs.Prelude.{◌≡◌, ◌≤◌, [], ◌++◌, ℕ, List, OnOk, IfOk, length};
+ghost use Rattle.std.specs.Prelude.{◌≡◌, ◌≤◌, ◌+◌, [], ◌++◌, ℕ, List, OnOk, IfOk, length, drop};
 ghost use Rattle.drda_node.specs.Machine.{Conversation, IsOpen};
 ghost use Rattle.drda_node.specs.Hearing.{HearsAt};
-ghost use Rattle.drda_node.specs.Records.{opens, sends, loses, checkpoints};
+ghost use Rattle.drda_node.specs.Records.{StartsUnsized, opens, sends, loses, checkpoints, record_text};
 ghost use Rattle.drda_node.specs.Reading.{event_of, size_of};
 ghost use Rattle.drda_node.specs.Happening.{Happens, refusal, closing};
 ghost use Rattle.drda_node.specs.Register.{machine};
@@ -27,6 +27,9 @@ const CLOSED: u8 = 5;
 
 const REFUSED: u8 = 6;
 
+/// What stands in front of a record's bytes: its kind, its number and its size.
+const HEAD_SIZE: usize = 6;
+
 /// Why an event is refused.
 const CANNOT_OPEN: u8 = 1;
 
@@ -41,12 +44,11 @@ fn refuse(text: &mut Vec<u8>, number: u8, reason: u8) -> Result<(), AllocError>
 }
 
 /// Does an event, its bytes to the front of `bytes`, and writes the records that answer it in place of
-/// what the text was; `replies` is room. For want of memory nothing is said of the text.
+/// what the text was. For want of memory nothing is said of the text.
 pub(crate) fn answer(
     node: &mut Node,
     head: Head,
     bytes: &[u8],
-    replies: &mut Vec<u8>,
     text: &mut Vec<u8>,
 ) -> Result<(), AllocError>
     requires { size_of head ≤ length bytes.now }
@@ -55,7 +57,7 @@ pub(crate) fn answer(
     text.clear();
     match head {
         Head::Opens(number) => answer_open(node, number, text),
-        Head::Sends(number, size) => answer_bytes(node, number, &bytes[..size], replies, text),
+        Head::Sends(number, size) => answer_bytes(node, number, &bytes[..size], text),
         Head::Loses(number) => answer_lost(node, number, text),
         Head::Checkpoints(number) => {
             let Done::Done = node.checkpoint();
@@ -82,7 +84,6 @@ fn answer_bytes(
     node: &mut Node,
     number: u8,
     bytes: &[u8],
-    replies: &mut Vec<u8>,
     text: &mut Vec<u8>,
 ) -> Result<(), AllocError>
     requires { text.old.items ≡ [] }
@@ -92,16 +93,30 @@ fn answer_bytes(
     if !node.has(place) {
         return refuse(text, number, NOT_OPEN);
     }
-    replies.clear();
-    let is_closed = feed_all(node, place, bytes, replies)?;
-    if replies.len() > u32::MAX as usize {
+    text.extend_from_slice(&[REPLIES, number, 0, 0, 0, 0])?;
+    let is_closed = feed_all(node, place, bytes, text)?;
+    let size = text.len() - HEAD_SIZE;
+    if size > u32::MAX as usize {
         return Err(AllocError);
     }
-    push_record(text, REPLIES, number, replies)?;
+    set_size(text, number, size as u32);
     if is_closed {
         push_record(text, CLOSED, number, &[])?;
     }
     Ok(())
+}
+
+// The head of a record of replies, whose size was left out.
+fn set_size(text: &mut Vec<u8>, number: u8, size: u32)
+    requires head { StartsUnsized number text.old.items }
+    requires size { length text.old.items ≡ 6 + size }
+    ensures { text.new.items ≡ record_text 2 number (drop 6 text.old.items) }
+{
+    let [a, b, c, d] = size.to_be_bytes();
+    text[2] = a;
+    text[3] = b;
+    text[4] = c;
+    text[5] = d;
 }
 
 fn answer_lost(node: &mut Node, number: u8, text: &mut Vec<u8>) -> Result<(), AllocError>
@@ -128,7 +143,7 @@ fn feed_all(
     ensures { IfOk result (λ is_closed. (after : Conversation) × (written : List ℕ)
         × (replies.new.items ≡ replies.old.items ++ written)
         × HearsAt (machine node.old) place bytes.now written after (machine node.new)
-        × (after.talk.is_closed ≡ is_closed)) }
+        × (after.session.is_closed ≡ is_closed)) }
 {
     stays_read();
     let mut at = 0;

@@ -14,12 +14,14 @@ pub struct Fed {
 pub enum FedState {
     /// All bytes were taken, and more may come.
     Open,
-    /// The conversation is closed: a fault of the framing was answered, now or before. It takes no
-    /// more bytes.
+    /// The conversation is closed: a fault of the framing was answered, now or before. Where it is
+    /// answered now, the last byte that was taken is the last one of the faulty header; a conversation
+    /// that was closed before takes none.
     Closed,
     /// Memory was refused to the command that these bytes completed: it was not done, and this is its
     /// reply, which comes behind what was appended. The rest of the piece is to be fed again.
     Short([u8; 16]),
-    /// Memory was refused: the rest of the piece was not taken, and is to be fed again.
+    /// Memory was refused: the conversation is open, the rest of the piece was not taken (there is
+    /// some, unless the piece was empty), and is to be fed again.
     Later,
 }

@@ -4,16 +4,14 @@
 mod answering;
 mod event;
 mod fed;
+mod feeding;
 mod node;
 mod place;
 mod reading;
 mod serving;
-mod talking;
 mod writing;
 
 pub use fed::{Fed, FedState};
 pub use node::{ConversationId, Done, Node, OpenError};
 pub use serving::{RunEnd, run};
-
-#[cfg(test)]
-mod tests;
+pub use writing::write_whole;

@@ -25,7 +25,8 @@ pub enum OpenError {
     /// 64 conversations are open.
     #[error("64 conversations are open")]
     TooMany,
-    /// Memory was refused, or there is no number left that was not given before.
+    /// There is no number left that was not given before: they have all been given, up to the last
+    /// of 64 bits.
     #[error("no memory")]
     NoMemory,
 }
@@ -49,7 +50,7 @@ pub struct Node {
 }
 
 impl Node {
-    ghost use Rattle.std.specs.Prelude.{◌≡◌, ◌<◌, ◌+◌, ◌↔◌, IfOk, OnErr, IsTrue, ◌≢◌, Err, true, length, slice_get, Some, None};
+    ghost use Rattle.std.specs.Prelude.{◌≡◌, ◌<◌, ◌+◌, ◌↔◌, IfOk, OnErr, IsTrue, ◌≢◌, ◌^◌, Err, true, false, length, slice_get, Some, None};
     ghost use Rattle.drda_node.specs.Machine.{at_start, is_full, lost, IsOpen, opened};
     ghost use Rattle.drda_node.specs.Feeding.{Feeds};
     ghost use Rattle.drda_node.specs.Register.{machine, register, place_of, Names, Opens};
@@ -70,12 +71,14 @@ impl Node {
         })
     }
 
-    /// Opens a conversation. TooMany exactly where 64 are open; where it refuses, nothing changes.
+    /// Opens a conversation. TooMany exactly where 64 are open, else NoMemory exactly where no number
+    /// is left; where it refuses, nothing changes.
     pub fn open_conversation(&mut self) -> Result<ConversationId, OpenError>
         ensures opened { IfOk result (λ id. Opens (machine self.old) (register self.old) id (machine self.new) (register self.new)) }
         ensures refused { OnErr result (machine self.new ≡ machine self.old) }
         ensures none_given { OnErr result (register self.new ≡ register self.old) }
         ensures too_many { (result ≡ Err OpenError.TooMany) ↔ (is_full (machine self.old) ≡ true) }
+        ensures no_memory { (result ≡ Err OpenError.NoMemory) ↔ ((is_full (machine self.old) ≡ false) × ((register self.old).given + 1 ≡ 2 ^ 64)) }
         ensures places { length (machine self.old).row ≡ 64 }
     {
         for place in 0..PLACES {
@@ -94,6 +97,7 @@ impl Node {
         ensures refused { OnErr result (machine self.new ≡ machine self.old) }
         ensures none_given { OnErr result (register self.new ≡ register self.old) }
         ensures not_full { result ≢ Err OpenError.TooMany }
+        ensures no_memory { (result ≡ Err OpenError.NoMemory) ↔ ((register self.old).given + 1 ≡ 2 ^ 64) }
     {
         let number = self.next_number;
         let Some(next_number) = number.checked_add(1) else {
@@ -144,7 +148,8 @@ impl Node {
         self.places[place].feed(piece, out)
     }
 
-    /// Takes a conversation away: its place is free, and what it had not sent whole is dropped.
+    /// Takes a conversation away: its place is free, what it had not sent whole is dropped, and its
+    /// memory is given back.
     pub fn lost(&mut self, id: ConversationId)
         requires { Names (machine self.old) (register self.old) id }
         ensures machine { machine self.new ≡ lost (machine self.old) (place_of id) }
@@ -159,7 +164,7 @@ impl Node {
         ensures machine { machine self.new ≡ lost (machine self.old) place }
         ensures register { register self.new ≡ register self.old }
     {
-        self.places[place].close();
+        self.places[place].close(self.alloc);
     }
 
     /// Checkpoints the store. There is none yet, so nothing changes.

@@ -1,9 +1,9 @@
 //! A place for a conversation.
 
-ghost use Rattle.drda_node.specs.Feeding.{IsSettled};
+ghost use Rattle.drda_node.specs.Feeding.{IsBetweenCommands};
 
 use crate::fed::Fed;
-use crate::talking::converse;
+use crate::feeding::converse;
 use conversation::{Front, Settings};
 use dss_frames::stays_read;
 use std::alloc::{AllocError, Global};
@@ -14,7 +14,7 @@ pub struct Place {
     pub(crate) number: u64,
     pub(crate) is_open: bool,
     pub(crate) front: Front,
-    ghost settled: { IsSettled front },
+    ghost settled: { IsBetweenCommands front },
 }
 
 impl Place {
@@ -26,7 +26,7 @@ impl Place {
     /// A free place.
     pub(crate) fn new(alloc: Global, settings: &Settings) -> Result<Place, AllocError>
         ensures free { IfOk result (λ p. shown p ≡ None) }
-        ensures service { IfOk result (λ p. p.front.service ≡ settings.now) }
+        ensures settings { IfOk result (λ p. p.front.settings ≡ settings.now) }
     {
         stays_read();
         Ok(Place {
@@ -40,7 +40,7 @@ impl Place {
     pub(crate) fn begin(&mut self, alloc: Global, number: u64)
         ensures shown { shown self.new ≡ Some beginning }
         ensures number { self.new.number ≡ number }
-        ensures service { self.new.front.service ≡ self.old.front.service }
+        ensures settings { self.new.front.settings ≡ self.old.front.settings }
     {
         stays_read();
         self.front.restart(alloc);
@@ -48,22 +48,24 @@ impl Place {
         self.number = number;
     }
 
-    /// Takes the conversation away.
-    pub(crate) fn close(&mut self)
+    /// Takes the conversation away, and gives its memory back.
+    pub(crate) fn close(&mut self, alloc: Global)
         ensures shown { shown self.new ≡ None }
         ensures number { self.new.number ≡ self.old.number }
-        ensures service { self.new.front.service ≡ self.old.front.service }
+        ensures settings { self.new.front.settings ≡ self.old.front.settings }
     {
+        stays_read();
+        self.front.restart(alloc);
         self.is_open = false;
     }
 
     /// Gives the conversation bytes.
     pub(crate) fn feed(&mut self, piece: &[u8], out: &mut Vec<u8>) -> Fed
         requires { self.old.is_open ≡ true }
-        ensures takes { Takes self.old.front.service (shown_held self.old.front) piece.now out.old.items result (shown_held self.new.front) out.new.items }
+        ensures takes { Takes self.old.front.settings (shown_held self.old.front) piece.now out.old.items result (shown_held self.new.front) out.new.items }
         ensures open { self.new.is_open ≡ true }
         ensures number { self.new.number ≡ self.old.number }
-        ensures service { self.new.front.service ≡ self.old.front.service }
+        ensures settings { self.new.front.settings ≡ self.old.front.settings }
     {
         converse(&mut self.front, piece, out)
     }

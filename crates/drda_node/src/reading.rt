@@ -1,7 +1,7 @@
 //! Reading events from a stream of records.
 
 ghost use Rattle.std.specs.Prelude.{◌≡◌, length};
-ghost use Rattle.drda_node.specs.Reading.{Fills, IsWithin, Reads};
+ghost use Rattle.drda_node.specs.Reading.{Fills, IsWithin, ReadsEvent};
 
 use crate::event::{Head, head_of, number_in};
 use std::io::Read;
@@ -51,7 +51,7 @@ fn fill<R: Read>(reader: &mut R, buffer: &mut [u8]) -> Filled
 /// Reads an event. A record is judged by its first six bytes, before its others are read.
 pub(crate) fn read_event<R: Read>(reader: &mut R, buffer: &mut [u8]) -> Incoming
     requires { length buffer.old ≡ 65536 }
-    ensures reads { Reads (R.remaining reader.old) (R.remaining reader.new) result buffer.new }
+    ensures reads { ReadsEvent (R.remaining reader.old) (R.remaining reader.new) result buffer.new }
     ensures within { IsWithin result }
 {
     let mut front = [0u8; 6];

@@ -8,7 +8,7 @@ use crate::answering::answer;
 use crate::event::LARGEST;
 use crate::node::Node;
 use crate::reading::{Incoming, read_event};
-use crate::writing::put;
+use crate::writing::write_whole;
 use std::alloc::{AllocError, Global};
 use std::io::{Read, Write};
 
@@ -44,15 +44,14 @@ pub fn run<R: Read, W: Write>(
     let Ok(mut buffer) = room_for_bytes(alloc) else {
         return RunEnd::NoMemory;
     };
-    let mut replies = Vec::new(alloc);
     let mut text = Vec::new(alloc);
     'events: for _ in 0..1u64 << 63 {
         match read_event(reader, &mut buffer) {
             Incoming::Event(head) => {
-                let Ok(()) = answer(node, head, &buffer, &mut replies, &mut text) else {
+                let Ok(()) = answer(node, head, &buffer, &mut text) else {
                     return RunEnd::NoMemory;
                 };
-                let Ok(()) = put(writer, &text) else {
+                let Ok(()) = write_whole(writer, &text) else {
                     return RunEnd::WriteFault;
                 };
             }

@@ -1,14 +1,8 @@
 //! `drdad`: a DRDA application server.
 #![tactic(auto)]
 
-mod command_line;
-mod fault;
-mod program;
-#[cfg(test)]
-mod tests;
-
-use crate::fault::Fault;
-use crate::program::run_words;
+use drda_node::write_whole;
+use drda_program::{Fault, run_words};
 use std::io::BufReader;
 use std::process::ExitCode;
 
@@ -21,7 +15,7 @@ fn main(rt: HostRuntime) -> ExitCode {
         Ok(status) => ExitCode::from(status),
         Err(_) => {
             let fault = Fault::NoMemory;
-            let _ = eprintln!(rt; "drdad: {fault}");
+            let _ = write_whole(&mut rt.stderr(), fault.line());
             ExitCode::from(fault.status())
         }
     }

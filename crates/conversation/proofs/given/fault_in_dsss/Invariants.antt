@@ -1,7 +1,7 @@
 use Rattle.std.proofs.Common.{◌≡◌, length}
 use Rattle.dss_frames.specs.Group.{command_of}
-use Rattle.conversation.specs.declared.table.Place.TheVariants.{DataObject}
-use Rattle.conversation.specs.Turn.{contents_of}
+use Rattle.conversation.specs.declared.table.ItemKind.TheVariants.{DataObject}
+use Rattle.conversation.specs.Exchange.{contents_of}
 use Rattle.conversation.specs.Given.{reads_inside, fault_in_texts}
 use Rattle.conversation.proofs.given.fault_in_dsss.Given as goal
 

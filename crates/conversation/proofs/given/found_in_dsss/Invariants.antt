@@ -1,6 +1,6 @@
 use Rattle.std.proofs.Common.{◌≡◌, length}
 use Rattle.dss_frames.specs.Group.{command_of}
-use Rattle.conversation.specs.Turn.{contents_of}
+use Rattle.conversation.specs.Exchange.{contents_of}
 use Rattle.conversation.specs.Given.{seen_in_texts, never}
 use Rattle.conversation.specs.Views.{occurs_of}
 use Rattle.conversation.proofs.given.found_in_dsss.Given as goal

@@ -1,5 +1,5 @@
 use Rattle.std.proofs.Common.{◌≡◌, ◌-◌, List, ℕ, length, take, drop, ap, ◌∙◌}
-use Rattle.conversation.specs.declared.talk.Agreed.{Agreed}
+use Rattle.conversation.specs.declared.session.Agreed.{Agreed}
 use Rattle.conversation.specs.Levels.{word, level_for, agreed_on, agreed_after}
 use Rattle.conversation.proofs.Entries.{at, agreed_four}
 use Rattle.conversation.proofs.levels.agreed_with.Goals as goal

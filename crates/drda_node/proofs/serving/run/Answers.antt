@@ -30,8 +30,8 @@ returns-in_default-answer g c =
     no_memory (g.R.Read.remaining c.args.reader.now) (g.R.Read.remaining c.events.reader) (g.W.Write.contents c.args.writer.now) (g.W.Write.contents c.events.writer) (machine c.args.node.now) (machine c.events.node) (machine c.answer.new.node)
     c.events.invariant.so_far
 
-pub returns-in_default-put : goal.returns-in_default-put
-returns-in_default-put g c =
+pub returns-in_default-write_whole : goal.returns-in_default-write_whole
+returns-in_default-write_whole g c =
     let buffer = c.read_event.new.buffer in
     let behind = drop (length c.read_event.new.buffer) c.events.buffer.items in
     let lent : length c.deref_mut.result.now ≡ 65536 = ap length c.deref_mut.ensures.value ∙ c.events.invariant.room in
@@ -44,14 +44,14 @@ returns-in_default-put g c =
     let r2 = g.R.Read.remaining c.read_event.new.reader in
     let w = g.W.Write.contents c.args.writer.now in
     let w1 = g.W.Write.contents c.events.writer in
-    let w2 = g.W.Write.contents c.put.new.writer in
+    let w2 = g.W.Write.contents c.write_whole.new.writer in
     let first = machine c.args.node.now in
     let between = machine c.events.node in
     let last = machine c.answer.new.node in
     let text = c.answer.new.text.items in
     let event = event_of c.in-Event.head buffer in
     let happens = subst (λ (z : List ℕ). Happens between (event_of c.in-Event.head z) text last) same c.in-Ok-answer.ensures in
-    let wrote = subst (λ (z : List ℕ). (count : ℕ) × Appends w1 w2 (take count z)) c.deref-in-Event.ensures.value c.in_default-put.ensures.err in
+    let wrote = subst (λ (z : List ℕ). (count : ℕ) × Appends w1 w2 (take count z)) c.deref-in-Event.ensures.value c.in_default-write_whole.ensures.err in
     write_fault r r1 r2 w w1 w2 first between last event text c.events.invariant.so_far c.in-Event.ensures.reads happens wrote
 
 pub returns-in-Bad : goal.returns-in-Bad
@@ -74,14 +74,14 @@ events-preserved g c =
     let r2 = g.R.Read.remaining c.read_event.new.reader in
     let w = g.W.Write.contents c.args.writer.now in
     let w1 = g.W.Write.contents c.events.writer in
-    let w2 = g.W.Write.contents c.put.new.writer in
+    let w2 = g.W.Write.contents c.write_whole.new.writer in
     let first = machine c.args.node.now in
     let between = machine c.events.node in
     let last = machine c.answer.new.node in
     let text = c.answer.new.text.items in
     let event = event_of c.in-Event.head buffer in
     let happens = subst (λ (z : List ℕ). Happens between (event_of c.in-Event.head z) text last) same c.in-Ok-answer.ensures in
-    let wrote = subst (λ (z : List ℕ). Appends w1 w2 z) c.deref-in-Event.ensures.value c.in-Ok-put.ensures.ok in
+    let wrote = subst (λ (z : List ℕ). Appends w1 w2 z) c.deref-in-Event.ensures.value c.in-Ok-write_whole.ensures.ok in
     record {
       room = ap length back ∙ full;
       so_far = one_more r r1 r2 w w1 w2 first between last event text c.events.invariant.so_far c.in-Event.ensures.reads happens wrote;

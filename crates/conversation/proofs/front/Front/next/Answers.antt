@@ -15,7 +15,7 @@ returns-in-Err c =
       open_still = search rules;
       fault = c.in-Err.fault;
       there = subst P c.self.view_is fails.found;
-      talk = search rules;
+      session = search rules;
       reply = search rules;
-      service = search rules;
+      settings = search rules;
     })

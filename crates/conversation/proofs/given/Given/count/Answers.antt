@@ -1,6 +1,6 @@
 use Rattle.std.proofs.Common.{ap, arith, List}
 use Rattle.dss_frames.specs.Dss.{Dss}
-use Rattle.conversation.specs.Turn.{contents_of}
+use Rattle.conversation.specs.Exchange.{contents_of}
 use Rattle.conversation.specs.Given.{count_in}
 use Rattle.conversation.proofs.given.Given.count.Goals as goal
 

@@ -1,6 +1,6 @@
 use Rattle.std.proofs.Common.{◌≡◌, ◌+◌, ◌-◌, ◌^◌, ◌<◌, min, length}
 use Rattle.dss_frames.specs.Group.{command_of}
-use Rattle.conversation.specs.Turn.{contents_of}
+use Rattle.conversation.specs.Exchange.{contents_of}
 use Rattle.conversation.specs.Given.{count_in}
 use Rattle.conversation.proofs.given.Given.count.Given as goal
 

@@ -1,5 +1,5 @@
 use Rattle.std.proofs.Common.{◌≡◌, Some, ap, ◌∙◌, sym, subst}
-use Rattle.conversation.specs.Service.{Service}
+use Rattle.conversation.specs.Settings.{Settings}
 use Rattle.drda_node.specs.Feeding.{shown_held, Takes}
 use Rattle.drda_node.specs.declared.place.Place.{Place}
 use Rattle.drda_node.specs.Register.{shown, number_of}
@@ -14,13 +14,13 @@ returns-clause-feeds c =
     let (h, here) = c.requires in
     let is : shown place ≡ Some h = ap shown c.index_mut.ensures.value ∙ view_at shown items c.args.place place (Some h) here in
     let shows = open_shows place (shows_open place h is) in
-    let service : place.front.service ≡ c.args.self.now.settings = ap (λ (p : Place). p.front.service) c.index_mut.ensures.value ∙ c.args.self.now.alike c.args.place place (below_view shown items c.args.place (Some h) here) in
+    let settings : place.front.settings ≡ c.args.self.now.settings = ap (λ (p : Place). p.front.settings) c.index_mut.ensures.value ∙ c.args.self.now.alike c.args.place place (below_view shown items c.args.place (Some h) here) in
     record {
       before = shown_held place.front;
       after = shown_held new.front;
       was = here ∙ ap (λ o. Some o) (sym is ∙ shows);
       row = same_row c.args.self.now.settings _ _ (view_set shown items c.args.place new (Some (shown_held new.front)) (open_shows new c.feed.ensures.open));
-      takes = subst (λ (v : Service). Takes v (shown_held place.front) c.args.piece.now c.args.out.now.items c.feed.result (shown_held new.front) c.feed.new.out.items) service c.feed.ensures.takes;
+      takes = subst (λ (v : Settings). Takes v (shown_held place.front) c.args.piece.now c.args.out.now.items c.feed.result (shown_held new.front) c.feed.new.out.items) settings c.feed.ensures.takes;
     }
 
 pub returns-clause-register : goal.returns-clause-register

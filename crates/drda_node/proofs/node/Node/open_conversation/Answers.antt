@@ -1,10 +1,14 @@
-use Rattle.std.proofs.Common.{◌≡◌, ◌<◌, true, length, refl, sym, subst, ap, ◌∙◌, arith}
+use Rattle.std.proofs.Common.{◌≡◌, ◌<◌, ◌+◌, ◌^◌, Bool, true, false, length, refl, sym, subst, ap, ◌∙◌, arith}
 use Rattle.std.specs.Prelude.{IfOk, OnErr}
 use Rattle.drda_node.specs.declared.node.Node.{Node}
 use Rattle.drda_node.specs.Machine.{is_full}
 use Rattle.drda_node.specs.Register.{shown, machine, register, Opens}
 use Rattle.drda_node.proofs.Rows.{length_view, full_when, not_full}
 use Rattle.drda_node.proofs.node.Node.open_conversation.Goals as goal
+
+not_true : (b : Bool) → (b ≡ true → ⊥) → b ≡ false
+not_true true no_such = absurd (no_such refl)
+not_true false no_such = refl
 
 pub returns-then-is_free-clause-opened : goal.returns-then-is_free-clause-opened
 returns-then-is_free-clause-opened c =
@@ -37,4 +41,23 @@ returns-clause-too_many c =
     let full = full_when (machine c.loop-place.self).row (λ k below free. let under : k < c.loop-place.place = omega (arith, below, count, c.loop-place-test.false) in c.loop-place.invariant.taken k under free) in (
       λ many. subst (λ (n : Node). is_full (machine n) ≡ true) c.loop-place.invariant.same full,
       λ all. refl,
+    )
+
+pub returns-then-is_free-clause-no_memory : goal.returns-then-is_free-clause-no_memory
+returns-then-is_free-clause-no_memory c =
+    let free = c.is_free.ensures.0 c.if-is_free.true in
+    let same = c.loop-place.invariant.same in (
+      λ none. (
+        subst (λ (n : Node). is_full (machine n) ≡ false) same (not_true (is_full (machine c.loop-place.self)) (λ full. not_full (machine c.loop-place.self).row c.loop-place.place free full)),
+        subst (λ (n : Node). (register n).given + 1 ≡ 2 ^ 64) same (c.open_at.ensures.no_memory.0 none),
+      ),
+      λ last. c.open_at.ensures.no_memory.1 (subst (λ (n : Node). (register n).given + 1 ≡ 2 ^ 64) (sym same) last.1),
+    )
+
+pub returns-clause-no_memory : goal.returns-clause-no_memory
+returns-clause-no_memory c =
+    let count : length (machine c.loop-place.self).row ≡ 64 = length_view shown c.loop-place.self.places.items ∙ c.loop-place.self.sixty_four in
+    let full = full_when (machine c.loop-place.self).row (λ k below free. let under : k < c.loop-place.place = omega (arith, below, count, c.loop-place-test.false) in c.loop-place.invariant.taken k under free) in (
+      λ none. absurd (cc none),
+      λ last. let both : true ≡ false = sym (subst (λ (n : Node). is_full (machine n) ≡ true) c.loop-place.invariant.same full) ∙ last.0 in absurd (cc both),
     )

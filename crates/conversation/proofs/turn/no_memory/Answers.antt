@@ -1,7 +1,0 @@
-use Rattle.std.proofs.Common.{refl}
-use Rattle.ddm_objects.specs.Writing.{spelled}
-use Rattle.conversation.proofs.turn.no_memory.Goals as goal
-
-pub returns : goal.returns
-unfolding spelled
-returns c = rw c.to_be_bytes.ensures refl

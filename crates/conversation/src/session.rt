@@ -1,0 +1,62 @@
+//! What is remembered of one conversation.
+
+ghost use Rattle.std.specs.Prelude.{◌≡◌};
+ghost use Rattle.conversation.specs.Exchange.{fresh};
+
+use crate::levels::none_agreed;
+
+/// How far a conversation has come (DRDA V5 volume 1, "Connection Flows").
+#[derive(Clone, Copy)]
+pub enum Stage {
+    /// No EXCSAT has come.
+    Fresh,
+    /// The servers' attributes were exchanged.
+    Known,
+    /// A security mechanism was agreed on.
+    Asked(Mechanism),
+    /// The user was checked.
+    Checked,
+    /// The database was accessed: commands that need it may come.
+    Opened,
+}
+
+/// A security mechanism (DRDA V5 volume 3, SECMEC).
+#[derive(Clone, Copy)]
+pub enum Mechanism {
+    /// 0003, USRIDPWD: a user and a password.
+    UserAndPassword,
+    /// 0004, USRIDONL: a user alone.
+    UserOnly,
+}
+
+/// What was agreed on with the last MGRLVLLS.
+#[derive(Clone, Copy)]
+pub struct Agreed {
+    /// UNICODEMGR has CCSID 1208: names may come, and are answered, in UTF-8.
+    pub unicode: bool,
+    /// The level of XAMGR; 0 where there is none.
+    pub xa: u16,
+}
+
+/// The state of one conversation between its commands.
+#[derive(Clone, Copy)]
+pub struct Session {
+    pub stage: Stage,
+    pub agreed: Agreed,
+    /// The chain under way is broken: its other commands are read, and not done.
+    pub is_broken: bool,
+    /// A fault of the framing closed the conversation.
+    pub is_closed: bool,
+}
+
+/// Of which nothing has come.
+pub(crate) fn fresh_session() -> Session
+    ensures { result ≡ fresh }
+{
+    Session {
+        stage: Stage::Fresh,
+        agreed: none_agreed(),
+        is_broken: false,
+        is_closed: false,
+    }
+}

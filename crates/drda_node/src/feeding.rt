@@ -1,0 +1,78 @@
+//! One conversation and the bytes that come to it.
+
+ghost use Rattle.std.specs.Prelude.{◌≡◌, ◌≤◌, ◌+◌, length, vec_len, vec_capacity};
+ghost use Rattle.conversation.specs.Steps.{KeepsToOne};
+ghost use Rattle.drda_node.specs.Feeding.{IsBetweenCommands, KeepsToWanted, Takes, shown_held, state_for};
+
+use crate::fed::{Fed, FedState};
+use conversation::{Front, Need};
+use dss_frames::stays_read;
+
+/// Gives a conversation bytes and does each command that is whole. It hands on no more bytes than the
+/// command under way still wants, so that what is taken was answered or belongs to one command.
+pub(crate) fn converse(front: &mut Front, piece: &[u8], out: &mut Vec<u8>) -> Fed
+    requires { IsBetweenCommands front.old }
+    ensures settled { IsBetweenCommands front.new }
+    ensures settings { front.new.settings ≡ front.old.settings }
+    ensures takes { Takes front.old.settings (shown_held front.old) piece.now out.old.items result (shown_held front.new) out.new.items }
+{
+    stays_read();
+    if front.is_closed() {
+        return Fed {
+            taken: 0,
+            state: FedState::Closed,
+        };
+    }
+    let mut taken = 0;
+    'pieces: loop {
+        let Ok(()) = out.reserve(21) else {
+            return Fed {
+                taken,
+                state: FedState::Later,
+            };
+        };
+        let size = front.wanted().min(piece.len() - taken);
+        let fed = hand_on(front, &piece[taken..taken + size], out);
+        taken += fed.taken;
+        match fed.state {
+            FedState::Open => {
+                if taken == piece.len() {
+                    return Fed {
+                        taken,
+                        state: FedState::Open,
+                    };
+                }
+            }
+            state => return Fed { taken, state },
+        }
+    }
+}
+
+// One step, with bytes that belong to one command.
+fn hand_on(front: &mut Front, part: &[u8], out: &mut Vec<u8>) -> Fed
+    requires settled { IsBetweenCommands front.old }
+    requires room { vec_len out.old + 21 ≤ vec_capacity out.old }
+    requires one_command { KeepsToOne front.old.rest (length part.now) }
+    requires wanted { KeepsToWanted front.old.rest (length part.now) }
+    ensures settled { IsBetweenCommands front.new }
+    ensures settings { front.new.settings ≡ front.old.settings }
+    ensures takes { Takes front.old.settings (shown_held front.old) part.now out.old.items result (shown_held front.new) out.new.items }
+{
+    stays_read();
+    let taken = front.feed(part);
+    let need = front.next(out);
+    Fed {
+        taken,
+        state: state_of(need, taken == part.len()),
+    }
+}
+
+fn state_of(need: Need, all: bool) -> FedState
+    ensures { result ≡ state_for need all }
+{
+    match need {
+        Need::Bytes | Need::Local => { if all { FedState::Open } else { FedState::Later } }
+        Need::Short(bytes) => FedState::Short(bytes),
+        Need::Closed => FedState::Closed,
+    }
+}

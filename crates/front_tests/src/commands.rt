@@ -1,0 +1,242 @@
+//! Conversations, each answered whole, cut at every place, byte by byte and in other pieces.
+
+use crate::hexadecimal::bytes_of;
+use crate::texts::*;
+use conversation::{Front, Need, Settings, SettingsError};
+use std::alloc::Global;
+use std::test::Fail;
+
+// All that the conversation has to say now, with ample memory.
+fn push_answers(front: &mut Front, out: &mut Vec<u8>) -> Option<()> {
+    for _ in 0..100 {
+        out.reserve(21).ok()?;
+        match front.next(out) {
+            Need::Local => {}
+            Need::Short(bytes) => out.extend_from_slice(&bytes).ok()?,
+            Need::Bytes | Need::Closed => break,
+        }
+    }
+    Some(())
+}
+
+/// What is answered to a request that comes in a first piece and then in others of this size.
+pub fn answer_in_pieces(
+    alloc: Global,
+    request: &[u8],
+    first: usize,
+    size: usize,
+) -> Option<Vec<u8>> {
+    let settings = Settings::new(alloc, "ana", "pw", "SHOP").ok()?;
+    let mut front = Front::new(alloc, &settings).ok()?;
+    let mut out = Vec::new(alloc);
+    let mut left = request;
+    let mut next = first;
+    for _ in 0..request.len() {
+        let (piece, others) = left.split_at(next.min(left.len()));
+        left = others;
+        next = size;
+        let _ = front.feed(piece);
+        push_answers(&mut front, &mut out)?;
+    }
+    Some(out)
+}
+
+const WHOLE: usize = 1_000_000;
+
+// Whether the requests are answered by the replies, whatever pieces they come in.
+fn is_answered(alloc: Global, requests: &[&str], replies: &[&str]) -> Option<bool> {
+    let request = bytes_of(alloc, requests).ok()?;
+    let reply = bytes_of(alloc, replies).ok()?;
+    for size in [WHOLE, 1, 2, 3, 7, 10] {
+        if answer_in_pieces(alloc, &request, size, size)?.as_slice() != reply.as_slice() {
+            return Some(false);
+        }
+    }
+    for cut in 1..request.len() {
+        if answer_in_pieces(alloc, &request, cut, WHOLE)?.as_slice() != reply.as_slice() {
+            return Some(false);
+        }
+    }
+    Some(true)
+}
+
+#[test]
+fn commands_are_answered(rt: HostRuntime) -> Result<(), Fail> {
+    for (requests, replies) in ANSWERED {
+        let answered = is_answered(rt.alloc(), requests, replies);
+        assert_eq!(rt; answered, Some(true), "{requests:?}");
+    }
+    Ok(())
+}
+
+// A wrong password, and the same where the requester goes on after an error.
+const WRONG: &str = "001D D041 0003 0017 106E 0006 11A2 0003 0007 11A0 616E61 0006 11A1 6E6F";
+
+const WRONG_GOES_ON: &str =
+    "001D D061 0003 0017 106E 0006 11A2 0003 0007 11A0 616E61 0006 11A1 6E6F";
+
+const ACCRDB_AGAIN: &str =
+    "002D D001 0005 0027 2001 0016 2110 53484F50 20*14 000D 002F 51544453514C415343";
+
+const ANSWERED: [(&[&str], &[&str]); 24] = [
+    (&[BARE_EXCSAT], &[BARE_EXCSATRD]),
+    (&[EXCSAT, ACCSEC], &[EXCSATRD, ACCSECRD]),
+    // Faults of objects, of the framing, and of the command object.
+    (
+        &["000A D001 0001 0003 1041"],
+        &["0015 D002 0001 000F 124C 0006 1149 0008 0005 114A 07"],
+    ),
+    (
+        &["000F D001 0001 0009 1041 0006 115E C1"],
+        &["0015 D002 0001 000F 124C 0006 1149 0008 0005 114A 08"],
+    ),
+    (
+        &["0012 D001 0001 000C 1041 0004 1404 0004 1404"],
+        &["0015 D002 0001 000F 124C 0006 1149 0008 0005 114A 12"],
+    ),
+    (
+        &["000A D101 0001 0004 1041"],
+        &["0015 D002 0001 000F 124C 0006 1149 0008 0005 114A 03"],
+    ),
+    (
+        &["0005 D001 0001"],
+        &["0015 D002 0001 000F 124C 0006 1149 0008 0005 114A 01"],
+    ),
+    (
+        &["000A D004 0001"],
+        &["0015 D002 0001 000F 124C 0006 1149 0008 0005 114A 04"],
+    ),
+    (
+        &["000A D011 0001"],
+        &["0015 D002 0001 000F 124C 0006 1149 0008 0005 114A 18"],
+    ),
+    (
+        &["800A D001 0001 0004 1041 0002"],
+        &["0015 D002 0001 000F 124C 0006 1149 0008 0005 114A 16"],
+    ),
+    // The first command was never complete, and has no answer.
+    (
+        &["000A D051 0001 0004 1041 000A D001 0001"],
+        &["0015 D002 0001 000F 124C 0006 1149 0008 0005 114A 13"],
+    ),
+    (
+        &["0006 D001 0001"],
+        &["0015 D002 0001 000F 124C 0006 1149 0008 0005 114A 0E"],
+    ),
+    (
+        &["000B D001 0001 0004 1041 00"],
+        &["0015 D002 0001 000F 124C 0006 1149 0008 0005 114A 0B"],
+    ),
+    // Nine data objects.
+    (
+        &[
+            "000A D051 0001 0004 1041 002A D003 0001",
+            "0004 2450 0004 2450 0004 2450 0004 2450 0004 2450 0004 2450 0004 2450 0004 2450 0004 2450",
+        ],
+        &["0015 D002 0001 000F 124C 0006 1149 0008 0005 114A 0F"],
+    ),
+    // An unknown command, and MGRLVLLS of a length that is no list.
+    (
+        &["000A D001 0001 0004 2FFF"],
+        &["0016 D002 0001 0010 1250 0006 1149 0008 0006 000C 2FFF"],
+    ),
+    (
+        &["000F D001 0001 0009 1041 0005 1404 24"],
+        &["0016 D002 0001 0010 1252 0006 1149 0008 0006 000C 1404"],
+    ),
+    // A wrong password breaks the chain, unless the request goes on after an error.
+    (
+        &[EXCSAT, ACCSEC, WRONG, ACCRDB],
+        &[
+            EXCSATRD,
+            ACCSECRD,
+            "0015 D002 0003 000F 1219 0006 1149 0008 0005 11A4 0F",
+        ],
+    ),
+    (
+        &[EXCSAT, ACCSEC, WRONG_GOES_ON, ACCRDB],
+        &[
+            EXCSATRD,
+            ACCSECRD,
+            "0015 D042 0003 000F 1219 0006 1149 0008 0005 11A4 0F 0010 D002 0004 000A 1245 0006 1149 0008",
+        ],
+    ),
+    (
+        &[EXCSAT, ACCSEC, SECCHK, ACCRDB],
+        &[EXCSATRD, ACCSECRD, SECCHKRM, ACCRDBRM],
+    ),
+    // An unknown mechanism.
+    (
+        &[EXCSAT, "0010 D001 0002 000A 106D 0006 11A2 0009"],
+        &[
+            EXCSATRD,
+            "0017 D003 0002 0011 14AC 0008 11A2 0003 0004 0005 11A4 01",
+        ],
+    ),
+    // Another database, another encoding, a command that needs the database.
+    (
+        &[
+            EXCSAT,
+            ACCSEC,
+            SECCHK,
+            "002D D001 0004 0027 2001 0016 2110 544F4F4C 20*14 000D 002F 51544453514C415343",
+        ],
+        &[
+            EXCSATRD,
+            ACCSECRD,
+            SECCHKRM,
+            "0026 D002 0004 0020 2211 0006 1149 0008 0016 2110 544F4F4C 20*14",
+        ],
+    ),
+    (
+        &[
+            EXCSAT,
+            ACCSEC,
+            SECCHK,
+            "003D D001 0004 0037 2001 0016 2110 53484F50 20*14 000D 002F 51544453514C415343",
+            "0010 0035 0006 119C 0500 0006 119E 04B8",
+        ],
+        &[
+            EXCSATRD,
+            ACCSECRD,
+            SECCHKRM,
+            "0016 D002 0004 0010 1252 0006 1149 0008 0006 000C 0035",
+        ],
+    ),
+    (
+        &[EXCSAT, ACCSEC, SECCHK, "000A D001 0005 0004 200E"],
+        &[
+            EXCSATRD,
+            ACCSECRD,
+            SECCHKRM,
+            "0026 D002 0005 0020 2204 0006 1149 0008 0016 2110 53484F50 20*14",
+        ],
+    ),
+    (
+        &[EXCSAT, ACCSEC, SECCHK, ACCRDB, ACCRDB_AGAIN, RDBCMM],
+        &[
+            EXCSATRD,
+            ACCSECRD,
+            SECCHKRM,
+            ACCRDBRM,
+            "0026 D002 0005 0020 2207 0006 1149 0008 0016 2110 53484F50 20*14",
+            NOT_SERVED,
+        ],
+    ),
+];
+
+#[test]
+fn names_of_databases_are_judged(rt: HostRuntime) -> Result<(), Fail> {
+    for (name, is_one) in [
+        ("S", true),
+        ("EIGHTEEN_CHARACTER", true),
+        ("", false),
+        ("NINETEEN_CHARACTERS", false),
+        ("A DATABASE", false),
+        ("\u{7f}", false),
+    ] {
+        let refused = Settings::new(rt.alloc(), "ana", "pw", name).err();
+        assert_eq!(rt; refused == Some(SettingsError::BadName), !is_one, "{name}");
+    }
+    Ok(())
+}
