@@ -1,0 +1,5 @@
+mod Utf8
+mod Contents
+mod Rows
+mod Steps
+mod Triplets

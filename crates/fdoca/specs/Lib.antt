@@ -1,0 +1,7 @@
+pub mod Types
+pub mod Descriptor
+pub mod Row
+pub mod Reading
+pub mod Held
+pub mod Calls
+pub mod Laws

@@ -1,0 +1,15 @@
+//! Laws of the definitions. The functions do nothing: their contracts are the laws.
+
+ghost use Rattle.fdoca.specs.Laws.{AreParametersOnce, DescribesOnce, IsRowOnce};
+
+/// A text describes one list of fields at most.
+pub fn descriptors_have_one_reading()
+    ensures { DescribesOnce }
+{}
+
+/// A text is, as a row of fields, one list of values at most; so a descriptor and a row have one
+/// reading at most.
+pub fn rows_have_one_reading()
+    ensures row { IsRowOnce }
+    ensures parameters { AreParametersOnce }
+{}
