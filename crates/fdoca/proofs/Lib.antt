@@ -3,3 +3,5 @@ mod Contents
 mod Rows
 mod Steps
 mod Triplets
+mod Sizes
+mod Walking

@@ -132,7 +132,7 @@ drop_from [] i x h = absurd cc
 drop_from (y ∷ ys) zero x h = let same : y ≡ x = cc in rw same refl
 drop_from (y ∷ ys) (suc i) x h = drop_from ys i x h
 
-drop_at : {X : Type 0} (xs : List X) (i : ℕ) (x : X) → slice_get xs i ≡ Some x → drop i xs ≡ x ∷ drop (i + 1) xs
+pub drop_at : {X : Type 0} (xs : List X) (i : ℕ) (x : X) → slice_get xs i ≡ Some x → drop i xs ≡ x ∷ drop (i + 1) xs
 drop_at xs i x h = rw add-one (drop_from xs i x h)
 
 -- what is read behind the values so far

@@ -5,3 +5,4 @@ pub mod Reading
 pub mod Held
 pub mod Calls
 pub mod Laws
+pub mod Writing

@@ -9,6 +9,7 @@ mod field;
 mod laws;
 mod row;
 mod values;
+mod writing;
 
 pub use descriptor::Descriptor;
 pub use fault::DescriptorFault;
@@ -16,3 +17,4 @@ pub use field::{Field, FieldType};
 pub use laws::{descriptors_have_one_reading, rows_have_one_reading};
 pub use row::read_row;
 pub use values::Values;
+pub use writing::{write_descriptor, write_row};
