@@ -9,7 +9,7 @@ use Rattle.std.proofs.lemmas.Bool.Decides.{nat_tests}
 use Rattle.std.proofs.lemmas.List.{length-take-le, take-append-drop}
 use Rattle.byteorder.specs.Endian.{big_number}
 use Rattle.drda_words.specs.Number.{word}
-use Rattle.row_values.specs.Value.{Datum as Value, null, number, text, binary}
+use Rattle.row_values.specs.Value.{Value, null, number, text, binary}
 use Rattle.fdoca.specs.declared.field.Field.{Field}
 use Rattle.fdoca.specs.declared.field.FieldType.{FieldType}
 use Rattle.fdoca.specs.declared.field.FieldType.TheVariants.{SmallInt, Integer, BigInt, FixedBytes, FixedText, VariableBytes, VariableText}

@@ -5,3 +5,4 @@ mod Steps
 mod Triplets
 mod Sizes
 mod Walking
+mod Answers

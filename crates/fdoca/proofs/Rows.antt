@@ -2,7 +2,7 @@
 use Rattle.std.proofs.Common.{◌≡◌, ℕ, List, [], ◌∷◌, Bool, true, false, if◌then◌else◌, refl, sym, ap, subst, ◌∙◌, Option, Some, None, option_map, Result, Ok, Err, eqb-true}
 use Rattle.std.specs.Prelude.{◌==◌}
 use Rattle.std.specs.Option.{option_and_then}
-use Rattle.row_values.specs.Value.{Datum as Value}
+use Rattle.row_values.specs.Value.{Value}
 use Rattle.fdoca.specs.declared.fault.DescriptorFault.{DescriptorFault}
 use Rattle.fdoca.specs.declared.fault.DescriptorFault.TheVariants.{Malformed, TooManyFields, NoMemory}
 use Rattle.fdoca.specs.declared.field.Field.{Field}

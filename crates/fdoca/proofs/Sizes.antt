@@ -8,8 +8,8 @@ use Rattle.byteorder.specs.Numbers.{big_number-reads_back, length-bytes_high_fir
 use Rattle.row_values.specs.declared.column.Kind.{Kind}
 use Rattle.row_values.specs.declared.column.Kind.TheVariants.{SmallInt, Integer, BigInt, VarChar, VarBinary}
 use Rattle.row_values.specs.declared.column.Misfit.{Misfit}
-use Rattle.row_values.specs.Value.{Datum as Value, null, number, text, binary}
-use Rattle.row_values.specs.Column.{ColumnShape as Column, fits, misfit_in, within}
+use Rattle.row_values.specs.Value.{Value, null, number, text, binary}
+use Rattle.row_values.specs.Column.{Column, fits, misfit_in, within}
 use Rattle.row_values.specs.Row.{content_bytes, counted, value_bytes}
 use Rattle.fdoca.specs.Writing.{content_size, counted_size, value_size}
 use Rattle.fdoca.proofs.Contents.{drop_front, take_front}
@@ -22,7 +22,7 @@ pub second_true : (a b : Bool) → (a && b) ≡ true → b ≡ true
 second_true true b h = h
 second_true false b h = absurd cc
 
-is_within : (b : Bool) (m : Misfit) → is_none (within b m) ≡ true → b ≡ true
+pub is_within : (b : Bool) (m : Misfit) → is_none (within b m) ≡ true → b ≡ true
 is_within true m h = refl
 is_within false m h = absurd cc
 
@@ -35,7 +35,7 @@ counted_by (a ∷ []) bytes rest len is = absurd (omega (arith, len))
 counted_by (a ∷ b ∷ []) bytes rest len is = omega (arith, is)
 counted_by (a ∷ b ∷ c ∷ xs) bytes rest len is = absurd (omega (arith, len))
 
-two_bytes : (xs : List ℕ) → length xs ≡ 2 → from_be_bytes w16 xs ≡ big_number 2 xs
+pub two_bytes : (xs : List ℕ) → length xs ≡ 2 → from_be_bytes w16 xs ≡ big_number 2 xs
 two_bytes xs len = omega arith
 
 counted_is : (bytes rest : List ℕ) → length bytes < 65536 → counted_size (counted bytes ++ rest) ≡ length (counted bytes)

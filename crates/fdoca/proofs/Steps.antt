@@ -5,7 +5,7 @@ use Rattle.std.specs.List.{slice_get}
 use Rattle.std.specs.Option.{option_and_then}
 use Rattle.drda_words.specs.Number.{word}
 use Rattle.drda_words.proofs.Precedes.{same_bytes}
-use Rattle.row_values.specs.Value.{Datum as Value}
+use Rattle.row_values.specs.Value.{Value}
 use Rattle.fdoca.specs.declared.field.Field.{Field}
 use Rattle.fdoca.specs.Types.{field_of}
 use Rattle.fdoca.specs.Descriptor.{closing}

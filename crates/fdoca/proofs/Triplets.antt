@@ -6,7 +6,7 @@ use Rattle.std.proofs.lemmas.Bool.Decides.{nat_tests}
 use Rattle.std.proofs.lemmas.List.{take-append-drop}
 use Rattle.drda_words.specs.Number.{word}
 use Rattle.drda_words.proofs.Precedes.{same_bytes}
-use Rattle.row_values.specs.Value.{Datum as Value}
+use Rattle.row_values.specs.Value.{Value}
 use Rattle.fdoca.specs.declared.fault.DescriptorFault.{DescriptorFault}
 use Rattle.fdoca.specs.declared.fault.DescriptorFault.TheVariants.{Malformed, TooManyFields, NoMemory}
 use Rattle.fdoca.specs.declared.field.Field.{Field}

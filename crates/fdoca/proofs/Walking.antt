@@ -6,8 +6,8 @@ use Rattle.std.proofs.lemmas.List.{length-map, take-append-le}
 use Rattle.std.proofs.lemmas.Bool.{ltb-true}
 use Rattle.std.proofs.lemmas.Option.{slice_get-map, slice_get_read}
 use Rattle.row_values.specs.declared.column.Column.{Column as CodeColumn}
-use Rattle.row_values.specs.Value.{Datum as Value}
-use Rattle.row_values.specs.Column.{ColumnShape as Column, column_of, fits}
+use Rattle.row_values.specs.Value.{Value}
+use Rattle.row_values.specs.Column.{Column, column_of, fits}
 use Rattle.row_values.specs.Schema.{picked}
 use Rattle.row_values.specs.Row.{all_fit, row_bytes, value_bytes}
 use Rattle.fdoca.specs.Writing.{answer_closing, answer_descriptor, field_bytes, sent_value, sent_values}

@@ -4,7 +4,7 @@ use Rattle.std.specs.Str.{is_utf8}
 use Rattle.std.specs.Int.{Width, w16, w32, w64, cast_signed}
 use Rattle.byteorder.specs.Endian.{big_number}
 use Rattle.drda_words.specs.Number.{word}
-use Rattle.row_values.specs.Value.{Datum as Value, null, number, text, binary}
+use Rattle.row_values.specs.Value.{Value, null, number, text, binary}
 use Rattle.fdoca.specs.declared.field.Field.{Field}
 use Rattle.fdoca.specs.declared.field.FieldType.{FieldType}
 use Rattle.fdoca.specs.declared.field.FieldType.TheVariants.{SmallInt, Integer, BigInt, FixedBytes, FixedText, VariableBytes, VariableText}

@@ -6,8 +6,8 @@ use Rattle.std.specs.Int.{to_be_bytes, w16}
 use Rattle.drda_words.specs.Number.{word}
 use Rattle.row_values.specs.declared.column.Kind.{Kind}
 use Rattle.row_values.specs.declared.column.Kind.TheVariants.{SmallInt, Integer, BigInt, VarChar, VarBinary}
-use Rattle.row_values.specs.Value.{Datum as Value}
-use Rattle.row_values.specs.Column.{ColumnShape as Column}
+use Rattle.row_values.specs.Value.{Value}
+use Rattle.row_values.specs.Column.{Column}
 use Rattle.row_values.specs.Row.{content_bytes, value_bytes}
 use Rattle.fdoca.specs.declared.field.Field.{Field}
 use Rattle.fdoca.specs.declared.field.FieldType.{FieldType}

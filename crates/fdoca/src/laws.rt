@@ -1,6 +1,6 @@
 //! Laws of the definitions. The functions do nothing: their contracts are the laws.
 
-ghost use Rattle.fdoca.specs.Laws.{AreParametersOnce, DescribesOnce, IsRowOnce};
+ghost use Rattle.fdoca.specs.Laws.{AreParametersOnce, DescribesOnce, DescriptionIsRead, IsRowOnce, SentIsRead};
 
 /// A text describes one list of fields at most.
 pub fn descriptors_have_one_reading()
@@ -12,4 +12,11 @@ pub fn descriptors_have_one_reading()
 pub fn rows_have_one_reading()
     ensures row { IsRowOnce }
     ensures parameters { AreParametersOnce }
+{}
+
+/// What is written of an answer is read back: its description has the fields of the columns, and its
+/// rows the values.
+pub fn answers_are_read_back()
+    ensures description { DescriptionIsRead }
+    ensures row { SentIsRead }
 {}

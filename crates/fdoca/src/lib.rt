@@ -14,7 +14,7 @@ mod writing;
 pub use descriptor::Descriptor;
 pub use fault::DescriptorFault;
 pub use field::{Field, FieldType};
-pub use laws::{descriptors_have_one_reading, rows_have_one_reading};
+pub use laws::{answers_are_read_back, descriptors_have_one_reading, rows_have_one_reading};
 pub use row::read_row;
 pub use values::Values;
 pub use writing::{write_descriptor, write_row};

@@ -1,7 +1,7 @@
 //! Rows.
 
 ghost use Rattle.std.specs.Prelude.{◌≡◌, ◌≤◌, ◌<◌, IfSome, length, option_map};
-ghost use Rattle.row_values.specs.Value.{datum_of};
+ghost use Rattle.row_values.specs.Value.{value_of};
 ghost use Rattle.fdoca.specs.Reading.{content_at, counted_at, front_of, marked_at, row_at, utf8_in, value_at, values_at};
 ghost use Rattle.fdoca.specs.Calls.{GivesValues, ReadsRow};
 
@@ -110,7 +110,7 @@ fn read_many<'a>(
 /// A value of a field in front, with what follows.
 #[tactic(auto, unfolding(crate::specs::Reading::value_at))]
 fn split_value(field: Field, bytes: &[u8]) -> Option<(Value<'_>, &[u8])>
-    ensures { option_map (λ x. (datum_of x.0, x.1.now)) result ≡ value_at field bytes.now }
+    ensures { option_map (λ x. (value_of x.0, x.1.now)) result ≡ value_at field bytes.now }
 {
     if field.is_nullable {
         split_marked(field, bytes)
@@ -120,7 +120,7 @@ fn split_value(field: Field, bytes: &[u8]) -> Option<(Value<'_>, &[u8])>
 }
 
 fn split_marked(field: Field, bytes: &[u8]) -> Option<(Value<'_>, &[u8])>
-    ensures { option_map (λ x. (datum_of x.0, x.1.now)) result ≡ marked_at field.field_type field.length bytes.now }
+    ensures { option_map (λ x. (value_of x.0, x.1.now)) result ≡ marked_at field.field_type field.length bytes.now }
 {
     let [mark, rest @ ..] = bytes else {
         return None;
@@ -133,7 +133,7 @@ fn split_marked(field: Field, bytes: &[u8]) -> Option<(Value<'_>, &[u8])>
 }
 
 fn split_content(field: Field, bytes: &[u8]) -> Option<(Value<'_>, &[u8])>
-    ensures { option_map (λ x. (datum_of x.0, x.1.now)) result ≡ content_at field.field_type field.length bytes.now }
+    ensures { option_map (λ x. (value_of x.0, x.1.now)) result ≡ content_at field.field_type field.length bytes.now }
 {
     match field.field_type {
         FieldType::SmallInt => {

@@ -18,23 +18,24 @@ pub struct Values<'a> {
 
 impl<'a> Model for Values<'a> {
     ghost use Rattle.std.specs.Prelude.{◌++◌, List, map, take};
-    ghost use Rattle.row_values.specs.Value.{Datum, datum_of};
+    ghost use Rattle.row_values.specs.Value as spec;
+    ghost use Rattle.row_values.specs.Value.{value_of};
     ghost use Rattle.fdoca.specs.Held.{IsHeld};
 
-    ghost Value = { List Datum };
+    ghost Value = { List spec.Value };
 
-    ghost view = { λ v. map datum_of (take v.count v.few ++ v.many.items) };
+    ghost view = { λ v. map value_of (take v.count v.few ++ v.many.items) };
 
     ghost invariant = { λ v. IsHeld v.count v.many.items };
 }
 
 impl<'a> Values<'a> {
     ghost use Rattle.std.specs.Prelude.{◌≡◌, map};
-    ghost use Rattle.row_values.specs.Value.{datum_of};
+    ghost use Rattle.row_values.specs.Value.{value_of};
 
     /// The values, as a slice.
     pub fn as_slice(&self) -> &[Value<'a>]
-        ensures { map datum_of result.now ≡ self.now }
+        ensures { map value_of result.now ≡ self.now }
     {
         if self.count > 0 {
             &self.few[..self.count]

@@ -2,11 +2,11 @@
 
 ghost use Rattle.std.specs.Prelude.{◌≡◌, ◌≤◌, ◌++◌, ◌∷◌, ℕ, List, OnErr, OnOk, drop, length, map, nat_lt, take, true, vec_len};
 ghost use Rattle.std.specs.List.{list_all};
-ghost use Rattle.row_values.specs.Value.{Datum as Value};
+ghost use Rattle.row_values.specs.Value.{Value};
 ghost use Rattle.row_values.specs.Column.{column_of, fits};
 ghost use Rattle.row_values.specs.Schema.{picked};
 ghost use Rattle.row_values.specs.Row.{all_fit, row_bytes, value_bytes, values_in};
-ghost use Rattle.row_values.specs.RowView.{row_in, shape_in as schema_in};
+ghost use Rattle.row_values.specs.RowView.{row_in, schema_in};
 ghost use Rattle.fdoca.specs.Writing.{answer_descriptor, answer_row, content_size, field_bytes, length_for, sent_value, type_number, value_size};
 
 use row_values::{Column, Kind, RowRef, Schema};

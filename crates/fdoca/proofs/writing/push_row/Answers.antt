@@ -1,7 +1,7 @@
 use Rattle.std.proofs.Common.{◌≡◌, ◌∙◌, ◌<◌, ℕ, List, Some, ap, arith, length, map, sym, true}
 use Rattle.std.specs.List.{slice_get}
 use Rattle.std.proofs.lemmas.Option.{slice_get-get_or}
-use Rattle.row_values.specs.Value.{Datum as Value}
+use Rattle.row_values.specs.Value.{Value}
 use Rattle.row_values.specs.Column.{column_of}
 use Rattle.row_values.specs.Row.{all_fit, row_bytes}
 use Rattle.fdoca.proofs.Walking.{Cuts, column_at, cuts, kept_step, longer_step, place_within, sent_step}

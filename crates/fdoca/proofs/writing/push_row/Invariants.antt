@@ -1,7 +1,7 @@
 -- What was there stands in front; the rest begins with the value at the next place; and what is there, with
 -- the values still to be sent, is the row.
 use Rattle.std.proofs.Common.{◌≡◌, ◌≤◌, ◌++◌, List, drop, length, map, take, true}
-use Rattle.row_values.specs.Value.{Datum as Value}
+use Rattle.row_values.specs.Value.{Value}
 use Rattle.row_values.specs.Column.{column_of}
 use Rattle.row_values.specs.Schema.{picked}
 use Rattle.row_values.specs.Row.{all_fit, row_bytes}

@@ -1,6 +1,6 @@
 -- The rest begins with the value at the place.
 use Rattle.std.proofs.Common.{◌≡◌, List, drop, map, true}
-use Rattle.row_values.specs.Value.{Datum as Value}
+use Rattle.row_values.specs.Value.{Value}
 use Rattle.row_values.specs.Column.{column_of}
 use Rattle.row_values.specs.Row.{all_fit, row_bytes}
 use Rattle.fdoca.proofs.writing.skip_values.Given as goal
