@@ -17,4 +17,4 @@ pub use field::{Field, FieldType};
 pub use laws::{answers_are_read_back, descriptors_have_one_reading, rows_have_one_reading};
 pub use row::read_row;
 pub use values::Values;
-pub use writing::{write_descriptor, write_row};
+pub use writing::{are_places, write_descriptor, write_row};

@@ -1,7 +1,7 @@
 //! Answers: the description of their rows, and the rows.
 
-ghost use Rattle.std.specs.Prelude.{◌≡◌, ◌≤◌, ◌++◌, ◌∷◌, ℕ, List, OnErr, OnOk, drop, length, map, nat_lt, take, true, vec_len};
-ghost use Rattle.std.specs.List.{list_all};
+ghost use Rattle.std.specs.Prelude.{◌≡◌, ◌≤◌, ◌++◌, ◌∷◌, ℕ, List, OnErr, OnOk, drop, is_some, length, map, nat_lt, take, true, vec_len};
+ghost use Rattle.std.specs.List.{list_all, slice_get};
 ghost use Rattle.row_values.specs.Value.{Value};
 ghost use Rattle.row_values.specs.Column.{column_of, fits};
 ghost use Rattle.row_values.specs.Schema.{picked};
@@ -15,16 +15,31 @@ use std::alloc::AllocError;
 /// Stands before a value in a row.
 const PRESENT: u8 = 0x00;
 
+/// Whether each place, from 0, is one of a column of the schema.
+pub fn are_places(schema: &Schema, places: &[u8]) -> bool
+    ensures { result ≡ list_all (λ place. is_some (slice_get schema.now.columns place)) places.now }
+{
+    let count = schema.columns().len();
+    all_below(count, places)
+}
+
+fn all_below(count: usize, places: &[u8]) -> bool
+    ensures { result ≡ list_all (λ place. nat_lt place count) places.now }
+{
+    places.iter().all(|place| usize::from(*place) < count)
+}
+
 /// Appends the description of rows of these columns of a schema, given by their places from 0 (the
 /// data of a QRYDSC). Where memory is refused, nothing is appended.
 pub fn write_descriptor(out: &mut Vec<u8>, schema: &Schema, places: &[u8]) -> Result<(), AllocError>
     requires few { length places.now ≤ 84 }
-    requires within { list_all (λ place. nat_lt place (length schema.now.columns)) places.now ≡ true }
+    requires within { list_all (λ place. is_some (slice_get schema.now.columns place)) places.now ≡ true }
     ensures ok { OnOk result (out.new.items ≡ out.old.items ++ answer_descriptor (picked schema.now.columns places.now)) }
     ensures err { OnErr result (out.new.items ≡ out.old.items) }
 {
     let start = out.len();
-    let pushed = push_descriptor(out, schema.columns(), places);
+    let columns = schema.columns();
+    let pushed = push_descriptor(out, columns, places);
     if pushed.is_err() {
         out.truncate(start);
     }
@@ -89,12 +104,13 @@ fn length_for(kind: Kind, limit: u16) -> u16
 /// Appends a row of an answer: of the row's columns those at these places, from 0 (a row in the data
 /// of a QRYDTA). Their bytes are copied as they lie. Where memory is refused, nothing is appended.
 pub fn write_row(out: &mut Vec<u8>, row: &RowRef<'_>, places: &[u8]) -> Result<(), AllocError>
-    requires within { list_all (λ place. nat_lt place (length (schema_in row.now).columns)) places.now ≡ true }
+    requires { list_all (λ place. is_some (slice_get (schema_in row.now).columns place)) places.now ≡ true }
     ensures ok { OnOk result (out.new.items ≡ out.old.items ++ answer_row (picked (schema_in row.now).columns places.now) (picked (values_in (schema_in row.now) (row_in row.now)) places.now)) }
     ensures err { OnErr result (out.new.items ≡ out.old.items) }
 {
     let start = out.len();
-    let pushed = push_row(out, row.schema().columns(), row.bytes(), places);
+    let columns = row.schema().columns();
+    let pushed = push_row(out, columns, row.bytes(), places);
     if pushed.is_err() {
         out.truncate(start);
     }
