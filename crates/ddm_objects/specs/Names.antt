@@ -1,9 +1,8 @@
 -- How code points are shown: by the names that the standard gives them (DRDA V5 volume 3, DDM), and
 -- in hexadecimal digits.
-use Rattle.std.specs.Prelude.{ℕ, ◌/◌, ◌%◌, List, [], ◌∷◌, ◌++◌, map, slice_index, Option, Some, None, nat_eq, codes}
+use Rattle.std.specs.Prelude.{ℕ, ◌+◌, ◌-◌, ◌/◌, ◌%◌, nat_lt, if◌then◌else◌, List, [], ◌∷◌, ◌++◌, map, Option, Some, None, nat_eq, codes}
 use Rattle.std.specs.Map.{lookup}
 use Rattle.std.specs.Option.{option_or}
-use Rattle.ddm_objects.specs.declared.code_point.TheConstants.{DIGITS}
 
 -- the commands and the replies
 abbrev pub messages : List (ℕ × List ℕ)
@@ -116,9 +115,13 @@ object_of code = lookup (nat_eq code) objects
 abbrev pub name_of : ℕ → Option (List ℕ)
 name_of code = option_or (message_of code) (object_of code)
 
--- the last four hexadecimal digits of a number
+-- the hexadecimal digit of a number below 16, in ASCII: from `0` on, and past 9 from `A` on
+abbrev pub digit : ℕ → ℕ
+digit n = if nat_lt n 10 then 0x30 + n else 0x41 + (n - 10)
+
+-- the four hexadecimal digits of a number of two bytes
 unfoldable pub four_digits : ℕ → List ℕ
-four_digits n = map (slice_index DIGITS) (n / 4096 ∷ n / 256 % 16 ∷ n / 16 % 16 ∷ n % 16 ∷ [])
+four_digits n = map digit (n / 4096 ∷ n / 256 % 16 ∷ n / 16 % 16 ∷ n % 16 ∷ [])
 
 -- a name and digits, or the digits alone
 abbrev pub shown_by : Option (List ℕ) → List ℕ → List ℕ

@@ -1,8 +1,8 @@
 //! The code points of the commands, parameters, data objects, managers and replies that are used
 //! here, under the names of the standard (DRDA V5 volume 3, DDM).
 
-ghost use Rattle.std.specs.Prelude.{◌≡◌, Some, option_map};
-ghost use Rattle.ddm_objects.specs.Names.{four_digits, message_of, name_of, object_of, shown};
+ghost use Rattle.std.specs.Prelude.{◌≡◌, ◌<◌, Some, option_map};
+ghost use Rattle.ddm_objects.specs.Names.{digit, four_digits, message_of, name_of, object_of, shown};
 
 use std::fmt;
 
@@ -307,8 +307,17 @@ impl fmt::Display for CodePoint {
     }
 }
 
-/// The hexadecimal digits.
-static DIGITS: [u8; 16] = *b"0123456789ABCDEF";
+/// The hexadecimal digit of a number below 16, in ASCII.
+fn digit(value: u16) -> u8
+    requires { value < 16 }
+    ensures { result ≡ digit value }
+{
+    if value < 10 {
+        b'0' + value as u8
+    } else {
+        b'A' + (value - 10) as u8
+    }
+}
 
 /// Four hexadecimal digits, in ASCII.
 #[tactic(auto, unfolding(crate::specs::Names::four_digits))]
@@ -316,10 +325,10 @@ fn digits(code: u16) -> [u8; 4]
     ensures { result ≡ four_digits code }
 {
     [
-        DIGITS[usize::from(code / 0x1000)],
-        DIGITS[usize::from(code / 0x100 % 0x10)],
-        DIGITS[usize::from(code / 0x10 % 0x10)],
-        DIGITS[usize::from(code % 0x10)],
+        digit(code / 0x1000),
+        digit(code / 0x100 % 0x10),
+        digit(code / 0x10 % 0x10),
+        digit(code % 0x10),
     ]
 }
 

@@ -24,6 +24,3 @@ pub use laws::{
 pub use object::Object;
 pub use parts::Parts;
 pub use writing::{Opened, close, open, put};
-
-#[cfg(test)]
-mod tests;

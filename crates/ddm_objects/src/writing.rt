@@ -43,7 +43,7 @@ fn heading_of(code: u16, size: usize) -> Heading
 /// Appends an object with this code point and these data. The length is the plain one for up to
 /// 32,763 bytes of data and an extended one of 4 bytes past that (of 8 bytes past 4,294,967,295).
 ///
-/// For want of memory nothing is appended.
+/// Where memory is refused, nothing is appended.
 #[tactic(auto, unfolding(crate::specs::Writing::spelled))]
 pub fn put(out: &mut Vec<u8>, code: u16, value: &[u8]) -> Result<(), AllocError>
     ensures ok { OnOk result (out.new.items ≡ out.old.items ++ spelled code value.now) }
@@ -71,7 +71,7 @@ pub struct Opened {
 /// Appends four bytes in which the length and the code point of a container will stand; what is
 /// appended from then on are its data, until it is closed.
 ///
-/// For want of memory nothing is appended.
+/// Where memory is refused, nothing is appended.
 pub fn open(out: &mut Vec<u8>, code: u16) -> Result<Opened, AllocError>
     ensures ok { OnOk result (out.new.items ≡ out.old.items ++ unset) }
     ensures opened { IfOk result (λ c. (c.at ≡ vec_len out.old) × (c.code ≡ code)) }

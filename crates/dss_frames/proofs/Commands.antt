@@ -3,7 +3,7 @@ use Rattle.std.proofs.Common.{◌≡◌, ℕ, zero, suc, ◌+◌, ◌-◌, ◌*�
 use Rattle.std.proofs.lemmas.List.{append-nil, drop-drop, drop-take, length-take-le}
 use Rattle.std.proofs.Math.Seq.{take-append_seam, drop-append_seam}
 use Rattle.drda_words.specs.Place.{part}
-use Rattle.dss_frames.specs.Length.{word}
+use Rattle.drda_words.specs.Number.{word}
 use Rattle.dss_frames.specs.Dss.{Dss, IsDss, AreDsss}
 use Rattle.dss_frames.specs.Joining.{count_bytes, IsJoined, AreJoined, JoinsDss}
 use Rattle.dss_frames.specs.Group.{dsss_in, joined_dsss}

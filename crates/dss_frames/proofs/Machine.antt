@@ -6,7 +6,8 @@ use Rattle.dss_frames.specs.declared.turn.Turn.{Turn}
 use Rattle.dss_frames.specs.declared.turn.Turn.TheVariants.{Request, Nothing}
 use Rattle.dss_frames.specs.declared.fault.SyntaxCode.{SyntaxCode}
 use Rattle.dss_frames.specs.declared.fault.FrameFault.{FrameFault}
-use Rattle.dss_frames.specs.Length.{word, is_continued, segment_length}
+use Rattle.drda_words.specs.Number.{word}
+use Rattle.dss_frames.specs.Length.{is_continued, segment_length}
 use Rattle.dss_frames.specs.Dss.{Dss}
 use Rattle.dss_frames.specs.Command.{turn_after}
 use Rattle.dss_frames.specs.Fault.{Next, dss_in_turn, continuation_of, header_fault, continuation_fault}

@@ -10,7 +10,8 @@ use Rattle.dss_frames.specs.declared.place.Expected.{Expected}
 use Rattle.dss_frames.specs.declared.place.Expected.TheVariants.{Header, Continuation}
 use Rattle.dss_frames.specs.declared.place.Place.{Place}
 use Rattle.dss_frames.specs.declared.place.Found.TheVariants.{Nothing as Nothing_yet}
-use Rattle.dss_frames.specs.Length.{word, is_continued, segment_length, dss_limit}
+use Rattle.drda_words.specs.Number.{word}
+use Rattle.dss_frames.specs.Length.{is_continued, segment_length, dss_limit}
 use Rattle.dss_frames.specs.Dss.{Dss}
 use Rattle.dss_frames.specs.Command.{turn_after, IsCommand}
 use Rattle.dss_frames.specs.Fault.{Next, dss_in_turn, continuation_of, UpTo, IsWrong, FaultAt, IsUnfinished, CanBeJudged, header_size, header_fault, continuation_fault}

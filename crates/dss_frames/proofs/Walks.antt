@@ -3,7 +3,7 @@ use Rattle.std.proofs.Common.{◌≡◌, ℕ, zero, suc, ◌+◌, ◌*◌, ◌�
 use Rattle.std.specs.Prelude.{slice_get}
 use Rattle.std.proofs.lemmas.List.{drop-drop}
 use Rattle.drda_words.specs.Place.{StandsAt}
-use Rattle.dss_frames.specs.Length.{word}
+use Rattle.drda_words.specs.Number.{word}
 use Rattle.dss_frames.specs.Dss.{Dss}
 use Rattle.dss_frames.specs.Group.{dsss_in, joined_dsss, first_dss}
 

@@ -7,7 +7,8 @@ use Rattle.dss_frames.specs.declared.turn.Turn.{Turn}
 use Rattle.dss_frames.specs.declared.turn.Turn.TheVariants.{Request, Object, Nothing}
 use Rattle.dss_frames.specs.declared.fault.SyntaxCode.{SyntaxCode}
 use Rattle.dss_frames.specs.declared.fault.FrameFault.{FrameFault}
-use Rattle.dss_frames.specs.Length.{word, is_continued, segment_length, dss_limit}
+use Rattle.drda_words.specs.Number.{word}
+use Rattle.dss_frames.specs.Length.{is_continued, segment_length, dss_limit}
 use Rattle.dss_frames.specs.Dss.{Dss, AreContinuations, AreSegments, AreDsss}
 use Rattle.dss_frames.specs.Command.{turn_after, is_due, Admits, InTurn}
 use Rattle.dss_frames.specs.Fault.{Next, dss_in_turn, continuation_of, UpTo, IsWrong, FaultAt, BeginsWith, header_fault, continuation_fault}

@@ -7,7 +7,8 @@ use Rattle.std.proofs.lemmas.Nat.{from_be_bytes-to_be_bytes_2}
 use Rattle.std.proofs.lemmas.Bool.{ltb-true, ltb-false, lt-ltb, le-ltb, le-leb, lt-leb}
 use Rattle.std.proofs.lemmas.List.{take_min}
 use Rattle.std.proofs.Math.ListN.{drop_of_length-le}
-use Rattle.dss_frames.specs.Length.{word, is_continued, segment_length, dss_limit}
+use Rattle.drda_words.specs.Number.{word}
+use Rattle.dss_frames.specs.Length.{is_continued, segment_length, dss_limit}
 use Rattle.dss_frames.specs.Dss.{AreContinuations, IsDss}
 use Rattle.dss_frames.specs.Writing.{first_size, next_size, length_bytes, continuations, written, continued_length, written_length}
 

@@ -1,7 +1,8 @@
 -- A data stream structure (DRDA V5 volume 3, DSS) as a relation on its whole text.
 use Rattle.std.specs.Prelude.{◌≡◌, ℕ, ◌+◌, ◌≤◌, Bool, true, false, List, [], ◌∷◌, ◌++◌, length, IsTrue}
 use Rattle.std.specs.List.{concat}
-use Rattle.dss_frames.specs.Length.{word, is_continued, segment_length, dss_limit}
+use Rattle.drda_words.specs.Number.{word}
+use Rattle.dss_frames.specs.Length.{is_continued, segment_length, dss_limit}
 
 pub record Dss : Type 0 where
   pub format : ℕ

@@ -5,7 +5,8 @@ use Rattle.dss_frames.specs.declared.turn.Turn.TheVariants.{Request, Nothing}
 use Rattle.dss_frames.specs.declared.fault.SyntaxCode.{SyntaxCode}
 use Rattle.dss_frames.specs.declared.fault.SyntaxCode.TheVariants.{HeaderTooShort, MarkNotD0, FormatNotSupported, SameCorrelatorUnchained, WrongTurn, TooLong, ContinuationTooShort}
 use Rattle.dss_frames.specs.declared.fault.FrameFault.{FrameFault}
-use Rattle.dss_frames.specs.Length.{word, segment_length, dss_limit}
+use Rattle.drda_words.specs.Number.{word}
+use Rattle.dss_frames.specs.Length.{segment_length, dss_limit}
 use Rattle.dss_frames.specs.Format.{is_supported, is_paired}
 use Rattle.dss_frames.specs.Dss.{Dss, AreDsss, IsOpenDss}
 use Rattle.dss_frames.specs.Command.{is_due, Admits, InTurn, IsCommand}

@@ -3,7 +3,7 @@
 use Rattle.std.specs.Prelude.{ℕ, zero, suc, ◌+◌, ◌*◌, List, [], ◌∷◌, length, take, drop, Option, Some, None}
 use Rattle.dss_frames.specs.declared.group.Group.{Group}
 use Rattle.dss_frames.specs.declared.group.Dss as parts
-use Rattle.dss_frames.specs.Length.{word}
+use Rattle.drda_words.specs.Number.{word}
 use Rattle.dss_frames.specs.Dss.{Dss}
 
 -- the DSSs that lie there, at most so many
@@ -24,10 +24,6 @@ command_of group = joined_dsss group.text.now
 -- what a part of it shows
 abbrev pub dss_of : parts.Dss → Dss
 dss_of dss = record { format = dss.format.byte; correlator = dss.correlator; contents = dss.contents.now }
-
--- the bytes that are lent: places count from their first
-abbrev pub text_of : Group → List ℕ
-text_of group = group.text.now
 
 -- the first of them
 abbrev pub first_dss : List ℕ → Option Dss

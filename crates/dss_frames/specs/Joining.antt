@@ -1,6 +1,7 @@
 -- What becomes of the DSSs of a command when their continuations are joined in place.
 use Rattle.std.specs.Prelude.{◌≡◌, ℕ, ◌+◌, ◌/◌, ◌%◌, ◌≤◌, Bool, ◌&&◌, nat_le, List, [], ◌∷◌, ◌++◌, length, take, drop, Option, Some, None, if◌then◌else◌}
-use Rattle.dss_frames.specs.Length.{word, is_continued, segment_length}
+use Rattle.drda_words.specs.Number.{word}
+use Rattle.dss_frames.specs.Length.{is_continued, segment_length}
 use Rattle.dss_frames.specs.Dss.{Dss, IsDss}
 
 -- a count in three bytes

@@ -5,7 +5,8 @@ use Rattle.dss_frames.specs.declared.place.Expected.{Expected}
 use Rattle.dss_frames.specs.declared.place.Expected.TheVariants.{Header, Continuation}
 use Rattle.dss_frames.specs.declared.fault.SyntaxCode.{SyntaxCode}
 use Rattle.dss_frames.specs.declared.fault.FrameFault.{FrameFault}
-use Rattle.dss_frames.specs.Length.{word, is_continued, segment_length, dss_limit}
+use Rattle.drda_words.specs.Number.{word}
+use Rattle.dss_frames.specs.Length.{is_continued, segment_length, dss_limit}
 use Rattle.dss_frames.specs.Command.{turn_after}
 use Rattle.dss_frames.specs.Fault.{header_fault, continuation_fault}
 

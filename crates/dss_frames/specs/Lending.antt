@@ -51,7 +51,7 @@ TakesFront old (Ok true) new = TakesCommand old new.last new
 TakesFront old (Ok false) new = WaitsFor old new
 TakesFront old (Err fault) new = FailsAt old fault new
 
--- Unfinished bytes stay so with less than so many bytes more, and with just so many the next header
+-- Unfinished bytes stay so with less than so many bytes more, and with exactly so many the next header
 -- can be judged, or the command is whole.
 pub record IsWanted (bytes : List ℕ) (wanted : ℕ) : Type 0 where
   pub less : (more : List ℕ) → length more < wanted → IsUnfinished (bytes ++ more)

@@ -1,10 +1,6 @@
 -- The length in front of a segment (DRDA V5 volume 3, DSS): two bytes, the high one first.
-use Rattle.std.specs.Prelude.{ℕ, ◌%◌, Bool, [], ◌∷◌, nat_le}
-use Rattle.std.specs.Int.{from_be_bytes, w16}
-
--- a number in two bytes
-abbrev pub word : ℕ → ℕ → ℕ
-word high low = from_be_bytes w16 (high ∷ low ∷ [])
+use Rattle.std.specs.Prelude.{ℕ, ◌%◌, Bool, nat_le}
+use Rattle.drda_words.specs.Number.{word}
 
 -- the high bit says that a continuation follows
 abbrev pub is_continued : ℕ → ℕ → Bool

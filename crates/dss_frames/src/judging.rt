@@ -1,6 +1,7 @@
 ghost use Rattle.std.specs.Prelude.{◌≡◌, ◌≢◌, ◌≤◌};
 ghost use Rattle.dss_frames.specs.Judging.{judged, after_segment, IsWithinLimit};
-ghost use Rattle.dss_frames.specs.Length.{word, is_continued, segment_length};
+ghost use Rattle.drda_words.specs.Number.{word};
+ghost use Rattle.dss_frames.specs.Length.{is_continued, segment_length};
 ghost use Rattle.dss_frames.specs.Fault.{header_fault, continuation_fault};
 ghost use Rattle.dss_frames.specs.Command.{turn_after, is_due};
 

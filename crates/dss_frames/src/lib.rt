@@ -21,6 +21,3 @@ pub use group::{Dss, Group};
 pub use laws::{one_reading, stays_read};
 pub use segments::Segments;
 pub use writing::{write_dss, written_dss_is_read, written_length};
-
-#[cfg(test)]
-mod tests;

@@ -63,7 +63,7 @@ impl Segments {
     }
 
     /// Takes the bytes that come next, and says how many it took: all of them, none after a fault,
-    /// and fewer only for want of memory. What was lent before is forgotten.
+    /// and fewer only where memory is refused. What was lent before is forgotten.
     pub fn feed(&mut self, piece: &[u8]) -> usize
         ensures taken { self.new.rest ≡ self.old.rest ++ take result piece.now }
         ensures within { result ≤ length piece.now }

@@ -11,8 +11,8 @@ const FIRST_SIZE: u16 = 32_761;
 
 const NEXT_SIZE: u16 = 32_765;
 
-/// Appends a DSS: full segments, and the last one short. For want of memory nothing is appended;
-/// where the list has room for `written_length`, there is no such want.
+/// Appends a DSS: full segments, and the last one short. Where memory is refused nothing is appended;
+/// where the list has room for `written_length`, that does not happen.
 pub fn write_dss(
     out: &mut Vec<u8>,
     format: Format,
@@ -80,7 +80,7 @@ fn append_continuations(out: &mut Vec<u8>, bytes: &[u8])
     }
 }
 
-/// What is written is a DSS of just this, and has just that length.
+/// What is written is a DSS of exactly this, and has exactly that length.
 pub fn written_dss_is_read()
     ensures length { (format correlator : ℕ) (contents : List ℕ) → length (written format correlator contents) ≡ written_length (length contents) }
     ensures dss { (format correlator : ℕ) (contents : List ℕ) → correlator < 2 ^ 16 → written_length (length contents) ≤ dss_limit → IsDss (written format correlator contents) (record { format = format; correlator = correlator; contents = contents }) }

@@ -1,20 +1,55 @@
 -- Code page 500 (IBM CDRA, CCSID 500), as far as printable ASCII goes; DRDA V5 volume 1 takes it for
--- names until UNICODEMGR is agreed. The table itself is data: the character of each byte.
-use Rattle.std.specs.Prelude.{◌≡◌, ℕ, ◌<◌, ◌==◌, if◌then◌else◌, List, [], length, Option, Some, None, IsSome, slice_index, Result, Ok, Err, position, String, string_bytes, encode_utf8, map}
+-- names until UNICODEMGR is agreed.
+use Rattle.std.specs.Prelude.{◌≡◌, ℕ, suc, ◌<◌, List, [], ◌∷◌, length, Option, Some, None, IsSome, slice_index, Result, Ok, Err, String, string_bytes, encode_utf8, map, codes, nat_eq}
 use Rattle.std.specs.Global.{Global, Vec}
+use Rattle.std.specs.Map.{lookup}
 use Rattle.std.specs.Option.{option_map_or}
 use Rattle.std.specs.List.{flat_map}
 use Rattle.ebcdic_500.specs.declared.fault.CodePageError.{CodePageError}
 use Rattle.ebcdic_500.specs.declared.fault.CodePageError.TheVariants.{NotInTable, NoMemory}
-use Rattle.ebcdic_500.specs.declared.table.TheConstants.{CHARACTERS, NONE}
+
+-- The rows of the standard's table: a byte, and the characters that it and the bytes behind it stand for.
+abbrev pub rows : List (ℕ × List ℕ)
+rows =
+    (0x40, codes " ") ∷
+    (0xC1, codes "ABCDEFGHI") ∷
+    (0xD1, codes "JKLMNOPQR") ∷
+    (0xE2, codes "STUVWXYZ") ∷
+    (0x81, codes "abcdefghi") ∷
+    (0x91, codes "jklmnopqr") ∷
+    (0xA2, codes "stuvwxyz") ∷
+    (0xF0, codes "0123456789") ∷
+    (0x4A, codes "[.<(+!&") ∷
+    (0x5A, codes "]$*);^-/") ∷
+    (0x6B, codes ",%_>?") ∷
+    (0x79, codes "`:#@'=\"") ∷
+    (0xA1, codes "~") ∷
+    (0xBB, codes "|") ∷
+    (0xC0, codes "{") ∷
+    (0xD0, codes "}") ∷
+    (0xE0, codes "\\") ∷
+    []
+
+-- characters that stand in a row, the first one at a byte
+abbrev pub numbered : ℕ → List ℕ → List (ℕ × ℕ)
+numbered byte [] = []
+numbered byte (character ∷ characters) = (byte, character) ∷ numbered (suc byte) characters
+
+-- each byte that stands for a character, with it
+abbrev pub bytes_with_characters : List (ℕ × ℕ)
+bytes_with_characters = flat_map (λ row. numbered row.0 row.1) rows
+
+-- and each character with its byte
+abbrev pub characters_with_bytes : List (ℕ × ℕ)
+characters_with_bytes = map (λ pair. (pair.1, pair.0)) bytes_with_characters
 
 -- the character that a byte stands for
-abbrev pub char_for : ℕ → Option ℕ
-char_for b = let c = slice_index CHARACTERS b in if c == NONE then None else Some c
+unfoldable pub char_for : ℕ → Option ℕ
+char_for b = lookup (nat_eq b) bytes_with_characters
 
 -- the byte that stands for a character
-abbrev pub byte_for : ℕ → Option ℕ
-byte_for c = if c == NONE then None else position (λ x. x == c) CHARACTERS
+unfoldable pub byte_for : ℕ → Option ℕ
+byte_for c = lookup (nat_eq c) characters_with_bytes
 
 -- a byte's character in UTF-8
 abbrev pub utf8_for : ℕ → List ℕ

@@ -5,9 +5,9 @@ use Rattle.dss_frames.proofs.group.Group.count.Goals as goal
 
 pub counting-preserved : goal.counting-preserved
 counting-preserved c =
-    let k = walk_count c.args.self.now.text.now c.counting.at (c.in-Some.dss.at + length c.in-Some.dss.contents.now) (dss_of c.in-Some.dss) (sym c.in-Some.ensures.value) (omega (arith, c.in-Some.ensures.at)) in
+    let k = walk_count c.args.self.now.text.now c.counting.at (c.counting.at + (6 + length c.in-Some.dss.contents.now)) (dss_of c.in-Some.dss) (sym c.in-Some.ensures.value) (omega arith) in
     record {
-      within = c.in-Some.ensures.place.0;
+      within = omega (arith, c.in-Some.ensures.within);
       counted = omega (arith, k);
-      below = omega (arith, c.in-Some.ensures.at);
+      below = omega (arith, c.counting.invariant.below);
     }

@@ -1,0 +1,9 @@
+//! Tests of ebcdic_500, ddm_objects and dss_frames.
+#![tactic(auto)]
+
+#[cfg(test)]
+mod code_page;
+#[cfg(test)]
+mod frames;
+#[cfg(test)]
+mod objects;
