@@ -27,6 +27,7 @@ pub const SERVER_CLASS: [u8; 5] = [0xC4, 0xD9, 0xC4, 0xC1, 0xC4];
 pub const RELEASE_LEVEL: [u8; 8] = [0xD9, 0xC4, 0xC1, 0xF0, 0xF1, 0xF0, 0xF0, 0xF0];
 
 /// The names that a server gives itself are these texts in code page 500.
+#[tactic(auto, unfolding(ebcdic_500::specs::CodePage::byte_for))]
 pub fn names_in_code_page_500()
     ensures server_name { map byte_for (codes "drdad") ≡ map Some SERVER_NAME }
     ensures server_class { map byte_for (codes "DRDAD") ≡ map Some SERVER_CLASS }

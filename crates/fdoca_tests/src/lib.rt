@@ -1,0 +1,7 @@
+//! Tests of fdoca.
+#![tactic(auto)]
+
+#[cfg(test)]
+mod answers;
+#[cfg(test)]
+mod parameters;
