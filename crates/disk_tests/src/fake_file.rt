@@ -100,7 +100,7 @@ impl PositionalFile for FakeFile {
                 break;
             }
             *byte = *old;
-            n += 1;
+            n = n.saturating_add(1);
         }
         Ok(n)
     }
@@ -113,7 +113,7 @@ impl PositionalFile for FakeFile {
                 break;
             }
             *byte = *new;
-            n += 1;
+            n = n.saturating_add(1);
         }
         Ok(n)
     }

@@ -6,5 +6,5 @@ use Rattle.conversation.proofs.given.Given.count.Goals as goal
 
 pub returns : goal.returns
 returns c =
-    let e = ap (λ (dsss : List Dss). count_in (contents_of dsss)) c.in_default.ensures.value in
+    let e = ap (λ (dsss : List Dss). count_in (contents_of dsss)) c.in_default.ensures in
     omega (arith, e, c.dsss.invariant.same, c.dsss.invariant.within)

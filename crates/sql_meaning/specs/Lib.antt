@@ -1,0 +1,11 @@
+pub mod Checked
+pub mod Values
+pub mod Keys
+pub mod Truth
+pub mod Classes
+pub mod Insert
+pub mod Update
+pub mod Create
+pub mod Scope
+pub mod Meaning
+pub mod Frame
