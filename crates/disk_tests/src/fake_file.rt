@@ -1,5 +1,5 @@
 //! A file that takes a part of what it is asked, is interrupted, and fails, for tests.
-ghost use Rattle.std.specs.Prelude.{◌≡◌, false, true};
+ghost use Rattle.std.specs.Prelude.{◌≡◌, ◌≤◌, false, true};
 ghost use Rattle.drda_disk.specs.File.{unknown, no_image};
 
 use drda_disk::{FileFault, FilePlace, PositionalFile};
@@ -70,6 +70,13 @@ impl FakeFile {
     }
 }
 
+/// How many bytes of a range are moved at once.
+fn moved(most: usize, len: usize) -> usize
+    ensures { result ≤ len }
+{
+    if most < len { most } else { len }
+}
+
 impl PositionalFile for FakeFile {
     ghost is_modelled = { false };
 
@@ -94,26 +101,18 @@ impl PositionalFile for FakeFile {
 
     fn read_some(&mut self, at: usize, into: &mut [u8]) -> io::Result<usize> {
         self.begin()?;
-        let mut n = 0;
-        for (byte, old) in into.iter_mut().zip(self.bytes.iter().skip(at)) {
-            if n == self.manner.most {
-                break;
-            }
+        let n = moved(self.manner.most, into.len());
+        for (byte, old) in into.iter_mut().take(n).zip(self.bytes.iter().skip(at)) {
             *byte = *old;
-            n = n.saturating_add(1);
         }
         Ok(n)
     }
 
     fn write_some(&mut self, at: usize, bytes: &[u8]) -> io::Result<usize> {
         self.begin()?;
-        let mut n = 0;
-        for (byte, new) in self.bytes.iter_mut().skip(at).zip(bytes.iter()) {
-            if n == self.manner.most {
-                break;
-            }
+        let n = moved(self.manner.most, bytes.len());
+        for (byte, new) in self.bytes.iter_mut().skip(at).zip(bytes.iter().take(n)) {
             *byte = *new;
-            n = n.saturating_add(1);
         }
         Ok(n)
     }
