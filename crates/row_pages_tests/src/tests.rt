@@ -11,7 +11,7 @@ fn filled(
     let mut page = PageBuilder::new(alloc, kind)?;
     let mut added = 0usize;
     for (number, length) in lengths.iter().enumerate() {
-        let row = vec![in alloc; number as u8; *length]?;
+        let row = vec![in alloc; (number % 256) as u8; *length]?;
         if page.try_push(row.as_slice()) == Pushed::Added {
             added = added.wrapping_add(1);
         }
