@@ -1,5 +1,0 @@
-//! Tests of row_pages.
-#![tactic(auto)]
-
-#[cfg(test)]
-mod tests;
