@@ -166,3 +166,17 @@ walk_on c cs rest x h is = sym (still_some (λ vs. x.0 ∷ vs) (values_at cs x.1
 pub walk_gives : (c : Column) (cs : List Column) (rest : List ℕ) (x : Value × List ℕ) → IsSome (values_at (c ∷ cs) rest) → Some x ≡ value_at c rest → values_or_none (c ∷ cs) rest ≡ x.0 ∷ values_or_none cs x.1
 walk_gives c cs rest x h is =
     ap (λ (o : Option (List Value)). unwrap_or o []) (walk_by c cs rest x is) ∙ added x.0 (values_at cs x.1) (sym (ap is_some (walk_by c cs rest x is)) ∙ h)
+
+-- ---- the column of a place
+
+-- where all values from place i on are read, the one there is
+pub there_from : (columns : List Column) (i : ℕ) (c : Column) (rest : List ℕ) → slice_get columns i ≡ Some c → IsSome (values_at (drop i columns) rest) → IsSome (value_at c rest)
+there_from columns i c rest at h = walk_there c (drop (i + 1) columns) rest (ap (λ (cs : List Column). is_some (values_at cs rest)) (sym (drop_at columns i c at)) ∙ h)
+
+no_values : (rest : List ℕ) → values_or_none [] rest ≡ []
+no_values [] = refl
+no_values (byte ∷ bytes) = refl
+
+-- past the last column no value is to come
+pub ends_from : (columns : List Column) (i : ℕ) (rest : List ℕ) → length columns ≤ i → values_or_none (drop i columns) rest ≡ []
+ends_from columns i rest past = ap (λ (cs : List Column). values_or_none cs rest) (drop_all i columns past) ∙ no_values rest

@@ -5,5 +5,6 @@ pub mod Schema
 pub mod Key
 pub mod RowView
 pub mod RowValues
+pub mod KeyValues
 pub mod Laws
 pub mod Bytes

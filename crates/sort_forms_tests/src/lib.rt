@@ -1,0 +1,5 @@
+//! Tests of sort_forms.
+#![tactic(auto)]
+
+#[cfg(test)]
+mod forms;
