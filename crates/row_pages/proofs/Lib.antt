@@ -2,3 +2,5 @@ mod Passing
 mod RowBytes
 mod PageBytes
 mod Growing
+mod LaidPages
+mod KeptPages

@@ -1,6 +1,6 @@
 -- The bytes of a page, and the page that is read from them.
 use Rattle.std.proofs.Common.{◌≡◌, ℕ, zero, suc, ◌+◌, ◌-◌, ◌≤◌, List, [], ◌∷◌, ◌++◌, length, replicate, Bool, true, false, Option, Some, None, refl, sym, ap, ◌∙◌, arith, length-append}
-use Rattle.std.specs.Prelude.{◌==◌, ◌&&◌, if◌then◌else◌}
+use Rattle.std.specs.Prelude.{◌==◌, ◌&&◌, if◌then◌else◌, option_map, IfSome}
 use Rattle.std.specs.List.{list_all}
 use Rattle.std.specs.Int.{w16, to_be_bytes, byte_at}
 use Rattle.std.proofs.lemmas.Bool.{eqb-true, eq-eqb}
@@ -10,6 +10,7 @@ use Rattle.drda_words.specs.Number.{word}
 use Rattle.drda_words.specs.Bytes.{AreBytes}
 use Rattle.row_pages.specs.Page.{IsPage, Page, code_of, row_bytes, rows_bytes}
 use Rattle.row_pages.specs.Parsing.{kind_at, page_at, page_behind}
+use Rattle.row_pages.specs.Keeping.{HoldsRows, Judges, page_with}
 use Rattle.row_pages.specs.Reading.{has_rows, rows_in, behind_rows}
 use Rattle.row_pages.specs.declared.page.PageKind.{PageKind}
 use Rattle.row_pages.specs.declared.page.PageKind.TheVariants.{Catalogue, Rows}
@@ -142,3 +143,11 @@ one_page p q bytes first second = some_same p q (sym (page_written p bytes first
   where
     some_same : (p q : Page) → Some p ≡ Some q → p ≡ q
     some_same p q e = cc
+
+-- what a reading of the head tells
+pub judges : (bytes : List ℕ) (head : Option (PageKind × ℕ)) → AreBytes bytes → option_map (λ h. page_with h bytes) head ≡ page_at bytes → IfSome head (λ h. HoldsRows h.1 bytes) → Judges bytes head
+judges bytes None all read holds = λ page is. apart page (sym (page_written page bytes is) ∙ sym read)
+  where
+    apart : (page : Page) → Some page ≡ None → ⊥
+    apart page e = absurd cc
+judges bytes (Some head) all read holds = (page_read (page_with head bytes) bytes all (sym read), holds)

@@ -3,3 +3,6 @@ pub mod Reading
 pub mod Parsing
 pub mod Walk
 pub mod Filling
+pub mod Keeping
+pub mod Lending
+pub mod Laying

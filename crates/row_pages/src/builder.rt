@@ -1,12 +1,14 @@
 //! A page that is being filled.
 
-ghost use Rattle.std.specs.Prelude.{◌≡◌, ◌≤◌, ◌+◌, ◌-◌, ◌++◌, [], IfOk, drop, length, replicate, vec_capacity};
+ghost use Rattle.std.specs.Prelude.{◌≡◌, ◌≤◌, ◌+◌, ◌-◌, ◌++◌, [], IfOk, OnErr, drop, length, replicate, vec_capacity};
 ghost use Rattle.row_pages.specs.Page.{IsPage};
 ghost use Rattle.row_pages.specs.Filling.{Pushes};
+ghost use Rattle.row_pages.specs.Laying.{IsShort, Lays};
 
 use crate::page::{HEADER_BYTES, PAGE_BYTES, PageKind};
 use std::alloc::{AllocError, Global};
 use std::marker::Model;
+use std::mem;
 
 /// What became of a row that was pushed.
 #[derive(Clone, Copy, Debug, PartialEq, Eq)]
@@ -96,9 +98,29 @@ impl PageBuilder {
         Pushed::Added
     }
 
+    /// Lays a row behind the others, or, where it does not fit, first into a new page; then the
+    /// bytes of the page before are given out. A page of rows without any is filled so that it ends
+    /// only where the next row does not fit. Out of memory: the page is as it was.
+    pub fn lay(&mut self, alloc: Global, row: &[u8]) -> Result<Option<Vec<u8>>, AllocError>
+        requires { IsShort row.now }
+        ensures ok { IfOk result (λ given. Lays row.now self.old given self.new) }
+        ensures err { OnErr result (self.new ≡ self.old) }
+    {
+        match self.try_push(row) {
+            Pushed::Added => Ok(None),
+            Pushed::Full => {
+                let mut next = PageBuilder::new(alloc, self.kind)?;
+                next.try_push(row);
+                let full = mem::replace(self, next);
+                Ok(Some(full.finish()))
+            }
+        }
+    }
+
     /// The bytes of the page, 8,192 of them. Takes no memory.
     pub fn finish(self) -> Vec<u8>
-        ensures { IsPage self result.items }
+        ensures page { IsPage self result.items }
+        ensures bytes { length result.items ≡ 8192 }
     {
         let PageBuilder {
             kind,

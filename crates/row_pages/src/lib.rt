@@ -2,11 +2,17 @@
 #![tactic(auto)]
 
 mod builder;
+mod cache;
+mod kept;
 mod laws;
+mod laying;
 mod page;
 mod rows;
 
 pub use builder::{PageBuilder, Pushed};
-pub use laws::one_page;
+pub use cache::PageCache;
+pub use kept::{KeptPage, PageFault};
+pub use laws::{one_laying, one_page};
+pub use laying::PageCount;
 pub use page::{Damaged, PAGE_BYTES, PageKind, PageRef};
 pub use rows::RowIter;

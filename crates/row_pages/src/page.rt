@@ -1,9 +1,11 @@
 //! A page that is read.
 
-ghost use Rattle.std.specs.Prelude.{◌≡◌, ◌==◌};
+ghost use Rattle.std.specs.Prelude.{◌≡◌, ◌==◌, true, IfSome, option_map};
 ghost use Rattle.std.specs.List.{list_all};
 ghost use Rattle.row_pages.specs.Page.{code_of};
+ghost use Rattle.row_pages.specs.Reading.{has_rows, rows_in};
 ghost use Rattle.row_pages.specs.Parsing.{Parses, kind_at, page_at};
+ghost use Rattle.row_pages.specs.Keeping.{HoldsRows, Judges, page_with};
 
 use crate::rows::{RowIter, behind_rows};
 use std::marker::Model;
@@ -77,10 +79,18 @@ impl<'p> PageRef<'p> {
     pub fn parse(bytes: &'p [u8]) -> Result<PageRef<'p>, Damaged>
         ensures { Parses bytes.now result }
     {
-        match page_in(bytes) {
-            Some(page) => Ok(page),
+        match judged(bytes) {
+            Some((kind, count)) => { Ok(PageRef::behind_head(kind, count, &bytes[HEADER_BYTES..])) }
             None => Err(Damaged),
         }
+    }
+
+    /// The page of this kind whose rows are the first ones of these bytes.
+    pub(crate) fn behind_head(kind: PageKind, count: usize, bytes: &'p [u8]) -> PageRef<'p>
+        requires { has_rows count bytes.now ≡ true }
+        ensures { result ≡ record { kind = kind; rows = rows_in count bytes.now } }
+    {
+        PageRef { kind, count, bytes }
     }
 
     /// What the rows are.
@@ -98,10 +108,11 @@ impl<'p> PageRef<'p> {
     }
 }
 
-// The page that the bytes are, if they are one.
+// The kind and the number of rows of the page that the bytes are, if they are one, read from the front.
 #[tactic(auto, unfolding(crate::specs::Parsing::page_at))]
-fn page_in(bytes: &[u8]) -> Option<PageRef<'_>>
-    ensures { result ≡ page_at bytes.now }
+fn head_of(bytes: &[u8]) -> Option<(PageKind, usize)>
+    ensures page { option_map (λ head. page_with head bytes.now) result ≡ page_at bytes.now }
+    ensures holds { IfSome result (λ head. HoldsRows head.1 bytes.now) }
 {
     let [code, high, low, rest @ ..] = bytes else {
         return None;
@@ -110,14 +121,18 @@ fn page_in(bytes: &[u8]) -> Option<PageRef<'_>>
     let count = u16::from_be_bytes([*high, *low]) as usize;
     let zeros = behind_rows(count, rest)?;
     if rest.len() == PAGE_BYTES - HEADER_BYTES && is_zero(zeros) {
-        Some(PageRef {
-            kind,
-            count,
-            bytes: rest,
-        })
+        Some((kind, count))
     } else {
         None
     }
+}
+
+/// The kind and the number of rows of the page that the bytes are; `None` exactly where they are
+/// none.
+pub(crate) fn judged(bytes: &[u8]) -> Option<(PageKind, usize)>
+    ensures { Judges bytes.now result }
+{
+    head_of(bytes)
 }
 
 // Whether all bytes are zero.

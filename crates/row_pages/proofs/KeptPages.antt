@@ -1,0 +1,44 @@
+-- Pages that are kept, and what a disk reads.
+use Rattle.std.proofs.Common.{◌≡◌, ◌⊎◌, ℕ, true, cond, List, ◌∷◌, Option, Some, None, Contains, refl, sym, ap, subst, inl, inr}
+use Rattle.std.specs.Prelude.{nat_eq, is_some, IsSome}
+use Rattle.std.specs.Option.{option_map_or}
+use Rattle.std.specs.Cmp.{nat_eq_equiv}
+use Rattle.std.specs.Map.{lookup, lookup_entry, remove_entry}
+use Rattle.std.proofs.lemmas.Bool.{eqb-true}
+use Rattle.drda_words.specs.Place.{part}
+use Rattle.lru.specs.LruCache.{LruCache, promoted, put_entries}
+use Rattle.lru.proofs.CallerLemmas.{Contains-promoted, Contains-put_entries, Contains-lookup, Contains-lookup_entry, lookup-put_entries}
+use Rattle.row_pages.specs.Page.{IsPage, Page}
+use Rattle.row_pages.specs.Keeping.{Kept, AreRead}
+
+pub promoted_read : (at : ℕ) (kept : Kept) (file : List ℕ) → AreRead kept file → AreRead (promoted (nat_eq at) kept) file
+promoted_read at kept file read = record { each = λ e found. read.each e (Contains-promoted (nat_eq at) kept e found) }
+
+pub put_read : (cache : LruCache ℕ Page) (at : ℕ) (page : Page) (file : List ℕ) → AreRead cache.entries file → IsPage page (part file at 8192) → AreRead (put_entries nat_eq cache at page) file
+put_read cache at page file read is = record { each = λ e found. by_cases e (Contains-put_entries nat_eq cache at page e found) }
+  where
+    seen : (e : ℕ × Page) → e.1 ≡ page → e.0 ≡ at → IsPage e.1 (part file e.0 8192)
+    seen e same place = subst (λ (p : Page). IsPage p (part file e.0 8192)) (sym same) (subst (λ (n : ℕ). IsPage page (part file n 8192)) (sym place) is)
+
+    by_cases : (e : ℕ × Page) → Contains cache.entries e ⊎ ((e.1 ≡ page) × ((e.0 ≡ at) ⊎ ((w : Page) × Contains cache.entries (e.0, w) × (nat_eq at e.0 ≡ true)))) → IsPage e.1 (part file e.0 8192)
+    by_cases e (inl was) = read.each e was
+    by_cases e (inr (same, inl place)) = seen e same place
+    by_cases e (inr (same, inr (w, there, equal))) = seen e same (sym (eqb-true at e.0 equal))
+
+pub kept_read : (kept : Kept) (at : ℕ) (page : Page) (file : List ℕ) → AreRead kept file → lookup (nat_eq at) kept ≡ Some page → IsPage page (part file at 8192)
+kept_read kept at page file read found =
+    let there = Contains-lookup (nat_eq at) kept page found in
+    subst (λ (n : ℕ). IsPage page (part file n 8192)) (sym (eqb-true at there.0 there.2)) (read.each (there.0, page) there.1)
+
+is_there : {X : Type 0} (o : Option X) (x : X) → o ≡ Some x → IsSome o
+is_there o x e = ap is_some e
+
+pub promoted_there : (at : ℕ) (kept : Kept) → is_some (lookup (nat_eq at) kept) ≡ true → IsSome (lookup (nat_eq at) (promoted (nat_eq at) kept))
+promoted_there at kept there = by_entry (lookup_entry (nat_eq at) kept) refl
+  where
+    by_entry : (o : Option (ℕ × Page)) → lookup_entry (nat_eq at) kept ≡ o → IsSome (lookup (nat_eq at) (option_map_or (λ e. e ∷ remove_entry (nat_eq at) kept) o kept))
+    by_entry None e = there
+    by_entry (Some f) e = ap is_some (ap (λ b. cond b (Some f.1) (lookup (nat_eq at) (remove_entry (nat_eq at) kept))) (Contains-lookup_entry (nat_eq at) kept f e).1)
+
+pub put_there : (cache : LruCache ℕ Page) (at : ℕ) (page : Page) → IsSome (lookup (nat_eq at) (put_entries nat_eq cache at page))
+put_there cache at page = is_there (lookup (nat_eq at) (put_entries nat_eq cache at page)) page (lookup-put_entries nat_eq cache at page nat_eq_equiv)

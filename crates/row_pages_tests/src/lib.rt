@@ -1,0 +1,5 @@
+//! Tests of row_pages.
+#![tactic(auto)]
+
+#[cfg(test)]
+mod tests;
