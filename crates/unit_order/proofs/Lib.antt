@@ -2,5 +2,5 @@ pub mod Order
 pub mod Running
 pub mod Bare
 pub mod Keeping
-mod Prepared
+pub mod Prepared
 mod Framed
