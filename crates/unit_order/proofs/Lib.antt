@@ -1,0 +1,6 @@
+pub mod Order
+pub mod Running
+pub mod Bare
+pub mod Keeping
+pub mod Prepared
+mod Framed

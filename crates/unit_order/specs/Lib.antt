@@ -1,0 +1,6 @@
+pub mod Words
+pub mod Events
+pub mod Serial
+pub mod Steps
+pub mod Prepared
+pub mod SmallStore
