@@ -1,0 +1,4 @@
+pub mod Owners
+pub mod Happening
+pub mod Asking
+pub mod Losing

@@ -1,0 +1,11 @@
+use Rattle.core_steps.proofs.Asking.{refusals_change_nothing, refusals_make_no_change, statements_stay}
+use Rattle.core_steps.proofs.laws.statements_work_in_one_unit.Goals as goal
+
+pub returns-clause-stay : goal.returns-clause-stay
+returns-clause-stay c = statements_stay
+
+pub returns-clause-refused : goal.returns-clause-refused
+returns-clause-refused c = refusals_change_nothing
+
+pub returns-clause-unchanged : goal.returns-clause-unchanged
+returns-clause-unchanged c = refusals_make_no_change

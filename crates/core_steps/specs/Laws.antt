@@ -1,0 +1,158 @@
+-- What holds of each step.
+use Rattle.std.specs.Prelude.{◌≡◌, ◌≢◌, ◌⊎◌, ℕ, Bool, true, false, List, [], ◌∷◌, Option, Some, None}
+use Rattle.sql_text.specs.declared.tree.Statement.{Statement}
+use Rattle.row_values.specs.Value.{Value}
+use Rattle.tables.specs.Tables.{Store}
+use Rattle.unit_locks.specs.Claim.{Claim}
+use Rattle.unit_locks.specs.Claims.{In}
+use Rattle.unit_locks.specs.Clash.{clash}
+use Rattle.xa_calls.specs.declared.request.Verb.{Verb}
+use Rattle.xa_calls.specs.declared.request.Request.TheVariants as request
+use Rattle.xa_manager.specs.declared.branch.BranchState.{BranchState}
+use Rattle.xa_manager.specs.declared.due.Action.{Action}
+use Rattle.xa_manager.specs.declared.due.Action.TheVariants as action
+use Rattle.xa_manager.specs.declared.due.Outcome.TheVariants as decided
+use Rattle.xa_manager.specs.Branch.{is_last_joined_by, joined_xid, state_of}
+use Rattle.core_calls.specs.declared.refusal.Refusal.{Refusal}
+use Rattle.core_calls.specs.declared.refusal.Refusal.TheVariants as refusal
+use Rattle.core_calls.specs.declared.sql_fault.SqlFault.{SqlFault}
+use Rattle.core_calls.specs.Call as call
+use Rattle.core_calls.specs.Call.{Call}
+use Rattle.core_calls.specs.Answer as told
+use Rattle.core_calls.specs.Answer.{Answer}
+use Rattle.sql_meaning.specs.Frame.{claims_in}
+use Rattle.core_steps.specs.Units.{Held, Owner, global, idle, local, same_owner, unit_of, view}
+use Rattle.core_steps.specs.Asked.{Question, describing, querying, running}
+use Rattle.core_steps.specs.Events.{Base}
+use Rattle.core_steps.specs.Step.{CoreState, answer, due_in, lost_xids, owner_of, step_state}
+
+-- the answer to a call, and the state behind it
+abbrev pub answered : CoreState → ℕ → Call → Answer
+answered s conversation k = answer s.branches s.base conversation k
+
+-- ---- one unit ends or asks, and the others stay
+
+-- the units of all other owners are as before
+abbrev pub OthersStay : Owner → Base → Base → Type 0
+OthersStay o b c = (p : Owner) → same_owner p o ≡ false → unit_of p c.units ≡ unit_of p b.units
+
+-- the changes of an owner's unit are made, and it has ended with its claims
+pub record Commits (o : Owner) (b c : Base) : Type 0 where
+  pub store : c.store ≡ view b.store (unit_of o b.units)
+  pub ended : unit_of o c.units ≡ idle
+  pub others : OthersStay o b c
+
+-- the unit has ended, and nothing else has changed
+pub record RollsBack (o : Owner) (b c : Base) : Type 0 where
+  pub store : c.store ≡ b.store
+  pub ended : unit_of o c.units ≡ idle
+  pub others : OthersStay o b c
+
+-- ---- statements
+
+-- what a call asks of the unit that its conversation works in
+abbrev pub question_of : Call → Option Question
+question_of (call.run s params) = Some (running s params)
+question_of (call.query s params) = Some (querying s params)
+question_of (call.describe s side) = Some (describing s side)
+question_of call.commit = None
+question_of call.roll_back = None
+question_of (call.xa r) = None
+question_of call.lost = None
+
+-- a statement changes no unit but the one that its conversation works in; nothing is committed
+pub record StatementStays (s : CoreState) (conversation : ℕ) (k : Call) : Type 0 where
+  pub store : (step_state s conversation k).base.store ≡ s.base.store
+  pub branches : (step_state s conversation k).branches ≡ s.branches
+  pub others : OthersStay (owner_of s.branches conversation) s.base (step_state s conversation k).base
+
+abbrev pub StatementsStay : Type 0
+StatementsStay = (s : CoreState) (conversation : ℕ) (k : Call) (q : Question) → question_of k ≡ Some q → StatementStays s conversation k
+
+-- the statement was answered by what it means, be it a refusal
+abbrev pub is_meant : Answer → Bool
+is_meant (told.refused (refusal.Unfit f)) = false
+is_meant (told.refused refusal.Clashes) = false
+is_meant (told.refused refusal.TooManyClaims) = false
+is_meant _ = true
+
+-- a statement that is refused before it has claimed changes nothing
+abbrev pub RefusalsChangeNothing : Type 0
+RefusalsChangeNothing = (s : CoreState) (conversation : ℕ) (k : Call) (q : Question) → question_of k ≡ Some q → is_meant (answered s conversation k) ≡ false → step_state s conversation k ≡ s
+
+
+-- all claims of the one list are in the other
+abbrev pub AllIn : List Claim → List Claim → Type 0
+AllIn cs ds = (c : Claim) → In c cs → In c ds
+
+-- the unit of an owner claims what it did and what a statement with these parameters claims, and none
+-- of the statement's claims clashes with one of another unit
+pub record Claimed (s : CoreState) (o : Owner) (statement : Statement) (params : List Value) (after : Base) : Type 0 where
+  pub kept : AllIn (unit_of o s.base.units).claims (unit_of o after.units).claims
+  pub new : AllIn (claims_in params statement.command (view s.base.store (unit_of o s.base.units))) (unit_of o after.units).claims
+  pub apart : (p : Owner) → same_owner p o ≡ false → (c d : Claim) → In c (claims_in params statement.command (view s.base.store (unit_of o s.base.units))) → In d (unit_of p s.base.units).claims → clash c d ≡ false
+
+-- where a statement is answered by what it means, its claims are kept, though it be refused
+abbrev pub ClaimsAreKept : Type 0
+ClaimsAreKept =
+    (s : CoreState) (conversation : ℕ) (statement : Statement) (params : List Value)
+    → (is_meant (answered s conversation (call.run statement params)) ≡ true → Claimed s (owner_of s.branches conversation) statement params (step_state s conversation (call.run statement params)).base)
+    × (is_meant (answered s conversation (call.query statement params)) ≡ true → Claimed s (owner_of s.branches conversation) statement params (step_state s conversation (call.query statement params)).base)
+
+-- a refusal makes no change
+abbrev pub RefusalsMakeNoChange : Type 0
+RefusalsMakeNoChange =
+    (s : CoreState) (conversation : ℕ) (k : Call) (q : Question) (r : Refusal) → question_of k ≡ Some q → answered s conversation k ≡ told.refused r
+    → (unit_of (owner_of s.branches conversation) (step_state s conversation k).base.units).changes ≡ (unit_of (owner_of s.branches conversation) s.base.units).changes
+
+-- ---- the ends of units
+
+-- a commit of a conversation that is joined to no branch
+abbrev pub LocalUnitsEnd : Type 0
+LocalUnitsEnd =
+    (s : CoreState) (conversation : ℕ) → joined_xid s.branches conversation ≡ None
+    → Commits (local conversation) s.base (step_state s conversation call.commit).base × RollsBack (local conversation) s.base (step_state s conversation call.roll_back).base
+
+-- inside of a global unit neither does anything
+abbrev pub GlobalUnitsStay : Type 0
+GlobalUnitsStay =
+    (s : CoreState) (conversation : ℕ) (xid : List ℕ) → joined_xid s.branches conversation ≡ Some xid
+    → (step_state s conversation call.commit ≡ s) × (step_state s conversation call.roll_back ≡ s)
+
+-- what each action does to the units
+abbrev pub Does : Action → Owner → Base → Base → Type 0
+Does action.Nothing o b c = c ≡ b
+Does action.Start o b c = c ≡ b
+Does action.Join o b c = c ≡ b
+Does (action.End e) o b c = c ≡ b
+Does action.Prepare o b c = c ≡ b
+Does action.Forget o b c = Commits o b c
+Does action.CommitOnePhase o b c = Commits o b c
+Does (action.Decide decided.Commit) o b c = Commits o b c
+Does (action.Decide decided.RollBack) o b c = RollsBack o b c
+Does action.RollBack o b c = RollsBack o b c
+
+-- an XA call does to the units what is due of its branch: a prepare keeps all claims, reading ones too
+abbrev pub BranchesWork : Type 0
+BranchesWork =
+    (s : CoreState) (conversation : ℕ) (verb : Verb) (xid : List ℕ)
+    → Does (due_in s.branches s.base conversation verb xid).action (global xid) s.base (step_state s conversation (call.xa (Some (request.Branch verb xid)))).base
+
+-- ---- the loss of a conversation
+
+abbrev pub InXids : List ℕ → List (List ℕ) → Type 0
+InXids xid [] = ⊥
+InXids xid (x ∷ xs) = (xid ≡ x) ⊎ InXids xid xs
+
+pub record LosesAll (s : CoreState) (conversation : ℕ) (after : Base) : Type 0 where
+  pub store : after.store ≡ s.base.store
+  -- its local unit has ended
+  pub local_unit : unit_of (local conversation) after.units ≡ idle
+  -- and the unit of each branch that it was the last to start or join, and that is not prepared
+  pub branches : (xid : List ℕ) (state : BranchState) → state_of s.branches xid ≡ Some state → is_last_joined_by conversation state ≡ true → unit_of (global xid) after.units ≡ idle
+  -- the local units of other conversations, and the units of other XIDs, stay
+  pub others : (other : ℕ) → other ≢ conversation → unit_of (local other) after.units ≡ unit_of (local other) s.base.units
+  pub globals : (xid : List ℕ) → (InXids xid (lost_xids s.branches conversation) → ⊥) → unit_of (global xid) after.units ≡ unit_of (global xid) s.base.units
+
+abbrev pub LostLeavesNothing : Type 0
+LostLeavesNothing = (s : CoreState) (conversation : ℕ) → LosesAll s conversation (step_state s conversation call.lost).base
