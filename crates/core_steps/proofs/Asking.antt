@@ -79,10 +79,10 @@ answer_is (describing st d) left v = described_is d st.command (schema_of v (tab
 -- ---- a refusal before claims
 
 module _ (ds : List Claim) (u : Work) (cs : List Claim) (a : Answer) (xs : List Change) where
-  abbrev Fit : Bool → Outcome
+  abbrev pub Fit : Bool → Outcome
   Fit b = if b then TooMany else Done a (kept u cs xs)
 
-  abbrev Free : Bool → Outcome
+  abbrev pub Free : Bool → Outcome
   Free b = if b then Clashes else Fit (is_full (all_added u.claims cs))
 
   nothing : (b : Base) (o : Owner) (e : Option SqlFault) → is_meant a ≡ true → is_meant (answer_in (fit_or e (outcome ds u cs a xs))) ≡ false → happens_asked b o (fit_or e (outcome ds u cs a xs)) ≡ b
@@ -94,6 +94,20 @@ module _ (ds : List Claim) (u : Work) (cs : List Claim) (a : Answer) (xs : List 
           (λ so. ap (λ t. happens_asked b o (Free t)) n ∙ ap (λ t. happens_asked b o (Fit t)) so)
           (λ m. both (is_meant a) good (sym (ap (λ t. is_meant (answer_in (Fit t))) m) ∙ sym (ap (λ t. is_meant (answer_in (Free t))) n) ∙ h))
           (which (is_full (all_added u.claims cs))))
+        (which (clashes cs ds))
+
+  -- what holds before holds behind, whatever the outcome
+  pub through : (P : Base → Type 0) (b : Base) (o : Owner) (e : Option SqlFault) → P b
+      → (clashes cs ds ≡ false → is_full (all_added u.claims cs) ≡ false → P (happens_asked b o (Done a (kept u cs xs))))
+      → P (happens_asked b o (fit_or e (outcome ds u cs a xs)))
+  through P b o (Some f) before done = before
+  through P b o None before done =
+      ⊎_elim
+        (λ so. subst (λ t. P (happens_asked b o (Free t))) (sym so) before)
+        (λ n. subst (λ t. P (happens_asked b o (Free t))) (sym n) (⊎_elim
+          (λ so. subst (λ t. P (happens_asked b o (Fit t))) (sym so) before)
+          (λ m. subst (λ t. P (happens_asked b o (Fit t))) (sym m) (done n m))
+          (which (is_full (all_added u.claims cs)))))
         (which (clashes cs ds))
 
   -- and where it is answered by what it means

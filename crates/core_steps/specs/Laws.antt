@@ -2,29 +2,34 @@
 use Rattle.std.specs.Prelude.{◌≡◌, ◌≢◌, ◌⊎◌, ℕ, Bool, true, false, List, [], ◌∷◌, Option, Some, None}
 use Rattle.sql_text.specs.declared.tree.Statement.{Statement}
 use Rattle.row_values.specs.Value.{Value}
+use Rattle.drda_words.specs.Order.{IsRising}
+use Rattle.tables.specs.Change.{Change}
 use Rattle.tables.specs.Tables.{Store}
+use Rattle.tables.specs.View.{is_store}
 use Rattle.unit_locks.specs.Claim.{Claim}
-use Rattle.unit_locks.specs.Claims.{In}
+use Rattle.unit_locks.specs.Claims.{AreDistinct, In}
 use Rattle.unit_locks.specs.Clash.{clash}
 use Rattle.xa_calls.specs.declared.request.Verb.{Verb}
 use Rattle.xa_calls.specs.declared.request.Request.TheVariants as request
+use Rattle.xa_manager.specs.declared.branch.Branch.{Branch}
 use Rattle.xa_manager.specs.declared.branch.BranchState.{BranchState}
+use Rattle.xa_manager.specs.declared.branch.BranchState.TheVariants.{Prepared}
 use Rattle.xa_manager.specs.declared.due.Action.{Action}
 use Rattle.xa_manager.specs.declared.due.Action.TheVariants as action
 use Rattle.xa_manager.specs.declared.due.Outcome.TheVariants as decided
 use Rattle.xa_manager.specs.Branch.{is_last_joined_by, joined_xid, state_of}
 use Rattle.core_calls.specs.declared.refusal.Refusal.{Refusal}
 use Rattle.core_calls.specs.declared.refusal.Refusal.TheVariants as refusal
-use Rattle.core_calls.specs.declared.sql_fault.SqlFault.{SqlFault}
 use Rattle.core_calls.specs.Call as call
 use Rattle.core_calls.specs.Call.{Call}
 use Rattle.core_calls.specs.Answer as told
 use Rattle.core_calls.specs.Answer.{Answer}
-use Rattle.sql_meaning.specs.Frame.{claims_in}
-use Rattle.core_steps.specs.Units.{Held, Owner, global, idle, local, same_owner, unit_of, view}
+use Rattle.sql_meaning.specs.Frame as frame
+use Rattle.sql_meaning.specs.Frame.{Within, claims_in}
+use Rattle.core_steps.specs.Units.{Owner, Work, global, idle, is_full, local, same_owner, unit_of, view}
 use Rattle.core_steps.specs.Asked.{Question, describing, querying, running}
-use Rattle.core_steps.specs.Events.{Base}
-use Rattle.core_steps.specs.Step.{CoreState, answer, due_in, lost_xids, owner_of, step_state}
+use Rattle.core_steps.specs.Events.{Ask, Base, Commit, Event, Leave}
+use Rattle.core_steps.specs.Step.{CoreState, answer, due_in, events, lost_xids, next, owner_of, step_state}
 
 -- the answer to a call, and the state behind it
 abbrev pub answered : CoreState → ℕ → Call → Answer
@@ -156,3 +161,59 @@ pub record LosesAll (s : CoreState) (conversation : ℕ) (after : Base) : Type 0
 
 abbrev pub LostLeavesNothing : Type 0
 LostLeavesNothing = (s : CoreState) (conversation : ℕ) → LosesAll s conversation (step_state s conversation call.lost).base
+
+-- ---- what every step keeps
+
+-- each change of a unit lies in a write claim of it; a creation in one of all tables' names too
+abbrev pub LiesIn : Store → Work → Type 0
+LiesIn s u = (x : Change) → frame.In x u.changes → Within s x u.claims
+
+abbrev pub AllLie : Base → Type 0
+AllLie b = (o : Owner) → LiesIn b.store (unit_of o b.units)
+
+-- where the unit that the conversation works in sees a store
+abbrev pub ChangesLie : Type 0
+ChangesLie = (s : CoreState) (conversation : ℕ) (k : Call) → is_store (view s.base.store (unit_of (owner_of s.branches conversation) s.base.units)) ≡ true → AllLie s.base → AllLie (step_state s conversation k).base
+
+-- no claims of two units clash, but those of two that are found
+abbrev pub AreApart : (Owner → Bool) → Base → Type 0
+AreApart found b = (o p : Owner) → same_owner p o ≡ false → found o ≡ false → (c d : Claim) → In c (unit_of o b.units).claims → In d (unit_of p b.units).claims → clash c d ≡ false
+
+-- the units that an opening found in doubt may clash, and nothing is asked of them
+abbrev pub UnitsStayApart : Type 0
+UnitsStayApart =
+    (found : Owner → Bool) (s : CoreState) (conversation : ℕ) (k : Call) → found (owner_of s.branches conversation) ≡ false → AreApart found s.base → AreApart found (step_state s conversation k).base
+
+-- each unit's claims are at most 65,535, and none stands there twice
+abbrev pub AreFew : Base → Type 0
+AreFew b = (o : Owner) → (is_full (unit_of o b.units).claims ≡ false) × AreDistinct (unit_of o b.units).claims
+
+abbrev pub ClaimsStayFew : Type 0
+ClaimsStayFew = (s : CoreState) (conversation : ℕ) (k : Call) → AreFew s.base → AreFew (step_state s conversation k).base
+
+-- ---- units in doubt
+
+-- nothing is asked of the units of these XIDs
+abbrev pub AsksNone : (List ℕ → Type 0) → List Event → Type 0
+AsksNone closed [] = Unit {0}
+AsksNone closed (Ask o q ∷ es) = ((xid : List ℕ) → closed xid → o ≡ global xid → ⊥) × AsksNone closed es
+AsksNone closed (Commit o ∷ es) = AsksNone closed es
+AsksNone closed (Leave o ∷ es) = AsksNone closed es
+
+-- some event ends the owner's unit
+abbrev pub Ends : Owner → List Event → Type 0
+Ends o [] = ⊥
+Ends o (Ask p q ∷ es) = Ends o es
+Ends o (Commit p ∷ es) = (o ≡ p) ⊎ Ends o es
+Ends o (Leave p ∷ es) = (o ≡ p) ⊎ Ends o es
+
+abbrev pub IsPrepared : List Branch → List ℕ → Type 0
+IsPrepared branches xid = state_of branches xid ≡ Some Prepared
+
+-- no call asks anything of a unit in doubt, and where its branch is no longer prepared, the unit ends
+pub record InDoubtWaits (branches : List Branch) (b : Base) (conversation : ℕ) (k : Call) : Type 0 where
+  pub asks : IsRising (λ r. r.xid) branches → AsksNone (IsPrepared branches) (events branches b conversation k)
+  pub stays : (xid : List ℕ) → IsPrepared branches xid → IsPrepared (next branches b conversation k) xid ⊎ Ends (global xid) (events branches b conversation k)
+
+abbrev pub InDoubtWait : Type 0
+InDoubtWait = (branches : List Branch) (b : Base) (conversation : ℕ) (k : Call) → InDoubtWaits branches b conversation k

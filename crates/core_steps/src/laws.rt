@@ -1,8 +1,11 @@
 //! Laws of the definitions. The functions do nothing: their contracts are the laws.
 
-ghost use Rattle.core_steps.specs.Laws.{BranchesWork, ClaimsAreKept, GlobalUnitsStay, LocalUnitsEnd, LostLeavesNothing, RefusalsChangeNothing, RefusalsMakeNoChange, StatementsStay};
+ghost use Rattle.core_steps.specs.Laws.{BranchesWork, ChangesLie, ClaimsAreKept, ClaimsStayFew, GlobalUnitsStay, InDoubtWait, LocalUnitsEnd, LostLeavesNothing, RefusalsChangeNothing, RefusalsMakeNoChange, StatementsStay, UnitsStayApart};
 
-use unit_locks::adding;
+use sql_meaning::laws::statements_are_framed;
+use tables::laws::changes_are_local;
+use unit_locks::{adding, clash_is_symmetric};
+use xa_manager::{prepared_until_decided, works_while_active};
 
 /// A statement changes at most the unit that its conversation works in.
 pub fn statements_work_in_one_unit()
@@ -38,3 +41,32 @@ pub fn branches_work()
 pub fn lost_leaves_nothing()
     ensures { LostLeavesNothing }
 {}
+
+/// Each change of a unit lies in a write claim of the unit, and every step keeps this where the unit
+/// that asks sees a store: over the store as it is committed, whatever was committed since.
+pub fn changes_lie()
+    ensures { ChangesLie }
+{
+    adding();
+    changes_are_local();
+    statements_are_framed();
+}
+
+/// No claims of two units clash, and every step keeps this; units that were found in doubt may clash
+/// with one another. A unit has at most 65,535 claims, and none twice.
+pub fn claims_stay_apart()
+    ensures apart { UnitsStayApart }
+    ensures few { ClaimsStayFew }
+{
+    adding();
+    clash_is_symmetric();
+}
+
+/// No call asks anything of a unit in doubt; where its branch is no longer prepared, the unit has
+/// ended.
+pub fn units_in_doubt_wait()
+    ensures { InDoubtWait }
+{
+    works_while_active();
+    prepared_until_decided();
+}
