@@ -4,5 +4,7 @@ pub mod Asking
 pub mod Losing
 pub mod Keeping
 pub mod Lying
+pub mod Sounding
 pub mod Standing
 pub mod Deciding
+pub mod Histories

@@ -1,5 +1,6 @@
 -- The claims of units: that they stay apart, few and distinct.
-use Rattle.std.proofs.Common.{◌≡◌, ◌⊎◌, inl, inr, ⊎_elim, ℕ, Bool, true, false, List, [], ◌∷◌, refl, sym, ◌∙◌, ap, subst}
+use Rattle.std.proofs.Common.{◌≡◌, ◌≤◌, ◌⊎◌, inl, inr, ⊎_elim, ℕ, Bool, true, false, List, [], ◌∷◌, length, refl, sym, ◌∙◌, ap, subst}
+use Rattle.std.proofs.lemmas.Bool.{ltb-false}
 use Rattle.unit_locks.specs.Claim.{Claim}
 use Rattle.unit_locks.specs.Claims.{AddsClaims, AreDistinct, In, all_added}
 use Rattle.unit_locks.specs.Clash.{IsSymmetric, clash}
@@ -86,12 +87,12 @@ module _ (adds : AddsClaims) (symmetric : IsSymmetric clash) where
 -- ---- few and distinct
 
 abbrev IsFew : List Claim → Type 0
-IsFew cs = (is_full cs ≡ false) × AreDistinct cs
+IsFew cs = (length cs ≤ 65535) × AreDistinct cs
 
 out_few : (b : Base) (o : Owner) → AreFew b → (p : Owner) → IsFew (unit_of p (without o b.units)).claims
 out_few b o few p =
     ⊎_elim
-      (λ so. subst IsFew (sym (out_here b o p so)) (refl, tt))
+      (λ so. subst IsFew (sym (out_here b o p so)) (ltb-false 65535 0 refl, tt))
       (λ n. subst IsFew (sym (ap (λ (u : Work). u.claims) (unit_of_without p o b.units n))) (few p))
       (which (same_owner p o))
 
@@ -102,7 +103,7 @@ module _ (adds : AddsClaims) where
       let cs = claims_of q v in let a = answer_to q (left_of u) v in let xs = changes_by q (left_of u) v in
       through (others o b.units) u cs a xs AreFew b o (unfit q) few
         (λ n m p. ⊎_elim
-          (λ so. subst IsFew (sym (set_here b o p a (kept u cs xs) so)) (m, adds.once u.claims cs (few o).1))
+          (λ so. subst IsFew (sym (set_here b o p a (kept u cs xs) so)) (ltb-false 65535 (length (all_added u.claims cs)) m, adds.once u.claims cs (few o).1))
           (λ ne. subst IsFew (sym (set_there b o p a (kept u cs xs) ne)) (few p))
           (which (same_owner p o)))
 

@@ -1,11 +1,11 @@
 -- What holds of each step.
-use Rattle.std.specs.Prelude.{◌≡◌, ◌≢◌, ◌⊎◌, ℕ, Bool, true, false, List, [], ◌∷◌, Option, Some, None}
+use Rattle.std.specs.Prelude.{◌≡◌, ◌≢◌, ◌⊎◌, ◌≤◌, ℕ, Bool, true, false, List, [], ◌∷◌, length, Option, Some, None}
 use Rattle.sql_text.specs.declared.tree.Statement.{Statement}
 use Rattle.row_values.specs.Value.{Value}
 use Rattle.drda_words.specs.Order.{IsRising}
 use Rattle.tables.specs.Change.{Change}
 use Rattle.tables.specs.Tables.{Store}
-use Rattle.tables.specs.View.{is_store}
+use Rattle.tables.specs.View.{is_sound, is_store}
 use Rattle.unit_locks.specs.Claim.{Claim}
 use Rattle.unit_locks.specs.Claims.{AreDistinct, In}
 use Rattle.unit_locks.specs.Clash.{clash}
@@ -26,10 +26,10 @@ use Rattle.core_calls.specs.Answer as told
 use Rattle.core_calls.specs.Answer.{Answer}
 use Rattle.sql_meaning.specs.Frame as frame
 use Rattle.sql_meaning.specs.Frame.{Within, claims_in}
-use Rattle.core_steps.specs.Units.{Owner, Work, global, idle, is_full, local, same_owner, unit_of, view}
+use Rattle.core_steps.specs.Units.{Owner, Work, global, idle, local, same_owner, unit_of, view}
 use Rattle.core_steps.specs.Asked.{Question, describing, querying, running}
 use Rattle.core_steps.specs.Events.{Ask, Base, Commit, Event, Leave}
-use Rattle.core_steps.specs.Step.{CoreState, answer, due_in, events, lost_xids, next, owner_of, step_state}
+use Rattle.core_steps.specs.Step.{CoreState, Listed, answer, due_in, events, lost_xids, next, owner_of, replay, step_state}
 
 -- the answer to a call, and the state behind it
 abbrev pub answered : CoreState → ℕ → Call → Answer
@@ -186,10 +186,34 @@ UnitsStayApart =
 
 -- each unit's claims are at most 65,535, and none stands there twice
 abbrev pub AreFew : Base → Type 0
-AreFew b = (o : Owner) → (is_full (unit_of o b.units).claims ≡ false) × AreDistinct (unit_of o b.units).claims
+AreFew b = (o : Owner) → (length (unit_of o b.units).claims ≤ 65535) × AreDistinct (unit_of o b.units).claims
 
 abbrev pub ClaimsStayFew : Type 0
 ClaimsStayFew = (s : CoreState) (conversation : ℕ) (k : Call) → AreFew s.base → AreFew (step_state s conversation k).base
+
+-- the committed store is one, and what a unit creates has a name and a schema
+abbrev pub AreSound : Base → Type 0
+AreSound b = (is_store b.store ≡ true) × ((o : Owner) (x : Change) → frame.In x (unit_of o b.units).changes → is_sound x ≡ true)
+
+-- so what each unit sees is a store too
+abbrev pub UnitsSeeStores : Type 0
+UnitsSeeStores = (b : Base) → AreSound b → (o : Owner) → is_store (view b.store (unit_of o b.units)) ≡ true
+
+abbrev pub StoresStay : Type 0
+StoresStay = (s : CoreState) (conversation : ℕ) (k : Call) → AreSound s.base → AreSound (step_state s conversation k).base
+
+-- what holds of a core at every point of a history
+pub record IsSane (b : Base) : Type 0 where
+  pub sound : AreSound b
+  pub lie : AllLie b
+  pub few : AreFew b
+
+-- whatever is called and by whom, and whichever steps were taken
+abbrev pub HistoriesAreSane : Type 0
+HistoriesAreSane = (history : List Listed) (s : CoreState) → IsSane s.base → IsSane (replay history s).base
+
+abbrev pub NewCoresAreSane : Type 0
+NewCoresAreSane = IsSane (record { store = []; units = [] })
 
 -- ---- units in doubt
 

@@ -1,6 +1,6 @@
 //! Laws of the definitions. The functions do nothing: their contracts are the laws.
 
-ghost use Rattle.core_steps.specs.Laws.{BranchesWork, ChangesLie, ClaimsAreKept, ClaimsStayFew, GlobalUnitsStay, InDoubtWait, LocalUnitsEnd, LostLeavesNothing, RefusalsChangeNothing, RefusalsMakeNoChange, StatementsStay, UnitsStayApart};
+ghost use Rattle.core_steps.specs.Laws.{BranchesWork, ChangesLie, ClaimsAreKept, ClaimsStayFew, GlobalUnitsStay, HistoriesAreSane, InDoubtWait, LocalUnitsEnd, LostLeavesNothing, NewCoresAreSane, RefusalsChangeNothing, RefusalsMakeNoChange, StatementsStay, StoresStay, UnitsSeeStores, UnitsStayApart};
 
 use sql_meaning::laws::statements_are_framed;
 use tables::laws::changes_are_local;
@@ -69,4 +69,24 @@ pub fn units_in_doubt_wait()
 {
     works_while_active();
     prepared_until_decided();
+}
+
+/// The committed store is a store, and so is what each unit sees of it; every step keeps this.
+pub fn stores_stay()
+    ensures stay { StoresStay }
+    ensures seen { UnitsSeeStores }
+{
+    changes_are_local();
+}
+
+/// At every point of every history, from an opening where it is so: the committed store is a store,
+/// each change of a unit lies in a write claim of it, and no unit has more than 65,535 claims, nor one
+/// twice. It is so of a new core.
+pub fn histories_are_sane()
+    ensures histories { HistoriesAreSane }
+    ensures new { NewCoresAreSane }
+{
+    adding();
+    changes_are_local();
+    statements_are_framed();
 }
