@@ -1,6 +1,6 @@
 -- What becomes of a unit that asks.
 use Rattle.std.proofs.Common.{◌≡◌, ◌⊎◌, inl, inr, ⊎_elim, ℕ, Bool, true, false, List, [], ◌∷◌, ◌++◌, Option, Some, None, refl, sym, ◌∙◌, ap, subst}
-use Rattle.std.specs.Prelude.{if◌then◌else◌, ◌||◌, Ok, Err}
+use Rattle.std.specs.Prelude.{if◌then◌else◌, ◌||◌, Ok, Err, option_map, unwrap_or}
 use Rattle.std.specs.List.{list_any}
 use Rattle.sql_text.specs.declared.tree.Statement.{Statement}
 use Rattle.sql_text.specs.declared.tree.Command.{Command}
@@ -9,28 +9,31 @@ use Rattle.row_values.specs.Column.{Column}
 use Rattle.row_values.specs.Schema.{Schema}
 use Rattle.tables.specs.Change.{Change}
 use Rattle.tables.specs.Tables.{Store, schema_of}
+use Rattle.tables.specs.View.{is_store}
 use Rattle.unit_locks.specs.Claim.{Claim}
 use Rattle.unit_locks.specs.Claims.{AddsClaims, In, all_added}
 use Rattle.unit_locks.specs.Clash.{clash}
 use Rattle.core_calls.specs.declared.call.Side.{Side}
 use Rattle.core_calls.specs.declared.call.Side.TheVariants as side
 use Rattle.core_calls.specs.declared.refusal.Refusal.{Refusal}
+use Rattle.core_calls.specs.declared.refusal.Refusal.TheVariants as refusal
 use Rattle.core_calls.specs.declared.sql_fault.SqlFault.{SqlFault}
+use Rattle.core_calls.specs.declared.sql_fault.SqlFault.TheVariants as fault
 use Rattle.core_calls.specs.Call as call
 use Rattle.core_calls.specs.Call.{Call}
 use Rattle.core_calls.specs.Answer as told
 use Rattle.core_calls.specs.Answer.{Answer}
 use Rattle.sql_meaning.specs.Checked.{Checked, and_then}
 use Rattle.sql_meaning.specs.Meaning.{Answer as Meant, Changes, Refused, Rows}
-use Rattle.sql_meaning.specs.Frame.{changes_of, claims_in, covered_answer}
+use Rattle.sql_meaning.specs.Frame.{CoveredIsEnough, changes_of, claims_in, covered_answer}
 use Rattle.sql_meaning.specs.Scope.{table_name}
 use Rattle.core_steps.specs.Describe.{described, described_columns, side_of}
-use Rattle.core_steps.specs.Units.{Held, Owner, Work, clashes, is_full, left_of, others, same_owner, unit_of, view}
+use Rattle.core_steps.specs.Units.{Held, Owner, Work, clashes, global, is_full, left_of, local, others, same_owner, unit_of, view}
 use Rattle.core_steps.specs.Asked as asking
-use Rattle.core_steps.specs.Asked.{Clashes, Done, Outcome, Question, TooMany, Unfit, answer_in, answer_to, asked, changes_by, claims_of, describing, fit_or, kept, meant, outcome, querying, running, unfit}
+use Rattle.core_steps.specs.Asked.{Clashes, Done, Outcome, Question, TooMany, Unfit, answer_in, answer_to, asked, changes_by, claims_of, describing, fit_or, is_select, kept, meant, number_fault, outcome, querying, running, unfit}
 use Rattle.core_steps.specs.Events.{Base, asked_of, happens_asked}
 use Rattle.core_steps.specs.Step.{CoreState, owner_of, step_state}
-use Rattle.core_steps.specs.Laws.{Claimed, ClaimsAreKept, RefusalsChangeNothing, RefusalsMakeNoChange, StatementsStay, answered, is_meant, question_of}
+use Rattle.core_steps.specs.Laws.{AnswersAreMeanings, Claimed, ClaimsAreKept, Means, RefusalsChangeNothing, RefusalsMakeNoChange, StatementsStay, UnfitIsRefused, WorkIsWhereJoined, answered, is_meant, question_of}
 use Rattle.core_steps.proofs.Owners.{both, others_has, unit_of_set, which}
 use Rattle.core_steps.proofs.Happening.{others_stay, store_stays}
 
@@ -238,3 +241,50 @@ module _ (adds : AddsClaims) where
   claims_are_kept s c st params =
       let o = owner_of s.branches c in
       (λ h. claimed s o (running st params) st params refl h, λ h. claimed s o (querying st params) st params refl h)
+
+  -- ---- the answer
+
+  module _ (enough : CoveredIsEnough) where
+    means : (s : CoreState) (o : Owner) (q : Question) (st : Statement) (params : List Value) → is_store (view s.base.store (unit_of o s.base.units)) ≡ true
+        → ((left : ℕ) (v : Store) → answer_to q left v ≡ meant (covered_answer params left st.command v)) → ((left : ℕ) (v : Store) → changes_by q left v ≡ changes_of (covered_answer params left st.command v))
+        → is_meant (answer_in (asked_of s.base o q)) ≡ true → Means s o st params (answer_in (asked_of s.base o q)) (happens_asked s.base o (asked_of s.base o q))
+    means s o q st params good same changed h =
+        let u = unit_of o s.base.units in let v = view s.base.store u in
+        let whole = enough params (left_of u) st.command v good in
+        let is = (asked_done s.base o q h).0 in
+        let w = kept u (claims_of q v) (changes_by q (left_of u) v) in
+        record {
+          answer = ap answer_in is ∙ same (left_of u) v ∙ ap meant (sym whole);
+          changes = ap (λ x. (unit_of o (happens_asked s.base o x).units).changes) is ∙ ap (λ (x : Work). x.changes) (unit_of_set o w s.base.units)
+              ∙ ap (λ xs. u.changes ++ xs) (changed (left_of u) v ∙ ap changes_of (sym whole));
+        }
+
+    pub answers_are_meanings : AnswersAreMeanings
+    answers_are_meanings s c st params good =
+        let o = owner_of s.branches c in
+        (λ h. means s o (running st params) st params good (λ left v. refl) (λ left v. refl) h, λ h. means s o (querying st params) st params good (λ left v. refl) (λ left v. refl) h)
+
+-- ---- who works where, and what is unfit
+
+pub work_is_where_joined : WorkIsWhereJoined
+work_is_where_joined branches c =
+    let at : Option (List ℕ) → Owner = λ j. unwrap_or (option_map (λ x. global x) j) (local c) in
+    record { alone = λ e. ap at e; joined = λ xid e. ap at e }
+
+unfit_answer : (b : Base) (o : Owner) (q : Question) (f : SqlFault) → unfit q ≡ Some f → answer_in (asked_of b o q) ≡ told.refused (refusal.Unfit f)
+unfit_answer b o q f is =
+    let u = unit_of o b.units in let v = view b.store u in
+    ap (λ e. answer_in (fit_or e (outcome (others o b.units) u (claims_of q v) (answer_to q (left_of u) v) (changes_by q (left_of u) v)))) is
+
+pub unfit_is_refused : UnfitIsRefused
+unfit_is_refused s c st params =
+    let o = owner_of s.branches c in
+    let run_by : Bool → Option SqlFault = λ b. if b then Some fault.NotPrepared else number_fault st params in
+    let query_by : Bool → Option SqlFault = λ b. if b then number_fault st params else Some fault.NotPrepared in
+    let number_by : Bool → Option SqlFault = λ b. if b then None else Some fault.ParameterMismatch in
+    (
+      λ e. unfit_answer s.base o (running st params) fault.NotPrepared (ap run_by e),
+      λ e. unfit_answer s.base o (querying st params) fault.NotPrepared (ap query_by e),
+      λ e. ⊎_elim (λ so. inr so) (λ n. inl (unfit_answer s.base o (running st params) fault.ParameterMismatch (ap run_by n ∙ ap number_by e))) (which (is_select st.command)),
+      λ e. ⊎_elim (λ so. inl (unfit_answer s.base o (querying st params) fault.ParameterMismatch (ap query_by so ∙ ap number_by e))) (λ n. inr n) (which (is_select st.command)),
+    )

@@ -1,5 +1,5 @@
 -- What holds of each step.
-use Rattle.std.specs.Prelude.{◌≡◌, ◌≢◌, ◌⊎◌, ◌≤◌, ℕ, Bool, true, false, List, [], ◌∷◌, length, Option, Some, None}
+use Rattle.std.specs.Prelude.{◌≡◌, ◌≢◌, ◌⊎◌, ◌≤◌, ℕ, Bool, true, false, List, [], ◌∷◌, ◌++◌, ◌==◌, length, Option, Some, None}
 use Rattle.sql_text.specs.declared.tree.Statement.{Statement}
 use Rattle.row_values.specs.Value.{Value}
 use Rattle.drda_words.specs.Order.{IsRising}
@@ -20,14 +20,16 @@ use Rattle.xa_manager.specs.declared.due.Outcome.TheVariants as decided
 use Rattle.xa_manager.specs.Branch.{is_last_joined_by, joined_xid, state_of}
 use Rattle.core_calls.specs.declared.refusal.Refusal.{Refusal}
 use Rattle.core_calls.specs.declared.refusal.Refusal.TheVariants as refusal
+use Rattle.core_calls.specs.declared.sql_fault.SqlFault.TheVariants as fault
 use Rattle.core_calls.specs.Call as call
 use Rattle.core_calls.specs.Call.{Call}
 use Rattle.core_calls.specs.Answer as told
 use Rattle.core_calls.specs.Answer.{Answer}
 use Rattle.sql_meaning.specs.Frame as frame
-use Rattle.sql_meaning.specs.Frame.{Within, claims_in}
-use Rattle.core_steps.specs.Units.{Owner, Work, global, idle, local, same_owner, unit_of, view}
-use Rattle.core_steps.specs.Asked.{Question, describing, querying, running}
+use Rattle.sql_meaning.specs.Frame.{Within, changes_of, claims_in}
+use Rattle.sql_meaning.specs.Meaning.{meaning}
+use Rattle.core_steps.specs.Units.{Owner, Work, global, idle, left_of, local, same_owner, unit_of, view}
+use Rattle.core_steps.specs.Asked.{Question, describing, is_select, meant, querying, running}
 use Rattle.core_steps.specs.Events.{Ask, Base, Commit, Event, Leave}
 use Rattle.core_steps.specs.Step.{CoreState, Listed, answer, due_in, events, lost_xids, next, owner_of, replay, step_state}
 
@@ -103,6 +105,37 @@ ClaimsAreKept =
     (s : CoreState) (conversation : ℕ) (statement : Statement) (params : List Value)
     → (is_meant (answered s conversation (call.run statement params)) ≡ true → Claimed s (owner_of s.branches conversation) statement params (step_state s conversation (call.run statement params)).base)
     × (is_meant (answered s conversation (call.query statement params)) ≡ true → Claimed s (owner_of s.branches conversation) statement params (step_state s conversation (call.query statement params)).base)
+
+-- the answer is what the statement means over all that its unit sees, and what that changes is added
+-- at the unit's end
+pub record Means (s : CoreState) (o : Owner) (statement : Statement) (params : List Value) (told : Answer) (after : Base) : Type 0 where
+  pub answer : told ≡ meant (meaning params (left_of (unit_of o s.base.units)) statement.command (view s.base.store (unit_of o s.base.units)))
+  pub changes : (unit_of o after.units).changes ≡ (unit_of o s.base.units).changes ++ changes_of (meaning params (left_of (unit_of o s.base.units)) statement.command (view s.base.store (unit_of o s.base.units)))
+
+abbrev pub AnswersAreMeanings : Type 0
+AnswersAreMeanings =
+    (s : CoreState) (conversation : ℕ) (statement : Statement) (params : List Value) → is_store (view s.base.store (unit_of (owner_of s.branches conversation) s.base.units)) ≡ true
+    → (is_meant (answered s conversation (call.run statement params)) ≡ true
+      → Means s (owner_of s.branches conversation) statement params (answered s conversation (call.run statement params)) (step_state s conversation (call.run statement params)).base)
+    × (is_meant (answered s conversation (call.query statement params)) ≡ true
+      → Means s (owner_of s.branches conversation) statement params (answered s conversation (call.query statement params)) (step_state s conversation (call.query statement params)).base)
+
+-- a conversation works in its local unit, or in that of the XID that it is joined to
+pub record WorksIn (branches : List Branch) (conversation : ℕ) : Type 0 where
+  pub alone : joined_xid branches conversation ≡ None → owner_of branches conversation ≡ local conversation
+  pub joined : (xid : List ℕ) → joined_xid branches conversation ≡ Some xid → owner_of branches conversation ≡ global xid
+
+abbrev pub WorkIsWhereJoined : Type 0
+WorkIsWhereJoined = (branches : List Branch) (conversation : ℕ) → WorksIn branches conversation
+
+-- of the wrong kind, a statement is not prepared; else it wants as many values as it has markers
+abbrev pub UnfitIsRefused : Type 0
+UnfitIsRefused =
+    (s : CoreState) (conversation : ℕ) (statement : Statement) (params : List Value)
+    → (is_select statement.command ≡ true → answered s conversation (call.run statement params) ≡ told.refused (refusal.Unfit fault.NotPrepared))
+    × (is_select statement.command ≡ false → answered s conversation (call.query statement params) ≡ told.refused (refusal.Unfit fault.NotPrepared))
+    × ((statement.markers == length params) ≡ false → (answered s conversation (call.run statement params) ≡ told.refused (refusal.Unfit fault.ParameterMismatch)) ⊎ (is_select statement.command ≡ true))
+    × ((statement.markers == length params) ≡ false → (answered s conversation (call.query statement params) ≡ told.refused (refusal.Unfit fault.ParameterMismatch)) ⊎ (is_select statement.command ≡ false))
 
 -- a refusal makes no change
 abbrev pub RefusalsMakeNoChange : Type 0

@@ -1,6 +1,6 @@
 //! Laws of the definitions. The functions do nothing: their contracts are the laws.
 
-ghost use Rattle.core_steps.specs.Laws.{BranchesWork, ChangesLie, ClaimsAreKept, ClaimsStayFew, GlobalUnitsStay, HistoriesAreSane, InDoubtWait, LocalUnitsEnd, LostLeavesNothing, NewCoresAreSane, RefusalsChangeNothing, RefusalsMakeNoChange, StatementsStay, StoresStay, UnitsSeeStores, UnitsStayApart};
+ghost use Rattle.core_steps.specs.Laws.{AnswersAreMeanings, BranchesWork, ChangesLie, ClaimsAreKept, ClaimsStayFew, GlobalUnitsStay, HistoriesAreSane, InDoubtWait, LocalUnitsEnd, LostLeavesNothing, NewCoresAreSane, RefusalsChangeNothing, RefusalsMakeNoChange, StatementsStay, StoresStay, UnfitIsRefused, UnitsSeeStores, UnitsStayApart, WorkIsWhereJoined};
 
 use sql_meaning::laws::statements_are_framed;
 use tables::laws::changes_are_local;
@@ -14,7 +14,20 @@ pub fn statements_work_in_one_unit()
     ensures refused { RefusalsChangeNothing }
     // one that is refused makes no change
     ensures unchanged { RefusalsMakeNoChange }
+    // the unit is that of the XID that the conversation is joined to, else its local one
+    ensures joined { WorkIsWhereJoined }
+    // what is unfit is refused before anything else
+    ensures unfit { UnfitIsRefused }
 {}
+
+/// A statement is answered by what it means over all rows that its unit sees, and its changes are added
+/// at the unit's end.
+pub fn answers_are_meanings()
+    ensures { AnswersAreMeanings }
+{
+    adding();
+    statements_are_framed();
+}
 
 /// A statement that is answered by what it means has claimed, also where that is a refusal; and none
 /// of its claims clashes with one of another unit.
