@@ -3,6 +3,7 @@ pub mod Happening
 pub mod Asking
 pub mod Losing
 pub mod Keeping
+pub mod Listing
 pub mod Lying
 pub mod Sounding
 pub mod Standing

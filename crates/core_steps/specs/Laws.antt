@@ -28,7 +28,7 @@ use Rattle.core_calls.specs.Answer.{Answer}
 use Rattle.sql_meaning.specs.Frame as frame
 use Rattle.sql_meaning.specs.Frame.{Within, changes_of, claims_in}
 use Rattle.sql_meaning.specs.Meaning.{meaning}
-use Rattle.core_steps.specs.Units.{Owner, Work, global, idle, left_of, local, same_owner, unit_of, view}
+use Rattle.core_steps.specs.Units.{Held, Owner, Work, comes_before, global, has_work, idle, left_of, local, same_owner, unit_of, view}
 use Rattle.core_steps.specs.Asked.{Question, describing, is_select, meant, querying, running}
 use Rattle.core_steps.specs.Events.{Ask, Base, Commit, Event, Leave}
 use Rattle.core_steps.specs.Step.{CoreState, Listed, answer, due_in, events, lost_xids, next, owner_of, replay, step_state}
@@ -235,8 +235,21 @@ UnitsSeeStores = (b : Base) → AreSound b → (o : Owner) → is_store (view b.
 abbrev pub StoresStay : Type 0
 StoresStay = (s : CoreState) (conversation : ℕ) (k : Call) → AreSound s.base → AreSound (step_state s conversation k).base
 
+-- each unit that is listed has work, and they stand in the order of their owners, each once
+abbrev pub ComesFirst : Owner → List Held → Type 0
+ComesFirst o [] = Unit {0}
+ComesFirst o (h ∷ hs) = (comes_before o h.owner ≡ true) × ComesFirst o hs
+
+abbrev pub AreListed : List Held → Type 0
+AreListed [] = Unit {0}
+AreListed (h ∷ hs) = (has_work h.work ≡ true) × ComesFirst h.owner hs × AreListed hs
+
+abbrev pub UnitsStayListed : Type 0
+UnitsStayListed = (s : CoreState) (conversation : ℕ) (k : Call) → AreListed s.base.units → AreListed (step_state s conversation k).base.units
+
 -- what holds of a core at every point of a history
 pub record IsSane (b : Base) : Type 0 where
+  pub listed : AreListed b.units
   pub sound : AreSound b
   pub lie : AllLie b
   pub few : AreFew b

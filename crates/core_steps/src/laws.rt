@@ -1,6 +1,6 @@
 //! Laws of the definitions. The functions do nothing: their contracts are the laws.
 
-ghost use Rattle.core_steps.specs.Laws.{AnswersAreMeanings, BranchesWork, ChangesLie, ClaimsAreKept, ClaimsStayFew, GlobalUnitsStay, HistoriesAreSane, InDoubtWait, LocalUnitsEnd, LostLeavesNothing, NewCoresAreSane, RefusalsChangeNothing, RefusalsMakeNoChange, StatementsStay, StoresStay, UnfitIsRefused, UnitsSeeStores, UnitsStayApart, WorkIsWhereJoined};
+ghost use Rattle.core_steps.specs.Laws.{AnswersAreMeanings, BranchesWork, ChangesLie, ClaimsAreKept, ClaimsStayFew, GlobalUnitsStay, HistoriesAreSane, InDoubtWait, LocalUnitsEnd, LostLeavesNothing, NewCoresAreSane, RefusalsChangeNothing, RefusalsMakeNoChange, StatementsStay, StoresStay, UnfitIsRefused, UnitsSeeStores, UnitsStayApart, UnitsStayListed, WorkIsWhereJoined};
 
 use sql_meaning::laws::statements_are_framed;
 use tables::laws::changes_are_local;
@@ -92,8 +92,14 @@ pub fn stores_stay()
     changes_are_local();
 }
 
-/// At every point of every history, from an opening where it is so: the committed store is a store,
-/// each change of a unit lies in a write claim of it, and no unit has more than 65,535 claims, nor one
+/// The units that are listed have work, and stand in the order of their owners, each once: every step
+/// keeps this.
+pub fn units_stay_listed()
+    ensures { UnitsStayListed }
+{}
+
+/// At every point of every history, from an opening where it is so: the units are listed in their
+/// order, the committed store is a store, each change of a unit lies in a write claim of it, and no unit has more than 65,535 claims, nor one
 /// twice. It is so of a new core.
 pub fn histories_are_sane()
     ensures histories { HistoriesAreSane }
