@@ -1,1 +1,5 @@
 pub mod SqlFault
+pub mod Refusal
+pub mod Described
+pub mod Call
+pub mod Answer
