@@ -1,1 +1,4 @@
 mod Found
+mod Pages
+mod Written
+mod Formatted

@@ -2,3 +2,4 @@ pub mod Layout
 pub mod Header
 pub mod Active
 pub mod Opened
+pub mod Fresh

@@ -52,3 +52,37 @@ impl From<ReadFault> for OpenError {
         }
     }
 }
+
+/// Why no store was made.
+#[derive(Clone, Copy, Debug, PartialEq, Eq, Error)]
+pub enum FormatError {
+    /// A store has 2 MiB to 1 GiB.
+    #[error("a store has 2 MiB to 1 GiB")]
+    BadSize,
+    #[error("the name of a database has 1 to 18 printable characters")]
+    BadName,
+    #[error("the device failed")]
+    DeviceFailed,
+    #[error("no memory")]
+    NoMemory,
+}
+
+impl From<AllocError> for FormatError {
+    ghost use Rattle.half_store.specs.declared.errors.FormatError.TheVariants.{NoMemory};
+
+    ghost from_gives = { λ _ e. e ≡ NoMemory };
+
+    fn from(_: AllocError) -> Self {
+        FormatError::NoMemory
+    }
+}
+
+impl From<DiskFault> for FormatError {
+    ghost use Rattle.half_store.specs.declared.errors.FormatError.TheVariants.{DeviceFailed};
+
+    ghost from_gives = { λ _ e. e ≡ DeviceFailed };
+
+    fn from(_: DiskFault) -> Self {
+        FormatError::DeviceFailed
+    }
+}

@@ -3,13 +3,16 @@
 
 mod active;
 mod errors;
+mod formatting;
+mod fresh;
 mod head;
 mod header;
 mod layout;
 mod opening;
 
 pub use active::Active;
-pub use errors::OpenError;
+pub use errors::{FormatError, OpenError};
+pub use formatting::format;
 pub use header::Header;
 pub use layout::Half;
 pub use opening::open;
