@@ -1,24 +1,21 @@
 -- A fresh store, from the bytes that were written.
-use Rattle.std.proofs.Common.{◌≡◌, ◌⊎◌, inl, inr, ℕ, ◌+◌, ◌-◌, ◌*◌, ◌^◌, ◌<◌, ◌≤◌, Bool, true, false, cond, ◌&&◌, List, [], ◌∷◌, ◌++◌, length, take, drop, get_or, Result, Ok, Err, refl, sym, ◌∙◌, ap, subst, arith, append_assoc, length-append, add-zero, zero-add, eq-eqb}
+use Rattle.std.proofs.Common.{◌≡◌, ◌⊎◌, inl, inr, ℕ, ◌+◌, ◌-◌, ◌^◌, ◌<◌, ◌≤◌, Bool, true, false, cond, ◌&&◌, List, ◌∷◌, ◌++◌, length, take, drop, get_or, Result, Ok, Err, refl, sym, ◌∙◌, ap, subst, arith, append_assoc, length-append, add-zero, zero-add, eq-eqb}
 use Rattle.std.specs.Prelude.{◌==◌, nat_le, bytes_eq, codes}
 use Rattle.std.specs.List.{list_all}
-use Rattle.std.specs.Int.{w32, w64, from_be_bytes, to_be_bytes}
+use Rattle.std.specs.Int.{w32, w64, from_be_bytes}
 use Rattle.std.proofs.lemmas.Nat.{from_be_bytes-to_be_bytes_8}
 use Rattle.std.proofs.lemmas.Bool.{lt-ltb, leb-true, false≢true}
 use Rattle.std.proofs.lemmas.List.{take_at, drop_at, take_all, take-take, drop-drop, get_or-take}
 use Rattle.drda_words.specs.Place.{part}
-use Rattle.drda_disk.specs.Disk.{Life, Now, LeavesOnly, Torn, Tears, overlaid}
+use Rattle.drda_disk.specs.Disk.{Life, LeavesOnly, Torn, Tears, overlaid}
 use Rattle.drda_disk.specs.Images.{Torn-overlaid}
 use Rattle.drda_disk.proofs.Moments.{torn}
-use Rattle.drda_disk.proofs.Parts.{part_before, part_after, part-add, part-part, part-overlaid, part_outside, byte_outside}
+use Rattle.drda_disk.proofs.Parts.{part_before, part_after, part-add, part-part, part-overlaid, byte_outside}
 use Rattle.half_store.specs.Layout.{is_store_size, half_len, is_name_len, are_printable}
 use Rattle.half_store.specs.Header.{half_in, is_inside}
-use Rattle.half_store.specs.Active.{Store, Refusal, not_a_store, damaged, is_marked, name_behind, name_in, picked, with_half, with_name, judged, active_of}
-use Rattle.half_store.specs.Fresh.{zeros, is_name, head_bytes, header_bytes, first_header, fresh, IsFresh, IsNoneOrFresh, IsUnmarked, head_page, front_bytes}
-use Rattle.half_store.specs.declared.layout.Half.{Half}
+use Rattle.half_store.specs.Active.{Refusal, not_a_store, damaged, is_marked, name_behind, name_in, picked, with_half, with_name, active_of}
+use Rattle.half_store.specs.Fresh.{zeros, is_name, head_bytes, header_bytes, first_header, IsFresh, IsNoneOrFresh, IsUnmarked, head_page, front_bytes}
 use Rattle.half_store.specs.declared.layout.Half.TheVariants.{First}
-use Rattle.half_store.specs.declared.header.Header.{Header}
-use Rattle.half_store.specs.declared.header.HalfState.{HalfState}
 use Rattle.half_store.specs.declared.header.HalfState.TheVariants.{Closed, Open}
 use Rattle.half_store.proofs.Found.{not_sized, sized}
 use Rattle.half_store.proofs.Pages.{length-zeros, zeros_blank, zeros_at, byte_in_part, half_closed, half_open}

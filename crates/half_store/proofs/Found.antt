@@ -1,9 +1,9 @@
 -- What is read of an image tells which store it is.
-use Rattle.std.proofs.Common.{◌≡◌, ℕ, ◌+◌, List, length, take, Result, Ok, Err, Bool, true, false, cond, sym, ◌∙◌, ap}
+use Rattle.std.proofs.Common.{◌≡◌, ℕ, ◌+◌, List, length, take, Result, Ok, Err, true, false, cond, sym, ◌∙◌, ap}
 use Rattle.drda_words.specs.Place.{part}
 use Rattle.half_store.specs.Layout.{is_store_size, half_len}
 use Rattle.half_store.specs.Header.{half_in}
-use Rattle.half_store.specs.Active.{Store, Refusal, not_a_store, damaged, name_in, picked, with_half, with_name, judged, active_of}
+use Rattle.half_store.specs.Active.{Store, Refusal, not_a_store, name_in, picked, with_half, with_name, judged, active_of}
 use Rattle.half_store.specs.Opened.{Refuses}
 use Rattle.half_store.specs.declared.layout.Half.{Half}
 use Rattle.half_store.specs.declared.header.Header.{Header}

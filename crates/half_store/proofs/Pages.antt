@@ -1,15 +1,14 @@
 -- Header pages, as they are written and read.
-use Rattle.std.proofs.Common.{◌≡◌, ℕ, zero, suc, ◌+◌, ◌-◌, ◌^◌, ◌<◌, ◌≤◌, Bool, true, false, cond, ◌&&◌, List, [], ◌∷◌, ◌++◌, length, take, drop, get_or, refl, sym, ◌∙◌, ap, arith}
+use Rattle.std.proofs.Common.{◌≡◌, ℕ, zero, suc, ◌+◌, ◌^◌, ◌<◌, true, false, cond, ◌&&◌, List, ◌∷◌, ◌++◌, length, take, drop, get_or, refl, ◌∙◌, ap}
 use Rattle.std.specs.Prelude.{◌==◌, replicate}
 use Rattle.std.specs.List.{list_all}
-use Rattle.std.specs.Int.{w32, w64, from_be_bytes, to_be_bytes}
+use Rattle.std.specs.Int.{w32, from_be_bytes, to_be_bytes}
 use Rattle.std.proofs.lemmas.Nat.{from_be_bytes-to_be_bytes_4, from_be_bytes-to_be_bytes_8}
 use Rattle.std.proofs.lemmas.List.{length-replicate, get_or-take, get_or-drop}
 use Rattle.drda_words.specs.Place.{part}
 use Rattle.half_store.specs.Header.{header_in, is_inside, half_in}
 use Rattle.half_store.specs.Fresh.{zeros, header_bytes}
 use Rattle.half_store.specs.declared.header.Header.{Header}
-use Rattle.half_store.specs.declared.header.HalfState.{HalfState}
 use Rattle.half_store.specs.declared.header.HalfState.TheVariants.{Closed, Unsound, Open}
 
 pub length-zeros : (n : ℕ) → length (zeros n) ≡ n

@@ -1,8 +1,8 @@
-use Rattle.std.proofs.Common.{◌≡◌, ◌+◌, List, ℕ, length, inl, true, refl, sym, ◌∙◌, ap, arith, rules}
+use Rattle.std.proofs.Common.{◌≡◌, ◌+◌, inl, true, sym, ◌∙◌, ap, arith, rules}
 use Rattle.drda_disk.proofs.Moments.{no_call, weaker, and_then}
 use Rattle.half_store.specs.Layout.{is_store_size, half_len}
 use Rattle.half_store.specs.Fresh.{is_name, front_bytes}
-use Rattle.half_store.proofs.Formatted.{unmarked_none, IsLaid, is_laid, none_or_fresh, fresh_written}
+use Rattle.half_store.proofs.Formatted.{unmarked_none, is_laid, none_or_fresh, fresh_written}
 use Rattle.half_store.proofs.formatting.format.Goals as goal
 
 pub returns-then-not-is_store_size-clause-any_moment : goal.returns-then-not-is_store_size-clause-any_moment

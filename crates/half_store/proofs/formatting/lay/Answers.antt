@@ -1,5 +1,5 @@
-use Rattle.std.proofs.Common.{◌≡◌, List, ℕ, length, ◌∙◌, ap, arith}
-use Rattle.drda_disk.specs.Disk.{LeavesOnly, overlaid}
+use Rattle.std.proofs.Common.{List, ℕ, length, ◌∙◌, ap, arith}
+use Rattle.drda_disk.specs.Disk.{overlaid}
 use Rattle.drda_disk.proofs.Moments.{and_then, and_stays}
 use Rattle.half_store.proofs.Formatted.{unmarked_torn}
 use Rattle.half_store.proofs.formatting.lay.Goals as goal

@@ -1,5 +1,5 @@
 use Rattle.std.proofs.Common.{◌≡◌, ◌-◌, List, ℕ, [], ◌∷◌, ◌++◌, length, ◌∙◌, ap, rules}
-use Rattle.half_store.specs.Fresh.{zeros, head_bytes, header_bytes, first_header, head_page}
+use Rattle.half_store.specs.Fresh.{zeros, head_bytes, head_page}
 use Rattle.half_store.proofs.Written.{front_joined}
 use Rattle.half_store.proofs.fresh.fresh_front.Goals as goal
 

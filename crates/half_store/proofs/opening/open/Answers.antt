@@ -1,4 +1,4 @@
-use Rattle.std.proofs.Common.{◌≡◌, Result, Err, length, true, false, sym, ◌∙◌, ap, subst, rules}
+use Rattle.std.proofs.Common.{◌≡◌, Err, true, false, sym, ◌∙◌, ap, subst, rules}
 use Rattle.half_store.specs.Layout.{is_store_size}
 use Rattle.half_store.specs.Active.{active_of}
 use Rattle.half_store.specs.Opened.{Tells, CountsOpen}
