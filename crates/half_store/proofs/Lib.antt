@@ -1,0 +1,4 @@
+mod Found
+mod Pages
+mod Written
+mod Formatted

@@ -1,0 +1,5 @@
+pub mod Layout
+pub mod Header
+pub mod Active
+pub mod Opened
+pub mod Fresh

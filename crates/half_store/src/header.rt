@@ -1,0 +1,98 @@
+//! The header page of a half.
+ghost use Rattle.std.specs.Prelude.{◌≡◌, ◌==◌, ◌^◌, ◌<◌, ◌≤◌, length};
+ghost use Rattle.std.specs.List.{list_all};
+ghost use Rattle.half_store.specs.Header.{is_inside, half_in, HasRoom};
+
+use crate::layout::PAGE_BYTES;
+
+/// An open gate: its half counts. Any other byte is a closed gate.
+pub(crate) const OPEN: u8 = 0xA5;
+
+/// What the header of a half says.
+#[derive(Clone, Copy, Debug, PartialEq, Eq)]
+pub struct Header {
+    /// The open half with the greater one is active.
+    pub generation: u64,
+    /// The pages behind the header.
+    pub pages: u32,
+    /// The number of the first catalogue page, counted from 0 behind the header.
+    pub first_catalogue: u32,
+    /// The number of catalogue pages.
+    pub catalogue_pages: u32,
+}
+
+/// What a half's header page reads as.
+#[derive(Clone, Copy, Debug, PartialEq, Eq)]
+pub(crate) enum HalfState {
+    /// The gate is closed, and nothing else was looked at.
+    Closed,
+    /// The gate is open and the header is none.
+    Unsound,
+    Open(Header),
+}
+
+/// The pages and a gate lie in the half, and the catalogue's pages among the pages.
+fn is_inside(half_bytes: usize, header: Header) -> bool
+    ensures { result ≡ is_inside half_bytes header }
+{
+    PAGE_BYTES * (1 + header.pages as usize) < half_bytes
+        && header.first_catalogue as usize + header.catalogue_pages as usize
+            <= header.pages as usize
+}
+
+/// All bytes are zero.
+fn are_zeros(bytes: &[u8]) -> bool
+    ensures { result ≡ list_all (λ b. b == 0) bytes.now }
+{
+    bytes.iter().all(|byte| *byte == 0)
+}
+
+/// What a header page of a half of so many bytes reads as.
+#[tactic(auto, unfolding(crate::specs::Header::half_in))]
+pub(crate) fn half_in(half_bytes: usize, page: &[u8]) -> HalfState
+    requires { length page.now ≡ 8192 }
+    ensures state { result ≡ half_in half_bytes page.now }
+    ensures room { HasRoom half_bytes result }
+{
+    let [
+        gate,
+        g0,
+        g1,
+        g2,
+        g3,
+        g4,
+        g5,
+        g6,
+        g7,
+        p0,
+        p1,
+        p2,
+        p3,
+        f0,
+        f1,
+        f2,
+        f3,
+        c0,
+        c1,
+        c2,
+        c3,
+        rest @ ..,
+    ] = page
+    else {
+        return HalfState::Unsound;
+    };
+    if *gate != OPEN {
+        return HalfState::Closed;
+    }
+    let header = Header {
+        generation: u64::from_be_bytes([*g0, *g1, *g2, *g3, *g4, *g5, *g6, *g7]),
+        pages: u32::from_be_bytes([*p0, *p1, *p2, *p3]),
+        first_catalogue: u32::from_be_bytes([*f0, *f1, *f2, *f3]),
+        catalogue_pages: u32::from_be_bytes([*c0, *c1, *c2, *c3]),
+    };
+    if is_inside(half_bytes, header) && are_zeros(rest) {
+        HalfState::Open(header)
+    } else {
+        HalfState::Unsound
+    }
+}
