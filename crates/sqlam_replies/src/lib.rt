@@ -1,0 +1,16 @@
+//! The texts of replies, objects of the DDM architecture (DRDA V5 volume 3): reply messages, SQLCARD,
+//! SQLDARD, SYNCCRD, the description of an answer and its rows, and how many rows a block takes.
+#![tactic(auto)]
+
+mod message;
+mod names;
+mod rows;
+mod sqlca;
+mod sqlda;
+mod xa_answer;
+
+pub use message::{ReplyMessage, UnitEnd, reply_message};
+pub use rows::{block, qrydsc, qrydta};
+pub use sqlca::{SQLCARD_LENGTH, null_sqlcard, sqlcard};
+pub use sqlda::{MAX_DESCRIBED, are_described, sqldard};
+pub use xa_answer::{MAX_XIDS, synccrd, synccrd_with};
