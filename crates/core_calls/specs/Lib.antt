@@ -3,3 +3,4 @@ pub mod Refusal
 pub mod Described
 pub mod Call
 pub mod Answer
+pub mod Projected

@@ -4,6 +4,7 @@
 mod answer;
 mod call;
 mod described;
+pub mod laws;
 mod refusal;
 mod sql_fault;
 

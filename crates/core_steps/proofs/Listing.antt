@@ -3,13 +3,13 @@ use Rattle.std.proofs.Common.{◌≡◌, ◌≤◌, ◌<◌, ◌⊎◌, inl, inr
 use Rattle.std.specs.Prelude.{if◌then◌else◌, bytes_eq, nat_lt}
 use Rattle.std.proofs.lemmas.Bool.{eqb-true, ltb-false, ltb-true, lt-ltb}
 use Rattle.drda_words.specs.Order.{precedes}
-use Rattle.drda_words.proofs.Precedes.{bytes_eq-refl, precedes-trans, precedes_or, same_bytes}
-use Rattle.core_steps.specs.Units.{Held, Owner, Work, comes_before, global, has_work, local, left_of, others, same_owner, set_unit, unit_of, view, with_unit, without}
+use Rattle.drda_words.proofs.Precedes.{bytes_eq-refl, precedes-trans, precedes_or, precedes_other, same_bytes}
+use Rattle.core_steps.specs.Units.{Held, Owner, Work, comes_before, global, has_work, idle, local, left_of, others, same_owner, set_unit, unit_of, view, with_unit, without}
 use Rattle.core_steps.specs.Asked.{Done, Question, answer_to, changes_by, claims_of, kept, unfit}
 use Rattle.core_steps.specs.Events.{Ask, Base, Commit, Leave, bare, happens_asked}
 use Rattle.core_steps.specs.Step.{CoreState, owner_of}
-use Rattle.core_steps.specs.Laws.{AreListed, ComesFirst, UnitsStayListed}
-use Rattle.core_steps.proofs.Owners.{Lacks, both, which, without_lacks}
+use Rattle.core_steps.specs.Laws.{AreListed, ComesFirst, OneListing, UnitsStayListed}
+use Rattle.core_steps.proofs.Owners.{Lacks, both, owners_same, same_self, which, without_lacks}
 use Rattle.core_steps.proofs.Asking.{through}
 use Rattle.core_steps.proofs.Keeping.{step_keeps}
 
@@ -90,3 +90,58 @@ ask_listed b o q listed =
 pub units_stay_listed : UnitsStayListed
 units_stay_listed s c k listed =
     step_keeps AreSo (λ b o h. listed_without o b.units h) (λ b o h. listed_without o b.units h) s c k (λ q. ask_listed s.base (owner_of s.branches c) q listed) listed
+
+-- ---- one listing
+
+not_first : (o p : Owner) → comes_before o p ≡ true → same_owner o p ≡ false
+not_first (local m) (local n) h = let less : m < n = ltb-true m n h in ⊎_elim (λ so. let e : m ≡ n = eqb-true m n so in absurd (omega (arith, less, e))) (λ f. f) (which (m == n))
+not_first (local m) (global x) h = refl
+not_first (global x) (local n) h = refl
+not_first (global x) (global y) h = precedes_other x y h
+
+-- who comes before all that are listed is not listed
+none_of_first : (o : Owner) (hs : List Held) → ComesFirst o hs → unit_of o hs ≡ idle
+none_of_first o [] first = refl
+none_of_first o (h ∷ hs) first = ap (λ b. if b then h.work else unit_of o hs) (not_first o h.owner first.0) ∙ none_of_first o hs first.1
+
+-- a unit with work is none that is not listed
+works_not : {X : Type 0} (u : Work) → has_work u ≡ true → u ≡ idle → X
+works_not u works e = both (has_work u) works (ap has_work e)
+
+here : (h : Held) (hs : List Held) → unit_of h.owner (h ∷ hs) ≡ h.work
+here h hs = ap (λ b. if b then h.work else unit_of h.owner hs) (same_self h.owner)
+
+-- the first of one list comes before the other list
+ahead : {X : Type 0} (h k : Held) (hs ks : List Held) → AreListed (h ∷ hs) → AreListed (k ∷ ks) → unit_of h.owner (h ∷ hs) ≡ unit_of h.owner (k ∷ ks) → comes_before h.owner k.owner ≡ true → X
+ahead h k hs ks one two same so =
+    works_not h.work one.0 (sym (here h hs) ∙ same ∙ none_of_first h.owner (k ∷ ks) (so, first_through h.owner k.owner ks so two.1))
+
+level : (h k : Held) (hs ks : List Held) → AreListed (h ∷ hs) → AreListed (k ∷ ks) → ((o : Owner) → unit_of o (h ∷ hs) ≡ unit_of o (k ∷ ks)) → same_owner h.owner k.owner ≡ true
+level h k hs ks one two same =
+    ⊎_elim (λ so. so)
+      (λ ne. ⊎_elim
+        (λ so. ahead h k hs ks one two (same h.owner) so)
+        (λ n. ahead k h ks hs two one (sym (same k.owner)) (or_before h.owner k.owner n ne))
+        (which (comes_before h.owner k.owner)))
+      (which (same_owner h.owner k.owner))
+
+behind : (o : Owner) (h : Held) (hs : List Held) → same_owner o h.owner ≡ false → unit_of o (h ∷ hs) ≡ unit_of o hs
+behind o h hs ne = ap (λ b. if b then h.work else unit_of o hs) ne
+
+pub one_listing : OneListing
+one_listing [] [] one two same = refl
+one_listing [] (k ∷ ks) one two same = works_not k.work two.0 (sym (here k ks) ∙ sym (same k.owner))
+one_listing (h ∷ hs) [] one two same = works_not h.work one.0 (sym (here h hs) ∙ same h.owner)
+one_listing (h ∷ hs) (k ∷ ks) one two same =
+    let owners : h.owner ≡ k.owner = owners_same h.owner k.owner (level h k hs ks one two same) in
+    let works : h.work ≡ k.work = sym (here h hs) ∙ same h.owner ∙ ap (λ (o : Owner). unit_of o (k ∷ ks)) owners ∙ here k ks in
+    let rest : hs ≡ ks = one_listing hs ks one.2 two.2 (λ o.
+        ⊎_elim
+          (λ so.
+            let at : o ≡ h.owner = owners_same o h.owner so in
+            let first : unit_of o hs ≡ idle = subst (λ (p : Owner). unit_of p hs ≡ idle) (sym at) (none_of_first h.owner hs one.1) in
+            let second : unit_of o ks ≡ idle = subst (λ (p : Owner). unit_of p ks ≡ idle) (sym (at ∙ owners)) (none_of_first k.owner ks two.1) in
+            first ∙ sym second)
+          (λ n. sym (behind o h hs n) ∙ same o ∙ behind o k ks (subst (λ (p : Owner). same_owner o p ≡ false) owners n))
+          (which (same_owner o h.owner))) in
+    λ i. record { owner = owners i; work = works i } ∷ rest i

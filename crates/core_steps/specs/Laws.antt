@@ -247,6 +247,10 @@ AreListed (h ∷ hs) = (has_work h.work ≡ true) × ComesFirst h.owner hs × Ar
 abbrev pub UnitsStayListed : Type 0
 UnitsStayListed = (s : CoreState) (conversation : ℕ) (k : Call) → AreListed s.base.units → AreListed (step_state s conversation k).base.units
 
+-- so the same units are listed in one way alone
+abbrev pub OneListing : Type 0
+OneListing = (hs ks : List Held) → AreListed hs → AreListed ks → ((o : Owner) → unit_of o hs ≡ unit_of o ks) → hs ≡ ks
+
 -- what holds of a core at every point of a history
 pub record IsSane (b : Base) : Type 0 where
   pub listed : AreListed b.units

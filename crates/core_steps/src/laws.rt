@@ -1,6 +1,6 @@
 //! Laws of the definitions. The functions do nothing: their contracts are the laws.
 
-ghost use Rattle.core_steps.specs.Laws.{AnswersAreMeanings, BranchesWork, ChangesLie, ClaimsAreKept, ClaimsStayFew, GlobalUnitsStay, HistoriesAreSane, InDoubtWait, LocalUnitsEnd, LostLeavesNothing, NewCoresAreSane, RefusalsChangeNothing, RefusalsMakeNoChange, StatementsStay, StoresStay, UnfitIsRefused, UnitsSeeStores, UnitsStayApart, UnitsStayListed, WorkIsWhereJoined};
+ghost use Rattle.core_steps.specs.Laws.{AnswersAreMeanings, BranchesWork, ChangesLie, ClaimsAreKept, ClaimsStayFew, GlobalUnitsStay, HistoriesAreSane, InDoubtWait, LocalUnitsEnd, LostLeavesNothing, NewCoresAreSane, OneListing, RefusalsChangeNothing, RefusalsMakeNoChange, StatementsStay, StoresStay, UnfitIsRefused, UnitsSeeStores, UnitsStayApart, UnitsStayListed, WorkIsWhereJoined};
 
 use sql_meaning::laws::statements_are_framed;
 use tables::laws::changes_are_local;
@@ -93,9 +93,10 @@ pub fn stores_stay()
 }
 
 /// The units that are listed have work, and stand in the order of their owners, each once: every step
-/// keeps this.
+/// keeps this. So the same units are listed in one way alone.
 pub fn units_stay_listed()
-    ensures { UnitsStayListed }
+    ensures stay { UnitsStayListed }
+    ensures one { OneListing }
 {}
 
 /// At every point of every history, from an opening where it is so: the units are listed in their
