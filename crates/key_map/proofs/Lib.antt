@@ -1,0 +1,3 @@
+mod Merged
+mod Known
+mod Said

@@ -1,0 +1,53 @@
+-- Rows by their keys, and what changes make of them.
+use Rattle.std.specs.Prelude.{◌≡◌, ℕ, List, [], ◌∷◌, ◌++◌, Option, Some, None}
+use Rattle.std.specs.Ordering.{match_ordering}
+use Rattle.std.specs.Map.{lookup, keys_of}
+use Rattle.std.specs.List.Sorted.{IsStrictlySortedBy}
+use Rattle.ordered_rows.specs.Slots.{by_bytes, by_key}
+
+-- rows by their keys
+abbrev pub Rows : Type 0
+Rows = List (List ℕ × List ℕ)
+
+-- what has become of keys: the row that was put there, or none where the row was taken out
+abbrev pub Changes : Type 0
+Changes = List (List ℕ × Option (List ℕ))
+
+abbrev pub row_at : {X : Type 0} → List ℕ → List (List ℕ × X) → Option X
+row_at key rows = lookup (by_key key) rows
+
+-- keys that rise by their bytes
+abbrev pub InOrder : {X : Type 0} → List (List ℕ × X) → Type 0
+InOrder rows = IsStrictlySortedBy by_bytes (keys_of rows)
+
+-- a row that is there, under its key
+abbrev pub keyed : List ℕ → Option (List ℕ) → Rows
+keyed key None = []
+keyed key (Some row) = (key, row) ∷ []
+
+-- the rows with this one at its key, or with none there
+abbrev pub changed : Rows → List ℕ → Option (List ℕ) → Rows
+changed [] key r = keyed key r
+changed (e ∷ es) key r = match_ordering (by_bytes key e.0) (keyed key r ++ (e ∷ es)) (keyed key r ++ es) (e ∷ changed es key r)
+
+-- the rows with all changes made
+abbrev pub merged : Rows → Changes → Rows
+merged rows [] = rows
+merged rows (c ∷ cs) = changed (merged rows cs) c.0 c.1
+
+-- a change of a key says what is there; without one it is what was there
+abbrev pub over : Option (Option (List ℕ)) → Option (List ℕ) → Option (List ℕ)
+over None row = row
+over (Some r) row = r
+
+-- the row of a key, in the rows with all changes made
+abbrev pub MergedAt : Type 0
+MergedAt = (q : List ℕ) (rows : Rows) (changes : Changes) → InOrder rows → row_at q (merged rows changes) ≡ over (row_at q changes) (row_at q rows)
+
+-- they are in order
+abbrev pub MergedInOrder : Type 0
+MergedInOrder = (rows : Rows) (changes : Changes) → InOrder rows → InOrder (merged rows changes)
+
+-- rows in order are known by what is found in them
+abbrev pub KnownByKeys : Type 0
+KnownByKeys = (a b : Rows) → InOrder a → InOrder b → ((q : List ℕ) → row_at q a ≡ row_at q b) → a ≡ b

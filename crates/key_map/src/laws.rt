@@ -1,0 +1,15 @@
+//! Laws of rows with changes.
+
+ghost use Rattle.key_map.specs.Merging.{KnownByKeys, MergedAt, MergedInOrder};
+
+/// At each key there is what a change says of it, and without a change what was there; the keys
+/// are still in order.
+pub fn changes_win()
+    ensures at { MergedAt }
+    ensures order { MergedInOrder }
+{}
+
+/// Rows in the order of their keys are known by what is found at each key.
+pub fn rows_are_known_by_keys()
+    ensures { KnownByKeys }
+{}
