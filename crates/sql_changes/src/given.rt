@@ -1,0 +1,196 @@
+//! The row that an INSERT gives.
+
+ghost use Rattle.std.specs.Prelude.{◌≡◌, ◌==◌, ◌∷◌, [], IfOk, List, ℕ, length, map, option_map, true};
+ghost use Rattle.std.specs.List.{slice_get};
+ghost use Rattle.drda_words.specs.Excuse.{Answers};
+ghost use Rattle.row_values.specs.Column.{column_of};
+ghost use Rattle.row_values.specs.Schema.{is_name, picked};
+ghost use Rattle.row_values.specs.Value.{value_of};
+ghost use Rattle.tables.specs.ChangeView.{change_of};
+ghost use Rattle.sql_meaning.specs.Insert as insert;
+ghost use Rattle.sql_meaning.specs.Keys.{key_of_values};
+ghost use Rattle.sql_meaning.specs.Meaning.{Changes, insert_answer, put_answer};
+ghost use Rattle.sql_meaning.specs.Values.{literal_value};
+ghost use Rattle.sql_literals.specs.Constant.{constant_value};
+ghost use Rattle.sql_literals.specs.Refused.{fault_of};
+ghost use Rattle.sql_changes.specs.Given.{values_given};
+
+use crate::place::{all_places, given_places, place_of};
+use crate::row::{borrowed, first_misfit, new_row};
+use core_calls::SqlFault;
+use row_values::{Column, Schema, Value, are_key, encode_key};
+use sql_literals::{Constant, StatementError};
+use sql_text::{Columns, Literal};
+use std::alloc::{AllocError, Global};
+use tables::Change;
+
+/// The row that an INSERT gives: a value for each column, which may fit it or not.
+#[derive(Debug, Drop)]
+pub struct GivenRow {
+    values: Vec<Constant>,
+}
+
+impl GivenRow {
+    /// The row of these values for these columns, NULL in each other one. The columns are judged
+    /// from left to right: one that the table has not is unknown, one that stands twice is a syntax
+    /// error; and so is another number of values than of columns.
+    #[tactic(auto, unfolding(sql_meaning::specs::Insert::given_row))]
+    pub fn bind(
+        alloc: Global,
+        schema: &Schema,
+        columns: &Columns<'_>,
+        values: &[Literal<'_>],
+        params: &[Value<'_>],
+    ) -> Result<GivenRow, StatementError>
+        ensures { Answers values_given fault_of result (insert.given_row schema.now columns.now (map (literal_value (map value_of params.now)) values.now)) }
+    {
+        let places = given_places(alloc, schema.columns(), columns)?;
+        if places.len() != values.len() {
+            return Err(StatementError::Fault(SqlFault::Syntax));
+        }
+        let values = row_values(alloc, schema.columns(), places.as_slice(), values, params)?;
+        Ok(GivenRow { values })
+    }
+
+    /// The key of the row, where the values of its columns fit them.
+    #[tactic(auto, unfolding(sql_meaning::specs::Keys::key_of_values))]
+    pub fn key(&self, alloc: Global, schema: &Schema) -> Result<Option<Vec<u8>>, AllocError>
+        ensures { IfOk result (λ key. option_map (λ k. k.items) key ≡ key_of_values schema.now (picked (values_given self.now) schema.now.key)) }
+    {
+        let values = picked(alloc, self.values.as_slice(), schema.key())?;
+        if !are_key(schema, values.as_slice()) {
+            return Ok(None);
+        }
+        Ok(Some(encode_key(alloc, schema, values.as_slice())?))
+    }
+
+    /// The change that puts the row into the table of this name, which is in capitals, where no row
+    /// has its key. It is refused for the first value, in the order of the columns, that does not
+    /// fit, for a row over 4,000 bytes, for its key where a row has it, and where the change has
+    /// more bytes than are left.
+    pub fn put(
+        &self,
+        alloc: Global,
+        table: &str,
+        schema: &Schema,
+        is_free: bool,
+        left: usize,
+    ) -> Result<Change, StatementError>
+        requires { is_name table.now ≡ true }
+        ensures { (others : List (List ℕ)) → (length others == 0) ≡ is_free → Answers (λ change. Changes (change_of change ∷ []) 1) fault_of result (put_answer left table.now schema.now others (values_given self.now)) }
+    {
+        let values = borrowed(alloc, self.values.as_slice())?;
+        if let Some(fault) = first_misfit(schema.columns(), values.as_slice()) {
+            return Err(StatementError::Fault(fault));
+        }
+        let row = new_row(alloc, schema, values.as_slice())?;
+        if !is_free {
+            return Err(StatementError::Fault(SqlFault::KeyExists));
+        }
+        let change = Change::put(String::from_str(alloc, table)?, row);
+        if change.length() > left {
+            return Err(StatementError::Fault(SqlFault::LimitReached));
+        }
+        Ok(change)
+    }
+}
+
+/// The change that an INSERT makes, or its first fault. The table's name is in capitals; its key is
+/// free where no row has the key that is given.
+pub fn insert(
+    alloc: Global,
+    table: &str,
+    schema: &Schema,
+    columns: &Columns<'_>,
+    values: &[Literal<'_>],
+    params: &[Value<'_>],
+    is_free: bool,
+    left: usize,
+) -> Result<Change, StatementError>
+    requires { is_name table.now ≡ true }
+    ensures { (others : List (List ℕ)) → (length others == 0) ≡ is_free → Answers (λ change. Changes (change_of change ∷ []) 1) fault_of result (insert_answer left table.now schema.now columns.now (map (literal_value (map value_of params.now)) values.now) others) }
+{
+    let row = GivenRow::bind(alloc, schema, columns, values, params)?;
+    row.put(alloc, table, schema, is_free, left)
+}
+
+// A value for each column.
+fn row_values(
+    alloc: Global,
+    columns: &[Column],
+    places: &[usize],
+    literals: &[Literal<'_>],
+    params: &[Value<'_>],
+) -> Result<Vec<Constant>, AllocError>
+    ensures { IfOk result (λ row. map constant_value row.items ≡ insert.row_values (map column_of columns.now) (map (literal_value (map value_of params.now)) literals.now) places.now) }
+{
+    let all = all_places(alloc, columns)?;
+    given_values(alloc, all.as_slice(), places, literals, params)
+}
+
+// The values that are given for these columns.
+fn given_values(
+    alloc: Global,
+    columns: &[usize],
+    places: &[usize],
+    literals: &[Literal<'_>],
+    params: &[Value<'_>],
+) -> Result<Vec<Constant>, AllocError>
+    ensures { IfOk result (λ row. map constant_value row.items ≡ map (insert.given places.now (map (literal_value (map value_of params.now)) literals.now)) columns.now) }
+{
+    let mut row = Vec::with_capacity(alloc, columns.len())?;
+    let mut left = columns;
+    'columns: while let [column, rest @ ..] = left {
+        row.push(given(alloc, places, literals, params, *column)?)?;
+        left = rest;
+    }
+    Ok(row)
+}
+
+// The value that is given for this column, NULL where none is.
+fn given(
+    alloc: Global,
+    places: &[usize],
+    literals: &[Literal<'_>],
+    params: &[Value<'_>],
+    column: usize,
+) -> Result<Constant, AllocError>
+    ensures { IfOk result (λ value. constant_value value ≡ insert.given places.now (map (literal_value (map value_of params.now)) literals.now) column) }
+{
+    let Some(place) = place_of(places, column) else {
+        return Ok(Constant::Null);
+    };
+    match literals.get(place) {
+        Some(literal) => Constant::of_literal(alloc, literal, params),
+        None => Ok(Constant::Null),
+    }
+}
+
+// The values of the columns at these places.
+fn picked<'a>(
+    alloc: Global,
+    constants: &'a [Constant],
+    places: &[u8],
+) -> Result<Vec<Value<'a>>, AllocError>
+    ensures { IfOk result (λ values. map value_of values.items ≡ picked (map constant_value constants.now) places.now) }
+{
+    let mut values = Vec::with_capacity(alloc, places.len())?;
+    let mut left = places;
+    'places: while let [place, rest @ ..] = left {
+        left = rest;
+        let Some(value) = value_at(constants, *place) else {
+            continue 'places;
+        };
+        values.push(value)?;
+    }
+    Ok(values)
+}
+
+fn value_at<'a>(constants: &'a [Constant], place: u8) -> Option<Value<'a>>
+    ensures { option_map value_of result ≡ slice_get (map constant_value constants.now) place }
+{
+    match constants.get(usize::from(place)) {
+        Some(constant) => Some(constant.value()),
+        None => None,
+    }
+}

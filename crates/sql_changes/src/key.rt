@@ -1,0 +1,31 @@
+//! The key that an INSERT claims.
+
+ghost use Rattle.std.specs.Prelude.{◌≡◌, IfOk, map, option_map};
+ghost use Rattle.row_values.specs.Value.{value_of};
+ghost use Rattle.sql_meaning.specs.Insert as insert;
+ghost use Rattle.sql_meaning.specs.Values.{literal_value};
+
+use crate::given::GivenRow;
+use row_values::{Schema, Value};
+use sql_literals::StatementError;
+use sql_text::{Columns, Literal};
+use std::alloc::{AllocError, Global};
+
+/// The key of the row that an INSERT gives, where its names and the number of its values pass, and
+/// the values of the key's columns fit them.
+#[tactic(auto, unfolding(sql_meaning::specs::Insert::given_key))]
+pub fn given_key(
+    alloc: Global,
+    schema: &Schema,
+    columns: &Columns<'_>,
+    values: &[Literal<'_>],
+    params: &[Value<'_>],
+) -> Result<Option<Vec<u8>>, AllocError>
+    ensures { IfOk result (λ key. option_map (λ k. k.items) key ≡ insert.given_key schema.now columns.now (map (literal_value (map value_of params.now)) values.now)) }
+{
+    match GivenRow::bind(alloc, schema, columns, values, params) {
+        Ok(row) => row.key(alloc, schema),
+        Err(StatementError::Fault(_fault)) => Ok(None),
+        Err(StatementError::NoMemory) => Err(AllocError),
+    }
+}
