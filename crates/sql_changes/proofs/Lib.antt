@@ -1,1 +1,3 @@
 pub mod AllPlaces
+pub mod Gathered
+pub mod Rooms

@@ -14,8 +14,8 @@ use row_values::{Column, Misfit, RowError, Schema, Value, are_row, encode_row};
 use sql_literals::{Constant, StatementError};
 use std::alloc::{AllocError, Global};
 
-/// Why a value does not fit its column.
-pub(crate) fn misfit_fault(misfit: Misfit) -> SqlFault
+/// The fault of a value that does not fit its column.
+pub fn misfit_fault(misfit: Misfit) -> SqlFault
     ensures { result ≡ checked.misfit_fault misfit }
 {
     match misfit {
@@ -43,8 +43,9 @@ pub(crate) fn first_misfit(mut columns: &[Column], mut values: &[Value<'_>]) -> 
     None
 }
 
-/// The bytes of the row of these values, where they fit and are at most 4,000.
-pub(crate) fn new_row(
+/// The bytes of the row of these values. It is a syntax error where there is not one value for each
+/// column, or one does not fit; a limit is reached where the row has more than 4,000 bytes.
+pub fn new_row(
     alloc: Global,
     schema: &Schema,
     values: &[Value<'_>],
