@@ -1,3 +1,4 @@
 mod Merged
 mod Known
 mod Said
+mod Between

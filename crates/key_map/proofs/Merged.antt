@@ -89,7 +89,7 @@ above_step k key (Some row) e es rest Equal lt a b = (lt, a.1)
 above_step k key r e es rest Greater lt a b = (a.0, b)
 
 -- the merge is in order
-keys_above : (k key : List ℕ) (r : Option (List ℕ)) (es : List (List ℕ × List ℕ)) → by_bytes k key ≡ Less → AllByRecursion (λ y. by_bytes k y ≡ Less) (keys_of es) → AllByRecursion (λ y. by_bytes k y ≡ Less) (keys_of (changed es key r))
+pub keys_above : (k key : List ℕ) (r : Option (List ℕ)) (es : List (List ℕ × List ℕ)) → by_bytes k key ≡ Less → AllByRecursion (λ y. by_bytes k y ≡ Less) (keys_of es) → AllByRecursion (λ y. by_bytes k y ≡ Less) (keys_of (changed es key r))
 keys_above k key None [] lt a = tt
 keys_above k key (Some row) [] lt a = (lt, tt)
 keys_above k key r (e ∷ es) lt a = above_step k key r e es (changed es key r) (by_bytes key e.0) lt a (keys_above k key r es lt a.1)

@@ -1,6 +1,8 @@
 -- Rows by their keys, and what changes make of them.
 use Rattle.std.specs.Prelude.{◌≡◌, ℕ, List, [], ◌∷◌, ◌++◌, Option, Some, None}
+use Rattle.std.specs.List.{AllByRecursion}
 use Rattle.std.specs.Ordering.{match_ordering}
+use Rattle.std.proofs.Common.{Less, Equal}
 use Rattle.std.specs.Map.{lookup, keys_of}
 use Rattle.std.specs.List.Sorted.{IsStrictlySortedBy}
 use Rattle.ordered_rows.specs.Slots.{by_bytes, by_key}
@@ -51,3 +53,21 @@ MergedInOrder = (rows : Rows) (changes : Changes) → InOrder rows → InOrder (
 -- rows in order are known by what is found in them
 abbrev pub KnownByKeys : Type 0
 KnownByKeys = (a b : Rows) → InOrder a → InOrder b → ((q : List ℕ) → row_at q a ≡ row_at q b) → a ≡ b
+
+-- ---- rows and changes in turn
+
+-- all keys come after this one
+abbrev pub Above : {X : Type 0} → List ℕ → List (List ℕ × X) → Type 0
+Above key rows = AllByRecursion (λ y. by_bytes key y ≡ Less) (keys_of rows)
+
+-- a change of a key before all rows comes first
+abbrev pub ChangeFirst : Type 0
+ChangeFirst = (rows : Rows) (c : List ℕ × Option (List ℕ)) (cs : Changes) → Above c.0 rows → InOrder (c ∷ cs) → merged rows (c ∷ cs) ≡ keyed c.0 c.1 ++ merged rows cs
+
+-- a row whose key comes before all changes comes first
+abbrev pub RowFirst : Type 0
+RowFirst = (e : List ℕ × List ℕ) (rows : Rows) (cs : Changes) → Above e.0 cs → merged (e ∷ rows) cs ≡ e ∷ merged rows cs
+
+-- a change of the first row's key stands in its place
+abbrev pub ChangeHere : Type 0
+ChangeHere = (e : List ℕ × List ℕ) (rows : Rows) (c : List ℕ × Option (List ℕ)) (cs : Changes) → by_bytes c.0 e.0 ≡ Equal → InOrder (c ∷ cs) → merged (e ∷ rows) (c ∷ cs) ≡ keyed c.0 c.1 ++ merged rows cs

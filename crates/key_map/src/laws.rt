@@ -1,6 +1,6 @@
 //! Laws of rows with changes.
 
-ghost use Rattle.key_map.specs.Merging.{KnownByKeys, MergedAt, MergedInOrder};
+ghost use Rattle.key_map.specs.Merging.{ChangeFirst, ChangeHere, KnownByKeys, MergedAt, MergedInOrder, RowFirst};
 
 /// At each key there is what a change says of it, and without a change what was there; the keys
 /// are still in order.
@@ -12,4 +12,12 @@ pub fn changes_win()
 /// Rows in the order of their keys are known by what is found at each key.
 pub fn rows_are_known_by_keys()
     ensures { KnownByKeys }
+{}
+
+/// What the rows with all changes made begin with, where both are in the order of their keys: the
+/// change or the row whose key comes first, and of one key the change.
+pub fn changes_and_rows_in_turn()
+    ensures change { ChangeFirst }
+    ensures row { RowFirst }
+    ensures both { ChangeHere }
 {}
