@@ -1,0 +1,5 @@
+//! Tests of key_map.
+#![tactic(auto)]
+
+#[cfg(test)]
+mod overlay;
