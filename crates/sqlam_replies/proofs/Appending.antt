@@ -76,11 +76,11 @@ singles g (x ∷ xs) = ap (λ l. g x ∷ l) (singles g xs)
 pub shown_at : {X Y : Type 0} (g : X → Y) (xs : List X) (i : ℕ) (x : X) → i < length xs → x ≡ get_or xs i x → slice_get (map g xs) i ≡ Some (g x)
 shown_at g xs i x lt is = slice_get-map g xs i ∙ ap (option_map g) (slice_get_read xs (length xs) i x refl lt is)
 
-both_first : (a b : Bool) → (a && b) ≡ true → a ≡ true
+pub both_first : (a b : Bool) → (a && b) ≡ true → a ≡ true
 both_first true b h = refl
 both_first false b h = absurd cc
 
-both_second : (a b : Bool) → (a && b) ≡ true → b ≡ true
+pub both_second : (a b : Bool) → (a && b) ≡ true → b ≡ true
 both_second true b h = h
 both_second false b h = absurd cc
 

@@ -1,6 +1,6 @@
 -- Replies are objects (DRDA V5 volume 3, DDM; the reply messages and the reply data objects).
-use Rattle.std.specs.Prelude.{ℕ, Bool, if◌then◌else◌, List, [], ◌∷◌, length, map}
-use Rattle.std.specs.List.{flat_map}
+use Rattle.std.specs.Prelude.{ℕ, Bool, nat_le, if◌then◌else◌, List, [], ◌∷◌, length, map}
+use Rattle.std.specs.List.{flat_map, list_all}
 use Rattle.std.specs.Int.{w16, w32, w64, to_be_bytes, cast_unsigned}
 use Rattle.std.specs.Prelude.{ℤ}
 use Rattle.ddm_objects.specs.Objects.{Obj}
@@ -88,3 +88,9 @@ xid_list xids = objects (scalar XIDCNT (to_be_bytes w16 (length xids)) ∷ map (
 
 abbrev pub synccrd_with : ℤ → List (List ℕ) → List ℕ
 synccrd_with code xids = spelled SYNCCRD (objects (scalar XARETVAL (to_be_bytes w32 (cast_unsigned w32 code)) ∷ scalar PRPHRCLST (xid_list xids) ∷ []))
+
+-- ---- how long a message is
+
+-- the values of its parameters are not longer than the name of a section can be
+abbrev pub has_short_values : ReplyMessage → Bool
+has_short_values m = list_all (λ (o : Obj). nat_le (length o.value) 791) (message_of m).parameters

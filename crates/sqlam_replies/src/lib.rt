@@ -2,6 +2,7 @@
 //! SQLDARD, SYNCCRD, the description of an answer and its rows, and how many rows a block takes.
 #![tactic(auto)]
 
+mod lengths;
 mod message;
 mod names;
 mod rows;
@@ -9,8 +10,11 @@ mod sqlca;
 mod sqlda;
 mod xa_answer;
 
+pub use lengths::{
+    MAX_MESSAGE_LENGTH, MAX_SQLDARD_LENGTH, NULL_SQLCARD_LENGTH, SQLCARD_LENGTH, texts_have_lengths,
+};
 pub use message::{ReplyMessage, UnitEnd, reply_message};
 pub use rows::{block, qrydsc, qrydta};
-pub use sqlca::{SQLCARD_LENGTH, null_sqlcard, sqlcard};
+pub use sqlca::{null_sqlcard, sqlcard};
 pub use sqlda::{MAX_DESCRIBED, are_described, sqldard};
 pub use xa_answer::{MAX_XIDS, synccrd, synccrd_with};

@@ -6,9 +6,6 @@ ghost use Rattle.sqlam_replies.specs.Sqlcard.{null_sqlcard, sqlca, sqlcard};
 use ddm_objects::{code_point, put};
 use std::alloc::AllocError;
 
-/// How many bytes an SQLCARD has.
-pub const SQLCARD_LENGTH: usize = 65;
-
 // SQLCAGRP with SQLCAXGRP (DRDA V5 volume 1).
 fn sqlca(code: i32, state: &[u8; 5], count: u32) -> [u8; 61]
     ensures { result ≡ sqlca code state.now count }
@@ -24,7 +21,8 @@ fn sqlca(code: i32, state: &[u8; 5], count: u32) -> [u8; 61]
 }
 
 /// Appends an SQLCARD with an SQLCODE, an SQLSTATE and a count of rows. Where memory is refused nothing
-/// is appended, and that does not happen where the list has room for `SQLCARD_LENGTH` bytes.
+/// is appended, and that does not happen where the list has room for
+/// [`SQLCARD_LENGTH`](crate::SQLCARD_LENGTH) bytes.
 pub fn sqlcard(out: &mut Vec<u8>, code: i32, state: &[u8; 5], count: u32) -> Result<(), AllocError>
     ensures ok { OnOk result (out.new.items ≡ out.old.items ++ sqlcard code state.now count) }
     ensures err { OnErr result (out.new.items ≡ out.old.items) }
