@@ -3,6 +3,7 @@
 ghost use Rattle.unit_order.specs.Serial.{SerialOrder};
 ghost use Rattle.unit_order.specs.Steps.{EventsKeep, LogsAreBeside, SerialOrderOf};
 ghost use Rattle.unit_order.specs.Prepared.{prepared_units};
+ghost use Rattle.unit_order.specs.UnitList.{unit_list};
 ghost use Rattle.sql_order.specs.SqlWords.{sql_words};
 
 use sql_meaning::laws::statements_are_framed;
@@ -14,13 +15,13 @@ use unit_locks::{adding, clash_is_symmetric};
 /// lies in a write claim of that unit, a creation in that of `*` too.
 pub fn units_are_serial()
     // of any list of statements, commits and ends after an opening
-    ensures events { SerialOrder sql_words }
+    ensures events { SerialOrder sql_words (unit_list sql_words) }
     // of any list of calls, where prepared units are asked nothing
-    ensures calls { SerialOrderOf sql_words (prepared_units sql_words) }
+    ensures calls { SerialOrderOf sql_words (unit_list sql_words) (prepared_units sql_words (unit_list sql_words)) }
     // what the first two ask of an opening, each event keeps
-    ensures kept { EventsKeep sql_words }
+    ensures kept { EventsKeep sql_words (unit_list sql_words) }
     // the logs that the law speaks of change nothing
-    ensures beside { LogsAreBeside sql_words }
+    ensures beside { LogsAreBeside sql_words (unit_list sql_words) }
 {
     changes_are_local();
     changes_make_tables();

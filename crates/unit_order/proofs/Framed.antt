@@ -5,7 +5,8 @@ use Rattle.std.specs.Prelude.{if◌then◌else◌, nat_lt}
 use Rattle.unit_order.specs.Words.{Apart, Fewer, In, Laws, apply_all}
 use Rattle.unit_order.specs.SmallStore.{SmallStore, Change, create, set_row, Claim, Call, Describe, Get, Scan, Insert, Update, Delete, Create, Answer, Changed, IsFull, IsThere, Row, Rows, Meaning, is_there, first_of_both, apply, overlaps, hits, clash, reads, writes, claims_at, found_claims, absent_claims, table_of, says, does, found, absent, meaning_at, meaning, Within, small_words}
 use Rattle.unit_order.proofs.Order.{in_append, in_left, in_right}
-use Rattle.unit_order.proofs.Running.{which, both, flip}
+use Rattle.unit_order.proofs.Running.{both, which}
+use Rattle.unit_order.proofs.UnitList.{flip}
 
 abbrev covers : Option ℕ → ℕ → Bool
 covers None y = true

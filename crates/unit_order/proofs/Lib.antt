@@ -1,5 +1,6 @@
 pub mod Order
 pub mod Running
+pub mod UnitList
 pub mod Bare
 pub mod Keeping
 pub mod Prepared

@@ -1,5 +1,6 @@
 pub mod Words
 pub mod Events
+pub mod UnitList
 pub mod Serial
 pub mod Steps
 pub mod Prepared

@@ -2,7 +2,7 @@
 -- in the order of commit.
 use Rattle.std.specs.Prelude.{◌≡◌, Bool, true, false, List, [], ◌∷◌}
 use Rattle.unit_order.specs.Words.{Words, AllWithin}
-use Rattle.unit_order.specs.Events.{Work, idle, view, Done, asked, kept, Held, Entry, Ended, Moment, run, start}
+use Rattle.unit_order.specs.Events.{Work, idle, view, Done, asked, kept, UnitMap, Entry, Ended, Moment, run, start}
 
 -- over this store and with no other unit, u becomes v by these calls, with these answers
 abbrev pub Alone : (w : Words) → w.Store → Work w → List (Entry w) → Work w → Type 0
@@ -20,13 +20,12 @@ Serially w s [] t = s ≡ t
 Serially w s (e ∷ es) t = Unless e.is_found (Alone w s (idle w) e.log e.work) × Serially w (view w s e.work) es t
 
 -- the changes of each unit lie in what it claims to write
-abbrev pub AllLie : (w : Words) → w.Store → List (Held w) → Type 0
-AllLie w s [] = Unit {0}
-AllLie w s (h ∷ hs) = AllWithin w s h.work.changes h.work.claims × AllLie w s hs
+abbrev pub AllLie : (w : Words) (k : UnitMap w) → w.Store → k.Units → Type 0
+AllLie w k s units = (o : k.Owner) → AllWithin w s (k.unit_of o units).changes (k.unit_of o units).claims
 
 -- whatever happens after an opening, the committed units had the answers and the changes that they have one
 -- after another, and the store that this leads to is the committed one
-abbrev pub SerialOrder : Words → Type 0
-SerialOrder w =
-    (s : w.Store) (units : List (Held w)) (moments : List (Moment w)) → w.Sound s → AllLie w s units
-    → (let m = run w moments (start w s units) in Serially w s m.ended m.store)
+abbrev pub SerialOrder : (w : Words) → UnitMap w → Type 0
+SerialOrder w k =
+    (s : w.Store) (units : k.Units) (moments : List (Moment w k)) → w.Sound s → AllLie w k s units
+    → (let m = run w k moments (start w k s units) in Serially w s m.ended m.store)

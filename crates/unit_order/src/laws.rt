@@ -5,16 +5,17 @@
 ghost use Rattle.unit_order.specs.Serial.{SerialOrder};
 ghost use Rattle.unit_order.specs.Steps.{EventsKeep, LogsAreBeside, SerialOrderOf};
 ghost use Rattle.unit_order.specs.Prepared.{prepared_units};
+ghost use Rattle.unit_order.specs.UnitList.{unit_list};
 ghost use Rattle.unit_order.specs.SmallStore.{small_words};
 
 /// Units that run side by side have the answers and the changes that they have one after another.
 pub fn units_are_serial()
     // of any list of events after an opening
-    ensures events { SerialOrder small_words }
+    ensures events { SerialOrder small_words (unit_list small_words) }
     // of any list of calls, where prepared units are asked nothing
-    ensures calls { SerialOrderOf small_words (prepared_units small_words) }
+    ensures calls { SerialOrderOf small_words (unit_list small_words) (prepared_units small_words (unit_list small_words)) }
     // what the first two ask of an opening, each event keeps
-    ensures kept { EventsKeep small_words }
+    ensures kept { EventsKeep small_words (unit_list small_words) }
     // the logs that the law speaks of change nothing
-    ensures beside { LogsAreBeside small_words }
+    ensures beside { LogsAreBeside small_words (unit_list small_words) }
 {}
