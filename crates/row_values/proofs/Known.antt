@@ -7,7 +7,7 @@ use Rattle.std.specs.Str.{IsUtf8, is_utf8}
 use Rattle.std.proofs.lemmas.Str.{IsUtf8-from_is_utf8}
 use Rattle.row_values.specs.declared.column.Kind.{Kind}
 use Rattle.row_values.specs.declared.column.Kind.TheVariants.{VarChar}
-use Rattle.row_values.specs.Value.{Value, text, null}
+use Rattle.row_values.specs.Value.{Value, text}
 use Rattle.row_values.specs.Column.{Column, fits}
 use Rattle.row_values.specs.Row.{content_at, counted_at, typed_value_at, utf8_in, value_at}
 

@@ -1,14 +1,12 @@
 -- Each key column's value fits it, and its bytes are the next of the key.
-use Rattle.std.proofs.Common.{◌≡◌, ◌<◌, ◌≤◌, ◌+◌, ◌++◌, ℕ, List, ap, sym, subst, true, ◌∙◌, arith, length, map, drop, []}
+use Rattle.std.proofs.Common.{◌≤◌, ◌+◌, ◌++◌, ℕ, List, ap, sym, subst, ◌∙◌, length, map, drop}
 use Rattle.std.specs.Prelude.{is_some}
-use Rattle.std.proofs.lemmas.List.{length-map}
-use Rattle.row_values.specs.declared.value.Value.{Value as CodeValue}
 use Rattle.row_values.specs.declared.value.Value.TheVariants.{Null}
 use Rattle.row_values.specs.Value.{value_of}
-use Rattle.row_values.specs.Schema.{Schema, is_schema, key_columns}
-use Rattle.row_values.specs.Row.{all_fit, row_bytes}
+use Rattle.row_values.specs.Schema.{key_columns}
+use Rattle.row_values.specs.Row.{row_bytes}
 use Rattle.row_values.specs.Key.{is_key}
-use Rattle.row_values.proofs.Keys.{key_count, key_good, key_short}
+use Rattle.row_values.proofs.Keys.{key_good, key_short}
 use Rattle.row_values.proofs.RowKeys.{key_ended, key_in_values}
 use Rattle.row_values.proofs.RowSteps.{value_at_place, fits_at, row_at, row_more, row_none}
 use Rattle.row_values.proofs.key.encode_key.Goals as goal

@@ -1,5 +1,5 @@
 -- Past the last key column nothing is left; before it, a value of the next one is.
-use Rattle.std.proofs.Common.{◌≤◌, ap, arith, length}
+use Rattle.std.proofs.Common.{ap, arith, length}
 use Rattle.row_values.specs.Column.{column_of}
 use Rattle.row_values.specs.Schema.{key_columns}
 use Rattle.row_values.proofs.Keys.{key_count}
