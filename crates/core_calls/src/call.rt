@@ -1,0 +1,49 @@
+//! What a conversation asks of the core.
+
+use row_values::Value;
+use sql_text::Statement;
+use xa_calls::{InvalidRequest, Request};
+
+/// How many markers, and so parameters, a statement has at most.
+pub const MAX_PARAMETERS: usize = 128;
+
+/// Which side of a statement is described.
+#[derive(Clone, Copy, Debug, PartialEq, Eq)]
+pub enum Side {
+    /// The columns of its rows.
+    Output,
+    /// Its parameters.
+    Input,
+}
+
+/// What a conversation asks of the core. Statements and parameters are lent, for `'a`, and what they
+/// borrow lives as long as `'t`: nothing in a call owns memory, so that a call can be lent itself, and
+/// copied.
+#[derive(Clone, Copy)]
+pub enum CoreCall<'a, 't> {
+    /// A statement that is no SELECT is run, with these values for its markers (DDM EXCSQLIMM and
+    /// EXCSQLSTT).
+    Run {
+        statement: &'a Statement<'t>,
+        parameters: &'a [Value<'t>],
+    },
+    /// A SELECT is evaluated, with these values for its markers (DDM OPNQRY).
+    Query {
+        statement: &'a Statement<'t>,
+        parameters: &'a [Value<'t>],
+    },
+    /// The columns or the parameters of a statement are described (DDM DSCSQLSTT, and PRPSQLSTT with
+    /// RTNSQLDA).
+    Describe {
+        statement: &'a Statement<'t>,
+        side: Side,
+    },
+    /// The local unit is committed (DDM RDBCMM).
+    Commit,
+    /// The local unit is rolled back (DDM RDBRLLBCK).
+    Rollback,
+    /// An XA call, as `Request::read` reads a SYNCCTL: one that names no call is answered here too.
+    Xa(Result<Request, InvalidRequest>),
+    /// The conversation is lost.
+    Lost,
+}

@@ -1,0 +1,11 @@
+pub mod Owners
+pub mod Happening
+pub mod Asking
+pub mod Losing
+pub mod Keeping
+pub mod Listing
+pub mod Lying
+pub mod Sounding
+pub mod Standing
+pub mod Deciding
+pub mod Histories

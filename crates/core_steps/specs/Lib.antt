@@ -1,0 +1,6 @@
+pub mod Describe
+pub mod Units
+pub mod Asked
+pub mod Events
+pub mod Step
+pub mod Laws
