@@ -9,7 +9,7 @@ use Rattle.unit_locks.specs.Claims.{all_added}
 use Rattle.core_calls.specs.declared.sql_fault.SqlFault.TheVariants as fault
 use Rattle.sql_meaning.specs.Scope.{table_name}
 use Rattle.sql_meaning.specs.Meaning.{Answer as Meant, Refused}
-use Rattle.sql_meaning.specs.Frame.{CoveredIsEnough, changes_of, claims_in}
+use Rattle.sql_meaning.specs.Frame.{CoveredIsEnough, changes_of}
 use Rattle.core_steps.specs.Asked.{Question, answer_to, changes_by, claims_of, described_claims as core_described, describing, meant, querying, running, told}
 use Rattle.core_steps.specs.Describe.{described}
 use Rattle.unit_order.specs.Words.{AllWithin, In, Laws, apply_all}
@@ -87,9 +87,25 @@ module _ (l : Laws sql_words) (enough : CoveredIsEnough) where
 
   pub core_laws : Laws core_words
   core_laws = record {
-    Agree = l.Agree; agree_refl = l.agree_refl; agree_trans = l.agree_trans; agree_fewer = l.agree_fewer;
-    clash_sym = l.clash_sym; added_old = l.added_old; added_new = l.added_new; added_only = l.added_only;
-    Grows = l.Grows; grows_refl = l.grows_refl; grows_trans = l.grows_trans; grows_apply = l.grows_apply;
-    sound_apply = l.sound_apply; within_grows = l.within_grows; within_more = l.within_more; foreign = l.foreign; own = l.own;
-    same_claims = same_claims; same_answer = same_answer; same_changes = same_changes; lies = lies;
+    Agree = l.Agree;
+    agree_refl = l.agree_refl;
+    agree_trans = l.agree_trans;
+    agree_fewer = l.agree_fewer;
+    clash_sym = l.clash_sym;
+    added_old = l.added_old;
+    added_new = l.added_new;
+    added_only = l.added_only;
+    Grows = l.Grows;
+    grows_refl = l.grows_refl;
+    grows_trans = l.grows_trans;
+    grows_apply = l.grows_apply;
+    sound_apply = l.sound_apply;
+    within_grows = l.within_grows;
+    within_more = l.within_more;
+    foreign = l.foreign;
+    own = l.own;
+    same_claims = same_claims;
+    same_answer = same_answer;
+    same_changes = same_changes;
+    lies = lies;
   }

@@ -21,8 +21,15 @@ use Rattle.sql_order.specs.SqlWords.{Within, bytes_left}
 -- what the core answers to a question that is fit, and what the question claims and changes
 abbrev pub core_words : Words
 core_words = record {
-  Store = Store; Change = Change; Claim = Claim; Call = Question; Answer = Answer;
-  apply = apply; clash = clash; added = all_added; is_full = is_full;
+  Store = Store;
+  Change = Change;
+  Claim = Claim;
+  Call = Question;
+  Answer = Answer;
+  apply = apply;
+  clash = clash;
+  added = all_added;
+  is_full = is_full;
   claims = claims_of;
   answer = λ q xs s. answer_to q (bytes_left xs) s;
   changes = λ q xs s. changes_by q (bytes_left xs) s;
@@ -39,10 +46,13 @@ of_work u = record { changes = u.changes; claims = u.claims }
 -- the units of conversations and XIDs, as the core lists them
 abbrev pub core_units : UnitMap core_words
 core_units = record {
-  Owner = Owner; same = same_owner; Units = List Held;
+  Owner = Owner;
+  same = same_owner;
+  Units = List Held;
   unit_of = λ o units. to_work (unit_of o units);
   set_unit = λ o u units. set_unit o (of_work u) units;
-  without = without; others = others;
+  without = without;
+  others = others;
   has = λ o units. has_work (unit_of o units);
 }
 
@@ -73,5 +83,5 @@ CoreOrder =
     (s : Store) (units : List Held) (es : List CoreEvent) → is_store s ≡ true → AllLie core_words core_units s units
     → AllBegun core_words core_units (start core_words core_units s units) (events_of es)
     → (let m = run_events core_words core_units (events_of es) (start core_words core_units s units) in
-       let b : CoreBase = record { store = s; units = units } in
-         Serially core_words s m.ended (core.bare_run es b).store)
+    let b : CoreBase = record { store = s; units = units } in
+    Serially core_words s m.ended (core.bare_run es b).store)
