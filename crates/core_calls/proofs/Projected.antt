@@ -1,5 +1,5 @@
 -- How long a row is of which some columns are asked for.
-use Rattle.std.proofs.Common.{◌≡◌, ◌≤◌, ◌⊎◌, inl, inr, ⊎_elim, ℕ, zero, suc, ◌+◌, ◌*◌, Bool, true, false, ◌&&◌, List, [], ◌∷◌, length, Option, Some, None, refl, sym, ◌∙◌, ap, subst, arith, nat_le, nat_lt, eqb-true, length-append}
+use Rattle.std.proofs.Common.{◌≡◌, ◌≤◌, ℕ, zero, suc, ◌*◌, Bool, true, false, ◌&&◌, List, [], ◌∷◌, length, Option, Some, None, refl, sym, ◌∙◌, ap, subst, arith, nat_le, nat_lt, eqb-true, length-append}
 use Rattle.std.specs.Prelude.{if◌then◌else◌, is_none, is_some, option_map, unwrap_or}
 use Rattle.std.specs.Option.{option_and_then}
 use Rattle.std.specs.List.{cons_option, list_all, slice_get}
@@ -12,7 +12,7 @@ use Rattle.row_values.specs.Value.{Value, null, number, text, binary}
 use Rattle.row_values.specs.Column.{Column, fits, within}
 use Rattle.row_values.specs.Schema.{Schema, are_columns, is_column, is_key_of, is_limit, is_name, is_schema, no_repeat, picked, same_name}
 use Rattle.row_values.specs.Row.{all_fit, is_row, row_bytes, typed_value_at, value_at, value_bytes, values_at, values_in, values_of}
-use Rattle.tables.specs.RowList.{RowList, is_list, is_selection}
+use Rattle.tables.specs.RowList.{is_selection}
 use Rattle.core_calls.specs.Projected.{ProjectedRowsAreShort, projected}
 
 first_true : (a b : Bool) → (a && b) ≡ true → a ≡ true

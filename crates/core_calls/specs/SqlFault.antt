@@ -1,6 +1,6 @@
 -- Each fault of a statement with its SQLCODE and its SQLSTATE. The codes are DB2's, the states those of
 -- ISO/IEC 9075-2 with DB2's subclasses.
-use Rattle.std.specs.Prelude.{ℕ, List, [], ◌∷◌, codes}
+use Rattle.std.specs.Prelude.{ℕ, List, codes}
 use Rattle.core_calls.specs.declared.sql_fault.SqlFault.{SqlFault}
 use Rattle.core_calls.specs.declared.sql_fault.SqlFault.TheVariants.{Syntax, TableUnknown, ColumnUnknown, ParameterMismatch, TypeMismatch, NullGiven, OutOfRange, TooLong, NotPrepared, TableExists, KeyExists, LimitReached, Claimed}
 

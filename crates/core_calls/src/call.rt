@@ -16,25 +16,26 @@ pub enum Side {
     Input,
 }
 
-/// What a conversation asks of the core. Statements and parameters are lent: nothing in a call owns
-/// memory, so that a call can be lent itself, and copied.
+/// What a conversation asks of the core. Statements and parameters are lent, for `'a`, and what they
+/// borrow lives as long as `'t`: nothing in a call owns memory, so that a call can be lent itself, and
+/// copied.
 #[derive(Clone, Copy)]
-pub enum CoreCall<'a> {
+pub enum CoreCall<'a, 't> {
     /// A statement that is no SELECT is run, with these values for its markers (DDM EXCSQLIMM and
     /// EXCSQLSTT).
     Run {
-        statement: &'a Statement<'a>,
-        parameters: &'a [Value<'a>],
+        statement: &'a Statement<'t>,
+        parameters: &'a [Value<'t>],
     },
     /// A SELECT is evaluated, with these values for its markers (DDM OPNQRY).
     Query {
-        statement: &'a Statement<'a>,
-        parameters: &'a [Value<'a>],
+        statement: &'a Statement<'t>,
+        parameters: &'a [Value<'t>],
     },
     /// The columns or the parameters of a statement are described (DDM DSCSQLSTT, and PRPSQLSTT with
     /// RTNSQLDA).
     Describe {
-        statement: &'a Statement<'a>,
+        statement: &'a Statement<'t>,
         side: Side,
     },
     /// The local unit is committed (DDM RDBCMM).

@@ -20,12 +20,12 @@ use Rattle.sql_order.specs.SqlWords.{Call, Describe, Run, Seen, Told, Unfit, Wit
 use Rattle.sql_order.proofs.Steady.{Grows, Shows, foreign_change, grows_apply, of_frame, own_change, same_bytes, to_frame, which}
 use Rattle.sql_order.proofs.Sound.{meaning_sound}
 
-to_claims : (c : Claim) (cs : List Claim) → In c cs → InClaims c cs
+pub to_claims : (c : Claim) (cs : List Claim) → In c cs → InClaims c cs
 to_claims c [] i = i
 to_claims c (d ∷ ds) (inl same) = inl same
 to_claims c (d ∷ ds) (inr i) = inr (to_claims c ds i)
 
-of_claims : (c : Claim) (cs : List Claim) → InClaims c cs → In c cs
+pub of_claims : (c : Claim) (cs : List Claim) → InClaims c cs → In c cs
 of_claims c [] i = i
 of_claims c (d ∷ ds) (inl same) = inl same
 of_claims c (d ∷ ds) (inr i) = inr (of_claims c ds i)

@@ -57,11 +57,12 @@ module _ (w : Words) (k : UnitMap w) (kl : UnitMapLaws w k) where
   all_begun m (Commit p ∷ es) closed in_doubt asks = (tt, all_begun (happens w k m (Commit p)) es closed (λ o is. in_doubt o (found_was m (Commit p) o is)) asks)
   all_begun m (Leave p ∷ es) closed in_doubt asks = (tt, all_begun (happens w k m (Leave p)) es closed (λ o is. in_doubt o (found_was m (Leave p) o is)) asks)
 
-module _ (w : Words) (l : Laws w) (k : UnitMap w) (kl : UnitMapLaws w k) (d : Calls w k) (dl : CallLaws w k d) where
-  events_hold : (first : w.Store) (es : List (Event w k)) (m : World w k) → Holds w l k kl first m → Holds w l k kl first (run_events w k es m)
+module _ (w : Words) (l : Laws w) (k : UnitMap w) (kl : UnitMapLaws w k) where
+  pub events_hold : (first : w.Store) (es : List (Event w k)) (m : World w k) → Holds w l k kl first m → Holds w l k kl first (run_events w k es m)
   events_hold first [] m h = h
   events_hold first (e ∷ es) m h = events_hold first es (happens w k m e) (goes_on w l k kl first m e h)
 
+module _ (w : Words) (l : Laws w) (k : UnitMap w) (kl : UnitMapLaws w k) (d : Calls w k) (dl : CallLaws w k d) where
   record Fine (first : w.Store) (s : Story w k d) : Type 0 where
     holds : Holds w l k kl first s.world
     in_doubt : (o : k.Owner) → s.world.found o ≡ true → d.prepared s.rest o ≡ true
@@ -78,7 +79,7 @@ module _ (w : Words) (l : Laws w) (k : UnitMap w) (kl : UnitMapLaws w k) (d : Ca
   fine : (first : w.Store) (s : Story w k d) (call : d.Asked) → Fine first s → Fine first (told w k d s call)
   fine first s call f =
       let es = d.events s.rest (forget w k s.world) call in record {
-        holds = events_hold first es s.world f.holds;
+        holds = events_hold w l k kl first es s.world f.holds;
         in_doubt = λ o is.
             let r = found_run w k kl s.world es o is in
             ⊎_elim (λ still. still) (λ ends. absurd (r.1 ends)) (dl.stays s.rest (forget w k s.world) call o (f.in_doubt o r.0));

@@ -1,0 +1,28 @@
+//! Laws of the definitions. The functions do nothing: their contracts are the laws.
+
+ghost use Rattle.unit_order.specs.Serial.{SerialOrder};
+ghost use Rattle.unit_order.specs.Steps.{EventsKeep};
+ghost use Rattle.core_order.specs.CoreWords.{CoreOrder, EventsAreTheirs, core_units, core_words};
+
+use sql_meaning::laws::statements_are_framed;
+use tables::laws::{changes_are_local, changes_make_tables};
+use unit_locks::{adding, clash_is_symmetric};
+
+/// Units of the core that run side by side have the answers and the changes that they have one after
+/// another.
+pub fn histories_are_serial()
+    // of any list of questions, commits and ends of the core's owners after an opening
+    ensures events { SerialOrder core_words core_units }
+    // what that asks of an opening, each event keeps
+    ensures kept { EventsKeep core_words core_units }
+    // the events of the law do to store and units what the core's events do
+    ensures theirs { EventsAreTheirs }
+    // so the committed units, one after another, lead to the store that the core's events lead to
+    ensures core { CoreOrder }
+{
+    changes_are_local();
+    changes_make_tables();
+    clash_is_symmetric();
+    adding();
+    statements_are_framed();
+}

@@ -1,0 +1,4 @@
+//! The serial order of units of the core.
+#![tactic(auto)]
+
+pub mod laws;
