@@ -1,5 +1,5 @@
 -- What becomes of a unit that asks.
-use Rattle.std.proofs.Common.{◌≡◌, ◌⊎◌, inl, inr, ⊎_elim, ℕ, Bool, true, false, List, [], ◌∷◌, ◌++◌, Option, Some, None, refl, sym, ◌∙◌, ap, subst}
+use Rattle.std.proofs.Common.{◌≡◌, inl, inr, ⊎_elim, ℕ, Bool, true, false, List, [], ◌∷◌, ◌++◌, Option, Some, None, refl, sym, ◌∙◌, ap, subst}
 use Rattle.std.specs.Prelude.{if◌then◌else◌, ◌||◌, Ok, Err, option_map, unwrap_or}
 use Rattle.std.specs.List.{list_any}
 use Rattle.sql_text.specs.declared.tree.Statement.{Statement}
@@ -28,12 +28,12 @@ use Rattle.sql_meaning.specs.Meaning.{Answer as Meant, Changes, Refused, Rows}
 use Rattle.sql_meaning.specs.Frame.{CoveredIsEnough, changes_of, claims_in, covered_answer}
 use Rattle.sql_meaning.specs.Scope.{table_name}
 use Rattle.core_steps.specs.Describe.{described, described_columns, side_of}
-use Rattle.core_steps.specs.Units.{Held, Owner, Work, clashes, global, is_full, left_of, local, others, same_owner, unit_of, view}
+use Rattle.core_steps.specs.Units.{Owner, Work, clashes, global, is_full, left_of, local, others, unit_of, view}
 use Rattle.core_steps.specs.Asked as asking
 use Rattle.core_steps.specs.Asked.{Clashes, Done, Outcome, Question, TooMany, Unfit, answer_in, answer_to, asked, changes_by, claims_of, describing, fit_or, is_select, kept, meant, number_fault, outcome, querying, running, unfit}
 use Rattle.core_steps.specs.Events.{Base, asked_of, happens_asked}
-use Rattle.core_steps.specs.Step.{CoreState, owner_of, step_state}
-use Rattle.core_steps.specs.Laws.{AnswersAreMeanings, Claimed, ClaimsAreKept, Means, RefusalsChangeNothing, RefusalsMakeNoChange, StatementsStay, UnfitIsRefused, WorkIsWhereJoined, answered, is_meant, question_of}
+use Rattle.core_steps.specs.Step.{CoreState, owner_of}
+use Rattle.core_steps.specs.Laws.{AnswersAreMeanings, Claimed, ClaimsAreKept, Means, RefusalsChangeNothing, RefusalsMakeNoChange, StatementsStay, UnfitIsRefused, WorkIsWhereJoined, is_meant, question_of}
 use Rattle.core_steps.proofs.Owners.{both, others_has, unit_of_set, which}
 use Rattle.core_steps.proofs.Happening.{others_stay, store_stays}
 
@@ -92,12 +92,12 @@ module _ (ds : List Claim) (u : Work) (cs : List Claim) (a : Answer) (xs : List 
   nothing b o (Some f) good h = refl
   nothing b o None good h =
       ⊎_elim
-        (λ so. ap (λ t. happens_asked b o (Free t)) so)
-        (λ n. ⊎_elim
-          (λ so. ap (λ t. happens_asked b o (Free t)) n ∙ ap (λ t. happens_asked b o (Fit t)) so)
-          (λ m. both (is_meant a) good (sym (ap (λ t. is_meant (answer_in (Fit t))) m) ∙ sym (ap (λ t. is_meant (answer_in (Free t))) n) ∙ h))
-          (which (is_full (all_added u.claims cs))))
-        (which (clashes cs ds))
+      (λ so. ap (λ t. happens_asked b o (Free t)) so)
+      (λ n. ⊎_elim
+      (λ so. ap (λ t. happens_asked b o (Free t)) n ∙ ap (λ t. happens_asked b o (Fit t)) so)
+      (λ m. both (is_meant a) good (sym (ap (λ t. is_meant (answer_in (Fit t))) m) ∙ sym (ap (λ t. is_meant (answer_in (Free t))) n) ∙ h))
+      (which (is_full (all_added u.claims cs))))
+      (which (clashes cs ds))
 
   -- what holds before holds behind, whatever the outcome
   pub through : (P : Base → Type 0) (b : Base) (o : Owner) (e : Option SqlFault) → P b
@@ -106,24 +106,24 @@ module _ (ds : List Claim) (u : Work) (cs : List Claim) (a : Answer) (xs : List 
   through P b o (Some f) before done = before
   through P b o None before done =
       ⊎_elim
-        (λ so. subst (λ t. P (happens_asked b o (Free t))) (sym so) before)
-        (λ n. subst (λ t. P (happens_asked b o (Free t))) (sym n) (⊎_elim
-          (λ so. subst (λ t. P (happens_asked b o (Fit t))) (sym so) before)
-          (λ m. subst (λ t. P (happens_asked b o (Fit t))) (sym m) (done n m))
-          (which (is_full (all_added u.claims cs)))))
-        (which (clashes cs ds))
+      (λ so. subst (λ t. P (happens_asked b o (Free t))) (sym so) before)
+      (λ n. subst (λ t. P (happens_asked b o (Free t))) (sym n) (⊎_elim
+      (λ so. subst (λ t. P (happens_asked b o (Fit t))) (sym so) before)
+      (λ m. subst (λ t. P (happens_asked b o (Fit t))) (sym m) (done n m))
+      (which (is_full (all_added u.claims cs)))))
+      (which (clashes cs ds))
 
   -- and where it is answered by what it means
   done : (e : Option SqlFault) → is_meant (answer_in (fit_or e (outcome ds u cs a xs))) ≡ true → (fit_or e (outcome ds u cs a xs) ≡ Done a (kept u cs xs)) × (clashes cs ds ≡ false)
   done (Some f) h = both false h refl
   done None h =
       ⊎_elim
-        (λ so. both false (sym (ap (λ t. is_meant (answer_in (Free t))) so) ∙ h) refl)
-        (λ n. ⊎_elim
-          (λ so. both false (sym (ap (λ t. is_meant (answer_in (Fit t))) so) ∙ sym (ap (λ t. is_meant (answer_in (Free t))) n) ∙ h) refl)
-          (λ m. (ap Free n ∙ ap Fit m, n))
-          (which (is_full (all_added u.claims cs))))
-        (which (clashes cs ds))
+      (λ so. both false (sym (ap (λ t. is_meant (answer_in (Free t))) so) ∙ h) refl)
+      (λ n. ⊎_elim
+      (λ so. both false (sym (ap (λ t. is_meant (answer_in (Fit t))) so) ∙ sym (ap (λ t. is_meant (answer_in (Free t))) n) ∙ h) refl)
+      (λ m. (ap Free n ∙ ap Fit m, n))
+      (which (is_full (all_added u.claims cs))))
+      (which (clashes cs ds))
 
 refused_asked : (b : Base) (o : Owner) (q : Question) → is_meant (answer_in (asked_of b o q)) ≡ false → happens_asked b o (asked_of b o q) ≡ b
 refused_asked b o q h =
@@ -176,12 +176,12 @@ unchanged b o q r None h =
     let free : Bool → Outcome = Free ds u cs a xs in
     let fit : Bool → Outcome = Fit ds u cs a xs in
     ⊎_elim
-      (λ so. subst (λ t. Unchanged b o (free t)) (sym so) refl)
-      (λ n. subst (λ t. Unchanged b o (free t)) (sym n) (⊎_elim
-        (λ so. subst (λ t. Unchanged b o (fit t)) (sym so) refl)
-        (λ m. subst (λ t. Unchanged b o (fit t)) (sym m) (done_unchanged b o cs a xs (changes_none q (left_of u) v r (sym (ap (λ t. answer_in (fit t)) m) ∙ sym (ap (λ t. answer_in (free t)) n) ∙ h))))
-        (which (is_full (all_added u.claims cs)))))
-      (which (clashes cs ds))
+    (λ so. subst (λ t. Unchanged b o (free t)) (sym so) refl)
+    (λ n. subst (λ t. Unchanged b o (free t)) (sym n) (⊎_elim
+    (λ so. subst (λ t. Unchanged b o (fit t)) (sym so) refl)
+    (λ m. subst (λ t. Unchanged b o (fit t)) (sym m) (done_unchanged b o cs a xs (changes_none q (left_of u) v r (sym (ap (λ t. answer_in (fit t)) m) ∙ sym (ap (λ t. answer_in (free t)) n) ∙ h))))
+    (which (is_full (all_added u.claims cs)))))
+    (which (clashes cs ds))
 
 pub refusals_make_no_change : RefusalsMakeNoChange
 refusals_make_no_change s c (call.run st params) q r is h = unchanged s.base (owner_of s.branches c) (running st params) r (unfit (running st params)) h
@@ -281,8 +281,7 @@ unfit_is_refused s c st params =
     let o = owner_of s.branches c in
     let run_by : Bool → Option SqlFault = λ b. if b then Some fault.NotPrepared else number_fault st params in
     let query_by : Bool → Option SqlFault = λ b. if b then number_fault st params else Some fault.NotPrepared in
-    let number_by : Bool → Option SqlFault = λ b. if b then None else Some fault.ParameterMismatch in
-    (
+    let number_by : Bool → Option SqlFault = λ b. if b then None else Some fault.ParameterMismatch in (
       λ e. unfit_answer s.base o (running st params) fault.NotPrepared (ap run_by e),
       λ e. unfit_answer s.base o (querying st params) fault.NotPrepared (ap query_by e),
       λ e. ⊎_elim (λ so. inr so) (λ n. inl (unfit_answer s.base o (running st params) fault.ParameterMismatch (ap run_by n ∙ ap number_by e))) (which (is_select st.command)),

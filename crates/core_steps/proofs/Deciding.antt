@@ -1,11 +1,11 @@
 -- Units in doubt wait for their decision.
-use Rattle.std.proofs.Common.{◌≡◌, ◌⊎◌, inl, inr, ⊎_elim, ℕ, Bool, true, false, List, [], ◌∷◌, Option, Some, None, refl, sym, ◌∙◌, ap, subst}
+use Rattle.std.proofs.Common.{◌≡◌, inl, inr, ⊎_elim, ℕ, Bool, true, false, List, [], ◌∷◌, Option, Some, None, refl, sym, ap, subst}
 use Rattle.std.specs.Prelude.{IsTrue, option_map, unwrap_or}
 use Rattle.drda_words.specs.Order.{IsRising}
 use Rattle.xa_calls.specs.declared.request.Request.TheVariants as request
 use Rattle.xa_manager.specs.declared.branch.Branch.{Branch}
 use Rattle.xa_manager.specs.declared.branch.BranchState.{BranchState}
-use Rattle.xa_manager.specs.declared.branch.BranchState.TheVariants.{Active, Prepared}
+use Rattle.xa_manager.specs.declared.branch.BranchState.TheVariants.{Active}
 use Rattle.xa_manager.specs.declared.due.Action.{Action}
 use Rattle.xa_manager.specs.declared.due.Action.TheVariants as action
 use Rattle.xa_manager.specs.declared.due.Outcome.TheVariants as decided
@@ -14,9 +14,9 @@ use Rattle.xa_manager.specs.Laws.{JoinedIsActive, PreparedOutlives, PreparedStay
 use Rattle.core_calls.specs.Call as call
 use Rattle.core_calls.specs.Call.{Call}
 use Rattle.core_steps.specs.Units.{Owner, global, local}
-use Rattle.core_steps.specs.Events.{Ask, Base, Commit, Event, Leave}
-use Rattle.core_steps.specs.Step.{action_events, events, facts, lost_xids, owner_of}
-use Rattle.core_steps.specs.Laws.{AsksNone, Ends, InDoubtWait, InDoubtWaits, IsPrepared}
+use Rattle.core_steps.specs.Events.{Ask, Commit, Event, Leave}
+use Rattle.core_steps.specs.Step.{action_events, events, facts, lost_xids}
+use Rattle.core_steps.specs.Laws.{AsksNone, Ends, InDoubtWait, IsPrepared}
 use Rattle.core_steps.proofs.Owners.{both}
 use Rattle.core_steps.proofs.Keeping.{NoAsks, of_commit, of_lost, of_roll_back, of_xa}
 

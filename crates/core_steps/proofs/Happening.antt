@@ -1,13 +1,11 @@
 -- What an event does to the unit of its owner, and to the others.
-use Rattle.std.proofs.Common.{◌≡◌, ◌⊎◌, inl, inr, ⊎_elim, ℕ, Bool, true, false, List, [], ◌∷◌, Option, Some, None, refl, sym, ◌∙◌, ap, subst}
-use Rattle.xa_calls.specs.declared.request.Verb.{Verb}
+use Rattle.std.proofs.Common.{◌≡◌, ℕ, List, [], ◌∷◌, Option, refl, sym, ap, subst}
 use Rattle.xa_manager.specs.declared.due.Action.{Action}
 use Rattle.xa_manager.specs.declared.due.Action.TheVariants as action
 use Rattle.xa_manager.specs.declared.due.Outcome.TheVariants as decided
-use Rattle.xa_manager.specs.Branch.{joined_xid}
-use Rattle.core_steps.specs.Units.{Held, Owner, Work, global, local, same_owner, set_unit, unit_of, without}
+use Rattle.core_steps.specs.Units.{Owner, global, local}
 use Rattle.core_steps.specs.Asked.{Clashes, Done, Outcome, TooMany, Unfit}
-use Rattle.core_steps.specs.Events.{Ask, Base, Commit, Event, Leave, bare, bare_run, happens_asked}
+use Rattle.core_steps.specs.Events.{Base, Commit, Event, Leave, bare, bare_run, happens_asked}
 use Rattle.core_steps.specs.Step.{CoreState, action_events, due_in, unless_joined}
 use Rattle.core_steps.specs.Laws.{BranchesWork, Commits, Does, GlobalUnitsStay, LocalUnitsEnd, OthersStay, RollsBack}
 use Rattle.core_steps.proofs.Owners.{unit_of_gone, unit_of_other, unit_of_without}

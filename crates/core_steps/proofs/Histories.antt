@@ -1,12 +1,12 @@
 -- What holds along whole histories.
-use Rattle.std.proofs.Common.{◌≡◌, ◌≤◌, ℕ, List, [], ◌∷◌, length, refl}
+use Rattle.std.proofs.Common.{ℕ, [], ◌∷◌, refl}
 use Rattle.std.proofs.lemmas.Bool.{ltb-false}
 use Rattle.tables.specs.Laws as tables
 use Rattle.unit_locks.specs.Claims.{AddsClaims}
 use Rattle.core_calls.specs.Call.{Call}
 use Rattle.sql_meaning.specs.Frame as frame
 use Rattle.sql_meaning.specs.Frame.{CoveredIsEnough}
-use Rattle.core_steps.specs.Step.{CoreState, Kept, Listed, Mark, Taken, owner_of, replay, step_by, step_state}
+use Rattle.core_steps.specs.Step.{CoreState, Kept, Mark, Taken, owner_of, step_by, step_state}
 use Rattle.core_steps.specs.Laws.{HistoriesAreSane, IsSane, NewCoresAreSane}
 use Rattle.core_steps.proofs.Listing.{units_stay_listed}
 use Rattle.core_steps.proofs.Lying.{changes_lie}

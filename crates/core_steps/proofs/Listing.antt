@@ -1,13 +1,12 @@
 -- The units stand in the order of their owners.
-use Rattle.std.proofs.Common.{◌≡◌, ◌≤◌, ◌<◌, ◌⊎◌, inl, inr, ⊎_elim, ℕ, suc, Bool, true, false, ◌==◌, List, [], ◌∷◌, refl, sym, ◌∙◌, ap, subst, arith, eq-eqb}
+use Rattle.std.proofs.Common.{◌≡◌, ◌≤◌, ◌<◌, ⊎_elim, ℕ, Bool, true, false, ◌==◌, List, [], ◌∷◌, refl, sym, ◌∙◌, ap, subst, arith, eq-eqb}
 use Rattle.std.specs.Prelude.{if◌then◌else◌, bytes_eq, nat_lt}
 use Rattle.std.proofs.lemmas.Bool.{eqb-true, ltb-false, ltb-true, lt-ltb}
-use Rattle.drda_words.specs.Order.{precedes}
 use Rattle.drda_words.proofs.Precedes.{bytes_eq-refl, precedes-trans, precedes_or, precedes_other, same_bytes}
 use Rattle.core_steps.specs.Units.{Held, Owner, Work, comes_before, global, has_work, idle, local, left_of, others, same_owner, set_unit, unit_of, view, with_unit, without}
-use Rattle.core_steps.specs.Asked.{Done, Question, answer_to, changes_by, claims_of, kept, unfit}
-use Rattle.core_steps.specs.Events.{Ask, Base, Commit, Leave, bare, happens_asked}
-use Rattle.core_steps.specs.Step.{CoreState, owner_of}
+use Rattle.core_steps.specs.Asked.{Question, answer_to, changes_by, claims_of, kept, unfit}
+use Rattle.core_steps.specs.Events.{Ask, Base, bare}
+use Rattle.core_steps.specs.Step.{owner_of}
 use Rattle.core_steps.specs.Laws.{AreListed, ComesFirst, OneListing, UnitsStayListed}
 use Rattle.core_steps.proofs.Owners.{Lacks, both, owners_same, same_self, which, without_lacks}
 use Rattle.core_steps.proofs.Asking.{through}
@@ -65,9 +64,9 @@ listed_with new [] works lacks listed = (works, tt, tt)
 listed_with new (h ∷ hs) works lacks listed =
     let P : Bool → Type 0 = λ b. AreListed (if b then new ∷ h ∷ hs else h ∷ with_unit new hs) in
     ⊎_elim
-      (λ so. subst P (sym so) (works, (so, first_through new.owner h.owner hs so listed.1), listed))
-      (λ n. subst P (sym n) (listed.0, first_with h.owner new hs (or_before new.owner h.owner n lacks.0) listed.1, listed_with new hs works lacks.1 listed.2))
-      (which (comes_before new.owner h.owner))
+    (λ so. subst P (sym so) (works, (so, first_through new.owner h.owner hs so listed.1), listed))
+    (λ n. subst P (sym n) (listed.0, first_with h.owner new hs (or_before new.owner h.owner n lacks.0) listed.1, listed_with new hs works lacks.1 listed.2))
+    (which (comes_before new.owner h.owner))
 
 listed_set : (o : Owner) (u : Work) (hs : List Held) → AreListed hs → AreListed (set_unit o u hs)
 listed_set o u hs listed =
@@ -119,11 +118,11 @@ ahead h k hs ks one two same so =
 level : (h k : Held) (hs ks : List Held) → AreListed (h ∷ hs) → AreListed (k ∷ ks) → ((o : Owner) → unit_of o (h ∷ hs) ≡ unit_of o (k ∷ ks)) → same_owner h.owner k.owner ≡ true
 level h k hs ks one two same =
     ⊎_elim (λ so. so)
-      (λ ne. ⊎_elim
-        (λ so. ahead h k hs ks one two (same h.owner) so)
-        (λ n. ahead k h ks hs two one (sym (same k.owner)) (or_before h.owner k.owner n ne))
-        (which (comes_before h.owner k.owner)))
-      (which (same_owner h.owner k.owner))
+    (λ ne. ⊎_elim
+    (λ so. ahead h k hs ks one two (same h.owner) so)
+    (λ n. ahead k h ks hs two one (sym (same k.owner)) (or_before h.owner k.owner n ne))
+    (which (comes_before h.owner k.owner)))
+    (which (same_owner h.owner k.owner))
 
 behind : (o : Owner) (h : Held) (hs : List Held) → same_owner o h.owner ≡ false → unit_of o (h ∷ hs) ≡ unit_of o hs
 behind o h hs ne = ap (λ b. if b then h.work else unit_of o hs) ne
@@ -136,12 +135,12 @@ one_listing (h ∷ hs) (k ∷ ks) one two same =
     let owners : h.owner ≡ k.owner = owners_same h.owner k.owner (level h k hs ks one two same) in
     let works : h.work ≡ k.work = sym (here h hs) ∙ same h.owner ∙ ap (λ (o : Owner). unit_of o (k ∷ ks)) owners ∙ here k ks in
     let rest : hs ≡ ks = one_listing hs ks one.2 two.2 (λ o.
-        ⊎_elim
-          (λ so.
-            let at : o ≡ h.owner = owners_same o h.owner so in
-            let first : unit_of o hs ≡ idle = subst (λ (p : Owner). unit_of p hs ≡ idle) (sym at) (none_of_first h.owner hs one.1) in
-            let second : unit_of o ks ≡ idle = subst (λ (p : Owner). unit_of p ks ≡ idle) (sym (at ∙ owners)) (none_of_first k.owner ks two.1) in
-            first ∙ sym second)
-          (λ n. sym (behind o h hs n) ∙ same o ∙ behind o k ks (subst (λ (p : Owner). same_owner o p ≡ false) owners n))
-          (which (same_owner o h.owner))) in
+    ⊎_elim
+    (λ so.
+    let at : o ≡ h.owner = owners_same o h.owner so in
+    let first : unit_of o hs ≡ idle = subst (λ (p : Owner). unit_of p hs ≡ idle) (sym at) (none_of_first h.owner hs one.1) in
+    let second : unit_of o ks ≡ idle = subst (λ (p : Owner). unit_of p ks ≡ idle) (sym (at ∙ owners)) (none_of_first k.owner ks two.1) in
+    first ∙ sym second)
+    (λ n. sym (behind o h hs n) ∙ same o ∙ behind o k ks (subst (λ (p : Owner). same_owner o p ≡ false) owners n))
+    (which (same_owner o h.owner))) in
     λ i. record { owner = owners i; work = works i } ∷ rest i

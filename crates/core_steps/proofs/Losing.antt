@@ -1,5 +1,5 @@
 -- What goes with a conversation.
-use Rattle.std.proofs.Common.{◌≡◌, ◌≢◌, ◌⊎◌, inl, inr, ⊎_elim, ℕ, Bool, true, false, ◌==◌, List, [], ◌∷◌, Option, Some, None, refl, sym, ◌∙◌, ap, subst}
+use Rattle.std.proofs.Common.{◌≡◌, ◌≢◌, inl, inr, ⊎_elim, ℕ, Bool, true, false, ◌==◌, List, [], ◌∷◌, Option, Some, refl, sym, ◌∙◌, ap, subst}
 use Rattle.std.proofs.lemmas.Bool.{eqb-true}
 use Rattle.std.specs.Prelude.{if◌then◌else◌, bytes_eq, filter, map, unwrap_or}
 use Rattle.drda_words.proofs.Precedes.{same_bytes}
@@ -8,9 +8,9 @@ use Rattle.xa_manager.specs.declared.branch.BranchState.{BranchState}
 use Rattle.xa_manager.specs.Branch.{is_last_joined_by, state_of}
 use Rattle.core_steps.specs.Units.{Owner, global, idle, local, same_owner, unit_of, without}
 use Rattle.core_steps.specs.Events.{Base, Event, Leave, bare, bare_run}
-use Rattle.core_steps.specs.Step.{CoreState, lost_xids}
+use Rattle.core_steps.specs.Step.{lost_xids}
 use Rattle.core_steps.specs.Laws.{InXids, LostLeavesNothing}
-use Rattle.core_steps.proofs.Owners.{both, owners_same, unit_of_gone, unit_of_without, which}
+use Rattle.core_steps.proofs.Owners.{owners_same, unit_of_gone, unit_of_without, which}
 
 abbrev leaves : List (List ℕ) → List Event
 leaves xs = map (λ x. Leave (global x)) xs
@@ -23,10 +23,10 @@ still_idle : (p : Owner) (xs : List (List ℕ)) (b : Base) → unit_of p b.units
 still_idle p [] b h = h
 still_idle p (x ∷ xs) b h =
     still_idle p xs (bare b (Leave (global x)))
-      (⊎_elim
-        (λ so. subst (λ (o : Owner). unit_of p (without o b.units) ≡ idle) (owners_same p (global x) so) (unit_of_gone p b.units))
-        (λ n. unit_of_without p (global x) b.units n ∙ h)
-        (which (same_owner p (global x))))
+    (⊎_elim
+    (λ so. subst (λ (o : Owner). unit_of p (without o b.units) ≡ idle) (owners_same p (global x) so) (unit_of_gone p b.units))
+    (λ n. unit_of_without p (global x) b.units n ∙ h)
+    (which (same_owner p (global x))))
 
 left_idle : (xid : List ℕ) (xs : List (List ℕ)) (b : Base) → InXids xid xs → unit_of (global xid) (bare_run (leaves xs) b).units ≡ idle
 left_idle xid [] b i = absurd i
@@ -54,11 +54,11 @@ module _ (test : Branch → Bool) where
   found xid state [] passes e = absurd cc
   found xid state (b ∷ bs) passes e =
       ⊎_elim
-        (λ so.
-          let here : b.state ≡ state = ap (λ (o : Option BranchState). unwrap_or o state) (sym (ap (λ t. if t then Some b.state else state_of bs xid) so) ∙ e) in
-          subst (λ t. InXids xid (picked_by t b bs)) (sym (passes b here)) (inl (sym (same_bytes b.xid xid so))))
-        (λ n. behind (test b) xid b bs (found xid state bs passes (sym (ap (λ t. if t then Some b.state else state_of bs xid) n) ∙ e)))
-        (which (bytes_eq b.xid xid))
+      (λ so.
+      let here : b.state ≡ state = ap (λ (o : Option BranchState). unwrap_or o state) (sym (ap (λ t. if t then Some b.state else state_of bs xid) so) ∙ e) in
+      subst (λ t. InXids xid (picked_by t b bs)) (sym (passes b here)) (inl (sym (same_bytes b.xid xid so))))
+      (λ n. behind (test b) xid b bs (found xid state bs passes (sym (ap (λ t. if t then Some b.state else state_of bs xid) n) ∙ e)))
+      (which (bytes_eq b.xid xid))
 
 not_equal : (m n : ℕ) → m ≢ n → (m == n) ≡ false
 not_equal m n ne = ⊎_elim (λ so. absurd (ne (eqb-true m n so))) (λ f. f) (which (m == n))

@@ -1,5 +1,5 @@
 -- Each change of a unit lies in a write claim of the unit.
-use Rattle.std.proofs.Common.{◌≡◌, ◌⊎◌, inl, inr, ⊎_elim, ℕ, Bool, true, false, List, [], ◌∷◌, ◌++◌, Option, Some, None, refl, sym, ◌∙◌, ap, subst}
+use Rattle.std.proofs.Common.{◌≡◌, ◌⊎◌, inl, inr, ⊎_elim, ℕ, Bool, true, List, [], ◌∷◌, ◌++◌, Option, Some, None, refl, sym, ◌∙◌, ap, subst}
 use Rattle.std.specs.Prelude.{if◌then◌else◌, bytes_eq, unwrap_or}
 use Rattle.drda_words.proofs.Precedes.{same_bytes}
 use Rattle.row_values.specs.Schema.{Schema}
@@ -13,10 +13,10 @@ use Rattle.unit_locks.specs.Claims.{AddsClaims, all_added}
 use Rattle.sql_meaning.specs.Meaning.{Answer as Meant}
 use Rattle.sql_meaning.specs.Frame as frame
 use Rattle.sql_meaning.specs.Frame.{CoveredIsEnough, HasKey, In, InWrite, Within, changes_of, covered_answer}
-use Rattle.core_steps.specs.Units.{Held, Owner, Work, apply_all, idle, left_of, others, same_owner, unit_of, view, without}
+use Rattle.core_steps.specs.Units.{Held, Owner, Work, apply_all, left_of, others, same_owner, unit_of, view, without}
 use Rattle.core_steps.specs.Asked.{Done, Question, answer_to, changes_by, claims_of, describing, kept, querying, running, unfit}
 use Rattle.core_steps.specs.Events.{Ask, Base, Commit, Leave, bare, happens_asked}
-use Rattle.core_steps.specs.Step.{CoreState, owner_of}
+use Rattle.core_steps.specs.Step.{owner_of}
 use Rattle.core_steps.specs.Laws.{AllLie, ChangesLie, LiesIn}
 use Rattle.core_steps.proofs.Owners.{owners_same, unit_of_gone, unit_of_other, unit_of_set, unit_of_without, which}
 use Rattle.core_steps.proofs.Asking.{through}
@@ -70,11 +70,11 @@ module _ (created : tables.Created) (puts : tables.Put) (removed : tables.Remove
       let P : Bool → Option Schema = λ b. if b then Some (unwrap_or (schema_of s name) new) else schema_of s q in
       let e : schema_of (apply (create name new) s) q ≡ P (bytes_eq q name) = (created name new s).schemas q in
       ⊎_elim
-        (λ so.
-          let there : schema_of s name ≡ Some schema = subst (λ (y : List ℕ). schema_of s y ≡ Some schema) (same_bytes q name so) is in
-          e ∙ ap P so ∙ ap (λ (o : Option Schema). let r : Option Schema = Some (unwrap_or o new) in r) there)
-        (λ n. e ∙ ap P n ∙ is)
-        (which (bytes_eq q name))
+      (λ so.
+      let there : schema_of s name ≡ Some schema = subst (λ (y : List ℕ). schema_of s y ≡ Some schema) (same_bytes q name so) is in
+      e ∙ ap P so ∙ ap (λ (o : Option Schema). let r : Option Schema = Some (unwrap_or o new) in r) there)
+      (λ n. e ∙ ap P n ∙ is)
+      (which (bytes_eq q name))
   grows_one (put name row) s q schema is = (puts name row s).schemas q ∙ is
   grows_one (remove name key) s q schema is = (removed name key s).schemas q ∙ is
 
@@ -88,9 +88,9 @@ module _ (created : tables.Created) (puts : tables.Put) (removed : tables.Remove
       let P : Bool → Option Schema = λ b. if b then Some (unwrap_or (schema_of s name) new) else schema_of s q in
       let e : schema_of (apply (create name new) s) q ≡ P (bytes_eq q name) = (created name new s).schemas q in
       ⊎_elim
-        (λ so. inr (subst (λ (y : List ℕ). InWrite y None cs) (sym (same_bytes q name so)) w.0))
-        (λ n. inl (sym (ap P n) ∙ sym e ∙ is))
-        (which (bytes_eq q name))
+      (λ so. inr (subst (λ (y : List ℕ). InWrite y None cs) (sym (same_bytes q name so)) w.0))
+      (λ n. inl (sym (ap P n) ∙ sym e ∙ is))
+      (which (bytes_eq q name))
   from_one (put name row) s cs q schema w is = inl (sym ((puts name row s).schemas q) ∙ is)
   from_one (remove name key) s cs q schema w is = inl (sym ((removed name key s).schemas q) ∙ is)
 
@@ -98,9 +98,9 @@ module _ (created : tables.Created) (puts : tables.Put) (removed : tables.Remove
   schema_from [] s cs q schema lies is = inl is
   schema_from (x ∷ xs) s cs q schema lies is =
       ⊎_elim
-        (λ e. from_one x s cs q schema (lies x (inl refl)) e)
-        (λ w. inr w)
-        (schema_from xs (apply x s) cs q schema (λ y i. within_grows s (apply x s) y cs (grows_one x s) (lies y (inr i))) is)
+      (λ e. from_one x s cs q schema (lies x (inl refl)) e)
+      (λ w. inr w)
+      (schema_from xs (apply x s) cs q schema (λ y i. within_grows s (apply x s) y cs (grows_one x s) (lies y (inr i))) is)
 
   module _ (adds : AddsClaims) where
     new_in : (cs ds : List Claim) → Fewer ds (all_added cs ds)
@@ -113,9 +113,9 @@ module _ (created : tables.Created) (puts : tables.Put) (removed : tables.Remove
     put_view s u ds table row key None lies is has i = absurd has
     put_view s u ds table row key (Some schema) lies is has i =
         ⊎_elim
-          (λ e. inr (key, subst (λ (q : Option Schema). HasKey q row key) (sym e) has, new_in u.claims ds _ i))
-          (λ w. inl (old_in u.claims ds _ w))
-          (schema_from u.changes s u.claims table schema lies is)
+        (λ e. inr (key, subst (λ (q : Option Schema). HasKey q row key) (sym e) has, new_in u.claims ds _ i))
+        (λ w. inl (old_in u.claims ds _ w))
+        (schema_from u.changes s u.claims table schema lies is)
 
     -- what lies in claims over the unit's view lies over the committed store in all that the unit claims
     within_view : (s : Store) (u : Work) (x : Change) (ds : List Claim) → LiesIn s u → Within (view s u) x ds → Within s x (all_added u.claims ds)
@@ -135,29 +135,29 @@ module _ (created : tables.Created) (puts : tables.Put) (removed : tables.Remove
       kept_lies s u q good lies x i =
           let v = view s u in let cs = claims_of q v in let xs = changes_by q (left_of u) v in
           ⊎_elim
-            (λ old. within_more s x u.claims (all_added u.claims cs) (old_in u.claims cs) (lies x old))
-            (λ new. within_view s u x cs lies (made_lie q (left_of u) v x good new))
-            (in_either x u.changes xs i)
+          (λ old. within_more s x u.claims (all_added u.claims cs) (old_in u.claims cs) (lies x old))
+          (λ new. within_view s u x cs lies (made_lie q (left_of u) v x good new))
+          (in_either x u.changes xs i)
 
       set_lie : (b : Base) (o : Owner) (w : Work) (a : _) → LiesIn b.store w → AllLie b → AllLie (happens_asked b o (Done a w))
       set_lie b o w a lies all p =
           ⊎_elim
-            (λ so. subst (λ (n : Owner). LiesIn b.store (unit_of n (happens_asked b o (Done a w)).units)) (sym (owners_same p o so)) (subst (LiesIn b.store) (sym (unit_of_set o w b.units)) lies))
-            (λ n. subst (LiesIn b.store) (sym (unit_of_other p o w b.units n)) (all p))
-            (which (same_owner p o))
+          (λ so. subst (λ (n : Owner). LiesIn b.store (unit_of n (happens_asked b o (Done a w)).units)) (sym (owners_same p o so)) (subst (LiesIn b.store) (sym (unit_of_set o w b.units)) lies))
+          (λ n. subst (LiesIn b.store) (sym (unit_of_other p o w b.units n)) (all p))
+          (which (same_owner p o))
 
       ask_lies : (b : Base) (o : Owner) (q : Question) → is_store (view b.store (unit_of o b.units)) ≡ true → AllLie b → AllLie (bare b (Ask o q))
       ask_lies b o q good all =
           let u = unit_of o b.units in let v = view b.store u in
           through (others o b.units) u (claims_of q v) (answer_to q (left_of u) v) (changes_by q (left_of u) v) AllLie b o (unfit q) all
-            (λ n m. set_lie b o (kept u (claims_of q v) (changes_by q (left_of u) v)) (answer_to q (left_of u) v) (kept_lies b.store u q good (all o)) all)
+          (λ n m. set_lie b o (kept u (claims_of q v) (changes_by q (left_of u) v)) (answer_to q (left_of u) v) (kept_lies b.store u q good (all o)) all)
 
       gone_lies : (s t : Store) (o : Owner) (hs : List Held) → Grows s t → ((p : Owner) → LiesIn s (unit_of p hs)) → (p : Owner) → LiesIn t (unit_of p (without o hs))
       gone_lies s t o hs g all p =
           ⊎_elim
-            (λ so. subst (λ (n : Owner). LiesIn t (unit_of n (without o hs))) (sym (owners_same p o so)) (subst (LiesIn t) (sym (unit_of_gone o hs)) (λ x i. absurd i)))
-            (λ n. subst (LiesIn t) (sym (unit_of_without p o hs n)) (λ x i. within_grows s t x (unit_of p hs).claims g (all p x i)))
-            (which (same_owner p o))
+          (λ so. subst (λ (n : Owner). LiesIn t (unit_of n (without o hs))) (sym (owners_same p o so)) (subst (LiesIn t) (sym (unit_of_gone o hs)) (λ x i. absurd i)))
+          (λ n. subst (LiesIn t) (sym (unit_of_without p o hs n)) (λ x i. within_grows s t x (unit_of p hs).claims g (all p x i)))
+          (which (same_owner p o))
 
       commit_lies : (b : Base) (o : Owner) → AllLie b → AllLie (bare b (Commit o))
       commit_lies b o all = gone_lies b.store (view b.store (unit_of o b.units)) o b.units (grows_all (unit_of o b.units).changes b.store) all

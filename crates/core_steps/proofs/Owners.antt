@@ -1,5 +1,5 @@
 -- The units by their owners.
-use Rattle.std.proofs.Common.{◌≡◌, ◌⊎◌, inl, inr, ⊎_elim, ℕ, Bool, true, false, List, [], ◌∷◌, ◌++◌, refl, sym, ◌∙◌, ap, subst, eq-eqb}
+use Rattle.std.proofs.Common.{◌≡◌, ◌⊎◌, inl, inr, ⊎_elim, Bool, true, false, List, [], ◌∷◌, ◌++◌, refl, sym, ◌∙◌, ap, subst, eq-eqb}
 use Rattle.std.proofs.lemmas.Bool.{eqb-true}
 use Rattle.std.specs.Prelude.{if◌then◌else◌, ◌||◌}
 use Rattle.drda_words.proofs.Precedes.{bytes_eq-refl, same_bytes}
@@ -34,17 +34,17 @@ pub unit_of_gone : (o : Owner) (hs : List Held) → unit_of o (without o hs) ≡
 unit_of_gone o [] = refl
 unit_of_gone o (h ∷ hs) =
     ⊎_elim
-      (λ so. ap (λ b. unit_of o (if b then without o hs else h ∷ without o hs)) so ∙ unit_of_gone o hs)
-      (λ n. ap (λ b. unit_of o (if b then without o hs else h ∷ without o hs)) n ∙ ap (λ b. if b then h.work else unit_of o (without o hs)) n ∙ unit_of_gone o hs)
-      (which (same_owner o h.owner))
+    (λ so. ap (λ b. unit_of o (if b then without o hs else h ∷ without o hs)) so ∙ unit_of_gone o hs)
+    (λ n. ap (λ b. unit_of o (if b then without o hs else h ∷ without o hs)) n ∙ ap (λ b. if b then h.work else unit_of o (without o hs)) n ∙ unit_of_gone o hs)
+    (which (same_owner o h.owner))
 
 pub unit_of_without : (p o : Owner) (hs : List Held) → same_owner p o ≡ false → unit_of p (without o hs) ≡ unit_of p hs
 unit_of_without p o [] ne = refl
 unit_of_without p o (h ∷ hs) ne =
     ⊎_elim
-      (λ so. ap (λ b. unit_of p (if b then without o hs else h ∷ without o hs)) so ∙ unit_of_without p o hs ne ∙ sym (ap (λ b. if b then h.work else unit_of p hs) (not_this p o h.owner ne so)))
-      (λ n. ap (λ b. unit_of p (if b then without o hs else h ∷ without o hs)) n ∙ ap (λ u. if same_owner p h.owner then h.work else u) (unit_of_without p o hs ne))
-      (which (same_owner o h.owner))
+    (λ so. ap (λ b. unit_of p (if b then without o hs else h ∷ without o hs)) so ∙ unit_of_without p o hs ne ∙ sym (ap (λ b. if b then h.work else unit_of p hs) (not_this p o h.owner ne so)))
+    (λ n. ap (λ b. unit_of p (if b then without o hs else h ∷ without o hs)) n ∙ ap (λ u. if same_owner p h.owner then h.work else u) (unit_of_without p o hs ne))
+    (which (same_owner o h.owner))
 
 -- none of this owner is listed
 abbrev pub Lacks : Owner → List Held → Type 0
@@ -61,17 +61,17 @@ unit_of_placed : (new : Held) (hs : List Held) → Lacks new.owner hs → unit_o
 unit_of_placed new [] lacks = ap (λ b. if b then new.work else idle) (same_self new.owner)
 unit_of_placed new (h ∷ hs) lacks =
     ⊎_elim
-      (λ so. ap (λ b. unit_of new.owner (if b then new ∷ h ∷ hs else h ∷ with_unit new hs)) so ∙ ap (λ b. if b then new.work else unit_of new.owner (h ∷ hs)) (same_self new.owner))
-      (λ n. ap (λ b. unit_of new.owner (if b then new ∷ h ∷ hs else h ∷ with_unit new hs)) n ∙ ap (λ b. if b then h.work else unit_of new.owner (with_unit new hs)) lacks.0 ∙ unit_of_placed new hs lacks.1)
-      (which (comes_before new.owner h.owner))
+    (λ so. ap (λ b. unit_of new.owner (if b then new ∷ h ∷ hs else h ∷ with_unit new hs)) so ∙ ap (λ b. if b then new.work else unit_of new.owner (h ∷ hs)) (same_self new.owner))
+    (λ n. ap (λ b. unit_of new.owner (if b then new ∷ h ∷ hs else h ∷ with_unit new hs)) n ∙ ap (λ b. if b then h.work else unit_of new.owner (with_unit new hs)) lacks.0 ∙ unit_of_placed new hs lacks.1)
+    (which (comes_before new.owner h.owner))
 
 unit_of_beside : (p : Owner) (new : Held) (hs : List Held) → same_owner p new.owner ≡ false → unit_of p (with_unit new hs) ≡ unit_of p hs
 unit_of_beside p new [] ne = ap (λ b. if b then new.work else idle) ne
 unit_of_beside p new (h ∷ hs) ne =
     ⊎_elim
-      (λ so. ap (λ b. unit_of p (if b then new ∷ h ∷ hs else h ∷ with_unit new hs)) so ∙ ap (λ b. if b then new.work else unit_of p (h ∷ hs)) ne)
-      (λ n. ap (λ b. unit_of p (if b then new ∷ h ∷ hs else h ∷ with_unit new hs)) n ∙ ap (λ u. if same_owner p h.owner then h.work else u) (unit_of_beside p new hs ne))
-      (which (comes_before new.owner h.owner))
+    (λ so. ap (λ b. unit_of p (if b then new ∷ h ∷ hs else h ∷ with_unit new hs)) so ∙ ap (λ b. if b then new.work else unit_of p (h ∷ hs)) ne)
+    (λ n. ap (λ b. unit_of p (if b then new ∷ h ∷ hs else h ∷ with_unit new hs)) n ∙ ap (λ u. if same_owner p h.owner then h.work else u) (unit_of_beside p new hs ne))
+    (which (comes_before new.owner h.owner))
 
 -- a unit without work is the idle one
 no_work : (xs : List Change) (cs : List Claim) → (has_any xs || has_any cs) ≡ false → record { changes = xs; claims = cs } ≡ idle
@@ -83,17 +83,17 @@ pub unit_of_set : (o : Owner) (u : Work) (hs : List Held) → unit_of o (set_uni
 unit_of_set o u hs =
     let new : Held = record { owner = o; work = u } in
     ⊎_elim
-      (λ so. ap (λ b. unit_of o (if b then with_unit new (without o hs) else without o hs)) so ∙ unit_of_placed new (without o hs) (without_lacks o hs))
-      (λ n. ap (λ b. unit_of o (if b then with_unit new (without o hs) else without o hs)) n ∙ unit_of_gone o hs ∙ sym (no_work u.changes u.claims n))
-      (which (has_work u))
+    (λ so. ap (λ b. unit_of o (if b then with_unit new (without o hs) else without o hs)) so ∙ unit_of_placed new (without o hs) (without_lacks o hs))
+    (λ n. ap (λ b. unit_of o (if b then with_unit new (without o hs) else without o hs)) n ∙ unit_of_gone o hs ∙ sym (no_work u.changes u.claims n))
+    (which (has_work u))
 
 pub unit_of_other : (p o : Owner) (u : Work) (hs : List Held) → same_owner p o ≡ false → unit_of p (set_unit o u hs) ≡ unit_of p hs
 unit_of_other p o u hs ne =
     let new : Held = record { owner = o; work = u } in
     ⊎_elim
-      (λ so. ap (λ b. unit_of p (if b then with_unit new (without o hs) else without o hs)) so ∙ unit_of_beside p new (without o hs) ne ∙ unit_of_without p o hs ne)
-      (λ n. ap (λ b. unit_of p (if b then with_unit new (without o hs) else without o hs)) n ∙ unit_of_without p o hs ne)
-      (which (has_work u))
+    (λ so. ap (λ b. unit_of p (if b then with_unit new (without o hs) else without o hs)) so ∙ unit_of_beside p new (without o hs) ne ∙ unit_of_without p o hs ne)
+    (λ n. ap (λ b. unit_of p (if b then with_unit new (without o hs) else without o hs)) n ∙ unit_of_without p o hs ne)
+    (which (has_work u))
 
 -- ---- the claims of the others
 
@@ -113,9 +113,9 @@ others_has p o (h ∷ hs) c ne i =
     let P : Bool → Type 0 = λ b. In c (if b then others o hs else h.work.claims ++ others o hs) in
     let Q : Bool → Type 0 = λ b. In c (if b then h.work else unit_of p hs).claims in
     ⊎_elim
-      (λ so. subst P (sym so) (others_has p o hs c ne (subst Q (not_this p o h.owner ne so) i)))
-      (λ n. subst P (sym n) (⊎_elim
-        (λ mine. in_left c h.work.claims (others o hs) (subst Q mine i))
-        (λ not_mine. in_right c h.work.claims (others o hs) (others_has p o hs c ne (subst Q not_mine i)))
-        (which (same_owner p h.owner))))
-      (which (same_owner o h.owner))
+    (λ so. subst P (sym so) (others_has p o hs c ne (subst Q (not_this p o h.owner ne so) i)))
+    (λ n. subst P (sym n) (⊎_elim
+    (λ mine. in_left c h.work.claims (others o hs) (subst Q mine i))
+    (λ not_mine. in_right c h.work.claims (others o hs) (others_has p o hs c ne (subst Q not_mine i)))
+    (which (same_owner p h.owner))))
+    (which (same_owner o h.owner))

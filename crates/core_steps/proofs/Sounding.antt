@@ -1,11 +1,8 @@
 -- The committed store is a store, and so is what each unit sees.
-use Rattle.std.proofs.Common.{◌≡◌, ◌⊎◌, inl, inr, ⊎_elim, ℕ, Bool, true, false, List, [], ◌∷◌, ◌++◌, Option, Some, None, refl, sym, ◌∙◌, ap, subst}
+use Rattle.std.proofs.Common.{◌≡◌, inl, inr, ⊎_elim, ℕ, Bool, true, false, List, [], ◌∷◌, ◌++◌, Option, Some, None, refl, sym, subst}
 use Rattle.std.specs.Prelude.{Ok, Err, ◌&&◌, map, filter, nat_le, nat_lt, ◌==◌, length}
 use Rattle.std.specs.List.{flat_map}
-use Rattle.sql_text.specs.declared.tree.Columns.{Columns}
-use Rattle.sql_text.specs.declared.tree.Assignment.{Assignment}
 use Rattle.sql_text.specs.declared.tree.Sum.{Sum}
-use Rattle.sql_text.specs.declared.tree.Predicate.{Predicate}
 use Rattle.sql_text.specs.declared.tree.Command.{Command}
 use Rattle.sql_text.specs.declared.tree.Command.TheVariants as command
 use Rattle.row_values.specs.Value.{Value}
@@ -13,7 +10,6 @@ use Rattle.row_values.specs.Schema.{Schema, is_name, is_schema}
 use Rattle.row_values.specs.Key.{row_key}
 use Rattle.tables.specs.Change.{Change, change_bytes, create, put, remove}
 use Rattle.tables.specs.Laws as tables
-use Rattle.tables.specs.RowList.{RowList}
 use Rattle.tables.specs.Tables.{Store, apply}
 use Rattle.tables.specs.View.{is_sound, is_store}
 use Rattle.core_calls.specs.declared.sql_fault.SqlFault.{SqlFault}
@@ -22,16 +18,15 @@ use Rattle.core_calls.specs.Answer.{Answer as Told}
 use Rattle.sql_meaning.specs.Checked.{Checked, and_then, if_none, unless}
 use Rattle.sql_meaning.specs.Classes.{filter_fault, selected_places}
 use Rattle.sql_meaning.specs.Create.{defined_schema}
-use Rattle.sql_meaning.specs.Frame.{In, changes_of, covered_answer, rows_covered, tables_covered}
+use Rattle.sql_meaning.specs.Frame.{In, changes_of}
 use Rattle.sql_meaning.specs.Insert.{first_misfit, given_row, new_row}
-use Rattle.sql_meaning.specs.Meaning.{Answer, Changes, Refused, Rows, absent_answer, answer, answered, concerns, create_answer, delete_answer, found_answer, insert_answer, put_answer, select_answer, update_answer, within_room}
-use Rattle.sql_meaning.specs.Scope.{scope, table_name}
+use Rattle.sql_meaning.specs.Meaning.{Answer, Changes, Refused, Rows, absent_answer, answer, answered, concerns, create_answer, found_answer, put_answer, within_room}
 use Rattle.sql_meaning.specs.Update.{targets, updated_row, updated_rows}
 use Rattle.sql_meaning.specs.Values.{literal_value, name_of}
 use Rattle.core_steps.specs.Units.{Held, Owner, Work, apply_all, left_of, others, same_owner, unit_of, view, without}
 use Rattle.core_steps.specs.Asked.{Done, Question, answer_to, changes_by, claims_of, describing, kept, querying, running, unfit}
 use Rattle.core_steps.specs.Events.{Ask, Base, Commit, Leave, bare, happens_asked}
-use Rattle.core_steps.specs.Step.{CoreState, owner_of}
+use Rattle.core_steps.specs.Step.{owner_of}
 use Rattle.core_steps.specs.Laws.{AreSound, StoresStay, UnitsSeeStores}
 use Rattle.core_steps.proofs.Owners.{owners_same, unit_of_gone, unit_of_other, unit_of_set, unit_of_without, which}
 use Rattle.core_steps.proofs.Asking.{through}
@@ -164,9 +159,9 @@ module _ (keeps : tables.StoresAreKept) where
   gone_sound : (o : Owner) (hs : List Held) → ((p : Owner) → AllSound (unit_of p hs).changes) → (p : Owner) → AllSound (unit_of p (without o hs)).changes
   gone_sound o hs all p =
       ⊎_elim
-        (λ so. subst (λ (n : Owner). AllSound (unit_of n (without o hs)).changes) (sym (owners_same p o so)) (subst (λ (u : Work). AllSound u.changes) (sym (unit_of_gone o hs)) none_sound))
-        (λ n. subst (λ (u : Work). AllSound u.changes) (sym (unit_of_without p o hs n)) (all p))
-        (which (same_owner p o))
+      (λ so. subst (λ (n : Owner). AllSound (unit_of n (without o hs)).changes) (sym (owners_same p o so)) (subst (λ (u : Work). AllSound u.changes) (sym (unit_of_gone o hs)) none_sound))
+      (λ n. subst (λ (u : Work). AllSound u.changes) (sym (unit_of_without p o hs n)) (all p))
+      (which (same_owner p o))
 
   commit_sound : (b : Base) (o : Owner) → AreSound b → AreSound (bare b (Commit o))
   commit_sound b o sound = (units_see_stores b sound o, gone_sound o b.units sound.1)
@@ -175,18 +170,21 @@ module _ (keeps : tables.StoresAreKept) where
   leave_sound b o sound = (sound.0, gone_sound o b.units sound.1)
 
   set_sound : (b : Base) (o : Owner) (a : Told) (w : Work) → AllSound w.changes → AreSound b → AreSound (happens_asked b o (Done a w))
-  set_sound b o a w h sound = (sound.0, λ p.
-      ⊎_elim
+  set_sound b o a w h sound = (
+    sound.0,
+    λ p.
+        ⊎_elim
         (λ so. subst (λ (n : Owner). AllSound (unit_of n (happens_asked b o (Done a w)).units).changes) (sym (owners_same p o so)) (subst (λ (u : Work). AllSound u.changes) (sym (unit_of_set o w b.units)) h))
         (λ n. subst (λ (u : Work). AllSound u.changes) (sym (unit_of_other p o w b.units n)) (sound.1 p))
-        (which (same_owner p o)))
+        (which (same_owner p o)),
+  )
 
   ask_sound : (b : Base) (o : Owner) (q : Question) → AreSound b → AreSound (bare b (Ask o q))
   ask_sound b o q sound =
       let u = unit_of o b.units in let v = view b.store u in
       let cs = claims_of q v in let a = answer_to q (left_of u) v in let xs = changes_by q (left_of u) v in
       through (others o b.units) u cs a xs AreSound b o (unfit q) sound
-        (λ n m. set_sound b o a (kept u cs xs) (both_sound u.changes xs (sound.1 o) (made_sound q (left_of u) v)) sound)
+      (λ n m. set_sound b o a (kept u cs xs) (both_sound u.changes xs (sound.1 o) (made_sound q (left_of u) v)) sound)
 
   pub stores_stay : StoresStay
   stores_stay s c k sound = step_keeps AreSound commit_sound leave_sound s c k (λ q. ask_sound s.base (owner_of s.branches c) q sound) sound

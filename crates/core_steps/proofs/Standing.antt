@@ -1,17 +1,17 @@
 -- The claims of units: that they stay apart, few and distinct.
-use Rattle.std.proofs.Common.{◌≡◌, ◌≤◌, ◌⊎◌, inl, inr, ⊎_elim, ℕ, Bool, true, false, List, [], ◌∷◌, length, refl, sym, ◌∙◌, ap, subst}
+use Rattle.std.proofs.Common.{◌≡◌, ◌≤◌, ⊎_elim, Bool, true, false, List, [], length, refl, sym, ◌∙◌, ap, subst}
 use Rattle.std.proofs.lemmas.Bool.{ltb-false}
 use Rattle.unit_locks.specs.Claim.{Claim}
 use Rattle.unit_locks.specs.Claims.{AddsClaims, AreDistinct, In, all_added}
 use Rattle.unit_locks.specs.Clash.{IsSymmetric, clash}
 use Rattle.tables.specs.Change.{Change}
 use Rattle.core_calls.specs.Answer.{Answer}
-use Rattle.core_steps.specs.Units.{Owner, Work, clashes, is_full, left_of, others, same_owner, unit_of, view, without}
+use Rattle.core_steps.specs.Units.{Owner, Work, clashes, left_of, others, same_owner, unit_of, view, without}
 use Rattle.core_steps.specs.Asked.{Done, Question, answer_to, changes_by, claims_of, kept, unfit}
 use Rattle.core_steps.specs.Events.{Ask, Base, Commit, Leave, bare, happens_asked}
-use Rattle.core_steps.specs.Step.{CoreState, owner_of}
+use Rattle.core_steps.specs.Step.{owner_of}
 use Rattle.core_steps.specs.Laws.{AreApart, AreFew, ClaimsStayFew, UnitsStayApart}
-use Rattle.core_steps.proofs.Owners.{both, others_has, owners_same, same_self, unit_of_gone, unit_of_other, unit_of_set, unit_of_without, which}
+use Rattle.core_steps.proofs.Owners.{others_has, owners_same, unit_of_gone, unit_of_other, unit_of_set, unit_of_without, which}
 use Rattle.core_steps.proofs.Asking.{all_apart, through}
 use Rattle.core_steps.proofs.Keeping.{step_keeps}
 
@@ -29,9 +29,9 @@ out_here b o p so = subst (λ (n : Owner). (unit_of n (without o b.units)).claim
 out_was : (b : Base) (o p : Owner) (c : Claim) → In c (unit_of p (without o b.units)).claims → In c (unit_of p b.units).claims
 out_was b o p c i =
     ⊎_elim
-      (λ so. absurd (subst (In c) (out_here b o p so) i))
-      (λ n. subst (In c) (ap (λ (u : Work). u.claims) (unit_of_without p o b.units n)) i)
-      (which (same_owner p o))
+    (λ so. absurd (subst (In c) (out_here b o p so) i))
+    (λ n. subst (In c) (ap (λ (u : Work). u.claims) (unit_of_without p o b.units n)) i)
+    (which (same_owner p o))
 
 module _ (found : Owner → Bool) where
   commit_apart : (b : Base) (o : Owner) → AreApart found b → AreApart found (bare b (Commit o))
@@ -52,9 +52,9 @@ module _ (adds : AddsClaims) (symmetric : IsSymmetric clash) where
     mine_apart : (p : Owner) → same_owner p o ≡ false → (c d : Claim) → In c (all_added u.claims cs) → In d (unit_of p b.units).claims → clash c d ≡ false
     mine_apart p ne c d i j =
         ⊎_elim
-          (λ old. apart o p ne asker c d old j)
-          (λ new. all_apart cs (others o b.units) free c d new (others_has p o b.units d ne j))
-          (adds.only c u.claims cs i)
+        (λ old. apart o p ne asker c d old j)
+        (λ new. all_apart cs (others o b.units) free c d new (others_has p o b.units d ne j))
+        (adds.only c u.claims cs i)
 
     mine_first : (p q : Owner) → same_owner q p ≡ false → same_owner p o ≡ true → (c d : Claim) → In c (unit_of p after.units).claims → In d (unit_of q after.units).claims → clash c d ≡ false
     mine_first p q ne so c d i j =
@@ -68,18 +68,18 @@ module _ (adds : AddsClaims) (symmetric : IsSymmetric clash) where
     done_apart : AreApart found after
     done_apart p q ne new c d i j =
         ⊎_elim
-          (λ so. mine_first p q ne so c d i j)
-          (λ n. ⊎_elim
-            (λ so. mine_second p q n so c d i j)
-            (λ m. apart p q ne new c d (subst (In c) (set_there b o p a (kept u cs xs) n) i) (subst (In d) (set_there b o q a (kept u cs xs) m) j))
-            (which (same_owner q o)))
-          (which (same_owner p o))
+        (λ so. mine_first p q ne so c d i j)
+        (λ n. ⊎_elim
+        (λ so. mine_second p q n so c d i j)
+        (λ m. apart p q ne new c d (subst (In c) (set_there b o p a (kept u cs xs) n) i) (subst (In d) (set_there b o q a (kept u cs xs) m) j))
+        (which (same_owner q o)))
+        (which (same_owner p o))
 
   ask_apart : (found : Owner → Bool) (b : Base) (o : Owner) (q : Question) → found o ≡ false → AreApart found b → AreApart found (bare b (Ask o q))
   ask_apart found b o q asker apart =
       let u = unit_of o b.units in let v = view b.store u in
       through (others o b.units) u (claims_of q v) (answer_to q (left_of u) v) (changes_by q (left_of u) v) (AreApart found) b o (unfit q) apart
-        (λ n m. done_apart found b o asker (claims_of q v) (answer_to q (left_of u) v) (changes_by q (left_of u) v) apart n)
+      (λ n m. done_apart found b o asker (claims_of q v) (answer_to q (left_of u) v) (changes_by q (left_of u) v) apart n)
 
   pub units_stay_apart : UnitsStayApart
   units_stay_apart found s c k asker apart = step_keeps (AreApart found) (commit_apart found) (leave_apart found) s c k (λ q. ask_apart found s.base (owner_of s.branches c) q asker apart) apart
@@ -92,9 +92,9 @@ IsFew cs = (length cs ≤ 65535) × AreDistinct cs
 out_few : (b : Base) (o : Owner) → AreFew b → (p : Owner) → IsFew (unit_of p (without o b.units)).claims
 out_few b o few p =
     ⊎_elim
-      (λ so. subst IsFew (sym (out_here b o p so)) (ltb-false 65535 0 refl, tt))
-      (λ n. subst IsFew (sym (ap (λ (u : Work). u.claims) (unit_of_without p o b.units n))) (few p))
-      (which (same_owner p o))
+    (λ so. subst IsFew (sym (out_here b o p so)) (ltb-false 65535 0 refl, tt))
+    (λ n. subst IsFew (sym (ap (λ (u : Work). u.claims) (unit_of_without p o b.units n))) (few p))
+    (which (same_owner p o))
 
 module _ (adds : AddsClaims) where
   ask_few : (b : Base) (o : Owner) (q : Question) → AreFew b → AreFew (bare b (Ask o q))
@@ -102,10 +102,10 @@ module _ (adds : AddsClaims) where
       let u = unit_of o b.units in let v = view b.store u in
       let cs = claims_of q v in let a = answer_to q (left_of u) v in let xs = changes_by q (left_of u) v in
       through (others o b.units) u cs a xs AreFew b o (unfit q) few
-        (λ n m p. ⊎_elim
-          (λ so. subst IsFew (sym (set_here b o p a (kept u cs xs) so)) (ltb-false 65535 (length (all_added u.claims cs)) m, adds.once u.claims cs (few o).1))
-          (λ ne. subst IsFew (sym (set_there b o p a (kept u cs xs) ne)) (few p))
-          (which (same_owner p o)))
+      (λ n m p. ⊎_elim
+      (λ so. subst IsFew (sym (set_here b o p a (kept u cs xs) so)) (ltb-false 65535 (length (all_added u.claims cs)) m, adds.once u.claims cs (few o).1))
+      (λ ne. subst IsFew (sym (set_there b o p a (kept u cs xs) ne)) (few p))
+      (which (same_owner p o)))
 
   pub claims_stay_few : ClaimsStayFew
   claims_stay_few s c k few = step_keeps AreFew (λ b o h. out_few b o h) (λ b o h. out_few b o h) s c k (λ q. ask_few s.base (owner_of s.branches c) q few) few

@@ -1,6 +1,6 @@
 -- What a statement is described by: the columns of its rows, or the types of its parameters.
-use Rattle.std.specs.Prelude.{ℕ, ◌++◌, ◌∷◌, List, [], map, Option, Some, None, Ok, Err}
-use Rattle.std.specs.List.{flat_map, slice_get}
+use Rattle.std.specs.Prelude.{◌++◌, ◌∷◌, List, [], map, Option, Some, None, Ok, Err}
+use Rattle.std.specs.List.{flat_map}
 use Rattle.sql_text.specs.declared.tree.Literal.{Literal}
 use Rattle.sql_text.specs.declared.tree.Literal.TheVariants as literal
 use Rattle.sql_text.specs.declared.tree.Term.{Term}

@@ -87,7 +87,6 @@ is_meant _ = true
 abbrev pub RefusalsChangeNothing : Type 0
 RefusalsChangeNothing = (s : CoreState) (conversation : ℕ) (k : Call) (q : Question) → question_of k ≡ Some q → is_meant (answered s conversation k) ≡ false → step_state s conversation k ≡ s
 
-
 -- all claims of the one list are in the other
 abbrev pub AllIn : List Claim → List Claim → Type 0
 AllIn cs ds = (c : Claim) → In c cs → In c ds
@@ -116,9 +115,9 @@ abbrev pub AnswersAreMeanings : Type 0
 AnswersAreMeanings =
     (s : CoreState) (conversation : ℕ) (statement : Statement) (params : List Value) → is_store (view s.base.store (unit_of (owner_of s.branches conversation) s.base.units)) ≡ true
     → (is_meant (answered s conversation (call.run statement params)) ≡ true
-      → Means s (owner_of s.branches conversation) statement params (answered s conversation (call.run statement params)) (step_state s conversation (call.run statement params)).base)
+    → Means s (owner_of s.branches conversation) statement params (answered s conversation (call.run statement params)) (step_state s conversation (call.run statement params)).base)
     × (is_meant (answered s conversation (call.query statement params)) ≡ true
-      → Means s (owner_of s.branches conversation) statement params (answered s conversation (call.query statement params)) (step_state s conversation (call.query statement params)).base)
+    → Means s (owner_of s.branches conversation) statement params (answered s conversation (call.query statement params)) (step_state s conversation (call.query statement params)).base)
 
 -- a conversation works in its local unit, or in that of the XID that it is joined to
 pub record WorksIn (branches : List Branch) (conversation : ℕ) : Type 0 where

@@ -16,7 +16,7 @@ use Rattle.core_calls.specs.Call as call
 use Rattle.core_calls.specs.Call.{Call}
 use Rattle.core_calls.specs.Answer.{Answer, done, in_doubt, in_global, xa}
 use Rattle.core_steps.specs.Units.{Owner, global, has_any, has_work, local, unit_of}
-use Rattle.core_steps.specs.Asked.{Question, answer_in, describing, querying, running}
+use Rattle.core_steps.specs.Asked.{answer_in, describing, querying, running}
 use Rattle.core_steps.specs.Events.{Ask, Base, Commit, Event, Leave, asked_of, bare_run}
 
 -- the committed store and the units, and the branches with their states
