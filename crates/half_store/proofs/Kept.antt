@@ -155,6 +155,10 @@ offset_low : (h : ℕ) (half : Half) → offset_of h half ≤ 8192 + h
 offset_low h First = omega arith
 offset_low h Second = omega arith
 
+-- each half lies in the image
+pub half_inside : (size h : ℕ) (half : Half) → 8192 + (h + h) ≤ size → offset_of h half + h ≤ size
+half_inside size h half inside = omega (arith, offset_low h half, inside)
+
 -- the other half's gate lies in the image
 pub gate_inside : (size at h : ℕ) (half : Half) → at ≡ offset_of h half → 8192 < h → 8192 + (h + h) ≤ size → at + 1 ≤ size
 gate_inside size at h half place large inside = omega (arith, place, offset_low h half, large, inside)

@@ -4,7 +4,7 @@ use Rattle.drda_disk.proofs.Moments.{weaker}
 use Rattle.half_store.specs.Layout.{half_len, offset_of, other_than}
 use Rattle.half_store.specs.Opened.{store_of}
 use Rattle.half_store.specs.Writing.{IsKept}
-use Rattle.half_store.proofs.Kept.{gate_inside, closing_kept, begun_within, begun_active}
+use Rattle.half_store.proofs.Kept.{gate_inside, half_inside, closing_kept, begun_within, begun_active}
 use Rattle.half_store.proofs.begin.begin_image.Goals as goal
 
 pub returns-in_err-close_gate-clause-any_moment : goal.returns-in_err-close_gate-clause-any_moment
@@ -46,3 +46,8 @@ returns-clause-begun g c honest only active =
       halves = halves ∙ ap half_len (sym torn.size);
       generation = c.following-generation.ensures;
     }
+
+pub returns-clause-inside : goal.returns-clause-inside
+returns-clause-inside g c =
+    let low = half_inside c.size.result c.half_bytes-half_bytes.result c.other-half.result c.half_bytes-half_bytes.ensures.inside in
+    omega (arith, low, c.size.ensures, c.close_gate.ensures.others.size)
