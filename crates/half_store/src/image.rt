@@ -5,7 +5,7 @@ ghost use Rattle.drda_disk.specs.Disk.{Torn, LeavesOnly};
 
 use crate::layout::PAGE_BYTES;
 use crate::{Full, Half, PageError};
-use drda_disk::Disk;
+use drda_disk::{Disk, Region};
 
 /// Writes an image into the half that is not active, behind its closed gate: its pages one behind
 /// another. One that is dropped leaves the active half as it is. Between its calls the disk is only
@@ -21,6 +21,7 @@ pub struct ImageWriter {
 }
 
 impl ImageWriter {
+    ghost use Rattle.drda_disk.specs.Region.{end_of};
     ghost use Rattle.half_store.specs.Active.{Store};
     ghost use Rattle.half_store.specs.Writing.{IsKept, IsWriting, half_of, half_bytes_of, generation_of, pages_of, from_of, next_of, SaysFull, OnFull, CountsPage};
 
@@ -54,5 +55,18 @@ impl ImageWriter {
         disk.write_at(at, bytes)?;
         self.pages += 1;
         Ok(())
+    }
+
+    /// What is left of the half behind its pages: its journal's, a byte at least.
+    pub fn finish_pages(&self) -> Region
+        ensures begins { result.at ≡ next_of self.now }
+        ensures ends { end_of result ≡ from_of self.now + half_bytes_of self.now }
+        ensures some { 0 < result.length }
+    {
+        let used = PAGE_BYTES * (1 + self.pages as usize);
+        Region {
+            at: self.half.offset(self.half_bytes) + used,
+            length: self.half_bytes - used,
+        }
     }
 }
