@@ -2,3 +2,4 @@ mod Found
 mod Pages
 mod Written
 mod Formatted
+mod Kept

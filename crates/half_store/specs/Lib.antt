@@ -3,3 +3,4 @@ pub mod Header
 pub mod Active
 pub mod Opened
 pub mod Fresh
+pub mod Writing

@@ -86,3 +86,50 @@ impl From<DiskFault> for FormatError {
         FormatError::DeviceFailed
     }
 }
+
+/// There is no room: `need` bytes are asked for and `room` are there.
+#[derive(Clone, Copy, Debug, PartialEq, Eq, Error)]
+#[error("{need} bytes are needed and there is room for {room}")]
+pub struct Full {
+    pub need: usize,
+    pub room: usize,
+}
+
+/// Why no image was begun.
+#[derive(Clone, Copy, Debug, PartialEq, Eq, Error)]
+pub enum BeginError {
+    /// The active half has the last generation.
+    #[error("no memory")]
+    NoMemory,
+    #[error("the device failed")]
+    DeviceFailed,
+}
+
+impl From<DiskFault> for BeginError {
+    ghost use Rattle.half_store.specs.declared.errors.BeginError.TheVariants.{DeviceFailed};
+
+    ghost from_gives = { λ _ e. e ≡ DeviceFailed };
+
+    fn from(_: DiskFault) -> Self {
+        BeginError::DeviceFailed
+    }
+}
+
+/// Why no page was written.
+#[derive(Clone, Copy, Debug, PartialEq, Eq, Error)]
+pub enum PageError {
+    #[error(transparent)]
+    Full(Full),
+    #[error("the device failed")]
+    DeviceFailed,
+}
+
+impl From<DiskFault> for PageError {
+    ghost use Rattle.half_store.specs.declared.errors.PageError.TheVariants.{DeviceFailed};
+
+    ghost from_gives = { λ _ e. e ≡ DeviceFailed };
+
+    fn from(_: DiskFault) -> Self {
+        PageError::DeviceFailed
+    }
+}

@@ -8,6 +8,9 @@ use crate::layout::PAGE_BYTES;
 /// An open gate: its half counts. Any other byte is a closed gate.
 pub(crate) const OPEN: u8 = 0xA5;
 
+/// What is written to close a gate.
+pub(crate) const CLOSED: u8 = 0;
+
 /// What the header of a half says.
 #[derive(Clone, Copy, Debug, PartialEq, Eq)]
 pub struct Header {

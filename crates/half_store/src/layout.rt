@@ -24,7 +24,17 @@ pub enum Half {
 }
 
 impl Half {
-    ghost use Rattle.half_store.specs.Layout.{offset_of};
+    ghost use Rattle.half_store.specs.Layout.{offset_of, other_than};
+
+    /// The other one.
+    pub fn other(self) -> Half
+        ensures { result ≡ other_than self }
+    {
+        match self {
+            Half::First => Half::Second,
+            Half::Second => Half::First,
+        }
+    }
 
     /// Its offset on the disk, where halves have so many bytes.
     pub(crate) fn offset(self, half_bytes: usize) -> usize
@@ -52,6 +62,7 @@ pub(crate) fn half_bytes(size: usize) -> usize
     ensures len { result ≡ half_len size }
     ensures large { 1040384 ≤ result }
     ensures inside { 8192 + (result + result) ≤ size }
+    ensures small { result ≤ 2 ^ 30 }
 {
     PAGE_BYTES * ((size - PAGE_BYTES) / (2 * PAGE_BYTES))
 }

@@ -2,17 +2,21 @@
 #![tactic(auto)]
 
 mod active;
+mod begin;
 mod errors;
 mod formatting;
 mod fresh;
 mod head;
 mod header;
+mod image;
 mod layout;
 mod opening;
 
 pub use active::Active;
-pub use errors::{FormatError, OpenError};
+pub use begin::begin_image;
+pub use errors::{BeginError, FormatError, Full, OpenError, PageError};
 pub use formatting::format;
 pub use header::Header;
+pub use image::ImageWriter;
 pub use layout::Half;
 pub use opening::open;

@@ -1,9 +1,9 @@
 //! Opening a store.
-ghost use Rattle.std.specs.Prelude.{◌≡◌, ◌+◌, ◌^◌, ◌<◌, ◌≤◌, IsTrue, IfOk, length};
+ghost use Rattle.std.specs.Prelude.{◌≡◌, ◌+◌, ◌≤◌, IsTrue, OnOk, IfOk, length};
 ghost use Rattle.drda_words.specs.Place.{part};
 ghost use Rattle.drda_disk.specs.Disk.{Stays};
 ghost use Rattle.drda_disk.specs.Through.{CountsReadFault};
-ghost use Rattle.half_store.specs.Layout.{half_len};
+ghost use Rattle.half_store.specs.Layout.{half_len, is_store_size};
 ghost use Rattle.half_store.specs.Header.{half_in, HasRoom};
 ghost use Rattle.half_store.specs.Active.{active_of};
 ghost use Rattle.half_store.specs.Opened.{Tells, IsBehindPages, CountsOpen};
@@ -45,6 +45,7 @@ fn read_half<D: Disk>(
 /// of these in this order counts.
 pub fn open<D: Disk>(alloc: Global, disk: &mut D) -> Result<Active, OpenError>
     ensures active { IsTrue D.is_modelled → Tells (active_of (D.life disk.old).seen) result }
+    ensures size { OnOk result (IsTrue (is_store_size (length (D.life disk.new).seen))) }
     ensures region { IfOk result (IsBehindPages (half_len (length (D.life disk.old).seen))) }
     ensures stays { Stays (D.life disk.old) (D.life disk.new) }
     ensures cause { CountsOpen result (D.life disk.old).faults (D.life disk.new).faults }
