@@ -1,8 +1,7 @@
 -- What the entries of an overlay say.
-use Rattle.std.proofs.Common.{◌≡◌, ℕ, List, [], ◌∷◌, Bool, true, false, cond, refl, sym, ap, ◌∙◌, map, Option, Some, None, Ordering, Less, Equal, Greater, length, ◌<◌, arith}
+use Rattle.std.proofs.Common.{◌≡◌, ℕ, List, [], ◌∷◌, Bool, true, false, cond, refl, sym, ap, ◌∙◌, map, Option, Some, Ordering, Less, Equal, Greater, length, ◌<◌, arith}
 use Rattle.std.specs.Prelude.{option_map}
 use Rattle.std.specs.Ordering.{match_ordering}
-use Rattle.std.specs.Map.{lookup}
 use Rattle.std.specs.BTreeMap.{insert_entry}
 use Rattle.ordered_rows.specs.Slots.{Slots, by_bytes, by_key, rows_of}
 use Rattle.key_map.specs.Merging.{Rows, InOrder, row_at, changed, merged, over}

@@ -1,4 +1,4 @@
-use Rattle.std.proofs.Common.{◌≡◌, sym, ap, ◌∙◌}
+use Rattle.std.proofs.Common.{ap, ◌∙◌}
 use Rattle.ordered_rows.specs.Slots.{rows_of}
 use Rattle.key_map.specs.Merging.{row_at}
 use Rattle.key_map.specs.Overlay.{seen}

@@ -1,4 +1,4 @@
-use Rattle.std.proofs.Common.{◌≡◌, sym, ap, ◌∙◌, Some}
+use Rattle.std.proofs.Common.{ap, ◌∙◌, Some}
 use Rattle.std.specs.BTreeMap.{insert_entry}
 use Rattle.ordered_rows.specs.Slots.{by_bytes, rows_of}
 use Rattle.key_map.proofs.Said.{said_some, put_said, put_made}

@@ -1,4 +1,4 @@
-use Rattle.std.proofs.Common.{◌≡◌, sym, ap, ◌∙◌, [], None}
+use Rattle.std.proofs.Common.{ap, ◌∙◌, None}
 use Rattle.std.specs.BTreeMap.{insert_entry}
 use Rattle.ordered_rows.specs.Slots.{by_bytes, rows_of}
 use Rattle.key_map.specs.Overlay.{said}
