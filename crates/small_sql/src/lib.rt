@@ -1,0 +1,6 @@
+//! What statements claim.
+#![tactic(auto)]
+
+mod claim;
+
+pub use claim::claims;
