@@ -1,6 +1,6 @@
 //! The row that an INSERT gives.
 
-ghost use Rattle.std.specs.Prelude.{◌≡◌, ◌==◌, ◌∷◌, [], IfOk, List, ℕ, length, map, option_map, true};
+ghost use Rattle.std.specs.Prelude.{◌≡◌, ◌≤◌, ◌==◌, ◌∷◌, [], IfOk, IfSome, List, ℕ, length, map, option_map, true};
 ghost use Rattle.std.specs.List.{slice_get};
 ghost use Rattle.drda_words.specs.Excuse.{Answers};
 ghost use Rattle.row_values.specs.Column.{column_of};
@@ -52,10 +52,11 @@ impl GivenRow {
         Ok(GivenRow { values })
     }
 
-    /// The key of the row, where the values of its columns fit them.
+    /// The key of the row, at most 8,012 bytes, where the values of its columns fit them.
     #[tactic(auto, unfolding(sql_meaning::specs::Keys::key_of_values))]
     pub fn key(&self, alloc: Global, schema: &Schema) -> Result<Option<Vec<u8>>, AllocError>
-        ensures { IfOk result (λ key. option_map (λ k. k.items) key ≡ key_of_values schema.now (picked (values_given self.now) schema.now.key)) }
+        ensures key { IfOk result (λ key. option_map (λ k. k.items) key ≡ key_of_values schema.now (picked (values_given self.now) schema.now.key)) }
+        ensures short { IfOk result (λ key. IfSome key (λ k. length k.items ≤ 8012)) }
     {
         let values = picked(alloc, self.values.as_slice(), schema.key())?;
         if !are_key(schema, values.as_slice()) {

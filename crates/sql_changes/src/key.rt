@@ -1,6 +1,6 @@
 //! The key that an INSERT claims.
 
-ghost use Rattle.std.specs.Prelude.{◌≡◌, IfOk, map, option_map};
+ghost use Rattle.std.specs.Prelude.{◌≡◌, ◌≤◌, IfOk, IfSome, length, map, option_map};
 ghost use Rattle.row_values.specs.Value.{value_of};
 ghost use Rattle.sql_meaning.specs.Insert as insert;
 ghost use Rattle.sql_meaning.specs.Values.{literal_value};
@@ -12,7 +12,7 @@ use sql_text::{Columns, Literal};
 use std::alloc::{AllocError, Global};
 
 /// The key of the row that an INSERT gives, where its names and the number of its values pass, and
-/// the values of the key's columns fit them.
+/// the values of the key's columns fit them. It has at most 8,012 bytes.
 #[tactic(auto, unfolding(sql_meaning::specs::Insert::given_key))]
 pub fn given_key(
     alloc: Global,
@@ -21,7 +21,8 @@ pub fn given_key(
     values: &[Literal<'_>],
     params: &[Value<'_>],
 ) -> Result<Option<Vec<u8>>, AllocError>
-    ensures { IfOk result (λ key. option_map (λ k. k.items) key ≡ insert.given_key schema.now columns.now (map (literal_value (map value_of params.now)) values.now)) }
+    ensures key { IfOk result (λ key. option_map (λ k. k.items) key ≡ insert.given_key schema.now columns.now (map (literal_value (map value_of params.now)) values.now)) }
+    ensures short { IfOk result (λ key. IfSome key (λ k. length k.items ≤ 8012)) }
 {
     match GivenRow::bind(alloc, schema, columns, values, params) {
         Ok(row) => row.key(alloc, schema),
