@@ -1,6 +1,6 @@
 -- What no write in the other half changes.
-use Rattle.std.proofs.Common.{◌≡◌, ◌≢◌, ◌⊎◌, inl, inr, ⊎_elim, ℕ, ◌+◌, ◌-◌, ◌^◌, ◌<◌, ◌≤◌, Bool, true, false, cond, List, [], ◌∷◌, ◌++◌, length, take, drop, get_or, Result, Ok, Err, refl, sym, ◌∙◌, ap, subst, arith, add-zero, take-append-drop}
-use Rattle.std.specs.Prelude.{◌==◌, nat_lt, IsTrue}
+use Rattle.std.proofs.Common.{◌≡◌, ◌≢◌, inl, inr, ℕ, ◌+◌, ◌-◌, ◌<◌, ◌≤◌, Bool, true, false, cond, List, ◌∷◌, ◌++◌, length, take, drop, get_or, Result, Ok, Err, refl, sym, ◌∙◌, ap, subst, arith, add-zero, take-append-drop}
+use Rattle.std.specs.Prelude.{◌==◌, nat_lt}
 use Rattle.std.proofs.lemmas.Bool.{false≢true, cases_eq}
 use Rattle.std.proofs.lemmas.Bool.Decides.{eqb_tells}
 use Rattle.std.proofs.lemmas.List.{drop_more}
@@ -8,14 +8,13 @@ use Rattle.drda_words.specs.Place.{part}
 use Rattle.drda_disk.specs.Disk.{Life, Now, Only, LeavesOnly, Torn, Within}
 use Rattle.drda_disk.specs.Images.{Torn-refl}
 use Rattle.drda_disk.proofs.Moments.{weaker}
-use Rattle.drda_disk.proofs.Parts.{part_before, part_outside, byte_outside, Torn-wider, Torn-trans}
+use Rattle.drda_disk.proofs.Parts.{part_before, part_outside, byte_outside}
 use Rattle.half_store.specs.Layout.{is_store_size, half_len, offset_of, other_than}
 use Rattle.half_store.specs.Header.{half_in}
-use Rattle.half_store.specs.Active.{Store, Refusal, not_a_store, damaged, name_in, picked, with_half, with_name, active_of}
-use Rattle.half_store.specs.Writing.{IsKept, IsWriting, IsClosing, half_of, half_bytes_of, from_of}
+use Rattle.half_store.specs.Active.{Store, Refusal, not_a_store, name_in, picked, with_half, with_name, active_of}
+use Rattle.half_store.specs.Writing.{IsKept, IsWriting, IsClosing, half_bytes_of, from_of}
 use Rattle.half_store.specs.declared.layout.Half.{Half}
 use Rattle.half_store.specs.declared.layout.Half.TheVariants.{First, Second}
-use Rattle.half_store.specs.declared.header.Header.{Header}
 use Rattle.half_store.specs.declared.header.HalfState.{HalfState}
 use Rattle.half_store.specs.declared.header.HalfState.TheVariants.{Closed, Unsound, Open}
 use Rattle.half_store.specs.declared.image.ImageWriter.{ImageWriter}

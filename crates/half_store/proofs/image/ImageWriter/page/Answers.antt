@@ -1,4 +1,4 @@
-use Rattle.std.proofs.Common.{◌≡◌, ◌+◌, ◌-◌, ◌*◌, ◌<◌, List, ℕ, length, ◌∙◌, sym, ap, arith}
+use Rattle.std.proofs.Common.{◌≡◌, ◌+◌, ◌-◌, ◌*◌, List, ℕ, length, ◌∙◌, sym, ap, arith}
 use Rattle.drda_words.specs.Place.{part}
 use Rattle.drda_disk.proofs.Moments.{no_call, torn_within}
 use Rattle.drda_disk.proofs.Parts.{part-overlaid}
