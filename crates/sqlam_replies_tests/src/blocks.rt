@@ -34,12 +34,7 @@ fn blocks_are_the_longest_lists(rt: HostRuntime) -> Result<(), Fail> {
 }
 
 /// How many bytes QRYDTA has with a block that begins at this place.
-fn data_length(
-    alloc: Global,
-    lengths: &[u16],
-    from: usize,
-    size: usize,
-) -> Result<usize, Fail> {
+fn data_length(alloc: Global, lengths: &[u16], from: usize, size: usize) -> Result<usize, Fail> {
     let rows = rows(alloc, &[0, 1], lengths)?;
     let count = block(&rows, from, size);
     let mut out = Vec::new(alloc);
