@@ -9,7 +9,7 @@ ghost use Rattle.sql_meaning.specs.Values.{literal_value, name_of};
 ghost use Rattle.unit_locks.specs.Claim.{key_or_empty};
 ghost use Rattle.unit_locks.specs.declared.access.Access.TheVariants.{Read, Write};
 
-use row_values::{MAX_KEY_BYTES, Schema, Value};
+use row_values::{Schema, Value};
 use sql_filters::fixed_key;
 use sql_lex::Part;
 use sql_literals::table_name;
@@ -91,12 +91,7 @@ fn insert_claimed(
 {
     let key = sql_changes::given_key(alloc, schema, columns, values, params)?;
     match &key {
-        Some(key) => {
-            if key.len() > MAX_KEY_BYTES {
-                return Err(AllocError);
-            }
-            one_claim(alloc, Access::Write, table, Some(key.as_slice()))
-        }
+        Some(key) => one_claim(alloc, Access::Write, table, Some(key.as_slice())),
         None => one_claim(alloc, Access::Write, table, None),
     }
 }
