@@ -1,2 +1,3 @@
 pub mod CoreLaws
 pub mod CoreUnits
+pub mod Histories

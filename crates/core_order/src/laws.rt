@@ -3,10 +3,13 @@
 ghost use Rattle.unit_order.specs.Serial.{SerialOrder};
 ghost use Rattle.unit_order.specs.Steps.{EventsKeep};
 ghost use Rattle.core_order.specs.CoreWords.{CoreOrder, EventsAreTheirs, core_units, core_words};
+ghost use Rattle.core_order.specs.Histories.{HistoriesAreSerial};
 
+use core_steps::laws::units_in_doubt_wait;
 use sql_meaning::laws::statements_are_framed;
 use tables::laws::{changes_are_local, changes_make_tables};
 use unit_locks::{adding, clash_is_symmetric};
+use xa_manager::actions_fit_states;
 
 /// Units of the core that run side by side have the answers and the changes that they have one after
 /// another.
@@ -19,10 +22,15 @@ pub fn histories_are_serial()
     ensures theirs { EventsAreTheirs }
     // so the committed units, one after another, lead to the store that the core's events lead to
     ensures core { CoreOrder }
+    // of any list of calls of any conversations, whether their steps are taken or not, after an opening
+    // whose units are of prepared branches
+    ensures histories { HistoriesAreSerial }
 {
     changes_are_local();
     changes_make_tables();
     clash_is_symmetric();
     adding();
     statements_are_framed();
+    units_in_doubt_wait();
+    actions_fit_states();
 }

@@ -50,7 +50,7 @@ module _ (w : Words) (k : UnitMap w) (kl : UnitMapLaws w k) where
       let r = found_run (happens w k m (Leave p)) es o is in
       let before = lost_was o p m.found r.0 in (before.0, λ e. ⊎_elim (λ same. both (k.same o p) (subst (λ (x : k.Owner). k.same o x ≡ true) same (kl.same_itself o)) before.1) r.1 e)
 
-  all_begun : (m : World w k) (es : List (Event w k)) (closed : k.Owner → Bool) → ((o : k.Owner) → m.found o ≡ true → closed o ≡ true) → AsksOf w k closed es → AllBegun w k m es
+  pub all_begun : (m : World w k) (es : List (Event w k)) (closed : k.Owner → Bool) → ((o : k.Owner) → m.found o ≡ true → closed o ≡ true) → AsksOf w k closed es → AllBegun w k m es
   all_begun m [] closed in_doubt asks = tt
   all_begun m (Ask p call ∷ es) closed in_doubt asks =
       (⊎_elim (λ so. both (closed p) (in_doubt p so) asks.0) (λ ne. ne) (which (m.found p)), all_begun (happens w k m (Ask p call)) es closed (λ o is. in_doubt o (found_was m (Ask p call) o is)) asks.1)

@@ -6,6 +6,7 @@ use Rattle.sql_order.proofs.SqlLaws.{sql_laws}
 use Rattle.core_order.specs.CoreWords.{core_units, core_words}
 use Rattle.core_order.proofs.CoreLaws.{core_laws}
 use Rattle.core_order.proofs.CoreUnits.{core_kept, core_order, events_are_theirs}
+use Rattle.core_order.proofs.Histories as serial
 use Rattle.core_order.proofs.laws.histories_are_serial.Goals as goal
 
 pub returns : goal.returns
@@ -19,4 +20,5 @@ returns c =
       kept = events_keep core_words laws core_units core_kept;
       theirs = events_are_theirs;
       core = core_order laws;
+      histories = serial.histories_are_serial laws c.units_in_doubt_wait.ensures c.actions_fit_states.ensures;
     }
