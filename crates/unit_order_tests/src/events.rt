@@ -34,9 +34,13 @@ pub struct World {
 #[derive(Clone, Copy)]
 pub enum Event {
     Ask(Statement),
+    /// A call that finds no memory.
+    Excused,
     Prepare,
     Commit,
     Leave,
+    /// The conversation is lost: with it goes its unit, unless that is prepared.
+    Lost,
 }
 
 /// What an event did.
@@ -48,7 +52,8 @@ pub enum Trace {
     Left,
 }
 
-/// The answer to a statement, and the unit behind it; None where its claims clash with others.
+/// The answer to a statement, and the unit behind it; None where its claims clash with others, or would
+/// be too many.
 pub fn asked(
     machine: Machine,
     others: &Claims,
@@ -66,6 +71,9 @@ pub fn asked(
         after.claims = claims;
     } else {
         after.claims.add(&claims);
+    }
+    if after.claims.is_full() {
+        return None;
     }
     let answer = answer_to(statement, &view, &mut after.changes);
     Some((answer, after))
@@ -99,7 +107,8 @@ pub fn happens(machine: Machine, world: &mut World, owner: usize, event: &Event)
     };
     let old = *unit;
     match event {
-        Event::Ask(_) if old.is_prepared => Trace::Nothing,
+        Event::Ask(_) | Event::Lost if old.is_prepared => Trace::Nothing,
+        Event::Excused => Trace::Nothing,
         Event::Ask(statement) => match asked(machine, &others, &store, &old, statement) {
             None => Trace::Nothing,
             Some((answer, after)) => {
@@ -116,7 +125,7 @@ pub fn happens(machine: Machine, world: &mut World, owner: usize, event: &Event)
             world.store = applied(machine, &store, &old.changes);
             Trace::Committed(old)
         }
-        Event::Leave => {
+        Event::Leave | Event::Lost => {
             *unit = Unit::idle();
             Trace::Left
         }

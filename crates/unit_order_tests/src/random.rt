@@ -43,10 +43,12 @@ fn statement(seed: &mut u32) -> Statement {
 /// An event, and whose it is.
 pub fn event(seed: &mut u32) -> (usize, Event) {
     let owner = (next(seed) % 5) as usize;
-    let event = match next(seed) % 12 {
-        0 | 1 => Event::Commit,
-        2 => Event::Leave,
-        3 => Event::Prepare,
+    let event = match next(seed) % 24 {
+        0 | 1 | 2 | 3 => Event::Commit,
+        4 | 5 => Event::Leave,
+        6 | 7 => Event::Prepare,
+        8 => Event::Lost,
+        9 => Event::Excused,
         _ => Event::Ask(statement(seed)),
     };
     (owner, event)

@@ -142,6 +142,9 @@ pub fn applied(machine: Machine, store: &Store, changes: &Changes) -> Store {
 /// All of a table: its four keys, and what it has besides.
 pub const WHOLE: u8 = 31;
 
+/// The most parts that a unit may claim.
+const MOST_PARTS: u32 = 14;
+
 /// The place of the list of names among what is claimed.
 pub const NAMES: usize = TABLES;
 
@@ -194,6 +197,16 @@ impl Claims {
             self.reads[table] |= more.reads[table];
             self.writes[table] |= more.writes[table];
         }
+    }
+
+    /// Whether these are more than a unit may have.
+    pub fn is_full(&self) -> bool {
+        let mut parts: u32 = 0;
+        for table in 0..TABLES + 1 {
+            let claimed = self.reads[table] | self.writes[table];
+            parts = parts.saturating_add(claimed.count_ones());
+        }
+        parts > MOST_PARTS
     }
 
     pub fn clashes(&self, other: &Claims) -> bool {
