@@ -1,1 +1,4 @@
+pub mod Counting
 pub mod Names
+pub mod Stored
+pub mod Selecting
