@@ -2,7 +2,6 @@
 use Rattle.std.proofs.Common.{◌≡◌, ℕ, Bool, List, [], ◌∷◌, Option, Some, None, Ok, Err, true, refl, sym, ap, subst, ◌∙◌, option_map, length}
 use Rattle.std.specs.Prelude.{filter}
 use Rattle.sql_text.specs.declared.tree.Columns.{Columns}
-use Rattle.sql_text.specs.declared.tree.Command.{Command}
 use Rattle.sql_text.specs.declared.tree.Command.TheVariants as command
 use Rattle.sql_text.specs.declared.tree.Predicate.{Predicate}
 use Rattle.row_values.specs.Value.{Value}
@@ -16,7 +15,7 @@ use Rattle.core_calls.specs.declared.sql_fault.SqlFault.TheVariants as fault
 use Rattle.sql_meaning.specs.Checked.{Checked, and_then, if_none}
 use Rattle.sql_meaning.specs.Classes.{filter_fault, selected_places}
 use Rattle.sql_meaning.specs.Frame.{CoveredIsEnough, rows_covered, tables_covered}
-use Rattle.sql_meaning.specs.Meaning.{Answer, Refused, Rows, answer, answered, meaning, select_answer}
+use Rattle.sql_meaning.specs.Meaning.{Answer, Refused, Rows, answer, answered, meaning}
 use Rattle.sql_meaning.specs.Scope.{filter_key, scope, scope_by}
 use Rattle.sql_meaning.specs.Truth.{counts}
 use Rattle.sql_meaning.specs.Values.{name_of}

@@ -1,5 +1,5 @@
 -- The rows of a table are rows of its schema.
-use Rattle.std.proofs.Common.{◌≡◌, ℕ, Bool, true, false, ◌&&◌, List, [], ◌∷◌, Option, Some, None, refl, sym, ap, subst, ◌∙◌, option_map, Err}
+use Rattle.std.proofs.Common.{◌≡◌, ℕ, Bool, true, false, ◌&&◌, List, [], ◌∷◌, Option, Some, None, refl, ap, subst, ◌∙◌, option_map, Err}
 use Rattle.std.specs.Prelude.{bytes_eq, unwrap_or}
 use Rattle.std.specs.Option.{option_to_list}
 use Rattle.std.specs.List.{list_all}
@@ -11,7 +11,7 @@ use Rattle.row_values.specs.Key.{key_cmp, row_key}
 use Rattle.row_values.specs.declared.row.ReadError.{ReadError}
 use Rattle.row_values.specs.declared.row.ReadError.TheVariants.{Damaged}
 use Rattle.tables.specs.RowList.{RowList}
-use Rattle.tables.specs.Tables.{Store, Table, is_row_at, row_of, rows_of, schema_of, table_of}
+use Rattle.tables.specs.Tables.{Store, Table, is_row_at, row_of, schema_of, table_of}
 use Rattle.tables.specs.View.{is_entry, is_store, is_table}
 use Rattle.tables.specs.Laws.{FoundAreRows, TablesAreTables}
 use Rattle.sql_meaning.specs.Frame.{rows_covered}

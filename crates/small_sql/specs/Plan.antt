@@ -5,7 +5,6 @@ use Rattle.sql_text.specs.declared.tree.Predicate.{Predicate}
 use Rattle.row_values.specs.Value.{Value}
 use Rattle.row_values.specs.Schema.{Schema}
 use Rattle.row_values.specs.Row.{values_in}
-use Rattle.tables.specs.RowList.{RowList}
 use Rattle.tables.specs.Tables.{Store}
 use Rattle.sql_meaning.specs.Checked.{Checked, and_then, if_none}
 use Rattle.sql_meaning.specs.Classes.{filter_fault, selected_places}

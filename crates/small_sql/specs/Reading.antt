@@ -1,5 +1,5 @@
 -- What reading rows answers.
-use Rattle.std.specs.Prelude.{◌≡◌, Bool, false, List, ℕ, Result, Ok, Err}
+use Rattle.std.specs.Prelude.{◌≡◌, false, List, ℕ, Result, Ok, Err}
 use Rattle.std.specs.List.{list_all}
 use Rattle.row_values.specs.Schema.{Schema}
 use Rattle.row_values.specs.Row.{is_row}

@@ -1,7 +1,5 @@
-use Rattle.std.proofs.Common.{◌≡◌, Err, rules, filter, take}
-use Rattle.row_values.specs.Row.{values_in}
+use Rattle.std.proofs.Common.{rules}
 use Rattle.tables.specs.RowList.{RowList}
-use Rattle.sql_filters.specs.Test.{passes}
 use Rattle.small_sql.proofs.Counting.{one_counted, same_schema, with_damage}
 use Rattle.small_sql.proofs.read.counted.Goals as goal
 
