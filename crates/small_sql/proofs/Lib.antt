@@ -2,3 +2,4 @@ pub mod Counting
 pub mod Names
 pub mod Stored
 pub mod Selecting
+pub mod Deleting

@@ -6,7 +6,9 @@ mod claim;
 mod plan;
 mod query;
 mod read;
+mod removal;
 
 pub use answer::Answer;
 pub use claim::claims;
 pub use query::select;
+pub use removal::delete;
