@@ -1,6 +1,14 @@
-//! What statements claim.
+//! Runs statements over a view of tables, and says what they claim.
 #![tactic(auto)]
 
+mod answer;
 mod claim;
+mod plan;
+mod query;
+mod read;
+mod removal;
 
+pub use answer::Answer;
 pub use claim::claims;
+pub use query::select;
+pub use removal::delete;

@@ -1,0 +1,14 @@
+use Rattle.std.proofs.Common.{rules}
+use Rattle.tables.specs.RowList.{RowList}
+use Rattle.small_sql.proofs.Counting.{one_counted, same_schema, with_damage}
+use Rattle.small_sql.proofs.read.counted.Goals as goal
+
+pub returns-in_err-add_counted-clause-damaged : goal.returns-in_err-add_counted-clause-damaged
+returns-in_err-add_counted-clause-damaged c =
+    with_damage (Unit {0}) RowList c.args.list.schema c.loop-i.list.schema c.args.rows.now c.loop-i.i c.row.result.now c.in_err-add_counted.field-0.0 c.from_residual.result
+    c.loop-i.invariant.schema c.row.ensures c.in_err-add_counted.ensures.damaged (search rules)
+
+pub loop-i-preserved : goal.loop-i-preserved
+loop-i-preserved c =
+    let added = one_counted c.args.wanted.now c.args.list c.loop-i.list c.add_counted.new.list c.args.rows.now c.loop-i.i c.row.result.now c.loop-i.invariant.schema c.row.ensures c.loop-i.invariant.found c.in_ok-add_counted.ensures.added in
+    record { schema = same_schema c.args.list c.add_counted.new.list _ added; found = added }

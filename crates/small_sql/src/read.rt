@@ -1,0 +1,116 @@
+//! Reads the rows of a table that count.
+
+ghost use Rattle.std.specs.Prelude.{◌≡◌, ◌∷◌, [], ◌++◌, IfErr, IfOk, IsTrue, OnOk, Some, false, filter, if◌then◌else◌, is_ok, option_map, true};
+ghost use Rattle.std.specs.List.{list_all};
+ghost use Rattle.row_values.specs.Row.{is_row, values_in};
+ghost use Rattle.tables.specs.Tables.{schema_of};
+ghost use Rattle.tables.specs.View.{is_store};
+ghost use Rattle.sql_meaning.specs.Frame.{rows_covered};
+ghost use Rattle.sql_meaning.specs.Scope.{scope_by};
+ghost use Rattle.sql_filters.specs.Test.{passes};
+ghost use Rattle.small_sql.specs.Plan.{rows_found};
+ghost use Rattle.small_sql.specs.Reading.{DamagedBy};
+
+use crate::plan::Plan;
+use row_values::{Damaged, ReadError, RowRef, Schema};
+use sql_filters::Filter;
+use std::alloc::{AllocError, Global};
+use tables::laws::stores_hold_tables;
+use tables::{RowList, Rows, TableView};
+
+// Whether a row counts. Bytes that are no row of the schema are damaged.
+fn counts(schema: &Schema, row: &[u8], filter: &Filter) -> Result<bool, Damaged>
+    ensures counts { IfOk result (λ b. b ≡ passes filter.now (values_in schema.now row.now)) }
+    ensures judged { is_ok result ≡ is_row schema.now row.now }
+{
+    let row = RowRef::parse(schema, row)?;
+    Ok(filter.counts(&row))
+}
+
+// Adds the row where it counts. Bytes that are no row of the schema are damaged.
+fn add_counted(list: &mut RowList, row: &[u8], wanted: &Filter) -> Result<(), ReadError>
+    ensures added { OnOk result (list.new ≡ (if passes wanted.now (values_in list.old.schema row.now) then record list.old { rows = list.old.rows ++ row.now ∷ [] } else list.old)) }
+    ensures damaged { DamagedBy list.old.schema (row.now ∷ []) result }
+{
+    match counts(list.schema(), row, wanted) {
+        Ok(true) => list.push(row)?,
+        Ok(false) => {}
+        Err(Damaged) => return Err(ReadError::Damaged),
+    }
+    Ok(())
+}
+
+// The rows that count.
+fn counted(list: RowList, rows: &Rows, wanted: &Filter) -> Result<RowList, ReadError>
+    requires { list.rows ≡ [] }
+    ensures found { IfOk result (λ found. found ≡ record list { rows = filter (λ row. passes wanted.now (values_in list.schema row)) rows.now }) }
+    ensures damaged { DamagedBy list.schema rows.now result }
+{
+    let mut list = list;
+    for i in 0..rows.len() {
+        add_counted(&mut list, rows.row(i), wanted)?;
+    }
+    Ok(list)
+}
+
+/// The fault of want of memory, which tells no damage.
+pub(crate) fn no_memory<V: TableView>() -> V::Fault
+    ensures { V.tells_damage result ≡ false }
+{
+    V::Fault::from(AllocError)
+}
+
+fn one_row(alloc: Global, row: &[u8]) -> Result<Rows, AllocError>
+    ensures { IfOk result (λ rows. rows ≡ row.now ∷ []) }
+{
+    let mut rows = Rows::new(alloc);
+    rows.push(row)?;
+    Ok(rows)
+}
+
+// The row of a key, or all rows.
+fn looked_up<V: TableView>(
+    alloc: Global,
+    view: &mut V,
+    table: &str,
+    key: &Option<Vec<u8>>,
+) -> Result<Rows, V::Fault>
+    ensures rows { IfOk result (λ rows. IsTrue V.is_told → rows ≡ rows_covered (scope_by (option_map (λ k. k.items) key.now)) table.now (V.store view.old)) }
+    ensures fault { IfErr result (λ fault. IsTrue V.is_told → V.tells_damage fault ≡ false) }
+    ensures store { V.store view.new ≡ V.store view.old }
+{
+    match key {
+        None => view.scan(alloc, table),
+        Some(key) => match view.get(alloc, table, key.as_slice())? {
+            Some(row) => match one_row(alloc, row.as_slice()) {
+                Ok(rows) => Ok(rows),
+                Err(AllocError) => Err(no_memory::<V>()),
+            },
+            None => Ok(Rows::new(alloc)),
+        },
+    }
+}
+
+/// The rows of a table that a plan finds. Bytes that are no row of the schema are damaged.
+pub(crate) fn rows_found<V: TableView>(
+    alloc: Global,
+    view: &mut V,
+    table: &str,
+    plan: Plan,
+) -> Result<RowList, V::Fault>
+    requires fresh { plan.list.rows ≡ [] }
+    requires schema { IsTrue V.is_told → schema_of (V.store view.old) table.now ≡ Some plan.list.schema }
+    requires good { IsTrue V.is_told → is_store (V.store view.old) ≡ true }
+    ensures rows { IfOk result (λ found. IsTrue V.is_told → found ≡ record plan.list { rows = rows_found plan table.now (V.store view.old) }) }
+    ensures fault { IfErr result (λ fault. IsTrue V.is_told → V.tells_damage fault ≡ false) }
+    ensures store { V.store view.new ≡ V.store view.old }
+{
+    stores_hold_tables();
+    let Plan { filter, key, list } = plan;
+    let rows = looked_up(alloc, view, table, &key)?;
+    match counted(list, &rows, &filter) {
+        Ok(found) => Ok(found),
+        Err(ReadError::Damaged) => Err(view.damaged()),
+        Err(ReadError::NoMemory) => Err(no_memory::<V>()),
+    }
+}
