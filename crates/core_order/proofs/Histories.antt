@@ -1,6 +1,6 @@
 -- Histories of calls are in serial order: no call asks anything of a unit in doubt, as long as the
 -- branches rise, and every call keeps that.
-use Rattle.std.proofs.Common.{◌≡◌, inl, inr, ⊎_elim, ℕ, Bool, true, false, not, List, [], ◌∷◌, ◌++◌, refl, sym, ap, subst, ◌∙◌, Option, Some, None}
+use Rattle.std.proofs.Common.{◌≡◌, inl, inr, ⊎_elim, ℕ, true, false, not, List, [], ◌∷◌, ◌++◌, refl, sym, ap, subst, ◌∙◌, Option, Some, None}
 use Rattle.drda_words.specs.Order.{IsRising}
 use Rattle.tables.specs.Tables.{Store}
 use Rattle.xa_calls.specs.declared.request.Request.TheVariants as request
@@ -25,12 +25,12 @@ use Rattle.core_steps.specs.Step.{CoreState, Kept, Listed, Mark, Taken, events, 
 use Rattle.core_steps.specs.Laws as laws
 use Rattle.core_steps.specs.Laws.{AsksNone, InDoubtWait, IsPrepared}
 use Rattle.unit_order.specs.Words.{Laws}
-use Rattle.unit_order.specs.Events.{Event, World, start}
+use Rattle.unit_order.specs.Events.{Event, start}
 use Rattle.unit_order.specs.Serial.{Serially}
-use Rattle.unit_order.specs.Steps.{AsksOf, Ends, Base, bare_run, forget, run_events}
+use Rattle.unit_order.specs.Steps.{AsksOf, Ends}
 use Rattle.unit_order.proofs.Bare.{all_begun, events_hold, forget_run, found_run}
 use Rattle.unit_order.proofs.Running.{Holds, at_start, both, which}
-use Rattle.core_order.specs.CoreWords.{core_units, core_words, events_of, question_events, to_base}
+use Rattle.core_order.specs.CoreWords.{core_units, core_words, events_of, question_events}
 use Rattle.core_order.specs.Histories.{HistoriesAreSerial, Story, base_of, core_of, is_prepared, story, told, told_by, waits}
 use Rattle.core_order.proofs.CoreUnits.{core_kept, events_are_theirs}
 
