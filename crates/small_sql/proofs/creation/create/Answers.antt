@@ -1,4 +1,4 @@
-use Rattle.std.proofs.Common.{◌≡◌, ap, false, is_some, length, rules, true, ◌∙◌}
+use Rattle.std.proofs.Common.{◌≡◌, ap, length, rules, ◌∙◌}
 use Rattle.std.specs.Arc.{arc_value}
 use Rattle.sql_meaning.specs.Values.{name_of}
 use Rattle.small_sql.specs.Answer.{answer_of}
