@@ -1,4 +1,5 @@
 pub mod Counting
+pub mod Creating
 pub mod Names
 pub mod Stored
 pub mod Selecting

@@ -3,6 +3,7 @@
 
 mod answer;
 mod claim;
+mod creation;
 mod plan;
 mod query;
 mod read;
@@ -10,5 +11,6 @@ mod removal;
 
 pub use answer::Answer;
 pub use claim::claims;
+pub use creation::create;
 pub use query::select;
 pub use removal::delete;

@@ -1,0 +1,69 @@
+//! Answers creations of tables.
+
+ghost use Rattle.std.specs.Prelude.{◌≡◌, IfErr, IfOk, IsTrue, List, false};
+ghost use Rattle.row_values.specs.Value.{Value};
+ghost use Rattle.sql_text.specs.declared.tree.Command.TheVariants as command;
+ghost use Rattle.sql_meaning.specs.Create.{defined_schema};
+ghost use Rattle.sql_meaning.specs.Meaning.{answered, create_answer, meaning};
+ghost use Rattle.small_sql.specs.Answer.{answer_of};
+
+use crate::answer::Answer;
+use crate::read::no_memory;
+use core_calls::SqlFault;
+use sql_lex::Part;
+use sql_literals::{StatementError, table_name};
+use sql_text::{Definition, KeyColumn};
+use std::alloc::{AllocError, Global};
+use tables::TableView;
+
+// What the creation of a table of a name that no other has is answered.
+fn created(
+    alloc: Global,
+    table: &str,
+    definitions: &[Definition<'_>],
+    key: &[KeyColumn<'_>],
+    tables: usize,
+    left: usize,
+) -> Result<Answer, AllocError>
+    ensures { IfOk result (λ answer. answer_of answer ≡ answered (create_answer left table.now (defined_schema definitions.now key.now) tables)) }
+{
+    match sql_changes::create(alloc, table, definitions, key, tables, left) {
+        Ok(change) => {
+            let mut changes = Vec::new(alloc);
+            changes.push(change)?;
+            Ok(Answer::Changes(changes, 0))
+        }
+        Err(StatementError::Fault(fault)) => Ok(Answer::Refused(fault)),
+        Err(StatementError::NoMemory) => Err(AllocError),
+    }
+}
+
+/// What a CREATE TABLE is answered, where so many bytes of changes are left: the one change that
+/// creates the table. It is refused where a table has the name, where the name is none or the columns
+/// and the key are no schema, by the 1,001st table, and where the change has more bytes than are left.
+/// The view itself does not change.
+pub fn create<V: TableView>(
+    alloc: Global,
+    table: &Part<'_>,
+    definitions: &[Definition<'_>],
+    key: &[KeyColumn<'_>],
+    left: usize,
+    view: &mut V,
+) -> Result<Answer, V::Fault>
+    ensures answer { IfOk result (λ answer. IsTrue V.is_told → (params : List Value) → meaning params left (command.Create table.now definitions.now key.now) (V.store view.old) ≡ answer_of answer) }
+    ensures fault { IfErr result (λ fault. IsTrue V.is_told → V.tells_damage fault ≡ false) }
+    ensures store { V.store view.new ≡ V.store view.old }
+{
+    let Ok(table) = table_name(alloc, table.bytes()) else {
+        return Err(no_memory::<V>());
+    };
+    let schema = view.schema(alloc, table.as_str())?;
+    if schema.is_some() {
+        return Ok(Answer::Refused(SqlFault::TableExists));
+    }
+    let tables = view.tables()?;
+    match created(alloc, table.as_str(), definitions, key, tables, left) {
+        Ok(answer) => Ok(answer),
+        Err(AllocError) => Err(no_memory::<V>()),
+    }
+}
