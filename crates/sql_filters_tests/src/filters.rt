@@ -15,12 +15,7 @@ const ROWS: [[Value<'static>; 4]; 3] = [
         Value::Text("x"),
         Value::Bytes(b"\x01"),
     ],
-    [
-        Value::Number(2),
-        Value::Null,
-        Value::Text("y"),
-        Value::Null,
-    ],
+    [Value::Number(2), Value::Null, Value::Text("y"), Value::Null],
     [
         Value::Number(3),
         Value::Number(5),
@@ -55,7 +50,11 @@ fn counted(alloc: Global, text: &str) -> Result<Result<String, SqlFault>, Fail> 
     };
     let mut found = String::new(alloc);
     for values in &ROWS {
-        let mark = if does_count(alloc, &schema, &filter, values)? { 'x' } else { '-' };
+        let mark = if does_count(alloc, &schema, &filter, values)? {
+            'x'
+        } else {
+            '-'
+        };
         found.push(mark)?;
     }
     Ok(Ok(found))
@@ -103,12 +102,21 @@ const FAULTS: [(&'static str, SqlFault); 9] = [
     ("DELETE FROM T WHERE X = 1", SqlFault::ColumnUnknown),
     ("DELETE FROM T WHERE X IS NULL", SqlFault::ColumnUnknown),
     ("DELETE FROM T WHERE W = 'a'", SqlFault::TypeMismatch),
-    ("DELETE FROM T WHERE W = 'a' AND X = 1", SqlFault::TypeMismatch),
-    ("DELETE FROM T WHERE X = 1 OR W = 'a'", SqlFault::ColumnUnknown),
+    (
+        "DELETE FROM T WHERE W = 'a' AND X = 1",
+        SqlFault::TypeMismatch,
+    ),
+    (
+        "DELETE FROM T WHERE X = 1 OR W = 'a'",
+        SqlFault::ColumnUnknown,
+    ),
     ("DELETE FROM T WHERE V = X'61'", SqlFault::TypeMismatch),
     ("DELETE FROM T WHERE V = X", SqlFault::ColumnUnknown),
     ("DELETE FROM T WHERE NOT (W = B)", SqlFault::TypeMismatch),
-    ("DELETE FROM T WHERE K = 1 AND NOT Y < 2", SqlFault::ColumnUnknown),
+    (
+        "DELETE FROM T WHERE K = 1 AND NOT Y < 2",
+        SqlFault::ColumnUnknown,
+    ),
 ];
 
 #[test]

@@ -30,9 +30,18 @@ fn fixes(alloc: Global, text: &str, expected: Option<(&str, i64)>) -> Result<boo
 const FIXED: [(&'static str, Option<(&'static str, i64)>); 16] = [
     ("DELETE FROM T WHERE K = 1 AND V = 'a'", Some(("a", 1))),
     ("DELETE FROM T WHERE 'a' = V AND 1 = k", Some(("a", 1))),
-    ("DELETE FROM T WHERE W > 5 AND K = 1 AND B IS NULL AND V = 'a'", Some(("a", 1))),
-    ("DELETE FROM T WHERE K = 1 AND V = 'a' AND K = 2", Some(("a", 1))),
-    ("DELETE FROM T WHERE K = NULL AND V = 'a' AND K = 2", Some(("a", 2))),
+    (
+        "DELETE FROM T WHERE W > 5 AND K = 1 AND B IS NULL AND V = 'a'",
+        Some(("a", 1)),
+    ),
+    (
+        "DELETE FROM T WHERE K = 1 AND V = 'a' AND K = 2",
+        Some(("a", 1)),
+    ),
+    (
+        "DELETE FROM T WHERE K = NULL AND V = 'a' AND K = 2",
+        Some(("a", 2)),
+    ),
     ("DELETE FROM T WHERE K = ? AND V = ?", Some(("p", 7))),
     ("DELETE FROM T", None),
     ("DELETE FROM T WHERE K = 1", None),
