@@ -4,6 +4,8 @@
 mod answer;
 mod claim;
 mod creation;
+mod description;
+mod insertion;
 mod plan;
 mod query;
 mod read;
@@ -12,5 +14,7 @@ mod removal;
 pub use answer::Answer;
 pub use claim::claims;
 pub use creation::create;
+pub use description::describe;
+pub use insertion::insert;
 pub use query::select;
 pub use removal::delete;
