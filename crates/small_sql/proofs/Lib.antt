@@ -4,3 +4,4 @@ pub mod Names
 pub mod Stored
 pub mod Selecting
 pub mod Deleting
+pub mod Updating

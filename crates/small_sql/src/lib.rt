@@ -4,6 +4,7 @@
 mod answer;
 mod claim;
 mod creation;
+mod modification;
 mod plan;
 mod query;
 mod read;
@@ -12,5 +13,6 @@ mod removal;
 pub use answer::Answer;
 pub use claim::claims;
 pub use creation::create;
+pub use modification::update;
 pub use query::select;
 pub use removal::delete;
