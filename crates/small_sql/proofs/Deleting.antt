@@ -67,11 +67,11 @@ no_schema s q good bad = ap (option_map (λ (t : Table). t.schema)) (not_there s
 err_same : (x e : SqlFault) → ◌≡◌ {A = Checked (List ℕ)} (Err x) (Err e) → x ≡ e
 err_same x e h = cc
 
-by_fault : (f : Option SqlFault) (go : Checked Answer) (e : SqlFault) → ◌≡◌ {A = Checked (List ℕ)} (if_none f (Ok [])) (Err e) → answered (if_none f go) ≡ Refused e
+pub by_fault : (f : Option SqlFault) (go : Checked Answer) (e : SqlFault) → ◌≡◌ {A = Checked (List ℕ)} (if_none f (Ok [])) (Err e) → answered (if_none f go) ≡ Refused e
 by_fault None go e h = absurd cc
 by_fault (Some x) go e h = ap Refused (err_same x e h)
 
-by_none : (f : Option SqlFault) (go : Checked Answer) (places : List ℕ) → ◌≡◌ {A = Checked (List ℕ)} (if_none f (Ok [])) (Ok places) → answered (if_none f go) ≡ answered go
+pub by_none : (f : Option SqlFault) (go : Checked Answer) (places : List ℕ) → ◌≡◌ {A = Checked (List ℕ)} (if_none f (Ok [])) (Ok places) → answered (if_none f go) ≡ answered go
 by_none None go places h = refl
 by_none (Some x) go places h = absurd cc
 

@@ -5,3 +5,4 @@ pub mod Stored
 pub mod Selecting
 pub mod Deleting
 pub mod Inserting
+pub mod Updating
