@@ -11,7 +11,7 @@ use Rattle.sql_meaning.specs.Scope.{table_name}
 use Rattle.sql_meaning.specs.Meaning.{Answer as Meant, Refused}
 use Rattle.sql_meaning.specs.Frame.{CoveredIsEnough, changes_of}
 use Rattle.core_steps.specs.Asked.{Question, answer_to, changes_by, claims_of, described_claims as core_described, describing, meant, querying, running, told}
-use Rattle.core_steps.specs.Describe.{described}
+use Rattle.sql_meaning.specs.Describe.{described}
 use Rattle.unit_order.specs.Words.{AllWithin, In, Laws, apply_all}
 use Rattle.unit_order.proofs.Order.{sound_all}
 use Rattle.sql_order.specs.SqlWords.{Answer, Call, Describe, Run, Seen, Told, Within, bytes_left, call_changes, call_claims, described_claims, sql_words}

@@ -1,6 +1,6 @@
 -- What becomes of a unit that asks.
 use Rattle.std.proofs.Common.{◌≡◌, inl, inr, ⊎_elim, ℕ, Bool, true, false, List, [], ◌∷◌, ◌++◌, Option, Some, None, refl, sym, ◌∙◌, ap, subst}
-use Rattle.std.specs.Prelude.{if◌then◌else◌, ◌||◌, Ok, Err, option_map, unwrap_or}
+use Rattle.std.specs.Prelude.{if◌then◌else◌, ◌||◌, Ok, Err, length, nat_le, option_map, unwrap_or}
 use Rattle.std.specs.List.{list_any}
 use Rattle.sql_text.specs.declared.tree.Statement.{Statement}
 use Rattle.sql_text.specs.declared.tree.Command.{Command}
@@ -15,6 +15,7 @@ use Rattle.unit_locks.specs.Claims.{AddsClaims, In, all_added}
 use Rattle.unit_locks.specs.Clash.{clash}
 use Rattle.core_calls.specs.declared.call.Side.{Side}
 use Rattle.core_calls.specs.declared.call.Side.TheVariants as side
+use Rattle.core_calls.specs.declared.described.ParameterType.{ParameterType}
 use Rattle.core_calls.specs.declared.refusal.Refusal.{Refusal}
 use Rattle.core_calls.specs.declared.refusal.Refusal.TheVariants as refusal
 use Rattle.core_calls.specs.declared.sql_fault.SqlFault.{SqlFault}
@@ -23,11 +24,11 @@ use Rattle.core_calls.specs.Call as call
 use Rattle.core_calls.specs.Call.{Call}
 use Rattle.core_calls.specs.Answer as told
 use Rattle.core_calls.specs.Answer.{Answer}
-use Rattle.sql_meaning.specs.Checked.{Checked, and_then}
+use Rattle.sql_meaning.specs.Checked.{Checked, and_then, unless}
 use Rattle.sql_meaning.specs.Meaning.{Answer as Meant, Changes, Refused, Rows}
 use Rattle.sql_meaning.specs.Frame.{CoveredIsEnough, changes_of, claims_in, covered_answer}
 use Rattle.sql_meaning.specs.Scope.{table_name}
-use Rattle.core_steps.specs.Describe.{described, described_columns, side_of}
+use Rattle.sql_meaning.specs.Describe.{described, described_columns, parameter_types, side_of}
 use Rattle.core_steps.specs.Units.{Owner, Work, clashes, global, is_full, left_of, local, others, unit_of, view}
 use Rattle.core_steps.specs.Asked as asking
 use Rattle.core_steps.specs.Asked.{Clashes, Done, Outcome, Question, TooMany, Unfit, answer_in, answer_to, asked, changes_by, claims_of, describing, fit_or, is_select, kept, meant, number_fault, outcome, querying, running, unfit}
@@ -62,11 +63,15 @@ meant_is (Refused f) = refl
 meant_is (Changes xs n) = refl
 meant_is (Rows l) = refl
 
-side_is : (d : Side) (schema : Schema) (c : Command) (cs : List Column) → is_meant (side_of d schema c cs) ≡ true
-side_is side.Output schema c cs = refl
-side_is side.Input schema c cs = refl
+input_is : (b : Bool) (types : List ParameterType) → is_meant (asking.told (unless b fault.LimitReached (Ok (told.input types)))) ≡ true
+input_is true types = refl
+input_is false types = refl
 
-columns_are : (d : Side) (schema : Schema) (c : Command) (r : Checked (List Column)) → is_meant (asking.told (and_then r (λ cs. Ok (side_of d schema c cs)))) ≡ true
+side_is : (d : Side) (schema : Schema) (c : Command) (cs : List Column) → is_meant (asking.told (side_of d schema c cs)) ≡ true
+side_is side.Output schema c cs = refl
+side_is side.Input schema c cs = input_is (nat_le (length (parameter_types schema.columns c)) 128) (parameter_types schema.columns c)
+
+columns_are : (d : Side) (schema : Schema) (c : Command) (r : Checked (List Column)) → is_meant (asking.told (and_then r (side_of d schema c))) ≡ true
 columns_are d schema c (Ok cs) = side_is d schema c cs
 columns_are d schema c (Err f) = refl
 

@@ -19,7 +19,7 @@ use Rattle.sql_meaning.specs.Checked.{Checked}
 use Rattle.sql_meaning.specs.Scope.{claim, table_name}
 use Rattle.sql_meaning.specs.Meaning.{Answer as Meant, Changes, Refused, Rows}
 use Rattle.sql_meaning.specs.Frame.{changes_of, claims_in, covered_answer}
-use Rattle.core_steps.specs.Describe.{described}
+use Rattle.sql_meaning.specs.Describe.{described}
 use Rattle.core_steps.specs.Units.{Work, clashes, is_full, left_of, view}
 
 -- what is asked of a unit: a statement with the values of its markers, or its description

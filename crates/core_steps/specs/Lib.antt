@@ -1,4 +1,3 @@
-pub mod Describe
 pub mod Units
 pub mod Asked
 pub mod Events

@@ -59,7 +59,7 @@ not_there (e ∷ s) q good bad =
     hit_or q e.0 e.1 s (bytes_eq q e.0) refl (left_of (is_name e.0) (is_table e.1) first) bad
     (not_there s q (right_of (is_name e.0 && is_table e.1) (list_all (λ (e : List ℕ × Table). is_name e.0 && is_table e.1) s) good) bad)
 
-no_schema : (s : Store) (q : List ℕ) → is_store s ≡ true → is_name q ≡ false → schema_of s q ≡ None
+pub no_schema : (s : Store) (q : List ℕ) → is_store s ≡ true → is_name q ≡ false → schema_of s q ≡ None
 no_schema s q good bad = ap (option_map (λ (t : Table). t.schema)) (not_there s q (left_of (list_all (λ (e : List ℕ × Table). is_name e.0 && is_table e.1) s) (rises (slice_cmp nat_cmp) (keys_of s)) good) bad)
 
 -- ---- a WHERE's fault, or none
@@ -67,11 +67,11 @@ no_schema s q good bad = ap (option_map (λ (t : Table). t.schema)) (not_there s
 err_same : (x e : SqlFault) → ◌≡◌ {A = Checked (List ℕ)} (Err x) (Err e) → x ≡ e
 err_same x e h = cc
 
-by_fault : (f : Option SqlFault) (go : Checked Answer) (e : SqlFault) → ◌≡◌ {A = Checked (List ℕ)} (if_none f (Ok [])) (Err e) → answered (if_none f go) ≡ Refused e
+pub by_fault : (f : Option SqlFault) (go : Checked Answer) (e : SqlFault) → ◌≡◌ {A = Checked (List ℕ)} (if_none f (Ok [])) (Err e) → answered (if_none f go) ≡ Refused e
 by_fault None go e h = absurd cc
 by_fault (Some x) go e h = ap Refused (err_same x e h)
 
-by_none : (f : Option SqlFault) (go : Checked Answer) (places : List ℕ) → ◌≡◌ {A = Checked (List ℕ)} (if_none f (Ok [])) (Ok places) → answered (if_none f go) ≡ answered go
+pub by_none : (f : Option SqlFault) (go : Checked Answer) (places : List ℕ) → ◌≡◌ {A = Checked (List ℕ)} (if_none f (Ok [])) (Ok places) → answered (if_none f go) ≡ answered go
 by_none None go places h = refl
 by_none (Some x) go places h = absurd cc
 

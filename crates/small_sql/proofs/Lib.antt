@@ -4,3 +4,5 @@ pub mod Names
 pub mod Stored
 pub mod Selecting
 pub mod Deleting
+pub mod Inserting
+pub mod Updating

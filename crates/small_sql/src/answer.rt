@@ -1,6 +1,12 @@
 //! What statements are answered.
 
+ghost use Rattle.std.specs.Prelude.{◌≡◌, ◌∷◌, [], IfOk};
+ghost use Rattle.tables.specs.ChangeView.{change_of};
+ghost use Rattle.sql_meaning.specs.Meaning as meaning;
+ghost use Rattle.small_sql.specs.Answer.{answer_of};
+
 use core_calls::SqlFault;
+use std::alloc::{AllocError, Global};
 use tables::{Change, RowList};
 
 /// What a statement is answered.
@@ -12,4 +18,13 @@ pub enum Answer {
     Changes(Vec<Change>, usize),
     /// The rows that it asks for.
     Rows(RowList),
+}
+
+/// One change, which concerns so many rows.
+pub(crate) fn one_change(alloc: Global, change: Change, count: usize) -> Result<Answer, AllocError>
+    ensures { IfOk result (λ answer. answer_of answer ≡ meaning.Changes (change_of change ∷ []) count) }
+{
+    let mut changes = Vec::new(alloc);
+    changes.push(change)?;
+    Ok(Answer::Changes(changes, count))
 }

@@ -7,7 +7,7 @@ ghost use Rattle.sql_meaning.specs.Create.{defined_schema};
 ghost use Rattle.sql_meaning.specs.Meaning.{answered, create_answer, meaning};
 ghost use Rattle.small_sql.specs.Answer.{answer_of};
 
-use crate::answer::Answer;
+use crate::answer::{Answer, one_change};
 use crate::read::no_memory;
 use core_calls::SqlFault;
 use sql_lex::Part;
@@ -28,11 +28,7 @@ fn created(
     ensures { IfOk result (λ answer. answer_of answer ≡ answered (create_answer left table.now (defined_schema definitions.now key.now) tables)) }
 {
     match sql_changes::create(alloc, table, definitions, key, tables, left) {
-        Ok(change) => {
-            let mut changes = Vec::new(alloc);
-            changes.push(change)?;
-            Ok(Answer::Changes(changes, 0))
-        }
+        Ok(change) => one_change(alloc, change, 0),
         Err(StatementError::Fault(fault)) => Ok(Answer::Refused(fault)),
         Err(StatementError::NoMemory) => Err(AllocError),
     }

@@ -6,8 +6,8 @@ use Rattle.sql_meaning.specs.Truth.{all_of, any_of, compared, holds, is_null, ne
 use Rattle.sql_meaning.specs.declared.truth.Truth.{Truth}
 use Rattle.sql_literals.specs.Constant.{constant_value}
 use Rattle.sql_filters.specs.declared.filter.Filter.{Filter}
-use Rattle.sql_filters.specs.declared.test.Operand.{Operand}
-use Rattle.sql_filters.specs.declared.test.Operand.TheVariants as operand
+use Rattle.sql_filters.specs.declared.operand.Operand.{Operand}
+use Rattle.sql_filters.specs.declared.operand.Operand.TheVariants as operand
 use Rattle.sql_filters.specs.declared.test.Test.{Test}
 use Rattle.sql_filters.specs.declared.test.Test.TheOpen.{Test-F}
 use Rattle.sql_filters.specs.declared.test.Test.TheFolds.{fold-Test}

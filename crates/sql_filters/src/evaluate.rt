@@ -5,10 +5,10 @@ ghost use Rattle.row_values.specs.Row.{values_in};
 ghost use Rattle.row_values.specs.RowView.{row_in, schema_in};
 ghost use Rattle.row_values.specs.Value.{value_of};
 ghost use Rattle.sql_meaning.specs.Truth as spec;
-ghost use Rattle.sql_filters.specs.Test.{met, operand_value, value_at};
+ghost use Rattle.sql_filters.specs.Test.{met};
 
-use crate::test::{Operand, Test};
-use row_values::laws::rows_have_values_and_keys;
+use crate::operand::value_at;
+use crate::test::Test;
 use row_values::{RowRef, Value};
 use sql_lex::Comparison;
 use sql_meaning::Truth;
@@ -78,29 +78,6 @@ fn compared(comparison: Comparison, a: &Value<'_>, b: &Value<'_>) -> Truth
     })
 }
 
-// The value of a column of the row. No schema has a column that is not there.
-#[tactic(auto, using(crate::proofs::Places::no_value))]
-fn value_at<'a>(row: RowRef<'a>, place: usize) -> Value<'a>
-    ensures { value_of result ≡ value_at (values_in (schema_in row.entry) (row_in row.entry)) place }
-{
-    rows_have_values_and_keys();
-    let columns = row.schema().columns();
-    if place < columns.len() {
-        row.column(place)
-    } else {
-        Value::Null
-    }
-}
-
-fn operand_value<'a>(row: RowRef<'a>, operand: &'a Operand) -> Value<'a>
-    ensures { value_of result ≡ operand_value (values_in (schema_in row.entry) (row_in row.entry)) operand.now }
-{
-    match operand {
-        Operand::Column(place) => value_at(row, *place),
-        Operand::Value(constant) => constant.value(),
-    }
-}
-
 /// What the test says of the row.
 #[cycle(met)]
 #[tactic(auto, unfolding(crate::specs::Test::met))]
@@ -112,8 +89,8 @@ pub(crate) fn met<'a>(row: RowRef<'a>, test: &'a Test) -> Truth
         Test::All(tests) => all_of(row, tests.as_slice()),
         Test::Not(test) => negated(met(row, test.get())),
         Test::Compare(a, comparison, b) => {
-            let first = operand_value(row, a);
-            let second = operand_value(row, b);
+            let first = a.value(row);
+            let second = b.value(row);
             compared(*comparison, &first, &second)
         }
         Test::IsNull(place, negative) => {

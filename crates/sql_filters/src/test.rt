@@ -1,15 +1,8 @@
 //! Predicates whose names and literals are resolved.
 
+use crate::operand::Operand;
 use sql_lex::Comparison;
-use sql_literals::Constant;
 use sqlite_items::{Boxed, Items};
-
-/// A column by its place, or a value.
-#[derive(Debug, Drop)]
-pub(crate) enum Operand {
-    Column(usize),
-    Value(Constant),
-}
 
 /// A predicate whose names and literals are resolved.
 #[derive(Debug, Drop)]

@@ -9,3 +9,4 @@ pub mod Create
 pub mod Scope
 pub mod Meaning
 pub mod Frame
+pub mod Describe
