@@ -1,10 +1,11 @@
 -- A broken chain is silent, and a refused command keeps the stage.
 use Rattle.std.proofs.Common.{◌≡◌, ℕ, Bool, true, false, List, [], ◌∷◌, ◌++◌, Ok, Err, Result, refl, sym, ap, ◌∙◌, inl, inr, if◌then◌else◌}
 use Rattle.dss_frames.specs.Dss.{Dss}
-use Rattle.conversation.specs.declared.refusal.Refusal.{Refusal}
+use Rattle.drda_commands.specs.declared.refusal.Refusal.{Refusal}
 use Rattle.conversation.specs.declared.session.Session.{Session}
-use Rattle.conversation.specs.Exchange.{Exchange, exchanged, passed_over, answered, goes_on, contents_of}
-use Rattle.conversation.specs.Judge.{Accepted, judged}
+use Rattle.drda_commands.specs.Given.{contents_of}
+use Rattle.conversation.specs.Exchange.{Exchange, exchanged, passed_over, answered, goes_on}
+use Rattle.drda_commands.specs.Judge.{Accepted, judged}
 use Rattle.conversation.specs.Laws.{RefusalsKeepTheStage, BrokenChainsAreSilent, AllGoOn}
 use Rattle.conversation.specs.Settings.{Settings}
 use Rattle.conversation.specs.Steps.{Does, DoesAll}

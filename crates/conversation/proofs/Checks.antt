@@ -3,22 +3,23 @@ use Rattle.std.proofs.Common.{◌≡◌, ◌==◌, ◌+◌, ◌&&◌, ℕ, Bool,
 use Rattle.std.proofs.Common.{append_assoc, arith}
 use Rattle.dss_frames.specs.Dss.{Dss}
 use Rattle.dss_frames.specs.Writing.{written}
-use Rattle.conversation.specs.declared.refusal.Refusal.{Refusal}
+use Rattle.drda_commands.specs.declared.refusal.Refusal.{Refusal}
 use Rattle.conversation.specs.declared.session.Session.{Session}
-use Rattle.conversation.specs.declared.session.Mechanism.{Mechanism}
-use Rattle.conversation.specs.declared.session.Stage.{Stage}
-use Rattle.conversation.specs.declared.session.Stage.TheVariants.{Fresh, Known, Asked, Checked, Opened}
-use Rattle.conversation.specs.declared.table.Command.{Command}
-use Rattle.conversation.specs.declared.table.Command.TheVariants.{Excsat, Accsec, Secchk, Accrdb, Unserved}
-use Rattle.conversation.specs.declared.table.ItemKind.TheVariants.{Parameter}
-use Rattle.conversation.specs.Exchange.{Answer, Exchange, exchanged, sent, answered, command_done, asked_for, is_ours, mechanism_for, bytes_of, check_code, known_from, breaks, goes_on, contents_of, fresh}
-use Rattle.conversation.specs.Given.{Given, found_at}
-use Rattle.conversation.specs.Judge.{Accepted, ◌>>=◌, command_object, is_known, is_due, is_whole, none_twice, none_missing, none_bad, judged}
+use Rattle.drda_commands.specs.declared.stage.Mechanism.{Mechanism}
+use Rattle.drda_commands.specs.declared.stage.Stage.{Stage}
+use Rattle.drda_commands.specs.declared.stage.Stage.TheVariants.{Fresh, Known, Asked, Checked, Opened}
+use Rattle.drda_commands.specs.declared.table.Command.{Command}
+use Rattle.drda_commands.specs.declared.table.Command.TheVariants.{Excsat, Accsec, Secchk, Accrdb, Unserved}
+use Rattle.drda_commands.specs.declared.table.ItemKind.TheVariants.{Parameter}
+use Rattle.drda_commands.specs.Given.{contents_of}
+use Rattle.conversation.specs.Exchange.{Answer, Exchange, exchanged, sent, answered, command_done, asked_for, is_ours, mechanism_for, bytes_of, check_code, known_from, breaks, goes_on, fresh}
+use Rattle.drda_commands.specs.Given.{Given, found_at}
+use Rattle.drda_commands.specs.Judge.{Accepted, ◌>>=◌, command_object, is_known, is_due, is_whole, none_twice, none_missing, none_bad, judged}
 use Rattle.conversation.specs.Laws.{OpenedBehindACheck, ChecksTheUser, HasCheckedTheUser}
 use Rattle.conversation.specs.Replies.{secchkrm, rdb_not_found}
 use Rattle.conversation.specs.Settings.{Settings}
 use Rattle.conversation.specs.Steps.{Does, DoesAll}
-use Rattle.conversation.specs.Tables.{command_for, items_for}
+use Rattle.drda_commands.specs.Tables.{command_for, items_for}
 
 -- the user was checked
 abbrev is_checked : Stage → Bool

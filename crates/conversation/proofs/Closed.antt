@@ -2,19 +2,20 @@
 use Rattle.std.proofs.Common.{◌≡◌, Bool, true, false, List, [], ◌∷◌, Option, Some, None, Result, Ok, Err, if◌then◌else◌, refl, ap, ◌∙◌, inl, inr}
 use Rattle.ddm_objects.specs.declared.code_point.TheConstants.{SECMEC, RDBNAM}
 use Rattle.dss_frames.specs.Dss.{Dss}
-use Rattle.conversation.specs.declared.session.Mechanism.{Mechanism}
-use Rattle.conversation.specs.declared.session.Stage.TheVariants.{Opened}
+use Rattle.drda_commands.specs.declared.stage.Mechanism.{Mechanism}
+use Rattle.drda_commands.specs.declared.stage.Stage.TheVariants.{Opened}
 use Rattle.conversation.specs.declared.session.Session.{Session}
-use Rattle.conversation.specs.declared.refusal.Refusal.{Refusal}
-use Rattle.conversation.specs.declared.table.Command.{Command}
-use Rattle.conversation.specs.declared.table.Command.TheVariants.{Excsat, Accsec, Secchk, Accrdb, Unserved}
-use Rattle.conversation.specs.declared.table.ItemKind.TheVariants.{Parameter}
-use Rattle.conversation.specs.Given.{Given, Occurs, found_at}
-use Rattle.conversation.specs.Judge.{Accepted, judged}
+use Rattle.drda_commands.specs.declared.refusal.Refusal.{Refusal}
+use Rattle.drda_commands.specs.declared.table.Command.{Command}
+use Rattle.drda_commands.specs.declared.table.Command.TheVariants.{Excsat, Accsec, Secchk, Accrdb, Unserved}
+use Rattle.drda_commands.specs.declared.table.ItemKind.TheVariants.{Parameter}
+use Rattle.drda_commands.specs.Given.{Given, Occurs, found_at}
+use Rattle.drda_commands.specs.Judge.{Accepted, judged}
 use Rattle.conversation.specs.Laws.{NoCommandCloses}
 use Rattle.conversation.specs.Replies.{rdb_not_found, accrdbrm}
 use Rattle.conversation.specs.Settings.{Settings}
-use Rattle.conversation.specs.Exchange.{Answer, Exchange, exchanged, excused, answered, asked_for, is_ours, mechanism_for, bytes_of, accsec_done, accrdb_done, command_done, contents_of}
+use Rattle.drda_commands.specs.Given.{contents_of}
+use Rattle.conversation.specs.Exchange.{Answer, Exchange, exchanged, excused, answered, asked_for, is_ours, mechanism_for, bytes_of, accsec_done, accrdb_done, command_done}
 
 either_answer : (b is_closed : Bool) (x y : Answer) → x.session.is_closed ≡ is_closed → y.session.is_closed ≡ is_closed → (if b then x else y).session.is_closed ≡ is_closed
 either_answer true is_closed x y p q = p

@@ -8,22 +8,24 @@ use Rattle.dss_frames.specs.Dss.{Dss}
 use Rattle.dss_frames.specs.declared.fault.FrameFault.{FrameFault}
 use Rattle.dss_frames.specs.Fault.{synerrcd}
 use Rattle.dss_frames.specs.Writing.{written}
-use Rattle.conversation.specs.declared.refusal.Refusal.{Refusal}
-use Rattle.conversation.specs.declared.refusal.Refusal.TheVariants.{Syntax, OutOfTurn, RdbAccessed, RdbNotAccessed, CommandNotSupported, ValueNotSupported}
+use Rattle.drda_commands.specs.declared.refusal.Refusal.{Refusal}
+use Rattle.drda_commands.specs.declared.refusal.Refusal.TheVariants.{Syntax, OutOfTurn, RdbAccessed, RdbNotAccessed, CommandNotSupported, ValueNotSupported}
 use Rattle.conversation.specs.declared.reply.TheConstants.{SERVER_NAME, SERVER_CLASS, RELEASE_LEVEL}
-use Rattle.conversation.specs.declared.session.Mechanism.{Mechanism}
+use Rattle.drda_commands.specs.declared.stage.Mechanism.{Mechanism}
 use Rattle.conversation.specs.declared.session.Session.{Session}
-use Rattle.conversation.specs.declared.session.Stage.TheVariants.{Opened}
-use Rattle.conversation.specs.declared.table.Command.{Command}
-use Rattle.conversation.specs.declared.table.Command.TheVariants.{Excsat, Accsec, Secchk, Accrdb, Unserved}
-use Rattle.conversation.specs.declared.table.ItemKind.TheVariants.{Parameter}
-use Rattle.conversation.specs.Exchange.{Answer, Exchange, exchanged, excused, sent, answered, command_done, asked_for, is_ours, mechanism_for, bytes_of, value_of, check_code, breaks, goes_on, contents_of}
-use Rattle.conversation.specs.Given.{Given, Occurs, found_at}
-use Rattle.conversation.specs.Judge.{Accepted, judged}
+use Rattle.drda_commands.specs.declared.stage.Stage.TheVariants.{Opened}
+use Rattle.drda_commands.specs.declared.table.Command.{Command}
+use Rattle.drda_commands.specs.declared.table.Command.TheVariants.{Excsat, Accsec, Secchk, Accrdb, Unserved}
+use Rattle.drda_commands.specs.declared.table.ItemKind.TheVariants.{Parameter}
+use Rattle.drda_commands.specs.Given.{contents_of}
+use Rattle.conversation.specs.Exchange.{Answer, Exchange, exchanged, excused, sent, answered, command_done, asked_for, is_ours, mechanism_for, bytes_of, value_of, check_code, breaks, goes_on}
+use Rattle.drda_commands.specs.Given.{Given, Occurs, found_at}
+use Rattle.drda_commands.specs.Judge.{Accepted, judged}
 use Rattle.conversation.specs.Laws.{RepliesAreTrees, IsOneTree}
 use Rattle.conversation.specs.Levels.{levels_for}
-use Rattle.conversation.specs.Names.{in_encoding, padded_in}
-use Rattle.conversation.specs.Replies.{Reply, message, refusal_reply, synerrcd_for, rdb_not_found, no_memory_reply, excsatrd, accsecrd, accsecrd_refused, mechanism_code, check_severity, accrdbrm, fault_bytes}
+use Rattle.drda_commands.specs.Names.{in_encoding, padded_in}
+use Rattle.drda_commands.specs.Refusals.{synerrcd_for}
+use Rattle.conversation.specs.Replies.{Reply, message, refusal_reply, rdb_not_found, no_memory_reply, excsatrd, accsecrd, accsecrd_refused, mechanism_code, check_severity, accrdbrm, fault_bytes}
 use Rattle.conversation.specs.Settings.{Settings}
 
 -- the reply's text is one object, with trees in it

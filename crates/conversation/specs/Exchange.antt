@@ -1,24 +1,24 @@
 -- What a conversation does with its next command: the reply, and how it goes on.
-use Rattle.std.specs.Prelude.{ℕ, ◌+◌, ◌==◌, Bool, true, false, not, ◌&&◌, nat_le, List, [], ◌∷◌, map, Option, Some, None, Result, Ok, Err, if◌then◌else◌}
+use Rattle.std.specs.Prelude.{ℕ, ◌+◌, ◌==◌, Bool, true, false, not, ◌&&◌, nat_le, List, [], ◌∷◌, Option, Some, None, Result, Ok, Err, if◌then◌else◌}
 use Rattle.dss_frames.specs.Dss.{Dss}
 use Rattle.dss_frames.specs.Format.{is_chained, continues_on_error}
 use Rattle.dss_frames.specs.Writing.{written}
 use Rattle.ddm_objects.specs.declared.code_point.TheConstants.{MGRLVLLS, SECMEC, RDBNAM, USRID, PASSWORD}
-use Rattle.conversation.specs.declared.refusal.Refusal.{Refusal}
-use Rattle.conversation.specs.declared.refusal.Refusal.TheVariants.{CommandNotSupported}
-use Rattle.conversation.specs.declared.table.Command.{Command}
-use Rattle.conversation.specs.declared.table.Command.TheVariants.{Excsat, Accsec, Secchk, Accrdb, Unserved}
-use Rattle.conversation.specs.declared.table.ItemKind.TheVariants.{Parameter}
-use Rattle.conversation.specs.declared.session.Stage.{Stage}
-use Rattle.conversation.specs.declared.session.Stage.TheVariants.{Fresh, Known, Asked, Checked, Opened}
-use Rattle.conversation.specs.declared.session.Mechanism.{Mechanism}
-use Rattle.conversation.specs.declared.session.Mechanism.TheVariants.{UserAndPassword, UserOnly}
+use Rattle.drda_commands.specs.declared.refusal.Refusal.{Refusal}
+use Rattle.drda_commands.specs.declared.refusal.Refusal.TheVariants.{CommandNotSupported}
+use Rattle.drda_commands.specs.declared.table.Command.{Command}
+use Rattle.drda_commands.specs.declared.table.Command.TheVariants.{Excsat, Accsec, Secchk, Accrdb, Unserved}
+use Rattle.drda_commands.specs.declared.table.ItemKind.TheVariants.{Parameter}
+use Rattle.drda_commands.specs.declared.stage.Stage.{Stage}
+use Rattle.drda_commands.specs.declared.stage.Stage.TheVariants.{Fresh, Known, Asked, Checked, Opened}
+use Rattle.drda_commands.specs.declared.stage.Mechanism.{Mechanism}
+use Rattle.drda_commands.specs.declared.stage.Mechanism.TheVariants.{UserAndPassword, UserOnly}
 use Rattle.conversation.specs.declared.session.Agreed.{Agreed}
 use Rattle.conversation.specs.declared.session.Session.{Session}
 use Rattle.conversation.specs.Levels.{agreed_after, nothing_agreed}
-use Rattle.conversation.specs.Given.{Given, Occurs, never, once, twice, found_at}
-use Rattle.conversation.specs.Judge.{Accepted, judged}
-use Rattle.conversation.specs.Names.{is_name, is_padded_name}
+use Rattle.drda_commands.specs.Given.{Given, Occurs, never, once, twice, found_at, contents_of}
+use Rattle.drda_commands.specs.Judge.{Accepted, judged}
+use Rattle.drda_commands.specs.Names.{is_name, is_padded_name}
 use Rattle.conversation.specs.Settings.{Settings}
 use Rattle.conversation.specs.Replies.{Reply, refusal_reply, rdb_not_found, no_memory_reply, excsatrd, accsecrd, accsecrd_refused, secchkrm, accrdbrm}
 
@@ -169,9 +169,6 @@ sent request chained answer =
 -- a command of a broken chain is read and not done; the chain ends with the first that is not chained
 abbrev pub passed_over : Session → Bool → Exchange
 passed_over session chained = record { session = record session { is_broken = chained }; bytes = [] }
-
-abbrev pub contents_of : List Dss → List (List ℕ)
-contents_of dsss = map (λ d. d.contents) dsss
 
 abbrev pub exchanged : Settings → Session → List Dss → Exchange
 exchanged settings session [] = record { session = session; bytes = [] }

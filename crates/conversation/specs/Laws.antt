@@ -3,14 +3,15 @@ use Rattle.std.specs.Prelude.{◌≡◌, ◌⊎◌, ℕ, true, false, List, [], 
 use Rattle.ddm_objects.specs.Writing.{Trees, NoTrees, Container, text_of}
 use Rattle.dss_frames.specs.Dss.{Dss}
 use Rattle.dss_frames.specs.Writing.{written}
-use Rattle.conversation.specs.declared.refusal.Refusal.{Refusal}
+use Rattle.drda_commands.specs.declared.refusal.Refusal.{Refusal}
 use Rattle.conversation.specs.declared.session.Session.{Session}
-use Rattle.conversation.specs.declared.session.Stage.TheVariants.{Opened}
-use Rattle.conversation.specs.declared.table.Command.TheVariants.{Secchk}
-use Rattle.conversation.specs.Judge.{Accepted, judged}
+use Rattle.drda_commands.specs.declared.stage.Stage.TheVariants.{Opened}
+use Rattle.drda_commands.specs.declared.table.Command.TheVariants.{Secchk}
+use Rattle.drda_commands.specs.Judge.{Accepted, judged}
 use Rattle.conversation.specs.Replies.{secchkrm}
 use Rattle.conversation.specs.Settings.{Settings}
-use Rattle.conversation.specs.Exchange.{contents_of, fresh, goes_on}
+use Rattle.drda_commands.specs.Given.{contents_of}
+use Rattle.conversation.specs.Exchange.{fresh, goes_on}
 use Rattle.conversation.specs.Steps.{Does, DoesAll}
 
 -- no command closes a conversation, nor opens a closed one; what closes it is a fault of the framing

@@ -1,9 +1,5 @@
-pub mod Names
 pub mod Settings
 pub mod Levels
-pub mod Tables
-pub mod Given
-pub mod Judge
 pub mod Replies
 pub mod Exchange
 pub mod Closing

@@ -4,23 +4,21 @@ ghost use Rattle.std.specs.Prelude.{◌≡◌, ◌&&◌, ◌++◌, ◌+◌, IfOk
 ghost use Rattle.std.specs.Option.{option_copied};
 ghost use Rattle.dss_frames.specs.Group.{command_of};
 ghost use Rattle.conversation.specs.Exchange as spec;
-ghost use Rattle.conversation.specs.Given.{found_at};
-ghost use Rattle.conversation.specs.Judge.{judged};
+ghost use Rattle.drda_commands.specs.Given.{found_at, contents_of};
+ghost use Rattle.drda_commands.specs.Judge.{judged};
 ghost use Rattle.conversation.specs.Replies.{refusal_reply, no_memory_reply};
 ghost use Rattle.std.specs.Prelude.{◌<◌, if◌then◌else◌};
 ghost use Rattle.dss_frames.specs.Writing.{written};
-ghost use Rattle.conversation.specs.Views.{answer_of, type_number, accepted_of, occurs_of, given_of, Exchanges};
+ghost use Rattle.drda_commands.specs.Views.{accepted_of, occurs_of, given_of};
+ghost use Rattle.conversation.specs.Views.{answer_of, type_number, Exchanges};
 
 use crate::access::{accrdb, accsec, check_code, checked};
-use crate::given::{Given, Occurs};
-use crate::judge::{Accepted, judge};
 use crate::levels::agreed_by;
-use crate::refusal::Refusal;
 use crate::reply::{write_excsatrd, write_refusal};
-use crate::session::{Agreed, Session, Stage};
+use crate::session::{Agreed, Session};
 use crate::settings::Settings;
-use crate::table::{Command, Form, Item, ItemKind};
 use ddm_objects::code_point;
+use drda_commands::{Accepted, Command, Form, Given, Item, ItemKind, Occurs, Refusal, Stage, judge};
 use dss_frames::{DssType, Format, Group, write_dss};
 use std::alloc::AllocError;
 
@@ -169,7 +167,7 @@ fn answer_to(
     objects: Group<'_>,
     text: &mut Vec<u8>,
 ) -> Result<Answer, AllocError>
-    ensures { IfOk result (λ a. answer_of a text.new.items ≡ spec.answered settings.now session (judged session.stage session.agreed.unicode contents.now (spec.contents_of (command_of objects.entry)))) }
+    ensures { IfOk result (λ a. answer_of a text.new.items ≡ spec.answered settings.now session (judged session.stage session.agreed.unicode contents.now (contents_of (command_of objects.entry)))) }
 {
     match judge(session.stage, session.agreed.unicode, contents, objects) {
         Ok(accepted) => done(settings, session, accepted, text),

@@ -1,0 +1,209 @@
+//! What a command brought.
+
+ghost use Rattle.std.specs.Prelude.{◌≡◌, ◌==◌, if◌then◌else◌, ◌+◌, ◌^◌, ◌-◌, List, ℕ, min, length};
+ghost use Rattle.ddm_objects.specs.Reading.{walk};
+ghost use Rattle.dss_frames.specs.Group.{command_of};
+ghost use Rattle.drda_commands.specs.Given.{contents_of};
+ghost use Rattle.drda_commands.specs.Given.{seen_again, seen_in, seen_in_texts, found_at, count_in, is_container, is_at, reads_inside, fault_inside, fault_in, fault_in_texts, first_fault, never};
+ghost use Rattle.drda_commands.specs.Views.{occurs_of, given_of};
+
+use crate::table::{Command, Form, Item, ItemKind, items_of};
+use ddm_objects::{ObjFault, Object, parts_of};
+use dss_frames::Group;
+
+/// The parameters of a command, and its object DSSs.
+#[derive(Clone, Copy)]
+pub struct Given<'a> {
+    pub parameters: &'a [u8],
+    pub objects: Group<'a>,
+}
+
+/// How often a code point stands somewhere, and its data where it stands once.
+#[derive(Clone, Copy)]
+pub enum Occurs<'a> {
+    Never,
+    Once(&'a [u8]),
+    Twice,
+}
+
+impl<'a> Occurs<'a> {
+    fn again(self, value: &'a [u8]) -> Occurs<'a>
+        ensures { occurs_of result ≡ seen_again (occurs_of self.entry) value.now }
+    {
+        match self {
+            Occurs::Never => Occurs::Once(value),
+            Occurs::Once(_) | Occurs::Twice => Occurs::Twice,
+        }
+    }
+}
+
+// An object after those that were seen before.
+fn seen_with<'a>(code: u16, before: Occurs<'a>, object: Object<'a>) -> Occurs<'a>
+    ensures { occurs_of result ≡ (if object.entry.code == code then seen_again (occurs_of before.entry) object.entry.value.now else occurs_of before.entry) }
+{
+    if object.code == code {
+        before.again(object.value)
+    } else {
+        before
+    }
+}
+
+// On from what was seen before.
+fn seen_in<'a>(code: u16, before: Occurs<'a>, text: &'a [u8]) -> Occurs<'a>
+    ensures { occurs_of result ≡ seen_in code (occurs_of before.entry) (walk text.now).objects }
+{
+    let mut seen = before;
+    for part in parts_of(text) {
+        match part {
+            Ok(object) => seen = seen_with(code, seen, object),
+            Err(_) => return seen,
+        }
+    }
+    seen
+}
+
+/// How often a code point stands in a text of objects.
+pub(crate) fn found_in(code: u16, text: &[u8]) -> Occurs<'_>
+    ensures { occurs_of result ≡ seen_in code never (walk text.now).objects }
+{
+    seen_in(code, Occurs::Never, text)
+}
+
+fn found_in_dsss<'a>(code: u16, objects: Group<'a>) -> Occurs<'a>
+    ensures { occurs_of result ≡ seen_in_texts code never (contents_of (command_of objects.entry)) }
+{
+    let mut seen = Occurs::Never;
+    let mut left = objects;
+    'dsss: while let Some((dss, more)) = left.split_first() {
+        seen = seen_in(code, seen, dss.contents);
+        left = more;
+    }
+    seen
+}
+
+fn is_container(form: Form) -> bool
+    ensures { result ≡ is_container form }
+{
+    match form {
+        Form::ManagerLevels | Form::AnyBytes | Form::TwoBytes | Form::DefinitionName => false,
+        Form::DefinitionOverrides => true,
+    }
+}
+
+fn is_at(kind: ItemKind, other: ItemKind) -> bool
+    ensures { result ≡ is_at kind other }
+{
+    matches!(
+        (kind, other),
+        (ItemKind::Parameter, ItemKind::Parameter) | (ItemKind::DataObject, ItemKind::DataObject)
+    )
+}
+
+fn reads_inside(command: Command, kind: ItemKind, code: u16) -> bool
+    ensures { result ≡ reads_inside command kind code }
+{
+    items_of(command).iter().any(|item| is_at(item.kind, kind)
+        && item.code == code
+        && is_container(item.form))
+}
+
+// The first fault by place among the objects of a text.
+fn own_fault(text: &[u8]) -> Option<ObjFault>
+    ensures { result ≡ (walk text.now).fault }
+{
+    for part in parts_of(text) {
+        match part {
+            Ok(_) => {}
+            Err(fault) => return Some(fault),
+        }
+    }
+    None
+}
+
+fn fault_inside(is_read: bool, value: &[u8]) -> Option<ObjFault>
+    ensures { result ≡ fault_inside is_read value.now }
+{
+    if is_read { own_fault(value) } else { None }
+}
+
+fn fault_in(command: Command, kind: ItemKind, text: &[u8]) -> Option<ObjFault>
+    ensures { result ≡ fault_in (reads_inside command kind) text.now }
+{
+    for part in parts_of(text) {
+        match part {
+            Ok(object) => {
+                let inside = fault_inside(reads_inside(command, kind, object.code), object.value);
+                if inside.is_some() {
+                    return inside;
+                }
+            }
+            Err(fault) => return Some(fault),
+        }
+    }
+    None
+}
+
+fn fault_in_dsss(command: Command, objects: Group<'_>) -> Option<ObjFault>
+    ensures { result ≡ fault_in_texts (reads_inside command ItemKind.DataObject) (contents_of (command_of objects.entry)) }
+{
+    let mut left = objects;
+    'dsss: while let Some((dss, more)) = left.split_first() {
+        let fault = fault_in(command, ItemKind::DataObject, dss.contents);
+        if fault.is_some() {
+            return fault;
+        }
+        left = more;
+    }
+    None
+}
+
+// How many objects stand in a text, as far as a number goes.
+fn count_of(text: &[u8]) -> usize
+    ensures { result ≡ min (length (walk text.now).objects) (2 ^ 64 - 1) }
+{
+    let mut count = 0_usize;
+    for part in parts_of(text) {
+        match part {
+            Ok(_) => count = count.saturating_add(1),
+            Err(_) => return count,
+        }
+    }
+    count
+}
+
+impl<'a> Given<'a> {
+    /// How often an item stands where it may stand.
+    pub fn found(&self, item: Item) -> Occurs<'a>
+        ensures { occurs_of result ≡ found_at item.kind item.code (given_of self.now) }
+    {
+        match item.kind {
+            ItemKind::Parameter => found_in(item.code, self.parameters),
+            ItemKind::DataObject => found_in_dsss(item.code, self.objects),
+        }
+    }
+
+    /// The first fault by place: in the parameters, then in the data objects; a container that the
+    /// command reads is judged inside where it stands.
+    pub fn first_fault(&self, command: Command) -> Option<ObjFault>
+        ensures { result ≡ first_fault command (given_of self.now) }
+    {
+        let fault = fault_in(command, ItemKind::Parameter, self.parameters);
+        if fault.is_some() {
+            return fault;
+        }
+        fault_in_dsss(command, self.objects)
+    }
+
+    /// How many data objects came, as far as a number goes.
+    pub fn count(&self) -> usize
+        ensures { result ≡ min (count_in (given_of self.now).objects) (2 ^ 64 - 1) }
+    {
+        let mut count = 0_usize;
+        let mut left = self.objects;
+        'dsss: while let Some((dss, more)) = left.split_first() {
+            count = count.saturating_add(count_of(dss.contents));
+            left = more;
+        }
+        count
+    }
+}
