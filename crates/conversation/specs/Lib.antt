@@ -1,6 +1,7 @@
 pub mod Settings
 pub mod Levels
 pub mod Replies
+pub mod Served
 pub mod Exchange
 pub mod Closing
 pub mod Held

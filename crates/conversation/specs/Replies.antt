@@ -13,7 +13,7 @@ use Rattle.drda_commands.specs.declared.stage.Mechanism.{Mechanism}
 use Rattle.drda_commands.specs.declared.stage.Mechanism.TheVariants.{UserAndPassword, UserOnly}
 use Rattle.conversation.specs.Levels.{levels_for}
 use Rattle.drda_commands.specs.Refusals.{synerrcd_for}
-use Rattle.drda_commands.specs.Names.{in_encoding, padded_in}
+use Rattle.drda_names.specs.Names.{in_encoding, padded_in}
 use Rattle.conversation.specs.Settings.{Settings}
 
 -- a reply: its DSS type (2 a reply message, 3 an object), its severity (0 where it has none), its text

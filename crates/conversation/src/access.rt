@@ -13,7 +13,8 @@ use crate::reply::{
 };
 use crate::session::Session;
 use crate::settings::Settings;
-use drda_commands::{Mechanism, Occurs, Stage, is_name, is_padded_name};
+use drda_commands::{Mechanism, Occurs, Stage};
+use drda_names::{is_name, is_padded_name};
 use dss_frames::DssType;
 use std::alloc::AllocError;
 

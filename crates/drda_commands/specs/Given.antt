@@ -1,8 +1,7 @@
 -- What a command brought: the text of its parameters, and the contents of its object DSSs, each a list
 -- of objects (DRDA V5 volume 3, "Data Stream Structures").
 use Rattle.std.specs.Prelude.{ℕ, ◌+◌, ◌==◌, Bool, true, false, ◌&&◌, List, [], ◌∷◌, length, map, Option, Some, None, if◌then◌else◌}
-use Rattle.std.specs.List.{list_any}
-use Rattle.ddm_objects.specs.declared.fault.ObjFault.{ObjFault}
+use Rattle.std.specs.Option.{option_map}
 use Rattle.ddm_objects.specs.Objects.{Obj}
 use Rattle.ddm_objects.specs.Reading.{walk}
 use Rattle.dss_frames.specs.Dss.{Dss}
@@ -10,8 +9,12 @@ use Rattle.drda_commands.specs.declared.table.Command.{Command}
 use Rattle.drda_commands.specs.declared.table.ItemKind.{ItemKind}
 use Rattle.drda_commands.specs.declared.table.ItemKind.TheVariants.{Parameter, DataObject}
 use Rattle.drda_commands.specs.declared.table.Form.{Form}
-use Rattle.drda_commands.specs.declared.table.Form.TheVariants.{ManagerLevels, AnyBytes, TwoBytes, DefinitionName, DefinitionOverrides}
+use Rattle.drda_commands.specs.declared.table.Form.TheVariants.{ManagerLevels, AnyBytes, Bytes, Boolean, SqldaType, SyncType, DefinitionName, DefinitionOverrides, StatementTexts, DescribedData}
+use Rattle.drda_commands.specs.declared.table.Item.{Item}
+use Rattle.drda_commands.specs.declared.refusal.SyntaxError.{SyntaxError}
+use Rattle.drda_commands.specs.declared.refusal.SyntaxError.TheVariants.{InObject, MalformedText}
 use Rattle.drda_commands.specs.Tables.{items_for}
+use Rattle.drda_commands.specs.Texts.{Texts, texts_in}
 
 -- the contents of DSSs
 abbrev pub contents_of : List Dss → List (List ℕ)
@@ -26,6 +29,12 @@ pub data Occurs : Type 0 where
   never : Occurs
   once : List ℕ → Occurs
   twice : Occurs
+
+-- its data, where it stands once
+abbrev pub value_of : Occurs → Option (List ℕ)
+value_of never = None
+value_of (once value) = Some value
+value_of twice = None
 
 abbrev pub seen_again : Occurs → List ℕ → Occurs
 seen_again never value = once value
@@ -46,6 +55,10 @@ abbrev pub found_at : ItemKind → ℕ → Given → Occurs
 found_at Parameter code given = seen_in code never (walk given.parameters).objects
 found_at DataObject code given = seen_in_texts code never given.objects
 
+-- among the objects that a container's data are
+abbrev pub found_inside : ℕ → List ℕ → Occurs
+found_inside code value = seen_in code never (walk value).objects
+
 -- how many data objects came
 abbrev pub count_in : List (List ℕ) → ℕ
 count_in [] = 0
@@ -53,44 +66,56 @@ count_in (text ∷ texts) = length (walk text).objects + count_in texts
 
 -- ---- faults, the first by place
 
-abbrev pub or_else : Option ObjFault → Option ObjFault → Option ObjFault
+abbrev pub or_else : Option SyntaxError → Option SyntaxError → Option SyntaxError
 or_else (Some fault) later = Some fault
 or_else None later = later
 
--- an object whose data are objects too, and are judged where it stands
-abbrev pub is_container : Form → Bool
-is_container ManagerLevels = false
-is_container AnyBytes = false
-is_container TwoBytes = false
-is_container DefinitionName = false
-is_container DefinitionOverrides = true
+-- a list of objects is judged as one
+abbrev pub objects_fault : List ℕ → Option SyntaxError
+objects_fault value = option_map InObject (walk value).fault
+
+abbrev pub texts_fault : Option Texts → Option SyntaxError
+texts_fault (Some texts) = None
+texts_fault None = Some MalformedText
+
+-- What is judged of an item's data where it stands: a container's objects, and that the texts of a statement
+-- have their form.
+abbrev pub own_fault : Form → List ℕ → Option SyntaxError
+own_fault ManagerLevels value = None
+own_fault AnyBytes value = None
+own_fault (Bytes least greatest) value = None
+own_fault Boolean value = None
+own_fault SqldaType value = None
+own_fault SyncType value = None
+own_fault DefinitionName value = None
+own_fault DefinitionOverrides value = objects_fault value
+own_fault StatementTexts value = texts_fault (texts_in value)
+own_fault DescribedData value = objects_fault value
 
 abbrev pub is_at : ItemKind → ItemKind → Bool
 is_at Parameter Parameter = true
 is_at DataObject DataObject = true
 is_at kind other = false
 
--- the command reads a container of this code point at this place
-abbrev pub reads_inside : Command → ItemKind → ℕ → Bool
-reads_inside command kind code = list_any (λ i. is_at i.kind kind && (i.code == code && is_container i.form)) (items_for command)
+-- the data of an object that stands at such a place, by the form that they have among these items; an object
+-- that is none of them is not judged
+abbrev pub fault_inside : List Item → ItemKind → Obj → Option SyntaxError
+fault_inside [] kind o = None
+fault_inside (item ∷ items) kind o = if is_at item.kind kind && (item.code == o.code) then own_fault item.form o.value else fault_inside items kind o
 
-abbrev pub fault_inside : Bool → List ℕ → Option ObjFault
-fault_inside true value = (walk value).fault
-fault_inside false value = None
+-- an object's own fault, then those of its data, then those behind it
+abbrev pub fault_among : (Obj → Option SyntaxError) → List Obj → Option SyntaxError → Option SyntaxError
+fault_among inside [] last = last
+fault_among inside (o ∷ os) last = or_else (inside o) (fault_among inside os last)
 
--- a container's own fault, then those inside it, then those behind it
-abbrev pub fault_among : (ℕ → Bool) → List Obj → Option ObjFault → Option ObjFault
-fault_among reads [] last = last
-fault_among reads (o ∷ os) last = or_else (fault_inside (reads o.code) o.value) (fault_among reads os last)
+abbrev pub fault_in : (Obj → Option SyntaxError) → List ℕ → Option SyntaxError
+fault_in inside text = fault_among inside (walk text).objects (objects_fault text)
 
-abbrev pub fault_in : (ℕ → Bool) → List ℕ → Option ObjFault
-fault_in reads text = fault_among reads (walk text).objects (walk text).fault
-
-abbrev pub fault_in_texts : (ℕ → Bool) → List (List ℕ) → Option ObjFault
-fault_in_texts reads [] = None
-fault_in_texts reads (text ∷ texts) = or_else (fault_in reads text) (fault_in_texts reads texts)
+abbrev pub fault_in_texts : (Obj → Option SyntaxError) → List (List ℕ) → Option SyntaxError
+fault_in_texts inside [] = None
+fault_in_texts inside (text ∷ texts) = or_else (fault_in inside text) (fault_in_texts inside texts)
 
 -- the parameters come before the data objects
-abbrev pub first_fault : Command → Given → Option ObjFault
+abbrev pub first_fault : Command → Given → Option SyntaxError
 first_fault command given =
-    or_else (fault_in (reads_inside command Parameter) given.parameters) (fault_in_texts (reads_inside command DataObject) given.objects)
+    or_else (fault_in (fault_inside (items_for command) Parameter) given.parameters) (fault_in_texts (fault_inside (items_for command) DataObject) given.objects)

@@ -1,6 +1,7 @@
-pub mod Names
 pub mod Tables
+pub mod Texts
 pub mod Given
 pub mod Refusals
 pub mod Judge
+pub mod Values
 pub mod Views

@@ -1,14 +1,18 @@
 //! What a command brought.
 
-ghost use Rattle.std.specs.Prelude.{◌≡◌, ◌==◌, if◌then◌else◌, ◌+◌, ◌^◌, ◌-◌, List, ℕ, min, length};
+ghost use Rattle.std.specs.Prelude.{◌≡◌, ◌&&◌, option_copied, ◌==◌, if◌then◌else◌, ◌+◌, ◌^◌, ◌-◌, List, ℕ, min, length};
 ghost use Rattle.ddm_objects.specs.Reading.{walk};
 ghost use Rattle.dss_frames.specs.Group.{command_of};
 ghost use Rattle.drda_commands.specs.Given.{contents_of};
-ghost use Rattle.drda_commands.specs.Given.{seen_again, seen_in, seen_in_texts, found_at, count_in, is_container, is_at, reads_inside, fault_inside, fault_in, fault_in_texts, first_fault, never};
+ghost use Rattle.drda_commands.specs.Given.{value_of, seen_again, seen_in, seen_in_texts, found_at, count_in, is_at, objects_fault, texts_fault, own_fault, fault_inside, fault_in, fault_in_texts, first_fault, never};
+ghost use Rattle.drda_commands.specs.Texts.{texts_in};
+ghost use Rattle.ddm_objects.specs.Source.{view};
 ghost use Rattle.drda_commands.specs.Views.{occurs_of, given_of};
 
+use crate::refusal::SyntaxError;
 use crate::table::{Command, Form, Item, ItemKind, items_of};
-use ddm_objects::{ObjFault, Object, parts_of};
+use crate::texts::texts_in;
+use ddm_objects::{Object, parts_of};
 use dss_frames::Group;
 
 /// The parameters of a command, and its object DSSs.
@@ -27,6 +31,16 @@ pub enum Occurs<'a> {
 }
 
 impl<'a> Occurs<'a> {
+    /// The data, where it stands once.
+    pub fn value(self) -> Option<&'a [u8]>
+        ensures { option_copied result ≡ value_of (occurs_of self.entry) }
+    {
+        match self {
+            Occurs::Once(value) => Some(value),
+            Occurs::Never | Occurs::Twice => None,
+        }
+    }
+
     fn again(self, value: &'a [u8]) -> Occurs<'a>
         ensures { occurs_of result ≡ seen_again (occurs_of self.entry) value.now }
     {
@@ -81,15 +95,6 @@ fn found_in_dsss<'a>(code: u16, objects: Group<'a>) -> Occurs<'a>
     seen
 }
 
-fn is_container(form: Form) -> bool
-    ensures { result ≡ is_container form }
-{
-    match form {
-        Form::ManagerLevels | Form::AnyBytes | Form::TwoBytes | Form::DefinitionName => false,
-        Form::DefinitionOverrides => true,
-    }
-}
-
 fn is_at(kind: ItemKind, other: ItemKind) -> bool
     ensures { result ≡ is_at kind other }
 {
@@ -99,56 +104,84 @@ fn is_at(kind: ItemKind, other: ItemKind) -> bool
     )
 }
 
-fn reads_inside(command: Command, kind: ItemKind, code: u16) -> bool
-    ensures { result ≡ reads_inside command kind code }
-{
-    items_of(command).iter().any(|item| is_at(item.kind, kind)
-        && item.code == code
-        && is_container(item.form))
-}
-
 // The first fault by place among the objects of a text.
-fn own_fault(text: &[u8]) -> Option<ObjFault>
-    ensures { result ≡ (walk text.now).fault }
+fn objects_fault(text: &[u8]) -> Option<SyntaxError>
+    ensures { result ≡ objects_fault text.now }
 {
     for part in parts_of(text) {
         match part {
             Ok(_) => {}
-            Err(fault) => return Some(fault),
+            Err(fault) => return Some(SyntaxError::InObject(fault)),
         }
     }
     None
 }
 
-fn fault_inside(is_read: bool, value: &[u8]) -> Option<ObjFault>
-    ensures { result ≡ fault_inside is_read value.now }
+fn texts_fault(value: &[u8]) -> Option<SyntaxError>
+    ensures { result ≡ texts_fault (texts_in value.now) }
 {
-    if is_read { own_fault(value) } else { None }
+    match texts_in(value) {
+        Some(_) => None,
+        None => Some(SyntaxError::MalformedText),
+    }
 }
 
-fn fault_in(command: Command, kind: ItemKind, text: &[u8]) -> Option<ObjFault>
-    ensures { result ≡ fault_in (reads_inside command kind) text.now }
+fn own_fault(form: Form, value: &[u8]) -> Option<SyntaxError>
+    ensures { result ≡ own_fault form value.now }
+{
+    match form {
+        Form::ManagerLevels
+        | Form::AnyBytes
+        | Form::Bytes { .. }
+        | Form::Boolean
+        | Form::SqldaType
+        | Form::SyncType
+        | Form::DefinitionName => None,
+        Form::DefinitionOverrides | Form::DescribedData => objects_fault(value),
+        Form::StatementTexts => texts_fault(value),
+    }
+}
+
+fn is_of(item: Item, kind: ItemKind, code: u16) -> bool
+    ensures { result ≡ is_at item.kind kind && (item.code == code) }
+{
+    is_at(item.kind, kind) && item.code == code
+}
+
+fn fault_inside(items: &[Item], kind: ItemKind, object: Object<'_>) -> Option<SyntaxError>
+    ensures { result ≡ fault_inside items.now kind (view object.entry) }
+{
+    for item in items {
+        if is_of(*item, kind, object.code) {
+            return own_fault(item.form, object.value);
+        }
+    }
+    None
+}
+
+fn fault_in(items: &[Item], kind: ItemKind, text: &[u8]) -> Option<SyntaxError>
+    ensures { result ≡ fault_in (fault_inside items.now kind) text.now }
 {
     for part in parts_of(text) {
         match part {
             Ok(object) => {
-                let inside = fault_inside(reads_inside(command, kind, object.code), object.value);
+                let inside = fault_inside(items, kind, object);
                 if inside.is_some() {
                     return inside;
                 }
             }
-            Err(fault) => return Some(fault),
+            Err(fault) => return Some(SyntaxError::InObject(fault)),
         }
     }
     None
 }
 
-fn fault_in_dsss(command: Command, objects: Group<'_>) -> Option<ObjFault>
-    ensures { result ≡ fault_in_texts (reads_inside command ItemKind.DataObject) (contents_of (command_of objects.entry)) }
+fn fault_in_dsss(items: &[Item], objects: Group<'_>) -> Option<SyntaxError>
+    ensures { result ≡ fault_in_texts (fault_inside items.now ItemKind.DataObject) (contents_of (command_of objects.entry)) }
 {
     let mut left = objects;
     'dsss: while let Some((dss, more)) = left.split_first() {
-        let fault = fault_in(command, ItemKind::DataObject, dss.contents);
+        let fault = fault_in(items, ItemKind::DataObject, dss.contents);
         if fault.is_some() {
             return fault;
         }
@@ -172,30 +205,32 @@ fn count_of(text: &[u8]) -> usize
 }
 
 impl<'a> Given<'a> {
-    /// How often an item stands where it may stand.
-    pub fn found(&self, item: Item) -> Occurs<'a>
-        ensures { occurs_of result ≡ found_at item.kind item.code (given_of self.now) }
+    /// How often a code point stands at this place, and its data where it stands once.
+    pub fn found(&self, kind: ItemKind, code: u16) -> Occurs<'a>
+        ensures { occurs_of result ≡ found_at kind code (given_of self.now) }
     {
-        match item.kind {
-            ItemKind::Parameter => found_in(item.code, self.parameters),
-            ItemKind::DataObject => found_in_dsss(item.code, self.objects),
+        match kind {
+            ItemKind::Parameter => found_in(code, self.parameters),
+            ItemKind::DataObject => found_in_dsss(code, self.objects),
         }
     }
 
-    /// The first fault by place: in the parameters, then in the data objects; a container that the
-    /// command reads is judged inside where it stands.
-    pub fn first_fault(&self, command: Command) -> Option<ObjFault>
+    /// The first fault by place, in the parameters, then in the data objects: the data of an item that
+    /// the command reads are judged where they stand, as objects where they are a container and as texts
+    /// where they are those of a statement.
+    pub(crate) fn first_fault(&self, command: Command) -> Option<SyntaxError>
         ensures { result ≡ first_fault command (given_of self.now) }
     {
-        let fault = fault_in(command, ItemKind::Parameter, self.parameters);
+        let items = items_of(command);
+        let fault = fault_in(items, ItemKind::Parameter, self.parameters);
         if fault.is_some() {
             return fault;
         }
-        fault_in_dsss(command, self.objects)
+        fault_in_dsss(items, self.objects)
     }
 
     /// How many data objects came, as far as a number goes.
-    pub fn count(&self) -> usize
+    pub(crate) fn count(&self) -> usize
         ensures { result ≡ min (count_in (given_of self.now).objects) (2 ^ 64 - 1) }
     {
         let mut count = 0_usize;

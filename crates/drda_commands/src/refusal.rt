@@ -15,6 +15,8 @@ pub enum SyntaxError {
     TooManyObjects,
     /// 12: a parameter or data object stands there twice.
     Twice,
+    /// 0B: the data of SQLSTT or SQLATTR are not two texts, or bytes stand behind them.
+    MalformedText,
 }
 
 impl SyntaxError {
@@ -31,6 +33,7 @@ impl SyntaxError {
             SyntaxError::Missing => 0x0E,
             SyntaxError::TooManyObjects => 0x0F,
             SyntaxError::Twice => 0x12,
+            SyntaxError::MalformedText => 0x0B,
         }
     }
 }

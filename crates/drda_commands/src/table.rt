@@ -1,11 +1,11 @@
 //! What each command reads.
 
 ghost use Rattle.std.specs.Prelude.{◌≡◌};
-ghost use Rattle.drda_commands.specs.Tables.{command_for, is_unserved, items_for};
+ghost use Rattle.drda_commands.specs.Tables.{command_for, code_for, items_for};
 
 use ddm_objects::code_point;
 
-/// A command that is known here (DRDA V5 volume 3).
+/// A command of the profile (DRDA V5 volume 3).
 #[derive(Clone, Copy)]
 pub enum Command {
     /// Exchange server attributes.
@@ -16,8 +16,26 @@ pub enum Command {
     Secchk,
     /// Access a relational database.
     Accrdb,
-    /// A command that needs the database and is not served yet, by its code point.
-    Unserved(u16),
+    /// Execute an SQL statement at once.
+    Excsqlimm,
+    /// Prepare an SQL statement for a section.
+    Prpsqlstt,
+    /// Describe a prepared statement.
+    Dscsqlstt,
+    /// Execute a prepared statement.
+    Excsqlstt,
+    /// Open a query.
+    Opnqry,
+    /// Continue a query.
+    Cntqry,
+    /// Close a query.
+    Clsqry,
+    /// Commit the unit of work.
+    Rdbcmm,
+    /// Roll back the unit of work.
+    Rdbrllbck,
+    /// Sync point control: a call of XA.
+    Syncctl,
 }
 
 /// Where an item stands: among the parameters of the command object, or in an object DSS.
@@ -34,12 +52,22 @@ pub enum Form {
     ManagerLevels,
     /// Any bytes: a name is judged where it is used.
     AnyBytes,
-    /// A number of two bytes.
-    TwoBytes,
+    /// So many bytes, at least and at most.
+    Bytes { least: usize, greatest: usize },
+    /// BOOLEAN: F0 (false) or F1 (true).
+    Boolean,
+    /// Which of the SQLDAs is described, 00 to 05.
+    SqldaType,
+    /// The number of a call of XA.
+    SyncType,
     /// The name QTDSQLASC.
     DefinitionName,
     /// A container in which CCSIDSBC and CCSIDMBC, where they stand, are 1208.
     DefinitionOverrides,
+    /// The text of a statement, twice: as mixed and as single-byte characters.
+    StatementTexts,
+    /// A container of FDODSC and FDODTA, parameters and their description.
+    DescribedData,
 }
 
 /// A parameter or a data object that a command reads.
@@ -51,7 +79,7 @@ pub struct Item {
     pub form: Form,
 }
 
-/// The command of a code point, where it is known.
+/// The command of a code point; none where it is no command of the profile.
 pub fn command_of(code: u16) -> Option<Command>
     ensures { result ≡ command_for code }
 {
@@ -60,29 +88,43 @@ pub fn command_of(code: u16) -> Option<Command>
         code_point::ACCSEC => Some(Command::Accsec),
         code_point::SECCHK => Some(Command::Secchk),
         code_point::ACCRDB => Some(Command::Accrdb),
-        _ if is_unserved(code) => Some(Command::Unserved(code)),
+        code_point::EXCSQLIMM => Some(Command::Excsqlimm),
+        code_point::PRPSQLSTT => Some(Command::Prpsqlstt),
+        code_point::DSCSQLSTT => Some(Command::Dscsqlstt),
+        code_point::EXCSQLSTT => Some(Command::Excsqlstt),
+        code_point::OPNQRY => Some(Command::Opnqry),
+        code_point::CNTQRY => Some(Command::Cntqry),
+        code_point::CLSQRY => Some(Command::Clsqry),
+        code_point::RDBCMM => Some(Command::Rdbcmm),
+        code_point::RDBRLLBCK => Some(Command::Rdbrllbck),
+        code_point::SYNCCTL => Some(Command::Syncctl),
         _ => None,
     }
 }
 
-fn is_unserved(code: u16) -> bool
-    ensures { result ≡ is_unserved code }
-{
-    UNSERVED.contains(&code)
+impl Command {
+    /// Its code point.
+    pub fn code(self) -> u16
+        ensures { result ≡ code_for self }
+    {
+        match self {
+            Command::Excsat => code_point::EXCSAT,
+            Command::Accsec => code_point::ACCSEC,
+            Command::Secchk => code_point::SECCHK,
+            Command::Accrdb => code_point::ACCRDB,
+            Command::Excsqlimm => code_point::EXCSQLIMM,
+            Command::Prpsqlstt => code_point::PRPSQLSTT,
+            Command::Dscsqlstt => code_point::DSCSQLSTT,
+            Command::Excsqlstt => code_point::EXCSQLSTT,
+            Command::Opnqry => code_point::OPNQRY,
+            Command::Cntqry => code_point::CNTQRY,
+            Command::Clsqry => code_point::CLSQRY,
+            Command::Rdbcmm => code_point::RDBCMM,
+            Command::Rdbrllbck => code_point::RDBRLLBCK,
+            Command::Syncctl => code_point::SYNCCTL,
+        }
+    }
 }
-
-const UNSERVED: [u16; 10] = [
-    code_point::SYNCCTL,
-    code_point::CLSQRY,
-    code_point::CNTQRY,
-    code_point::DSCSQLSTT,
-    code_point::EXCSQLIMM,
-    code_point::EXCSQLSTT,
-    code_point::OPNQRY,
-    code_point::PRPSQLSTT,
-    code_point::RDBCMM,
-    code_point::RDBRLLBCK,
-];
 
 /// What a command reads, in the order in which values are judged.
 pub fn items_of(command: Command) -> &'static [Item]
@@ -93,101 +135,130 @@ pub fn items_of(command: Command) -> &'static [Item]
         Command::Accsec => &ACCSEC_ITEMS,
         Command::Secchk => &SECCHK_ITEMS,
         Command::Accrdb => &ACCRDB_ITEMS,
-        Command::Unserved(_) => &ANY_ITEMS,
+        Command::Excsqlimm => &EXCSQLIMM_ITEMS,
+        Command::Prpsqlstt => &PRPSQLSTT_ITEMS,
+        Command::Dscsqlstt => &DSCSQLSTT_ITEMS,
+        Command::Excsqlstt => &EXCSQLSTT_ITEMS,
+        Command::Opnqry => &OPNQRY_ITEMS,
+        Command::Cntqry => &CNTQRY_ITEMS,
+        Command::Clsqry => &CLSQRY_ITEMS,
+        Command::Syncctl => &SYNCCTL_ITEMS,
+        Command::Rdbcmm | Command::Rdbrllbck => &ANY_ITEMS,
     }
 }
 
-const MANAGER_LEVELS: Item = Item {
-    kind: ItemKind::Parameter,
-    code: code_point::MGRLVLLS,
-    is_required: false,
-    form: Form::ManagerLevels,
+macro_rules! item {
+    ($kind:ident, $code:ident, $is_required:expr, $form:expr) => {
+        Item {
+            kind: ItemKind::$kind,
+            code: code_point::$code,
+            is_required: $is_required,
+            form: $form,
+        }
+    };
+}
+
+const TWO_BYTES: Form = Form::Bytes {
+    least: 2,
+    greatest: 2,
 };
 
-const SECURITY_MECHANISM: Item = Item {
-    kind: ItemKind::Parameter,
-    code: code_point::SECMEC,
-    is_required: true,
-    form: Form::TwoBytes,
+const FOUR_BYTES: Form = Form::Bytes {
+    least: 4,
+    greatest: 4,
 };
 
-const WANTED_RDB: Item = Item {
-    kind: ItemKind::Parameter,
-    code: code_point::RDBNAM,
-    is_required: false,
-    form: Form::AnyBytes,
+const EIGHT_BYTES: Form = Form::Bytes {
+    least: 8,
+    greatest: 8,
 };
 
-const USER: Item = Item {
-    kind: ItemKind::Parameter,
-    code: code_point::USRID,
-    is_required: false,
-    form: Form::AnyBytes,
+const SECTION_NAME: Form = Form::Bytes {
+    least: 64,
+    greatest: 791,
 };
 
-const PASSWORD: Item = Item {
-    kind: ItemKind::Parameter,
-    code: code_point::PASSWORD,
-    is_required: false,
-    form: Form::AnyBytes,
-};
+const SECTION: Item = item!(Parameter, PKGNAMCSN, true, SECTION_NAME);
 
-const RDB: Item = Item {
-    kind: ItemKind::Parameter,
-    code: code_point::RDBNAM,
-    is_required: true,
-    form: Form::AnyBytes,
-};
+const DESCRIBED_SIDE: Item = item!(Parameter, TYPSQLDA, false, Form::SqldaType);
 
-const DEFINITION_NAME: Item = Item {
-    kind: ItemKind::Parameter,
-    code: code_point::TYPDEFNAM,
-    is_required: true,
-    form: Form::DefinitionName,
-};
+const QUERY_INSTANCE: Item = item!(Parameter, QRYINSID, false, EIGHT_BYTES);
 
-const DEFINITION_OVERRIDES: Item = Item {
-    kind: ItemKind::Parameter,
-    code: code_point::TYPDEFOVR,
-    is_required: false,
-    form: Form::DefinitionOverrides,
-};
+const STATEMENT: Item = item!(DataObject, SQLSTT, true, Form::StatementTexts);
 
-const NAME_BEHIND: Item = Item {
-    kind: ItemKind::DataObject,
-    code: code_point::TYPDEFNAM,
-    is_required: false,
-    form: Form::DefinitionName,
-};
+const DATA: Item = item!(DataObject, SQLDTA, false, Form::DescribedData);
 
-const OVERRIDES_BEHIND: Item = Item {
-    kind: ItemKind::DataObject,
-    code: code_point::TYPDEFOVR,
-    is_required: false,
-    form: Form::DefinitionOverrides,
-};
+const NAME_BEHIND: Item = item!(DataObject, TYPDEFNAM, false, Form::DefinitionName);
 
-static EXCSAT_ITEMS: [Item; 3] = [MANAGER_LEVELS, NAME_BEHIND, OVERRIDES_BEHIND];
+const OVERRIDES_BEHIND: Item = item!(DataObject, TYPDEFOVR, false, Form::DefinitionOverrides);
+
+static EXCSAT_ITEMS: [Item; 3] = [
+    item!(Parameter, MGRLVLLS, false, Form::ManagerLevels),
+    NAME_BEHIND,
+    OVERRIDES_BEHIND,
+];
 
 static ACCSEC_ITEMS: [Item; 4] = [
-    SECURITY_MECHANISM,
-    WANTED_RDB,
+    item!(Parameter, SECMEC, true, TWO_BYTES),
+    item!(Parameter, RDBNAM, false, Form::AnyBytes),
     NAME_BEHIND,
     OVERRIDES_BEHIND,
 ];
 
 static SECCHK_ITEMS: [Item; 5] = [
-    SECURITY_MECHANISM,
-    USER,
-    PASSWORD,
+    item!(Parameter, SECMEC, true, TWO_BYTES),
+    item!(Parameter, USRID, false, Form::AnyBytes),
+    item!(Parameter, PASSWORD, false, Form::AnyBytes),
     NAME_BEHIND,
     OVERRIDES_BEHIND,
 ];
 
 static ACCRDB_ITEMS: [Item; 5] = [
-    RDB,
-    DEFINITION_NAME,
-    DEFINITION_OVERRIDES,
+    item!(Parameter, RDBNAM, true, Form::AnyBytes),
+    item!(Parameter, TYPDEFNAM, true, Form::DefinitionName),
+    item!(Parameter, TYPDEFOVR, false, Form::DefinitionOverrides),
+    NAME_BEHIND,
+    OVERRIDES_BEHIND,
+];
+
+static EXCSQLIMM_ITEMS: [Item; 3] = [STATEMENT, NAME_BEHIND, OVERRIDES_BEHIND];
+
+static PRPSQLSTT_ITEMS: [Item; 7] = [
+    SECTION,
+    item!(Parameter, RTNSQLDA, false, Form::Boolean),
+    DESCRIBED_SIDE,
+    STATEMENT,
+    item!(DataObject, SQLATTR, false, Form::StatementTexts),
+    NAME_BEHIND,
+    OVERRIDES_BEHIND,
+];
+
+static DSCSQLSTT_ITEMS: [Item; 4] = [SECTION, DESCRIBED_SIDE, NAME_BEHIND, OVERRIDES_BEHIND];
+
+static EXCSQLSTT_ITEMS: [Item; 4] = [SECTION, DATA, NAME_BEHIND, OVERRIDES_BEHIND];
+
+static OPNQRY_ITEMS: [Item; 5] = [
+    SECTION,
+    item!(Parameter, QRYBLKSZ, true, FOUR_BYTES),
+    DATA,
+    NAME_BEHIND,
+    OVERRIDES_BEHIND,
+];
+
+static CNTQRY_ITEMS: [Item; 5] = [
+    SECTION,
+    item!(Parameter, QRYBLKSZ, false, FOUR_BYTES),
+    QUERY_INSTANCE,
+    NAME_BEHIND,
+    OVERRIDES_BEHIND,
+];
+
+static CLSQRY_ITEMS: [Item; 4] = [SECTION, QUERY_INSTANCE, NAME_BEHIND, OVERRIDES_BEHIND];
+
+static SYNCCTL_ITEMS: [Item; 5] = [
+    item!(Parameter, SYNCTYPE, true, Form::SyncType),
+    item!(Parameter, XID, false, Form::AnyBytes),
+    item!(Parameter, XAFLAGS, false, Form::AnyBytes),
     NAME_BEHIND,
     OVERRIDES_BEHIND,
 ];

@@ -3,8 +3,8 @@
 ghost use Rattle.std.specs.Prelude.{◌≡◌};
 ghost use Rattle.std.specs.Prelude.{◌++◌, OnOk, replicate};
 ghost use Rattle.std.specs.List.{list_all};
-ghost use Rattle.drda_commands.specs.Names.{is_ascii, stands_for, spells, spells_padded, is_name, is_padded_name, is_blank, byte_in, in_encoding, padded_in};
-ghost use Rattle.drda_commands.specs.Names as spec;
+ghost use Rattle.drda_names.specs.Names.{is_ascii, stands_for, spells, spells_padded, is_name, is_padded_name, is_blank, byte_in, in_encoding, padded_in};
+ghost use Rattle.drda_names.specs.Names as spec;
 
 use ebcdic_500::{byte_of, char_of};
 use std::alloc::AllocError;
