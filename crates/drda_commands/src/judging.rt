@@ -1,6 +1,6 @@
 //! The judge of commands, in the order of refusals.
 
-ghost use Rattle.std.specs.Prelude.{◌≡◌, ◌&&◌, ◌||◌, Some};
+ghost use Rattle.std.specs.Prelude.{◌≡◌, ◌&&◌, ◌||◌, Some, IfOk};
 ghost use Rattle.std.specs.List.{list_any};
 ghost use Rattle.drda_words.specs.Excuse.{Answers};
 ghost use Rattle.ddm_objects.specs.Source.{view};
@@ -8,6 +8,7 @@ ghost use Rattle.dss_frames.specs.Group.{command_of};
 ghost use Rattle.drda_commands.specs.Tables.{command_for};
 ghost use Rattle.drda_commands.specs.Given.{contents_of, found_inside};
 ghost use Rattle.drda_commands.specs.Judge as spec;
+ghost use Rattle.drda_commands.specs.Needs.{Needs};
 ghost use Rattle.drda_commands.specs.Views.{occurs_of, given_of, accepted_of};
 
 use crate::given::{Given, Occurs, found_in};
@@ -280,7 +281,10 @@ pub fn judge<'a>(
     contents: &'a [u8],
     objects: Group<'a>,
 ) -> Result<Accepted<'a>, Refusal>
-    ensures { Answers accepted_of Some result (spec.judged unserved.now stage unicode contents.now (contents_of (command_of objects.entry))) }
+    ensures verdict { Answers accepted_of Some result (spec.judged unserved.now stage unicode contents.now (contents_of (command_of objects.entry))) }
+
+    // What a command requires has come.
+    ensures brings { IfOk result (λ a. Needs a.command (given_of a.given)) }
 {
     let object = command_object(contents)?;
     let command = known(object.code)?;
