@@ -1,6 +1,6 @@
 -- What is accepted has brought what it requires.
-use Rattle.std.proofs.Common.{◌≡◌, ℕ, Bool, true, false, not, ◌&&◌, ◌||◌, List, [], ◌∷◌, length, Result, Ok, Err, refl, ap, ◌∙◌, if◌then◌else◌, arith}
-use Rattle.std.specs.Prelude.{is_some, nat_le, IsSome}
+use Rattle.std.proofs.Common.{◌≡◌, ℕ, Bool, true, false, not, ◌&&◌, ◌||◌, List, [], ◌∷◌, length, Result, Ok, Err, Option, ◌≤◌, refl, sym, ap, subst, ◌∙◌, if◌then◌else◌, arith}
+use Rattle.std.specs.Prelude.{is_some, nat_le, IsSome, IfSome}
 use Rattle.std.specs.List.{list_any}
 use Rattle.std.specs.Option.{option_and_then}
 use Rattle.ddm_objects.specs.declared.code_point.TheConstants.{PKGNAMCSN, QRYBLKSZ, SYNCTYPE, SQLSTT}
@@ -14,10 +14,10 @@ use Rattle.drda_commands.specs.declared.table.Item.{Item}
 use Rattle.drda_commands.specs.declared.table.ItemKind.TheVariants.{Parameter, DataObject}
 use Rattle.drda_commands.specs.Given.{Given, Occurs, never, once, twice, value_of, found_at}
 use Rattle.drda_commands.specs.Judge.{has_twice, has_no_text, is_absent, is_sync_type, is_supported, has_bad_value, item_twice, item_missing, item_bad, none_twice, none_missing, none_bad}
-use Rattle.drda_commands.specs.Needs.{Needs}
+use Rattle.drda_commands.specs.Needs.{HasSection, Needs}
 use Rattle.drda_commands.specs.Tables.{items_for}
 use Rattle.drda_commands.specs.Texts.{text_in}
-use Rattle.drda_commands.specs.Values.{section_in, statement_in, block_size_in, sync_type_in, number1, number4}
+use Rattle.drda_commands.specs.Values.{statement_in, block_size_in, sync_type_in, number1, number4}
 
 -- ---- tests
 
@@ -74,8 +74,14 @@ all_came unicode given (item ∷ items) double missing bad =
 
 -- ---- values
 
-section_came : (given : Given) (value : List ℕ) → found_at Parameter PKGNAMCSN given ≡ once value → IsSome (section_in given)
-section_came given value is = ap (λ (o : Occurs). is_some (value_of o)) is
+abbrev Fits : Option (List ℕ) → Type 0
+Fits name = IsSome name × IfSome name (λ value. (64 ≤ length value) × (length value ≤ 791))
+
+lengths : (n : ℕ) → (nat_le 64 n && nat_le n 791) ≡ true → (64 ≤ n) × (n ≤ 791)
+lengths n e = (grind (arith, e), grind (arith, e))
+
+section_came : (given : Given) (value : List ℕ) → found_at Parameter PKGNAMCSN given ≡ once value → (nat_le 64 (length value) && nat_le (length value) 791) ≡ true → HasSection given
+section_came given value is fits = subst (λ (o : Occurs). Fits (value_of o)) (sym is) (refl, lengths (length value) fits)
 
 statement_came : (given : Given) (value : List ℕ) → found_at DataObject SQLSTT given ≡ once value → not (is_some (text_in value)) ≡ false → IsSome (statement_in given)
 statement_came given value is there = ap (λ (o : Occurs). is_some (option_and_then text_in (value_of o))) is ∙ not_false (is_some (text_in value)) there
@@ -108,15 +114,15 @@ needs_met unicode Excsqlimm given all = let it = all.0 refl in statement_came gi
 needs_met unicode Prpsqlstt given all =
     let section = all.0 refl in
     let text = all.1.1.1.0 refl in
-    (section_came given section.value section.is_once, statement_came given text.value text.is_once text.is_whole)
-needs_met unicode Dscsqlstt given all = let it = all.0 refl in section_came given it.value it.is_once
-needs_met unicode Excsqlstt given all = let it = all.0 refl in section_came given it.value it.is_once
+    (section_came given section.value section.is_once section.fits, statement_came given text.value text.is_once text.is_whole)
+needs_met unicode Dscsqlstt given all = let it = all.0 refl in section_came given it.value it.is_once it.fits
+needs_met unicode Excsqlstt given all = let it = all.0 refl in section_came given it.value it.is_once it.fits
 needs_met unicode Opnqry given all =
     let section = all.0 refl in
     let size = all.1.0 refl in
-    (section_came given section.value section.is_once, size_came given size.value size.is_once size.fits)
-needs_met unicode Cntqry given all = let it = all.0 refl in section_came given it.value it.is_once
-needs_met unicode Clsqry given all = let it = all.0 refl in section_came given it.value it.is_once
+    (section_came given section.value section.is_once section.fits, size_came given size.value size.is_once size.fits)
+needs_met unicode Cntqry given all = let it = all.0 refl in section_came given it.value it.is_once it.fits
+needs_met unicode Clsqry given all = let it = all.0 refl in section_came given it.value it.is_once it.fits
 needs_met unicode Rdbcmm given all = tt
 needs_met unicode Rdbrllbck given all = tt
 needs_met unicode Syncctl given all = let it = all.0 refl in call_came given it.value it.is_once it.fits

@@ -41,15 +41,6 @@ fn command_object(contents: &[u8]) -> Result<Object<'_>, Refusal>
     }
 }
 
-fn known(code: u16) -> Result<Command, Refusal>
-    ensures { result ≡ spec.is_known code (command_for code) }
-{
-    match command_of(code) {
-        Some(command) => Ok(command),
-        None => Err(Refusal::CommandNotSupported(code)),
-    }
-}
-
 fn check_due(command: Command, stage: Stage) -> Result<(), Refusal>
     ensures { result ≡ spec.is_due command stage }
 {
@@ -86,20 +77,11 @@ fn check_whole(command: Command, given: Given<'_>) -> Result<(), Refusal>
     Ok(())
 }
 
-fn is_twice(occurs: Occurs<'_>) -> bool
-    ensures { result ≡ spec.is_twice (occurs_of occurs.entry) }
-{
-    match occurs {
-        Occurs::Never | Occurs::Once(_) => false,
-        Occurs::Twice => true,
-    }
-}
-
 // Whether one of two code points stands twice among the objects of a container.
 fn has_twice(value: &[u8], one: u16, other: u16) -> bool
     ensures { result ≡ spec.is_twice (found_inside one value.now) || spec.is_twice (found_inside other value.now) }
 {
-    is_twice(found_in(one, value)) || is_twice(found_in(other, value))
+    matches!(found_in(one, value), Occurs::Twice) || matches!(found_in(other, value), Occurs::Twice)
 }
 
 fn is_twice_inside(form: Form, value: &[u8]) -> bool
@@ -129,29 +111,23 @@ fn item_twice(given: &Given<'_>, item: Item) -> bool
     }
 }
 
-fn has_no_text(form: Form, value: &[u8]) -> bool
-    ensures { result ≡ spec.has_no_text form value.now }
-{
-    match form {
-        Form::ManagerLevels
-        | Form::AnyBytes
-        | Form::Bytes { .. }
-        | Form::Boolean
-        | Form::SqldaType
-        | Form::SyncType
-        | Form::DefinitionName
-        | Form::DefinitionOverrides
-        | Form::DescribedData => false,
-        Form::StatementTexts => text_in(value).is_none(),
-    }
-}
-
 fn is_absent(form: Form, occurs: Occurs<'_>) -> bool
     ensures { result ≡ spec.is_absent form (occurs_of occurs.entry) }
 {
     match occurs {
         Occurs::Never => true,
-        Occurs::Once(value) => has_no_text(form, value),
+        Occurs::Once(value) => match form {
+            Form::ManagerLevels
+            | Form::AnyBytes
+            | Form::Bytes { .. }
+            | Form::Boolean
+            | Form::SqldaType
+            | Form::SyncType
+            | Form::DefinitionName
+            | Form::DefinitionOverrides
+            | Form::DescribedData => false,
+            Form::StatementTexts => text_in(value).is_none(),
+        },
         Occurs::Twice => false,
     }
 }
@@ -287,7 +263,9 @@ pub fn judge<'a>(
     ensures brings { IfOk result (λ a. Needs a.command (given_of a.given)) }
 {
     let object = command_object(contents)?;
-    let command = known(object.code)?;
+    let Some(command) = command_of(object.code) else {
+        return Err(Refusal::CommandNotSupported(object.code));
+    };
     check_due(command, stage)?;
     check_served(unserved, command)?;
     let given = Given {

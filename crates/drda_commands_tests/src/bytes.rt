@@ -2,7 +2,7 @@
 
 use crate::fixtures::{Part, SECTION, command, verdict_of};
 use ddm_objects::code_point::*;
-use drda_commands::{Accepted, Stage, judge};
+use drda_commands::{Accepted, DescribedSide, Stage, judge};
 use dss_frames::Segments;
 use std::alloc::{AllocError, Global};
 use std::test::Fail;
@@ -40,12 +40,12 @@ fn commands_are_judged(rt: HostRuntime) -> Result<(), Fail> {
 fn written_down(alloc: Global, accepted: &Accepted<'_>) -> Result<String, AllocError> {
     let data = accepted.described_data();
     format!(in alloc;
-        "{:?} {:?} {:?} {} {:?} {:?} {:?} {:?} {:?} {:?}",
+        "{:?} {:?} {:?} {} {} {:?} {:?} {:?} {:?} {:?}",
         accepted.section().map(|bytes| bytes.len()),
         accepted.statement(),
         accepted.attributes(),
         accepted.wants_description(),
-        accepted.side(),
+        matches!(accepted.side(), DescribedSide::Parameters),
         accepted.block_size(),
         accepted.query_instance(),
         accepted.sync_type(),
@@ -71,11 +71,11 @@ fn items_are_read(rt: HostRuntime) -> Result<(), Fail> {
     for (bytes, want) in [
         (
             SELECT,
-            "Some(64) Some([83, 69, 76, 69, 67, 84, 32, 42, 32, 70, 82, 79, 77, 32, 84]) None true Columns None None None None None",
+            "Some(64) Some([83, 69, 76, 69, 67, 84, 32, 42, 32, 70, 82, 79, 77, 32, 84]) None true false None None None None None",
         ),
         (
             START,
-            "None None None false Columns None None Some(9) None None",
+            "None None None false false None None Some(9) None None",
         ),
     ] {
         let text = brought(rt.alloc(), bytes).ok_or("no text")?;
@@ -101,25 +101,25 @@ const BROUGHT: [Case; 6] = [
         EXCSQLIMM,
         &[],
         &[SECOND],
-        "None Some([66]) None false Columns None None None None None",
+        "None Some([66]) None false false None None None None None",
     ),
     (
         PRPSQLSTT,
         &[SECTION, (RTNSQLDA, &[0xF0]), (TYPSQLDA, &[0x05])],
         &[EMPTY_FIRST, ATTRIBUTES],
-        "Some(64) Some([]) Some([65, 66]) false Parameters None None None None None",
+        "Some(64) Some([]) Some([65, 66]) false true None None None None None",
     ),
     (
         DSCSQLSTT,
         &[SECTION, (TYPSQLDA, &[0x04])],
         &[],
-        "Some(64) None None false Columns None None None None None",
+        "Some(64) None None false false None None None None None",
     ),
     (
         EXCSQLSTT,
         &[SECTION],
         &[DATA],
-        "Some(64) None None false Columns None None None Some(false) Some(true)",
+        "Some(64) None None false false None None None Some(false) Some(true)",
     ),
     (
         CNTQRY,
@@ -129,13 +129,13 @@ const BROUGHT: [Case; 6] = [
             (QRYINSID, &[0, 0, 0, 1, 0, 0, 0, 2]),
         ],
         &[],
-        "Some(64) None None false Columns Some(32767) Some(4294967298) None None None",
+        "Some(64) None None false false Some(32767) Some(4294967298) None None None",
     ),
     (
         SYNCCTL,
         &[(SYNCTYPE, &[0x0C])],
         &[],
-        "None None None false Columns None None Some(12) None None",
+        "None None None false false None None Some(12) None None",
     ),
 ];
 

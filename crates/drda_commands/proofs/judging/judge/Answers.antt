@@ -11,7 +11,7 @@ pub returns-clause-brings : goal.returns-clause-brings
 returns-clause-brings c =
     let brought : rust_given.Given = record { parameters = c.in_ok-object.object.value; objects = c.args.objects } in
     let given : Given = given_of brought in
-    passed c.args.unicode c.in_ok-command.command given
+    passed c.args.unicode c.in-Some.command given
     (sym (c.in_ok-check_twice.ensures ∙ ap (λ (items : List Item). none_twice items given) c.items_of-items.ensures))
     (sym (c.in_ok-check_missing.ensures ∙ ap (λ (items : List Item). none_missing items given) c.items_of-items.ensures))
     (sym (c.in_ok-check_values.ensures ∙ ap (λ (items : List Item). none_bad c.args.unicode items given) c.items_of-items.ensures))
