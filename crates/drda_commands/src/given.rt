@@ -3,8 +3,7 @@
 ghost use Rattle.std.specs.Prelude.{◌≡◌, ◌&&◌, option_copied, ◌==◌, if◌then◌else◌, ◌+◌, ◌^◌, ◌-◌, List, ℕ, min, length};
 ghost use Rattle.ddm_objects.specs.Reading.{walk};
 ghost use Rattle.dss_frames.specs.Group.{command_of};
-ghost use Rattle.drda_commands.specs.Given.{contents_of};
-ghost use Rattle.drda_commands.specs.Given.{value_of, seen_again, seen_in, seen_in_texts, found_at, count_in, is_at, objects_fault, own_fault, fault_inside, fault_in, fault_in_texts, first_fault, never};
+ghost use Rattle.drda_commands.specs.Given.{contents_of, value_of, seen_again, seen_in, seen_in_texts, found_at, count_in, is_at, objects_fault, own_fault, fault_inside, fault_in, fault_in_texts, first_fault, never};
 ghost use Rattle.ddm_objects.specs.Source.{view};
 ghost use Rattle.drda_commands.specs.Views.{occurs_of, given_of};
 
