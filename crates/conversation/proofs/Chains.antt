@@ -1,11 +1,13 @@
 -- A broken chain is silent, and a refused command keeps the stage.
 use Rattle.std.proofs.Common.{◌≡◌, ℕ, Bool, true, false, List, [], ◌∷◌, ◌++◌, Ok, Err, Result, refl, sym, ap, ◌∙◌, inl, inr, if◌then◌else◌}
 use Rattle.dss_frames.specs.Dss.{Dss}
-use Rattle.conversation.specs.declared.refusal.Refusal.{Refusal}
+use Rattle.drda_commands.specs.declared.refusal.Refusal.{Refusal}
 use Rattle.conversation.specs.declared.session.Session.{Session}
-use Rattle.conversation.specs.Exchange.{Exchange, exchanged, passed_over, answered, goes_on, contents_of}
-use Rattle.conversation.specs.Judge.{Accepted, judged}
+use Rattle.drda_commands.specs.Given.{contents_of}
+use Rattle.conversation.specs.Exchange.{Exchange, exchanged, passed_over, answered, goes_on}
+use Rattle.drda_commands.specs.Judge.{Accepted, judged}
 use Rattle.conversation.specs.Laws.{RefusalsKeepTheStage, BrokenChainsAreSilent, AllGoOn}
+use Rattle.conversation.specs.Served.{unserved}
 use Rattle.conversation.specs.Settings.{Settings}
 use Rattle.conversation.specs.Steps.{Does, DoesAll}
 
@@ -64,7 +66,7 @@ refused_keeps settings session (Err other) refusal e = (refl, refl)
 
 pub refusals_keep : RefusalsKeepTheStage
 refusals_keep settings session next request objects refusal bytes e (inl d) =
-    let kept : KeepsStage session (exchanged settings session (request ∷ objects)).session = either_keeps session session.is_broken _ _ (refl, refl) (refused_keeps settings session (judged session.stage session.agreed.unicode request.contents (contents_of objects)) refusal e) in
+    let kept : KeepsStage session (exchanged settings session (request ∷ objects)).session = either_keeps session session.is_broken _ _ (refl, refl) (refused_keeps settings session (judged unserved session.stage session.agreed.unicode request.contents (contents_of objects)) refusal e) in
     (ap (λ (s : Session). s.stage) d.1 ∙ kept.0, ap (λ (s : Session). s.agreed) d.1 ∙ kept.1)
 refusals_keep settings session next request objects refusal bytes e (inr d) =
     (ap (λ (s : Session). s.stage) d.2, ap (λ (s : Session). s.agreed) d.2)

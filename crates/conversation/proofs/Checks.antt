@@ -3,22 +3,24 @@ use Rattle.std.proofs.Common.{◌≡◌, ◌==◌, ◌+◌, ◌&&◌, ℕ, Bool,
 use Rattle.std.proofs.Common.{append_assoc, arith}
 use Rattle.dss_frames.specs.Dss.{Dss}
 use Rattle.dss_frames.specs.Writing.{written}
-use Rattle.conversation.specs.declared.refusal.Refusal.{Refusal}
+use Rattle.drda_commands.specs.declared.refusal.Refusal.{Refusal}
 use Rattle.conversation.specs.declared.session.Session.{Session}
-use Rattle.conversation.specs.declared.session.Mechanism.{Mechanism}
-use Rattle.conversation.specs.declared.session.Stage.{Stage}
-use Rattle.conversation.specs.declared.session.Stage.TheVariants.{Fresh, Known, Asked, Checked, Opened}
-use Rattle.conversation.specs.declared.table.Command.{Command}
-use Rattle.conversation.specs.declared.table.Command.TheVariants.{Excsat, Accsec, Secchk, Accrdb, Unserved}
-use Rattle.conversation.specs.declared.table.ItemKind.TheVariants.{Parameter}
-use Rattle.conversation.specs.Exchange.{Answer, Exchange, exchanged, sent, answered, command_done, asked_for, is_ours, mechanism_for, bytes_of, check_code, known_from, breaks, goes_on, contents_of, fresh}
-use Rattle.conversation.specs.Given.{Given, found_at}
-use Rattle.conversation.specs.Judge.{Accepted, ◌>>=◌, command_object, is_known, is_due, is_whole, none_twice, none_missing, none_bad, judged}
+use Rattle.drda_commands.specs.declared.stage.Mechanism.{Mechanism}
+use Rattle.drda_commands.specs.declared.stage.Stage.{Stage}
+use Rattle.drda_commands.specs.declared.stage.Stage.TheVariants.{Fresh, Known, Asked, Checked, Opened}
+use Rattle.drda_commands.specs.declared.table.Command.{Command}
+use Rattle.drda_commands.specs.declared.table.Command.TheVariants.{Excsat, Accsec, Secchk, Accrdb}
+use Rattle.drda_commands.specs.declared.table.ItemKind.TheVariants.{Parameter}
+use Rattle.drda_commands.specs.Given.{contents_of}
+use Rattle.conversation.specs.Exchange.{Answer, Exchange, exchanged, sent, answered, command_done, asked_for, is_ours, mechanism_for, bytes_of, check_code, known_from, breaks, goes_on, fresh}
+use Rattle.drda_commands.specs.Given.{Given, found_at}
+use Rattle.drda_commands.specs.Judge.{Accepted, ◌>>=◌, command_object, is_known, is_due, is_served, is_whole, none_twice, none_missing, none_bad, judged}
 use Rattle.conversation.specs.Laws.{OpenedBehindACheck, ChecksTheUser, HasCheckedTheUser}
 use Rattle.conversation.specs.Replies.{secchkrm, rdb_not_found}
+use Rattle.conversation.specs.Served.{unserved}
 use Rattle.conversation.specs.Settings.{Settings}
 use Rattle.conversation.specs.Steps.{Does, DoesAll}
-use Rattle.conversation.specs.Tables.{command_for, items_for}
+use Rattle.drda_commands.specs.Tables.{command_for, items_for}
 
 -- the user was checked
 abbrev is_checked : Stage → Bool
@@ -39,17 +41,18 @@ command_in (Ok accepted) = accepted.command
 command_in (Err refusal) = Excsat
 
 accepted_due : (stage : Stage) (unicode : Bool) (contents : List ℕ) (objects : List (List ℕ)) (accepted : Accepted)
-    → judged stage unicode contents objects ≡ Ok accepted → is_due accepted.command stage ≡ Ok tt
+    → judged unserved stage unicode contents objects ≡ Ok accepted → is_due accepted.command stage ≡ Ok tt
 accepted_due stage unicode contents objects accepted e =
     let (o, e1, i1) = bind_ok (command_object contents) _ accepted e in
     let (command, e2, i2) = bind_ok (is_known o.code (command_for o.code)) _ accepted e1 in
     let (due, e3, i3) = bind_ok (is_due command stage) _ accepted e2 in
     let given : Given = record { parameters = o.value; objects = objects } in
-    let (whole, e4, i4) = bind_ok (is_whole command given) _ accepted e3 in
-    let (single, e5, i5) = bind_ok (none_twice (items_for command) given) _ accepted e4 in
-    let (present, e6, i6) = bind_ok (none_missing (items_for command) given) _ accepted e5 in
-    let (fit, e7, i7) = bind_ok (none_bad unicode (items_for command) given) _ accepted e6 in
-    let same : command ≡ accepted.command = ap command_in e7 in
+    let (served, e4, i4) = bind_ok (is_served unserved command) _ accepted e3 in
+    let (whole, e5, i5) = bind_ok (is_whole command given) _ accepted e4 in
+    let (single, e6, i6) = bind_ok (none_twice (items_for command) given) _ accepted e5 in
+    let (present, e7, i7) = bind_ok (none_missing (items_for command) given) _ accepted e6 in
+    let (fit, e8, i8) = bind_ok (none_bad unicode (items_for command) given) _ accepted e7 in
+    let same : command ≡ accepted.command = ap command_in e8 in
     subst (λ (c : Command). is_due c stage ≡ Ok tt) same i3
 
 -- ACCRDB comes only where the user was checked
@@ -99,14 +102,14 @@ done_unchecked settings session Secchk given due off on =
     (refl, ap secchkrm (code_is session code (code == 0) refl off on))
 done_unchecked settings session Accrdb given due off on =
     let both : true ≡ false = sym (accrdb_due session.stage due) ∙ off in absurd (cc both)
-done_unchecked settings session (Unserved code) given due off on =
+done_unchecked settings session command given due off on =
     let both : true ≡ false = sym on ∙ off in absurd (cc both)
 
 -- ---- one command
 
 module _ (settings : Settings) (session : Session) (request : Dss) (objects : List Dss) (off : is_checked session.stage ≡ false) where
   abbrev verdict : Result Accepted Refusal
-  verdict = judged session.stage session.agreed.unicode request.contents (contents_of objects)
+  verdict = judged unserved session.stage session.agreed.unicode request.contents (contents_of objects)
 
   by_verdict : (v : Result Accepted Refusal) → verdict ≡ v → is_checked (answered settings session v).session.stage ≡ true
       → (accepted : Accepted) × (verdict ≡ Ok accepted) × (accepted.command ≡ Secchk) × ((answered settings session v).reply ≡ secchkrm 0)

@@ -2,19 +2,21 @@
 use Rattle.std.proofs.Common.{◌≡◌, Bool, true, false, List, [], ◌∷◌, Option, Some, None, Result, Ok, Err, if◌then◌else◌, refl, ap, ◌∙◌, inl, inr}
 use Rattle.ddm_objects.specs.declared.code_point.TheConstants.{SECMEC, RDBNAM}
 use Rattle.dss_frames.specs.Dss.{Dss}
-use Rattle.conversation.specs.declared.session.Mechanism.{Mechanism}
-use Rattle.conversation.specs.declared.session.Stage.TheVariants.{Opened}
+use Rattle.drda_commands.specs.declared.stage.Mechanism.{Mechanism}
+use Rattle.drda_commands.specs.declared.stage.Stage.TheVariants.{Opened}
 use Rattle.conversation.specs.declared.session.Session.{Session}
-use Rattle.conversation.specs.declared.refusal.Refusal.{Refusal}
-use Rattle.conversation.specs.declared.table.Command.{Command}
-use Rattle.conversation.specs.declared.table.Command.TheVariants.{Excsat, Accsec, Secchk, Accrdb, Unserved}
-use Rattle.conversation.specs.declared.table.ItemKind.TheVariants.{Parameter}
-use Rattle.conversation.specs.Given.{Given, Occurs, found_at}
-use Rattle.conversation.specs.Judge.{Accepted, judged}
+use Rattle.drda_commands.specs.declared.refusal.Refusal.{Refusal}
+use Rattle.drda_commands.specs.declared.table.Command.{Command}
+use Rattle.drda_commands.specs.declared.table.Command.TheVariants.{Excsat, Accsec, Secchk, Accrdb}
+use Rattle.drda_commands.specs.declared.table.ItemKind.TheVariants.{Parameter}
+use Rattle.drda_commands.specs.Given.{Given, Occurs, found_at}
+use Rattle.drda_commands.specs.Judge.{Accepted, judged}
 use Rattle.conversation.specs.Laws.{NoCommandCloses}
 use Rattle.conversation.specs.Replies.{rdb_not_found, accrdbrm}
+use Rattle.conversation.specs.Served.{unserved}
 use Rattle.conversation.specs.Settings.{Settings}
-use Rattle.conversation.specs.Exchange.{Answer, Exchange, exchanged, excused, answered, asked_for, is_ours, mechanism_for, bytes_of, accsec_done, accrdb_done, command_done, contents_of}
+use Rattle.drda_commands.specs.Given.{contents_of}
+use Rattle.conversation.specs.Exchange.{Answer, Exchange, exchanged, excused, answered, asked_for, is_ours, mechanism_for, bytes_of, accsec_done, accrdb_done, command_done}
 
 either_answer : (b is_closed : Bool) (x y : Answer) → x.session.is_closed ≡ is_closed → y.session.is_closed ≡ is_closed → (if b then x else y).session.is_closed ≡ is_closed
 either_answer true is_closed x y p q = p
@@ -39,7 +41,7 @@ command_closed settings session Excsat given = refl
 command_closed settings session Accsec given = accsec_closed settings session (found_at Parameter SECMEC given) (found_at Parameter RDBNAM given)
 command_closed settings session Secchk given = refl
 command_closed settings session Accrdb given = accrdb_closed settings session (found_at Parameter RDBNAM given)
-command_closed settings session (Unserved code) given = refl
+command_closed settings session command given = refl
 
 answered_closed : (settings : Settings) (session : Session) (accepted : Result Accepted Refusal) → (answered settings session accepted).session.is_closed ≡ session.is_closed
 answered_closed settings session (Ok accepted) = command_closed settings session accepted.command accepted.given
@@ -52,7 +54,7 @@ either_closed false is_closed x y p q = q
 turned_closed : (settings : Settings) (session : Session) (command : List Dss) → (exchanged settings session command).session.is_closed ≡ session.is_closed
 turned_closed settings session [] = refl
 turned_closed settings session (request ∷ objects) =
-    either_closed session.is_broken session.is_closed _ _ refl (answered_closed settings session (judged session.stage session.agreed.unicode request.contents (contents_of objects)))
+    either_closed session.is_broken session.is_closed _ _ refl (answered_closed settings session (judged unserved session.stage session.agreed.unicode request.contents (contents_of objects)))
 
 excused_closed : (session : Session) (command : List Dss) → (excused session command).session.is_closed ≡ session.is_closed
 excused_closed session [] = refl

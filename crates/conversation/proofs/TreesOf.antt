@@ -8,22 +8,26 @@ use Rattle.dss_frames.specs.Dss.{Dss}
 use Rattle.dss_frames.specs.declared.fault.FrameFault.{FrameFault}
 use Rattle.dss_frames.specs.Fault.{synerrcd}
 use Rattle.dss_frames.specs.Writing.{written}
-use Rattle.conversation.specs.declared.refusal.Refusal.{Refusal}
-use Rattle.conversation.specs.declared.refusal.Refusal.TheVariants.{Syntax, OutOfTurn, RdbAccessed, RdbNotAccessed, CommandNotSupported, ValueNotSupported}
+use Rattle.drda_commands.specs.declared.refusal.Refusal.{Refusal}
+use Rattle.drda_commands.specs.declared.refusal.Refusal.TheVariants.{Syntax, OutOfTurn, RdbAccessed, RdbNotAccessed, CommandNotSupported, ValueNotSupported}
 use Rattle.conversation.specs.declared.reply.TheConstants.{SERVER_NAME, SERVER_CLASS, RELEASE_LEVEL}
-use Rattle.conversation.specs.declared.session.Mechanism.{Mechanism}
+use Rattle.drda_commands.specs.declared.stage.Mechanism.{Mechanism}
 use Rattle.conversation.specs.declared.session.Session.{Session}
-use Rattle.conversation.specs.declared.session.Stage.TheVariants.{Opened}
-use Rattle.conversation.specs.declared.table.Command.{Command}
-use Rattle.conversation.specs.declared.table.Command.TheVariants.{Excsat, Accsec, Secchk, Accrdb, Unserved}
-use Rattle.conversation.specs.declared.table.ItemKind.TheVariants.{Parameter}
-use Rattle.conversation.specs.Exchange.{Answer, Exchange, exchanged, excused, sent, answered, command_done, asked_for, is_ours, mechanism_for, bytes_of, value_of, check_code, breaks, goes_on, contents_of}
-use Rattle.conversation.specs.Given.{Given, Occurs, found_at}
-use Rattle.conversation.specs.Judge.{Accepted, judged}
+use Rattle.drda_commands.specs.declared.stage.Stage.TheVariants.{Opened}
+use Rattle.drda_commands.specs.declared.table.Command.{Command}
+use Rattle.drda_commands.specs.declared.table.Command.TheVariants.{Excsat, Accsec, Secchk, Accrdb}
+use Rattle.drda_commands.specs.declared.table.ItemKind.TheVariants.{Parameter}
+use Rattle.drda_commands.specs.Given.{contents_of}
+use Rattle.conversation.specs.Exchange.{Answer, Exchange, exchanged, excused, sent, answered, command_done, asked_for, is_ours, mechanism_for, bytes_of, check_code, breaks, goes_on}
+use Rattle.drda_commands.specs.Given.{Given, Occurs, value_of, found_at}
+use Rattle.drda_commands.specs.Judge.{Accepted, judged}
+use Rattle.drda_commands.specs.Tables.{code_for}
 use Rattle.conversation.specs.Laws.{RepliesAreTrees, IsOneTree}
 use Rattle.conversation.specs.Levels.{levels_for}
-use Rattle.conversation.specs.Names.{in_encoding, padded_in}
-use Rattle.conversation.specs.Replies.{Reply, message, refusal_reply, synerrcd_for, rdb_not_found, no_memory_reply, excsatrd, accsecrd, accsecrd_refused, mechanism_code, check_severity, accrdbrm, fault_bytes}
+use Rattle.drda_names.specs.Names.{in_encoding, padded_in}
+use Rattle.drda_commands.specs.Refusals.{synerrcd_for}
+use Rattle.conversation.specs.Replies.{Reply, message, refusal_reply, rdb_not_found, no_memory_reply, excsatrd, accsecrd, accsecrd_refused, mechanism_code, check_severity, accrdbrm, fault_bytes}
+use Rattle.conversation.specs.Served.{unserved}
 use Rattle.conversation.specs.Settings.{Settings}
 
 -- the reply's text is one object, with trees in it
@@ -121,7 +125,7 @@ done_tree settings session Accrdb given =
     let rdbnam : Occurs = found_at Parameter RDBNAM given in
     either_tree (is_ours settings session.agreed.unicode rdbnam) (record { session = record session { stage = Opened }; reply = accrdbrm session.agreed.unicode })
     (record { session = session; reply = rdb_not_found (bytes_of rdbnam) }) (accrdbrm_tree session.agreed.unicode) (not_found_tree (bytes_of rdbnam))
-done_tree settings session (Unserved code) given = refusal_tree settings session.agreed.unicode (CommandNotSupported code)
+done_tree settings session command given = refusal_tree settings session.agreed.unicode (CommandNotSupported (code_for command))
 
 answered_tree : (settings : Settings) (session : Session) (verdict : Result Accepted Refusal) → IsTree (answered settings session verdict).reply
 answered_tree settings session (Ok accepted) = done_tree settings session accepted.command accepted.given
@@ -154,8 +158,8 @@ exchanged_sent : (settings : Settings) (session : Session) (command : List Dss) 
 exchanged_sent settings session [] = inl refl
 exchanged_sent settings session (request ∷ objects) =
     either_sent session.is_broken _ _ (inl refl)
-    (inr (sent_tree request (goes_on (request ∷ objects)) (answered settings session (judged session.stage session.agreed.unicode request.contents (contents_of objects)))
-    (answered_tree settings session (judged session.stage session.agreed.unicode request.contents (contents_of objects)))))
+    (inr (sent_tree request (goes_on (request ∷ objects)) (answered settings session (judged unserved session.stage session.agreed.unicode request.contents (contents_of objects)))
+    (answered_tree settings session (judged unserved session.stage session.agreed.unicode request.contents (contents_of objects)))))
 
 excused_sent : (session : Session) (command : List Dss) → IsSent (excused session command).bytes
 excused_sent session [] = inl refl

@@ -1,24 +1,26 @@
 -- What a conversation does with its next command: the reply, and how it goes on.
-use Rattle.std.specs.Prelude.{ℕ, ◌+◌, ◌==◌, Bool, true, false, not, ◌&&◌, nat_le, List, [], ◌∷◌, map, Option, Some, None, Result, Ok, Err, if◌then◌else◌}
+use Rattle.std.specs.Prelude.{ℕ, ◌+◌, ◌==◌, Bool, true, false, not, ◌&&◌, nat_le, List, [], ◌∷◌, Option, Some, None, Result, Ok, Err, if◌then◌else◌}
 use Rattle.dss_frames.specs.Dss.{Dss}
 use Rattle.dss_frames.specs.Format.{is_chained, continues_on_error}
 use Rattle.dss_frames.specs.Writing.{written}
 use Rattle.ddm_objects.specs.declared.code_point.TheConstants.{MGRLVLLS, SECMEC, RDBNAM, USRID, PASSWORD}
-use Rattle.conversation.specs.declared.refusal.Refusal.{Refusal}
-use Rattle.conversation.specs.declared.refusal.Refusal.TheVariants.{CommandNotSupported}
-use Rattle.conversation.specs.declared.table.Command.{Command}
-use Rattle.conversation.specs.declared.table.Command.TheVariants.{Excsat, Accsec, Secchk, Accrdb, Unserved}
-use Rattle.conversation.specs.declared.table.ItemKind.TheVariants.{Parameter}
-use Rattle.conversation.specs.declared.session.Stage.{Stage}
-use Rattle.conversation.specs.declared.session.Stage.TheVariants.{Fresh, Known, Asked, Checked, Opened}
-use Rattle.conversation.specs.declared.session.Mechanism.{Mechanism}
-use Rattle.conversation.specs.declared.session.Mechanism.TheVariants.{UserAndPassword, UserOnly}
+use Rattle.drda_commands.specs.declared.refusal.Refusal.{Refusal}
+use Rattle.drda_commands.specs.declared.refusal.Refusal.TheVariants.{CommandNotSupported}
+use Rattle.drda_commands.specs.declared.table.Command.{Command}
+use Rattle.drda_commands.specs.declared.table.Command.TheVariants.{Excsat, Accsec, Secchk, Accrdb}
+use Rattle.drda_commands.specs.declared.table.ItemKind.TheVariants.{Parameter}
+use Rattle.drda_commands.specs.declared.stage.Stage.{Stage}
+use Rattle.drda_commands.specs.declared.stage.Stage.TheVariants.{Fresh, Known, Asked, Checked, Opened}
+use Rattle.drda_commands.specs.declared.stage.Mechanism.{Mechanism}
+use Rattle.drda_commands.specs.declared.stage.Mechanism.TheVariants.{UserAndPassword, UserOnly}
 use Rattle.conversation.specs.declared.session.Agreed.{Agreed}
 use Rattle.conversation.specs.declared.session.Session.{Session}
 use Rattle.conversation.specs.Levels.{agreed_after, nothing_agreed}
-use Rattle.conversation.specs.Given.{Given, Occurs, never, once, twice, found_at}
-use Rattle.conversation.specs.Judge.{Accepted, judged}
-use Rattle.conversation.specs.Names.{is_name, is_padded_name}
+use Rattle.drda_commands.specs.Given.{Given, Occurs, never, once, twice, value_of, found_at, contents_of}
+use Rattle.drda_commands.specs.Judge.{Accepted, judged}
+use Rattle.drda_commands.specs.Tables.{code_for}
+use Rattle.drda_names.specs.Names.{is_name, is_padded_name}
+use Rattle.conversation.specs.Served.{unserved}
 use Rattle.conversation.specs.Settings.{Settings}
 use Rattle.conversation.specs.Replies.{Reply, refusal_reply, rdb_not_found, no_memory_reply, excsatrd, accsecrd, accsecrd_refused, secchkrm, accrdbrm}
 
@@ -32,11 +34,6 @@ pub record Answer : Type 0 where
   pub reply : Reply
 
 -- ---- commands that are not refused
-
-abbrev pub value_of : Occurs → Option (List ℕ)
-value_of never = None
-value_of (once value) = Some value
-value_of twice = None
 
 abbrev pub known_from : Stage → Stage
 known_from Fresh = Known
@@ -131,7 +128,7 @@ command_done settings session Accsec given = accsec_done settings session (found
 command_done settings session Secchk given =
     checked_with session (check_code settings session (found_at Parameter SECMEC given) (found_at Parameter USRID given) (found_at Parameter PASSWORD given))
 command_done settings session Accrdb given = accrdb_done settings session (found_at Parameter RDBNAM given)
-command_done settings session (Unserved code) given = record { session = session; reply = refusal_reply settings session.agreed.unicode (CommandNotSupported code) }
+command_done settings session command given = record { session = session; reply = refusal_reply settings session.agreed.unicode (CommandNotSupported (code_for command)) }
 
 -- a refused command leaves what is remembered
 abbrev pub answered : Settings → Session → Result Accepted Refusal → Answer
@@ -170,14 +167,11 @@ sent request chained answer =
 abbrev pub passed_over : Session → Bool → Exchange
 passed_over session chained = record { session = record session { is_broken = chained }; bytes = [] }
 
-abbrev pub contents_of : List Dss → List (List ℕ)
-contents_of dsss = map (λ d. d.contents) dsss
-
 abbrev pub exchanged : Settings → Session → List Dss → Exchange
 exchanged settings session [] = record { session = session; bytes = [] }
 exchanged settings session (request ∷ objects) =
     if session.is_broken then passed_over session (goes_on (request ∷ objects))
-    else sent request (goes_on (request ∷ objects)) (answered settings session (judged session.stage session.agreed.unicode request.contents (contents_of objects)))
+    else sent request (goes_on (request ∷ objects)) (answered settings session (judged unserved session.stage session.agreed.unicode request.contents (contents_of objects)))
 
 -- the same command, where it found no memory: nothing is done
 abbrev pub excused : Session → List Dss → Exchange

@@ -3,14 +3,16 @@ use Rattle.std.specs.Prelude.{◌≡◌, ◌⊎◌, ℕ, true, false, List, [], 
 use Rattle.ddm_objects.specs.Writing.{Trees, NoTrees, Container, text_of}
 use Rattle.dss_frames.specs.Dss.{Dss}
 use Rattle.dss_frames.specs.Writing.{written}
-use Rattle.conversation.specs.declared.refusal.Refusal.{Refusal}
+use Rattle.drda_commands.specs.declared.refusal.Refusal.{Refusal}
 use Rattle.conversation.specs.declared.session.Session.{Session}
-use Rattle.conversation.specs.declared.session.Stage.TheVariants.{Opened}
-use Rattle.conversation.specs.declared.table.Command.TheVariants.{Secchk}
-use Rattle.conversation.specs.Judge.{Accepted, judged}
+use Rattle.drda_commands.specs.declared.stage.Stage.TheVariants.{Opened}
+use Rattle.drda_commands.specs.declared.table.Command.TheVariants.{Secchk}
+use Rattle.drda_commands.specs.Judge.{Accepted, judged}
 use Rattle.conversation.specs.Replies.{secchkrm}
+use Rattle.conversation.specs.Served.{unserved}
 use Rattle.conversation.specs.Settings.{Settings}
-use Rattle.conversation.specs.Exchange.{contents_of, fresh, goes_on}
+use Rattle.drda_commands.specs.Given.{contents_of}
+use Rattle.conversation.specs.Exchange.{fresh, goes_on}
 use Rattle.conversation.specs.Steps.{Does, DoesAll}
 
 -- no command closes a conversation, nor opens a closed one; what closes it is a fault of the framing
@@ -21,7 +23,7 @@ NoCommandCloses = (settings : Settings) (session next : Session) (command : List
 abbrev pub RefusalsKeepTheStage : Type 0
 RefusalsKeepTheStage =
     (settings : Settings) (session next : Session) (request : Dss) (objects : List Dss) (refusal : Refusal) (bytes : List ℕ)
-    → judged session.stage session.agreed.unicode request.contents (contents_of objects) ≡ Err refusal
+    → judged unserved session.stage session.agreed.unicode request.contents (contents_of objects) ≡ Err refusal
     → Does settings session (request ∷ objects) bytes next → (next.stage ≡ session.stage) × (next.agreed ≡ session.agreed)
 
 -- ---- broken chains
@@ -48,7 +50,7 @@ pub record ChecksTheUser (session : Session) (command : List Dss) (bytes : List 
   pub objects : List Dss
   pub command_is : command ≡ request ∷ objects
   pub accepted : Accepted
-  pub judged_is : judged session.stage session.agreed.unicode request.contents (contents_of objects) ≡ Ok accepted
+  pub judged_is : judged unserved session.stage session.agreed.unicode request.contents (contents_of objects) ≡ Ok accepted
   pub is_secchk : accepted.command ≡ Secchk
   pub format : ℕ
   pub answer : bytes ≡ written format request.correlator (secchkrm 0).text

@@ -1,10 +1,7 @@
-pub mod Names
 pub mod Settings
 pub mod Levels
-pub mod Tables
-pub mod Given
-pub mod Judge
 pub mod Replies
+pub mod Served
 pub mod Exchange
 pub mod Closing
 pub mod Held

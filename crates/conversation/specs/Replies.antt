@@ -5,17 +5,15 @@ use Rattle.dss_frames.specs.declared.fault.FrameFault.{FrameFault}
 use Rattle.dss_frames.specs.Fault.{synerrcd}
 use Rattle.dss_frames.specs.Writing.{written}
 use Rattle.ddm_objects.specs.declared.code_point.TheConstants.{EXTNAM, SRVCLSNM, SRVNAM, SRVRLSLV, MGRLVLLS, SVRCOD, SYNERRCD, CODPNT, RDBNAM, SECMEC, SECCHKCD, CCSIDSBC, CCSIDMBC, PRDID, TYPDEFNAM, TYPDEFOVR, EXCSATRD, ACCSECRD, SECCHKRM, ACCRDBRM, SYNTAXRM, PRCCNVRM, RDBACCRM, RDBNACRM, RDBNFNRM, CMDNSPRM, VALNSPRM, RSCLMTRM}
-use Rattle.ddm_objects.specs.Fault.{syntax_error_code}
 use Rattle.ddm_objects.specs.Writing.{spelled}
-use Rattle.conversation.specs.declared.refusal.Refusal.{Refusal}
-use Rattle.conversation.specs.declared.refusal.Refusal.TheVariants.{Syntax, OutOfTurn, RdbAccessed, RdbNotAccessed, CommandNotSupported, ValueNotSupported}
-use Rattle.conversation.specs.declared.refusal.SyntaxError.{SyntaxError}
-use Rattle.conversation.specs.declared.refusal.SyntaxError.TheVariants.{InObject, BytesLeft, Missing, TooManyObjects, Twice}
+use Rattle.drda_commands.specs.declared.refusal.Refusal.{Refusal}
+use Rattle.drda_commands.specs.declared.refusal.Refusal.TheVariants.{Syntax, OutOfTurn, RdbAccessed, RdbNotAccessed, CommandNotSupported, ValueNotSupported}
 use Rattle.conversation.specs.declared.reply.TheConstants.{SERVER_NAME, SERVER_CLASS, RELEASE_LEVEL}
-use Rattle.conversation.specs.declared.session.Mechanism.{Mechanism}
-use Rattle.conversation.specs.declared.session.Mechanism.TheVariants.{UserAndPassword, UserOnly}
+use Rattle.drda_commands.specs.declared.stage.Mechanism.{Mechanism}
+use Rattle.drda_commands.specs.declared.stage.Mechanism.TheVariants.{UserAndPassword, UserOnly}
 use Rattle.conversation.specs.Levels.{levels_for}
-use Rattle.conversation.specs.Names.{in_encoding, padded_in}
+use Rattle.drda_commands.specs.Refusals.{synerrcd_for}
+use Rattle.drda_names.specs.Names.{in_encoding, padded_in}
 use Rattle.conversation.specs.Settings.{Settings}
 
 -- a reply: its DSS type (2 a reply message, 3 an object), its severity (0 where it has none), its text
@@ -28,13 +26,6 @@ pub record Reply : Type 0 where
 abbrev pub message : ℕ → ℕ → List ℕ → Reply
 message code severity parameters =
     record { dss_type = 2; severity = severity; text = spelled code (spelled SVRCOD (to_be_bytes w16 severity) ++ parameters) }
-
-abbrev pub synerrcd_for : SyntaxError → ℕ
-synerrcd_for (InObject fault) = syntax_error_code fault
-synerrcd_for BytesLeft = 0x0B
-synerrcd_for Missing = 0x0E
-synerrcd_for TooManyObjects = 0x0F
-synerrcd_for Twice = 0x12
 
 -- the database's name, as it is answered
 abbrev pub rdb_part : Settings → Bool → List ℕ

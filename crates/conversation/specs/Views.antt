@@ -1,32 +1,14 @@
--- What the judge's own types show.
+-- What the types of the code show.
 use Rattle.std.specs.Prelude.{◌≡◌, ℕ, false, List, ◌++◌}
 use Rattle.dss_frames.specs.Dss.{Dss}
 use Rattle.dss_frames.specs.declared.format.DssType.{DssType}
 use Rattle.dss_frames.specs.declared.format.DssType.TheVariants.{Request, Reply, Object}
-use Rattle.dss_frames.specs.Group.{command_of}
-use Rattle.conversation.specs.declared.given.Occurs as rust_occurs
-use Rattle.conversation.specs.declared.given.Occurs.TheVariants.{Never, Once, Twice}
-use Rattle.conversation.specs.declared.given.Given as rust_given
-use Rattle.conversation.specs.declared.judge.Accepted as rust_accepted
 use Rattle.conversation.specs.declared.session.Session.{Session}
 use Rattle.conversation.specs.declared.exchange.Answer as rust_answer
 use Rattle.conversation.specs.declared.exchange.Exchanged.{Exchanged}
 use Rattle.conversation.specs.declared.exchange.Exchanged.TheVariants.{Done, Short}
-use Rattle.conversation.specs.Exchange.{Answer, exchanged, excused, contents_of}
-use Rattle.conversation.specs.Given.{Given, Occurs, never, once, twice}
-use Rattle.conversation.specs.Judge.{Accepted}
+use Rattle.conversation.specs.Exchange.{Answer, exchanged, excused}
 use Rattle.conversation.specs.Settings.{Settings}
-
-abbrev pub occurs_of : rust_occurs.Occurs → Occurs
-occurs_of Never = never
-occurs_of (Once value) = once value.now
-occurs_of Twice = twice
-
-abbrev pub given_of : rust_given.Given → Given
-given_of given = record { parameters = given.parameters.now; objects = contents_of (command_of given.objects) }
-
-abbrev pub accepted_of : rust_accepted.Accepted → Accepted
-accepted_of accepted = record { command = accepted.command; given = given_of accepted.given }
 
 abbrev pub type_number : DssType → ℕ
 type_number Request = 1

@@ -3,17 +3,18 @@
 ghost use Rattle.std.specs.Prelude.{◌≡◌, IfOk};
 ghost use Rattle.conversation.specs.Exchange as spec;
 ghost use Rattle.conversation.specs.Replies.{rdb_not_found};
-ghost use Rattle.conversation.specs.Views.{answer_of, occurs_of};
+ghost use Rattle.drda_commands.specs.Views.{occurs_of};
+ghost use Rattle.conversation.specs.Views.{answer_of};
 
 use crate::exchange::Answer;
-use crate::given::Occurs;
-use crate::names::{is_name, is_padded_name};
 use crate::reply::{
     severity_of, write_accrdbrm, write_accsecrd, write_accsecrd_refused, write_rdb_not_found,
     write_secchkrm,
 };
-use crate::session::{Mechanism, Session, Stage};
+use crate::session::Session;
 use crate::settings::Settings;
+use drda_commands::{Mechanism, Occurs, Stage};
+use drda_names::{is_name, is_padded_name};
 use dss_frames::DssType;
 use std::alloc::AllocError;
 

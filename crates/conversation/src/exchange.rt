@@ -4,25 +4,38 @@ ghost use Rattle.std.specs.Prelude.{◌≡◌, ◌&&◌, ◌++◌, ◌+◌, IfOk
 ghost use Rattle.std.specs.Option.{option_copied};
 ghost use Rattle.dss_frames.specs.Group.{command_of};
 ghost use Rattle.conversation.specs.Exchange as spec;
-ghost use Rattle.conversation.specs.Given.{found_at};
-ghost use Rattle.conversation.specs.Judge.{judged};
+ghost use Rattle.drda_commands.specs.Given.{found_at, contents_of};
+ghost use Rattle.drda_commands.specs.Judge.{judged};
 ghost use Rattle.conversation.specs.Replies.{refusal_reply, no_memory_reply};
+ghost use Rattle.conversation.specs.Served.{unserved};
 ghost use Rattle.std.specs.Prelude.{◌<◌, if◌then◌else◌};
 ghost use Rattle.dss_frames.specs.Writing.{written};
-ghost use Rattle.conversation.specs.Views.{answer_of, type_number, accepted_of, occurs_of, given_of, Exchanges};
+ghost use Rattle.drda_commands.specs.Views.{accepted_of, occurs_of, given_of};
+ghost use Rattle.conversation.specs.Views.{answer_of, type_number, Exchanges};
 
 use crate::access::{accrdb, accsec, check_code, checked};
-use crate::given::{Given, Occurs};
-use crate::judge::{Accepted, judge};
 use crate::levels::agreed_by;
-use crate::refusal::Refusal;
 use crate::reply::{write_excsatrd, write_refusal};
-use crate::session::{Agreed, Session, Stage};
+use crate::session::{Agreed, Session};
 use crate::settings::Settings;
-use crate::table::{Command, Form, Item, ItemKind};
 use ddm_objects::code_point;
+use drda_commands::{Accepted, Command, ItemKind, Refusal, Stage, judge};
 use dss_frames::{DssType, Format, Group, write_dss};
 use std::alloc::AllocError;
+
+// The commands of the profile that are not served yet.
+const UNSERVED: [u16; 10] = [
+    code_point::SYNCCTL,
+    code_point::CLSQRY,
+    code_point::CNTQRY,
+    code_point::DSCSQLSTT,
+    code_point::EXCSQLIMM,
+    code_point::EXCSQLSTT,
+    code_point::OPNQRY,
+    code_point::PRPSQLSTT,
+    code_point::RDBCMM,
+    code_point::RDBRLLBCK,
+];
 
 /// A reply whose text stands elsewhere: what is remembered then, its DSS type, its severity.
 #[derive(Clone, Copy)]
@@ -39,15 +52,6 @@ pub(crate) enum Exchanged {
     Done,
     /// Memory was refused, and this is its reply.
     Short([u8; 16]),
-}
-
-fn value_of(occurs: Occurs<'_>) -> Option<&[u8]>
-    ensures { option_copied result ≡ spec.value_of (occurs_of occurs.entry) }
-{
-    match occurs {
-        Occurs::Once(value) => Some(value),
-        Occurs::Never | Occurs::Twice => None,
-    }
 }
 
 fn known_from(stage: Stage) -> Stage
@@ -83,17 +87,6 @@ fn excsat(session: Session, asked: Option<&[u8]>, text: &mut Vec<u8>) -> Result<
     })
 }
 
-fn parameter<'a>(given: &Given<'a>, code: u16) -> Occurs<'a>
-    ensures { occurs_of result ≡ found_at ItemKind.Parameter code (given_of given.now) }
-{
-    given.found(Item {
-        kind: ItemKind::Parameter,
-        code,
-        is_required: false,
-        form: Form::AnyBytes,
-    })
-}
-
 // A command that is not refused, with the text of its answer in place of what `text` was.
 fn done(
     settings: &Settings,
@@ -107,23 +100,25 @@ fn done(
     match accepted.command {
         Command::Excsat => excsat(
             session,
-            value_of(parameter(&given, code_point::MGRLVLLS)),
+            given
+                .found(ItemKind::Parameter, code_point::MGRLVLLS)
+                .value(),
             text,
         ),
         Command::Accsec => {
-            let mechanism = parameter(&given, code_point::SECMEC);
+            let mechanism = given.found(ItemKind::Parameter, code_point::SECMEC);
             accsec(
                 settings,
                 session,
                 mechanism,
-                parameter(&given, code_point::RDBNAM),
+                given.found(ItemKind::Parameter, code_point::RDBNAM),
                 text,
             )
         }
         Command::Secchk => {
-            let mechanism = parameter(&given, code_point::SECMEC);
-            let user = parameter(&given, code_point::USRID);
-            let password = parameter(&given, code_point::PASSWORD);
+            let mechanism = given.found(ItemKind::Parameter, code_point::SECMEC);
+            let user = given.found(ItemKind::Parameter, code_point::USRID);
+            let password = given.found(ItemKind::Parameter, code_point::PASSWORD);
             checked(
                 session,
                 check_code(settings, session, mechanism, user, password),
@@ -133,13 +128,13 @@ fn done(
         Command::Accrdb => accrdb(
             settings,
             session,
-            parameter(&given, code_point::RDBNAM),
+            given.found(ItemKind::Parameter, code_point::RDBNAM),
             text,
         ),
-        Command::Unserved(code) => refused(
+        command => refused(
             settings,
             session,
-            Refusal::CommandNotSupported(code),
+            Refusal::CommandNotSupported(command.code()),
             text,
         ),
     }
@@ -169,9 +164,15 @@ fn answer_to(
     objects: Group<'_>,
     text: &mut Vec<u8>,
 ) -> Result<Answer, AllocError>
-    ensures { IfOk result (λ a. answer_of a text.new.items ≡ spec.answered settings.now session (judged session.stage session.agreed.unicode contents.now (spec.contents_of (command_of objects.entry)))) }
+    ensures { IfOk result (λ a. answer_of a text.new.items ≡ spec.answered settings.now session (judged unserved session.stage session.agreed.unicode contents.now (contents_of (command_of objects.entry)))) }
 {
-    match judge(session.stage, session.agreed.unicode, contents, objects) {
+    match judge(
+        &UNSERVED,
+        session.stage,
+        session.agreed.unicode,
+        contents,
+        objects,
+    ) {
         Ok(accepted) => done(settings, session, accepted, text),
         Err(refusal) => refused(settings, session, refusal, text),
     }

@@ -5,17 +5,13 @@
 mod access;
 mod exchange;
 mod front;
-mod given;
-mod judge;
 pub mod laws;
 mod levels;
-mod names;
-mod refusal;
 mod reply;
 mod session;
 mod settings;
-mod table;
 
+pub use drda_commands::{Mechanism, Stage};
 pub use front::{Front, Need};
-pub use session::{Agreed, Mechanism, Session, Stage};
+pub use session::{Agreed, Session};
 pub use settings::{Settings, SettingsError};

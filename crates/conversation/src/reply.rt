@@ -6,15 +6,14 @@ ghost use Rattle.ddm_objects.specs.Writing.{spelled};
 ghost use Rattle.ebcdic_500.specs.CodePage.{byte_for};
 ghost use Rattle.conversation.specs.Replies.{message, refusal_reply, rdb_part, rdb_not_found, levels_part, excsatrd, accsecrd, accsecrd_refused, secchkrm, check_severity, ccsids, accrdbrm};
 ghost use Rattle.conversation.specs.Replies as spec;
-ghost use Rattle.conversation.specs.Names.{in_encoding};
+ghost use Rattle.drda_names.specs.Names.{in_encoding};
 ghost use Rattle.ddm_objects.specs.declared.code_point.TheConstants.{EXTNAM, SRVCLSNM, SRVNAM, SRVRLSLV, TYPDEFOVR};
 
 use crate::levels::push_levels;
-use crate::names::{push_name, push_padded};
-use crate::refusal::Refusal;
-use crate::session::Mechanism;
 use crate::settings::Settings;
 use ddm_objects::{close, code_point, open, put};
+use drda_commands::{Mechanism, Refusal};
+use drda_names::{push_name, push_padded};
 use std::alloc::AllocError;
 
 /// EXTNAM and SRVNAM: `drdad`, in code page 500.

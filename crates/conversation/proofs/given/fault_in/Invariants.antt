@@ -1,7 +1,0 @@
-use Rattle.std.proofs.Common.{◌≡◌}
-use Rattle.ddm_objects.specs.Source.{rest_of}
-use Rattle.conversation.specs.Given.{reads_inside, fault_in}
-use Rattle.conversation.proofs.given.fault_in.Given as goal
-
-abbrev pub invariant-loop-part : goal.invariant-loop-part
-invariant-loop-part l = fault_in (reads_inside l.command l.kind) (rest_of l.part-iterator) ≡ fault_in (reads_inside l.command l.kind) l.text

@@ -1,5 +1,0 @@
-use Rattle.std.proofs.Common.{length}
-use Rattle.conversation.proofs.names.+spells.Given as goal
-
-abbrev pub decreases-spells : goal.decreases-spells
-decreases-spells l = length l.bytes.now

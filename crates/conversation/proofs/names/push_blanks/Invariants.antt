@@ -1,7 +1,0 @@
-use Rattle.std.proofs.Common.{◌≡◌, ◌++◌}
-use Rattle.std.specs.Prelude.{replicate}
-use Rattle.conversation.specs.Names.{byte_in}
-use Rattle.conversation.proofs.names.push_blanks.Given as goal
-
-abbrev pub invariant-loop : goal.invariant-loop
-invariant-loop l = l.out.items ≡ l.initial.out.items ++ replicate l.counter (byte_in l.unicode 0x20)

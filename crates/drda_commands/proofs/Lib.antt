@@ -1,0 +1,4 @@
+mod Walked
+mod Counting
+mod Faults
+mod Required

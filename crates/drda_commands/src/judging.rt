@@ -1,0 +1,281 @@
+//! The judge of commands, in the order of refusals.
+
+ghost use Rattle.std.specs.Prelude.{◌≡◌, ◌&&◌, ◌||◌, Some, IfOk};
+ghost use Rattle.std.specs.List.{list_any};
+ghost use Rattle.drda_words.specs.Excuse.{Answers};
+ghost use Rattle.ddm_objects.specs.Source.{view};
+ghost use Rattle.dss_frames.specs.Group.{command_of};
+ghost use Rattle.drda_commands.specs.Tables.{command_for};
+ghost use Rattle.drda_commands.specs.Given.{contents_of, found_inside};
+ghost use Rattle.drda_commands.specs.Judge as spec;
+ghost use Rattle.drda_commands.specs.Needs.{Needs};
+ghost use Rattle.drda_commands.specs.Views.{occurs_of, given_of, accepted_of};
+
+use crate::given::{Given, Occurs, found_in};
+use crate::refusal::{Refusal, SyntaxError};
+use crate::stage::Stage;
+use crate::table::{Command, Form, Item, command_of, items_of};
+use crate::texts::text_in;
+use ddm_objects::{Object, code_point};
+use drda_names::is_name;
+use dss_frames::Group;
+use xa_calls::SyncType;
+
+/// A command that is not refused, and what it brought.
+#[derive(Clone, Copy)]
+pub struct Accepted<'a> {
+    pub command: Command,
+    pub given: Given<'a>,
+}
+
+fn command_object(contents: &[u8]) -> Result<Object<'_>, Refusal>
+    ensures { Answers view Some result (spec.command_object contents.now) }
+{
+    if contents.is_empty() {
+        return Err(Refusal::Syntax(SyntaxError::Missing));
+    }
+    match Object::parse(contents) {
+        Ok((object, [])) => Ok(object),
+        Ok((_, _)) => Err(Refusal::Syntax(SyntaxError::BytesLeft)),
+        Err(fault) => Err(Refusal::Syntax(SyntaxError::InObject(fault))),
+    }
+}
+
+fn check_due(command: Command, stage: Stage) -> Result<(), Refusal>
+    ensures { result ≡ spec.is_due command stage }
+{
+    match (command, stage) {
+        (Command::Excsat, _) => Ok(()),
+        (Command::Accsec, Stage::Known | Stage::Asked(_) | Stage::Checked) => Ok(()),
+        (Command::Secchk, Stage::Asked(_)) => Ok(()),
+        (Command::Accrdb, Stage::Checked) => Ok(()),
+        (Command::Accrdb, Stage::Opened) => Err(Refusal::RdbAccessed),
+        (Command::Accsec | Command::Secchk | Command::Accrdb, _) => Err(Refusal::OutOfTurn),
+        (_, Stage::Opened) => Ok(()),
+        _ => Err(Refusal::RdbNotAccessed),
+    }
+}
+
+fn check_served(unserved: &[u16], command: Command) -> Result<(), Refusal>
+    ensures { result ≡ spec.is_served unserved.now command }
+{
+    if unserved.contains(&command.code()) {
+        return Err(Refusal::CommandNotSupported(command.code()));
+    }
+    Ok(())
+}
+
+fn check_whole(command: Command, given: Given<'_>) -> Result<(), Refusal>
+    ensures { result ≡ spec.is_whole command (given_of given.entry) }
+{
+    if let Some(error) = given.first_fault(command) {
+        return Err(Refusal::Syntax(error));
+    }
+    if given.count() > 8 {
+        return Err(Refusal::Syntax(SyntaxError::TooManyObjects));
+    }
+    Ok(())
+}
+
+// Whether one of two code points stands twice among the objects of a container.
+fn has_twice(value: &[u8], one: u16, other: u16) -> bool
+    ensures { result ≡ spec.is_twice (found_inside one value.now) || spec.is_twice (found_inside other value.now) }
+{
+    matches!(found_in(one, value), Occurs::Twice) || matches!(found_in(other, value), Occurs::Twice)
+}
+
+fn is_twice_inside(form: Form, value: &[u8]) -> bool
+    ensures { result ≡ spec.is_twice_inside form value.now }
+{
+    match form {
+        Form::ManagerLevels
+        | Form::AnyBytes
+        | Form::Bytes { .. }
+        | Form::Boolean
+        | Form::SqldaType
+        | Form::SyncType
+        | Form::DefinitionName
+        | Form::StatementTexts => false,
+        Form::DefinitionOverrides => has_twice(value, code_point::CCSIDSBC, code_point::CCSIDMBC),
+        Form::DescribedData => has_twice(value, code_point::FDODSC, code_point::FDODTA),
+    }
+}
+
+fn item_twice(given: &Given<'_>, item: Item) -> bool
+    ensures { result ≡ spec.item_twice (given_of given.now) item }
+{
+    match given.found(item.kind, item.code) {
+        Occurs::Never => false,
+        Occurs::Once(value) => is_twice_inside(item.form, value),
+        Occurs::Twice => true,
+    }
+}
+
+fn is_absent(form: Form, occurs: Occurs<'_>) -> bool
+    ensures { result ≡ spec.is_absent form (occurs_of occurs.entry) }
+{
+    match occurs {
+        Occurs::Never => true,
+        Occurs::Once(value) => match form {
+            Form::ManagerLevels
+            | Form::AnyBytes
+            | Form::Bytes { .. }
+            | Form::Boolean
+            | Form::SqldaType
+            | Form::SyncType
+            | Form::DefinitionName
+            | Form::DefinitionOverrides
+            | Form::DescribedData => false,
+            Form::StatementTexts => text_in(value).is_none(),
+        },
+        Occurs::Twice => false,
+    }
+}
+
+fn item_missing(given: &Given<'_>, item: Item) -> bool
+    ensures { result ≡ spec.item_missing (given_of given.now) item }
+{
+    item.is_required && is_absent(item.form, given.found(item.kind, item.code))
+}
+
+fn is_1208(occurs: Occurs<'_>) -> bool
+    ensures { result ≡ spec.is_1208 (occurs_of occurs.entry) }
+{
+    match occurs {
+        Occurs::Never => true,
+        Occurs::Once([high, low]) => *high == 0x04 && *low == 0xB8,
+        Occurs::Once(_) | Occurs::Twice => false,
+    }
+}
+
+fn is_boolean(value: &[u8]) -> bool
+    ensures { result ≡ spec.is_boolean value.now }
+{
+    match value {
+        [byte] => *byte == 0xF0 || *byte == 0xF1,
+        _ => false,
+    }
+}
+
+fn is_sqlda_type(value: &[u8]) -> bool
+    ensures { result ≡ spec.is_sqlda_type value.now }
+{
+    match value {
+        [byte] => *byte <= 5,
+        _ => false,
+    }
+}
+
+fn is_sync_type(value: &[u8]) -> bool
+    ensures { result ≡ spec.is_sync_type value.now }
+{
+    match value {
+        [byte] => SyncType::from_number(*byte).is_some(),
+        _ => false,
+    }
+}
+
+fn is_supported(unicode: bool, form: Form, value: &[u8]) -> bool
+    ensures { result ≡ spec.is_supported unicode form value.now }
+{
+    match form {
+        Form::ManagerLevels => value.len() % 4 == 0,
+        Form::AnyBytes | Form::StatementTexts | Form::DescribedData => true,
+        Form::Bytes { least, greatest } => least <= value.len() && value.len() <= greatest,
+        Form::Boolean => is_boolean(value),
+        Form::SqldaType => is_sqlda_type(value),
+        Form::SyncType => is_sync_type(value),
+        Form::DefinitionName => is_name(unicode, value, b"QTDSQLASC"),
+        Form::DefinitionOverrides => {
+            is_1208(found_in(code_point::CCSIDSBC, value))
+                && is_1208(found_in(code_point::CCSIDMBC, value))
+        }
+    }
+}
+
+fn item_bad(unicode: bool, given: &Given<'_>, item: Item) -> bool
+    ensures { result ≡ spec.item_bad unicode (given_of given.now) item }
+{
+    match given.found(item.kind, item.code) {
+        Occurs::Once(value) => !is_supported(unicode, item.form, value),
+        Occurs::Never | Occurs::Twice => false,
+    }
+}
+
+fn any_twice(items: &[Item], given: &Given<'_>) -> bool
+    ensures { result ≡ list_any (spec.item_twice (given_of given.now)) items.now }
+{
+    items.iter().any(|item| item_twice(given, *item))
+}
+
+fn any_missing(items: &[Item], given: &Given<'_>) -> bool
+    ensures { result ≡ list_any (spec.item_missing (given_of given.now)) items.now }
+{
+    items.iter().any(|item| item_missing(given, *item))
+}
+
+fn check_twice(items: &[Item], given: &Given<'_>) -> Result<(), Refusal>
+    ensures { result ≡ spec.none_twice items.now (given_of given.now) }
+{
+    if any_twice(items, given) {
+        return Err(Refusal::Syntax(SyntaxError::Twice));
+    }
+    Ok(())
+}
+
+fn check_missing(items: &[Item], given: &Given<'_>) -> Result<(), Refusal>
+    ensures { result ≡ spec.none_missing items.now (given_of given.now) }
+{
+    if any_missing(items, given) {
+        return Err(Refusal::Syntax(SyntaxError::Missing));
+    }
+    Ok(())
+}
+
+fn check_values(unicode: bool, items: &[Item], given: &Given<'_>) -> Result<(), Refusal>
+    ensures { result ≡ spec.none_bad unicode items.now (given_of given.now) }
+{
+    for item in items {
+        if item_bad(unicode, given, *item) {
+            return Err(Refusal::ValueNotSupported(item.code));
+        }
+    }
+    Ok(())
+}
+
+/// The command in a request DSS with these contents and these object DSSs behind it, or what it is
+/// refused for; `unserved` are the code points of the commands that the caller does not serve, and
+/// `unicode` says whether names may come in UTF-8. The first refusal in this order counts: no command
+/// object, its faults, bytes behind it; an unknown command; one that does not come at this stage; one
+/// that is not served; faults of objects, and of the texts of a statement, by place, and more than
+/// eight data objects; a parameter or data object twice, a required one missing, a value that is not
+/// supported.
+pub fn judge<'a>(
+    unserved: &[u16],
+    stage: Stage,
+    unicode: bool,
+    contents: &'a [u8],
+    objects: Group<'a>,
+) -> Result<Accepted<'a>, Refusal>
+    ensures verdict { Answers accepted_of Some result (spec.judged unserved.now stage unicode contents.now (contents_of (command_of objects.entry))) }
+
+    // What a command requires has come.
+    ensures brings { IfOk result (λ a. Needs a.command (given_of a.given)) }
+{
+    let object = command_object(contents)?;
+    let Some(command) = command_of(object.code) else {
+        return Err(Refusal::CommandNotSupported(object.code));
+    };
+    check_due(command, stage)?;
+    check_served(unserved, command)?;
+    let given = Given {
+        parameters: object.value,
+        objects,
+    };
+    check_whole(command, given)?;
+    let items = items_of(command);
+    check_twice(items, &given)?;
+    check_missing(items, &given)?;
+    check_values(unicode, items, &given)?;
+    Ok(Accepted { command, given })
+}

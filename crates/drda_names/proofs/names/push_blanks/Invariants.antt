@@ -1,0 +1,7 @@
+use Rattle.std.proofs.Common.{◌≡◌, ◌++◌}
+use Rattle.std.specs.Prelude.{replicate}
+use Rattle.drda_names.specs.Names.{byte_in}
+use Rattle.drda_names.proofs.names.push_blanks.Given as goal
+
+abbrev pub invariant-loop : goal.invariant-loop
+invariant-loop l = l.out.items ≡ l.initial.out.items ++ replicate l.counter (byte_in l.unicode 0x20)
