@@ -1,0 +1,5 @@
+mod Steps
+mod Storing
+mod Listing
+mod Telling
+mod Indexing
