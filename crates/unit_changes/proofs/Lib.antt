@@ -3,3 +3,4 @@ mod Storing
 mod Listing
 mod Telling
 mod Indexing
+mod Counting

@@ -5,6 +5,7 @@ use Rattle.std.specs.String.{string_bytes}
 use Rattle.row_values.specs.Schema.{Schema}
 use Rattle.tables.specs.Change.{Change, create, put, remove}
 use Rattle.tables.specs.Tables.{Store, schema_of, table_of}
+use Rattle.tables.specs.View.{is_sound}
 use Rattle.core_steps.specs.Units.{apply_all}
 use Rattle.unit_changes.specs.UnitTable.{IsTold, UnitTable, name_of}
 use Rattle.unit_changes.specs.declared.table_changes.TableChanges.{TableChanges}
@@ -53,7 +54,9 @@ abbrev pub lacking : List UnitTable → Store → ℕ
 lacking [] s = 0
 lacking (t ∷ ts) s = (if is_some (schema_of s t.name) then 0 else 1) + lacking ts s
 
--- those that it lacks are new
+-- where the store lacks the table, the unit creates it
+abbrev pub IsNewIn : Store → UnitTable → Type 0
+IsNewIn s t = is_some (schema_of s t.name) ≡ false → (t.is_new ≡ true) × (is_sound (create t.name t.schema) ≡ true)
+
 abbrev pub AreNew : List UnitTable → Store → Type 0
-AreNew [] s = Unit {0}
-AreNew (t ∷ ts) s = (is_some (schema_of s t.name) ≡ false → t.is_new ≡ true) × AreNew ts s
+AreNew ts s = AllByRecursion (IsNewIn s) ts

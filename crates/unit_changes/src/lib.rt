@@ -11,4 +11,4 @@ mod unit;
 mod unit_view;
 
 pub use unit::{MAX_CHANGED_BYTES, UnitChanges};
-pub use unit_view::{row_under, schema_under};
+pub use unit_view::{row_under, schema_under, tables_under};

@@ -1,6 +1,7 @@
 //! What a unit of work has changed.
 
-ghost use Rattle.std.specs.Prelude.{◌≡◌, ◌≤◌, ◌+◌, ℕ, List, Some, ◌-◌, ◌==◌, ◌++◌, [], OnErr, OnOk, length, map, option_map, true, vec_len};
+ghost use Rattle.std.specs.Prelude.{◌≡◌, ◌≤◌, ◌+◌, ℕ, List, Some, ◌-◌, ◌==◌, ◌++◌, [], IfErr, IfOk, IsTrue, OnErr, OnOk, false, if◌then◌else◌, is_some, length, map, option_map, true, vec_len};
+ghost use Rattle.std.specs.String.{string_bytes};
 ghost use Rattle.std.specs.Vec.{vec_capacity};
 ghost use Rattle.std.specs.List.{flat_map};
 ghost use Rattle.tables.specs.Change.{change_bytes};
@@ -10,16 +11,17 @@ ghost use Rattle.tables.specs.Tables.{Store, schema_of};
 ghost use Rattle.tables.specs.View.{is_store};
 ghost use Rattle.core_steps.specs.Units.{apply_all};
 ghost use Rattle.unit_changes.specs.TableChanges.{table_of};
-ghost use Rattle.unit_changes.specs.Index.{IsToldOf};
+ghost use Rattle.unit_changes.specs.Index.{AreNew, IsNewIn, IsToldOf, lacking};
 
 use crate::index::{index_changes, place_of};
 use crate::table_changes::TableChanges;
-use row_values::Schema;
+use crate::unit_view::no_memory;
+use row_values::{Schema, is_name};
 use std::alloc::{AllocError, Global};
 use std::marker::Model;
 use std::sync::Arc;
-use tables::Change;
-use tables::laws::changes_are_local;
+use tables::laws::{changes_are_local, changes_make_tables, stores_are_what_they_show};
+use tables::{Change, TableView};
 
 /// The most bytes that the changes of a unit have when they are written.
 pub const MAX_CHANGED_BYTES: usize = 1_048_576;
@@ -112,6 +114,23 @@ impl UnitChanges {
         }
     }
 
+    /// How many of the tables that the unit created the base lacks. Where it lacks one that the unit
+    /// changed and did not create, the answer is want of memory.
+    pub(crate) fn lacking<V: TableView>(
+        &self,
+        base: &mut V,
+        alloc: Global,
+    ) -> Result<usize, V::Fault>
+        ensures count { IfOk result (λ n. IsTrue V.is_told → is_store (V.store base.old) ≡ true → n + length (V.store base.old) ≡ length (apply_all self.now (V.store base.old))) }
+        ensures fault { IfErr result (λ fault. IsTrue V.is_told → V.tells_damage fault ≡ false) }
+        ensures store { V.store base.new ≡ V.store base.old }
+    {
+        changes_are_local();
+        changes_make_tables();
+        stores_are_what_they_show();
+        count_lacking(self.tables.as_slice(), base, alloc)
+    }
+
     /// The changes make a store of a store, in which the tables that were there have their schemas.
     pub(crate) fn keep_stores(&self)
         ensures stores { (s : Store) → is_store s ≡ true → is_store (apply_all self.now s) ≡ true }
@@ -120,6 +139,46 @@ impl UnitChanges {
         let _left = self.left;
         changes_are_local();
     }
+}
+
+// How many of the tables the base lacks, all of which are new.
+fn count_lacking<V: TableView>(
+    tables: &[TableChanges],
+    base: &mut V,
+    alloc: Global,
+) -> Result<usize, V::Fault>
+    ensures count { IfOk result (λ n. IsTrue V.is_told → n ≡ lacking (map table_of tables.now) (V.store base.old)) }
+    ensures new { OnOk result (IsTrue V.is_told → AreNew (map table_of tables.now) (V.store base.old)) }
+    ensures fault { IfErr result (λ fault. IsTrue V.is_told → V.tells_damage fault ≡ false) }
+    ensures store { V.store base.new ≡ V.store base.old }
+{
+    let mut count: usize = 0;
+    for i in 0..tables.len() {
+        count += lacks(&tables[i], base, alloc)?;
+    }
+    Ok(count)
+}
+
+// One where the base lacks the table, which is new then, else 0.
+fn lacks<V: TableView>(
+    table: &TableChanges,
+    base: &mut V,
+    alloc: Global,
+) -> Result<usize, V::Fault>
+    ensures count { IfOk result (λ n. IsTrue V.is_told → n ≡ (if is_some (schema_of (V.store base.old) (string_bytes table.now.name)) then 0 else 1)) }
+    ensures one { IfOk result (λ n. n ≤ 1) }
+    ensures new { OnOk result (IsTrue V.is_told → IsNewIn (V.store base.old) (table_of table.now)) }
+    ensures fault { IfErr result (λ fault. IsTrue V.is_told → V.tells_damage fault ≡ false) }
+    ensures store { V.store base.new ≡ V.store base.old }
+{
+    let _columns = table.schema.columns();
+    if base.schema(alloc, table.name.as_str())?.is_some() {
+        return Ok(0);
+    }
+    if !table.is_new || !is_name(table.name.as_bytes()) {
+        return Err(no_memory::<V>());
+    }
+    Ok(1)
 }
 
 // How many bytes are left behind the changes.

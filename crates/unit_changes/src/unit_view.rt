@@ -107,3 +107,25 @@ pub fn row_under<V: TableView>(
         Err(AllocError) => Err(no_memory::<V>()),
     }
 }
+
+/// How many tables there are behind the unit's changes: the base's, and those that the unit created
+/// and the base lacks. Where the base lacks a table that the unit changed and did not create, the
+/// answer is want of memory.
+pub fn tables_under<V: TableView>(
+    base: &mut V,
+    changes: &UnitChanges,
+    alloc: Global,
+) -> Result<usize, V::Fault>
+    ensures count { IfOk result (λ n. IsTrue V.is_told → n ≡ length (apply_all changes.now (V.store base.old))) }
+    ensures good { IsTrue V.is_told → is_store (apply_all changes.now (V.store base.old)) ≡ true }
+    ensures fault { IfErr result (λ fault. IsTrue V.is_told → V.tells_damage fault ≡ false) }
+    ensures store { V.store base.new ≡ V.store base.old }
+{
+    changes.keep_stores();
+    let count = base.tables()?;
+    let more = changes.lacking(base, alloc)?;
+    match count.checked_add(more) {
+        Some(count) => Ok(count),
+        None => Err(no_memory::<V>()),
+    }
+}
