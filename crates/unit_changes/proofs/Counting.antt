@@ -1,7 +1,7 @@
 -- How many tables the changes make.
 use Rattle.std.proofs.Common.{◌≡◌, ◌<◌, ◌≤◌, ◌+◌, ℕ, zero, suc, List, [], ◌∷◌, Bool, true, false, true≢false, cond, refl, sym, ap, subst, ◌∙◌, get_or, length, map, Option, Some, None, Result, Ok, Err, IfOk, OnOk, Ordering, Less, Equal, Greater, arith, add-one, drop, drop-cons}
 use Rattle.std.specs.Prelude.{bytes_eq, is_some, option_map, unwrap_or, ◌||◌}
-use Rattle.std.specs.List.{AllByRecursion, list_all}
+use Rattle.std.specs.List.{list_all}
 use Rattle.std.specs.Map.{lookup}
 use Rattle.std.specs.Ordering.{match_ordering, nat_cmp}
 use Rattle.std.specs.Cmp.Lexicographic.{slice_cmp}
@@ -14,7 +14,7 @@ use Rattle.tables.specs.Tables.{Store, Table, apply, schema_of, table_of}
 use Rattle.tables.specs.View.{is_sound, is_store}
 use Rattle.core_steps.specs.Units.{apply_all}
 use Rattle.unit_changes.specs.declared.table_changes.TableChanges.{TableChanges}
-use Rattle.unit_changes.specs.UnitTable.{Fits, IsTold, UnitTable}
+use Rattle.unit_changes.specs.UnitTable.{Fits, UnitTable}
 use Rattle.unit_changes.specs.TableChanges.{table_of as told_by}
 use Rattle.unit_changes.specs.Index.{AreApart, AreNew, IsIndex, IsNewIn, IsToldOf, lacking, told_of}
 use Rattle.unit_changes.proofs.Storing.{Local, schemas_stay, stores_kept}
@@ -108,9 +108,10 @@ lacking_same laws name schema (t ∷ ts) s h =
 new_same : Local → (name : List ℕ) (schema : Schema) (ts : List UnitTable) (s : Store) → told_of name ts ≡ None → AreNew ts s → AreNew ts (apply (create name schema) s)
 new_same laws name schema [] s h all = tt
 new_same laws name schema (t ∷ ts) s h all =
-    let apart : bytes_eq t.name name ≡ false = turned name t.name (bytes_eq t.name name) refl (told_apart (bytes_eq name t.name) t (told_of name ts) h) in
-    (λ none. all.0 (sym (ap (λ (o : Option Schema). is_some o) (other_schema laws name t.name schema s apart)) ∙ none),
-     new_same laws name schema ts s (told_rest (bytes_eq name t.name) t (told_of name ts) h) all.1)
+    let apart : bytes_eq t.name name ≡ false = turned name t.name (bytes_eq t.name name) refl (told_apart (bytes_eq name t.name) t (told_of name ts) h) in (
+      λ none. all.0 (sym (ap (λ (o : Option Schema). is_some o) (other_schema laws name t.name schema s apart)) ∙ none),
+      new_same laws name schema ts s (told_rest (bytes_eq name t.name) t (told_of name ts) h) all.1,
+    )
 
 new_length : Local → (ts : List UnitTable) (s : Store) → AreApart ts → length (with_new ts s) ≡ lacking ts s + length s
 unfolding with_new
@@ -168,7 +169,7 @@ pub counted : Local → NamesAreWhatIsKnown → (cs : List Change) (ts : List Un
 counted laws names cs ts s sound h new good =
     sym (new_length laws ts s h.apart)
     ∙ (names (with_new ts s) (apply_all cs s) (new_store laws ts s h.apart new good) (stores_kept laws.kept cs s sound good)
-      (λ q. new_known laws ts s q ∙ by_told laws cs s q (schema_of s q) (told_of q ts) refl good (h.told q) (λ t is. new_at s ts q t is new))).1
+    (λ q. new_known laws ts s q ∙ by_told laws cs s q (schema_of s q) (told_of q ts) refl good (h.told q) (λ t is. new_at s ts q t is new))).1
 
 pub counted_result : {E : Type 0} (T A G : Type 0) (r : Result ℕ E) (n count total : ℕ) → IfOk r (λ k. T → k ≡ n) → OnOk r (T → A) → (A → G → n + count ≡ total) → IfOk r (λ k. T → G → k + count ≡ total)
 counted_result T A G (Ok k) n count total is new then = λ told good. ap (λ m. m + count) (is told) ∙ then (new told) good

@@ -1,5 +1,5 @@
 -- Lists of changes and of tables.
-use Rattle.std.proofs.Common.{◌≡◌, ◌≢◌, ◌<◌, ◌≤◌, ◌+◌, ℕ, zero, suc, List, [], ◌∷◌, ◌++◌, Bool, true, false, true≢false, cond, refl, sym, ap, subst, ◌∙◌, get_or, length, map, set, Option, Some, None, option_map, arith, add-one, drop, drop-cons}
+use Rattle.std.proofs.Common.{◌≡◌, ◌<◌, ◌≤◌, ◌+◌, ℕ, zero, suc, List, [], ◌∷◌, ◌++◌, Bool, true, false, true≢false, cond, refl, sym, ap, subst, ◌∙◌, get_or, length, map, set, Option, Some, None, option_map, arith, add-one, drop, drop-cons}
 use Rattle.std.specs.Prelude.{bytes_eq, find, not, position, ◌&&◌}
 use Rattle.std.specs.List.{list_all, position_or_len, slice_get}
 use Rattle.std.specs.String.{string_bytes}
@@ -91,7 +91,7 @@ set_step q name x t new xs n false is named at more =
     let far : 1 + n ≡ suc n = omega arith in
     ap (λ i. told_of q (map table_of (set (x ∷ xs) i new))) far
     ∙ swapped (bytes_eq q (string_bytes x.name)) (bytes_eq q name) (Some (table_of x)) (Some (table_of new)) (told_of q (map table_of xs)) (told_of q (map table_of (set xs n new)))
-      (more (sym (ap (slice_get (x ∷ xs)) far) ∙ at)) (λ alike. apart_by q name (string_bytes x.name) is alike)
+    (more (sym (ap (slice_get (x ∷ xs)) far) ∙ at)) (λ alike. apart_by q name (string_bytes x.name) is alike)
 
 set_first : (q name : List ℕ) (ts : List TableChanges) (t new : TableChanges) → (table_of new).name ≡ name → slice_get ts (position_or_len (is_named name) ts) ≡ Some t
     → told_of q (map table_of (set ts (position_or_len (is_named name) ts) new)) ≡ cond (bytes_eq q name) (Some (table_of new)) (told_of q (map table_of ts))
@@ -154,6 +154,7 @@ told_more q (x ∷ xs) t new =
     not_there : (b : Bool) (x : UnitTable) (o : Option UnitTable) → cond b (Some x) o ≡ None → b ≡ false
     not_there true x o h = absurd cc
     not_there false x o h = refl
+
     rest_none : (b : Bool) (x : UnitTable) (o : Option UnitTable) → b ≡ false → cond b (Some x) o ≡ None → o ≡ None
     rest_none true x o is h = absurd cc
     rest_none false x o is h = h
@@ -162,16 +163,19 @@ pub apart_more : (ts : List UnitTable) (t : UnitTable) → told_of t.name ts ≡
 apart_more [] t new h = (refl, tt)
 apart_more (x ∷ xs) t new h =
     let apart : bytes_eq t.name x.name ≡ false = not_there (bytes_eq t.name x.name) x (told_of t.name xs) new in
-    let other : bytes_eq x.name t.name ≡ false = turned (bytes_eq x.name t.name) refl apart in
-    (told_more x.name xs t (rest_none (bytes_eq t.name x.name) x (told_of t.name xs) apart new) ∙ ap (λ b. cond b (Some t) (told_of x.name xs)) other ∙ h.0,
-     apart_more xs t (rest_none (bytes_eq t.name x.name) x (told_of t.name xs) apart new) h.1)
+    let other : bytes_eq x.name t.name ≡ false = turned (bytes_eq x.name t.name) refl apart in (
+      told_more x.name xs t (rest_none (bytes_eq t.name x.name) x (told_of t.name xs) apart new) ∙ ap (λ b. cond b (Some t) (told_of x.name xs)) other ∙ h.0,
+      apart_more xs t (rest_none (bytes_eq t.name x.name) x (told_of t.name xs) apart new) h.1,
+    )
   where
     not_there : (b : Bool) (x : UnitTable) (o : Option UnitTable) → cond b (Some x) o ≡ None → b ≡ false
     not_there true x o h = absurd cc
     not_there false x o h = refl
+
     rest_none : (b : Bool) (x : UnitTable) (o : Option UnitTable) → b ≡ false → cond b (Some x) o ≡ None → o ≡ None
     rest_none true x o is h = absurd cc
     rest_none false x o is h = h
+
     turned : (b : Bool) → bytes_eq x.name t.name ≡ b → bytes_eq t.name x.name ≡ false → b ≡ false
     turned true is differ = absurd (true≢false (sym (itself x.name) ∙ ap (λ (n : List ℕ). bytes_eq n x.name) (same_bytes x.name t.name is) ∙ differ))
     turned false is differ = refl

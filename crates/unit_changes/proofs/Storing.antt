@@ -1,10 +1,10 @@
 -- What many changes make of a store.
-use Rattle.std.proofs.Common.{◌≡◌, ℕ, List, [], ◌∷◌, ◌++◌, Bool, true, false, cond, refl, sym, ap, ◌∙◌, Option, Some, None}
-use Rattle.std.specs.Prelude.{bytes_eq, option_map, unwrap_or, ◌&&◌}
+use Rattle.std.proofs.Common.{◌≡◌, ℕ, List, [], ◌∷◌, ◌++◌, Bool, true, false, cond, refl, sym, ap, ◌∙◌, Option, Some}
+use Rattle.std.specs.Prelude.{bytes_eq, option_map, unwrap_or}
 use Rattle.std.specs.List.{list_all}
-use Rattle.row_values.specs.Schema.{Schema, is_name, is_schema}
+use Rattle.row_values.specs.Schema.{Schema}
 use Rattle.tables.specs.Change.{Change, create, put, remove, is_change}
-use Rattle.tables.specs.Tables.{Creates, Puts, Removes, Store, Table, apply, put_row, remove_row, schema_of, table_of}
+use Rattle.tables.specs.Tables.{Store, apply, put_row, remove_row, schema_of, table_of}
 use Rattle.tables.specs.Laws.{Created, Put, Removed, StoresAreKept, TableCreated, TablePut, TableRemoved}
 use Rattle.tables.specs.View.{is_sound, is_store}
 use Rattle.core_steps.specs.Units.{apply_all}

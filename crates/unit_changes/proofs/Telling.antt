@@ -1,28 +1,27 @@
 -- What is told of a table goes on with each change.
-use Rattle.std.proofs.Common.{◌≡◌, ℕ, List, [], ◌∷◌, ◌++◌, Bool, true, false, true≢false, cond, refl, sym, ap, subst, ◌∙◌, Option, Some, None, Ordering, Less, Equal, Greater, map}
-use Rattle.std.specs.Prelude.{bytes_eq, option_map, unwrap_or, ◌&&◌}
+use Rattle.std.proofs.Common.{◌≡◌, ℕ, List, [], ◌∷◌, ◌++◌, Bool, true, false, true≢false, cond, refl, sym, ap, subst, ◌∙◌, Option, Some, None, Ordering, Less, Equal, Greater}
+use Rattle.std.specs.Prelude.{bytes_eq, ◌&&◌}
 use Rattle.std.specs.Ordering.{is_eq}
-use Rattle.std.specs.List.{AllByRecursion, flat_map, list_all}
+use Rattle.std.specs.List.{AllByRecursion, flat_map}
 use Rattle.std.specs.Cmp.{eq_by_cmp_equiv}
 use Rattle.std.specs.Cmp.Lexicographic.{nat_list_cmp_total}
 use Rattle.std.specs.List.Sorted.{IsStrictlySortedBy}
 use Rattle.drda_words.specs.Bytes.{AreBytes}
-use Rattle.row_values.specs.Schema.{Schema, is_name, is_schema}
+use Rattle.row_values.specs.Schema.{Schema}
 use Rattle.row_values.specs.Row.{is_row}
 use Rattle.row_values.specs.Key.{is_key, key_cmp, row_key}
 use Rattle.row_values.specs.Laws.{KeysAreOrdered}
 use Rattle.sort_forms.specs.SortForm.{KeysKeepOrder, sort_form}
-use Rattle.ordered_rows.specs.Slots.{by_bytes, by_key}
+use Rattle.ordered_rows.specs.Slots.{by_key}
 use Rattle.key_map.specs.Merging.{Changes, InOrder, MergedAt, MergedInOrder, Rows, changed, keyed, merged, over, row_at}
-use Rattle.tables.specs.Change.{Change, create, put, remove, is_change}
-use Rattle.tables.specs.Tables.{Store, Table, apply, is_row_at, row_of, schema_of, table_of}
+use Rattle.tables.specs.Change.{Change, create, put, remove}
+use Rattle.tables.specs.Tables.{Store, apply, is_row_at, row_of, schema_of, table_of}
 use Rattle.tables.specs.View.{is_sound, is_store}
 use Rattle.core_steps.specs.Units.{apply_all}
-use Rattle.unit_changes.specs.UnitTable.{Fits, IsKey, IsTold, SaysKeys, Tells, UnitTable, all_changed, name_of, row_in, said_by}
+use Rattle.unit_changes.specs.UnitTable.{Fits, IsKey, IsTold, SaysKeys, Tells, UnitTable, all_changed, name_of, said_by}
 use Rattle.unit_changes.specs.TableChanges.{Records}
-use Rattle.unit_changes.specs.Index.{AreOf, IsLeft, IsToldOf, fresh}
-use Rattle.unit_changes.proofs.Steps.{first, second}
-use Rattle.unit_changes.proofs.Storing.{Local, Tabled, all_then, schema_stays, schemas_stay, stores_kept}
+use Rattle.unit_changes.specs.Index.{AreOf, IsToldOf, fresh}
+use Rattle.unit_changes.proofs.Storing.{Local, Tabled, all_then, schema_stays, schemas_stay}
 use Rattle.unit_changes.proofs.Listing.{itself, same_bytes}
 
 pub record Laws : Type 0 where
@@ -94,7 +93,7 @@ step_put laws name row n key s schema rows true is named known says isKey up her
 step_put laws name row n key s schema rows false is named known says isKey up here =
     here ∙ sym ((laws.local.put name row s).found n key
     ∙ skip (bytes_eq n name && is_row_at (schema_of s name) row key) (Some row) (row_of s n key)
-      (put_test name row key n s schema named known ∙ ap (λ b. b && bytes_eq key (row_key schema row)) is))
+    (put_test name row key n s schema named known ∙ ap (λ b. b && bytes_eq key (row_key schema row)) is))
 
 remove_test : (name k key n : List ℕ) → name ≡ n → (bytes_eq n name && bytes_eq key k) ≡ bytes_eq key k
 remove_test name k key n named = ap (λ (m : List ℕ). bytes_eq n m && bytes_eq key k) named ∙ ap (λ b. b && bytes_eq key k) (itself n)
@@ -135,7 +134,7 @@ step_none laws (create name fresh) n key s schema named known says none here = (
 step_none laws (put name row) n key s schema named known says none here =
     (laws.local.put name row s).found n key
     ∙ skip (bytes_eq n name && is_row_at (schema_of s name) row key) (Some row) (row_of s n key)
-      (put_test name row key n s schema named known ∙ none_put laws name row n key s schema (is_row schema row) refl named known says none)
+    (put_test name row key n s schema named known ∙ none_put laws name row n key s schema (is_row schema row) refl named known says none)
     ∙ here
 step_none laws (remove name k) n key s schema named known says none here =
     (laws.local.removed name k s).found n key ∙ ap (λ o. cond (bytes_eq n name && bytes_eq key k) None o) here ∙ no_row (bytes_eq n name && bytes_eq key k)
@@ -157,7 +156,7 @@ rows_go laws [] n key s schema rows named known says isKey up here = here
 rows_go laws (c ∷ cs) n key s schema rows named known says isKey up here =
     ap (row_at (sort_form schema key)) (changed_then rows (said_by schema c) (flat_map (said_by schema) cs))
     ∙ rows_go laws cs n key (apply c s) schema (all_changed rows (said_by schema c)) named.1 (schema_stays laws.local same_bytes c s n schema known) says.1 isKey
-      (changed_order laws rows (said_by schema c) up) (step_row laws c n key s schema rows named.0 known says.0 isKey up here)
+    (changed_order laws rows (said_by schema c) up) (step_row laws c n key s schema rows named.0 known says.0 isKey up here)
 
 none_goes : Laws → (cs : List Change) (n key : List ℕ) (s : Store) (schema : Schema) → AreOf n cs → schema_of s n ≡ Some schema → AllByRecursion (SaysKeys schema) cs → is_key schema key ≡ false → row_of s n key ≡ None → row_of (apply_all cs s) n key ≡ None
 none_goes laws [] n key s schema named known says none here = here
@@ -169,17 +168,17 @@ pub told_on : Laws → (before new : List Change) (t u : UnitTable) → AreOf t.
 told_on laws before new t u named r h = record {
   sound = λ isNew. subst (λ (n : List ℕ). is_sound (create n u.schema) ≡ true) (sym r.name) (subst (λ (x : Schema). is_sound (create t.name x) ≡ true) (sym r.schema) (h.sound (sym r.is_new ∙ isNew)));
   tells = λ s good fits.
-    let was : Tells t (table_of s t.name) (table_of (apply_all before s) t.name) =
+      let was : Tells t (table_of s t.name) (table_of (apply_all before s) t.name) =
       h.tells s good (subst (λ (x : Schema). Fits t.is_new x (schema_of s t.name)) r.schema (subst (λ (b : Bool). Fits b u.schema (schema_of s t.name)) r.is_new (subst (λ (n : List ℕ). Fits u.is_new u.schema (schema_of s n)) r.name fits))) in
-    subst (λ (n : List ℕ). Tells u (table_of s n) (table_of (apply_all (before ++ new) s) n)) (sym r.name)
-    (subst (λ (x : Store). Tells u (table_of s t.name) (table_of x t.name)) (sym (all_then before new s)) (record {
-      schema = schemas_stay laws.local same_bytes new (apply_all before s) t.name t.schema was.schema ∙ ap (λ (x : Schema). Some x) (sym r.schema);
-      row = λ key rows isKey up here.
-        subst (λ (x : Schema). row_at (sort_form x key) rows ≡ row_of s t.name key → IsKey x key → row_at (sort_form x key) (merged rows u.said) ≡ row_of (apply_all new (apply_all before s)) t.name key) (sym r.schema)
-        (λ here isKey. ap (row_at (sort_form t.schema key)) (r.said rows up)
-          ∙ rows_go laws new t.name key (apply_all before s) t.schema (merged rows t.said) named was.schema r.bytes isKey (laws.order rows t.said up) (was.row key rows isKey up here)) here isKey;
-      none = λ key noKey here. none_goes laws new t.name key (apply_all before s) t.schema named was.schema r.bytes (ap (λ (x : Schema). is_key x key) (sym r.schema) ∙ noKey) (was.none key (ap (λ (x : Schema). is_key x key) (sym r.schema) ∙ noKey) here);
-    }));
+      subst (λ (n : List ℕ). Tells u (table_of s n) (table_of (apply_all (before ++ new) s) n)) (sym r.name)
+      (subst (λ (x : Store). Tells u (table_of s t.name) (table_of x t.name)) (sym (all_then before new s)) (record {
+        schema = schemas_stay laws.local same_bytes new (apply_all before s) t.name t.schema was.schema ∙ ap (λ (x : Schema). Some x) (sym r.schema);
+        row = λ key rows isKey up here.
+            subst (λ (x : Schema). row_at (sort_form x key) rows ≡ row_of s t.name key → IsKey x key → row_at (sort_form x key) (merged rows u.said) ≡ row_of (apply_all new (apply_all before s)) t.name key) (sym r.schema)
+            (λ here isKey. ap (row_at (sort_form t.schema key)) (r.said rows up)
+            ∙ rows_go laws new t.name key (apply_all before s) t.schema (merged rows t.said) named was.schema r.bytes isKey (laws.order rows t.said up) (was.row key rows isKey up here)) here isKey;
+        none = λ key noKey here. none_goes laws new t.name key (apply_all before s) t.schema named was.schema r.bytes (ap (λ (x : Schema). is_key x key) (sym r.schema) ∙ noKey) (was.none key (ap (λ (x : Schema). is_key x key) (sym r.schema) ∙ noKey) here);
+      }));
 }
 
 -- ---- one row

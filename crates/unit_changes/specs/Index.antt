@@ -1,5 +1,5 @@
 -- What a unit of work has made of all tables.
-use Rattle.std.specs.Prelude.{◌≡◌, ℕ, ◌-◌, ◌+◌, Bool, true, false, List, [], ◌∷◌, Option, Some, None, bytes_eq, is_some, length, if◌then◌else◌}
+use Rattle.std.specs.Prelude.{◌≡◌, ℕ, ◌+◌, Bool, true, false, List, [], ◌∷◌, Option, Some, None, bytes_eq, is_some, if◌then◌else◌}
 use Rattle.std.specs.List.{AllByRecursion}
 use Rattle.std.specs.String.{string_bytes}
 use Rattle.row_values.specs.Schema.{Schema}
@@ -47,7 +47,6 @@ pub record IsIndex (changes : List Change) (tables : List UnitTable) : Type 0 wh
   pub apart : AreApart tables
 
 -- ---- how many tables there are
-
 
 -- how many of the tables the store lacks
 abbrev pub lacking : List UnitTable → Store → ℕ

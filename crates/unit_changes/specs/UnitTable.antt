@@ -44,7 +44,7 @@ HaveKeys schema rows = AllByRecursion (IsKey schema) (keys_of rows)
 pub record Tells (t : UnitTable) (before after : Option Table) : Type 0 where
   pub schema : option_map (λ (x : Table). x.schema) after ≡ Some t.schema
   pub row : (key : List ℕ) (rows : Rows) → IsKey t.schema key → InOrder rows → row_at (sort_form t.schema key) rows ≡ row_in key before
-    → row_at (sort_form t.schema key) (merged rows t.said) ≡ row_in key after
+      → row_at (sort_form t.schema key) (merged rows t.said) ≡ row_in key after
   pub none : (key : List ℕ) → is_key t.schema key ≡ false → row_in key before ≡ None → row_in key after ≡ None
 
 -- the table has the schema that the unit saw, or is not there and the unit creates it

@@ -160,11 +160,7 @@ fn count_lacking<V: TableView>(
 }
 
 // One where the base lacks the table, which is new then, else 0.
-fn lacks<V: TableView>(
-    table: &TableChanges,
-    base: &mut V,
-    alloc: Global,
-) -> Result<usize, V::Fault>
+fn lacks<V: TableView>(table: &TableChanges, base: &mut V, alloc: Global) -> Result<usize, V::Fault>
     ensures count { IfOk result (λ n. IsTrue V.is_told → n ≡ (if is_some (schema_of (V.store base.old) (string_bytes table.now.name)) then 0 else 1)) }
     ensures one { IfOk result (λ n. n ≤ 1) }
     ensures new { OnOk result (IsTrue V.is_told → IsNewIn (V.store base.old) (table_of table.now)) }

@@ -46,7 +46,6 @@ fn row(alloc: Global, schema: &Schema, k: i64, n: i64) -> Result<Vec<u8>, Fail> 
     Ok(encode_row(alloc, schema, &values)?)
 }
 
-
 /// The change that the step is.
 pub(crate) fn change(alloc: Global, step: Step) -> Result<Change, Fail> {
     let schema = schema(alloc)?;

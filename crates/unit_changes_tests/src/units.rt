@@ -33,11 +33,7 @@ const STEPS: [Step; 12] = [
 
 const NAMES: [&str; 4] = ["A", "B", "C", "D"];
 
-fn all_same(
-    alloc: Global,
-    unit: &UnitChanges,
-    steps: &[Step],
-) -> Result<bool, Fail> {
+fn all_same(alloc: Global, unit: &UnitChanges, steps: &[Step]) -> Result<bool, Fail> {
     let mut base = plain(alloc, &BASE)?;
     let mut other = plain(alloc, &BASE)?;
     for step in steps {

@@ -1,5 +1,5 @@
 -- One change more is of the table.
-use Rattle.std.proofs.Common.{◌≡◌, map, arith, rules}
+use Rattle.std.proofs.Common.{◌≡◌, arith, rules}
 use Rattle.tables.specs.ChangeView.{change_of}
 use Rattle.unit_changes.specs.UnitTable.{name_of}
 use Rattle.unit_changes.proofs.Listing.{good_next, of_end, of_next}

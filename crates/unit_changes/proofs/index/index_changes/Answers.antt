@@ -7,7 +7,6 @@ use Rattle.tables.proofs.PlainTables.{on_err, on_ok}
 use Rattle.unit_changes.specs.UnitTable.{UnitTable}
 use Rattle.unit_changes.specs.TableChanges.{Records, table_of}
 use Rattle.unit_changes.specs.Index.{is_named}
-use Rattle.unit_changes.proofs.Storing.{Local, Tabled}
 use Rattle.unit_changes.proofs.Telling.{Laws}
 use Rattle.unit_changes.proofs.Indexing.{index_more, index_new}
 use Rattle.unit_changes.proofs.Listing.{first_of, pushed, tables_kept}
@@ -18,13 +17,16 @@ returns-in-Some-clause-recorded c =
     let laws : Laws = record {
       local = record { created = c.changes_are_local.ensures.created; put = c.changes_are_local.ensures.put; removed = c.changes_are_local.ensures.removed; kept = c.changes_are_local.ensures.kept };
       tabled = record { created = c.changes_make_tables.ensures.created; put = c.changes_make_tables.ensures.put; removed = c.changes_make_tables.ensures.removed };
-      at = c.changes_win.ensures.at; order = c.changes_win.ensures.order; forms = c.forms_keep_order.ensures.keys; keys = c.keys_are_ordered.ensures.total;
+      at = c.changes_win.ensures.at;
+      order = c.changes_win.ensures.order;
+      forms = c.forms_keep_order.ensures.keys;
+      keys = c.keys_are_ordered.ensures.total;
     } in
     let is : position (is_named c.table_name-name.result.now) c.args.tables.now.items ≡ Some c.in-Some.i = ap (position (is_named c.table_name-name.result.now)) (sym c.as_slice.ensures.value) ∙ sym c.place_of.ensures.place ∙ c.in-Some.is in
     let all : c.are_of.result ≡ true = search rules in
     on_ok c.record.result (λ r before good h.
-      index_more laws before (map change_of c.args.changes.now) c.table_name-name.result.now c.args.tables.now.items c.in-Some.i c.index_mut.result.now c.record.new.self is c.index_mut.ensures.value
-      (c.are_of.ensures.named all) r h) c.record.ensures.recorded
+    index_more laws before (map change_of c.args.changes.now) c.table_name-name.result.now c.args.tables.now.items c.in-Some.i c.index_mut.result.now c.record.new.self is c.index_mut.ensures.value
+    (c.are_of.ensures.named all) r h) c.record.ensures.recorded
 
 pub returns-in-Some-clause-kept : goal.returns-in-Some-clause-kept
 returns-in-Some-clause-kept c =
@@ -36,7 +38,10 @@ returns-in_ok-push-in-None-clause-recorded c = λ before good h.
     let laws : Laws = record {
       local = record { created = c.changes_are_local.ensures.created; put = c.changes_are_local.ensures.put; removed = c.changes_are_local.ensures.removed; kept = c.changes_are_local.ensures.kept };
       tabled = record { created = c.changes_make_tables.ensures.created; put = c.changes_make_tables.ensures.put; removed = c.changes_make_tables.ensures.removed };
-      at = c.changes_win.ensures.at; order = c.changes_win.ensures.order; forms = c.forms_keep_order.ensures.keys; keys = c.keys_are_ordered.ensures.total;
+      at = c.changes_win.ensures.at;
+      order = c.changes_win.ensures.order;
+      forms = c.forms_keep_order.ensures.keys;
+      keys = c.keys_are_ordered.ensures.total;
     } in
     let name : List ℕ = c.table_name-name.result.now in
     let is : position (is_named name) c.args.tables.now.items ≡ None = ap (position (is_named name)) (sym c.as_slice.ensures.value) ∙ sym c.place_of.ensures.place ∙ c.in-None.is in

@@ -1,5 +1,5 @@
 -- A row has bytes, so it is put and not removed.
-use Rattle.std.proofs.Common.{Some, [], ◌∷◌, ◌≡◌, true, refl, sym, ap, ◌∙◌, cond, rules}
+use Rattle.std.proofs.Common.{◌≡◌, true, rules}
 use Rattle.row_values.specs.Row.{is_row}
 use Rattle.unit_changes.proofs.Steps.{put_said}
 use Rattle.unit_changes.proofs.key_change.put_of.Goals as goal

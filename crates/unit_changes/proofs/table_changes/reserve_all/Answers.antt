@@ -9,7 +9,7 @@ pub loop-i-preserved : goal.loop-i-preserved
 loop-i-preserved c = record {
   same = c.reserve.ensures.changes ∙ c.loop-i.invariant.same;
   room = λ slots more rest. c.loop-i.invariant.room slots (λ q h. more q (c.reserve.ensures.others q h))
-    (room_next slots c.args.steps.now c.loop-i.i c.index-steps-i.result c.index-steps-i.is (omega arith)
+      (room_next slots c.args.steps.now c.loop-i.i c.index-steps-i.result c.index-steps-i.is (omega arith)
       (more c.index-steps-i.result.form.items (subst (λ (q : List ℕ). HasRoom q c.reserve.new.self) (c.as_slice.ensures.value ∙ ap (λ (k : KeyChange). k.form.items) (sym c.index-steps-i.is)) c.in_ok-reserve.ensures.room)) rest);
 }
 

@@ -1,8 +1,8 @@
 -- Each change keeps a store, and the schemas in it.
-use Rattle.std.proofs.Common.{◌≡◌, ap, sym, subst, ◌∙◌, true, List, map}
+use Rattle.std.proofs.Common.{ap, sym, ◌∙◌}
 use Rattle.std.proofs.lemmas.Slice.Eq.{bytes_eq-Decides}
 use Rattle.std.specs.List.{list_all}
-use Rattle.tables.specs.Change.{Change, is_change}
+use Rattle.tables.specs.Change.{is_change}
 use Rattle.unit_changes.proofs.Storing.{schemas_stay, stores_kept}
 use Rattle.unit_changes.proofs.unit.UnitChanges.keep_stores.Goals as goal
 

@@ -17,8 +17,8 @@ returns-clause-count g c =
     let laws : Local = record { created = c.changes_are_local.ensures.created; put = c.changes_are_local.ensures.put; removed = c.changes_are_local.ensures.removed; kept = c.changes_are_local.ensures.kept } in
     let s = g.V.TableView.store c.args.base.now in
     let index : IsIndex c.args.self.now (map table_of c.as_slice.result.now) =
-      subst (λ (ts : List TableChanges). IsIndex c.args.self.now (map table_of ts)) (sym c.as_slice.ensures.value)
-      (subst (λ (cs : List Change). IsIndex cs (map table_of c.self.inside.tables.items)) c.self.view_is c.self.invariant.index) in
+    subst (λ (ts : List TableChanges). IsIndex c.args.self.now (map table_of ts)) (sym c.as_slice.ensures.value)
+    (subst (λ (cs : List Change). IsIndex cs (map table_of c.self.inside.tables.items)) c.self.view_is c.self.invariant.index) in
     let good : list_all is_change c.args.self.now ≡ true = ap (list_all is_change) (sym c.self.view_is) ∙ c.self.invariant.good in
     counted_result (IsTrue g.V.TableView.is_told) (AreNew (map table_of c.as_slice.result.now) s) (is_store s ≡ true) c.count_lacking.result (lacking (map table_of c.as_slice.result.now) s) (length s) (length (apply_all c.args.self.now s))
     c.count_lacking.ensures.count c.count_lacking.ensures.new

@@ -1,9 +1,8 @@
 -- What the index says of a table is told.
-use Rattle.std.proofs.Common.{◌≡◌, List, ℕ, None, Option, Some, ap, subst, sym, ◌∙◌, map}
+use Rattle.std.proofs.Common.{◌≡◌, List, None, Option, Some, ap, subst, sym, ◌∙◌, map}
 use Rattle.std.specs.Prelude.{position}
 use Rattle.tables.specs.Change.{Change}
 use Rattle.tables.specs.ChangeView.{change_of}
-use Rattle.unit_changes.specs.declared.table_changes.TableChanges.{TableChanges}
 use Rattle.unit_changes.specs.UnitTable.{UnitTable}
 use Rattle.unit_changes.specs.TableChanges.{table_of}
 use Rattle.unit_changes.specs.Index.{IsToldOf, is_named}
