@@ -1,0 +1,6 @@
+mod Steps
+mod Storing
+mod Listing
+mod Telling
+mod Indexing
+mod Counting

@@ -1,0 +1,5 @@
+pub mod UnitTable
+pub mod KeyChanges
+pub mod TableChanges
+pub mod Index
+pub mod Unit

@@ -1,0 +1,7 @@
+//! Tests of unit_changes.
+#![tactic(auto)]
+
+#[cfg(test)]
+mod fixtures;
+#[cfg(test)]
+mod units;
