@@ -9,4 +9,4 @@ returns c =
     let key = c.into_section-name.result.0 in
     let section = c.into_section-name.result.1 in
     added_by c.args.sections.now.entries c.insert.new.self.entries key section c.args.preparation.name _ c.into_section-name.ensures.name c.into_section-name.ensures.section c.requires.absent
-        (λ none. c.in-Ok.ensures.entries ∙ insert_entry-new (λ x y. bytes_eq x.items y.items) c.args.sections.now key section none)
+    (λ none. c.in-Ok.ensures.entries ∙ insert_entry-new (λ x y. bytes_eq x.items y.items) c.args.sections.now key section none)

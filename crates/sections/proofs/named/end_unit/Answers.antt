@@ -21,7 +21,7 @@ loop-i-preserved c =
           ∙ changed_next change c.loop-i.i es (by_name c.args.sections.now.entries) c.index_mut-section.result.now c.loop-i.invariant.list c.index_mut-section.ensures.value
           ∙ ap (λ n. changed_to change n (by_name c.args.sections.now.entries)) next;
       len = index_map_len-with_value_at c.loop-i.sections c.loop-i.i c.end_unit.new.self ∙ c.loop-i.invariant.len;
-      room = c.loop-i.invariant.room
+      room = c.loop-i.invariant.room;
     }
 
 pub returns-clause-list : goal.returns-clause-list

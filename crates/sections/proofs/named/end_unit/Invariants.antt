@@ -10,5 +10,5 @@ abbrev pub invariant-loop-i : goal.invariant-loop-i
 invariant-loop-i l = record {
   list : by_name l.sections.entries ≡ changed_to (section_ended l.keeps_held) l.i (by_name l.initial.sections.entries);
   len : length l.sections.entries ≡ length l.initial.sections.entries;
-  room : spare l.initial.sections ≤ spare l.sections
+  room : spare l.initial.sections ≤ spare l.sections;
 }
