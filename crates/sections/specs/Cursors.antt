@@ -1,6 +1,6 @@
 -- What each call on sections and cursors does (DRDA V5 volume 3: PRPSQLSTT, OPNQRY, CLSQRY, QRYNOPRM, QRYPOPRM).
 use Rattle.std.specs.Prelude.{◌≡◌, ℕ, ◌+◌, Bool, true, ◌==◌, if◌then◌else◌, List, [], ◌∷◌, ◌++◌, Option, None, Some, Result, Ok, Err, IsSome, is_some, bytes_eq}
-use Rattle.std.specs.Option.{option_and_then, option_map, option_map_or}
+use Rattle.std.specs.Option.{option_and_then, option_map_or}
 use Rattle.std.specs.Map.{lookup}
 use Rattle.tables.specs.RowList.{RowList}
 use Rattle.sections.specs.declared.fault.OpenFault.{OpenFault}

@@ -9,7 +9,7 @@ use std::marker::Model;
 use tables::RowList;
 
 /// The rows of a query as they were at its opening, and how many of them were sent.
-#[derive(Debug, Drop)]
+#[derive(Drop)]
 pub struct Cursor {
     rows: RowList,
     place: usize,
@@ -30,7 +30,7 @@ impl Model for Cursor {
 }
 
 /// The rows that a cursor sends next: so many of its rows from one on, counted from 0.
-#[derive(Clone, Copy, Debug)]
+#[derive(Clone, Copy)]
 pub struct Block<'a> {
     /// The rows of the cursor, with what describes them.
     pub rows: &'a RowList,

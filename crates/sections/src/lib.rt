@@ -5,11 +5,13 @@
 
 mod cursor;
 mod fault;
+mod laws;
 mod named;
 mod section;
 mod sections;
 
 pub use cursor::{Block, Cursor};
 pub use fault::{NotPrepared, OpenFault, QueryNotOpen};
+pub use laws::{blocks_send_all_rows, calls_are_local, preparing_keeps_cursors, units_end_cursors};
 pub use section::{Preparation, Section};
 pub use sections::Sections;

@@ -11,7 +11,7 @@ use std::marker::Model;
 use tables::RowList;
 
 /// A statement that was prepared, and its cursor where one is open.
-#[derive(Debug, Drop)]
+#[derive(Drop)]
 pub struct Section {
     text: String,
     is_held: bool,
@@ -92,7 +92,7 @@ impl Section {
 }
 
 /// A statement with the name of the section in which it is to be prepared.
-#[derive(Debug, Drop)]
+#[derive(Drop)]
 pub struct Preparation {
     name: Vec<u8>,
     text: String,
