@@ -1,6 +1,6 @@
 //! Answers: the description of their rows, and the rows.
 
-ghost use Rattle.std.specs.Prelude.{◌≡◌, ◌≤◌, ◌++◌, ◌∷◌, ℕ, List, OnErr, OnOk, drop, is_some, length, map, nat_lt, take, true, vec_len};
+ghost use Rattle.std.specs.Prelude.{◌≡◌, ◌<◌, ◌≤◌, ◌+◌, ◌++◌, ◌∷◌, ℕ, List, OnErr, OnOk, drop, is_some, length, map, nat_lt, take, true, vec_capacity, vec_len};
 ghost use Rattle.std.specs.List.{list_all, slice_get};
 ghost use Rattle.row_values.specs.Value.{Value};
 ghost use Rattle.row_values.specs.Column.{column_of, fits};
@@ -30,12 +30,15 @@ fn all_below(count: usize, places: &[u8]) -> bool
 }
 
 /// Appends the description of rows of these columns of a schema, given by their places from 0 (the
-/// data of a QRYDSC). Where memory is refused, nothing is appended.
+/// data of a QRYDSC). Where memory is refused nothing is appended, and that does not happen where the
+/// list has room for the description.
 pub fn write_descriptor(out: &mut Vec<u8>, schema: &Schema, places: &[u8]) -> Result<(), AllocError>
     requires few { length places.now ≤ 84 }
     requires within { list_all (λ place. is_some (slice_get schema.now.columns place)) places.now ≡ true }
     ensures ok { OnOk result (out.new.items ≡ out.old.items ++ answer_descriptor (picked schema.now.columns places.now)) }
     ensures err { OnErr result (out.new.items ≡ out.old.items) }
+    ensures full { OnErr result (vec_capacity out.old < vec_len out.old + length (answer_descriptor (picked schema.now.columns places.now))) }
+    ensures capacity { vec_capacity out.old ≤ vec_capacity out.new }
 {
     let start = out.len();
     let columns = schema.columns();
@@ -51,6 +54,8 @@ fn push_descriptor(out: &mut Vec<u8>, columns: &[Column], places: &[u8]) -> Resu
     requires within { list_all (λ place. nat_lt place (length columns.now)) places.now ≡ true }
     ensures ok { OnOk result (out.new.items ≡ out.old.items ++ answer_descriptor (picked (map column_of columns.now) places.now)) }
     ensures kept { take (vec_len out.old) out.new.items ≡ out.old.items }
+    ensures full { OnErr result (vec_capacity out.old < vec_len out.old + length (answer_descriptor (picked (map column_of columns.now) places.now))) }
+    ensures capacity { vec_capacity out.old ≤ vec_capacity out.new }
 {
     out.extend_from_slice(&[(3 + 3 * places.len()) as u8, 0x76, 0xD0])?;
     for i in 0..places.len() {
@@ -102,11 +107,14 @@ fn length_for(kind: Kind, limit: u16) -> u16
 }
 
 /// Appends a row of an answer: of the row's columns those at these places, from 0 (a row in the data
-/// of a QRYDTA). Their bytes are copied as they lie. Where memory is refused, nothing is appended.
+/// of a QRYDTA). Their bytes are copied as they lie. Where memory is refused nothing is appended, and
+/// that does not happen where the list has room for the row.
 pub fn write_row(out: &mut Vec<u8>, row: &RowRef<'_>, places: &[u8]) -> Result<(), AllocError>
     requires { list_all (λ place. is_some (slice_get (schema_in row.now).columns place)) places.now ≡ true }
     ensures ok { OnOk result (out.new.items ≡ out.old.items ++ answer_row (picked (schema_in row.now).columns places.now) (picked (values_in (schema_in row.now) (row_in row.now)) places.now)) }
     ensures err { OnErr result (out.new.items ≡ out.old.items) }
+    ensures full { OnErr result (vec_capacity out.old < vec_len out.old + length (answer_row (picked (schema_in row.now).columns places.now) (picked (values_in (schema_in row.now) (row_in row.now)) places.now))) }
+    ensures capacity { vec_capacity out.old ≤ vec_capacity out.new }
 {
     let start = out.len();
     let columns = row.schema().columns();
@@ -126,6 +134,8 @@ fn push_row(
     requires within { list_all (λ place. nat_lt place (length columns.now)) places.now ≡ true }
     ensures ok { OnOk result ((values : List Value) → all_fit (map column_of columns.now) values ≡ true → row.now ≡ row_bytes (map column_of columns.now) values → out.new.items ≡ out.old.items ++ answer_row (picked (map column_of columns.now) places.now) (picked values places.now)) }
     ensures kept { take (vec_len out.old) out.new.items ≡ out.old.items }
+    ensures full { OnErr result ((values : List Value) → all_fit (map column_of columns.now) values ≡ true → row.now ≡ row_bytes (map column_of columns.now) values → vec_capacity out.old < vec_len out.old + length (answer_row (picked (map column_of columns.now) places.now) (picked values places.now))) }
+    ensures capacity { vec_capacity out.old ≤ vec_capacity out.new }
 {
     out.extend_from_slice(&[0xFF, PRESENT])?;
     let mut next = 0;
