@@ -1,6 +1,6 @@
 //! Rows of an answer, and how many a block takes.
 
-ghost use Rattle.std.specs.Prelude.{◌≡◌, ◌⊎◌, ◌<◌, ◌≤◌, ◌+◌, ◌++◌, OnOk, OnErr, IfSome, is_some, length, take, true, vec_len};
+ghost use Rattle.std.specs.Prelude.{◌≡◌, ◌⊎◌, ◌<◌, ◌≤◌, ◌+◌, ◌++◌, OnOk, OnErr, IfSome, is_some, length, take, true, vec_capacity, vec_len};
 ghost use Rattle.std.specs.List.{list_all, slice_get};
 ghost use Rattle.ddm_objects.specs.Writing.{spelled};
 ghost use Rattle.fdoca.specs.Writing.{answer_row, sent_value};
@@ -101,19 +101,25 @@ pub fn block(rows: &RowList, from: usize, size: usize) -> usize
     rows.len().saturating_sub(from)
 }
 
+#[tactic(auto, using(crate::proofs::Sizes::spelled_size))]
 fn push_descriptor(out: &mut Vec<u8>, rows: &RowList) -> Result<(), AllocError>
     ensures ok { OnOk result (out.new.items ≡ out.old.items ++ qrydsc rows.now) }
     ensures kept { take (vec_len out.old) out.new.items ≡ out.old.items }
+    ensures full { OnErr result (vec_capacity out.old < vec_len out.old + length (qrydsc rows.now)) }
+    ensures capacity { vec_capacity out.old ≤ vec_capacity out.new }
 {
     let container = open(out, code_point::QRYDSC)?;
     write_descriptor(out, rows.schema(), rows.selected())?;
     close(out, container)
 }
 
-/// Appends QRYDSC, the description of the rows. Where memory is refused, nothing is appended.
+/// Appends QRYDSC, the description of the rows. Where memory is refused nothing is appended, and that
+/// does not happen where the list has room for the description.
 pub fn qrydsc(out: &mut Vec<u8>, rows: &RowList) -> Result<(), AllocError>
     ensures ok { OnOk result (out.new.items ≡ out.old.items ++ qrydsc rows.now) }
     ensures err { OnErr result (out.new.items ≡ out.old.items) }
+    ensures full { OnErr result (vec_capacity out.old < vec_len out.old + length (qrydsc rows.now)) }
+    ensures capacity { vec_capacity out.old ≤ vec_capacity out.new }
 {
     let start = out.len();
     let pushed = push_descriptor(out, rows);
@@ -127,6 +133,8 @@ fn push_rows(out: &mut Vec<u8>, rows: &RowList, from: usize, count: usize) -> Re
     requires { from + count ≤ length rows.now.rows }
     ensures ok { OnOk result (out.new.items ≡ out.old.items ++ rows_text rows.now from count) }
     ensures kept { take (vec_len out.old) out.new.items ≡ out.old.items }
+    ensures full { OnErr result (vec_capacity out.old < vec_len out.old + length (rows_text rows.now from count)) }
+    ensures capacity { vec_capacity out.old ≤ vec_capacity out.new }
 {
     let end = rows.len().min(from.saturating_add(count));
     for i in from..end {
@@ -135,6 +143,7 @@ fn push_rows(out: &mut Vec<u8>, rows: &RowList, from: usize, count: usize) -> Re
     Ok(())
 }
 
+#[tactic(auto, using(crate::proofs::Sizes::spelled_size))]
 fn push_qrydta(
     out: &mut Vec<u8>,
     rows: &RowList,
@@ -144,13 +153,16 @@ fn push_qrydta(
     requires { from + count ≤ length rows.now.rows }
     ensures ok { OnOk result (out.new.items ≡ out.old.items ++ qrydta rows.now from count) }
     ensures kept { take (vec_len out.old) out.new.items ≡ out.old.items }
+    ensures full { OnErr result (vec_capacity out.old < vec_len out.old + length (qrydta rows.now from count)) }
+    ensures capacity { vec_capacity out.old ≤ vec_capacity out.new }
 {
     let container = open(out, code_point::QRYDTA)?;
     push_rows(out, rows, from, count)?;
     close(out, container)
 }
 
-/// Appends QRYDTA with so many rows from a place on. Where memory is refused, nothing is appended.
+/// Appends QRYDTA with so many rows from a place on. Where memory is refused nothing is appended, and
+/// that does not happen where the list has room for them.
 pub fn qrydta(
     out: &mut Vec<u8>,
     rows: &RowList,
@@ -160,6 +172,8 @@ pub fn qrydta(
     requires { from + count ≤ length rows.now.rows }
     ensures ok { OnOk result (out.new.items ≡ out.old.items ++ qrydta rows.now from count) }
     ensures err { OnErr result (out.new.items ≡ out.old.items) }
+    ensures full { OnErr result (vec_capacity out.old < vec_len out.old + length (qrydta rows.now from count)) }
+    ensures capacity { vec_capacity out.old ≤ vec_capacity out.new }
 {
     let start = out.len();
     let pushed = push_qrydta(out, rows, from, count);
