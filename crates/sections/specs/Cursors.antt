@@ -35,7 +35,7 @@ after_prepare p s = record s { sections = with_statement p s.sections; reserved 
 abbrev pub after_reserved : Sections → Sections
 after_reserved s = option_map_or (λ p. after_prepare p s) s.reserved s
 
--- OPNQRY: why no cursor is opened in the section of this name
+-- OPNQRY: why no cursor is opened in the section of this name; an instance number has eight bytes
 abbrev pub fault_in : Option Section → ℕ → Option OpenFault
 fault_in None openings = Some fault.NotPrepared
 fault_in (Some section) openings =

@@ -5,3 +5,4 @@ pub mod Units
 pub mod ByName
 pub mod Fetching
 pub mod Laws
+pub mod Room

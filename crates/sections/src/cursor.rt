@@ -30,7 +30,7 @@ impl Model for Cursor {
 }
 
 /// The rows that a cursor sends next: so many of its rows from one on, counted from 0.
-#[derive(Clone, Copy)]
+#[derive(Clone, Copy, Debug)]
 pub struct Block<'a> {
     /// The rows of the cursor, with what describes them.
     pub rows: &'a RowList,
@@ -47,7 +47,7 @@ pub struct Block<'a> {
 }
 
 impl Cursor {
-    pub fn new(rows: RowList, instance: u64, is_held: bool, block_size: u32) -> Cursor
+    pub(crate) fn new(rows: RowList, instance: u64, is_held: bool, block_size: u32) -> Cursor
         ensures { result ≡ record { rows = rows; place = 0; instance = instance; is_held = is_held; block_size = block_size } }
     {
         Cursor {
@@ -63,7 +63,7 @@ impl Cursor {
 impl Cursor {
     ghost use Rattle.sections.specs.Cursors.{is_meant};
 
-    pub fn is_meant(&self, instance: Option<u64>) -> bool
+    pub(crate) fn is_meant(&self, instance: Option<u64>) -> bool
         ensures { result ≡ is_meant instance self.now }
     {
         match instance {
@@ -73,7 +73,7 @@ impl Cursor {
     }
 
     // The cursor, if it stays open at the end of a unit.
-    pub fn ended(self, keeps_held: bool) -> Option<Cursor>
+    pub(crate) fn ended(self, keeps_held: bool) -> Option<Cursor>
         ensures { result ≡ cursor_ended keeps_held self }
     {
         if keeps_held && self.is_held {
@@ -87,7 +87,7 @@ impl Cursor {
 impl Cursor {
     ghost use Rattle.sections.specs.Blocks.{advanced, IsBlockOf};
 
-    pub fn block(&self, size: Option<u32>) -> Block<'_>
+    pub(crate) fn block(&self, size: Option<u32>) -> Block<'_>
         ensures { IsBlockOf self.now size result }
     {
         let size = size.unwrap_or(self.block_size);
@@ -104,7 +104,7 @@ impl Cursor {
     }
 
     // The cursor behind so many more rows, if any remains.
-    pub fn advanced(self, count: usize, size: u32) -> Option<Cursor>
+    pub(crate) fn advanced(self, count: usize, size: u32) -> Option<Cursor>
         ensures { result ≡ advanced count size self }
     {
         let end = self.place.saturating_add(count);

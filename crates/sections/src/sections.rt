@@ -51,8 +51,9 @@ impl Sections {
         }
     }
 
-    /// Prepares a statement in the section of this name, in place of the one that was there. A cursor
-    /// that is open there stays as it is. Where memory is refused, nothing changes.
+    /// Prepares a statement in the section of this name, in place of the one that was there, and gives
+    /// up one for which room was made. A cursor that is open there stays as it is. Where memory is
+    /// refused, nothing changes.
     pub fn prepare(&mut self, name: &[u8], text: &str, is_held: bool) -> Result<(), AllocError>
         ensures ok { OnOk result (self.new ≡ after_prepare (record { name = name.now; text = text.now; is_held = is_held }) self.old) }
         ensures err { OnErr result (self.new ≡ self.old) }
@@ -62,8 +63,9 @@ impl Sections {
         Ok(())
     }
 
-    /// Makes room for a statement in the section of this name, so that `prepare_reserved` takes no
-    /// memory. Nothing is prepared yet. Where memory is refused, nothing changes.
+    /// Makes room for a statement in the section of this name, in place of one for which room was made
+    /// before, so that `prepare_reserved` takes no memory. Nothing is prepared yet. Where memory is
+    /// refused, nothing changes.
     pub fn reserve_prepare(
         &mut self,
         name: &[u8],
