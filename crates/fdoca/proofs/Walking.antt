@@ -130,6 +130,18 @@ sent_room columns values places i place column value sent p q r sent_is =
     let sum = length-append (sent_value column.is_nullable column.kind value) rest in
     omega (arith, whole, same, sum)
 
+-- the next value is counted
+pub counted_step : (columns : List Column) (values : List Value) (places : List ℕ) (i place : ℕ) (column : Column) (value : Value) (count : ℕ) (sent : List ℕ) (whole : ℕ)
+    → slice_get places i ≡ Some place → slice_get columns place ≡ Some column → slice_get values place ≡ Some value → sent ≡ sent_value column.is_nullable column.kind value
+    → count + length (sent_values (picked columns (drop i places)) (picked values (drop i places))) ≡ whole
+    → count + length sent + length (sent_values (picked columns (drop (i + 1) places)) (picked values (drop (i + 1) places))) ≡ whole
+counted_step columns values places i place column value count sent whole p q r sent_is h =
+    let rest = sent_values (picked columns (drop (i + 1) places)) (picked values (drop (i + 1) places)) in
+    let next = ap length (both (picked_at columns places i place column p q) (picked_at values places i place value p r)) in
+    let same = ap length sent_is in
+    let sum = length-append (sent_value column.is_nullable column.kind value) rest in
+    omega (arith, next, same, sum, h)
+
 pub described_room : (columns : List Column) (places : List ℕ) (i place : ℕ) (column : Column) (field : List ℕ) → slice_get places i ≡ Some place → slice_get columns place ≡ Some column
     → field ≡ field_bytes column → length field ≤ length (flat_map field_bytes (picked columns (drop i places)) ++ answer_closing)
 described_room columns places i place column field p q field_is =

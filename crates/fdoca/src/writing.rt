@@ -152,7 +152,7 @@ fn push_row(
 }
 
 /// The row's bytes from the value at a place on, where the rest begins with the value at another.
-fn from_place<'a>(
+pub(crate) fn from_place<'a>(
     columns: &[Column],
     row: &'a [u8],
     next: usize,
@@ -160,7 +160,8 @@ fn from_place<'a>(
     place: usize,
 ) -> &'a [u8]
     requires within { place ≤ length columns.now }
-    ensures { (values : List Value) → all_fit (map column_of columns.now) values ≡ true → row.now ≡ row_bytes (map column_of columns.now) values → rest.now ≡ row_bytes (drop next (map column_of columns.now)) (drop next values) → result.now ≡ row_bytes (drop place (map column_of columns.now)) (drop place values) }
+    ensures there { (values : List Value) → all_fit (map column_of columns.now) values ≡ true → row.now ≡ row_bytes (map column_of columns.now) values → rest.now ≡ row_bytes (drop next (map column_of columns.now)) (drop next values) → result.now ≡ row_bytes (drop place (map column_of columns.now)) (drop place values) }
+    ensures shorter { length rest.now ≤ length row.now → length result.now ≤ length row.now }
 {
     if place < next {
         skip_values(columns, 0, place, row)
@@ -174,7 +175,8 @@ fn from_place<'a>(
 fn skip_values<'a>(columns: &[Column], from: usize, to: usize, bytes: &'a [u8]) -> &'a [u8]
     requires before { from ≤ to }
     requires within { to ≤ length columns.now }
-    ensures { (values : List Value) → all_fit (map column_of columns.now) values ≡ true → bytes.now ≡ row_bytes (drop from (map column_of columns.now)) (drop from values) → result.now ≡ row_bytes (drop to (map column_of columns.now)) (drop to values) }
+    ensures there { (values : List Value) → all_fit (map column_of columns.now) values ≡ true → bytes.now ≡ row_bytes (drop from (map column_of columns.now)) (drop from values) → result.now ≡ row_bytes (drop to (map column_of columns.now)) (drop to values) }
+    ensures shorter { length result.now ≤ length bytes.now }
 {
     let mut rest = bytes;
     for j in from..to {
@@ -184,8 +186,10 @@ fn skip_values<'a>(columns: &[Column], from: usize, to: usize, bytes: &'a [u8]) 
 }
 
 /// The bytes of the column's value in front, and what follows.
-fn split_value<'a>(column: &Column, bytes: &'a [u8]) -> (&'a [u8], &'a [u8])
-    ensures { (value : Value) (rest : List ℕ) → fits (column_of column.now) value ≡ true → bytes.now ≡ value_bytes column.now.kind value ++ rest → (result.0.now ≡ value_bytes column.now.kind value) × (result.1.now ≡ rest) }
+pub(crate) fn split_value<'a>(column: &Column, bytes: &'a [u8]) -> (&'a [u8], &'a [u8])
+    ensures cut { (value : Value) (rest : List ℕ) → fits (column_of column.now) value ≡ true → bytes.now ≡ value_bytes column.now.kind value ++ rest → (result.0.now ≡ value_bytes column.now.kind value) × (result.1.now ≡ rest) }
+    ensures shorter { length result.0.now ≤ length bytes.now }
+    ensures left { length result.1.now ≤ length bytes.now }
 {
     let declared = u32::from(column.length);
     prove!(declared < 65_536);
@@ -222,8 +226,9 @@ fn content_size(kind: Kind, bytes: &[u8]) -> usize
 }
 
 /// What of a value's bytes is sent: its mark only where the column takes NULL.
-fn sent_of<'a>(column: &Column, value: &'a [u8]) -> &'a [u8]
-    ensures { (v : Value) → fits (column_of column.now) v ≡ true → value.now ≡ value_bytes column.now.kind v → result.now ≡ sent_value column.now.is_nullable column.now.kind v }
+pub(crate) fn sent_of<'a>(column: &Column, value: &'a [u8]) -> &'a [u8]
+    ensures sent { (v : Value) → fits (column_of column.now) v ≡ true → value.now ≡ value_bytes column.now.kind v → result.now ≡ sent_value column.now.is_nullable column.now.kind v }
+    ensures shorter { length result.now ≤ length value.now }
 {
     match value {
         [_, content @ ..] if !column.is_nullable => content,
