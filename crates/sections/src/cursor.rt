@@ -86,10 +86,15 @@ impl Cursor {
 
 impl Cursor {
     ghost use Rattle.sections.specs.Blocks.{advanced, IsBlockOf};
+    ghost use Rattle.sections.specs.Room.{IsShort};
 
     pub(crate) fn block(&self, size: Option<u32>) -> Block<'_>
-        ensures { IsBlockOf self.now size result }
+        ensures next { IsBlockOf self.now size result }
+        ensures short { IsShort result }
     {
+        // Both say that the rows are those of a schema, so none is long.
+        let _columns = self.rows.schema().columns();
+        let _places = self.rows.selected();
         let size = size.unwrap_or(self.block_size);
         let rows = self.rows.len();
         let count = block(&self.rows, self.place, size as usize);
