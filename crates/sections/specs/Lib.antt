@@ -1,0 +1,8 @@
+pub mod Kept
+pub mod Cursors
+pub mod Blocks
+pub mod Units
+pub mod ByName
+pub mod Fetching
+pub mod Laws
+pub mod Room

@@ -1,0 +1,26 @@
+//! What a conversation keeps between its commands: the statements prepared in its sections, their open
+//! cursors, and how far the rows of each were sent (DRDA V5 volume 3: PRPSQLSTT, OPNQRY, CNTQRY,
+//! CLSQRY). It asks no database and writes no reply.
+#![tactic(auto)]
+
+mod cursor;
+mod fault;
+mod laws;
+mod lengths;
+mod named;
+mod section;
+mod sections;
+
+pub use cursor::Block;
+pub use fault::{NotPrepared, OpenFault, QueryNotOpen};
+pub use laws::{blocks_send_all_rows, calls_are_local, preparing_keeps_cursors, units_end_cursors};
+pub use lengths::{
+    MAX_ANSWER_ROW_LENGTH, MAX_QRYDSC_LENGTH, MAX_QRYDTA_HEADING, answers_are_short,
+};
+pub use sections::Sections;
+
+// A crate can name the sections in a contract only if the types of their fields are exported.
+#[doc(hidden)]
+pub use cursor::Cursor;
+#[doc(hidden)]
+pub use section::{Preparation, Section};
