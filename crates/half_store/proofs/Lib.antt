@@ -3,3 +3,4 @@ mod Pages
 mod Written
 mod Formatted
 mod Kept
+mod Switched
