@@ -1,4 +1,7 @@
 //! Checkpoints of three pages, for tests.
+ghost use Rattle.std.specs.Prelude.{◌≤◌, IsTrue};
+ghost use Rattle.drda_disk.specs.Region.{end_of};
+
 use crate::stores::{Found, found};
 use drda_disk::{Disk, Region};
 use half_store::{
@@ -22,7 +25,9 @@ pub enum Stop {
     Switch(SwitchError),
 }
 
-fn lies_on(region: Region, size: usize) -> bool {
+fn lies_on(region: Region, size: usize) -> bool
+    ensures { IsTrue result → end_of region ≤ size }
+{
     region.at <= size && region.length <= size - region.at
 }
 
