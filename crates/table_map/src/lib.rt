@@ -4,6 +4,8 @@
 mod finding;
 mod keys;
 mod pages;
+mod table;
 
 pub use keys::RowKeys;
 pub use pages::TablePages;
+pub use table::TableMap;
