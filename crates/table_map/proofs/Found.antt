@@ -83,7 +83,7 @@ module _ (key_of : List ℕ → List ℕ) (q : List ℕ) where
       ∙ found_at (front ++ keyed_rows key_of page) pages i some.1 (subst (λ (l : Rows). InOrder l) joined up) (omega arith) past (λ more. before (omega arith))
 
   -- a page where it lies
-  page_there : (file : List ℕ) (at : ℕ) (pages : List (List (List ℕ))) (i : ℕ) → AreAt file at pages → i < length pages → IsPage (record { kind = kind.Rows; rows = get_or pages i [] }) (part file (at + 8192 * i) 8192)
+  pub page_there : (file : List ℕ) (at : ℕ) (pages : List (List (List ℕ))) (i : ℕ) → AreAt file at pages → i < length pages → IsPage (record { kind = kind.Rows; rows = get_or pages i [] }) (part file (at + 8192 * i) 8192)
   page_there file at [] i are low = absurd (omega arith)
   page_there file at (page ∷ pages) zero are low = let same : at ≡ at + 8192 * 0 = omega arith in subst (λ k. IsPage (record { kind = kind.Rows; rows = page }) (part file k 8192)) same are.0
   page_there file at (page ∷ pages) (suc i) are low =

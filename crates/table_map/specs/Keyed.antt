@@ -1,5 +1,5 @@
 -- Rows under the keys that they have.
-use Rattle.std.specs.Prelude.{ℕ, List, [], ◌∷◌, Option, option_map}
+use Rattle.std.specs.Prelude.{ℕ, List, [], ◌∷◌, Option, Some, None, option_map}
 use Rattle.std.specs.Borrow.{Bor}
 use Rattle.std.specs.Global.{Vec}
 use Rattle.key_map.specs.Merging.{Rows}
@@ -12,6 +12,10 @@ keyed_rows key_of (row ∷ rows) = (key_of row, row) ∷ keyed_rows key_of rows
 abbrev pub first_key : (List ℕ → List ℕ) → List (List ℕ) → List ℕ
 first_key key_of [] = []
 first_key key_of (row ∷ rows) = key_of row
+
+abbrev pub first_of : (List ℕ → List ℕ) → List (List ℕ) → Option (List ℕ)
+first_of key_of [] = None
+first_of key_of (row ∷ rows) = Some (key_of row)
 
 abbrev pub first_keys : (List ℕ → List ℕ) → List (List (List ℕ)) → List (List ℕ)
 first_keys key_of [] = []

@@ -3,6 +3,7 @@
 
 mod finding;
 mod keys;
+mod opening;
 mod pages;
 mod table;
 

@@ -19,8 +19,8 @@ use std::marker::Model;
 /// Where the pages of a table lie, one behind another, and the key of each page's first row.
 #[derive(Drop)]
 pub struct TablePages {
-    at: usize,
-    first_keys: Vec<Vec<u8>>,
+    pub(crate) at: usize,
+    pub(crate) first_keys: Vec<Vec<u8>>,
 }
 
 impl Model for TablePages {
