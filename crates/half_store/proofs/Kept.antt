@@ -39,16 +39,16 @@ module _ (base image : List ℕ) (size : length image ≡ length base) (head : t
       let at : ℕ → Result Store Refusal = λ n. by_parts n (take 39 image) (state_at (half_len n) image 8192) (state_at (half_len n) image (8192 + half_len n)) in
       by_parts_is image ∙ ap at size ∙ ap (λ (l : List ℕ). by_parts (length base) l (state_at (half_len (length base)) image 8192) (state_at (half_len (length base)) image (8192 + half_len (length base)))) head
 
-is_first : Half → Bool
+unfoldable pub is_first : Half → Bool
 is_first First = true
 is_first Second = false
 
 -- the store of an image has its first half
-tag : Result Store Refusal → Bool
+unfoldable pub tag : Result Store Refusal → Bool
 tag (Ok s) = is_first s.half
 tag (Err e) = false
 
-off : Result Store Refusal → Bool
+unfoldable pub off : Result Store Refusal → Bool
 off (Ok s) = is_first (other_than s.half)
 off (Err e) = false
 
@@ -87,9 +87,14 @@ alone_second (Ok n) h (Open a) (Open b) s is half = by_tests (a.generation == b.
 shut_state : (image : List ℕ) (h at : ℕ) → (get_or image at 0 == 165) ≡ false → state_at h image at ≡ Closed
 shut_state image h at shut = half_closed h (part image at 8192) (ap (λ b. b == 165) (byte_in_part image at 8192 0 (omega arith) ∙ ap (λ i. get_or image i 0) (add-zero at)) ∙ shut)
 
-when_sized : (b : Bool) (x : Result Store Refusal) (s : Store) → cond b x (Err not_a_store) ≡ Ok s → (y : Result Store Refusal) → (x ≡ Ok s → y ≡ Ok s) → cond b y (Err not_a_store) ≡ Ok s
-when_sized true x s is y next = next is
-when_sized false x s is y next = is
+has_store : Result Store Refusal → Bool
+has_store (Ok s) = true
+has_store (Err e) = false
+
+pub when_sized : (b : Bool) (x : Result Store Refusal) (s t : Store) → cond b x (Err not_a_store) ≡ Ok s → (y : Result Store Refusal) → (x ≡ Ok s → y ≡ Ok t) → cond b y (Err not_a_store) ≡ Ok t
+unfolding has_store
+when_sized true x s t is y next = next is
+when_sized false x s t is y next = absurd (false≢true (ap has_store is))
 
 module _ (base image : List ℕ) (s : Store) (size : length image ≡ length base) (head : take 39 image ≡ take 39 base) (active : active_of base ≡ Ok s) where
   -- the other half is closed in the image, and the active one is the base's
@@ -99,7 +104,7 @@ module _ (base image : List ℕ) (s : Store) (size : length image ≡ length bas
       from_base base image size head
       ∙ ap (λ (l : List ℕ). by_parts (length base) (take 39 base) (half_in (half_len (length base)) l) (state_at (half_len (length base)) image (8192 + half_len (length base)))) same
       ∙ ap (λ b. by_parts (length base) (take 39 base) (state_at (half_len (length base)) base 8192) b) closed
-      ∙ when_sized (is_store_size (length base)) _ s (sym (by_parts_is base) ∙ active) _
+      ∙ when_sized (is_store_size (length base)) _ s s (sym (by_parts_is base) ∙ active) _
       (λ is. alone_first (name_in (length base) (take 39 base)) (half_len (length base)) (state_at (half_len (length base)) base 8192) (state_at (half_len (length base)) base (8192 + half_len (length base))) s is half)
 
   pub second_kept : s.half ≡ Second → part image (8192 + half_len (length base)) 8192 ≡ part base (8192 + half_len (length base)) 8192 → (get_or image 8192 0 == 165) ≡ false → active_of image ≡ Ok s
@@ -108,7 +113,7 @@ module _ (base image : List ℕ) (s : Store) (size : length image ≡ length bas
       from_base base image size head
       ∙ ap (λ a. by_parts (length base) (take 39 base) a (state_at (half_len (length base)) image (8192 + half_len (length base)))) closed
       ∙ ap (λ (l : List ℕ). by_parts (length base) (take 39 base) Closed (half_in (half_len (length base)) l)) same
-      ∙ when_sized (is_store_size (length base)) _ s (sym (by_parts_is base) ∙ active) _
+      ∙ when_sized (is_store_size (length base)) _ s s (sym (by_parts_is base) ∙ active) _
       (λ is. alone_second (name_in (length base) (take 39 base)) (half_len (length base)) (state_at (half_len (length base)) base 8192) (state_at (half_len (length base)) base (8192 + half_len (length base))) s is half)
 
 -- bytes of the other half change, and its gate is closed then
@@ -128,7 +133,7 @@ same_byte file c at low torn same =
     ∙ ap (λ (l : List ℕ). take at file ++ l) (drop_more c at 0 (omega (arith, low, torn.size)) ∙ ap (λ b. b ∷ drop (at + 1) c) same ∙ ap (λ (l : List ℕ). get_or file at 0 ∷ l) torn.after ∙ sym (drop_more file at 0 (omega (arith, low))))
     ∙ take-append-drop at file
 
-shut_is : (n : ℕ) → n ≢ 165 → (n == 165) ≡ false
+pub shut_is : (n : ℕ) → n ≢ 165 → (n == 165) ≡ false
 shut_is n apart = elim (eqb_tells n 165) [ inl same ↦ absurd (apart same.1) | inr differs ↦ differs.0 ]
 
 -- while a gate is closed
@@ -181,3 +186,7 @@ begun_within new at n only c now = subst (λ (l : List ℕ). Torn at n new.seen 
 pub begun_active : (old new : List ℕ) (s : Store) (half : Half) (h : ℕ) → active_of old ≡ Ok s → 8192 < half_len (length old) → h ≡ half_len (length old) → half ≡ other_than s.half → Torn (offset_of h half) 1 old new → get_or new (offset_of h half) 0 ≢ 165 → active_of new ≡ Ok s
 begun_active old new s half h active large halves other torn shut =
     kept old new s (offset_of h half) 1 (offset_of h half) s.half refl active large (ap (λ k. offset_of h k) other ∙ ap (λ k. offset_of k (other_than s.half)) halves) (omega arith) (omega (arith, large)) torn (shut_is (get_or new (offset_of h half) 0) shut)
+
+-- what a write behind the gate leaves of a writing, as that of the journal's records
+pub still_writing : (modelled : Bool) (old new : Life) (base : List ℕ) (s : Store) (w : ImageWriter) → IsWriting modelled old base s w → Within (from_of w + 1) (half_bytes_of w - 1) base new → IsWriting modelled new base s w
+still_writing modelled old new base s w is within = record { modelled_disk = is.modelled_disk; within = within; active = is.active; other = is.other; shut = is.shut; halves = is.halves; generation = is.generation }

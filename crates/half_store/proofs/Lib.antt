@@ -2,4 +2,5 @@ mod Found
 mod Pages
 mod Written
 mod Formatted
-mod Kept
+pub mod Kept
+mod Switched

@@ -1,10 +1,11 @@
 -- Header pages, as they are written and read.
-use Rattle.std.proofs.Common.{◌≡◌, ℕ, zero, suc, ◌+◌, ◌^◌, ◌<◌, true, false, cond, ◌&&◌, List, ◌∷◌, ◌++◌, length, take, drop, get_or, refl, ◌∙◌, ap}
-use Rattle.std.specs.Prelude.{◌==◌, replicate}
+use Rattle.std.proofs.Common.{◌≡◌, ℕ, zero, suc, ◌+◌, ◌*◌, ◌^◌, ◌<◌, ◌≤◌, true, false, cond, ◌&&◌, List, ◌∷◌, ◌++◌, length, take, drop, get_or, refl, sym, ◌∙◌, ap, arith}
+use Rattle.std.specs.Prelude.{◌==◌, nat_le, replicate}
+use Rattle.std.proofs.lemmas.Bool.{lt-ltb, le-leb}
 use Rattle.std.specs.List.{list_all}
 use Rattle.std.specs.Int.{w32, from_be_bytes, to_be_bytes}
 use Rattle.std.proofs.lemmas.Nat.{from_be_bytes-to_be_bytes_4, from_be_bytes-to_be_bytes_8}
-use Rattle.std.proofs.lemmas.List.{length-replicate, get_or-take, get_or-drop}
+use Rattle.std.proofs.lemmas.List.{length-replicate, take_all, get_or-take, get_or-drop}
 use Rattle.drda_words.specs.Place.{part}
 use Rattle.half_store.specs.Header.{header_in, is_inside, half_in}
 use Rattle.half_store.specs.Fresh.{zeros, header_bytes}
@@ -23,6 +24,9 @@ all_zeros (suc k) (suc n) = all_zeros k n
 pub zeros_blank : (k n : ℕ) → list_all (λ b. b == 0) (take k (zeros n)) ≡ true
 unfolding zeros
 zeros_blank k n = all_zeros k n
+
+pub zeros_whole : (n : ℕ) → list_all (λ b. b == 0) (zeros n) ≡ true
+zeros_whole n = ap (λ (l : List ℕ). list_all (λ b. b == 0) l) (sym (take_all n (zeros n) (omega (arith, length-zeros n)))) ∙ zeros_blank n n
 
 same_at : (x n i : ℕ) → get_or (replicate n x) i x ≡ x
 same_at x zero i = refl
@@ -65,3 +69,7 @@ half_open h header z fits inside blank =
     ap (λ (x : Header). cond (is_inside h x && list_all (λ b. b == 0) z) (Open x) Unsound) (header_back header z fits)
     ∙ ap (λ b. cond (b && list_all (λ b. b == 0) z) (Open header) Unsound) inside
     ∙ ap (λ b. cond (true && b) (Open header) Unsound) blank
+
+pub is_inside_true : (h : ℕ) (header : Header) → 8192 * (1 + header.pages) < h → header.first_catalogue + header.catalogue_pages ≤ header.pages → is_inside h header ≡ true
+is_inside_true h header room catalogue =
+    ap (λ b. b && nat_le (header.first_catalogue + header.catalogue_pages) header.pages) (lt-ltb (8192 * (1 + header.pages)) h room) ∙ ap (λ b. true && b) (le-leb (header.first_catalogue + header.catalogue_pages) header.pages catalogue)

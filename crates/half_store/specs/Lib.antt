@@ -4,3 +4,4 @@ pub mod Active
 pub mod Opened
 pub mod Fresh
 pub mod Writing
+pub mod Switching

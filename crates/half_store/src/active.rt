@@ -52,8 +52,8 @@ fn picked(half_bytes: usize, first: HalfState, second: HalfState) -> Result<(Hal
     }
 }
 
-/// What opening answers for a half of so many bytes.
-fn active_at(half_bytes: usize, name: String, half: Half, header: Header) -> Active
+/// A half of so many bytes that counts, by its header.
+pub(crate) fn active_at(half_bytes: usize, name: String, half: Half, header: Header) -> Active
     requires small { half_bytes < 2 ^ 40 }
     requires room { 8192 * (1 + header.pages) < half_bytes }
     ensures store { store_of result ≡ record { name = string_bytes name; half = half; header = header } }

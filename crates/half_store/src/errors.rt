@@ -133,3 +133,32 @@ impl From<DiskFault> for PageError {
         PageError::DeviceFailed
     }
 }
+
+/// Why no image became the active one.
+#[derive(Clone, Copy, Debug, PartialEq, Eq, Error)]
+pub enum SwitchError {
+    #[error("no memory")]
+    NoMemory,
+    #[error("the device failed")]
+    DeviceFailed,
+}
+
+impl From<AllocError> for SwitchError {
+    ghost use Rattle.half_store.specs.declared.errors.SwitchError.TheVariants.{NoMemory};
+
+    ghost from_gives = { λ _ e. e ≡ NoMemory };
+
+    fn from(_: AllocError) -> Self {
+        SwitchError::NoMemory
+    }
+}
+
+impl From<DiskFault> for SwitchError {
+    ghost use Rattle.half_store.specs.declared.errors.SwitchError.TheVariants.{DeviceFailed};
+
+    ghost from_gives = { λ _ e. e ≡ DeviceFailed };
+
+    fn from(_: DiskFault) -> Self {
+        SwitchError::DeviceFailed
+    }
+}

@@ -62,6 +62,17 @@ pub(crate) fn blank_page(alloc: Global) -> Result<Vec<u8>, AllocError>
     Ok(bytes)
 }
 
+/// The header page of a half behind its gate.
+pub(crate) fn header_page(alloc: Global, header: Header) -> Result<Vec<u8>, AllocError>
+    ensures items { IfOk result (λ bytes. bytes.items ≡ header_bytes header ++ zeros 8171) }
+    ensures len { IfOk result (λ bytes. length bytes.items ≡ 8191) }
+{
+    let mut bytes = Vec::with_capacity(alloc, PAGE_BYTES - 1)?;
+    push_header(&mut bytes, header)?;
+    pad(&mut bytes, PAGE_BYTES - 1)?;
+    Ok(bytes)
+}
+
 /// A fresh store of this size behind its mark, up to the first gate of its journal: the rest of the
 /// head's page, the first half's header page, and the closed gate.
 pub(crate) fn fresh_front(alloc: Global, size: usize, name: &str) -> Result<Vec<u8>, AllocError>

@@ -57,6 +57,13 @@ impl ImageWriter {
         Ok(())
     }
 
+    /// How many pages were written.
+    pub fn pages(&self) -> u32
+        ensures { result ≡ pages_of self.now }
+    {
+        self.pages
+    }
+
     /// What is left of the half behind its pages: its journal's, a byte at least.
     pub fn finish_pages(&self) -> Region
         ensures begins { result.at ≡ next_of self.now }

@@ -11,10 +11,11 @@ mod header;
 mod image;
 mod layout;
 mod opening;
+mod switching;
 
 pub use active::Active;
 pub use begin::begin_image;
-pub use errors::{BeginError, FormatError, Full, OpenError, PageError};
+pub use errors::{BeginError, FormatError, Full, OpenError, PageError, SwitchError};
 pub use formatting::format;
 pub use header::Header;
 pub use image::ImageWriter;

@@ -4,8 +4,12 @@
 #[cfg(test)]
 mod changed_bytes;
 #[cfg(test)]
+mod checkpoints;
+#[cfg(test)]
 mod crashes;
 #[cfg(test)]
 mod formats;
 #[cfg(test)]
 mod stores;
+#[cfg(test)]
+mod switches;

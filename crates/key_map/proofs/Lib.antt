@@ -1,4 +1,4 @@
-mod Merged
+pub mod Merged
 mod Known
 mod Said
 mod Between

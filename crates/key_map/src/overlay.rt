@@ -69,6 +69,14 @@ impl Overlay {
         self.entries.put_reserved(key, Vec::new(alloc));
     }
 
+    /// What the changes say of a key: the row that was put there, that the row was taken out
+    /// (`Some(None)`), or nothing. Takes no memory.
+    pub fn change<'a>(&'a self, key: &[u8]) -> Option<Option<&'a [u8]>>
+        ensures { option_map seen result ≡ row_at key.now (changes_of self.now) }
+    {
+        said_by(self.entries.get(key))
+    }
+
     /// The row of a key in the table, where `base` is the row that the table's pages have there: a
     /// change of the key wins. Takes no memory.
     pub fn get<'a>(&'a self, key: &[u8], base: Option<&'a [u8]>) -> Option<&'a [u8]>
@@ -87,5 +95,16 @@ fn choose<'a>(change: Option<&'a [u8]>, base: Option<&'a [u8]>) -> Option<&'a [u
         Some([]) => None,
         Some(row) => Some(row),
         None => base,
+    }
+}
+
+// What an entry says of its key.
+fn said_by(entry: Option<&[u8]>) -> Option<Option<&[u8]>>
+    ensures { option_map seen result ≡ option_map said (seen entry.entry) }
+{
+    match entry {
+        Some([]) => Some(None),
+        Some(row) => Some(Some(row)),
+        None => None,
     }
 }

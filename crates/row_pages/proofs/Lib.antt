@@ -1,6 +1,6 @@
 mod Passing
 mod RowBytes
-mod PageBytes
+pub mod PageBytes
 mod Growing
 mod LaidPages
 mod KeptPages

@@ -1,0 +1,4 @@
+pub mod Keyed
+pub mod Places
+pub mod Stored
+pub mod Table

@@ -1,0 +1,20 @@
+//! The keys of rows.
+ghost use Rattle.std.specs.Prelude.{◌≡◌, ℕ, List, IfOk};
+ghost use Rattle.ordered_rows.specs.Slots.{by_bytes};
+
+use std::alloc::{AllocError, Global};
+use std::cmp::Ordering;
+
+/// The keys of a table's rows, in a form whose bytes sort as the keys do.
+pub trait RowKeys {
+    /// The key of a row.
+    ghost key_of: { Self → List ℕ → List ℕ };
+
+    /// The key of a row, in new memory.
+    fn key(&self, alloc: Global, row: &[u8]) -> Result<Vec<u8>, AllocError>
+        ensures { IfOk result (λ key. key.items ≡ key_of self.now row.now) };
+
+    /// How a key stands to that of a row.
+    fn compare(&self, alloc: Global, key: &[u8], row: &[u8]) -> Result<Ordering, AllocError>
+        ensures { IfOk result (λ order. order ≡ by_bytes key.now (key_of self.now row.now)) };
+}

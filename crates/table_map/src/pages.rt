@@ -1,0 +1,100 @@
+//! The pages of a table.
+ghost use Rattle.std.specs.Prelude.{◌≡◌, ◌+◌, ◌*◌, ◌^◌, ◌<◌, ◌≤◌, ℕ, List, IsTrue, IfOk, length};
+ghost use Rattle.drda_words.specs.Place.{part};
+ghost use Rattle.drda_disk.specs.Disk.{Stays};
+ghost use Rattle.row_pages.specs.Page.{IsPage};
+ghost use Rattle.row_pages.specs.Laying.{rows_over};
+ghost use Rattle.row_pages.specs.Keeping.{AreRead, CountsPageFault};
+ghost use Rattle.key_map.specs.Merging.{row_at};
+ghost use Rattle.table_map.specs.Keyed.{keyed_rows, copied};
+ghost use Rattle.table_map.specs.Stored.{IsStored};
+
+use crate::RowKeys;
+use crate::finding::{find_row, place_of};
+use drda_disk::Disk;
+use row_pages::{KeptPage, PAGE_BYTES, PageCache, PageFault, PageKind};
+use std::alloc::{AllocError, Global};
+use std::marker::Model;
+
+/// Where the pages of a table lie, one behind another, and the key of each page's first row.
+#[derive(Drop)]
+pub struct TablePages {
+    pub(crate) at: usize,
+    pub(crate) first_keys: Vec<Vec<u8>>,
+}
+
+impl Model for TablePages {
+    ghost use Rattle.std.specs.Prelude.{◌+◌, ◌*◌, ◌^◌, ◌≤◌, map, length};
+    ghost use Rattle.table_map.specs.Stored.{Places};
+
+    ghost Value = { Places };
+
+    ghost view = { λ p. record { at = p.at; keys = map (λ k. k.items) p.first_keys.items } };
+
+    ghost invariant = { λ p. p.at + 8192 * length p.first_keys.items ≤ 2 ^ 40 };
+}
+
+/// The row of a key in a page, in new memory.
+fn copy_found<K: RowKeys>(
+    alloc: Global,
+    keys: &K,
+    page: &KeptPage,
+    key: &[u8],
+) -> Result<Option<Vec<u8>>, AllocError>
+    ensures { IfOk result (λ row. copied row ≡ row_at key.now (keyed_rows (K.key_of keys.now) page.now.rows)) }
+{
+    match find_row(alloc, keys, page.page_ref().rows(), key)? {
+        Some(row) => Ok(Some(row.to_vec(alloc)?)),
+        None => Ok(None),
+    }
+}
+
+/// The row of a key in the page at an offset, in new memory.
+fn row_in_page<K: RowKeys, D: Disk>(
+    alloc: Global,
+    keys: &K,
+    cache: &mut PageCache,
+    disk: &mut D,
+    at: usize,
+    key: &[u8],
+) -> Result<Option<Vec<u8>>, PageFault>
+    requires { at + 8192 ≤ length (D.life disk.old).seen }
+    ensures found { (rows : List (List ℕ)) → IsTrue D.is_modelled → AreRead cache.old (D.life disk.old).seen → IsPage (record { kind = PageKind.Rows; rows = rows }) (part (D.life disk.old).seen at 8192)
+        → IfOk result (λ row. copied row ≡ row_at key.now (keyed_rows (K.key_of keys.now) rows)) }
+    ensures kept { IsTrue D.is_modelled → AreRead cache.old (D.life disk.old).seen → AreRead cache.new (D.life disk.new).seen }
+    ensures stays { Stays (D.life disk.old) (D.life disk.new) }
+    ensures cause { CountsPageFault result (D.life disk.old).faults (D.life disk.new).faults }
+{
+    let page = cache.page(alloc, disk, at)?;
+    match copy_found(alloc, keys, page, key) {
+        Ok(row) => Ok(row),
+        Err(_) => Err(PageFault::NoMemory),
+    }
+}
+
+impl TablePages {
+    /// The row of a key, in new memory. One page is looked at, at most: the one whose first key is the
+    /// last that the key does not come before.
+    pub fn row<K: RowKeys, D: Disk>(
+        &self,
+        alloc: Global,
+        keys: &K,
+        cache: &mut PageCache,
+        disk: &mut D,
+        key: &[u8],
+    ) -> Result<Option<Vec<u8>>, PageFault>
+        requires { self.now.at + 8192 * length self.now.keys ≤ length (D.life disk.old).seen }
+        ensures found { (pages : List (List (List ℕ))) → IsTrue D.is_modelled → AreRead cache.old (D.life disk.old).seen → IsStored (K.key_of keys.now) self.now pages (D.life disk.old).seen
+            → IfOk result (λ row. copied row ≡ row_at key.now (keyed_rows (K.key_of keys.now) (rows_over pages))) }
+        ensures kept { IsTrue D.is_modelled → AreRead cache.old (D.life disk.old).seen → AreRead cache.new (D.life disk.new).seen }
+        ensures stays { Stays (D.life disk.old) (D.life disk.new) }
+        ensures cause { CountsPageFault result (D.life disk.old).faults (D.life disk.new).faults }
+    {
+        let place = place_of(&self.first_keys, key);
+        if place == 0 {
+            return Ok(None);
+        }
+        let at = self.at + PAGE_BYTES * (place - 1);
+        row_in_page(alloc, keys, cache, disk, at, key)
+    }
+}

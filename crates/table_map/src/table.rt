@@ -1,0 +1,117 @@
+//! A table's rows: those of its pages with the changes since.
+ghost use Rattle.std.specs.Prelude.{◌≡◌, ◌+◌, ◌*◌, ◌<◌, ◌≤◌, ℕ, List, [], IsTrue, Some, None, OnOk, IfOk, length};
+ghost use Rattle.drda_disk.specs.Disk.{Stays};
+ghost use Rattle.row_pages.specs.Laying.{rows_over};
+ghost use Rattle.row_pages.specs.Keeping.{AreRead, CountsPageFault};
+ghost use Rattle.ordered_rows.specs.Slots.{HasRoom};
+ghost use Rattle.key_map.specs.Merging.{InOrder, changed, row_at};
+ghost use Rattle.key_map.specs.Overlay.{changes_of};
+ghost use Rattle.table_map.specs.Keyed.{copied, keyed_rows};
+ghost use Rattle.table_map.specs.Stored.{IsStored};
+ghost use Rattle.table_map.specs.Table.{rows_of_table};
+
+use crate::{RowKeys, TablePages};
+use drda_disk::Disk;
+use key_map::Overlay;
+use row_pages::{PageCache, PageFault};
+use std::alloc::{AllocError, Global};
+use std::marker::Model;
+
+/// The rows of a table by their keys: those of its pages, and over them what has changed since the
+/// pages were written.
+#[derive(Drop)]
+pub struct TableMap {
+    pages: TablePages,
+    overlay: Overlay,
+}
+
+impl Model for TableMap {
+    ghost use Rattle.table_map.specs.Table.{Table};
+
+    ghost Value = { Table };
+
+    ghost view = { λ t. record { places = t.pages; overlay = t.overlay } };
+}
+
+/// A copy of a row.
+fn copy_of(alloc: Global, row: &[u8]) -> Result<Option<Vec<u8>>, PageFault>
+    ensures row { IfOk result (λ copy. copied copy ≡ Some row.now) }
+    ensures cause { (n : ℕ) → CountsPageFault result n n }
+{
+    match row.to_vec(alloc) {
+        Ok(copy) => Ok(Some(copy)),
+        Err(_) => Err(PageFault::NoMemory),
+    }
+}
+
+impl TableMap {
+    /// A table with these pages, and with no changes since.
+    pub fn new(alloc: Global, pages: TablePages) -> TableMap
+        ensures places { result.places ≡ pages }
+        ensures overlay { result.overlay ≡ [] }
+    {
+        TableMap {
+            pages,
+            overlay: Overlay::new(alloc),
+        }
+    }
+
+    /// The row of a key, in new memory. A key that was changed is looked up in the changes alone;
+    /// else one page is looked at, at most.
+    pub fn get<K: RowKeys, D: Disk>(
+        &self,
+        alloc: Global,
+        keys: &K,
+        cache: &mut PageCache,
+        disk: &mut D,
+        key: &[u8],
+    ) -> Result<Option<Vec<u8>>, PageFault>
+        requires { self.now.places.at + 8192 * length self.now.places.keys ≤ length (D.life disk.old).seen }
+        ensures found { (pages : List (List (List ℕ))) → IsTrue D.is_modelled → AreRead cache.old (D.life disk.old).seen → IsStored (K.key_of keys.now) self.now.places pages (D.life disk.old).seen
+            → IfOk result (λ row. copied row ≡ row_at key.now (rows_of_table (K.key_of keys.now) self.now pages)) }
+        ensures kept { IsTrue D.is_modelled → AreRead cache.old (D.life disk.old).seen → AreRead cache.new (D.life disk.new).seen }
+        ensures stays { Stays (D.life disk.old) (D.life disk.new) }
+        ensures cause { CountsPageFault result (D.life disk.old).faults (D.life disk.new).faults }
+    {
+        match self.overlay.change(key) {
+            Some(Some(row)) => copy_of(alloc, row),
+            Some(None) => Ok(None),
+            None => self.pages.row(alloc, keys, cache, disk, key),
+        }
+    }
+
+    /// Makes room for a change of this key: of the changes the one call that takes memory. Whether or
+    /// not it finds that, all rows and all room stay.
+    pub fn reserve(&mut self, alloc: Global, key: &[u8]) -> Result<(), AllocError>
+        ensures places { self.new.places ≡ self.old.places }
+        ensures changes { changes_of self.new.overlay ≡ changes_of self.old.overlay }
+        ensures room { OnOk result (HasRoom key.now self.new.overlay) }
+        ensures others { (q : List ℕ) → HasRoom q self.old.overlay → HasRoom q self.new.overlay }
+    {
+        self.overlay.reserve(alloc, key)
+    }
+
+    /// Puts a row, of one byte at least, at a key that has room: of all rows that one changes.
+    pub fn put_reserved(&mut self, key: &[u8], row: Vec<u8>)
+        requires room { HasRoom key.now self.old.overlay }
+        requires row { 0 < length row.items }
+        ensures places { self.new.places ≡ self.old.places }
+        ensures rows { (key_of : List ℕ → List ℕ) (pages : List (List (List ℕ))) → InOrder (keyed_rows key_of (rows_over pages))
+            → rows_of_table key_of self.new pages ≡ changed (rows_of_table key_of self.old pages) key.now (Some row.items) }
+        ensures room { (q : List ℕ) → HasRoom q self.old.overlay → HasRoom q self.new.overlay }
+    {
+        self.overlay.put_reserved(key, row);
+    }
+
+    /// Takes out the row of a key that has room, where there is one: of all rows that one changes.
+    /// Takes no memory.
+    pub fn remove_reserved(&mut self, alloc: Global, key: &[u8])
+        requires { HasRoom key.now self.old.overlay }
+        ensures places { self.new.places ≡ self.old.places }
+        ensures rows { (key_of : List ℕ → List ℕ) (pages : List (List (List ℕ))) → InOrder (keyed_rows key_of (rows_over pages))
+            → rows_of_table key_of self.new pages ≡ changed (rows_of_table key_of self.old pages) key.now None }
+        ensures room { (q : List ℕ) → HasRoom q self.old.overlay → HasRoom q self.new.overlay }
+    {
+        self.overlay.remove_reserved(alloc, key);
+    }
+}

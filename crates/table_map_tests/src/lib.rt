@@ -1,0 +1,7 @@
+//! Tests of table_map.
+#![tactic(auto)]
+
+#[cfg(test)]
+mod lookups;
+#[cfg(test)]
+mod tables;
