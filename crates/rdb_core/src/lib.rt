@@ -1,0 +1,8 @@
+//! The core of the database: one step for each call of a conversation.
+#![tactic(auto)]
+
+mod committed;
+mod ending;
+mod engine;
+
+pub use engine::Core;
