@@ -7,7 +7,7 @@ ghost use Rattle.core_steps.specs.Events.{Commit, bare, bare_run};
 ghost use Rattle.core_steps.specs.Step.{action_events, lost_xids};
 ghost use Rattle.unit_table.specs.Owner.{plain_owner};
 ghost use Rattle.rdb_core.specs.Committed.{base_of};
-ghost use Rattle.rdb_core.specs.Steps.{commits, left_units};
+ghost use Rattle.rdb_core.specs.Steps.{left_units, wants_memory};
 
 use crate::committed::Committed;
 use std::alloc::AllocError;
@@ -45,7 +45,7 @@ pub(crate) fn do_due(
 ) -> Result<(), AllocError>
     ensures done { OnOk result (base_of store.new units.new ≡ bare_run (action_events xid.now action) (base_of store.old units.old)) }
     ensures kept { OnErr result (base_of store.new units.new ≡ base_of store.old units.old) }
-    ensures cause { OnErr result (commits action (unit_of (global xid.now) units.old).changes ≡ true) }
+    ensures cause { OnErr result (wants_memory action (unit_of (global xid.now) units.old).changes ≡ true) }
 {
     let owner = Owner::Global(*xid);
     match action {

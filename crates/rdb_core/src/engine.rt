@@ -1,13 +1,14 @@
 //! The core and its calls.
 
-ghost use Rattle.std.specs.Prelude.{◌≡◌, ℕ, Some};
+ghost use Rattle.std.specs.Prelude.{◌≡◌, ℕ, Some, false};
 ghost use Rattle.std.specs.Result.{result_ok};
 ghost use Rattle.core_calls.specs.Answer.{answer_of};
 ghost use Rattle.core_calls.specs.Call.{commit, lost, roll_back, xa};
 ghost use Rattle.core_steps.specs.Step.{owner_of};
+ghost use Rattle.core_steps.specs.Units.{has_any, local, unit_of};
 ghost use Rattle.unit_table.specs.Owner.{plain_owner};
 ghost use Rattle.rdb_core.specs.State.{empty, state_of};
-ghost use Rattle.rdb_core.specs.Steps.{IsTaken, Steps};
+ghost use Rattle.rdb_core.specs.Steps.{IsTaken, Steps, may_want_memory};
 
 use crate::committed::Committed;
 use crate::ending::{commit_unit, do_due, end_lost};
@@ -40,10 +41,23 @@ impl Core {
         }
     }
 
+    /// Whose unit the statements of a conversation work in: that of the branch that it is joined to, else
+    /// its local one.
+    pub fn owner(&self, conversation: u64) -> Owner
+        ensures { plain_owner result ≡ owner_of self.now.branches conversation }
+    {
+        match self.branches.joined(conversation) {
+            Some(xid) => Owner::Global(*xid),
+            None => Owner::Local(conversation),
+        }
+    }
+
     /// The conversation's local unit is committed (DDM RDBCMM). Inside of a global unit it answers
-    /// `InGlobal` and does nothing. `NoMemory`: the core is as before.
+    /// `InGlobal` and does nothing. Memory may be refused only where the unit has changes; the core is then
+    /// as before.
     pub fn commit(&mut self, conversation: u64) -> Answer
-        ensures { Steps (state_of self.old) conversation commit result (state_of self.new) }
+        ensures step { Steps (state_of self.old) conversation commit result (state_of self.new) }
+        ensures sure { has_any (unit_of (local conversation) (state_of self.old).base.units).changes ≡ false → IsTaken (state_of self.old) conversation commit (answer_of result) (state_of self.new) }
     {
         match self.branches.joined(conversation) {
             Some(_) => return Answer::InGlobal,
@@ -80,9 +94,11 @@ impl Core {
         Answer::Done
     }
 
-    /// An XA call (C193 chapter 6). `NoMemory`: the core is as before.
+    /// An XA call (C193 chapter 6). Memory may be refused only where a branch begins, where changes are
+    /// committed and at `xa_recover`; the core is then as before.
     pub fn xa(&mut self, conversation: u64, request: &Result<Request, InvalidRequest>) -> Answer
-        ensures { Steps (state_of self.old) conversation (xa (result_ok request.now)) result (state_of self.new) }
+        ensures step { Steps (state_of self.old) conversation (xa (result_ok request.now)) result (state_of self.new) }
+        ensures sure { may_want_memory (state_of self.old) conversation (result_ok request.now) ≡ false → IsTaken (state_of self.old) conversation (xa (result_ok request.now)) (answer_of result) (state_of self.new) }
     {
         match request {
             Err(InvalidRequest) => Answer::Xa(XaCode::Invalid),
@@ -94,7 +110,8 @@ impl Core {
 impl Core {
     // A call that there is.
     fn request(&mut self, conversation: u64, request: &Request) -> Answer
-        ensures { Steps (state_of self.old) conversation (xa (Some request.now)) result (state_of self.new) }
+        ensures step { Steps (state_of self.old) conversation (xa (Some request.now)) result (state_of self.new) }
+        ensures sure { may_want_memory (state_of self.old) conversation (Some request.now) ≡ false → IsTaken (state_of self.old) conversation (xa (Some request.now)) (answer_of result) (state_of self.new) }
     {
         match request {
             Request::Recover => self.recover(),
@@ -115,7 +132,8 @@ impl Core {
     // What is asked of a branch. What is due of it is done to its unit first, then to the branch: only a
     // branch that begins takes memory, and then no unit has changed.
     fn branch_call(&mut self, conversation: u64, verb: Verb, xid: &Xid) -> Answer
-        ensures { Steps (state_of self.old) conversation (xa (Some (Request.Branch verb xid.now))) result (state_of self.new) }
+        ensures step { Steps (state_of self.old) conversation (xa (Some (Request.Branch verb xid.now))) result (state_of self.new) }
+        ensures sure { may_want_memory (state_of self.old) conversation (Some (Request.Branch verb xid.now)) ≡ false → IsTaken (state_of self.old) conversation (xa (Some (Request.Branch verb xid.now))) (answer_of result) (state_of self.new) }
     {
         let work = Work {
             is_local: self.units.has_work(&Owner::Local(conversation)),

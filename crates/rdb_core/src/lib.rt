@@ -4,5 +4,6 @@
 mod committed;
 mod ending;
 mod engine;
+pub mod question;
 
 pub use engine::Core;
