@@ -15,7 +15,7 @@ use crate::ending::{commit_unit, do_due, end_lost};
 use core_calls::Answer;
 use std::alloc::{AllocError, Global};
 use unit_table::{Owner, Units};
-use xa_calls::{InvalidRequest, Request, Verb, Xid, XaCode};
+use xa_calls::{InvalidRequest, Request, Verb, XaCode, Xid};
 use xa_manager::{Work, XaTable};
 
 /// The committed tables, the units of work of conversations and of branches, and the XA branches.

@@ -4,7 +4,7 @@ ghost use Rattle.std.specs.Prelude.{◌≡◌, IfOk, OnErr, OnOk, false, map};
 ghost use Rattle.row_values.specs.Value.{value_of};
 ghost use Rattle.tables.specs.ChangeView.{change_of};
 ghost use Rattle.core_calls.specs.Answer.{answer_of};
-ghost use Rattle.core_steps.specs.Asked.{answer_in, describing, is_create, is_select, number_fault, outcome, querying, running, unfit};
+ghost use Rattle.core_steps.specs.Asked.{answer_in, describing, is_select, number_fault, outcome, querying, running, unfit};
 ghost use Rattle.core_steps.specs.Units.{clashes, others, unit_of};
 ghost use Rattle.unit_table.specs.Owner.{plain_owner};
 ghost use Rattle.rdb_core.specs.Steps.{units_after};
@@ -30,10 +30,7 @@ pub fn unfit_to_run(statement: &Statement<'_>, parameters: &[Value<'_>]) -> Opti
 
 /// Why a statement can't be a query with these parameters, before it claims anything: it is no SELECT,
 /// or has another number of markers.
-pub fn unfit_to_query(
-    statement: &Statement<'_>,
-    parameters: &[Value<'_>],
-) -> Option<SqlFault>
+pub fn unfit_to_query(statement: &Statement<'_>, parameters: &[Value<'_>]) -> Option<SqlFault>
     ensures { result ≡ unfit (querying statement.now (map value_of parameters.now)) }
 {
     if !is_query(&statement.command) {

@@ -15,8 +15,8 @@ returns c =
     let s = stored old.store in
     let xs = lost_xids old.branches n in
     let units : c.end_lost.new.units ≡ left_units xs (without (local n) old.units) =
-      c.end_lost.ensures
-      ∙ ap (λ (bs : List Branch). left_units (lost_xids bs n) c.end-changes.new.self) c.branches.ensures.all
-      ∙ ap (λ (us : List Held). left_units xs us) c.end-changes.ensures.ended in
+    c.end_lost.ensures
+    ∙ ap (λ (bs : List Branch). left_units (lost_xids bs n) c.end-changes.new.self) c.branches.ensures.all
+    ∙ ap (λ (us : List Held). left_units xs us) c.end-changes.ensures.ended in
     let base = ap (λ (us : List Held). let b : Base = record { store = s; units = us } in b) units ∙ sym (as_events xs s (without (local n) old.units)) in
     record { answer_is = refl; state = λ j. record { base = base j; branches = c.lost.ensures j } }
