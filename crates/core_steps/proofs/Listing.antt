@@ -34,7 +34,7 @@ or_before (global x) (local n) h ne = refl
 or_before (global x) (global y) h ne =
     precedes_or x y h (⊎_elim (λ so. both (bytes_eq x y) (ap (λ (z : List ℕ). bytes_eq z y) (sym (same_bytes y x so)) ∙ bytes_eq-refl y) ne) (λ f. f) (which (bytes_eq y x)))
 
-first_through : (o p : Owner) (hs : List Held) → comes_before o p ≡ true → ComesFirst p hs → ComesFirst o hs
+pub first_through : (o p : Owner) (hs : List Held) → comes_before o p ≡ true → ComesFirst p hs → ComesFirst o hs
 first_through o p [] h first = tt
 first_through o p (k ∷ ks) h first = (before_through o p k.owner h first.0, first_through o p ks h first.1)
 
@@ -46,7 +46,7 @@ first_without p o (h ∷ hs) first =
     let P : Bool → Type 0 = λ b. ComesFirst p (if b then without o hs else h ∷ without o hs) in
     ⊎_elim (λ so. subst P (sym so) (first_without p o hs first.1)) (λ n. subst P (sym n) (first.0, first_without p o hs first.1)) (which (same_owner o h.owner))
 
-listed_without : (o : Owner) (hs : List Held) → AreListed hs → AreListed (without o hs)
+pub listed_without : (o : Owner) (hs : List Held) → AreListed hs → AreListed (without o hs)
 listed_without o [] listed = tt
 listed_without o (h ∷ hs) listed =
     let P : Bool → Type 0 = λ b. AreListed (if b then without o hs else h ∷ without o hs) in
@@ -68,7 +68,7 @@ listed_with new (h ∷ hs) works lacks listed =
     (λ n. subst P (sym n) (listed.0, first_with h.owner new hs (or_before new.owner h.owner n lacks.0) listed.1, listed_with new hs works lacks.1 listed.2))
     (which (comes_before new.owner h.owner))
 
-listed_set : (o : Owner) (u : Work) (hs : List Held) → AreListed hs → AreListed (set_unit o u hs)
+pub listed_set : (o : Owner) (u : Work) (hs : List Held) → AreListed hs → AreListed (set_unit o u hs)
 listed_set o u hs listed =
     let new : Held = record { owner = o; work = u } in
     let P : Bool → Type 0 = λ b. AreListed (if b then with_unit new (without o hs) else without o hs) in
@@ -92,14 +92,14 @@ units_stay_listed s c k listed =
 
 -- ---- one listing
 
-not_first : (o p : Owner) → comes_before o p ≡ true → same_owner o p ≡ false
+pub not_first : (o p : Owner) → comes_before o p ≡ true → same_owner o p ≡ false
 not_first (local m) (local n) h = let less : m < n = ltb-true m n h in ⊎_elim (λ so. let e : m ≡ n = eqb-true m n so in absurd (omega (arith, less, e))) (λ f. f) (which (m == n))
 not_first (local m) (global x) h = refl
 not_first (global x) (local n) h = refl
 not_first (global x) (global y) h = precedes_other x y h
 
 -- who comes before all that are listed is not listed
-none_of_first : (o : Owner) (hs : List Held) → ComesFirst o hs → unit_of o hs ≡ idle
+pub none_of_first : (o : Owner) (hs : List Held) → ComesFirst o hs → unit_of o hs ≡ idle
 none_of_first o [] first = refl
 none_of_first o (h ∷ hs) first = ap (λ b. if b then h.work else unit_of o hs) (not_first o h.owner first.0) ∙ none_of_first o hs first.1
 

@@ -1,0 +1,12 @@
+-- The state of a core, as its step has it.
+use Rattle.std.specs.Prelude.{[]}
+use Rattle.core_steps.specs.Step.{CoreState}
+use Rattle.rdb_core.specs.declared.engine.Core.{Core}
+use Rattle.rdb_core.specs.Committed.{base_of}
+
+abbrev pub state_of : Core → CoreState
+state_of core = record { base = base_of core.store core.units; branches = core.branches }
+
+-- no tables, no units, no branches
+abbrev pub empty : CoreState
+empty = record { base = record { store = []; units = [] }; branches = [] }

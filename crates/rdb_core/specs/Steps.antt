@@ -1,0 +1,54 @@
+-- A call takes the core one step; out of memory, the core stays as it is.
+use Rattle.std.specs.Prelude.{◌≡◌, ◌⊎◌, ℕ, Bool, true, false, List, [], ◌∷◌, Option, Some, None}
+use Rattle.tables.specs.Change.{Change}
+use Rattle.xa_calls.specs.declared.request.Request.{Request}
+use Rattle.xa_calls.specs.declared.request.Request.TheVariants as request
+use Rattle.xa_manager.specs.declared.due.Action.{Action}
+use Rattle.xa_manager.specs.declared.due.Action.TheVariants as action
+use Rattle.xa_manager.specs.declared.due.Outcome.TheVariants as decided
+use Rattle.core_calls.specs.Call.{Call}
+use Rattle.core_calls.specs.Answer.{Answer, answer_of}
+use Rattle.core_calls.specs.declared.answer.Answer.{Answer as CodeAnswer}
+use Rattle.core_calls.specs.declared.answer.Answer.TheVariants as code
+use Rattle.core_steps.specs.Units.{Held, Owner, global, has_any, set_unit, unit_of, without}
+use Rattle.core_steps.specs.Asked.{Clashes, Done, Outcome, TooMany, Unfit}
+use Rattle.core_steps.specs.Step.{CoreState, answer, due_in, step_state}
+
+-- the answer and the state behind it are those of the step
+pub record IsTaken (old : CoreState) (conversation : ℕ) (k : Call) (told : Answer) (new : CoreState) : Type 0 where
+  pub answer_is : told ≡ answer old.branches old.base conversation k
+  pub state : new ≡ step_state old conversation k
+
+-- out of memory: the core is as it was
+pub record IsKept (old : CoreState) (told : CodeAnswer) (new : CoreState) : Type 0 where
+  pub answer_is : told ≡ code.NoMemory
+  pub state : new ≡ old
+
+abbrev pub Steps : CoreState → ℕ → Call → CodeAnswer → CoreState → Type 0
+Steps old conversation k told new = IsTaken old conversation k (answer_of told) new ⊎ IsKept old told new
+
+-- what is due may want memory: a branch begins, or changes are committed
+abbrev pub wants_memory : Action → List Change → Bool
+wants_memory action.Start changes = true
+wants_memory action.Forget changes = has_any changes
+wants_memory action.CommitOnePhase changes = has_any changes
+wants_memory (action.Decide decided.Commit) changes = has_any changes
+wants_memory _ changes = false
+
+-- an XA call may want memory
+abbrev pub may_want_memory : CoreState → ℕ → Option Request → Bool
+may_want_memory s conversation (Some (request.Branch verb xid)) = wants_memory (due_in s.branches s.base conversation verb xid).action (unit_of (global xid) s.base.units).changes
+may_want_memory s conversation (Some request.Recover) = true
+may_want_memory s conversation None = false
+
+-- the units that are left once those of these XIDs have ended
+abbrev pub left_units : List (List ℕ) → List Held → List Held
+left_units [] units = units
+left_units (x ∷ xs) units = left_units xs (without (global x) units)
+
+-- the units once a question of an owner has come out so
+abbrev pub units_after : List Held → Owner → Outcome → List Held
+units_after units o (Unfit f) = units
+units_after units o Clashes = units
+units_after units o TooMany = units
+units_after units o (Done a u) = set_unit o u units

@@ -1,0 +1,9 @@
+//! Tests of rdb_core.
+#![tactic(auto)]
+
+#[cfg(test)]
+mod answers;
+#[cfg(test)]
+mod ends;
+#[cfg(test)]
+mod fixtures;

@@ -1,0 +1,16 @@
+//! The units of work: who owns them, what each has changed and what it claims.
+#![tactic(auto)]
+
+mod changes;
+mod claiming;
+mod clashing;
+mod entry;
+mod keep_error;
+mod owner;
+mod place;
+mod row;
+mod units;
+
+pub use keep_error::KeepError;
+pub use owner::Owner;
+pub use units::Units;

@@ -1,0 +1,141 @@
+//! The units of work.
+
+ghost use Rattle.std.specs.Prelude.{◌≡◌, [], map};
+ghost use Rattle.tables.specs.ChangeView.{change_of};
+ghost use Rattle.unit_locks.specs.Claims.{claims_of};
+ghost use Rattle.core_steps.specs.Laws.{AreListed};
+ghost use Rattle.core_steps.specs.Units.{clashes, has_any, has_work, others, unit_of, without};
+ghost use Rattle.unit_table.specs.Keeping.{Keeps};
+ghost use Rattle.unit_table.specs.Owner.{plain_owner};
+
+use crate::changes::Changes;
+use crate::clashing::clash_with_others;
+use crate::entry::Entry;
+use crate::keep_error::KeepError;
+use crate::owner::Owner;
+use crate::place::place;
+use crate::row;
+use std::alloc::Global;
+use std::marker::Model;
+use tables::Change;
+use unit_locks::{Claim, Claims};
+
+/// The units that have work: what each has changed and what it claims. Contracts see the list that
+/// the core's step has of them, in the order of their owners; an owner that is not listed has no work.
+#[derive(Drop)]
+pub struct Units {
+    alloc: Global,
+    entries: Vec<Entry>,
+    claims: Claims,
+}
+
+impl Model for Units {
+    ghost use Rattle.std.specs.Prelude.{List};
+    ghost use Rattle.core_steps.specs.Units.{Held};
+    ghost use Rattle.unit_table.specs.Table.{AreKept, held};
+
+    ghost Value = { List Held };
+
+    ghost view = { λ u. held u.claims u.entries.items };
+
+    ghost invariant = { λ u. AreKept u.entries.items u.claims };
+}
+
+impl Units {
+    /// No unit has work. Takes no memory.
+    pub fn new(alloc: Global) -> Units
+        ensures { result ≡ [] }
+    {
+        Units {
+            alloc,
+            entries: Vec::new(alloc),
+            claims: Claims::new(alloc),
+        }
+    }
+
+    /// The changes of an owner's unit, in their order.
+    pub fn changes(&self, owner: &Owner) -> &[Change]
+        ensures { map change_of result.now ≡ (unit_of (plain_owner owner.now) self.now).changes }
+    {
+        match place(self.entries.as_slice(), owner) {
+            Ok(at) => self.entries[at].changes.as_slice(),
+            Err(_) => &[],
+        }
+    }
+
+    /// Whether an owner's unit has changed anything.
+    pub fn has_changes(&self, owner: &Owner) -> bool
+        ensures { result ≡ has_any (unit_of (plain_owner owner.now) self.now).changes }
+    {
+        match place(self.entries.as_slice(), owner) {
+            Ok(at) => !self.entries[at].changes.is_empty(),
+            Err(_) => false,
+        }
+    }
+
+    /// Whether an owner's unit has a claim or a change.
+    pub fn has_work(&self, owner: &Owner) -> bool
+        ensures { result ≡ has_work (unit_of (plain_owner owner.now) self.now) }
+    {
+        place(self.entries.as_slice(), owner).is_ok()
+    }
+
+    /// The units are listed in one way alone: each has work, and they stand in the order of their
+    /// owners.
+    pub fn are_listed(&self)
+        ensures { AreListed self.now }
+    {
+        let _entries = &self.entries;
+    }
+
+    /// Whether a claim of these clashes with one of another unit.
+    pub fn clashes(&self, owner: &Owner, claims: &[Claim]) -> bool
+        ensures { result ≡ clashes claims.now (others (plain_owner owner.now) self.now) }
+    {
+        clash_with_others(self.entries.as_slice(), &self.claims, owner, claims)
+    }
+
+    /// Keeps what a question of an owner's unit has claimed and changed, both or nothing: the unit has
+    /// these claims behind those that it had, each once, and these changes behind its own. A unit that
+    /// then has a claim or a change is listed. On an error all units stay. `TooMany` comes exactly
+    /// where the unit would have more than 65,535 claims, unless memory is refused.
+    pub fn keep(
+        &mut self,
+        owner: &Owner,
+        claims: Vec<Claim>,
+        changes: Vec<Change>,
+    ) -> Result<(), KeepError>
+        ensures { Keeps result (plain_owner owner.now) claims.items (map change_of changes.items) self.old self.new }
+    {
+        match place(self.entries.as_slice(), owner) {
+            Ok(at) => row::go_on(
+                &mut self.entries,
+                &mut self.claims,
+                at,
+                owner,
+                claims,
+                changes,
+            ),
+            Err(_) if claims.is_empty() && changes.is_empty() => Ok(()),
+            Err(at) => row::begin(
+                &mut self.entries,
+                &mut self.claims,
+                at,
+                owner,
+                claims,
+                Changes::of(changes),
+            ),
+        }
+    }
+
+    /// An owner's unit ends, with its claims; its changes are handed out. Takes no memory.
+    pub fn end(&mut self, owner: &Owner) -> Vec<Change>
+        ensures changes { map change_of result.items ≡ (unit_of (plain_owner owner.now) self.old).changes }
+        ensures ended { self.new ≡ without (plain_owner owner.now) self.old }
+    {
+        match place(self.entries.as_slice(), owner) {
+            Ok(at) => row::end(&mut self.entries, &mut self.claims, at, owner).into_vec(),
+            Err(_) => Vec::new(self.alloc),
+        }
+    }
+}

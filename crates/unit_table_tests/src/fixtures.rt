@@ -1,0 +1,40 @@
+//! Owners, claims and changes for the tests.
+
+use std::alloc::{AllocError, Global};
+use std::test::Fail;
+use tables::Change;
+use unit_locks::{Access, Claim};
+use unit_table::Owner;
+use xa_calls::Xid;
+
+// The bytes of a change that puts a row of one byte into a table T.
+const PUT: &[u8] = &[2, 1, b'T', 0, 1, 9];
+
+// A branch's unit, by the number that its XID has as its global part.
+pub fn global(number: u8) -> Result<Owner, Fail> {
+    Ok(Owner::Global(Xid::read(&[0, 0, 0, 7, 0, 0, 0, 1, 0, 0, 0, 0, number])?))
+}
+
+// One claim of a key of a table T.
+pub fn one_claim(alloc: Global, access: Access, key: u32) -> Result<Vec<Claim>, AllocError> {
+    let mut claims = Vec::new(alloc);
+    claims.push(Claim::new(alloc, access, b"T", Some(&key.to_be_bytes()))?)?;
+    Ok(claims)
+}
+
+// Claims to read so many keys of a table T.
+pub fn many_claims(alloc: Global, count: u32) -> Result<Vec<Claim>, AllocError> {
+    let mut claims = Vec::new(alloc);
+    for key in 0..count {
+        claims.push(Claim::new(alloc, Access::Read, b"T", Some(&key.to_be_bytes()))?)?;
+    }
+    Ok(claims)
+}
+
+// One change.
+pub fn one_change(alloc: Global) -> Result<Vec<Change>, Fail> {
+    let mut changes = Vec::new(alloc);
+    let (change, _) = Change::read(alloc, PUT)?;
+    changes.push(change)?;
+    Ok(changes)
+}

@@ -1,0 +1,49 @@
+//! Units that begin, go on and end.
+
+use crate::fixtures::{global, one_change, one_claim};
+use std::test::Fail;
+use unit_locks::Access;
+use unit_table::{Owner, Units};
+
+#[test]
+fn keeps_and_ends(rt: HostRuntime) -> Result<(), Fail> {
+    let owner = global(1)?;
+    let mut units = Units::new(rt.alloc());
+    for count in [1, 2] {
+        let claims = one_claim(rt.alloc(), Access::Write, count)?;
+        units.keep(&owner, claims, one_change(rt.alloc())?)?;
+        units.are_listed();
+        assert!(rt; units.has_work(&owner));
+    }
+    assert_eq!(rt; units.changes(&owner).len(), 2);
+    assert_eq!(rt; units.end(&owner).len(), 2);
+    assert!(rt; !units.has_work(&owner));
+    assert!(rt; units.changes(&owner).is_empty());
+    Ok(())
+}
+
+// What claims nothing and changes nothing leaves a unit without work.
+#[test]
+fn keeps_nothing_of_nothing(rt: HostRuntime) -> Result<(), Fail> {
+    let owner = Owner::Local(1);
+    let mut units = Units::new(rt.alloc());
+    units.keep(&owner, Vec::new(rt.alloc()), Vec::new(rt.alloc()))?;
+    assert!(rt; !units.has_work(&owner));
+    assert!(rt; !units.has_changes(&owner));
+    Ok(())
+}
+
+// More units than there are numbers begin and end, one after the other.
+#[test]
+fn finds_numbers_again(rt: HostRuntime) -> Result<(), Fail> {
+    let mut units = Units::new(rt.alloc());
+    for number in 0..70_000 {
+        let owner = Owner::Local(number);
+        let claims = one_claim(rt.alloc(), Access::Write, 5)?;
+        units.keep(&owner, claims, Vec::new(rt.alloc()))?;
+        let _none = units.end(&owner);
+    }
+    let claims = one_claim(rt.alloc(), Access::Write, 5)?;
+    assert!(rt; !units.clashes(&Owner::Local(1), claims.as_slice()));
+    Ok(())
+}
