@@ -1,0 +1,4 @@
+pub mod FormLaws
+pub mod Shown
+pub mod NamedTables
+pub mod TreeSteps
