@@ -2,3 +2,4 @@ pub mod FormLaws
 pub mod Shown
 pub mod NamedTables
 pub mod TreeSteps
+pub mod Reserving

@@ -1,17 +1,20 @@
 -- What is done to one table of the tree, seen at the tables by their names.
-use Rattle.std.proofs.Common.{◌≡◌, ℕ, List, [], ◌∷◌, Bool, true, false, refl, sym, ap, subst, ◌∙◌, Option, Some, None, is_some, option_map, cond, IfOk, Result, Ok, Err}
-use Rattle.std.specs.Prelude.{unwrap_or}
+use Rattle.std.proofs.Common.{◌≡◌, ◌+◌, suc, length, arith, ℕ, List, [], ◌∷◌, Bool, true, false, refl, sym, ap, subst, ◌∙◌, Option, Some, None, is_some, option_map, cond, if◌then◌else◌, filter, IfOk, OnOk, Result, Ok, Err}
+use Rattle.std.specs.Prelude.{bytes_eq, count_by, unwrap_or}
 use Rattle.std.specs.Global.{Vec}
+use Rattle.std.proofs.lemmas.List.Sums.{sum_by-cons}
 use Rattle.std.specs.Option.{option_and_then}
 use Rattle.std.specs.List.Sorted.{IsStrictlySortedBy}
-use Rattle.std.specs.Map.{keys_of, lookup, set_value}
+use Rattle.std.specs.Map.{keys_of, lookup, set_value, values_of}
 use Rattle.std.specs.BTreeMap.{insert_entry}
-use Rattle.ordered_rows.specs.Slots.{HasRoom, by_bytes, by_key, finds}
+use Rattle.ordered_rows.specs.Slots.{HasRoom, by_bytes, by_key, finds, with_row}
 use Rattle.row_values.specs.Schema.{Schema}
-use Rattle.tables.specs.Change.{create, put, remove}
+use Rattle.tables.specs.Change.{Change, create, is_change, put, remove}
+use Rattle.tables.specs.View.{is_sound}
+use Rattle.tables.proofs.Finding.{itself}
 use Rattle.tables.specs.Tables.{Store, Table, apply, put_row, remove_row, schema_of, table_of, with_table}
-use Rattle.table_store.specs.Stored.{FormsKey, FormsRow, HasRoomFor, Stored, created_table, shown}
-use Rattle.table_store.specs.TableMap.{Grows, IsReady, Tables, named, schema_after, schema_at, slots_at, store_of, tables_in}
+use Rattle.table_store.specs.Stored.{FormsKey, FormsRow, HasRoomFor, Stored, created_table, shown, table_in}
+use Rattle.table_store.specs.TableMap.{Grows, IsReady, Tables, entry_of, is_created, named, schema_after, schema_at, slots_at, store_of, tables_in}
 use Rattle.table_store.proofs.NamedTables.{Entry, cmp, grows_itself, grows_readied, grows_set, schemas_known, schemas_readied, schemas_set, seen_insert, seen_named, seen_order, seen_set, store_changed, store_created, store_none, store_readied, store_same, table_seen, with_none}
 
 -- the schema of a table that is shown
@@ -162,3 +165,119 @@ module _ (es : List Entry) (q : List ℕ) where
   room_written t u fs form at is room =
       subst (λ (o : Option Stored). HasRoomFor (unwrap_or (option_map (λ (x : Stored). x.slots) o) []) form)
       (sym (ap (λ (s : Tables). named s q) (ap tables_in is ∙ seen_set q es u) ∙ set_here (by_key q) (tables_in es) t u (found es q t at))) room
+
+-- ---- what is seen of a created table
+
+module _ (es : List Entry) (q : List ℕ) (up : IsStrictlySortedBy cmp (keys_of es)) where
+  seen : (o : Option Stored) → o ≡ named (tables_in es) q → table_of (store_of (tables_in es)) q ≡ option_and_then shown o
+  seen o at = table_seen q (tables_in es) (seen_order es up) ∙ ap (option_and_then shown) (sym at)
+
+  shown_here : (b : Bool) (t : Table) → b ≡ true → cond b (Some t) None ≡ Some t
+  shown_here true t h = refl
+  shown_here false t h = absurd cc
+
+  shown_not : (b : Bool) (t : Table) → b ≡ false → cond b (Some t) None ≡ None
+  shown_not true t h = absurd cc
+  shown_not false t h = refl
+
+  pub created_seen : (t : Stored) → Some t ≡ named (tables_in es) q → t.is_created ≡ true → Some (table_in t) ≡ table_of (store_of (tables_in es)) q
+  created_seen t at here = sym (seen (Some t) at ∙ shown_here t.is_created (table_in t) here)
+
+  pub hidden_seen : (t : Stored) → Some t ≡ named (tables_in es) q → t.is_created ≡ false → None ≡ table_of (store_of (tables_in es)) q
+  hidden_seen t at here = sym (seen (Some t) at ∙ shown_not t.is_created (table_in t) here)
+
+  pub none_seen : None ≡ named (tables_in es) q → None ≡ table_of (store_of (tables_in es)) q
+  none_seen at = sym (seen None at)
+
+-- ---- tables that are held ready are given up
+
+kept_entries_step : (b : Bool) (e : Entry) (es : List Entry) (fs : Tables) → tables_in es ≡ fs → tables_in (cond b (e ∷ es) es) ≡ cond b (entry_of e ∷ fs) fs
+kept_entries_step true e es fs h = ap (λ (s : Tables). entry_of e ∷ s) h
+kept_entries_step false e es fs h = h
+
+pub kept_entries : (es : List Entry) → tables_in (filter (λ (e : Entry). e.1.is_created) es) ≡ filter is_created (tables_in es)
+kept_entries [] = refl
+kept_entries (e ∷ es) = kept_entries_step e.1.is_created e (filter (λ (d : Entry). d.1.is_created) es) (filter is_created (tables_in es)) (kept_entries es)
+
+kept_step : (b : Bool) (k : List ℕ) (t : Stored) (es fs : Tables) → t.is_created ≡ b → store_of fs ≡ store_of es → store_of (cond b ((k, t) ∷ fs) fs) ≡ with_row k (shown t) (store_of es)
+kept_step true k t es fs is h = ap (with_row k (shown t)) h
+kept_step false k t es fs is h = h ∙ sym (ap (λ c. with_row k (cond c (Some (table_in t)) None) (store_of es)) is)
+
+pub store_kept : (s : Tables) → store_of (filter is_created s) ≡ store_of s
+store_kept [] = refl
+store_kept (e ∷ es) = kept_step e.1.is_created e.0 e.1 es (filter is_created es) refl (store_kept es)
+
+abbrev pub IsShown : Option Stored → Type 0
+IsShown None = Unit {0}
+IsShown (Some t) = t.is_created ≡ true
+
+shown_by : (c : Bool) (t : Stored) (o : Option Stored) → t.is_created ≡ true → IsShown o → IsShown (cond c (Some t) o)
+shown_by true t o is h = is
+shown_by false t o is h = h
+
+named_step : (b : Bool) (q k : List ℕ) (t : Stored) (fs : Tables) → t.is_created ≡ b → IsShown (named fs q) → IsShown (named (cond b ((k, t) ∷ fs) fs) q)
+named_step true q k t fs is h = shown_by (by_key q k) t (named fs q) is h
+named_step false q k t fs is h = h
+
+pub named_kept : (q : List ℕ) (s : Tables) → IsShown (named (filter is_created s) q)
+named_kept q [] = tt
+named_kept q (e ∷ es) = named_step e.1.is_created q e.0 e.1 (filter is_created es) refl (named_kept q es)
+
+all_shown : (o : Option Stored) → IsShown o → option_map (λ (t : Stored). t.schema) o ≡ option_map (λ (t : Table). t.schema) (option_and_then shown o)
+all_shown None h = refl
+all_shown (Some t) h = sym (shown_schema t.is_created (table_in t) h)
+
+pub none_held : (es : List Entry) (s : Tables) → IsStrictlySortedBy cmp (keys_of es) → tables_in es ≡ filter is_created s → (q : List ℕ) → schema_at (tables_in es) q ≡ schema_of (store_of (tables_in es)) q
+none_held es s up kept q =
+    all_shown (named (tables_in es) q) (subst (λ (t : Tables). IsShown (named t q)) (sym kept) (named_kept q s))
+    ∙ sym (ap (option_map (λ (t : Table). t.schema)) (table_seen q (tables_in es) (seen_order es up)))
+
+-- ---- changes
+
+pub if_both : {X E : Type 0} (r : Result X E) (P Q R : X → Type 0) → ((x : X) → P x → Q x → R x) → IfOk r P → IfOk r Q → IfOk r R
+if_both (Ok x) P Q R f h g = f x h g
+if_both (Err e) P Q R f h g = tt
+
+pub always_ok : {X E : Type 0} (r : Result X E) (P : Type 0) → P → OnOk r P
+always_ok (Ok x) P h = h
+always_ok (Err e) P h = tt
+
+ready_here : (b : Bool) (schema : Schema) (o p : Option Schema) → b ≡ true → o ≡ None → (if b then Some (unwrap_or o schema) else p) ≡ Some schema
+ready_here true schema o p is no_schema_yet = ap (λ x. Some (unwrap_or x schema)) no_schema_yet
+ready_here false schema o p is no_schema_yet = absurd cc
+
+-- a creation whose table is held ready
+pub ready_create : (name lent : List ℕ) (schema : Schema) (store : Store) (old new : Tables) → lent ≡ name → ((q : List ℕ) → schema_at new q ≡ schema_after (create lent schema) old q) → ((q : List ℕ) → schema_of store q ≡ schema_at old q) → IsReady (create name schema) None store new
+ready_create name lent schema store old new same schemas known = λ no_table.
+    schemas name ∙ ready_here (bytes_eq name lent) schema (schema_at old lent) (schema_at old name) (ap (bytes_eq name) same ∙ itself name) (sym (known lent) ∙ ap (schema_of store) same ∙ no_table)
+
+ready_at : (name row : List ℕ) (form : Option (List ℕ)) (store : Store) (old new : Tables) → ((q : List ℕ) → schema_of store q ≡ schema_at old q)
+    → ((schema : Schema) → schema_at old name ≡ Some schema → FormsRow schema row form) → ((schema : Schema) → schema_at old name ≡ Some schema → HasRoomFor (slots_at new name) form) → IsReady (put name row) form store new
+ready_at name row form store old new known formed room = λ schema is. (formed schema (sym (known name) ∙ is), room schema (sym (known name) ∙ is))
+
+-- a row that has its room
+pub ready_put : (name lent row read : List ℕ) (form : Option (List ℕ)) (store : Store) (old new : Tables) → lent ≡ name → read ≡ row → ((q : List ℕ) → schema_of store q ≡ schema_at old q)
+    → ((schema : Schema) → schema_at old lent ≡ Some schema → FormsRow schema read form) → ((schema : Schema) → schema_at old lent ≡ Some schema → HasRoomFor (slots_at new lent) form) → IsReady (put name row) form store new
+ready_put name lent row read form store old new same same_row known formed room =
+    subst (λ (n : List ℕ). IsReady (put n row) form store new) same (subst (λ (r : List ℕ). IsReady (put lent r) form store new) same_row (ready_at lent read form store old new known formed room))
+
+pub sound_of : (d : Change) → is_change d ≡ true → is_sound d ≡ true
+sound_of (create name schema) h = h
+sound_of (put name row) h = refl
+sound_of (remove name key) h = refl
+
+-- ---- how many are created
+
+count_step : (b : Bool) (k : List ℕ) (t : Stored) (n : ℕ) (rest : Store) → t.is_created ≡ b → n ≡ length rest → cond t.is_created 1 0 + n ≡ length (with_row k (shown t) rest)
+count_step true k t n rest is h =
+    let more : 1 + n ≡ suc (length rest) = omega arith in
+    ap (λ c. cond c 1 0 + n) is ∙ more ∙ sym (ap (λ c. length (with_row k (cond c (Some (table_in t)) None) rest)) is)
+count_step false k t n rest is h =
+    let same : 0 + n ≡ length rest = omega arith in
+    ap (λ c. cond c 1 0 + n) is ∙ same ∙ sym (ap (λ c. length (with_row k (cond c (Some (table_in t)) None) rest)) is)
+
+pub count_created : (es : List Entry) → count_by (λ (t : Stored). t.is_created) (values_of es) ≡ length (store_of (tables_in es))
+count_created [] = refl
+count_created (e ∷ es) =
+    sum_by-cons (λ (t : Stored). cond t.is_created 1 0) e.1 (values_of es)
+    ∙ count_step e.1.is_created e.0.items e.1 (count_by (λ (t : Stored). t.is_created) (values_of es)) (store_of (tables_in es)) refl (count_created es)

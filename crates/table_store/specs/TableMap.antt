@@ -1,5 +1,5 @@
 -- The tables of a store by their names: those that are created, and those that are held ready.
-use Rattle.std.specs.Prelude.{◌≡◌, ℕ, List, [], ◌∷◌, Option, Some, None, bytes_eq, if◌then◌else◌, map, option_map, unwrap_or, true}
+use Rattle.std.specs.Prelude.{◌≡◌, ℕ, Bool, List, [], ◌∷◌, Option, Some, None, bytes_eq, if◌then◌else◌, map, option_map, unwrap_or, true}
 use Rattle.std.specs.Global.{Vec}
 use Rattle.std.specs.Map.{lookup}
 use Rattle.std.specs.BTreeMap.{BTreeMap, IsOrdered}
@@ -19,6 +19,9 @@ shown_entry e = (e.0, shown e.1)
 -- the tables that are created
 abbrev pub store_of : Tables → Store
 store_of tables = rows_of (map shown_entry tables)
+
+abbrev pub is_created : List ℕ × Stored → Bool
+is_created e = e.1.is_created
 
 abbrev pub named : Tables → List ℕ → Option Stored
 named tables name = lookup (by_key name) tables
@@ -40,6 +43,11 @@ tables_in entries = map entry_of entries
 abbrev pub is_ordered : BTreeMap (Vec ℕ) Stored → Type 0
 is_ordered m = IsOrdered (λ x y. by_bytes x.items y.items) m
 
+-- the names rise, and what is created is a store
+pub record IsTableMap (m : BTreeMap (Vec ℕ) Stored) : Type 0 where
+  pub ordered : is_ordered m
+  pub good : is_store (store_of (tables_in m.entries)) ≡ true
+
 -- ---- room
 
 -- t has all the room that s has, and its tables with their schemas
@@ -55,7 +63,8 @@ IsReady (remove name key) form store tables = (schema : Schema) → schema_of st
 
 -- all changes do, one after another
 abbrev pub AreReady : List Change → List (Option (List ℕ)) → Store → Tables → Type 0
-AreReady [] forms store tables = Unit {0}
+AreReady [] [] store tables = Unit {0}
+AreReady [] (form ∷ forms) store tables = ⊥
 AreReady (change ∷ changes) [] store tables = ⊥
 AreReady (change ∷ changes) (form ∷ forms) store tables = IsReady change form store tables × AreReady changes forms (apply change store) tables
 

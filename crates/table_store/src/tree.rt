@@ -1,11 +1,11 @@
 //! What is done to one table of the tree.
 
-ghost use Rattle.std.specs.Prelude.{◌≡◌, ℕ, List, None, OnOk, Some, IfOk, bytes_eq, option_copied, true};
+ghost use Rattle.std.specs.Prelude.{◌≡◌, ℕ, List, None, OnOk, Some, IfOk, bytes_eq, filter, option_copied, true};
 ghost use Rattle.row_values.specs.Schema.{Schema};
 ghost use Rattle.tables.specs.Change.{create as create_change, put as put_change, remove as remove_change};
 ghost use Rattle.tables.specs.Tables.{apply, schema_of};
 ghost use Rattle.table_store.specs.Stored.{FormsKey, FormsRow, HasRoomFor, form_in};
-ghost use Rattle.table_store.specs.TableMap.{Grows, IsReady, is_ordered, named, schema_after, schema_at, slots_at, store_of, tables_in};
+ghost use Rattle.table_store.specs.TableMap.{Grows, IsReady, is_created, is_ordered, named, schema_after, schema_at, slots_at, store_of, tables_in};
 
 use crate::stored_table::StoredTable;
 use row_values::Schema;
@@ -134,4 +134,12 @@ pub(crate) fn release(tables: &mut BTreeMap<Vec<u8>, StoredTable>, name: &[u8], 
     if let Some(table) = tables.get_mut(name) {
         table.release(form);
     }
+}
+
+/// Takes out the tables that are held ready and not created.
+pub(crate) fn keep_created(tables: &mut BTreeMap<Vec<u8>, StoredTable>)
+    ensures kept { tables_in tables.new.entries ≡ filter is_created (tables_in tables.old.entries) }
+    ensures ordered { is_ordered tables.new }
+{
+    tables.retain(|_, table| table.is_created());
 }
