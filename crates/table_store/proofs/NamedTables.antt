@@ -19,7 +19,7 @@ use Rattle.tables.specs.Tables.{Store, Table, apply, schema_of, table_of, with_t
 use Rattle.tables.proofs.Finding.{found_put, itself, same_bytes}
 use Rattle.tables.proofs.Changes.{names_apart}
 use Rattle.table_store.specs.Stored.{Stored, created_table, shown}
-use Rattle.table_store.specs.TableMap.{Grows, Tables, entry_of, named, schema_after, schema_at, shown_entry, slots_at, store_of, tables_in}
+use Rattle.table_store.specs.TableMap.{Grows, Tables, named, schema_after, schema_at, shown_entry, store_of, tables_in}
 
 -- ---- names
 
@@ -199,10 +199,10 @@ store_created q schema s t u up at made good =
     let seen : table_of (store_of s) q ≡ shown t = table_seen q s up ∙ ap (option_and_then shown) at in
     create_by q schema s (store_of (set_value (by_key q) s u)) t (table_of (store_of s) q) refl
     (λ none.
-      ap rows_of (set_shown q s u ∙ ap (set_value (by_key q) (map shown_entry s)) made)
-      ∙ put_row nat_list_cmp_total exact_bytes q (created_table t) (map shown_entry s) up (name_room q s t at)
-      ∙ ap (insert_entry by_bytes (store_of s) q)
-      (ap (λ o. unwrap_or o (fresh t.schema)) (sym seen ∙ none) ∙ ap fresh (good (ap (option_map (λ (x : Table). x.schema)) none))))
+    ap rows_of (set_shown q s u ∙ ap (set_value (by_key q) (map shown_entry s)) made)
+    ∙ put_row nat_list_cmp_total exact_bytes q (created_table t) (map shown_entry s) up (name_room q s t at)
+    ∙ ap (insert_entry by_bytes (store_of s) q)
+    (ap (λ o. unwrap_or o (fresh t.schema)) (sym seen ∙ none) ∙ ap fresh (good (ap (option_map (λ (x : Table). x.schema)) none))))
     (λ x is. store_same q s t u at (made ∙ ap (λ o. Some (unwrap_or o (fresh t.schema))) (sym seen ∙ is) ∙ sym is ∙ seen))
 
 -- ---- a table that is held ready

@@ -1,5 +1,5 @@
 -- Changes that have their room, one after another.
-use Rattle.std.proofs.Common.{◌≡◌, ℕ, ◌+◌, ◌<◌, zero, suc, List, [], ◌∷◌, ◌++◌, Bool, true, false, cond, if◌then◌else◌, refl, sym, ap, subst, ◌∙◌, map, take, drop, length, get_or, Option, Some, None, arith, add-one}
+use Rattle.std.proofs.Common.{◌≡◌, ℕ, ◌+◌, ◌<◌, zero, suc, List, [], ◌∷◌, ◌++◌, Bool, if◌then◌else◌, refl, sym, ap, subst, ◌∙◌, map, take, drop, length, get_or, Option, Some, None, arith}
 use Rattle.std.specs.Prelude.{bytes_eq, unwrap_or}
 use Rattle.std.proofs.lemmas.List.{take_more}
 use Rattle.row_values.specs.Schema.{Schema}

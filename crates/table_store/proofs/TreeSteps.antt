@@ -12,10 +12,10 @@ use Rattle.row_values.specs.Schema.{Schema}
 use Rattle.tables.specs.Change.{Change, create, is_change, put, remove}
 use Rattle.tables.specs.View.{is_sound}
 use Rattle.tables.proofs.Finding.{itself}
-use Rattle.tables.specs.Tables.{Store, Table, apply, put_row, remove_row, schema_of, table_of, with_table}
+use Rattle.tables.specs.Tables.{Store, Table, apply, remove_row, schema_of, table_of, with_table}
 use Rattle.table_store.specs.Stored.{FormsKey, FormsRow, HasRoomFor, Stored, created_table, shown, table_in}
 use Rattle.table_store.specs.TableMap.{Grows, IsReady, Tables, entry_of, is_created, named, schema_after, schema_at, slots_at, store_of, tables_in}
-use Rattle.table_store.proofs.NamedTables.{Entry, cmp, grows_itself, grows_readied, grows_set, schemas_known, schemas_readied, schemas_set, seen_insert, seen_named, seen_order, seen_set, store_changed, store_created, store_none, store_readied, store_same, table_seen, with_none}
+use Rattle.table_store.proofs.NamedTables.{Entry, cmp, grows_readied, grows_set, schemas_known, schemas_readied, schemas_set, seen_insert, seen_named, seen_order, seen_set, store_changed, store_created, store_none, store_readied, store_same, table_seen}
 
 -- the schema of a table that is shown
 shown_schema : (b : Bool) (t : Table) → b ≡ true → option_map (λ (x : Table). x.schema) (cond b (Some t) None) ≡ Some t.schema

@@ -117,10 +117,7 @@ impl TableView for TableStore {
 }
 
 // The schema of the table of a name, where there is one.
-fn shared_schema(
-    tables: &TableMap,
-    name: &str,
-) -> Result<Option<Arc<Schema, Global>>, AllocError>
+fn shared_schema(tables: &TableMap, name: &str) -> Result<Option<Arc<Schema, Global>>, AllocError>
     ensures found { IfOk result (λ schema. option_map arc_value schema ≡ schema_of (store_of tables.now) name.now) }
     ensures good { is_store (store_of tables.now) ≡ true }
 {

@@ -129,7 +129,8 @@ impl StoredTable {
         if let Some(form) = form {
             self.remove_at(form.as_slice());
         } else {
-            let _rows = &self.rows;
+            // Read, so that it is known that every row stands at a key.
+            let _ = &self.rows;
         }
     }
 

@@ -151,11 +151,7 @@ fn reserve_in(
 }
 
 // Does what a change does, which has its room.
-fn apply_in(
-    tables: &mut BTreeMap<Vec<u8>, StoredTable>,
-    action: Action,
-    form: &Option<Vec<u8>>,
-)
+fn apply_in(tables: &mut BTreeMap<Vec<u8>, StoredTable>, action: Action, form: &Option<Vec<u8>>)
     requires ordered { is_ordered tables.old }
     requires ready { IsReady (action_of action) (form_in form.now) (store_of (tables_in tables.old.entries)) (tables_in tables.old.entries) }
     ensures store { store_of (tables_in tables.new.entries) ≡ apply (action_of action) (store_of (tables_in tables.old.entries)) }

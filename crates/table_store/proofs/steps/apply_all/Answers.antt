@@ -19,7 +19,7 @@ loop-change-preserved c = record {
   can = tt;
   finite = tt;
   room = rest_ready (λ (s : Step). form_in s.form) (change_of c.in-Some.change) (map change_of c.next.new.self.rest.items) (map change_of c.loop-change.change-iterator.rest.items) (store_of c.loop-change.tables) (store_of c.apply.new.self) c.loop-change.tables c.apply.new.self c.args.steps.now c.loop-change.i c.index-steps-i.result
-    (ap (map change_of) c.in-Some.ensures.steps.0) c.apply.ensures.store c.apply.ensures.grows c.loop-change.invariant.room c.index-steps-i.is;
+      (ap (map change_of) c.in-Some.ensures.steps.0) c.apply.ensures.store c.apply.ensures.grows c.loop-change.invariant.room c.index-steps-i.is;
   made = rest_made (change_of c.in-Some.change) (map change_of c.next.new.self.rest.items) (map change_of c.loop-change.change-iterator.rest.items) (store_of c.loop-change.tables) (store_of c.apply.new.self) (apply_all (map change_of c.args.changes.items) (store_of c.args.tables.now))
-    (ap (map change_of) c.in-Some.ensures.steps.0) c.apply.ensures.store c.loop-change.invariant.made;
+      (ap (map change_of) c.in-Some.ensures.steps.0) c.apply.ensures.store c.loop-change.invariant.made;
 }

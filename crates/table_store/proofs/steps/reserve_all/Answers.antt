@@ -13,7 +13,7 @@ loop-change-preserved c =
     record {
       store = c.reserve.ensures.store ∙ c.loop-change.invariant.store;
       room = next_ready (map change_of (take c.loop-change.change-index c.args.changes.now)) (change_of c.change-item.result) (map change_of (take (c.loop-change.change-index + 1) c.args.changes.now)) more (store_of c.args.tables.now) c.loop-change.tables c.reserve.new.self c.loop-change.invariant.known
-        (forms_of c.loop-change.steps.items) (forms_of c.push_step.new.steps.items) (form_in c.in_ok-form.form) c.in_ok-push_step.ensures c.loop-change.invariant.room c.reserve.ensures.grows c.in_ok-form.ensures.ready;
+          (forms_of c.loop-change.steps.items) (forms_of c.push_step.new.steps.items) (form_in c.in_ok-form.form) c.in_ok-push_step.ensures c.loop-change.invariant.room c.reserve.ensures.grows c.in_ok-form.ensures.ready;
       known = next_known (map change_of (take c.loop-change.change-index c.args.changes.now)) (change_of c.change-item.result) (map change_of (take (c.loop-change.change-index + 1) c.args.changes.now)) more (store_of c.args.tables.now) c.loop-change.tables c.reserve.new.self c.loop-change.invariant.known
-        c.in_ok-form.ensures.schemas;
+          c.in_ok-form.ensures.schemas;
     }

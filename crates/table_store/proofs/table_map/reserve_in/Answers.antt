@@ -1,5 +1,5 @@
 -- Each change has its room.
-use Rattle.std.proofs.Common.{◌≡◌, ℕ, List, None, Some, subst, sym, ◌∙◌}
+use Rattle.std.proofs.Common.{◌≡◌, ℕ, List, None, Some, subst, sym}
 use Rattle.std.specs.String.{string_bytes}
 use Rattle.row_values.specs.Schema.{Schema}
 use Rattle.tables.specs.Change.{action_of}

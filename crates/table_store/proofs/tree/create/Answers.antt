@@ -1,5 +1,4 @@
 -- The table of the name is created in its place.
-use Rattle.std.proofs.Common.{ap}
 use Rattle.table_store.proofs.TreeSteps.{created_written, grows_written, not_created}
 use Rattle.table_store.proofs.tree.create.Goals as goal
 

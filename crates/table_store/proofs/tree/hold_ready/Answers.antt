@@ -1,5 +1,5 @@
 -- A table that is not shown is added, where there is none of the name.
-use Rattle.std.proofs.Common.{ap, refl, ◌∙◌}
+use Rattle.std.proofs.Common.{ap, ◌∙◌}
 use Rattle.table_store.specs.Stored.{Stored, shown}
 use Rattle.table_store.proofs.TreeSteps.{grows_added, schemas_added, still_known, store_added}
 use Rattle.table_store.proofs.tree.hold_ready.Goals as goal

@@ -1,5 +1,5 @@
 -- The room is made in the table of the name, where there is one.
-use Rattle.std.proofs.Common.{◌≡◌, ℕ, Some, subst, sym}
+use Rattle.std.proofs.Common.{◌≡◌, Some, subst}
 use Rattle.row_values.specs.Schema.{Schema}
 use Rattle.table_store.specs.Stored.{FormsRow, HasRoomFor, form_in}
 use Rattle.table_store.specs.TableMap.{schema_at, slots_at, tables_in}

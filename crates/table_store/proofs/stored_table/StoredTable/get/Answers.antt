@@ -1,5 +1,5 @@
 -- The row of a key stands at its form.
-use Rattle.std.proofs.Common.{◌≡◌, ℕ, List, IfOk, Option, option_map, ap, subst, sym, ◌∙◌}
+use Rattle.std.proofs.Common.{◌≡◌, ℕ, List, IfOk, Option, option_map, ap, subst, ◌∙◌}
 use Rattle.std.specs.Prelude.{bytes_eq}
 use Rattle.std.specs.Arc.{arc_value}
 use Rattle.std.specs.Map.{lookup}

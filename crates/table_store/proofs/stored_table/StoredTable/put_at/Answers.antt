@@ -1,9 +1,9 @@
 -- The row is put at the form of its key.
-use Rattle.std.proofs.Common.{◌≡◌, ℕ, List, option_map, ap, subst, sym, ◌∙◌, true≢false, true, Bool}
+use Rattle.std.proofs.Common.{option_map, ap, subst, sym, ◌∙◌, true≢false}
 use Rattle.std.specs.Arc.{arc_value}
 use Rattle.ordered_rows.specs.Slots.{rows_of}
 use Rattle.tables.specs.Tables.{put_row}
-use Rattle.table_store.specs.Stored.{HaveForms, IsRowAt, Stored, shown}
+use Rattle.table_store.specs.Stored.{HaveForms, Stored, shown}
 use Rattle.table_store.proofs.FormLaws.{forms_put}
 use Rattle.table_store.proofs.Shown.{put_created, row_there}
 use Rattle.table_store.proofs.stored_table.StoredTable.put_at.Goals as goal

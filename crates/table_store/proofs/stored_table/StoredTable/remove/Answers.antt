@@ -1,8 +1,5 @@
 -- Without a form it is no key.
-use Rattle.std.proofs.Common.{◌≡◌, ap, option_map, subst, sym, ◌∙◌}
 use Rattle.std.specs.Arc.{arc_value}
-use Rattle.tables.specs.Tables.{remove_row}
-use Rattle.table_store.specs.Stored.{Stored, shown}
 use Rattle.table_store.proofs.Shown.{not_removed}
 use Rattle.table_store.proofs.stored_table.StoredTable.remove.Goals as goal
 

@@ -1,8 +1,7 @@
 -- The row of a key stands at its form.
-use Rattle.std.proofs.Common.{◌≡◌, ℕ, List, Option, option_map, ap, subst, sym, ◌∙◌}
+use Rattle.std.proofs.Common.{option_map, ap, subst, sym, ◌∙◌}
 use Rattle.std.specs.Arc.{arc_value}
 use Rattle.std.specs.Map.{remove_entry}
-use Rattle.row_values.specs.Schema.{Schema}
 use Rattle.ordered_rows.specs.Slots.{by_key, rows_of}
 use Rattle.tables.specs.Tables.{remove_row}
 use Rattle.table_store.specs.Stored.{HaveForms, IsFormOf, Stored, shown}
