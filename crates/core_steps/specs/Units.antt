@@ -3,7 +3,8 @@ use Rattle.std.specs.Prelude.{ℕ, ◌-◌, ◌==◌, ◌||◌, nat_lt, Bool, tr
 use Rattle.std.specs.List.{flat_map, list_any}
 use Rattle.drda_words.specs.Order.{precedes}
 use Rattle.tables.specs.Change.{Change, change_bytes}
-use Rattle.tables.specs.Tables.{Store, apply}
+pub use Rattle.tables.specs.Applied.{apply_all}
+use Rattle.tables.specs.Tables.{Store}
 use Rattle.unit_locks.specs.Claim.{Claim}
 use Rattle.unit_locks.specs.Clash.{clash}
 
@@ -42,10 +43,6 @@ has_any (x ∷ xs) = true
 -- it has a claim or a change
 abbrev pub has_work : Work → Bool
 has_work u = has_any u.changes || has_any u.claims
-
-abbrev pub apply_all : List Change → Store → Store
-apply_all [] s = s
-apply_all (x ∷ xs) s = apply_all xs (apply x s)
 
 -- what the unit sees of the committed store
 abbrev pub view : Store → Work → Store

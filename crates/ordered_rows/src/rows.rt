@@ -89,6 +89,7 @@ impl OrderedRows {
     pub fn remove(&mut self, key: &[u8])
         ensures rows { rows_of self.new ≡ remove_entry (by_key key.now) (rows_of self.old) }
         ensures room { (q : List ℕ) → HasRoom q self.old → HasRoom q self.new }
+        ensures rising { IsStrictlySortedBy by_bytes (keys_of (rows_of self.old)) }
     {
         write_slot(&mut self.slots, key, None);
     }

@@ -1,6 +1,7 @@
 pub mod Change
 pub mod ChangeView
 pub mod Tables
+pub mod Applied
 pub mod View
 pub mod Rows
 pub mod RowList

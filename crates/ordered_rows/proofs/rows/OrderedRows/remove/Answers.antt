@@ -1,5 +1,5 @@
 use Rattle.std.proofs.Common.{None}
-use Rattle.ordered_rows.proofs.Seen.{remove_seen, room_seen}
+use Rattle.ordered_rows.proofs.Seen.{remove_seen, room_seen, rows_rising}
 use Rattle.ordered_rows.proofs.rows.OrderedRows.remove.Goals as goal
 
 pub returns-clause-rows : goal.returns-clause-rows
@@ -7,3 +7,6 @@ returns-clause-rows c = remove_seen c.self.inside.slots.entries c.args.self.now 
 
 pub returns-clause-room : goal.returns-clause-room
 returns-clause-room c = room_seen c.self.inside.slots.entries c.args.self.now c.self.view_is c.self.invariant c.args.key.now None c.write_slot.new.slots.entries c.write_slot.ensures.entries
+
+pub returns-clause-rising : goal.returns-clause-rising
+returns-clause-rising c = rows_rising c.self.inside.slots.entries c.args.self.now c.self.view_is c.self.invariant

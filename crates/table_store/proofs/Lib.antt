@@ -1,0 +1,5 @@
+pub mod FormLaws
+pub mod Shown
+pub mod NamedTables
+pub mod TreeSteps
+pub mod Reserving

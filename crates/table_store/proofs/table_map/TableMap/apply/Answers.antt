@@ -1,0 +1,14 @@
+-- A change keeps a store one.
+use Rattle.std.proofs.Common.{ap, ◌∙◌}
+use Rattle.tables.specs.Change.{action_of}
+use Rattle.tables.specs.View.{is_store}
+use Rattle.tables.proofs.Keeping.{apply_keeps}
+use Rattle.table_store.specs.TableMap.{store_of, tables_in}
+use Rattle.table_store.proofs.TreeSteps.{sound_of}
+use Rattle.table_store.proofs.table_map.TableMap.apply.Goals as goal
+
+pub invariant_of-self : goal.invariant_of-self
+invariant_of-self c = record {
+  ordered = c.apply_in.ensures.ordered;
+  good = ap is_store c.apply_in.ensures.store ∙ apply_keeps (action_of c.args.change.action) (store_of (tables_in c.self.inside.tables.entries)) (sound_of (action_of c.args.change.action) c.args.change.good) c.self.invariant.good;
+}

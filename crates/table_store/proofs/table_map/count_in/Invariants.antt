@@ -1,0 +1,14 @@
+-- What is counted and what is left are all created tables.
+use Rattle.std.proofs.Common.{◌≡◌, ◌+◌, ◌≤◌, length}
+use Rattle.std.specs.Prelude.{count_by}
+use Rattle.table_store.specs.Stored.{Stored}
+use Rattle.table_store.specs.TableMap.{store_of, tables_in}
+use Rattle.table_store.proofs.table_map.count_in.Given as goal
+
+abbrev pub invariant-loop-table : goal.invariant-loop-table
+invariant-loop-table l = record {
+  can : (goal.iterator-loop-table).can_next l.table-iterator;
+  finite : (goal.iterator-loop-table).is_finite l.table-iterator;
+  sum : l.count + count_by (λ (t : Stored). t.is_created) l.table-iterator ≡ length (store_of (tables_in l.fn.tables.entries));
+  few : l.count + length l.table-iterator ≤ length l.fn.tables.entries;
+}

@@ -1,0 +1,4 @@
+pub mod Stored
+pub mod TableMap
+pub mod Steps
+pub mod TableStore

@@ -1,0 +1,75 @@
+-- The tables of a store by their names: those that are created, and those that are held ready.
+use Rattle.std.specs.Prelude.{◌≡◌, ℕ, Bool, List, [], ◌∷◌, Option, Some, None, bytes_eq, if◌then◌else◌, map, option_map, unwrap_or, true}
+use Rattle.std.specs.Global.{Vec}
+use Rattle.std.specs.Map.{lookup}
+use Rattle.std.specs.BTreeMap.{BTreeMap, IsOrdered}
+use Rattle.ordered_rows.specs.Slots.{HasRoom, Slots, by_bytes, by_key, rows_of}
+use Rattle.row_values.specs.Schema.{Schema}
+use Rattle.tables.specs.Change.{Change, create, put, remove}
+use Rattle.tables.specs.Tables.{Store, Table, apply, schema_of}
+use Rattle.tables.specs.View.{is_store}
+use Rattle.table_store.specs.Stored.{FormsKey, FormsRow, HasRoomFor, Stored, shown}
+
+abbrev pub Tables : Type 0
+Tables = List (List ℕ × Stored)
+
+abbrev pub shown_entry : List ℕ × Stored → List ℕ × Option Table
+shown_entry e = (e.0, shown e.1)
+
+-- the tables that are created
+abbrev pub store_of : Tables → Store
+store_of tables = rows_of (map shown_entry tables)
+
+abbrev pub is_created : List ℕ × Stored → Bool
+is_created e = e.1.is_created
+
+abbrev pub named : Tables → List ℕ → Option Stored
+named tables name = lookup (by_key name) tables
+
+abbrev pub schema_at : Tables → List ℕ → Option Schema
+schema_at tables name = option_map (λ (t : Stored). t.schema) (named tables name)
+
+abbrev pub slots_at : Tables → List ℕ → Slots
+slots_at tables name = unwrap_or (option_map (λ (t : Stored). t.slots) (named tables name)) []
+
+-- ---- the tree that holds them
+
+abbrev pub entry_of : Vec ℕ × Stored → List ℕ × Stored
+entry_of e = (e.0.items, e.1)
+
+abbrev pub tables_in : List (Vec ℕ × Stored) → Tables
+tables_in entries = map entry_of entries
+
+abbrev pub is_ordered : BTreeMap (Vec ℕ) Stored → Type 0
+is_ordered m = IsOrdered (λ x y. by_bytes x.items y.items) m
+
+-- the names rise, and what is created is a store
+pub record IsTableMap (m : BTreeMap (Vec ℕ) Stored) : Type 0 where
+  pub ordered : is_ordered m
+  pub good : is_store (store_of (tables_in m.entries)) ≡ true
+
+-- ---- room
+
+-- t has all the room that s has, and its tables with their schemas
+pub record Grows (s t : Tables) : Type 0 where
+  pub rooms : (name form : List ℕ) → HasRoom form (slots_at s name) → HasRoom form (slots_at t name)
+  pub schemas : (name : List ℕ) (schema : Schema) → schema_at s name ≡ Some schema → schema_at t name ≡ Some schema
+
+-- a change of this store finds its room, at the form of its row
+abbrev pub IsReady : Change → Option (List ℕ) → Store → Tables → Type 0
+IsReady (create name schema) form store tables = schema_of store name ≡ None → schema_at tables name ≡ Some schema
+IsReady (put name row) form store tables = (schema : Schema) → schema_of store name ≡ Some schema → FormsRow schema row form × HasRoomFor (slots_at tables name) form
+IsReady (remove name key) form store tables = (schema : Schema) → schema_of store name ≡ Some schema → FormsKey schema key form
+
+-- all changes do, one after another
+abbrev pub AreReady : List Change → List (Option (List ℕ)) → Store → Tables → Type 0
+AreReady [] [] store tables = Unit {0}
+AreReady [] (form ∷ forms) store tables = ⊥
+AreReady (change ∷ changes) [] store tables = ⊥
+AreReady (change ∷ changes) (form ∷ forms) store tables = IsReady change form store tables × AreReady changes forms (apply change store) tables
+
+-- the schema of a name once a change has its room
+abbrev pub schema_after : Change → Tables → List ℕ → Option Schema
+schema_after (create name schema) tables q = if bytes_eq q name then Some (unwrap_or (schema_at tables name) schema) else schema_at tables q
+schema_after (put name row) tables q = schema_at tables q
+schema_after (remove name key) tables q = schema_at tables q

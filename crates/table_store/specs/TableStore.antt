@@ -1,0 +1,15 @@
+-- What a table store shows, and for which changes it has room.
+use Rattle.std.specs.Prelude.{List}
+use Rattle.tables.specs.Change.{Change}
+use Rattle.tables.specs.Tables.{Store}
+use Rattle.table_store.specs.declared.store.TableStore.{TableStore}
+use Rattle.table_store.specs.Steps.{forms_of}
+use Rattle.table_store.specs.TableMap.{AreReady, store_of}
+
+-- the committed tables
+abbrev pub store_in : TableStore → Store
+store_in s = store_of s.tables
+
+-- there is room for these changes, made in their order
+abbrev pub IsReserved : List Change → TableStore → Type 0
+IsReserved changes s = AreReady changes (forms_of s.steps.items) (store_of s.tables) s.tables

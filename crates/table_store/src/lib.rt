@@ -1,0 +1,11 @@
+//! The committed tables in memory: rows in the order of their keys, in trees in which room is made
+//! before a change, so that the change itself can't fail.
+#![tactic(auto)]
+
+mod steps;
+mod store;
+mod stored_table;
+mod table_map;
+mod tree;
+
+pub use store::TableStore;
