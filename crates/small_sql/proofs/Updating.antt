@@ -1,5 +1,5 @@
 -- What an UPDATE is answered, by what its plan finds.
-use Rattle.std.proofs.Common.{◌≡◌, ℕ, Bool, true, false, List, [], Option, Some, None, Ok, Err, refl, sym, ap, subst, ◌∙◌, length, filter, option_map}
+use Rattle.std.proofs.Common.{◌≡◌, ℕ, true, false, List, [], Option, Some, None, Ok, Err, refl, sym, ap, subst, ◌∙◌, length, filter}
 use Rattle.drda_words.specs.Excuse.{Answers}
 use Rattle.sql_text.specs.declared.tree.Assignment.{Assignment}
 use Rattle.sql_text.specs.declared.tree.Sum.{Sum}
@@ -19,7 +19,7 @@ use Rattle.sql_literals.specs.declared.error.StatementError.TheVariants as state
 use Rattle.sql_meaning.specs.Checked.{Checked, and_then, fault_in, if_none}
 use Rattle.sql_meaning.specs.Classes.{filter_fault}
 use Rattle.sql_meaning.specs.Frame.{CoveredIsEnough, rows_covered, tables_covered}
-use Rattle.sql_meaning.specs.Meaning.{Answer, Refused, answer, answered, meaning, update_answer, within_room}
+use Rattle.sql_meaning.specs.Meaning.{Answer, Refused, answer, answered, meaning, within_room}
 use Rattle.sql_meaning.specs.Scope.{filter_key, scope, scope_by}
 use Rattle.sql_meaning.specs.Truth.{counts}
 use Rattle.sql_meaning.specs.Update.{targets, updated_rows}

@@ -1,8 +1,8 @@
 -- Assignments that are bound one after another.
-use Rattle.std.proofs.Common.{◌≡◌, ◌≤◌, ◌-◌, ℕ, List, [], ◌∷◌, ◌++◌, Option, Some, None, Ok, Err, Result, ◌||◌, nat_eq, length, take, drop, get_or, refl, sym, ap, subst, ◌∙◌, append_assoc, map}
+use Rattle.std.proofs.Common.{◌≡◌, ◌≤◌, ◌-◌, ℕ, List, [], ◌∷◌, ◌++◌, Option, Some, None, Ok, Err, ◌||◌, nat_eq, length, take, drop, get_or, refl, sym, ap, subst, ◌∙◌}
 use Rattle.std.specs.Prelude.{slice_set}
 use Rattle.std.specs.List.{list_any, slice_get}
-use Rattle.std.proofs.lemmas.List.{append-nil}
+use Rattle.std.proofs.lemmas.List.{append-nil, map-append}
 use Rattle.sql_text.specs.declared.tree.Sum.{Sum}
 use Rattle.sql_text.specs.declared.tree.Assignment.{Assignment}
 use Rattle.row_values.specs.Value.{Value}
@@ -15,7 +15,7 @@ use Rattle.sql_updates.specs.Assigned.{all_set, assigned, places, total}
 use Rattle.sql_updates.specs.declared.sum.BoundSum.{BoundSum}
 use Rattle.sql_updates.specs.declared.target.Target.{Target}
 use Rattle.sql_updates.proofs.Checks.{inside, joins, none_then, nothing_before, same_each, same_fault, then_then}
-use Rattle.sql_updates.proofs.Lists.{map_push, opened}
+use Rattle.sql_updates.proofs.Lists.{opened}
 
 -- ---- places
 
@@ -84,7 +84,7 @@ module _ (params : List Value) (cs : List Column) (key : List ℕ) (all : List A
     done = so.done ++ (place, a.sum) ∷ [];
     means = λ old vs. more_means params cs old bound so.done place sum a.sum vs (same old) (so.means old vs);
     whole =
-        ap (λ (found : List ℕ). and_then (targets params cs key found later) (λ more. Ok ((so.done ++ (place, a.sum) ∷ []) ++ more))) (map_push (λ (t : Target). t.place) bound (record { place = place; sum = sum }))
+        ap (λ (found : List ℕ). and_then (targets params cs key found later) (λ more. Ok ((so.done ++ (place, a.sum) ∷ []) ++ more))) (map-append (λ (t : Target). t.place) bound (record { place = place; sum = sum } ∷ []))
         ∙ joins (ℕ × Sum) so.done (place, a.sum) (targets params cs key (places bound ++ place ∷ []) later)
         ∙ ap (λ (r : Checked (List (ℕ × Sum))). and_then r (λ more. Ok (so.done ++ more))) (sym (taken (places bound) a later place is fine))
         ∙ so.whole;

@@ -3,6 +3,7 @@ use Rattle.std.proofs.Common.{◌≡◌, ◌<◌, length, ◌+◌, ℕ, List, []
 use Rattle.std.specs.Prelude.{IfSome}
 use Rattle.std.specs.List.{slice_get}
 use Rattle.std.proofs.lemmas.Option.{get_or_from_slice_get, slice_get_within}
+use Rattle.std.proofs.lemmas.List.{map-append}
 use Rattle.std.proofs.Math.Seq.{drop-cons}
 use Rattle.drda_words.specs.Excuse.{Answers}
 use Rattle.sql_text.specs.declared.tree.Sum.{Sum}
@@ -20,7 +21,6 @@ use Rattle.sql_meaning.specs.Update.{updated_row, updated_rows}
 use Rattle.sql_updates.specs.Assigned.{StandFor}
 use Rattle.sql_updates.specs.declared.target.Targets.{Targets}
 use Rattle.sql_updates.proofs.Checks.{joins, then_then}
-use Rattle.sql_updates.proofs.Lists.{map_push}
 
 split_at : (rows : List (List ℕ)) (i : ℕ) (row : List ℕ) → slice_get rows i ≡ Some row → drop i rows ≡ row ∷ drop (i + 1) rows
 split_at rows i row at =
@@ -64,7 +64,7 @@ pub one_more : (targets : Targets) (table : List ℕ) (schema at : Schema) (rows
     → (params : List Value) (ts : List (ℕ × Sum)) → StandFor params schema.columns targets ts → With params table schema ts rows (i + 1) (map change_of ys)
 one_more targets table schema at rows i row xs ys x same there pushed puts so params ts stand =
     let put_so = subst (λ (s : Schema). (params : List Value) (ts : List (ℕ × Sum)) → StandFor params s.columns targets ts → one params table s ts row ≡ Ok (change_of x)) same puts in
-    subst (λ (done : List Change). With params table schema ts rows (i + 1) done) (sym (ap (map change_of) pushed ∙ map_push change_of xs x))
+    subst (λ (done : List Change). With params table schema ts rows (i + 1) done) (sym (ap (map change_of) pushed ∙ map-append change_of xs (x ∷ [])))
     (steps params table schema ts rows i row (change_of x) (map change_of xs) there (put_so params ts stand) (so params ts stand))
 
 -- what is refused for a row is refused for all

@@ -1,6 +1,5 @@
-use Rattle.std.proofs.Common.{List, map, rules}
+use Rattle.std.proofs.Common.{map, rules}
 use Rattle.row_values.specs.RowView.{row_in, schema_in}
-use Rattle.tables.specs.Change.{Change}
 use Rattle.tables.specs.ChangeView.{change_of}
 use Rattle.sql_updates.proofs.Rows.{one_more, row_refused}
 use Rattle.sql_updates.proofs.change.puts.Goals as goal
