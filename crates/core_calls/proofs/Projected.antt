@@ -1,78 +1,17 @@
 -- How long a row is of which some columns are asked for.
-use Rattle.std.proofs.Common.{◌≡◌, ◌≤◌, ℕ, zero, suc, ◌*◌, Bool, true, false, ◌&&◌, List, [], ◌∷◌, length, Option, Some, None, refl, sym, ◌∙◌, ap, subst, arith, nat_le, nat_lt, eqb-true, length-append}
-use Rattle.std.specs.Prelude.{if◌then◌else◌, is_none, is_some, option_map, unwrap_or}
+use Rattle.std.proofs.Common.{◌≡◌, ◌≤◌, ℕ, zero, suc, ◌*◌, Bool, true, false, List, [], ◌∷◌, length, Option, Some, None, refl, subst, arith, nat_le}
+use Rattle.std.specs.Prelude.{if◌then◌else◌, is_some, option_map, unwrap_or}
 use Rattle.std.specs.Option.{option_and_then}
 use Rattle.std.specs.List.{cons_option, list_all, slice_get}
-use Rattle.std.specs.Str.{is_utf8}
 use Rattle.std.proofs.lemmas.Bool.Decides.{nat_tests}
-use Rattle.row_values.specs.declared.column.Kind.{Kind}
-use Rattle.row_values.specs.declared.column.Kind.TheVariants.{SmallInt, Integer, BigInt, VarChar, VarBinary}
-use Rattle.row_values.specs.declared.column.Misfit.TheVariants.{TooLong}
-use Rattle.row_values.specs.Value.{Value, null, number, text, binary}
-use Rattle.row_values.specs.Column.{Column, fits, within}
-use Rattle.row_values.specs.Schema.{Schema, are_columns, is_column, is_key_of, is_limit, is_name, is_schema, no_repeat, picked, same_name}
-use Rattle.row_values.specs.Row.{all_fit, is_row, row_bytes, typed_value_at, value_at, value_bytes, values_at, values_in, values_of}
+use Rattle.row_values.specs.Value.{Value}
+use Rattle.row_values.specs.Column.{Column, fits}
+use Rattle.row_values.specs.Schema.{Schema, is_column, picked}
+use Rattle.row_values.specs.Row.{all_fit, is_row, typed_value_at, value_at, values_at, values_in, values_of}
+use Rattle.row_values.proofs.Keys.{all_at, row_short, schema_columns}
+use Rattle.row_values.proofs.ValueLaws.{both_true, first_true, second_true}
 use Rattle.tables.specs.RowList.{is_selection}
 use Rattle.core_calls.specs.Projected.{ProjectedRowsAreShort, projected}
-
-first_true : (a b : Bool) → (a && b) ≡ true → a ≡ true
-first_true true b h = refl
-first_true false b h = absurd cc
-
-second_true : (a b : Bool) → (a && b) ≡ true → b ≡ true
-second_true true b h = h
-second_true false b h = absurd cc
-
-both_true : (a b : Bool) → a ≡ true → b ≡ true → (a && b) ≡ true
-both_true a b h k = rw (h, k) refl
-
-all_at : {A : Type 0} (p : A → Bool) (xs : List A) (i : ℕ) (x : A) → list_all p xs ≡ true → slice_get xs i ≡ Some x → p x ≡ true
-all_at p [] i x all is = absurd cc
-all_at p (y ∷ ys) zero x all is = let same : y ≡ x = cc in ap p (sym same) ∙ first_true (p y) (list_all p ys) all
-all_at p (y ∷ ys) (suc i) x all is = all_at p ys i x (second_true (p y) (list_all p ys) all) is
-
--- ---- one value
-
-limit_short : (kind : Kind) (limit : ℕ) → is_limit kind limit ≡ true → limit ≤ 2000
-limit_short SmallInt limit h = let e : limit ≡ 0 = eqb-true limit 0 h in omega arith
-limit_short Integer limit h = let e : limit ≡ 0 = eqb-true limit 0 h in omega arith
-limit_short BigInt limit h = let e : limit ≡ 0 = eqb-true limit 0 h in omega arith
-limit_short VarChar limit h = let e : nat_le limit 2000 ≡ true = second_true (nat_lt 0 limit) (nat_le limit 2000) h in grind (arith, nat_tests)
-limit_short VarBinary limit h = let e : nat_le limit 2000 ≡ true = second_true (nat_lt 0 limit) (nat_le limit 2000) h in grind (arith, nat_tests)
-
-length_told : (b d : Bool) → (is_none (within b TooLong) && d) ≡ true → b ≡ true
-length_told true d h = refl
-length_told false d h = absurd cc
-
-value_short : (nullable : Bool) (kind : Kind) (limit : ℕ) (name : List ℕ) (value : Value) → limit ≤ 2000 → fits (record { name = name; kind = kind; is_nullable = nullable; limit = limit }) value ≡ true → length (value_bytes kind value) ≤ 2003
-value_short nullable kind limit name null short fit = omega arith
-value_short nullable SmallInt limit name (number z) short fit = omega arith
-value_short nullable Integer limit name (number z) short fit = omega arith
-value_short nullable BigInt limit name (number z) short fit = omega arith
-value_short nullable VarChar limit name (number z) short fit = omega arith
-value_short nullable VarBinary limit name (number z) short fit = omega arith
-value_short nullable SmallInt limit name (text t) short fit = omega arith
-value_short nullable Integer limit name (text t) short fit = omega arith
-value_short nullable BigInt limit name (text t) short fit = omega arith
-value_short nullable VarChar limit name (text t) short fit = let le : nat_le (length t) limit ≡ true = length_told (nat_le (length t) limit) (is_utf8 t) fit in let l : length t ≤ limit = grind (arith, nat_tests) in omega arith
-value_short nullable VarBinary limit name (text t) short fit = omega arith
-value_short nullable SmallInt limit name (binary t) short fit = omega arith
-value_short nullable Integer limit name (binary t) short fit = omega arith
-value_short nullable BigInt limit name (binary t) short fit = omega arith
-value_short nullable VarChar limit name (binary t) short fit = omega arith
-value_short nullable VarBinary limit name (binary t) short fit = let le : nat_le (length t) limit ≡ true = length_told (nat_le (length t) limit) true fit in let l : length t ≤ limit = grind (arith, nat_tests) in omega arith
-
--- ---- many
-
-row_short : (columns : List Column) (values : List Value) → list_all is_column columns ≡ true → all_fit columns values ≡ true → length (row_bytes columns values) ≤ 2003 * length columns
-row_short [] [] good fit = omega arith
-row_short [] (v ∷ vs) good fit = absurd cc
-row_short (c ∷ cs) [] good fit = absurd cc
-row_short (c ∷ cs) (v ∷ vs) good fit =
-    let one : length (value_bytes c.kind v) ≤ 2003 = value_short c.is_nullable c.kind c.limit c.name v (limit_short c.kind c.limit (second_true (is_name c.name) (is_limit c.kind c.limit) (first_true (is_column c) (list_all is_column cs) good))) (first_true (fits c v) (all_fit cs vs) fit) in
-    let more : length (row_bytes cs vs) ≤ 2003 * length cs = row_short cs vs (second_true (is_column c) (list_all is_column cs) good) (second_true (fits c v) (all_fit cs vs) fit) in
-    let sum = length-append (value_bytes c.kind v) (row_bytes cs vs) in
-    omega arith
 
 -- ---- the values of a row fit
 
@@ -158,11 +97,6 @@ count_step (Some c) rest n h = omega (arith, h)
 picked_count : (cs : List Column) (ps : List ℕ) → length (picked cs ps) ≤ length ps
 picked_count cs [] = omega arith
 picked_count cs (p ∷ ps) = count_step (slice_get cs p) (picked cs ps) (length ps) (picked_count cs ps)
-
-schema_columns : (schema : Schema) → is_schema schema ≡ true → list_all is_column schema.columns ≡ true
-schema_columns schema good =
-    let cs = schema.columns in
-    second_true (nat_le (length cs) 64) (list_all is_column cs) (first_true (nat_le (length cs) 64 && list_all is_column cs) (no_repeat same_name cs) (first_true (are_columns cs) (is_key_of cs schema.key) good))
 
 pub rows_are_short : ProjectedRowsAreShort
 rows_are_short l i row good listed is =

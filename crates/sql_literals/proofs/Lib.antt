@@ -1,4 +1,3 @@
-pub mod Limits
 pub mod Numbers
 pub mod Places
 pub mod Texts

@@ -1,6 +1,6 @@
 use Rattle.std.proofs.Common.{◌≡◌, ◌≤◌, ◌<◌, length, min, ◌+◌, ◌-◌, ◌*◌, ◌^◌, get_or, arith, rules, refl, ◌∙◌, sym}
 use Rattle.sql_text.specs.Number.{number_of}
-use Rattle.sql_literals.proofs.Limits.{goes_on, ended}
+use Rattle.sql_text.proofs.Limits.{goes_on, ended}
 use Rattle.sql_literals.proofs.number.magnitude.Goals as goal
 
 pub loop-digit-init : goal.loop-digit-init
