@@ -9,7 +9,7 @@ use std::alloc::{AllocError, Global};
 use std::test::Fail;
 
 /// The places of a statement's columns, and the types of its parameters; or its SQLCODE.
-const DESCRIBED: [(&'static str, &'static str, &'static str); 15] = [
+static DESCRIBED: [(&'static str, &'static str, &'static str); 15] = [
     ("SELECT * FROM T", "0 1 2 ", ""),
     (
         "SELECT V, K, V FROM T WHERE K = ? AND ? < V",

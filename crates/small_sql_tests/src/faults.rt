@@ -4,7 +4,7 @@ use crate::fixtures::{ROOM, answered, store};
 use std::test::Fail;
 
 /// Statements that are refused, where so many bytes of changes are left.
-const REFUSED: [(&'static str, usize, &'static str); 40] = [
+static REFUSED: [(&'static str, usize, &'static str); 40] = [
     // no table of this name, before anything else
     ("SELECT Z FROM X WHERE N = 'a'", ROOM, "-204"),
     ("INSERT INTO X (Z, Z) VALUES (1)", ROOM, "-204"),
@@ -77,7 +77,7 @@ fn the_first_fault_counts(rt: HostRuntime) -> Result<(), Fail> {
 }
 
 /// Statements whose changes have just as many bytes as are left.
-const FITS: [(&'static str, usize, &'static str); 3] = [
+static FITS: [(&'static str, usize, &'static str); 3] = [
     ("INSERT INTO T VALUES (4, 5, 'a')", 17, "1 changed"),
     ("DELETE FROM T WHERE K = 4", 10, "1 changed"),
     ("DELETE FROM T WHERE K = 4", 0, "0 changed"),

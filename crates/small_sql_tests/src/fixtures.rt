@@ -15,7 +15,7 @@ pub(crate) const PARAMS: [Value<'static>; 3] = [Value::Number(2), Value::Text("b
 pub(crate) const ROOM: usize = 10_000;
 
 // `T` with three rows, and `U` with none.
-const STORE: [&'static str; 5] = [
+static STORE: [&'static str; 5] = [
     "CREATE TABLE T (K INTEGER NOT NULL, N SMALLINT, V VARCHAR(3) NOT NULL, PRIMARY KEY (K))",
     "CREATE TABLE U (A BIGINT NOT NULL, B VARBINARY(2000), C VARBINARY(2000), D VARBINARY(2000), PRIMARY KEY (A))",
     "INSERT INTO T VALUES (3, 6, 'c')",

@@ -4,7 +4,7 @@ use crate::fixtures::{ROOM, answered, store};
 use std::test::Fail;
 
 /// How often each statement reads one row, and how often all rows.
-const READS: [(&'static str, usize, usize); 11] = [
+static READS: [(&'static str, usize, usize); 11] = [
     ("SELECT * FROM T WHERE K = 2", 1, 0),
     ("SELECT * FROM T WHERE K = ? AND V = 'x'", 1, 0),
     ("SELECT * FROM T WHERE (K = 2)", 0, 1),

@@ -3,7 +3,7 @@
 use crate::fixtures::{ROOM, answered, store};
 use std::test::Fail;
 
-const RUN: [(&'static str, &'static str); 26] = [
+static RUN: [(&'static str, &'static str); 26] = [
     ("SELECT * FROM T", "1 - a ;2 5 b ;3 6 c ;"),
     ("SELECT V, k, V FROM t WHERE N IS NULL", "a 1 a ;"),
     ("SELECT K FROM T WHERE K = ?", "2 ;"),
