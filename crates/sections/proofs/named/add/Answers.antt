@@ -1,0 +1,12 @@
+use Rattle.std.proofs.Common.{◌∙◌}
+use Rattle.std.specs.Prelude.{bytes_eq}
+use Rattle.indexmap.proofs.CallerLemmas.{insert_entry-new}
+use Rattle.sections.proofs.Entries.{added_by}
+use Rattle.sections.proofs.named.add.Goals as goal
+
+pub returns : goal.returns
+returns c =
+    let key = c.into_section-name.result.0 in
+    let section = c.into_section-name.result.1 in
+    added_by c.args.sections.now.entries c.insert.new.self.entries key section c.args.preparation.name _ c.into_section-name.ensures.name c.into_section-name.ensures.section c.requires.absent
+    (λ none. c.in-Ok.ensures.entries ∙ insert_entry-new (λ x y. bytes_eq x.items y.items) c.args.sections.now key section none)

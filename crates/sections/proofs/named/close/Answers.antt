@@ -1,0 +1,12 @@
+use Rattle.std.proofs.Common.{ap}
+use Rattle.sections.specs.Cursors.{closed}
+use Rattle.sections.proofs.Entries.{Entries, changed_by, unchanged_by}
+use Rattle.sections.proofs.named.close.Goals as goal
+
+pub returns-in-Some-clause-list : goal.returns-in-Some-clause-list
+returns-in-Some-clause-list c =
+    changed_by c.args.name.now closed c.args.sections.now.entries _ c.in-Some.section.now c.close.new.self c.in-Some.ensures.value c.close.ensures (c.get_mut.follows.holds c.close.new.self).0
+
+pub returns-in-None-clause-list : goal.returns-in-None-clause-list
+returns-in-None-clause-list c =
+    unchanged_by c.args.name.now closed c.args.sections.now.entries _ c.in-None.ensures.value (ap (λ m. m.entries) c.get_mut.follows.holds-at-none)

@@ -1,0 +1,5 @@
+pub mod Kept
+pub mod Cursors
+pub mod Blocks
+pub mod Units
+pub mod ByName

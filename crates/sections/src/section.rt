@@ -1,0 +1,146 @@
+//! A section: a prepared statement, and its cursor where one is open.
+
+ghost use Rattle.std.specs.Prelude.{◌≡◌, None, IfOk, option_copied};
+ghost use Rattle.std.specs.Option.{option_and_then};
+ghost use Rattle.std.specs.String.{string_bytes};
+ghost use Rattle.sections.specs.Units.{section_ended};
+
+use crate::cursor::Cursor;
+use std::alloc::{AllocError, Global};
+use std::marker::Model;
+use tables::RowList;
+
+/// A statement that was prepared, and its cursor where one is open.
+#[derive(Debug, Drop)]
+pub struct Section {
+    text: String,
+    is_held: bool,
+    cursor: Option<Cursor>,
+}
+
+impl Model for Section {
+    ghost use Rattle.std.specs.String.{string_bytes};
+    ghost use Rattle.sections.specs.Kept.{Section};
+
+    ghost Value = { Section };
+
+    ghost view = { λ s. record { text = string_bytes s.text; is_held = s.is_held; cursor = s.cursor } };
+}
+
+impl Section {
+    ghost use Rattle.sections.specs.Cursors.{closed, with_cursor};
+    ghost use Rattle.sections.specs.Blocks.{section_advanced};
+
+    pub fn new(text: String, is_held: bool) -> Section
+        ensures { result ≡ record { text = string_bytes text; is_held = is_held; cursor = None } }
+    {
+        Section {
+            text,
+            is_held,
+            cursor: None,
+        }
+    }
+
+    pub fn prepare(&mut self, text: String, is_held: bool)
+        ensures { self.new ≡ record self.old { text = string_bytes text; is_held = is_held } }
+    {
+        self.text = text;
+        self.is_held = is_held;
+    }
+
+    pub fn text(&self) -> &str
+        ensures { result.now ≡ self.now.text }
+    {
+        self.text.as_str()
+    }
+
+    pub fn cursor(&self) -> Option<&Cursor>
+        ensures { option_copied result ≡ self.now.cursor }
+    {
+        self.cursor.as_ref()
+    }
+
+    pub fn begin(&mut self, rows: RowList, instance: u64, block_size: u32)
+        ensures { self.new ≡ with_cursor rows instance block_size self.old }
+    {
+        self.cursor = Some(Cursor::new(rows, instance, self.is_held, block_size));
+    }
+
+    pub fn advance(&mut self, count: usize, size: u32)
+        ensures { self.new ≡ section_advanced count size self.old }
+    {
+        self.cursor = match self.cursor.take() {
+            Some(cursor) => cursor.advanced(count, size),
+            None => None,
+        };
+    }
+
+    pub fn close(&mut self)
+        ensures { self.new ≡ closed self.old }
+    {
+        self.cursor = None;
+    }
+
+    pub fn end_unit(&mut self, keeps_held: bool)
+        ensures { self.new ≡ section_ended keeps_held self.old }
+    {
+        self.cursor = match self.cursor.take() {
+            Some(cursor) => cursor.ended(keeps_held),
+            None => None,
+        };
+    }
+}
+
+/// A statement with the name of the section in which it is to be prepared.
+#[derive(Debug, Drop)]
+pub struct Preparation {
+    name: Vec<u8>,
+    text: String,
+    is_held: bool,
+}
+
+impl Model for Preparation {
+    ghost use Rattle.std.specs.String.{string_bytes};
+    ghost use Rattle.sections.specs.Kept.{Preparation};
+
+    ghost Value = { Preparation };
+
+    ghost view = { λ p. record { name = p.name.items; text = string_bytes p.text; is_held = p.is_held } };
+}
+
+impl Preparation {
+    pub fn new(
+        alloc: Global,
+        name: &[u8],
+        text: &str,
+        is_held: bool,
+    ) -> Result<Preparation, AllocError>
+        ensures { IfOk result (λ p. p ≡ record { name = name.now; text = text.now; is_held = is_held }) }
+    {
+        Ok(Preparation {
+            name: name.to_vec(alloc)?,
+            text: String::from_str(alloc, text)?,
+            is_held,
+        })
+    }
+
+    pub fn name(&self) -> &[u8]
+        ensures { result.now ≡ self.now.name }
+    {
+        self.name.as_slice()
+    }
+
+    // The name, and the section that is made where none of this name is there.
+    pub fn into_section(self) -> (Vec<u8>, Section)
+        ensures name { result.0.items ≡ self.name }
+        ensures section { result.1 ≡ record { text = self.text; is_held = self.is_held; cursor = None } }
+    {
+        (self.name, Section::new(self.text, self.is_held))
+    }
+
+    pub fn prepare_again(self, section: &mut Section)
+        ensures { section.new ≡ record section.old { text = self.text; is_held = self.is_held } }
+    {
+        section.prepare(self.text, self.is_held);
+    }
+}
