@@ -1,0 +1,5 @@
+pub mod Reply
+pub mod Text
+pub mod Statements
+pub mod Doing
+pub mod Commands

@@ -1,0 +1,7 @@
+//! What the SQL commands of a conversation do: what each asks of the core, what it is answered, and what the
+//! conversation then keeps (DRDA V5 volume 3: EXCSQLIMM, PRPSQLSTT, DSCSQLSTT, EXCSQLSTT, RDBCMM, RDBRLLBCK).
+#![tactic(auto)]
+
+mod ask;
+
+pub use ask::Ask;
