@@ -1,11 +1,10 @@
 -- What each SQL command does (DRDA V5 volume 3: EXCSQLIMM, PRPSQLSTT, DSCSQLSTT, EXCSQLSTT, RDBCMM, RDBRLLBCK).
-use Rattle.std.specs.Prelude.{Bool, true, false, ◌||◌, ℕ, List, [], ◌∷◌, length, Option, Some, None, option_map, unwrap_or, Result, Ok, Err, if◌then◌else◌}
+use Rattle.std.specs.Prelude.{Bool, true, false, ℕ, List, [], ◌∷◌, Option, Some, None, unwrap_or, Result, Ok, Err, if◌then◌else◌}
 use Rattle.sql_text.specs.declared.tree.Command.{Command}
 use Rattle.sql_text.specs.declared.tree.Command.TheVariants as command
 use Rattle.sql_text.specs.declared.tree.Statement.{Statement}
 use Rattle.row_values.specs.Value.{Value}
-use Rattle.row_values.specs.Column.{Column}
-use Rattle.core_calls.specs.Answer.{Answer, closed, count, device_failed, done, full, in_doubt, in_global, input, no_memory, output, refused, rows, xa}
+use Rattle.core_calls.specs.Answer.{Answer, count, done, full, in_global, input, no_memory, output, refused}
 use Rattle.core_calls.specs.Call.{Call, commit, describe, roll_back, run}
 use Rattle.core_calls.specs.Refusal.{fault_of}
 use Rattle.core_calls.specs.declared.call.Side.{Side}
@@ -27,12 +26,16 @@ use Rattle.sql_exchange.specs.Doing.{Doing, Done, answered, asking, finished}
 
 -- ---- answers that any call may have
 
--- what is told of a call that was not done, or whose answer is another call's; nothing else changes
+-- the reply to a call that was not done, or whose answer is another call's
+abbrev pub refusal_reply : Answer → Reply
+refusal_reply (refused refusal) = fault_card (fault_of refusal)
+refusal_reply no_memory = resource_limit
+refusal_reply (full need room) = resource_limit
+refusal_reply _ = agent_failed
+
+-- and nothing else changes
 abbrev pub not_done : Statements → Answer → Done
-not_done k (refused refusal) = answered k (fault_card (fault_of refusal) ∷ [])
-not_done k no_memory = answered k (resource_limit ∷ [])
-not_done k (full need room) = answered k (resource_limit ∷ [])
-not_done k _ = answered k (agent_failed ∷ [])
+not_done k answer = answered k (refusal_reply answer ∷ [])
 
 abbrev pub is_select : Command → Bool
 is_select (command.Select named table filter) = true
@@ -52,23 +55,23 @@ abbrev pub side_for : DescribedSide → Side
 side_for described.Columns = side.Output
 side_for described.Parameters = side.Input
 
--- the database's name as it is answered, and whether names are answered in UTF-8
-module _ (rdb : List ℕ) (unicode : Bool) where
-  -- ---- RDBCMM and RDBRLLBCK
+-- a commit keeps the cursors that are held
+abbrev pub keeps_held : UnitEnd → Bool
+keeps_held Committed = true
+keeps_held RolledBack = false
 
-  -- a commit keeps the cursors that are held
-  abbrev pub keeps_held : UnitEnd → Bool
-  keeps_held Committed = true
-  keeps_held RolledBack = false
+abbrev pub end_call : UnitEnd → Call
+end_call Committed = commit
+end_call RolledBack = roll_back
+
+-- the database's name as it is answered
+module _ (rdb : List ℕ) where
+  -- ---- RDBCMM and RDBRLLBCK
 
   abbrev pub after_end : UnitEnd → Statements → Answer → Done
   after_end end k done = answered (unit_behind (keeps_held end) k) (unit_ended end ∷ null_card ∷ [])
   after_end end k in_global = answered k (command_violation rdb ∷ [])
   after_end end k answer = not_done k answer
-
-  abbrev pub end_call : UnitEnd → Call
-  end_call Committed = commit
-  end_call RolledBack = roll_back
 
   abbrev pub ending : UnitEnd → Statements → Doing
   ending end k = asking (end_call end) (after_end end k)
@@ -111,6 +114,8 @@ module _ (rdb : List ℕ) (unicode : Bool) where
   abbrev pub executed : Statements → Given → Doing
   executed k given = executed_in k given (section_of (unwrap_or (section_in given) []) k.sections)
 
+-- whether names are answered in UTF-8
+module _ (unicode : Bool) where
   -- ---- PRPSQLSTT and DSCSQLSTT
 
   abbrev pub after_describe : Statements → Statements → Answer → Done

@@ -1,5 +1,5 @@
 -- What an SQL command does: it is answered at once, or asks the core, whose answer decides.
-use Rattle.std.specs.Prelude.{List, []}
+use Rattle.std.specs.Prelude.{List}
 use Rattle.core_calls.specs.Call.{Call}
 use Rattle.core_calls.specs.Answer.{Answer}
 use Rattle.sql_exchange.specs.Reply.{Reply}

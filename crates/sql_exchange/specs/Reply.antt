@@ -1,6 +1,6 @@
 -- The replies that SQL commands have, each in a DSS of its own (DRDA V5 volume 3: the reply messages,
 -- SQLCARD and SQLDARD).
-use Rattle.std.specs.Prelude.{ℕ, ℤ, pos, neg_ℤ, ◌==◌, Bool, true, if◌then◌else◌, codes, List, [], ◌∷◌, map}
+use Rattle.std.specs.Prelude.{ℕ, pos, neg_ℤ, ◌==◌, Bool, true, if◌then◌else◌, codes, List, [], ◌∷◌, map}
 use Rattle.ddm_objects.specs.declared.code_point.TheConstants.{RDBNAM, UOWDSP, RSCLMTRM, AGNPRMRM, CMDVLTRM, ENDUOWRM, RDBUPDRM}
 use Rattle.sqlam_replies.specs.declared.message.UnitEnd.{UnitEnd}
 use Rattle.sqlam_replies.specs.Message.{Message, disposition, error, info, message_text, permanent_damage, scalar, warning}

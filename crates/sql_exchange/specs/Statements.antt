@@ -1,5 +1,5 @@
 -- What a conversation keeps for its statements.
-use Rattle.std.specs.Prelude.{Bool, false, List, []}
+use Rattle.std.specs.Prelude.{Bool, false, [], None}
 use Rattle.sections.specs.Kept.{Sections}
 use Rattle.sections.specs.Units.{after_unit}
 
@@ -8,6 +8,10 @@ use Rattle.sections.specs.Units.{after_unit}
 pub record Statements : Type 0 where
   pub sections : Sections
   pub is_change_told : Bool
+
+-- of a conversation that begins
+abbrev pub fresh : Statements
+fresh = record { sections = record { sections = []; reserved = None; openings = 0 }; is_change_told = false }
 
 -- a unit has ended, with the cursors that are held kept or not
 abbrev pub unit_behind : Bool → Statements → Statements

@@ -1,6 +1,6 @@
 -- The text of a statement, the words of its attributes and the values of its markers, as a command brings
 -- them (DRDA V5 volume 3: SQLSTT, SQLATTR, SQLDTA).
-use Rattle.std.specs.Prelude.{◌-◌, ◌++◌, ◌==◌, ◌||◌, ◌&&◌, nat_le, nat_lt, ℕ, Bool, true, false, if◌then◌else◌, codes, bytes_eq, List, [], ◌∷◌, length, map, Option, Some, None, Result, Ok, Err}
+use Rattle.std.specs.Prelude.{◌-◌, ◌++◌, ◌==◌, ◌||◌, ◌&&◌, nat_le, nat_lt, ℕ, Bool, false, if◌then◌else◌, codes, bytes_eq, List, [], ◌∷◌, length, Option, Some, None, Result, Ok, Err}
 use Rattle.std.specs.Option.{option_and_then, option_map_or}
 use Rattle.std.specs.Str.{is_utf8}
 use Rattle.sql_text.specs.Text.{reading}

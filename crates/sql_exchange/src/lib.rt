@@ -2,6 +2,13 @@
 //! conversation then keeps (DRDA V5 volume 3: EXCSQLIMM, PRPSQLSTT, DSCSQLSTT, EXCSQLSTT, RDBCMM, RDBRLLBCK).
 #![tactic(auto)]
 
+mod answer;
 mod ask;
+mod ending;
+mod reply;
+mod statements;
 
 pub use ask::Ask;
+pub use ending::end_unit;
+pub use reply::{Reply, ReplyKind};
+pub use statements::Statements;
