@@ -6,9 +6,12 @@ mod answer;
 mod ask;
 mod ending;
 mod reply;
+mod running;
 mod statements;
+mod text;
 
 pub use ask::Ask;
 pub use ending::end_unit;
 pub use reply::{Reply, ReplyKind};
+pub use running::execute_immediate;
 pub use statements::Statements;

@@ -2,7 +2,7 @@
 
 ghost use Rattle.std.specs.Prelude.{◌≡◌, ◌≤◌, [], length, true, vec_capacity};
 ghost use Rattle.sqlam_replies.specs.Message.{has_short_values, message_of};
-ghost use Rattle.sqlam_replies.specs.Sqlcard.{null_sqlcard};
+ghost use Rattle.sqlam_replies.specs.Sqlcard.{null_sqlcard, sqlcard};
 ghost use Rattle.sql_exchange.specs.Reply as spec;
 
 use core_calls::SqlFault;
@@ -99,15 +99,36 @@ impl Reply {
     }
 
     // The SQLCARD of a fault, in a list of no bytes that has room for it.
-    #[tactic(auto, using(crate::proofs::Cards::state_length))]
     pub(crate) fn of_fault(text: Vec<u8>, fault: SqlFault) -> Reply
         requires empty { text.items ≡ [] }
         requires room { SQLCARD_LENGTH ≤ vec_capacity text }
         ensures { result ≡ spec.fault_card fault }
     {
+        Reply::of_card(text, fault.code(), fault.state(), 0)
+    }
+
+    // The SQLCARD of a statement that changed so many rows, in a list of no bytes that has room for it; of one
+    // that looks for the rows and found none, SQLCODE 100.
+    pub(crate) fn of_count(text: Vec<u8>, is_search: bool, count: u32) -> Reply
+        requires empty { text.items ≡ [] }
+        requires room { SQLCARD_LENGTH ≤ vec_capacity text }
+        ensures { result ≡ spec.count_card is_search count }
+    {
+        if is_search && count == 0 {
+            return Reply::of_card(text, 100, b"02000", 0);
+        }
+        Reply::of_card(text, 0, b"00000", count)
+    }
+
+    // An SQLCARD in a list of no bytes that has room for it.
+    fn of_card(text: Vec<u8>, code: i32, state: &[u8; 5], count: u32) -> Reply
+        requires empty { text.items ≡ [] }
+        requires room { SQLCARD_LENGTH ≤ vec_capacity text }
+        ensures { result ≡ spec.object (sqlcard code state.now count) }
+    {
         texts_have_lengths();
         let mut text = text;
-        match sqlcard(&mut text, fault.code(), fault.state(), 0) {
+        match sqlcard(&mut text, code, state, count) {
             Ok(()) => Reply {
                 kind: ReplyKind::Object,
                 severity: 0,

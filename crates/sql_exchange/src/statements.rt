@@ -1,6 +1,6 @@
 //! What a conversation keeps for its statements.
 
-ghost use Rattle.std.specs.Prelude.{◌≡◌, false};
+ghost use Rattle.std.specs.Prelude.{◌≡◌, false, true};
 ghost use Rattle.sql_exchange.specs.Statements as spec;
 
 use sections::Sections;
@@ -47,5 +47,19 @@ impl Statements {
     {
         self.sections.end_unit(keeps_held);
         self.is_change_told = false;
+    }
+
+    /// Whether RDBUPDRM has told a change of the unit.
+    pub(crate) fn is_change_told(&self) -> bool
+        ensures { result ≡ self.now.is_change_told }
+    {
+        self.is_change_told
+    }
+
+    // RDBUPDRM has told a change of the unit.
+    pub(crate) fn tell_change(&mut self)
+        ensures { self.new ≡ record self.old { is_change_told = true } }
+    {
+        self.is_change_told = true;
     }
 }
