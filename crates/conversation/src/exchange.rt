@@ -166,7 +166,13 @@ fn answer_to(
 ) -> Result<Answer, AllocError>
     ensures { IfOk result (λ a. answer_of a text.new.items ≡ spec.answered settings.now session (judged unserved session.stage session.agreed.unicode contents.now (contents_of (command_of objects.entry)))) }
 {
-    match judge(&UNSERVED, session.stage, session.agreed.unicode, contents, objects) {
+    match judge(
+        &UNSERVED,
+        session.stage,
+        session.agreed.unicode,
+        contents,
+        objects,
+    ) {
         Ok(accepted) => done(settings, session, accepted, text),
         Err(refusal) => refused(settings, session, refusal, text),
     }

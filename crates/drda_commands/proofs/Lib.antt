@@ -1,3 +1,4 @@
 mod Walked
 mod Counting
 mod Faults
+mod Required

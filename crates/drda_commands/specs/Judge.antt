@@ -122,27 +122,30 @@ is_absent form twice = false
 abbrev pub item_missing : Given → Item → Bool
 item_missing given item = item.is_required && is_absent item.form (found_at item.kind item.code given)
 
--- a CCSID, where it stands, is 1208
+-- a CCSID of TYPDEFOVR (DRDA V5 volume 3), where it stands, is 1208
 abbrev pub is_1208 : Occurs → Bool
 is_1208 never = true
 is_1208 (once (high ∷ low ∷ [])) = (high == 0x04) && (low == 0xB8)
 is_1208 occurs = false
 
--- BOOLEAN: one byte, F0 or F1
+-- a BOOLEAN, as RTNSQLDA is (DRDA V5 volume 3, BOOLEAN): one byte, F0 (false) or F1 (true)
 abbrev pub is_boolean : List ℕ → Bool
 is_boolean (b ∷ []) = (b == 0xF0) || (b == 0xF1)
 is_boolean value = false
 
--- TYPSQLDA: one byte, 00 to 05
+-- TYPSQLDA (DRDA V5 volume 3): one byte, 00 to 05
 abbrev pub is_sqlda_type : List ℕ → Bool
 is_sqlda_type (b ∷ []) = nat_le b 5
 is_sqlda_type value = false
 
--- SYNCTYPE: one byte, the number of a call of XA
+-- SYNCTYPE (DRDA V5 volume 3): one byte, the number of a call of XA
 abbrev pub is_sync_type : List ℕ → Bool
 is_sync_type (b ∷ []) = is_some (sync_type_of b)
 is_sync_type value = false
 
+-- A value that is supported, by its form: MGRLVLLS is a list of entries of four bytes; names other than
+-- TYPDEFNAM, which is QTDSQLASC, are judged where they are used; the texts of a statement and the parts of
+-- SQLDTA are judged where they stand.
 abbrev pub is_supported : Bool → Form → List ℕ → Bool
 is_supported unicode ManagerLevels value = length value % 4 == 0
 is_supported unicode AnyBytes value = true

@@ -4,4 +4,5 @@ pub mod Given
 pub mod Refusals
 pub mod Judge
 pub mod Values
+pub mod Needs
 pub mod Views

@@ -1,7 +1,7 @@
 -- What each command reads (DRDA V5 volume 3, the commands' instance variables and command data): its
 -- parameters, then its data objects, and behind them TYPDEFNAM and TYPDEFOVR, which any command may bring as
 -- data objects. The order is the one in which values are judged.
-use Rattle.std.specs.Prelude.{ℕ, ◌==◌, Bool, true, false, List, [], ◌∷◌, ◌++◌, Option, Some, None, if◌then◌else◌}
+use Rattle.std.specs.Prelude.{ℕ, ◌==◌, true, false, List, [], ◌∷◌, ◌++◌, Option, Some, None, if◌then◌else◌}
 use Rattle.ddm_objects.specs.declared.code_point.TheConstants.{MGRLVLLS, SECMEC, RDBNAM, USRID, PASSWORD, TYPDEFNAM, TYPDEFOVR, PKGNAMCSN, RTNSQLDA, TYPSQLDA, QRYBLKSZ, QRYINSID, SYNCTYPE, XID, XAFLAGS, SQLSTT, SQLATTR, SQLDTA}
 use Rattle.drda_commands.specs.declared.table.Command.{Command}
 use Rattle.drda_commands.specs.declared.table.Command.TheVariants.{Excsat, Accsec, Secchk, Accrdb, Excsqlimm, Prpsqlstt, Dscsqlstt, Excsqlstt, Opnqry, Cntqry, Clsqry, Rdbcmm, Rdbrllbck, Syncctl}

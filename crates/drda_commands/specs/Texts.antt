@@ -1,6 +1,6 @@
 -- The texts of SQLSTT and SQLATTR (DRDA V5 volume 1, SQLSTT and its group SQLSTTGRP): a text of mixed
 -- characters, then one of single-byte characters, each of which may be absent.
-use Rattle.std.specs.Prelude.{ℕ, ◌==◌, Bool, nat_lt, List, [], ◌∷◌, length, take, drop, Option, Some, None, if◌then◌else◌}
+use Rattle.std.specs.Prelude.{ℕ, ◌==◌, nat_lt, List, [], ◌∷◌, length, take, drop, Option, Some, None, if◌then◌else◌}
 use Rattle.std.specs.Option.{option_and_then, option_or}
 use Rattle.std.specs.Int.{w32, from_be_bytes}
 

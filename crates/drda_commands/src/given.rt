@@ -3,9 +3,7 @@
 ghost use Rattle.std.specs.Prelude.{◌≡◌, ◌&&◌, option_copied, ◌==◌, if◌then◌else◌, ◌+◌, ◌^◌, ◌-◌, List, ℕ, min, length};
 ghost use Rattle.ddm_objects.specs.Reading.{walk};
 ghost use Rattle.dss_frames.specs.Group.{command_of};
-ghost use Rattle.drda_commands.specs.Given.{contents_of};
-ghost use Rattle.drda_commands.specs.Given.{value_of, seen_again, seen_in, seen_in_texts, found_at, count_in, is_at, objects_fault, texts_fault, own_fault, fault_inside, fault_in, fault_in_texts, first_fault, never};
-ghost use Rattle.drda_commands.specs.Texts.{texts_in};
+ghost use Rattle.drda_commands.specs.Given.{contents_of, value_of, seen_again, seen_in, seen_in_texts, found_at, count_in, is_at, objects_fault, own_fault, fault_inside, fault_in, fault_in_texts, first_fault, never};
 ghost use Rattle.ddm_objects.specs.Source.{view};
 ghost use Rattle.drda_commands.specs.Views.{occurs_of, given_of};
 
@@ -117,15 +115,6 @@ fn objects_fault(text: &[u8]) -> Option<SyntaxError>
     None
 }
 
-fn texts_fault(value: &[u8]) -> Option<SyntaxError>
-    ensures { result ≡ texts_fault (texts_in value.now) }
-{
-    match texts_in(value) {
-        Some(_) => None,
-        None => Some(SyntaxError::MalformedText),
-    }
-}
-
 fn own_fault(form: Form, value: &[u8]) -> Option<SyntaxError>
     ensures { result ≡ own_fault form value.now }
 {
@@ -138,21 +127,18 @@ fn own_fault(form: Form, value: &[u8]) -> Option<SyntaxError>
         | Form::SyncType
         | Form::DefinitionName => None,
         Form::DefinitionOverrides | Form::DescribedData => objects_fault(value),
-        Form::StatementTexts => texts_fault(value),
+        Form::StatementTexts => match texts_in(value) {
+            Some(_) => None,
+            None => Some(SyntaxError::MalformedText),
+        },
     }
-}
-
-fn is_of(item: Item, kind: ItemKind, code: u16) -> bool
-    ensures { result ≡ is_at item.kind kind && (item.code == code) }
-{
-    is_at(item.kind, kind) && item.code == code
 }
 
 fn fault_inside(items: &[Item], kind: ItemKind, object: Object<'_>) -> Option<SyntaxError>
     ensures { result ≡ fault_inside items.now kind (view object.entry) }
 {
     for item in items {
-        if is_of(*item, kind, object.code) {
+        if is_at(item.kind, kind) && item.code == object.code {
             return own_fault(item.form, object.value);
         }
     }

@@ -1,6 +1,6 @@
 //! The judge of commands, in the order of refusals.
 
-ghost use Rattle.std.specs.Prelude.{◌≡◌, ◌&&◌, ◌||◌, Some};
+ghost use Rattle.std.specs.Prelude.{◌≡◌, ◌&&◌, ◌||◌, Some, IfOk};
 ghost use Rattle.std.specs.List.{list_any};
 ghost use Rattle.drda_words.specs.Excuse.{Answers};
 ghost use Rattle.ddm_objects.specs.Source.{view};
@@ -8,6 +8,7 @@ ghost use Rattle.dss_frames.specs.Group.{command_of};
 ghost use Rattle.drda_commands.specs.Tables.{command_for};
 ghost use Rattle.drda_commands.specs.Given.{contents_of, found_inside};
 ghost use Rattle.drda_commands.specs.Judge as spec;
+ghost use Rattle.drda_commands.specs.Needs.{Needs};
 ghost use Rattle.drda_commands.specs.Views.{occurs_of, given_of, accepted_of};
 
 use crate::given::{Given, Occurs, found_in};
@@ -37,15 +38,6 @@ fn command_object(contents: &[u8]) -> Result<Object<'_>, Refusal>
         Ok((object, [])) => Ok(object),
         Ok((_, _)) => Err(Refusal::Syntax(SyntaxError::BytesLeft)),
         Err(fault) => Err(Refusal::Syntax(SyntaxError::InObject(fault))),
-    }
-}
-
-fn known(code: u16) -> Result<Command, Refusal>
-    ensures { result ≡ spec.is_known code (command_for code) }
-{
-    match command_of(code) {
-        Some(command) => Ok(command),
-        None => Err(Refusal::CommandNotSupported(code)),
     }
 }
 
@@ -85,20 +77,11 @@ fn check_whole(command: Command, given: Given<'_>) -> Result<(), Refusal>
     Ok(())
 }
 
-fn is_twice(occurs: Occurs<'_>) -> bool
-    ensures { result ≡ spec.is_twice (occurs_of occurs.entry) }
-{
-    match occurs {
-        Occurs::Never | Occurs::Once(_) => false,
-        Occurs::Twice => true,
-    }
-}
-
 // Whether one of two code points stands twice among the objects of a container.
 fn has_twice(value: &[u8], one: u16, other: u16) -> bool
     ensures { result ≡ spec.is_twice (found_inside one value.now) || spec.is_twice (found_inside other value.now) }
 {
-    is_twice(found_in(one, value)) || is_twice(found_in(other, value))
+    matches!(found_in(one, value), Occurs::Twice) || matches!(found_in(other, value), Occurs::Twice)
 }
 
 fn is_twice_inside(form: Form, value: &[u8]) -> bool
@@ -128,29 +111,23 @@ fn item_twice(given: &Given<'_>, item: Item) -> bool
     }
 }
 
-fn has_no_text(form: Form, value: &[u8]) -> bool
-    ensures { result ≡ spec.has_no_text form value.now }
-{
-    match form {
-        Form::ManagerLevels
-        | Form::AnyBytes
-        | Form::Bytes { .. }
-        | Form::Boolean
-        | Form::SqldaType
-        | Form::SyncType
-        | Form::DefinitionName
-        | Form::DefinitionOverrides
-        | Form::DescribedData => false,
-        Form::StatementTexts => text_in(value).is_none(),
-    }
-}
-
 fn is_absent(form: Form, occurs: Occurs<'_>) -> bool
     ensures { result ≡ spec.is_absent form (occurs_of occurs.entry) }
 {
     match occurs {
         Occurs::Never => true,
-        Occurs::Once(value) => has_no_text(form, value),
+        Occurs::Once(value) => match form {
+            Form::ManagerLevels
+            | Form::AnyBytes
+            | Form::Bytes { .. }
+            | Form::Boolean
+            | Form::SqldaType
+            | Form::SyncType
+            | Form::DefinitionName
+            | Form::DefinitionOverrides
+            | Form::DescribedData => false,
+            Form::StatementTexts => text_in(value).is_none(),
+        },
         Occurs::Twice => false,
     }
 }
@@ -280,10 +257,15 @@ pub fn judge<'a>(
     contents: &'a [u8],
     objects: Group<'a>,
 ) -> Result<Accepted<'a>, Refusal>
-    ensures { Answers accepted_of Some result (spec.judged unserved.now stage unicode contents.now (contents_of (command_of objects.entry))) }
+    ensures verdict { Answers accepted_of Some result (spec.judged unserved.now stage unicode contents.now (contents_of (command_of objects.entry))) }
+
+    // What a command requires has come.
+    ensures brings { IfOk result (λ a. Needs a.command (given_of a.given)) }
 {
     let object = command_object(contents)?;
-    let command = known(object.code)?;
+    let Some(command) = command_of(object.code) else {
+        return Err(Refusal::CommandNotSupported(object.code));
+    };
     check_due(command, stage)?;
     check_served(unserved, command)?;
     let given = Given {

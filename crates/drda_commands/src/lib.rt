@@ -14,5 +14,5 @@ pub use given::{Given, Occurs};
 pub use judging::{Accepted, judge};
 pub use refusal::{Refusal, SyntaxError};
 pub use stage::{Mechanism, Stage};
-pub use table::{Command, Form, Item, ItemKind, command_of, items_of};
+pub use table::{Command, ItemKind};
 pub use values::{DescribedData, DescribedSide};

@@ -45,28 +45,28 @@ pub enum ItemKind {
     DataObject,
 }
 
-/// Which values an item may have.
+/// Which values an item may have (DRDA V5 volume 3, under the name of each).
 #[derive(Clone, Copy)]
 pub enum Form {
-    /// Code points and levels, of two bytes each.
+    /// MGRLVLLS: code points and levels, of two bytes each.
     ManagerLevels,
     /// Any bytes: a name is judged where it is used.
     AnyBytes,
-    /// So many bytes, at least and at most.
+    /// So many bytes, at least and at most: SECMEC, PKGNAMCSN, QRYBLKSZ, QRYINSID.
     Bytes { least: usize, greatest: usize },
-    /// BOOLEAN: F0 (false) or F1 (true).
+    /// BOOLEAN: F0 (false) or F1 (true), as RTNSQLDA.
     Boolean,
-    /// Which of the SQLDAs is described, 00 to 05.
+    /// TYPSQLDA: which SQLDA is described, 00 to 05.
     SqldaType,
-    /// The number of a call of XA.
+    /// SYNCTYPE: the number of a call of XA.
     SyncType,
-    /// The name QTDSQLASC.
+    /// TYPDEFNAM: the name QTDSQLASC.
     DefinitionName,
-    /// A container in which CCSIDSBC and CCSIDMBC, where they stand, are 1208.
+    /// TYPDEFOVR: a container in which CCSIDSBC and CCSIDMBC, where they stand, are 1208.
     DefinitionOverrides,
-    /// The text of a statement, twice: as mixed and as single-byte characters.
+    /// SQLSTT, SQLATTR: a text of mixed and one of single-byte characters, each present or absent.
     StatementTexts,
-    /// A container of FDODSC and FDODTA, parameters and their description.
+    /// SQLDTA: a container of FDODSC and FDODTA, the description and the values of parameters.
     DescribedData,
 }
 
@@ -80,7 +80,7 @@ pub struct Item {
 }
 
 /// The command of a code point; none where it is no command of the profile.
-pub fn command_of(code: u16) -> Option<Command>
+pub(crate) fn command_of(code: u16) -> Option<Command>
     ensures { result ≡ command_for code }
 {
     match code {
@@ -127,7 +127,7 @@ impl Command {
 }
 
 /// What a command reads, in the order in which values are judged.
-pub fn items_of(command: Command) -> &'static [Item]
+pub(crate) fn items_of(command: Command) -> &'static [Item]
     ensures { result.now ≡ items_for command }
 {
     match command {

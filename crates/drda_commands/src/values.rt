@@ -3,7 +3,7 @@
 ghost use Rattle.std.specs.Prelude.{◌≡◌, option_copied};
 ghost use Rattle.std.specs.Option.{option_map};
 ghost use Rattle.drda_commands.specs.Values as spec;
-ghost use Rattle.drda_commands.specs.Values.{number1, number4, number8};
+ghost use Rattle.drda_commands.specs.Values.{number4, number8};
 ghost use Rattle.drda_commands.specs.Views.{given_of, described_of};
 
 use crate::given::found_in;
@@ -13,7 +13,7 @@ use crate::texts::text_in;
 use ddm_objects::code_point;
 
 /// What an SQLDA describes.
-#[derive(Clone, Copy, Debug, PartialEq, Eq)]
+#[derive(Clone, Copy)]
 pub enum DescribedSide {
     /// The columns that a statement answers.
     Columns,
@@ -22,7 +22,7 @@ pub enum DescribedSide {
 }
 
 /// The parts of an SQLDTA (DRDA V5 volume 2), each where it stands there.
-#[derive(Clone, Copy, Debug)]
+#[derive(Clone, Copy)]
 pub struct DescribedData<'a> {
     /// The data of FDODSC.
     pub description: Option<&'a [u8]>,
@@ -46,15 +46,6 @@ fn side_of(value: Option<&[u8]>) -> DescribedSide
         Some([byte]) if *byte % 2 == 1 => DescribedSide::Parameters,
         _ => DescribedSide::Columns,
     }
-}
-
-fn number1(value: &[u8]) -> Option<u8>
-    ensures { result ≡ number1 value.now }
-{
-    let [a] = value else {
-        return None;
-    };
-    Some(*a)
 }
 
 fn number4(value: &[u8]) -> Option<u32>
@@ -149,8 +140,8 @@ impl<'a> Accepted<'a> {
         ensures { result ≡ spec.sync_type_in (given_of self.now.given) }
     {
         match self.brought(ItemKind::Parameter, code_point::SYNCTYPE) {
-            Some(value) => number1(value),
-            None => None,
+            Some([number]) => Some(*number),
+            _ => None,
         }
     }
 
