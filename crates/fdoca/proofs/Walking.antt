@@ -5,14 +5,15 @@ use Rattle.std.proofs.Math.Seq.{take-append_seam}
 use Rattle.std.proofs.lemmas.List.{length-map, take-append-le}
 use Rattle.std.proofs.lemmas.Bool.{ltb-true}
 use Rattle.std.proofs.lemmas.Bool.Decides.{nat_tests}
-use Rattle.std.specs.Prelude.{is_some}
+use Rattle.std.specs.Prelude.{is_some, Result, Ok, Err, OnErr, vec_len, vec_capacity}
+use Rattle.std.specs.Global.{Vec}
 use Rattle.std.proofs.lemmas.Option.{slice_get-map, slice_get_read}
 use Rattle.row_values.specs.declared.column.Column.{Column as CodeColumn}
 use Rattle.row_values.specs.Value.{Value}
 use Rattle.row_values.specs.Column.{Column, column_of, fits}
 use Rattle.row_values.specs.Schema.{picked}
 use Rattle.row_values.specs.Row.{all_fit, row_bytes, value_bytes}
-use Rattle.fdoca.specs.Writing.{answer_closing, answer_descriptor, field_bytes, sent_value, sent_values}
+use Rattle.fdoca.specs.Writing.{answer_closing, answer_descriptor, answer_fields, field_bytes, sent_value, sent_values}
 use Rattle.fdoca.proofs.Sizes.{first_true, second_true}
 use Rattle.fdoca.proofs.Steps.{drop_at}
 
@@ -98,6 +99,64 @@ kept_step old out now more kept le is = ap (take (length old)) is ∙ take-appen
 
 pub longer_step : (old out now more : List ℕ) → length old ≤ length out → now ≡ out ++ more → length old ≤ length now
 longer_step old out now more le is = let sum = ap length is ∙ length-append out more in omega (arith, sum, le)
+
+-- ---- the room
+
+-- a part that does not fit is too long for the whole, of which it is the next part
+pub short_err : (old now : Vec ℕ) (n : ℕ) (rest whole : List ℕ) → now.items ++ rest ≡ old.items ++ whole → n ≤ length rest → vec_capacity old ≤ vec_capacity now
+    → vec_capacity now < vec_len now + n → vec_capacity old < vec_len old + length whole
+short_err old now n rest whole is le more less =
+    let sum = sym (length-append now.items rest) ∙ ap length is ∙ length-append old.items whole in
+    let a = old.ok.0 in
+    let b = now.ok.0 in
+    omega (arith, sum, le, more, less, a, b)
+
+pub on_err : {X E A : Type 0} (r : Result X E) → A → OnErr r A
+on_err (Ok x) a = tt
+on_err (Err e) a = a
+
+pub short : {X E : Type 0} (r : Result X E) (old now : Vec ℕ) (n : ℕ) (rest whole : List ℕ) → now.items ++ rest ≡ old.items ++ whole → n ≤ length rest → vec_capacity old ≤ vec_capacity now
+    → OnErr r (vec_capacity now < vec_len now + n) → OnErr r (vec_capacity old < vec_len old + length whole)
+short (Ok x) old now n rest whole is le more less = tt
+short (Err e) old now n rest whole is le more less = short_err old now n rest whole is le more less
+
+pub sent_room : (columns : List Column) (values : List Value) (places : List ℕ) (i place : ℕ) (column : Column) (value : Value) (sent : List ℕ)
+    → slice_get places i ≡ Some place → slice_get columns place ≡ Some column → slice_get values place ≡ Some value → sent ≡ sent_value column.is_nullable column.kind value
+    → length sent ≤ length (sent_values (picked columns (drop i places)) (picked values (drop i places)))
+sent_room columns values places i place column value sent p q r sent_is =
+    let rest = sent_values (picked columns (drop (i + 1) places)) (picked values (drop (i + 1) places)) in
+    let whole = ap length (both (picked_at columns places i place column p q) (picked_at values places i place value p r)) in
+    let same = ap length sent_is in
+    let sum = length-append (sent_value column.is_nullable column.kind value) rest in
+    omega (arith, whole, same, sum)
+
+-- the next value is counted
+pub counted_step : (columns : List Column) (values : List Value) (places : List ℕ) (i place : ℕ) (column : Column) (value : Value) (count : ℕ) (sent : List ℕ) (whole : ℕ)
+    → slice_get places i ≡ Some place → slice_get columns place ≡ Some column → slice_get values place ≡ Some value → sent ≡ sent_value column.is_nullable column.kind value
+    → count + length (sent_values (picked columns (drop i places)) (picked values (drop i places))) ≡ whole
+    → count + length sent + length (sent_values (picked columns (drop (i + 1) places)) (picked values (drop (i + 1) places))) ≡ whole
+counted_step columns values places i place column value count sent whole p q r sent_is h =
+    let rest = sent_values (picked columns (drop (i + 1) places)) (picked values (drop (i + 1) places)) in
+    let next = ap length (both (picked_at columns places i place column p q) (picked_at values places i place value p r)) in
+    let same = ap length sent_is in
+    let sum = length-append (sent_value column.is_nullable column.kind value) rest in
+    omega (arith, next, same, sum, h)
+
+pub described_room : (columns : List Column) (places : List ℕ) (i place : ℕ) (column : Column) (field : List ℕ) → slice_get places i ≡ Some place → slice_get columns place ≡ Some column
+    → field ≡ field_bytes column → length field ≤ length (flat_map field_bytes (picked columns (drop i places)) ++ answer_closing)
+described_room columns places i place column field p q field_is =
+    let rest = picked columns (drop (i + 1) places) in
+    let whole = ap (λ (cs : List Column). length (flat_map field_bytes cs ++ answer_closing)) (picked_at columns places i place column p q) in
+    let same = ap length field_is in
+    let sum = length-append (field_bytes column ++ flat_map field_bytes rest) answer_closing in
+    let more = length-append (field_bytes column) (flat_map field_bytes rest) in
+    omega (arith, whole, same, sum, more)
+
+pub closing_room : (fields : List ℕ) → length answer_closing ≤ length (fields ++ answer_closing)
+closing_room fields = let sum = length-append fields answer_closing in omega (arith, sum)
+
+pub opening_room : (columns : List Column) → 3 ≤ length (answer_descriptor columns)
+opening_room columns = let sum = length-append (answer_fields columns) answer_closing in omega (arith, sum)
 
 -- ---- the description
 

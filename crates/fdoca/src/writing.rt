@@ -1,6 +1,6 @@
 //! Answers: the description of their rows, and the rows.
 
-ghost use Rattle.std.specs.Prelude.{◌≡◌, ◌≤◌, ◌++◌, ◌∷◌, ℕ, List, OnErr, OnOk, drop, is_some, length, map, nat_lt, take, true, vec_len};
+ghost use Rattle.std.specs.Prelude.{◌≡◌, ◌<◌, ◌≤◌, ◌+◌, ◌++◌, ◌∷◌, ℕ, List, OnErr, OnOk, drop, is_some, length, map, nat_lt, take, true, vec_capacity, vec_len};
 ghost use Rattle.std.specs.List.{list_all, slice_get};
 ghost use Rattle.row_values.specs.Value.{Value};
 ghost use Rattle.row_values.specs.Column.{column_of, fits};
@@ -30,12 +30,15 @@ fn all_below(count: usize, places: &[u8]) -> bool
 }
 
 /// Appends the description of rows of these columns of a schema, given by their places from 0 (the
-/// data of a QRYDSC). Where memory is refused, nothing is appended.
+/// data of a QRYDSC). Where memory is refused nothing is appended, and that does not happen where the
+/// list has room for the description.
 pub fn write_descriptor(out: &mut Vec<u8>, schema: &Schema, places: &[u8]) -> Result<(), AllocError>
     requires few { length places.now ≤ 84 }
     requires within { list_all (λ place. is_some (slice_get schema.now.columns place)) places.now ≡ true }
     ensures ok { OnOk result (out.new.items ≡ out.old.items ++ answer_descriptor (picked schema.now.columns places.now)) }
     ensures err { OnErr result (out.new.items ≡ out.old.items) }
+    ensures full { OnErr result (vec_capacity out.old < vec_len out.old + length (answer_descriptor (picked schema.now.columns places.now))) }
+    ensures capacity { vec_capacity out.old ≤ vec_capacity out.new }
 {
     let start = out.len();
     let columns = schema.columns();
@@ -51,6 +54,8 @@ fn push_descriptor(out: &mut Vec<u8>, columns: &[Column], places: &[u8]) -> Resu
     requires within { list_all (λ place. nat_lt place (length columns.now)) places.now ≡ true }
     ensures ok { OnOk result (out.new.items ≡ out.old.items ++ answer_descriptor (picked (map column_of columns.now) places.now)) }
     ensures kept { take (vec_len out.old) out.new.items ≡ out.old.items }
+    ensures full { OnErr result (vec_capacity out.old < vec_len out.old + length (answer_descriptor (picked (map column_of columns.now) places.now))) }
+    ensures capacity { vec_capacity out.old ≤ vec_capacity out.new }
 {
     out.extend_from_slice(&[(3 + 3 * places.len()) as u8, 0x76, 0xD0])?;
     for i in 0..places.len() {
@@ -102,11 +107,14 @@ fn length_for(kind: Kind, limit: u16) -> u16
 }
 
 /// Appends a row of an answer: of the row's columns those at these places, from 0 (a row in the data
-/// of a QRYDTA). Their bytes are copied as they lie. Where memory is refused, nothing is appended.
+/// of a QRYDTA). Their bytes are copied as they lie. Where memory is refused nothing is appended, and
+/// that does not happen where the list has room for the row.
 pub fn write_row(out: &mut Vec<u8>, row: &RowRef<'_>, places: &[u8]) -> Result<(), AllocError>
     requires { list_all (λ place. is_some (slice_get (schema_in row.now).columns place)) places.now ≡ true }
     ensures ok { OnOk result (out.new.items ≡ out.old.items ++ answer_row (picked (schema_in row.now).columns places.now) (picked (values_in (schema_in row.now) (row_in row.now)) places.now)) }
     ensures err { OnErr result (out.new.items ≡ out.old.items) }
+    ensures full { OnErr result (vec_capacity out.old < vec_len out.old + length (answer_row (picked (schema_in row.now).columns places.now) (picked (values_in (schema_in row.now) (row_in row.now)) places.now))) }
+    ensures capacity { vec_capacity out.old ≤ vec_capacity out.new }
 {
     let start = out.len();
     let columns = row.schema().columns();
@@ -126,6 +134,8 @@ fn push_row(
     requires within { list_all (λ place. nat_lt place (length columns.now)) places.now ≡ true }
     ensures ok { OnOk result ((values : List Value) → all_fit (map column_of columns.now) values ≡ true → row.now ≡ row_bytes (map column_of columns.now) values → out.new.items ≡ out.old.items ++ answer_row (picked (map column_of columns.now) places.now) (picked values places.now)) }
     ensures kept { take (vec_len out.old) out.new.items ≡ out.old.items }
+    ensures full { OnErr result ((values : List Value) → all_fit (map column_of columns.now) values ≡ true → row.now ≡ row_bytes (map column_of columns.now) values → vec_capacity out.old < vec_len out.old + length (answer_row (picked (map column_of columns.now) places.now) (picked values places.now))) }
+    ensures capacity { vec_capacity out.old ≤ vec_capacity out.new }
 {
     out.extend_from_slice(&[0xFF, PRESENT])?;
     let mut next = 0;
@@ -142,7 +152,7 @@ fn push_row(
 }
 
 /// The row's bytes from the value at a place on, where the rest begins with the value at another.
-fn from_place<'a>(
+pub(crate) fn from_place<'a>(
     columns: &[Column],
     row: &'a [u8],
     next: usize,
@@ -150,7 +160,8 @@ fn from_place<'a>(
     place: usize,
 ) -> &'a [u8]
     requires within { place ≤ length columns.now }
-    ensures { (values : List Value) → all_fit (map column_of columns.now) values ≡ true → row.now ≡ row_bytes (map column_of columns.now) values → rest.now ≡ row_bytes (drop next (map column_of columns.now)) (drop next values) → result.now ≡ row_bytes (drop place (map column_of columns.now)) (drop place values) }
+    ensures there { (values : List Value) → all_fit (map column_of columns.now) values ≡ true → row.now ≡ row_bytes (map column_of columns.now) values → rest.now ≡ row_bytes (drop next (map column_of columns.now)) (drop next values) → result.now ≡ row_bytes (drop place (map column_of columns.now)) (drop place values) }
+    ensures shorter { length rest.now ≤ length row.now → length result.now ≤ length row.now }
 {
     if place < next {
         skip_values(columns, 0, place, row)
@@ -164,7 +175,8 @@ fn from_place<'a>(
 fn skip_values<'a>(columns: &[Column], from: usize, to: usize, bytes: &'a [u8]) -> &'a [u8]
     requires before { from ≤ to }
     requires within { to ≤ length columns.now }
-    ensures { (values : List Value) → all_fit (map column_of columns.now) values ≡ true → bytes.now ≡ row_bytes (drop from (map column_of columns.now)) (drop from values) → result.now ≡ row_bytes (drop to (map column_of columns.now)) (drop to values) }
+    ensures there { (values : List Value) → all_fit (map column_of columns.now) values ≡ true → bytes.now ≡ row_bytes (drop from (map column_of columns.now)) (drop from values) → result.now ≡ row_bytes (drop to (map column_of columns.now)) (drop to values) }
+    ensures shorter { length result.now ≤ length bytes.now }
 {
     let mut rest = bytes;
     for j in from..to {
@@ -174,8 +186,10 @@ fn skip_values<'a>(columns: &[Column], from: usize, to: usize, bytes: &'a [u8]) 
 }
 
 /// The bytes of the column's value in front, and what follows.
-fn split_value<'a>(column: &Column, bytes: &'a [u8]) -> (&'a [u8], &'a [u8])
-    ensures { (value : Value) (rest : List ℕ) → fits (column_of column.now) value ≡ true → bytes.now ≡ value_bytes column.now.kind value ++ rest → (result.0.now ≡ value_bytes column.now.kind value) × (result.1.now ≡ rest) }
+pub(crate) fn split_value<'a>(column: &Column, bytes: &'a [u8]) -> (&'a [u8], &'a [u8])
+    ensures cut { (value : Value) (rest : List ℕ) → fits (column_of column.now) value ≡ true → bytes.now ≡ value_bytes column.now.kind value ++ rest → (result.0.now ≡ value_bytes column.now.kind value) × (result.1.now ≡ rest) }
+    ensures shorter { length result.0.now ≤ length bytes.now }
+    ensures left { length result.1.now ≤ length bytes.now }
 {
     let declared = u32::from(column.length);
     prove!(declared < 65_536);
@@ -212,8 +226,9 @@ fn content_size(kind: Kind, bytes: &[u8]) -> usize
 }
 
 /// What of a value's bytes is sent: its mark only where the column takes NULL.
-fn sent_of<'a>(column: &Column, value: &'a [u8]) -> &'a [u8]
-    ensures { (v : Value) → fits (column_of column.now) v ≡ true → value.now ≡ value_bytes column.now.kind v → result.now ≡ sent_value column.now.is_nullable column.now.kind v }
+pub(crate) fn sent_of<'a>(column: &Column, value: &'a [u8]) -> &'a [u8]
+    ensures sent { (v : Value) → fits (column_of column.now) v ≡ true → value.now ≡ value_bytes column.now.kind v → result.now ≡ sent_value column.now.is_nullable column.now.kind v }
+    ensures shorter { length result.now ≤ length value.now }
 {
     match value {
         [_, content @ ..] if !column.is_nullable => content,

@@ -1,1 +1,4 @@
 pub mod Entries
+pub mod Sending
+pub mod Looking
+pub mod Room

@@ -1,6 +1,6 @@
 -- What each call on sections and cursors does (DRDA V5 volume 3: PRPSQLSTT, OPNQRY, CLSQRY, QRYNOPRM, QRYPOPRM).
 use Rattle.std.specs.Prelude.{◌≡◌, ℕ, ◌+◌, Bool, true, ◌==◌, if◌then◌else◌, List, [], ◌∷◌, ◌++◌, Option, None, Some, Result, Ok, Err, IsSome, is_some, bytes_eq}
-use Rattle.std.specs.Option.{option_and_then, option_map, option_map_or}
+use Rattle.std.specs.Option.{option_and_then, option_map_or}
 use Rattle.std.specs.Map.{lookup}
 use Rattle.tables.specs.RowList.{RowList}
 use Rattle.sections.specs.declared.fault.OpenFault.{OpenFault}
@@ -35,7 +35,7 @@ after_prepare p s = record s { sections = with_statement p s.sections; reserved 
 abbrev pub after_reserved : Sections → Sections
 after_reserved s = option_map_or (λ p. after_prepare p s) s.reserved s
 
--- OPNQRY: why no cursor is opened in the section of this name
+-- OPNQRY: why no cursor is opened in the section of this name; an instance number has eight bytes
 abbrev pub fault_in : Option Section → ℕ → Option OpenFault
 fault_in None openings = Some fault.NotPrepared
 fault_in (Some section) openings =

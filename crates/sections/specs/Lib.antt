@@ -3,3 +3,6 @@ pub mod Cursors
 pub mod Blocks
 pub mod Units
 pub mod ByName
+pub mod Fetching
+pub mod Laws
+pub mod Room

@@ -1,5 +1,5 @@
 -- What the end of a unit of work does to cursors (DRDA V5 volume 3: RDBCMM, RDBRLLBCK, SYNCCTL, SQLCSRHLD).
-use Rattle.std.specs.Prelude.{ℕ, Bool, ◌&&◌, if◌then◌else◌, List, map, Option, None, Some}
+use Rattle.std.specs.Prelude.{Bool, ◌&&◌, if◌then◌else◌, map, Option, None, Some}
 use Rattle.std.specs.Option.{option_and_then}
 use Rattle.sections.specs.Kept.{Cursor, Section, Sections}
 

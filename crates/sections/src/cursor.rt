@@ -9,7 +9,7 @@ use std::marker::Model;
 use tables::RowList;
 
 /// The rows of a query as they were at its opening, and how many of them were sent.
-#[derive(Debug, Drop)]
+#[derive(Drop)]
 pub struct Cursor {
     rows: RowList,
     place: usize,
@@ -47,7 +47,7 @@ pub struct Block<'a> {
 }
 
 impl Cursor {
-    pub fn new(rows: RowList, instance: u64, is_held: bool, block_size: u32) -> Cursor
+    pub(crate) fn new(rows: RowList, instance: u64, is_held: bool, block_size: u32) -> Cursor
         ensures { result ≡ record { rows = rows; place = 0; instance = instance; is_held = is_held; block_size = block_size } }
     {
         Cursor {
@@ -63,7 +63,7 @@ impl Cursor {
 impl Cursor {
     ghost use Rattle.sections.specs.Cursors.{is_meant};
 
-    pub fn is_meant(&self, instance: Option<u64>) -> bool
+    pub(crate) fn is_meant(&self, instance: Option<u64>) -> bool
         ensures { result ≡ is_meant instance self.now }
     {
         match instance {
@@ -73,7 +73,7 @@ impl Cursor {
     }
 
     // The cursor, if it stays open at the end of a unit.
-    pub fn ended(self, keeps_held: bool) -> Option<Cursor>
+    pub(crate) fn ended(self, keeps_held: bool) -> Option<Cursor>
         ensures { result ≡ cursor_ended keeps_held self }
     {
         if keeps_held && self.is_held {
@@ -86,10 +86,15 @@ impl Cursor {
 
 impl Cursor {
     ghost use Rattle.sections.specs.Blocks.{advanced, IsBlockOf};
+    ghost use Rattle.sections.specs.Room.{IsShort};
 
-    pub fn block(&self, size: Option<u32>) -> Block<'_>
-        ensures { IsBlockOf self.now size result }
+    pub(crate) fn block(&self, size: Option<u32>) -> Block<'_>
+        ensures next { IsBlockOf self.now size result }
+        ensures short { IsShort result }
     {
+        // Both say that the rows are those of a schema, so none is long.
+        let _columns = self.rows.schema().columns();
+        let _places = self.rows.selected();
         let size = size.unwrap_or(self.block_size);
         let rows = self.rows.len();
         let count = block(&self.rows, self.place, size as usize);
@@ -104,7 +109,7 @@ impl Cursor {
     }
 
     // The cursor behind so many more rows, if any remains.
-    pub fn advanced(self, count: usize, size: u32) -> Option<Cursor>
+    pub(crate) fn advanced(self, count: usize, size: u32) -> Option<Cursor>
         ensures { result ≡ advanced count size self }
     {
         let end = self.place.saturating_add(count);

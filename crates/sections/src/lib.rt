@@ -5,11 +5,22 @@
 
 mod cursor;
 mod fault;
+mod laws;
+mod lengths;
 mod named;
 mod section;
 mod sections;
 
-pub use cursor::{Block, Cursor};
+pub use cursor::Block;
 pub use fault::{NotPrepared, OpenFault, QueryNotOpen};
-pub use section::{Preparation, Section};
+pub use laws::{blocks_send_all_rows, calls_are_local, preparing_keeps_cursors, units_end_cursors};
+pub use lengths::{
+    MAX_ANSWER_ROW_LENGTH, MAX_QRYDSC_LENGTH, MAX_QRYDTA_HEADING, answers_are_short,
+};
 pub use sections::Sections;
+
+// A crate can name the sections in a contract only if the types of their fields are exported.
+#[doc(hidden)]
+pub use cursor::Cursor;
+#[doc(hidden)]
+pub use section::{Preparation, Section};

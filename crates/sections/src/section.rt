@@ -11,7 +11,7 @@ use std::marker::Model;
 use tables::RowList;
 
 /// A statement that was prepared, and its cursor where one is open.
-#[derive(Debug, Drop)]
+#[derive(Drop)]
 pub struct Section {
     text: String,
     is_held: bool,
@@ -31,7 +31,7 @@ impl Section {
     ghost use Rattle.sections.specs.Cursors.{closed, with_cursor};
     ghost use Rattle.sections.specs.Blocks.{section_advanced};
 
-    pub fn new(text: String, is_held: bool) -> Section
+    pub(crate) fn new(text: String, is_held: bool) -> Section
         ensures { result ≡ record { text = string_bytes text; is_held = is_held; cursor = None } }
     {
         Section {
@@ -41,32 +41,32 @@ impl Section {
         }
     }
 
-    pub fn prepare(&mut self, text: String, is_held: bool)
+    pub(crate) fn prepare(&mut self, text: String, is_held: bool)
         ensures { self.new ≡ record self.old { text = string_bytes text; is_held = is_held } }
     {
         self.text = text;
         self.is_held = is_held;
     }
 
-    pub fn text(&self) -> &str
+    pub(crate) fn text(&self) -> &str
         ensures { result.now ≡ self.now.text }
     {
         self.text.as_str()
     }
 
-    pub fn cursor(&self) -> Option<&Cursor>
+    pub(crate) fn cursor(&self) -> Option<&Cursor>
         ensures { option_copied result ≡ self.now.cursor }
     {
         self.cursor.as_ref()
     }
 
-    pub fn begin(&mut self, rows: RowList, instance: u64, block_size: u32)
+    pub(crate) fn begin(&mut self, rows: RowList, instance: u64, block_size: u32)
         ensures { self.new ≡ with_cursor rows instance block_size self.old }
     {
         self.cursor = Some(Cursor::new(rows, instance, self.is_held, block_size));
     }
 
-    pub fn advance(&mut self, count: usize, size: u32)
+    pub(crate) fn advance(&mut self, count: usize, size: u32)
         ensures { self.new ≡ section_advanced count size self.old }
     {
         self.cursor = match self.cursor.take() {
@@ -75,13 +75,13 @@ impl Section {
         };
     }
 
-    pub fn close(&mut self)
+    pub(crate) fn close(&mut self)
         ensures { self.new ≡ closed self.old }
     {
         self.cursor = None;
     }
 
-    pub fn end_unit(&mut self, keeps_held: bool)
+    pub(crate) fn end_unit(&mut self, keeps_held: bool)
         ensures { self.new ≡ section_ended keeps_held self.old }
     {
         self.cursor = match self.cursor.take() {
@@ -92,7 +92,7 @@ impl Section {
 }
 
 /// A statement with the name of the section in which it is to be prepared.
-#[derive(Debug, Drop)]
+#[derive(Drop)]
 pub struct Preparation {
     name: Vec<u8>,
     text: String,
@@ -109,7 +109,7 @@ impl Model for Preparation {
 }
 
 impl Preparation {
-    pub fn new(
+    pub(crate) fn new(
         alloc: Global,
         name: &[u8],
         text: &str,
@@ -124,21 +124,21 @@ impl Preparation {
         })
     }
 
-    pub fn name(&self) -> &[u8]
+    pub(crate) fn name(&self) -> &[u8]
         ensures { result.now ≡ self.now.name }
     {
         self.name.as_slice()
     }
 
     // The name, and the section that is made where none of this name is there.
-    pub fn into_section(self) -> (Vec<u8>, Section)
+    pub(crate) fn into_section(self) -> (Vec<u8>, Section)
         ensures name { result.0.items ≡ self.name }
         ensures section { result.1 ≡ record { text = self.text; is_held = self.is_held; cursor = None } }
     {
         (self.name, Section::new(self.text, self.is_held))
     }
 
-    pub fn prepare_again(self, section: &mut Section)
+    pub(crate) fn prepare_again(self, section: &mut Section)
         ensures { section.new ≡ record section.old { text = self.text; is_held = self.is_held } }
     {
         section.prepare(self.text, self.is_held);

@@ -1,8 +1,9 @@
 //! A conversation's sections.
 
-ghost use Rattle.std.specs.Prelude.{◌≡◌, ◌+◌, ◌<◌, [], None, Some, IfErr, IfSome, MatchResult, OnErr, OnOk, option_map};
+ghost use Rattle.std.specs.Prelude.{◌≡◌, ◌+◌, ◌<◌, [], None, Some, IfErr, IfOk, MatchResult, OnErr, OnOk, option_map};
 ghost use Rattle.sections.specs.Blocks.{NextBlock, after_advance};
 ghost use Rattle.sections.specs.Cursors.{Closes, Opens, after_close, after_open, after_prepare, after_reserved, cursor_of, meant_cursor, opening_fault, section_of};
+ghost use Rattle.sections.specs.Room.{IsShort};
 ghost use Rattle.sections.specs.Units.{after_unit};
 
 use crate::cursor::{Block, Cursor};
@@ -51,8 +52,9 @@ impl Sections {
         }
     }
 
-    /// Prepares a statement in the section of this name, in place of the one that was there. A cursor
-    /// that is open there stays as it is. Where memory is refused, nothing changes.
+    /// Prepares a statement in the section of this name, in place of the one that was there, and gives
+    /// up one for which room was made. A cursor that is open there stays as it is. Where memory is
+    /// refused, nothing changes.
     pub fn prepare(&mut self, name: &[u8], text: &str, is_held: bool) -> Result<(), AllocError>
         ensures ok { OnOk result (self.new ≡ after_prepare (record { name = name.now; text = text.now; is_held = is_held }) self.old) }
         ensures err { OnErr result (self.new ≡ self.old) }
@@ -62,8 +64,9 @@ impl Sections {
         Ok(())
     }
 
-    /// Makes room for a statement in the section of this name, so that `prepare_reserved` takes no
-    /// memory. Nothing is prepared yet. Where memory is refused, nothing changes.
+    /// Makes room for a statement in the section of this name, in place of one for which room was made
+    /// before, so that `prepare_reserved` takes no memory. Nothing is prepared yet. Where memory is
+    /// refused, nothing changes.
     pub fn reserve_prepare(
         &mut self,
         name: &[u8],
@@ -179,13 +182,16 @@ impl Sections {
     /// The rows that the cursor sends next: a block of this size in bytes (QRYBLKSZ), or of the size of
     /// the one before. Its place does not move: `advance` moves it once the rows are written.
     /// `QueryNotOpen` where the section has no open cursor, or another instance number is given.
+    /// QRYDSC has at most `MAX_QRYDSC_LENGTH` bytes, and QRYDTA with the block `MAX_QRYDTA_HEADING`
+    /// more than the block's size or than `MAX_ANSWER_ROW_LENGTH`.
     pub fn next_block(
         &self,
         name: &[u8],
         instance: Option<u64>,
         size: Option<u32>,
     ) -> Result<Block<'_>, QueryNotOpen>
-        ensures { NextBlock self.now name.now instance size result }
+        ensures next { NextBlock self.now name.now instance size result }
+        ensures short { IfOk result IsShort }
     {
         match self.cursor(name, instance) {
             Ok(cursor) => Ok(cursor.block(size)),

@@ -1,5 +1,4 @@
 pub mod Sizes
 pub mod Appending
 pub mod Blocks
-pub mod Sent
 pub mod TextLengths

@@ -1,5 +1,5 @@
 -- How long the texts are.
-use Rattle.std.proofs.Common.{◌≡◌, ℕ, ℤ, ◌+◌, ◌*◌, ◌≤◌, Bool, true, false, cond, leb, ltb, List, [], ◌∷◌, ◌++◌, refl, sym, ap, ◌∙◌, length, map, nat_le, arith, lit≤}
+use Rattle.std.proofs.Common.{◌≡◌, ℕ, ℤ, ◌+◌, ◌*◌, ◌≤◌, Bool, true, false, cond, leb, ltb, List, [], ◌∷◌, ◌++◌, refl, length, nat_le, arith, lit≤}
 use Rattle.std.specs.List.{flat_map, list_all}
 use Rattle.std.specs.Int.{w16, w32, to_be_bytes, cast_unsigned}
 use Rattle.std.specs.Prelude.{codes, replicate}
@@ -11,9 +11,9 @@ use Rattle.ddm_objects.specs.declared.code_point.TheConstants.{SVRCOD, SQLCARD, 
 use Rattle.row_values.specs.Column.{Column}
 use Rattle.sqlam_replies.specs.declared.message.ReplyMessage.{ReplyMessage}
 use Rattle.sqlam_replies.specs.declared.message.ReplyMessage.TheVariants as is
-use Rattle.sqlam_replies.specs.Message.{Message, has_short_values, message_of, message_text, objects, scalar}
+use Rattle.sqlam_replies.specs.Message.{Message, has_short_values, message_of, message_text, objects}
 use Rattle.sqlam_replies.specs.Names.{byte_in, in_encoding}
-use Rattle.sqlam_replies.specs.Sqlcard.{sqlca, sqlcard, sqlerrd}
+use Rattle.sqlam_replies.specs.Sqlcard.{sqlca, sqlcard}
 use Rattle.sqlam_replies.specs.Sqldard.{are_described, before_name, behind_name, column_group, sqlda, sqldard}
 use Rattle.sqlam_replies.proofs.Appending.{both_first, both_second}
 

@@ -4,4 +4,3 @@ pub mod Sqldard
 pub mod Names
 pub mod Rows
 pub mod Parameters
-pub mod Sent

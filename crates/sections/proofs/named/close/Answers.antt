@@ -1,6 +1,6 @@
 use Rattle.std.proofs.Common.{ap}
 use Rattle.sections.specs.Cursors.{closed}
-use Rattle.sections.proofs.Entries.{Entries, changed_by, unchanged_by}
+use Rattle.sections.proofs.Entries.{changed_by, unchanged_by}
 use Rattle.sections.proofs.named.close.Goals as goal
 
 pub returns-in-Some-clause-list : goal.returns-in-Some-clause-list
