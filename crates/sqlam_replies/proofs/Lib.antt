@@ -2,3 +2,4 @@ pub mod Sizes
 pub mod Appending
 pub mod Blocks
 pub mod TextLengths
+pub mod Picks

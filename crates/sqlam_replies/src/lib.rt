@@ -6,6 +6,7 @@ mod lengths;
 mod message;
 mod names;
 mod rows;
+mod selected;
 mod sqlca;
 mod sqlda;
 mod xa_answer;
@@ -15,6 +16,7 @@ pub use lengths::{
 };
 pub use message::{ReplyMessage, UnitEnd, reply_message};
 pub use rows::{block, qrydsc, qrydta};
+pub use selected::selected_sqldard;
 pub use sqlca::{null_sqlcard, sqlcard};
 pub use sqlda::{MAX_DESCRIBED, are_described, sqldard};
 pub use xa_answer::{MAX_XIDS, synccrd, synccrd_with};

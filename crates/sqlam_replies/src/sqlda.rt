@@ -94,7 +94,11 @@ fn before_name(kind: Kind, is_nullable: bool, limit: u16, name_length: u16) -> [
 /// Stands behind a name.
 const BEHIND_NAME: [u8; 12] = [0, 0, 0, 0, 0, 0, 0, 0, 0, 0, 0xFF, 0xFF];
 
-fn push_column(out: &mut Vec<u8>, unicode: bool, column: &Column) -> Result<(), AllocError>
+pub(crate) fn push_column(
+    out: &mut Vec<u8>,
+    unicode: bool,
+    column: &Column,
+) -> Result<(), AllocError>
     requires { nat_le (length (column_of column.now).name) 30 ≡ true }
     ensures ok { OnOk result (out.new.items ≡ out.old.items ++ column_group unicode (column_of column.now)) }
     ensures kept { take (vec_len out.old) out.new.items ≡ out.old.items }

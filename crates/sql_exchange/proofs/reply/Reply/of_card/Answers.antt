@@ -1,0 +1,12 @@
+-- There is room for an SQLCARD, so it is written.
+use Rattle.std.proofs.Common.{ap, arith, length, of_z, to_z, w32}
+use Rattle.sql_exchange.proofs.reply.Reply.of_card.Goals as goal
+
+pub unreachable-requires : goal.unreachable-requires
+unreachable-requires c =
+    let full = c.in-Err.ensures.full in
+    let size = c.texts_have_lengths.ensures.sqlcard (to_z w32 (of_z w32 c.args.code)) c.args.state.now c.args.count c.told-state in
+    let none = ap length c.requires.empty in
+    let same = c.args.text.ok.0 in
+    let room = c.requires.room in
+    omega (arith, full, size, none, same, room)

@@ -1,0 +1,157 @@
+-- What each SQL command does (DRDA V5 volume 3: EXCSQLIMM, PRPSQLSTT, DSCSQLSTT, EXCSQLSTT, RDBCMM, RDBRLLBCK).
+use Rattle.std.specs.Prelude.{Bool, true, false, ℕ, List, [], ◌∷◌, Option, Some, None, unwrap_or, Result, Ok, Err, if◌then◌else◌}
+use Rattle.sql_text.specs.declared.tree.Command.{Command}
+use Rattle.sql_text.specs.declared.tree.Command.TheVariants as command
+use Rattle.sql_text.specs.declared.tree.Statement.{Statement}
+use Rattle.row_values.specs.Value.{Value}
+use Rattle.core_calls.specs.Answer.{Answer, count, done, full, in_global, input, no_memory, output, refused}
+use Rattle.core_calls.specs.Call.{Call, commit, describe, roll_back, run}
+use Rattle.core_calls.specs.Refusal.{fault_of}
+use Rattle.core_calls.specs.declared.call.Side.{Side}
+use Rattle.core_calls.specs.declared.call.Side.TheVariants as side
+use Rattle.core_calls.specs.declared.sql_fault.SqlFault.{SqlFault}
+use Rattle.core_calls.specs.declared.sql_fault.SqlFault.TheVariants as fault
+use Rattle.drda_commands.specs.Given.{Given}
+use Rattle.drda_commands.specs.Values.{attributes_in, described_data_in, section_in, side_in, statement_in, wants_description}
+use Rattle.drda_commands.specs.declared.values.DescribedSide.{DescribedSide}
+use Rattle.drda_commands.specs.declared.values.DescribedSide.TheVariants as described
+use Rattle.sections.specs.Kept.{Preparation, Section}
+use Rattle.sections.specs.Cursors.{after_prepare, section_of}
+use Rattle.sqlam_replies.specs.declared.message.UnitEnd.{UnitEnd}
+use Rattle.sqlam_replies.specs.declared.message.UnitEnd.TheVariants.{Committed, RolledBack}
+use Rattle.sql_exchange.specs.Reply.{Reply, agent_failed, command_violation, count_card, description, fault_card, null_card, parameter_columns, rdb_updated, resource_limit, unit_ended}
+use Rattle.sql_exchange.specs.Statements.{Statements, unit_behind}
+use Rattle.sql_exchange.specs.Text.{is_held_by, statement_of, values_of}
+use Rattle.sql_exchange.specs.Doing.{Doing, Done, answered, asking, finished}
+
+-- ---- answers that any call may have
+
+-- the reply to a call that was not done, or whose answer is another call's
+abbrev pub refusal_reply : Answer → Reply
+refusal_reply (refused refusal) = fault_card (fault_of refusal)
+refusal_reply no_memory = resource_limit
+refusal_reply (full need room) = resource_limit
+refusal_reply _ = agent_failed
+
+-- and nothing else changes
+abbrev pub not_done : Statements → Answer → Done
+not_done k answer = answered k (refusal_reply answer ∷ [])
+
+abbrev pub is_select : Command → Bool
+is_select (command.Select named table filter) = true
+is_select _ = false
+
+abbrev pub is_create : Command → Bool
+is_create (command.Create table definitions key) = true
+is_create _ = false
+
+-- it looks for the rows that it changes
+abbrev pub is_search : Command → Bool
+is_search (command.Update table assignments filter) = true
+is_search (command.Delete table filter) = true
+is_search _ = false
+
+abbrev pub side_for : DescribedSide → Side
+side_for described.Columns = side.Output
+side_for described.Parameters = side.Input
+
+-- a commit keeps the cursors that are held
+abbrev pub keeps_held : UnitEnd → Bool
+keeps_held Committed = true
+keeps_held RolledBack = false
+
+abbrev pub end_call : UnitEnd → Call
+end_call Committed = commit
+end_call RolledBack = roll_back
+
+-- the database's name as it is answered
+module _ (rdb : List ℕ) where
+  -- ---- RDBCMM and RDBRLLBCK
+
+  abbrev pub after_end : UnitEnd → Statements → Answer → Done
+  after_end end k done = answered (unit_behind (keeps_held end) k) (unit_ended end ∷ null_card ∷ [])
+  after_end end k in_global = answered k (command_violation rdb ∷ [])
+  after_end end k answer = not_done k answer
+
+  abbrev pub ending : UnitEnd → Statements → Doing
+  ending end k = asking (end_call end) (after_end end k)
+
+  -- ---- EXCSQLIMM and EXCSQLSTT
+
+  -- the first change is told by RDBUPDRM
+  abbrev pub change_told : Statements → Reply → Done
+  change_told k card = answered (record k { is_change_told = true }) (if k.is_change_told then card ∷ [] else rdb_updated rdb ∷ card ∷ [])
+
+  abbrev pub after_run : Command → Statements → Answer → Done
+  after_run c k (count n) = change_told k (count_card (is_search c) n)
+  after_run c k answer = not_done k answer
+
+  abbrev pub running : Statements → Statement → List Value → Doing
+  running k s values = asking (run s values) (after_run s.command k)
+
+  abbrev pub immediate_by : Statements → Result Statement SqlFault → Doing
+  immediate_by k (Err f) = finished (answered k (fault_card f ∷ []))
+  immediate_by k (Ok s) = running k s []
+
+  abbrev pub immediate : Statements → Given → Doing
+  immediate k given = immediate_by k (statement_of (unwrap_or (statement_in given) []))
+
+  -- the kind of the statement is judged before the values of its markers
+  abbrev pub executed_with : Statements → Statement → Option (List Value) → Doing
+  executed_with k s None = finished (answered k (fault_card fault.ParameterMismatch ∷ []))
+  executed_with k s (Some values) = running k s values
+
+  abbrev pub executed_by : Statements → Given → Result Statement SqlFault → Doing
+  executed_by k given (Err f) = finished (answered k (fault_card f ∷ []))
+  executed_by k given (Ok s) =
+      if is_select s.command then finished (answered k (fault_card fault.NotPrepared ∷ []))
+      else executed_with k s (values_of (described_data_in given))
+
+  abbrev pub executed_in : Statements → Given → Option Section → Doing
+  executed_in k given None = finished (answered k (fault_card fault.NotPrepared ∷ []))
+  executed_in k given (Some section) = executed_by k given (statement_of section.text)
+
+  abbrev pub executed : Statements → Given → Doing
+  executed k given = executed_in k given (section_of (unwrap_or (section_in given) []) k.sections)
+
+-- whether names are answered in UTF-8
+module _ (unicode : Bool) where
+  -- ---- PRPSQLSTT and DSCSQLSTT
+
+  abbrev pub after_describe : Statements → Statements → Answer → Done
+  after_describe k prepared (output columns) = answered prepared (description unicode columns ∷ [])
+  after_describe k prepared (input types) = answered prepared (description unicode (parameter_columns types) ∷ [])
+  after_describe k prepared answer = not_done k answer
+
+  -- with another state where the description is answered; a CREATE TABLE has nothing to describe
+  abbrev pub describing : Statements → Statements → Statement → Side → Doing
+  describing k prepared s which =
+      if is_create s.command then finished (answered prepared (description unicode [] ∷ []))
+      else asking (describe s which) (after_describe k prepared)
+
+  -- the text is prepared where the reply is no refusal
+  abbrev pub with_prepared : Statements → Preparation → Statements
+  with_prepared k p = record k { sections = after_prepare p k.sections }
+
+  abbrev pub preparation : Given → Preparation
+  preparation given = record { name = unwrap_or (section_in given) []; text = unwrap_or (statement_in given) []; is_held = is_held_by (attributes_in given) }
+
+  abbrev pub prepared_by : Statements → Given → Result Statement SqlFault → Doing
+  prepared_by k given (Err f) = finished (answered k (fault_card f ∷ []))
+  prepared_by k given (Ok s) =
+      if wants_description given then describing k (with_prepared k (preparation given)) s (side_for (side_in given))
+      else finished (answered (with_prepared k (preparation given)) (null_card ∷ []))
+
+  abbrev pub preparing : Statements → Given → Doing
+  preparing k given = prepared_by k given (statement_of (unwrap_or (statement_in given) []))
+
+  abbrev pub described_by : Statements → Given → Result Statement SqlFault → Doing
+  described_by k given (Err f) = finished (answered k (fault_card f ∷ []))
+  described_by k given (Ok s) = describing k k s (side_for (side_in given))
+
+  abbrev pub described_in : Statements → Given → Option Section → Doing
+  described_in k given None = finished (answered k (fault_card fault.NotPrepared ∷ []))
+  described_in k given (Some section) = described_by k given (statement_of section.text)
+
+  abbrev pub describing_section : Statements → Given → Doing
+  describing_section k given = described_in k given (section_of (unwrap_or (section_in given) []) k.sections)

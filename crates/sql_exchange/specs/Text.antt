@@ -1,0 +1,76 @@
+-- The text of a statement, the words of its attributes and the values of its markers, as a command brings
+-- them (DRDA V5 volume 3: SQLSTT, SQLATTR, SQLDTA).
+use Rattle.std.specs.Prelude.{◌-◌, ◌++◌, ◌==◌, ◌||◌, ◌&&◌, nat_le, nat_lt, ℕ, Bool, false, if◌then◌else◌, codes, bytes_eq, List, [], ◌∷◌, length, Option, Some, None, Result, Ok, Err}
+use Rattle.std.specs.Option.{option_and_then, option_map_or}
+use Rattle.std.specs.Str.{is_utf8}
+use Rattle.sql_text.specs.Text.{reading}
+use Rattle.sql_text.specs.declared.error.SqlError.{SqlError}
+use Rattle.sql_text.specs.declared.error.SqlError.TheVariants as error
+use Rattle.sql_text.specs.declared.tree.Statement.{Statement}
+use Rattle.row_values.specs.Value.{Value}
+use Rattle.fdoca.specs.Calls.{most_fields}
+use Rattle.fdoca.specs.Reading.{descriptor_at, row_at}
+use Rattle.core_calls.specs.declared.sql_fault.SqlFault.{SqlFault}
+use Rattle.core_calls.specs.declared.sql_fault.SqlFault.TheVariants as fault
+use Rattle.drda_commands.specs.Values.{DescribedData}
+
+-- ---- the statement that a text is
+
+abbrev pub text_fault : SqlError → SqlFault
+text_fault (error.SqlText at) = fault.Syntax
+text_fault error.Limit = fault.LimitReached
+text_fault error.KeyUnknown = fault.ColumnUnknown
+text_fault error.NoMemory = fault.LimitReached
+
+abbrev pub told : Result Statement SqlError → Result Statement SqlFault
+told (Ok s) = Ok s
+told (Err e) = Err (text_fault e)
+
+-- its length is judged first, and then that it is UTF-8
+abbrev pub statement_of : List ℕ → Result Statement SqlFault
+statement_of text =
+    if nat_lt 32767 (length text) then Err fault.LimitReached
+    else (if is_utf8 text then told (reading text) else Err fault.Syntax)
+
+-- ---- WITH HOLD
+
+abbrev pub is_blank : ℕ → Bool
+is_blank b = (b == 0x20) || (b == 0x09) || (b == 0x0A) || (b == 0x0D)
+
+abbrev pub capital : ℕ → ℕ
+capital b = if nat_le 0x61 b && nat_le b 0x7A then b - 0x20 else b
+
+abbrev pub with_word : List ℕ → List (List ℕ) → List (List ℕ)
+with_word [] words = words
+with_word (b ∷ bytes) words = (b ∷ bytes) ∷ words
+
+-- what stands between blanks; word is what was read of the word under way
+abbrev pub words_behind : List ℕ → List ℕ → List (List ℕ)
+words_behind word [] = with_word word []
+words_behind word (b ∷ bytes) = if is_blank b then with_word word (words_behind [] bytes) else words_behind (word ++ capital b ∷ []) bytes
+
+-- the words of a text, in capitals
+abbrev pub words : List ℕ → List (List ℕ)
+words text = words_behind [] text
+
+-- WITH stands there, and HOLD next behind it
+abbrev pub has_with_hold : List (List ℕ) → Bool
+has_with_hold [] = false
+has_with_hold (a ∷ []) = false
+has_with_hold (a ∷ b ∷ rest) = (bytes_eq a (codes "WITH") && bytes_eq b (codes "HOLD")) || has_with_hold (b ∷ rest)
+
+-- whether attributes, where some come, ask for cursors that are held over a commit
+abbrev pub is_held_by : Option (List ℕ) → Bool
+is_held_by attributes = option_map_or (λ text. has_with_hold (words text)) attributes false
+
+-- ---- the values of markers
+
+abbrev pub row_of : Option (List ℕ) → Option (List ℕ) → Option (List Value)
+row_of (Some description) (Some values) =
+    option_and_then (λ fields. if nat_le (length fields) most_fields then row_at fields values else None) (descriptor_at description)
+row_of _ _ = None
+
+-- none where no SQLDTA comes; of any other form there are no values
+abbrev pub values_of : Option DescribedData → Option (List Value)
+values_of None = Some []
+values_of (Some sent) = row_of sent.description sent.values

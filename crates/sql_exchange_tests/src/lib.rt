@@ -1,0 +1,9 @@
+//! Tests of sql_exchange.
+#![tactic(auto)]
+
+#[cfg(test)]
+mod ends;
+#[cfg(test)]
+mod fixtures;
+#[cfg(test)]
+mod texts;
