@@ -1,3 +1,3 @@
-pub mod Committed
+pub mod Base
 pub mod State
 pub mod Steps

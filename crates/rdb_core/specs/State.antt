@@ -2,7 +2,7 @@
 use Rattle.std.specs.Prelude.{[]}
 use Rattle.core_steps.specs.Step.{CoreState}
 use Rattle.rdb_core.specs.declared.engine.Core.{Core}
-use Rattle.rdb_core.specs.Committed.{base_of}
+use Rattle.rdb_core.specs.Base.{base_of}
 
 abbrev pub state_of : Core → CoreState
 state_of core = record { base = base_of core.store core.units; branches = core.branches }

@@ -6,20 +6,21 @@ ghost use Rattle.core_steps.specs.Units.{global, has_any, unit_of, without};
 ghost use Rattle.core_steps.specs.Events.{Commit, bare, bare_run};
 ghost use Rattle.core_steps.specs.Step.{action_events, lost_xids};
 ghost use Rattle.unit_table.specs.Owner.{plain_owner};
-ghost use Rattle.rdb_core.specs.Committed.{base_of};
+ghost use Rattle.rdb_core.specs.Base.{base_of};
 ghost use Rattle.rdb_core.specs.Steps.{left_units, wants_memory};
 
-use crate::committed::Committed;
-use std::alloc::AllocError;
+use std::alloc::{AllocError, Global};
+use table_store::TableStore;
 use unit_table::{Owner, Units};
 use xa_calls::Xid;
 use xa_manager::{Action, Branch, Outcome};
 
 /// The changes of an owner's unit are made, and it ends with its claims. Memory is taken, and so may
-/// be refused, only where it has changes; all stays then.
+/// be refused, only where it has changes; all stays then, and no room is held.
 pub(crate) fn commit_unit(
-    store: &mut Committed,
+    store: &mut TableStore,
     units: &mut Units,
+    alloc: Global,
     owner: &Owner,
 ) -> Result<(), AllocError>
     ensures done { OnOk result (base_of store.new units.new ≡ bare (base_of store.old units.old) (Commit (plain_owner owner.now))) }
@@ -30,16 +31,24 @@ pub(crate) fn commit_unit(
         let _none = units.end(owner);
         return Ok(());
     }
-    store.reserve(units.changes(owner))?;
-    store.apply_reserved(units.end(owner));
-    Ok(())
+    match store.reserve(alloc, units.changes(owner)) {
+        Ok(()) => {
+            store.apply_reserved(units.end(owner));
+            Ok(())
+        }
+        Err(AllocError) => {
+            store.release();
+            Err(AllocError)
+        }
+    }
 }
 
 /// What is due of an XID's branch is done to its unit. Memory may be refused only where changes are
 /// committed; all stays then.
 pub(crate) fn do_due(
-    store: &mut Committed,
+    store: &mut TableStore,
     units: &mut Units,
+    alloc: Global,
     xid: &Xid,
     action: Action,
 ) -> Result<(), AllocError>
@@ -51,7 +60,7 @@ pub(crate) fn do_due(
     match action {
         Action::Nothing | Action::Start | Action::Join | Action::End(_) | Action::Prepare => Ok(()),
         Action::Forget | Action::CommitOnePhase | Action::Decide(Outcome::Commit) => {
-            commit_unit(store, units, &owner)
+            commit_unit(store, units, alloc, &owner)
         }
         Action::Decide(Outcome::RollBack) | Action::RollBack => {
             let _changes = units.end(&owner);

@@ -10,10 +10,10 @@ ghost use Rattle.unit_table.specs.Owner.{plain_owner};
 ghost use Rattle.rdb_core.specs.State.{empty, state_of};
 ghost use Rattle.rdb_core.specs.Steps.{IsTaken, Steps, may_want_memory};
 
-use crate::committed::Committed;
 use crate::ending::{commit_unit, do_due, end_lost};
 use core_calls::Answer;
 use std::alloc::{AllocError, Global};
+use table_store::TableStore;
 use unit_table::{Owner, Units};
 use xa_calls::{InvalidRequest, Request, Verb, XaCode, Xid};
 use xa_manager::{Work, XaTable};
@@ -23,19 +23,19 @@ use xa_manager::{Work, XaTable};
 #[derive(Drop)]
 pub struct Core {
     alloc: Global,
-    store: Committed,
+    store: TableStore,
     units: Units,
     branches: XaTable,
 }
 
 impl Core {
     /// A core without tables. Takes no memory.
-    pub fn new(alloc: Global) -> Core
+    pub fn start(alloc: Global) -> Core
         ensures { state_of result ≡ empty }
     {
         Core {
             alloc,
-            store: Committed::new(alloc),
+            store: TableStore::new(alloc),
             units: Units::new(alloc),
             branches: XaTable::new(alloc),
         }
@@ -64,7 +64,7 @@ impl Core {
             None => {}
         }
         let owner = Owner::Local(conversation);
-        match commit_unit(&mut self.store, &mut self.units, &owner) {
+        match commit_unit(&mut self.store, &mut self.units, self.alloc, &owner) {
             Ok(()) => Answer::Done,
             Err(AllocError) => Answer::NoMemory,
         }
@@ -140,7 +140,13 @@ impl Core {
             has_changes: self.units.has_changes(&Owner::Global(*xid)),
         };
         let due = self.branches.due(conversation, verb, xid, work);
-        match do_due(&mut self.store, &mut self.units, xid, due.action) {
+        match do_due(
+            &mut self.store,
+            &mut self.units,
+            self.alloc,
+            xid,
+            due.action,
+        ) {
             Ok(()) => {}
             Err(AllocError) => return Answer::NoMemory,
         }

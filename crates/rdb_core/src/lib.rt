@@ -1,7 +1,6 @@
 //! The core of the database: one step for each call of a conversation.
 #![tactic(auto)]
 
-mod committed;
 mod ending;
 mod engine;
 pub mod question;

@@ -3,7 +3,7 @@ use Rattle.xa_manager.specs.declared.branch.Branch.{Branch}
 use Rattle.core_steps.specs.Units.{Held, local, without}
 use Rattle.core_steps.specs.Events.{Base}
 use Rattle.core_steps.specs.Step.{lost_xids}
-use Rattle.rdb_core.specs.Committed.{stored}
+use Rattle.table_store.specs.TableStore.{store_in}
 use Rattle.rdb_core.specs.Steps.{left_units}
 use Rattle.rdb_core.proofs.Lost.{as_events}
 use Rattle.rdb_core.proofs.engine.Core.lose.Goals as goal
@@ -12,7 +12,7 @@ pub returns : goal.returns
 returns c =
     let n = c.args.conversation in
     let old = c.args.self.now in
-    let s = stored old.store in
+    let s = store_in old.store in
     let xs = lost_xids old.branches n in
     let units : c.end_lost.new.units ≡ left_units xs (without (local n) old.units) =
     c.end_lost.ensures
