@@ -163,6 +163,7 @@ pub fn tables_under<V: TableView>(
 }
 
 /// The view of a unit of work: the base's tables with the unit's changes made.
+#[derive(Drop)]
 pub struct UnitView<'a, V> {
     pub base: &'a mut V,
     pub changes: &'a UnitChanges,
