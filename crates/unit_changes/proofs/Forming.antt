@@ -1,5 +1,5 @@
 -- The rows of a table by their sort forms, with each change.
-use Rattle.std.proofs.Common.{◌≡◌, ℕ, List, [], ◌∷◌, ◌++◌, Bool, true, false, true≢false, cond, refl, sym, ap, subst, ◌∙◌, Option, Some, None, Ordering, Less, Equal, Greater, filter}
+use Rattle.std.proofs.Common.{◌≡◌, ℕ, List, [], ◌∷◌, Bool, true, false, true≢false, cond, refl, sym, ap, subst, ◌∙◌, Option, Some, None, Ordering, Less, Equal, Greater, filter}
 use Rattle.std.specs.Prelude.{bytes_eq, not, option_map, unwrap_or}
 use Rattle.std.specs.Ordering.{is_eq, match_ordering}
 use Rattle.std.specs.List.{AllByRecursion, flat_map}
@@ -12,7 +12,7 @@ use Rattle.row_values.specs.Schema.{Schema}
 use Rattle.row_values.specs.Row.{is_row}
 use Rattle.row_values.specs.Key.{is_key, key_cmp, row_key}
 use Rattle.sort_forms.specs.SortForm.{sort_form}
-use Rattle.ordered_rows.specs.Slots.{by_bytes, by_key}
+use Rattle.ordered_rows.specs.Slots.{by_bytes}
 use Rattle.key_map.specs.Merging.{Above, Changes, InOrder, Rows, changed}
 use Rattle.tables.specs.Change.{Change, create, put, remove}
 use Rattle.tables.specs.Tables.{Store, Table, apply, put_row, remove_row, schema_of, table_of}

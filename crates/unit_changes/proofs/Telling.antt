@@ -1,7 +1,6 @@
 -- What is told of a table goes on with each change.
-use Rattle.std.proofs.Common.{◌≡◌, ℕ, List, [], ◌∷◌, ◌++◌, Bool, true, false, true≢false, cond, refl, sym, ap, subst, ◌∙◌, Option, Some, None, Ordering, Less, Equal, Greater}
+use Rattle.std.proofs.Common.{◌≡◌, ℕ, List, [], ◌∷◌, ◌++◌, Bool, true, false, true≢false, cond, refl, sym, ap, subst, ◌∙◌, Option, Some, None}
 use Rattle.std.specs.Prelude.{bytes_eq, ◌&&◌}
-use Rattle.std.specs.Ordering.{is_eq}
 use Rattle.std.specs.List.{AllByRecursion, flat_map}
 use Rattle.std.specs.Cmp.{eq_by_cmp_equiv}
 use Rattle.std.specs.Cmp.Lexicographic.{nat_list_cmp_total}
@@ -9,11 +8,9 @@ use Rattle.std.specs.List.Sorted.{IsStrictlySortedBy}
 use Rattle.drda_words.specs.Bytes.{AreBytes}
 use Rattle.row_values.specs.Schema.{Schema}
 use Rattle.row_values.specs.Row.{is_row}
-use Rattle.row_values.specs.Key.{is_key, key_cmp, row_key}
-use Rattle.row_values.specs.Laws.{KeysAreOrdered}
-use Rattle.sort_forms.specs.SortForm.{KeysKeepOrder, sort_form}
-use Rattle.ordered_rows.specs.Slots.{by_key}
-use Rattle.key_map.specs.Merging.{Changes, InOrder, MergedAt, MergedInOrder, Rows, changed, keyed, merged, over, row_at}
+use Rattle.row_values.specs.Key.{is_key, row_key}
+use Rattle.sort_forms.specs.SortForm.{sort_form}
+use Rattle.key_map.specs.Merging.{InOrder, Rows, keyed, merged, over, row_at}
 use Rattle.tables.specs.Change.{Change, create, put, remove}
 use Rattle.tables.specs.Tables.{Store, apply, is_row_at, row_of, schema_of, table_of}
 use Rattle.tables.specs.View.{is_sound, is_store}
@@ -21,7 +18,7 @@ use Rattle.core_steps.specs.Units.{apply_all}
 use Rattle.unit_changes.specs.UnitTable.{Fits, IsKey, IsTold, Lists, SaysKeys, Tells, UnitTable, all_changed, formed, name_of, rows_in, said_by}
 use Rattle.unit_changes.specs.TableChanges.{Records}
 use Rattle.unit_changes.specs.Index.{AreOf, IsToldOf, fresh}
-use Rattle.unit_changes.proofs.Storing.{Local, Tabled, all_then, schema_stays, schemas_stay}
+use Rattle.unit_changes.proofs.Storing.{all_then, schema_stays, schemas_stay}
 use Rattle.unit_changes.proofs.Listing.{itself, same_bytes}
 use Rattle.unit_changes.proofs.Forms.{Laws, changed_order, changed_then, form_test, no_key_is}
 use Rattle.unit_changes.proofs.Forming.{rows_step}

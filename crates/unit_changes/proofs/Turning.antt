@@ -2,7 +2,7 @@
 use Rattle.std.proofs.Common.{◌≡◌, ◌+◌, ℕ, zero, suc, List, [], ◌∷◌, ◌++◌, Bool, true, false, cond, refl, sym, ap, subst, ◌∙◌, Option, Some, None, Ordering, Less, Equal, Greater, map, drop, add-one}
 use Rattle.std.specs.Prelude.{option_map, unwrap_or, ◌&&◌, bytes_eq}
 use Rattle.std.specs.Ordering.{is_eq, is_gt, is_lt, ordering_reverse}
-use Rattle.std.specs.List.{AllByRecursion, list_all, slice_get}
+use Rattle.std.specs.List.{list_all, slice_get}
 use Rattle.std.specs.List.Sorted.{IsStrictlySortedBy}
 use Rattle.std.specs.Map.{keys_of, values_of}
 use Rattle.std.specs.Cmp.Lexicographic.{nat_list_cmp_total}
@@ -20,7 +20,7 @@ use Rattle.tables.specs.View.{is_entry, is_store, is_table}
 use Rattle.tables.specs.Laws.{TablesAreTables}
 use Rattle.core_steps.specs.Units.{apply_all}
 use Rattle.unit_changes.specs.declared.table_rows.FormedRow.{FormedRow}
-use Rattle.unit_changes.specs.UnitTable.{Fits, HaveKeys, IsKey, IsTold, Tells, UnitTable, formed, rows_in}
+use Rattle.unit_changes.specs.UnitTable.{Fits, HaveKeys, IsKey, IsTold, UnitTable, formed, rows_in}
 use Rattle.unit_changes.specs.Index.{IsToldOf}
 use Rattle.unit_changes.specs.TableRows.{HaveRowKeys, by_forms, formed_of, in_turn, rows_before, rows_from, without_first}
 use Rattle.unit_changes.proofs.Steps.{first, second}

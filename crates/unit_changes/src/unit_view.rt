@@ -193,12 +193,7 @@ impl<'a, V: TableView> TableView for UnitView<'a, V> {
         tables_under(&mut *self.base, self.changes, self.alloc)
     }
 
-    fn get(
-        &mut self,
-        alloc: Global,
-        table: &str,
-        key: &[u8],
-    ) -> Result<Option<Vec<u8>>, V::Fault> {
+    fn get(&mut self, alloc: Global, table: &str, key: &[u8]) -> Result<Option<Vec<u8>>, V::Fault> {
         row_under(&mut *self.base, self.changes, alloc, table, key)
     }
 
