@@ -3,6 +3,7 @@ use Rattle.std.proofs.Common.{◌≡◌, ℕ, List, [], ◌∷◌, Bool, true, f
 use Rattle.std.specs.Prelude.{option_map}
 use Rattle.std.specs.Ordering.{match_ordering}
 use Rattle.std.specs.BTreeMap.{insert_entry}
+use Rattle.std.specs.Map.{keys_of}
 use Rattle.ordered_rows.specs.Slots.{Slots, by_bytes, by_key, rows_of}
 use Rattle.key_map.specs.Merging.{Rows, InOrder, row_at, changed, merged, over}
 use Rattle.key_map.specs.Overlay.{said, change_of, changes_of}
@@ -17,6 +18,11 @@ found_step false entry o = refl
 pub found_said : (q : List ℕ) (es : Rows) → row_at q (map change_of es) ≡ option_map said (row_at q es)
 found_said q [] = refl
 found_said q (e ∷ es) = ap (λ o. cond (by_key q e.0) (Some (said e.1)) o) (found_said q es) ∙ found_step (by_key q e.0) e.1 (row_at q es)
+
+-- what is said has the keys of the entries
+pub keys_said : (es : Rows) → keys_of (map change_of es) ≡ keys_of es
+keys_said [] = refl
+keys_said (e ∷ es) = ap (λ (ks : List (List ℕ)). e.0 ∷ ks) (keys_said es)
 
 insert_step : (r : Ordering) (key row : List ℕ) (e : List ℕ × List ℕ) (es rest : Rows)
     → match_ordering r ((key, said row) ∷ change_of e ∷ map change_of es) ((e.0, said row) ∷ map change_of es) (change_of e ∷ map change_of rest)

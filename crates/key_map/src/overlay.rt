@@ -1,12 +1,13 @@
 //! The changes of a table since its pages were written.
 
-ghost use Rattle.std.specs.Prelude.{◌≡◌, ◌<◌, ℕ, List, [], Some, None, OnOk, length, option_map};
+ghost use Rattle.std.specs.Prelude.{◌≡◌, ◌<◌, ℕ, List, [], Some, None, OnOk, length, map, option_map};
 ghost use Rattle.std.specs.BTreeMap.{insert_entry};
 ghost use Rattle.ordered_rows.specs.Slots.{HasRoom, by_bytes};
+ghost use Rattle.ordered_rows.specs.Walk.{rows_left};
 ghost use Rattle.key_map.specs.Merging.{InOrder, Rows, changed, merged, over, row_at};
-ghost use Rattle.key_map.specs.Overlay.{changes_of, said, seen};
+ghost use Rattle.key_map.specs.Overlay.{change_of, changes_of, said, seen};
 
-use ordered_rows::OrderedRows;
+use ordered_rows::{OrderedRows, Rows as RowsLeft};
 use std::alloc::{AllocError, Global};
 use std::marker::Model;
 
@@ -84,6 +85,15 @@ impl Overlay {
             → seen result ≡ row_at key.now (merged rows (changes_of self.now)) }
     {
         choose(self.entries.get(key), base)
+    }
+
+    /// All changes, in the order of their keys, which rise: the row that was put at a key, or no bytes
+    /// where the row was taken out. Takes no memory.
+    pub fn entries(&self) -> RowsLeft<'_>
+        ensures all { map change_of (rows_left result) ≡ changes_of self.now }
+        ensures rising { InOrder (changes_of self.now) }
+    {
+        self.entries.rows()
     }
 }
 

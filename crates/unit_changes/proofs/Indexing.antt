@@ -8,11 +8,12 @@ use Rattle.tables.specs.Change.{Change, create, put, remove, is_change}
 use Rattle.tables.specs.Tables.{Store, Table, schema_of, table_of}
 use Rattle.core_steps.specs.Units.{apply_all}
 use Rattle.unit_changes.specs.declared.table_changes.TableChanges.{TableChanges}
-use Rattle.unit_changes.specs.UnitTable.{Fits, IsTold, Tells, UnitTable, name_of}
+use Rattle.unit_changes.specs.UnitTable.{Fits, IsTold, Tells, UnitTable, formed, name_of, rows_in}
 use Rattle.unit_changes.specs.TableChanges.{Records, table_of as told_by}
 use Rattle.unit_changes.specs.Index.{AreOf, IsIndex, IsLeft, IsToldOf, fresh, is_named, told_of}
 use Rattle.unit_changes.proofs.Storing.{Tabled, all_then, left_alone}
-use Rattle.unit_changes.proofs.Telling.{Laws, told_on}
+use Rattle.unit_changes.proofs.Forms.{Laws}
+use Rattle.unit_changes.proofs.Telling.{told_on}
 use Rattle.unit_changes.proofs.Listing.{apart_more, apart_set, itself, same_bytes, told_more, told_nowhere, told_set, told_there}
 
 -- ---- other tables
@@ -56,6 +57,7 @@ same_tells t o none known = record {
   schema = known;
   row = λ key rows isKey up here. ap (λ cs. row_at (sort_form t.schema key) (merged rows cs)) none ∙ here;
   none = λ key noKey here. here;
+  rows = λ keys up. (sym (ap (merged (formed t.schema (rows_in o))) none), keys);
 }
 
 inside : (x y : Schema) → x ≡ y → Some x ≡ Some y
@@ -66,7 +68,7 @@ seen_fits None schema h = absurd h
 seen_fits (Some x) schema h = inside x schema h
 
 made_tells : (name : List ℕ) (schema : Schema) (o : Option Table) → Fits true schema (option_map (λ (x : Table). x.schema) o) → Tells (fresh schema (create name schema)) o (Some (unwrap_or o (record { schema = schema; rows = [] })))
-made_tells name schema None fits = record { schema = refl; row = λ key rows isKey up here. here; none = λ key noKey here. refl }
+made_tells name schema None fits = record { schema = refl; row = λ key rows isKey up here. here; none = λ key noKey here. refl; rows = λ keys up. (refl, tt) }
 made_tells name schema (Some t) fits = same_tells (fresh schema (create name schema)) (Some t) refl (inside t.schema schema fits)
 
 seen_told : (before : List Change) (c : Change) (schema : Schema) (t : UnitTable) → IsLeft t.name before → t.is_new ≡ false → t.schema ≡ schema → t.said ≡ [] → IsTold t before

@@ -1,6 +1,9 @@
 mod Steps
 mod Storing
 mod Listing
+mod Forms
+mod Forming
 mod Telling
 mod Indexing
 mod Counting
+mod Turning

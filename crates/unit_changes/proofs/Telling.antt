@@ -1,7 +1,6 @@
 -- What is told of a table goes on with each change.
-use Rattle.std.proofs.Common.{◌≡◌, ℕ, List, [], ◌∷◌, ◌++◌, Bool, true, false, true≢false, cond, refl, sym, ap, subst, ◌∙◌, Option, Some, None, Ordering, Less, Equal, Greater}
+use Rattle.std.proofs.Common.{◌≡◌, ℕ, List, [], ◌∷◌, ◌++◌, Bool, true, false, true≢false, cond, refl, sym, ap, subst, ◌∙◌, Option, Some, None}
 use Rattle.std.specs.Prelude.{bytes_eq, ◌&&◌}
-use Rattle.std.specs.Ordering.{is_eq}
 use Rattle.std.specs.List.{AllByRecursion, flat_map}
 use Rattle.std.specs.Cmp.{eq_by_cmp_equiv}
 use Rattle.std.specs.Cmp.Lexicographic.{nat_list_cmp_total}
@@ -9,48 +8,20 @@ use Rattle.std.specs.List.Sorted.{IsStrictlySortedBy}
 use Rattle.drda_words.specs.Bytes.{AreBytes}
 use Rattle.row_values.specs.Schema.{Schema}
 use Rattle.row_values.specs.Row.{is_row}
-use Rattle.row_values.specs.Key.{is_key, key_cmp, row_key}
-use Rattle.row_values.specs.Laws.{KeysAreOrdered}
-use Rattle.sort_forms.specs.SortForm.{KeysKeepOrder, sort_form}
-use Rattle.ordered_rows.specs.Slots.{by_key}
-use Rattle.key_map.specs.Merging.{Changes, InOrder, MergedAt, MergedInOrder, Rows, changed, keyed, merged, over, row_at}
+use Rattle.row_values.specs.Key.{is_key, row_key}
+use Rattle.sort_forms.specs.SortForm.{sort_form}
+use Rattle.key_map.specs.Merging.{InOrder, Rows, keyed, merged, over, row_at}
 use Rattle.tables.specs.Change.{Change, create, put, remove}
 use Rattle.tables.specs.Tables.{Store, apply, is_row_at, row_of, schema_of, table_of}
 use Rattle.tables.specs.View.{is_sound, is_store}
 use Rattle.core_steps.specs.Units.{apply_all}
-use Rattle.unit_changes.specs.UnitTable.{Fits, IsKey, IsTold, SaysKeys, Tells, UnitTable, all_changed, name_of, said_by}
+use Rattle.unit_changes.specs.UnitTable.{Fits, IsKey, IsTold, Lists, SaysKeys, Tells, UnitTable, all_changed, formed, name_of, rows_in, said_by}
 use Rattle.unit_changes.specs.TableChanges.{Records}
 use Rattle.unit_changes.specs.Index.{AreOf, IsToldOf, fresh}
-use Rattle.unit_changes.proofs.Storing.{Local, Tabled, all_then, schema_stays, schemas_stay}
+use Rattle.unit_changes.proofs.Storing.{all_then, schema_stays, schemas_stay}
 use Rattle.unit_changes.proofs.Listing.{itself, same_bytes}
-
-pub record Laws : Type 0 where
-  pub local : Local
-  pub tabled : Tabled
-  pub at : MergedAt
-  pub order : MergedInOrder
-  pub forms : KeysKeepOrder
-  pub keys : KeysAreOrdered
-
--- ---- keys and their forms
-
-not_tied : (schema : Schema) → ((a b : List ℕ) → key_cmp schema a b ≡ Equal → a ≡ b) → (a b : List ℕ) → bytes_eq a b ≡ false → (o : Ordering) → key_cmp schema a b ≡ o → is_eq o ≡ false
-not_tied schema exact a b apart Less is = refl
-not_tied schema exact a b apart Greater is = refl
-not_tied schema exact a b apart Equal is = absurd (true≢false (sym (itself a) ∙ ap (bytes_eq a) (exact a b is) ∙ apart))
-
-tie_test : Laws → (schema : Schema) (a b : List ℕ) (t : Bool) → bytes_eq a b ≡ t → is_eq (key_cmp schema a b) ≡ t
-tie_test laws schema a b true is = ap (λ (k : List ℕ). is_eq (key_cmp schema a k)) (sym (same_bytes a b is)) ∙ (eq_by_cmp_equiv (laws.keys schema).0).refl a
-tie_test laws schema a b false is = not_tied schema (laws.keys schema).1 a b is (key_cmp schema a b) refl
-
--- forms are the same where the keys are
-form_test : Laws → (schema : Schema) (a b : List ℕ) → IsKey schema a → IsKey schema b → by_key (sort_form schema a) (sort_form schema b) ≡ bytes_eq a b
-form_test laws schema a b key_a key_b =
-    ap is_eq (laws.forms schema a b key_a.0 key_b.0 key_a.1 key_b.1) ∙ tie_test laws schema a b (bytes_eq a b) refl
-
-no_key_is : (schema : Schema) (a b : List ℕ) → is_key schema a ≡ false → is_key schema b ≡ true → (t : Bool) → bytes_eq a b ≡ t → t ≡ false
-no_key_is schema a b none key true is = absurd (true≢false (sym key ∙ ap (is_key schema) (sym (same_bytes a b is)) ∙ none))
-no_key_is schema a b none key false is = refl
+use Rattle.unit_changes.proofs.Forms.{Laws, changed_order, changed_then, form_test, no_key_is}
+use Rattle.unit_changes.proofs.Forming.{rows_step}
 
 -- ---- one change
 
@@ -141,14 +112,6 @@ step_none laws (remove name k) n key s schema named known says none here =
 
 -- ---- many changes
 
-changed_then : (rows : Rows) (xs ys : Changes) → all_changed rows (xs ++ ys) ≡ all_changed (all_changed rows xs) ys
-changed_then rows [] ys = refl
-changed_then rows (x ∷ xs) ys = changed_then (changed rows x.0 x.1) xs ys
-
-changed_order : Laws → (rows : Rows) (cs : Changes) → InOrder rows → InOrder (all_changed rows cs)
-changed_order laws rows [] up = up
-changed_order laws rows (c ∷ cs) up = changed_order laws (changed rows c.0 c.1) cs (laws.order rows (c ∷ []) up)
-
 rows_go : Laws → (cs : List Change) (n key : List ℕ) (s : Store) (schema : Schema) (rows : Rows) → AreOf n cs → schema_of s n ≡ Some schema → AllByRecursion (SaysKeys schema) cs → IsKey schema key
     → InOrder rows → row_at (sort_form schema key) rows ≡ row_of s n key
     → row_at (sort_form schema key) (all_changed rows (flat_map (said_by schema) cs)) ≡ row_of (apply_all cs s) n key
@@ -177,6 +140,11 @@ told_on laws before new t u named r h = record {
             subst (λ (x : Schema). row_at (sort_form x key) rows ≡ row_of s t.name key → IsKey x key → row_at (sort_form x key) (merged rows u.said) ≡ row_of (apply_all new (apply_all before s)) t.name key) (sym r.schema)
             (λ here isKey. ap (row_at (sort_form t.schema key)) (r.said rows up)
             ∙ rows_go laws new t.name key (apply_all before s) t.schema (merged rows t.said) named was.schema r.bytes isKey (laws.order rows t.said up) (was.row key rows isKey up here)) here isKey;
+        rows = subst (λ (x : Schema). Lists x u.said (table_of s t.name) (table_of (apply_all new (apply_all before s)) t.name)) (sym r.schema) (λ keys up.
+            let rows : Rows = formed t.schema (rows_in (table_of s t.name)) in
+            let old = was.rows keys up in
+            let more = rows_step laws new t.name (apply_all before s) t.schema named was.schema r.bytes old.1 (subst (λ (x : Rows). InOrder x) (sym old.0) (laws.order rows t.said up)) in
+            (more.0 ∙ ap (λ (x : Rows). all_changed x (flat_map (said_by t.schema) new)) old.0 ∙ sym (r.said rows up), more.1));
         none = λ key noKey here. none_goes laws new t.name key (apply_all before s) t.schema named was.schema r.bytes (ap (λ (x : Schema). is_key x key) (sym r.schema) ∙ noKey) (was.none key (ap (λ (x : Schema). is_key x key) (sym r.schema) ∙ noKey) here);
       }));
 }

@@ -40,12 +40,18 @@ IsKey schema key = AreBytes key × (is_key schema key ≡ true)
 abbrev pub HaveKeys : Schema → List (List ℕ × List ℕ) → Type 0
 HaveKeys schema rows = AllByRecursion (IsKey schema) (keys_of rows)
 
+-- of rows of keys of the schema, in order, what is said makes the rows after; their keys are keys
+abbrev pub Lists : Schema → Changes → Option Table → Option Table → Type 0
+Lists schema said before after = HaveKeys schema (rows_in before) → InOrder (formed schema (rows_in before))
+    → (formed schema (rows_in after) ≡ merged (formed schema (rows_in before)) said) × HaveKeys schema (rows_in after)
+
 -- what is said of a table makes of it, as it was before, what it is after
 pub record Tells (t : UnitTable) (before after : Option Table) : Type 0 where
   pub schema : option_map (λ (x : Table). x.schema) after ≡ Some t.schema
   pub row : (key : List ℕ) (rows : Rows) → IsKey t.schema key → InOrder rows → row_at (sort_form t.schema key) rows ≡ row_in key before
       → row_at (sort_form t.schema key) (merged rows t.said) ≡ row_in key after
   pub none : (key : List ℕ) → is_key t.schema key ≡ false → row_in key before ≡ None → row_in key after ≡ None
+  pub rows : Lists t.schema t.said before after
 
 -- the table has the schema that the unit saw, or is not there and the unit creates it
 abbrev pub Fits : Bool → Schema → Option Schema → Type 0

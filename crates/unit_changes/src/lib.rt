@@ -7,8 +7,9 @@ mod index;
 mod key_change;
 mod same_schema;
 mod table_changes;
+mod table_rows;
 mod unit;
 mod unit_view;
 
 pub use unit::{MAX_CHANGED_BYTES, UnitChanges};
-pub use unit_view::{row_under, schema_under, tables_under};
+pub use unit_view::{UnitView, row_under, rows_under, schema_under, tables_under};

@@ -7,21 +7,24 @@ ghost use Rattle.std.specs.List.{AllByRecursion, flat_map};
 ghost use Rattle.row_values.specs.Key.{is_key};
 ghost use Rattle.sort_forms.specs.SortForm.{sort_form};
 ghost use Rattle.ordered_rows.specs.Slots.{HasRoom};
-ghost use Rattle.key_map.specs.Merging.{InOrder, Rows, changed, merged, row_at};
+ghost use Rattle.key_map.specs.Merging.{InOrder, Rows as KeyedRows, changed, merged, row_at};
 ghost use Rattle.key_map.specs.Overlay.{changes_of, said};
 ghost use Rattle.tables.specs.ChangeView.{change_of};
 ghost use Rattle.unit_changes.specs.KeyChanges.{HaveRoom, step_of};
 ghost use Rattle.unit_changes.specs.UnitTable.{IsKey, all_changed};
 ghost use Rattle.unit_changes.specs.TableChanges.{Records, table_of};
+ghost use Rattle.unit_changes.specs.TableRows.{HaveRowKeys, by_forms, in_turn};
+ghost use Rattle.std.specs.Map.{values_of};
 
 use crate::bytes::see_bytes;
 use crate::key_change::{KeyChange, key_changes};
+use crate::table_rows::{formed_rows, merged_rows};
 use key_map::Overlay;
 use row_values::Schema;
 use sort_forms::sort_form;
 use std::alloc::{AllocError, Global};
 use std::sync::Arc;
-use tables::Change;
+use tables::{Change, Rows};
 
 /// What a unit has made of one table.
 #[derive(Debug, Drop)]
@@ -56,7 +59,7 @@ impl TableChanges {
     ) -> Result<Option<Vec<u8>>, AllocError>
         requires { is_key (arc_value self.now.schema) key.now ≡ true }
         ensures key { IsKey (arc_value self.now.schema) key.now }
-        ensures row { IfOk result (λ row. (rows : Rows) → InOrder rows → row_at (sort_form (arc_value self.now.schema) key.now) rows ≡ option_map (λ bytes. bytes.items) below
+        ensures row { IfOk result (λ row. (rows : KeyedRows) → InOrder rows → row_at (sort_form (arc_value self.now.schema) key.now) rows ≡ option_map (λ bytes. bytes.items) below
             → option_map (λ bytes. bytes.items) row ≡ row_at (sort_form (arc_value self.now.schema) key.now) (merged rows (changes_of self.now.rows))) }
     {
         see_bytes(key);
@@ -69,6 +72,17 @@ impl TableChanges {
             Some(row) => Ok(Some(Vec::from_slice(alloc, row)?)),
             None => Ok(None),
         }
+    }
+
+    /// All rows of the table, where `below` are those that were there before. Where one of these is no
+    /// row of the table's schema, the answer is want of memory.
+    pub fn rows_over(&self, alloc: Global, below: &Rows) -> Result<Rows, AllocError>
+        ensures keys { OnOk result (HaveRowKeys (arc_value self.now.schema) below.now) }
+        ensures order { OnOk result (InOrder (changes_of self.now.rows)) }
+        ensures rows { IfOk result (λ rows. rows ≡ values_of (in_turn (by_forms (arc_value self.now.schema) below.now) (changes_of self.now.rows))) }
+    {
+        let formed = formed_rows(alloc, &self.schema, below)?;
+        merged_rows(alloc, formed.as_slice(), &self.rows)
     }
 }
 
@@ -86,7 +100,7 @@ fn reserve_all(rows: &mut Overlay, alloc: Global, steps: &[KeyChange]) -> Result
 // Makes the steps, for which there is room.
 fn make_all(rows: &mut Overlay, alloc: Global, steps: Vec<KeyChange>)
     requires { HaveRoom rows.old steps.items }
-    ensures { (base : Rows) → InOrder base → merged base (changes_of rows.new) ≡ all_changed (merged base (changes_of rows.old)) (map step_of steps.items) }
+    ensures { (base : KeyedRows) → InOrder base → merged base (changes_of rows.new) ≡ all_changed (merged base (changes_of rows.old)) (map step_of steps.items) }
 {
     for step in steps {
         make(rows, alloc, step);
@@ -96,7 +110,7 @@ fn make_all(rows: &mut Overlay, alloc: Global, steps: Vec<KeyChange>)
 // Makes one step.
 fn make(rows: &mut Overlay, alloc: Global, step: KeyChange)
     requires { HasRoom step.form.items rows.old }
-    ensures made { (base : Rows) → InOrder base → merged base (changes_of rows.new) ≡ changed (merged base (changes_of rows.old)) step.form.items (said step.row.items) }
+    ensures made { (base : KeyedRows) → InOrder base → merged base (changes_of rows.new) ≡ changed (merged base (changes_of rows.old)) step.form.items (said step.row.items) }
     ensures room { (q : List ℕ) → HasRoom q rows.old → HasRoom q rows.new }
 {
     let KeyChange { form, row } = step;

@@ -11,10 +11,13 @@ ghost use Rattle.unit_changes.specs.TableChanges.{table_of};
 use crate::same_schema::are_same;
 use crate::table_changes::TableChanges;
 use crate::unit::UnitChanges;
+use key_map::laws::changes_and_rows_in_turn;
 use row_values::{Schema, is_key};
+use sort_forms::laws::forms_keep_order;
 use std::alloc::{AllocError, Global};
 use std::sync::Arc;
-use tables::TableView;
+use tables::laws::stores_hold_tables;
+use tables::{Rows, TableView};
 
 /// The fault of want of memory, which tells no damage.
 pub(crate) fn no_memory<V: TableView>() -> V::Fault
@@ -108,6 +111,35 @@ pub fn row_under<V: TableView>(
     }
 }
 
+/// All rows of the table behind the unit's changes, in the order of their keys. Where the base has
+/// another schema of a table that the unit changed, or bytes that are no row of it, the answer is want
+/// of memory.
+pub fn rows_under<V: TableView>(
+    base: &mut V,
+    changes: &UnitChanges,
+    alloc: Global,
+    table: &str,
+) -> Result<Rows, V::Fault>
+    ensures rows { IfOk result (λ rows. IsTrue V.is_told → rows ≡ rows_of (apply_all changes.now (V.store base.old)) table.now) }
+    ensures good { IsTrue V.is_told → is_store (apply_all changes.now (V.store base.old)) ≡ true }
+    ensures fault { IfErr result (λ fault. IsTrue V.is_told → V.tells_damage fault ≡ false) }
+    ensures store { V.store base.new ≡ V.store base.old }
+{
+    forms_keep_order();
+    changes_and_rows_in_turn();
+    stores_hold_tables();
+    changes.keep_stores();
+    let below = base.scan(alloc, table)?;
+    let Some(told) = changes.table(table) else {
+        return Ok(below);
+    };
+    fit(base, told, alloc, table)?;
+    match told.rows_over(alloc, &below) {
+        Ok(rows) => Ok(rows),
+        Err(AllocError) => Err(no_memory::<V>()),
+    }
+}
+
 /// How many tables there are behind the unit's changes: the base's, and those that the unit created
 /// and the base lacks. Where the base lacks a table that the unit changed and did not create, the
 /// answer is want of memory.
@@ -128,4 +160,50 @@ pub fn tables_under<V: TableView>(
         Some(count) => Ok(count),
         None => Err(no_memory::<V>()),
     }
+}
+
+/// The view of a unit of work: the base's tables with the unit's changes made.
+#[derive(Drop)]
+pub struct UnitView<'a, V> {
+    pub base: &'a mut V,
+    pub changes: &'a UnitChanges,
+    pub alloc: Global,
+}
+
+impl<'a, V: TableView> TableView for UnitView<'a, V> {
+    type Fault = V::Fault;
+
+    ghost use Rattle.core_steps.specs.Units.{apply_all};
+
+    ghost store = { λ v. apply_all v.changes.now (V.store v.base.now) };
+
+    ghost is_told = { V.is_told };
+
+    ghost tells_damage = { V.tells_damage };
+
+    fn schema(
+        &mut self,
+        alloc: Global,
+        table: &str,
+    ) -> Result<Option<Arc<Schema, Global>>, V::Fault> {
+        schema_under(&mut *self.base, self.changes, alloc, table)
+    }
+
+    fn tables(&mut self) -> Result<usize, V::Fault> {
+        tables_under(&mut *self.base, self.changes, self.alloc)
+    }
+
+    fn get(&mut self, alloc: Global, table: &str, key: &[u8]) -> Result<Option<Vec<u8>>, V::Fault> {
+        row_under(&mut *self.base, self.changes, alloc, table, key)
+    }
+
+    fn scan(&mut self, alloc: Global, table: &str) -> Result<Rows, V::Fault> {
+        rows_under(&mut *self.base, self.changes, alloc, table)
+    }
+
+    fn damaged(&self) -> V::Fault {
+        self.base.damaged()
+    }
+
+    ghost memory_is_no_damage = { V.memory_is_no_damage };
 }

@@ -4,8 +4,8 @@ use row_values::{Column, Kind, Schema, Value, are_key, are_row, encode_key, enco
 use std::alloc::Global;
 use std::sync::Arc;
 use std::test::Fail;
-use tables::{Change, PlainView, TableView};
-use unit_changes::{UnitChanges, row_under, schema_under, tables_under};
+use tables::{Change, PlainView, Rows, TableView};
+use unit_changes::{UnitChanges, UnitView, row_under, schema_under, tables_under};
 
 /// `K INTEGER NOT NULL, N INTEGER`, with `K` as the key.
 pub(crate) fn schema(alloc: Global) -> Result<Schema, Fail> {
@@ -125,4 +125,35 @@ fn has_same_tables(
     let wanted = other.schema(alloc, name)?.is_some();
     let tables = tables_under(base, unit, alloc)?;
     Ok(known == wanted && tables == other.tables()?)
+}
+
+/// Whether the view of the unit lists the rows of table `name` that the other view lists, in their
+/// order.
+pub(crate) fn lists_same(
+    alloc: Global,
+    base: &mut PlainView,
+    unit: &UnitChanges,
+    other: &mut PlainView,
+    name: &str,
+) -> Result<bool, Fail> {
+    let mut view = UnitView {
+        base,
+        changes: unit,
+        alloc,
+    };
+    let rows = view.scan(alloc, name)?;
+    let wanted = other.scan(alloc, name)?;
+    Ok(are_same(&rows, &wanted))
+}
+
+fn are_same(rows: &Rows, wanted: &Rows) -> bool {
+    if rows.len() != wanted.len() {
+        return false;
+    }
+    for i in 0..rows.len() {
+        if rows.row(i) != wanted.row(i) {
+            return false;
+        }
+    }
+    true
 }

@@ -1,6 +1,6 @@
 //! Units of work over tables in memory, beside the same changes applied to those.
 
-use crate::fixtures::{Step, add, plain, shows_same};
+use crate::fixtures::{Step, add, lists_same, plain, shows_same};
 use std::alloc::Global;
 use std::test::Fail;
 use unit_changes::{MAX_CHANGED_BYTES, UnitChanges};
@@ -16,13 +16,14 @@ const BASE: [Step; 5] = [
 
 /// Put, replaced, removed; removed what was put, put what was removed; created, put into it, and
 /// removed from it; a table that is there already, and one that nobody has.
-const STEPS: [Step; 12] = [
+const STEPS: [Step; 13] = [
     Step::Put("A", 3, 30),
     Step::Put("A", 1, 12),
     Step::Remove("A", 2),
     Step::Remove("A", 3),
     Step::Put("A", 2, 21),
     Step::Put("A", 2, 22),
+    Step::Put("A", -5, 15),
     Step::Create("C"),
     Step::Put("C", 1, 13),
     Step::Put("C", -5, 14),
@@ -40,6 +41,9 @@ fn all_same(alloc: Global, unit: &UnitChanges, steps: &[Step]) -> Result<bool, F
         other.apply(alloc, crate::fixtures::change(alloc, *step)?)?;
     }
     for name in NAMES {
+        if !lists_same(alloc, &mut base, unit, &mut other, name)? {
+            return Ok(false);
+        }
         for k in [-5, 1, 2, 3] {
             if !shows_same(alloc, &mut base, unit, &mut other, name, k)? {
                 return Ok(false);

@@ -7,7 +7,7 @@ use Rattle.tables.proofs.PlainTables.{on_err, on_ok}
 use Rattle.unit_changes.specs.UnitTable.{UnitTable}
 use Rattle.unit_changes.specs.TableChanges.{Records, table_of}
 use Rattle.unit_changes.specs.Index.{is_named}
-use Rattle.unit_changes.proofs.Telling.{Laws}
+use Rattle.unit_changes.proofs.Forms.{Laws}
 use Rattle.unit_changes.proofs.Indexing.{index_more, index_new}
 use Rattle.unit_changes.proofs.Listing.{first_of, pushed, tables_kept}
 use Rattle.unit_changes.proofs.index.index_changes.Goals as goal
