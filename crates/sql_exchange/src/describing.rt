@@ -1,11 +1,13 @@
 //! DSCSQLSTT.
 
-ghost use Rattle.std.specs.Prelude.{◌≡◌, ◌≤◌, ◌++◌, ◌∷◌, [], OnErr, OnOk, length, map, true, vec_capacity};
+ghost use Rattle.std.specs.Prelude.{◌≡◌, ◌≤◌, ◌++◌, ◌∷◌, [], OnErr, OnOk, length, map, true, unwrap_or, vec_capacity};
 ghost use Rattle.row_values.specs.Column.{column_of};
+ghost use Rattle.drda_commands.specs.Values.{section_in};
 ghost use Rattle.drda_commands.specs.Views.{given_of};
 ghost use Rattle.sql_exchange.specs.Commands as commands;
 ghost use Rattle.sql_exchange.specs.Done.{WasDone};
 ghost use Rattle.sql_exchange.specs.Reply as spec;
+ghost use Rattle.sections.specs.Cursors.{section_of};
 ghost use Rattle.sql_exchange.specs.Text.{statement_of};
 
 use crate::answer::{add, not_done};
@@ -14,9 +16,7 @@ use crate::reply::Reply;
 use crate::running::refuse;
 use crate::statements::Statements;
 use crate::text::statement_of;
-use core_calls::{
-    Answer, CoreCall, MAX_PARAMETERS, ParameterType, Side, SqlFault,
-};
+use core_calls::{Answer, CoreCall, MAX_PARAMETERS, ParameterType, Side, SqlFault};
 use drda_commands::{Accepted, DescribedSide};
 use row_values::Column;
 use sections::NotPrepared;
@@ -129,8 +129,45 @@ fn describe_text<A: Ask>(
     }
 }
 
+fn describe_section<A: Ask>(
+    alloc: Global,
+    name: &[u8],
+    side: Side,
+    unicode: bool,
+    statements: &Statements,
+    asker: &mut A,
+    replies: &mut Vec<Reply>,
+) -> Result<(), AllocError>
+    ensures ok { OnOk result (WasDone A.asks (commands.described_in unicode statements.now side (section_of name.now statements.now.sections)) asker.old asker.new statements.now replies.old.items replies.new.items) }
+    ensures asker { OnErr result (asker.new ≡ asker.old) }
+    ensures replies { OnErr result (replies.new.items ≡ replies.old.items) }
+{
+    match statements.sections().statement(name) {
+        Ok(text) => describe_text(
+            alloc,
+            text.as_bytes(),
+            side,
+            unicode,
+            statements,
+            asker,
+            replies,
+        ),
+        Err(NotPrepared) => refuse(alloc, SqlFault::NotPrepared, replies),
+    }
+}
+
+// The name of the section that is meant, of which a command that is accepted has one.
+fn section_name<'a>(accepted: &Accepted<'a>) -> &'a [u8]
+    ensures { result.now ≡ unwrap_or (section_in (given_of accepted.now.given)) [] }
+{
+    match accepted.section() {
+        Some(name) => name,
+        None => &[],
+    }
+}
+
 /// Describes the statement of a section (DSCSQLSTT), its columns or its parameters: an SQLDARD, which has no
-/// columns for a CREATE TABLE; or the SQLCARD of why it was refused, -514 where the section has no statement.
+/// columns for a CREATE TABLE; or the SQLCARD of why it was refused, -518 where the section has no statement.
 /// Names are answered as UTF-8 with `unicode`, else in code page 500. Out of memory, nothing is asked.
 pub fn describe<A: Ask>(
     alloc: Global,
@@ -144,21 +181,7 @@ pub fn describe<A: Ask>(
     ensures asker { OnErr result (asker.new ≡ asker.old) }
     ensures replies { OnErr result (replies.new.items ≡ replies.old.items) }
 {
-    let name = match accepted.section() {
-        Some(name) => name,
-        None => &[],
-    };
+    let name = section_name(&accepted);
     let side = side_for(accepted.side());
-    match statements.sections().statement(name) {
-        Ok(text) => describe_text(
-            alloc,
-            text.as_bytes(),
-            side,
-            unicode,
-            statements,
-            asker,
-            replies,
-        ),
-        Err(NotPrepared) => refuse(alloc, SqlFault::NotPrepared, replies),
-    }
+    describe_section(alloc, name, side, unicode, statements, asker, replies)
 }
