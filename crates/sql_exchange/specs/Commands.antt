@@ -145,13 +145,13 @@ module _ (unicode : Bool) where
   abbrev pub preparing : Statements → Given → Doing
   preparing k given = prepared_by k given (statement_of (unwrap_or (statement_in given) []))
 
-  abbrev pub described_by : Statements → Given → Result Statement SqlFault → Doing
-  described_by k given (Err f) = finished (answered k (fault_card f ∷ []))
-  described_by k given (Ok s) = describing k k s (side_for (side_in given))
+  abbrev pub described_as : Statements → Side → Result Statement SqlFault → Doing
+  described_as k which (Err f) = finished (answered k (fault_card f ∷ []))
+  described_as k which (Ok s) = describing k k s which
 
-  abbrev pub described_in : Statements → Given → Option Section → Doing
-  described_in k given None = finished (answered k (fault_card fault.NotPrepared ∷ []))
-  described_in k given (Some section) = described_by k given (statement_of section.text)
+  abbrev pub described_in : Statements → Side → Option Section → Doing
+  described_in k which None = finished (answered k (fault_card fault.NotPrepared ∷ []))
+  described_in k which (Some section) = described_as k which (statement_of section.text)
 
   abbrev pub describing_section : Statements → Given → Doing
-  describing_section k given = described_in k given (section_of (unwrap_or (section_in given) []) k.sections)
+  describing_section k given = described_in k (side_for (side_in given)) (section_of (unwrap_or (section_in given) []) k.sections)

@@ -4,6 +4,7 @@
 
 mod answer;
 mod ask;
+mod describing;
 mod ending;
 mod reply;
 mod running;
@@ -11,6 +12,7 @@ mod statements;
 mod text;
 
 pub use ask::Ask;
+pub use describing::describe;
 pub use ending::end_unit;
 pub use reply::{Reply, ReplyKind};
 pub use running::execute_immediate;

@@ -1,14 +1,18 @@
 //! Replies.
 
-ghost use Rattle.std.specs.Prelude.{◌≡◌, ◌≤◌, [], length, true, vec_capacity};
+ghost use Rattle.std.specs.Prelude.{◌≡◌, ◌≤◌, [], length, map, true, vec_capacity};
+ghost use Rattle.core_calls.specs.Described.{columns_of};
+ghost use Rattle.row_values.specs.Column.{column_of};
+ghost use Rattle.sqlam_replies.specs.Sqldard.{are_described};
 ghost use Rattle.sqlam_replies.specs.Message.{has_short_values, message_of};
 ghost use Rattle.sqlam_replies.specs.Sqlcard.{null_sqlcard, sqlcard};
 ghost use Rattle.sql_exchange.specs.Reply as spec;
 
-use core_calls::SqlFault;
+use core_calls::{OutputColumns, SqlFault};
+use row_values::Column;
 use sqlam_replies::{
-    MAX_MESSAGE_LENGTH, ReplyMessage, SQLCARD_LENGTH, null_sqlcard, reply_message, sqlcard,
-    texts_have_lengths,
+    MAX_MESSAGE_LENGTH, MAX_SQLDARD_LENGTH, ReplyMessage, SQLCARD_LENGTH, null_sqlcard,
+    reply_message, selected_sqldard, sqlcard, sqldard, texts_have_lengths,
 };
 use std::marker::Model;
 
@@ -129,6 +133,43 @@ impl Reply {
         texts_have_lengths();
         let mut text = text;
         match sqlcard(&mut text, code, state, count) {
+            Ok(()) => Reply {
+                kind: ReplyKind::Object,
+                severity: 0,
+                text,
+            },
+            Err(_) => unreachable!(),
+        }
+    }
+
+    // The SQLDARD of columns, in a list of no bytes that has room for it.
+    pub(crate) fn of_columns(text: Vec<u8>, unicode: bool, columns: &[Column]) -> Reply
+        requires empty { text.items ≡ [] }
+        requires room { MAX_SQLDARD_LENGTH ≤ vec_capacity text }
+        requires few { are_described (map column_of columns.now) ≡ true }
+        ensures { result ≡ spec.description unicode (map column_of columns.now) }
+    {
+        texts_have_lengths();
+        let mut text = text;
+        match sqldard(&mut text, unicode, columns) {
+            Ok(()) => Reply {
+                kind: ReplyKind::Object,
+                severity: 0,
+                text,
+            },
+            Err(_) => unreachable!(),
+        }
+    }
+
+    // The SQLDARD of what is selected, in a list of no bytes that has room for it.
+    pub(crate) fn of_selection(text: Vec<u8>, unicode: bool, columns: &OutputColumns) -> Reply
+        requires empty { text.items ≡ [] }
+        requires room { MAX_SQLDARD_LENGTH ≤ vec_capacity text }
+        ensures { result ≡ spec.description unicode (columns_of columns.now) }
+    {
+        texts_have_lengths();
+        let mut text = text;
+        match selected_sqldard(&mut text, unicode, columns.schema(), columns.selected()) {
             Ok(()) => Reply {
                 kind: ReplyKind::Object,
                 severity: 0,

@@ -31,7 +31,11 @@ fn is_search(command: &Command<'_>) -> bool
 }
 
 // The SQLCARD of a fault, and no other reply.
-fn refuse(alloc: Global, fault: SqlFault, replies: &mut Vec<Reply>) -> Result<(), AllocError>
+pub(crate) fn refuse(
+    alloc: Global,
+    fault: SqlFault,
+    replies: &mut Vec<Reply>,
+) -> Result<(), AllocError>
     ensures ok { OnOk result (replies.new.items ≡ replies.old.items ++ fault_card fault ∷ []) }
     ensures err { OnErr result (replies.new.items ≡ replies.old.items) }
 {

@@ -1,0 +1,187 @@
+//! DSCSQLSTT.
+
+ghost use Rattle.std.specs.Prelude.{◌≡◌, ◌≤◌, ◌++◌, ◌∷◌, [], OnErr, OnOk, length, map, true, unwrap_or, vec_capacity};
+ghost use Rattle.row_values.specs.Column.{column_of};
+ghost use Rattle.drda_commands.specs.Values.{section_in};
+ghost use Rattle.drda_commands.specs.Views.{given_of};
+ghost use Rattle.sql_exchange.specs.Commands as commands;
+ghost use Rattle.sql_exchange.specs.Done.{WasDone};
+ghost use Rattle.sql_exchange.specs.Reply as spec;
+ghost use Rattle.sections.specs.Cursors.{section_of};
+ghost use Rattle.sql_exchange.specs.Text.{statement_of};
+
+use crate::answer::{add, not_done};
+use crate::ask::Ask;
+use crate::reply::Reply;
+use crate::running::refuse;
+use crate::statements::Statements;
+use crate::text::statement_of;
+use core_calls::{Answer, CoreCall, MAX_PARAMETERS, ParameterType, Side, SqlFault};
+use drda_commands::{Accepted, DescribedSide};
+use row_values::Column;
+use sections::NotPrepared;
+use sql_literals::StatementError;
+use sql_text::{Command, Statement};
+use sqlam_replies::MAX_SQLDARD_LENGTH;
+use std::alloc::{AllocError, Global};
+
+fn is_create(command: &Command<'_>) -> bool
+    ensures { result ≡ commands.is_create command.now }
+{
+    match command {
+        Command::Create { .. } => true,
+        Command::Insert { .. }
+        | Command::Update { .. }
+        | Command::Delete { .. }
+        | Command::Select { .. } => false,
+    }
+}
+
+fn side_for(side: DescribedSide) -> Side
+    ensures { result ≡ commands.side_for side }
+{
+    match side {
+        DescribedSide::Columns => Side::Output,
+        DescribedSide::Parameters => Side::Input,
+    }
+}
+
+fn parameter_column(alloc: Global, parameter: ParameterType) -> Column
+    ensures { column_of result ≡ spec.parameter_column parameter }
+{
+    Column {
+        name: String::new(alloc),
+        kind: parameter.kind,
+        is_nullable: true,
+        length: parameter.limit,
+    }
+}
+
+// The columns that parameters are described as, in a list of none that has room for them.
+fn parameter_columns(alloc: Global, types: &[ParameterType], columns: Vec<Column>) -> Vec<Column>
+    requires empty { columns.items ≡ [] }
+    requires room { length types.now ≤ vec_capacity columns }
+    ensures { map column_of result.items ≡ spec.parameter_columns types.now }
+{
+    let mut columns = columns;
+    for i in 0..types.len() {
+        match columns.push(parameter_column(alloc, types[i])) {
+            Ok(()) => {}
+            Err(_) => unreachable!(),
+        }
+    }
+    columns
+}
+
+// The columns or the parameters of a statement.
+fn describe_statement<A: Ask>(
+    alloc: Global,
+    statement: &Statement<'_>,
+    side: Side,
+    unicode: bool,
+    statements: &Statements,
+    asker: &mut A,
+    replies: &mut Vec<Reply>,
+) -> Result<(), AllocError>
+    ensures ok { OnOk result (WasDone A.asks (commands.describing unicode statements.now statements.now statement.now side) asker.old asker.new statements.now replies.old.items replies.new.items) }
+    ensures asker { OnErr result (asker.new ≡ asker.old) }
+    ensures replies { OnErr result (replies.new.items ≡ replies.old.items) }
+{
+    let text: Vec<u8> = Vec::with_capacity(alloc, MAX_SQLDARD_LENGTH)?;
+    let columns: Vec<Column> = Vec::with_capacity(alloc, MAX_PARAMETERS)?;
+    replies.reserve(1)?;
+    if is_create(&statement.command) {
+        add(replies, Reply::of_columns(text, unicode, &[]));
+        return Ok(());
+    }
+    match asker.ask(&CoreCall::Describe { statement, side }) {
+        Answer::Output(selection) => {
+            add(replies, Reply::of_selection(text, unicode, &selection));
+        }
+        Answer::Input(types) => {
+            let columns = parameter_columns(alloc, types.as_slice(), columns);
+            add(replies, Reply::of_columns(text, unicode, &columns));
+        }
+        answer => add(replies, not_done(answer, text)),
+    }
+    Ok(())
+}
+
+fn describe_text<A: Ask>(
+    alloc: Global,
+    text: &[u8],
+    side: Side,
+    unicode: bool,
+    statements: &Statements,
+    asker: &mut A,
+    replies: &mut Vec<Reply>,
+) -> Result<(), AllocError>
+    ensures ok { OnOk result (WasDone A.asks (commands.described_as unicode statements.now side (statement_of text.now)) asker.old asker.new statements.now replies.old.items replies.new.items) }
+    ensures asker { OnErr result (asker.new ≡ asker.old) }
+    ensures replies { OnErr result (replies.new.items ≡ replies.old.items) }
+{
+    match statement_of(alloc, text) {
+        Ok(statement) => {
+            describe_statement(alloc, &statement, side, unicode, statements, asker, replies)
+        }
+        Err(StatementError::Fault(fault)) => refuse(alloc, fault, replies),
+        Err(StatementError::NoMemory) => Err(AllocError),
+    }
+}
+
+fn describe_section<A: Ask>(
+    alloc: Global,
+    name: &[u8],
+    side: Side,
+    unicode: bool,
+    statements: &Statements,
+    asker: &mut A,
+    replies: &mut Vec<Reply>,
+) -> Result<(), AllocError>
+    ensures ok { OnOk result (WasDone A.asks (commands.described_in unicode statements.now side (section_of name.now statements.now.sections)) asker.old asker.new statements.now replies.old.items replies.new.items) }
+    ensures asker { OnErr result (asker.new ≡ asker.old) }
+    ensures replies { OnErr result (replies.new.items ≡ replies.old.items) }
+{
+    match statements.sections().statement(name) {
+        Ok(text) => describe_text(
+            alloc,
+            text.as_bytes(),
+            side,
+            unicode,
+            statements,
+            asker,
+            replies,
+        ),
+        Err(NotPrepared) => refuse(alloc, SqlFault::NotPrepared, replies),
+    }
+}
+
+// The name of the section that is meant, of which a command that is accepted has one.
+fn section_name<'a>(accepted: &Accepted<'a>) -> &'a [u8]
+    ensures { result.now ≡ unwrap_or (section_in (given_of accepted.now.given)) [] }
+{
+    match accepted.section() {
+        Some(name) => name,
+        None => &[],
+    }
+}
+
+/// Describes the statement of a section (DSCSQLSTT), its columns or its parameters: an SQLDARD, which has no
+/// columns for a CREATE TABLE; or the SQLCARD of why it was refused, -518 where the section has no statement.
+/// Names are answered as UTF-8 with `unicode`, else in code page 500. Out of memory, nothing is asked.
+pub fn describe<A: Ask>(
+    alloc: Global,
+    accepted: Accepted<'_>,
+    unicode: bool,
+    statements: &Statements,
+    asker: &mut A,
+    replies: &mut Vec<Reply>,
+) -> Result<(), AllocError>
+    ensures ok { OnOk result (WasDone A.asks (commands.describing_section unicode statements.now (given_of accepted.entry.given)) asker.old asker.new statements.now replies.old.items replies.new.items) }
+    ensures asker { OnErr result (asker.new ≡ asker.old) }
+    ensures replies { OnErr result (replies.new.items ≡ replies.old.items) }
+{
+    let name = section_name(&accepted);
+    let side = side_for(accepted.side());
+    describe_section(alloc, name, side, unicode, statements, asker, replies)
+}
