@@ -3,6 +3,7 @@ use Rattle.std.proofs.Common.{◌≡◌, ℕ, List, [], ◌∷◌, Bool, true, f
 use Rattle.std.specs.Prelude.{option_map}
 use Rattle.std.specs.Ordering.{match_ordering}
 use Rattle.std.specs.BTreeMap.{insert_entry}
+use Rattle.std.specs.Map.{keys_of}
 use Rattle.ordered_rows.specs.Slots.{Slots, by_bytes, by_key, rows_of}
 use Rattle.key_map.specs.Merging.{Rows, InOrder, row_at, changed, merged, over}
 use Rattle.key_map.specs.Overlay.{said, change_of, changes_of}
@@ -51,3 +52,8 @@ put_said old new key row r says is = ap (map change_of) is ∙ insert_said (rows
 pub put_made : (old new : Slots) (key row : List ℕ) (r : Option (List ℕ)) → said row ≡ r → rows_of new ≡ insert_entry by_bytes (rows_of old) key row
     → (rows : Rows) → InOrder rows → merged rows (changes_of new) ≡ changed (merged rows (changes_of old)) key r
 put_made old new key row r says is rows up = ap (merged rows) (put_said old new key row r says is) ∙ one_more rows (changes_of old) key r up
+
+-- changes have the keys of their entries
+pub keys_said : (es : Rows) → keys_of es ≡ keys_of (map change_of es)
+keys_said [] = refl
+keys_said (e ∷ es) = ap (λ l. e.0 ∷ l) (keys_said es)

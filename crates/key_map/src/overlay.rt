@@ -1,10 +1,11 @@
 //! The changes of a table since its pages were written.
 
-ghost use Rattle.std.specs.Prelude.{◌≡◌, ◌<◌, ℕ, List, [], Some, None, OnOk, length, option_map};
+ghost use Rattle.std.specs.Prelude.{◌≡◌, ◌<◌, ℕ, List, [], Some, None, OnOk, length, map, option_map};
 ghost use Rattle.std.specs.BTreeMap.{insert_entry};
 ghost use Rattle.ordered_rows.specs.Slots.{HasRoom, by_bytes};
+ghost use Rattle.ordered_rows.specs.Walk.{rows_left};
 ghost use Rattle.key_map.specs.Merging.{InOrder, Rows, changed, merged, over, row_at};
-ghost use Rattle.key_map.specs.Overlay.{changes_of, said, seen};
+ghost use Rattle.key_map.specs.Overlay.{change_of, changes_of, said, seen};
 
 use ordered_rows::OrderedRows;
 use std::alloc::{AllocError, Global};
@@ -67,6 +68,15 @@ impl Overlay {
         ensures room { (q : List ℕ) → HasRoom q self.old → HasRoom q self.new }
     {
         self.entries.put_reserved(key, Vec::new(alloc));
+    }
+
+    /// All changes, in the order of their keys, which rise: each key with its row, and with no bytes
+    /// where the row was taken out. Takes no memory.
+    pub fn entries(&self) -> ordered_rows::Rows<'_>
+        ensures all { map change_of (rows_left result) ≡ changes_of self.now }
+        ensures rising { InOrder (changes_of self.now) }
+    {
+        self.entries.rows()
     }
 
     /// What the changes say of a key: the row that was put there, that the row was taken out
