@@ -50,8 +50,8 @@ fn first_key_at<K: RowKeys, D: Disk>(
     }
 }
 
-/// Puts a key behind others.
-fn push_key(first_keys: &mut Vec<Vec<u8>>, key: Vec<u8>) -> Result<(), PageFault>
+/// Puts bytes behind others.
+pub(crate) fn push_key(first_keys: &mut Vec<Vec<u8>>, key: Vec<u8>) -> Result<(), PageFault>
     ensures items { OnOk result (first_keys.new.items ≡ first_keys.old.items ++ key ∷ []) }
     ensures cause { (n : ℕ) → CountsPageFault result n n }
 {
