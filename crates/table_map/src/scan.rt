@@ -8,7 +8,7 @@ ghost use Rattle.table_map.specs.Stored.{IsStored};
 ghost use Rattle.table_map.specs.Table.{rows_of_table, without_keys};
 
 use crate::changes::ChangesLeft;
-use crate::opening::push_key;
+use crate::opening::push_bytes;
 use crate::{RowCursor, RowKeys, TableMap};
 use drda_disk::Disk;
 use row_pages::{PageCache, PageCount, PageFault};
@@ -60,7 +60,7 @@ impl TableMap {
         let mut cursor = self.rows(alloc);
         let mut rows = Vec::new(alloc);
         while let Some(row) = cursor.next(alloc, keys, cache, disk)? {
-            push_key(&mut rows, row)?;
+            push_bytes(&mut rows, row)?;
         }
         Ok(rows)
     }

@@ -37,7 +37,7 @@ loop-rows-preserved g c =
           let held = inv.rows pages honest read is in
           let there = subst (λ (f : List ℕ). IsLeft key_of f c.loop-rows.cursor held.left) (sym inv.stays.same) held.is in
           let goes = subst (λ (f : List ℕ). GoesOn key_of f held.left c.in-Some.row.items c.next.new.self) inv.stays.same (rw c.in-Some.is at (c.in_ok-row.ensures.gives held.left honest (inv.kept honest read) there)) in
-          one_given key_of file c.loop-rows.cursor c.next.new.self c.loop-rows.rows.items _ _ c.in-Some.row held goes c.in_ok-push_key.ensures.items;
+          one_given key_of file c.loop-rows.cursor c.next.new.self c.loop-rows.rows.items _ _ c.in-Some.row held goes c.in_ok-push_bytes.ensures.items;
     }
 
 pub returns-clause-rows : goal.returns-clause-rows
