@@ -1,3 +1,5 @@
 mod Found
-mod Told
+mod Given
+mod Going
 mod Opened
+mod Told

@@ -1,4 +1,6 @@
+pub mod Cursor
 pub mod Keyed
 pub mod Places
 pub mod Stored
 pub mod Table
+pub mod Walk

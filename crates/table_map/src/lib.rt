@@ -1,12 +1,17 @@
 //! The rows of a table on its pages, found by their keys.
 #![tactic(auto)]
 
+mod base;
+mod changes;
+mod cursor;
 mod finding;
 mod keys;
 mod opening;
 mod pages;
+mod scan;
 mod table;
 
+pub use cursor::RowCursor;
 pub use keys::RowKeys;
 pub use pages::TablePages;
 pub use table::TableMap;

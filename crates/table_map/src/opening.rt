@@ -50,12 +50,12 @@ fn first_key_at<K: RowKeys, D: Disk>(
     }
 }
 
-/// Puts a key behind others.
-fn push_key(first_keys: &mut Vec<Vec<u8>>, key: Vec<u8>) -> Result<(), PageFault>
-    ensures items { OnOk result (first_keys.new.items ≡ first_keys.old.items ++ key ∷ []) }
+/// Puts bytes behind others.
+pub(crate) fn push_bytes(list: &mut Vec<Vec<u8>>, bytes: Vec<u8>) -> Result<(), PageFault>
+    ensures items { OnOk result (list.new.items ≡ list.old.items ++ bytes ∷ []) }
     ensures cause { (n : ℕ) → CountsPageFault result n n }
 {
-    match first_keys.push(key) {
+    match list.push(bytes) {
         Ok(()) => Ok(()),
         Err(_) => Err(PageFault::NoMemory),
     }
@@ -85,7 +85,7 @@ impl TablePages {
         let mut first_keys = Vec::new(alloc);
         for page in 0..count {
             let key = first_key_at(alloc, keys, cache, disk, at + PAGE_BYTES * page)?;
-            push_key(&mut first_keys, key)?;
+            push_bytes(&mut first_keys, key)?;
         }
         Ok(TablePages { at, first_keys })
     }

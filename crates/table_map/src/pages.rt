@@ -1,5 +1,5 @@
 //! The pages of a table.
-ghost use Rattle.std.specs.Prelude.{◌≡◌, ◌+◌, ◌*◌, ◌^◌, ◌<◌, ◌≤◌, ℕ, List, IsTrue, IfOk, length};
+ghost use Rattle.std.specs.Prelude.{◌≡◌, ◌+◌, ◌*◌, ◌^◌, ◌<◌, ◌≤◌, ℕ, List, [], IsTrue, IfOk, length};
 ghost use Rattle.drda_words.specs.Place.{part};
 ghost use Rattle.drda_disk.specs.Disk.{Stays};
 ghost use Rattle.row_pages.specs.Page.{IsPage};
@@ -10,6 +10,7 @@ ghost use Rattle.table_map.specs.Keyed.{keyed_rows, copied};
 ghost use Rattle.table_map.specs.Stored.{IsStored};
 
 use crate::RowKeys;
+use crate::base::RowsLeft;
 use crate::finding::{find_row, place_of};
 use drda_disk::Disk;
 use row_pages::{KeptPage, PAGE_BYTES, PageCache, PageFault, PageKind};
@@ -73,6 +74,13 @@ fn row_in_page<K: RowKeys, D: Disk>(
 }
 
 impl TablePages {
+    /// The rows of all pages, none of which is read yet.
+    pub(crate) fn rows_left(&self, alloc: Global) -> RowsLeft
+        ensures { result ≡ record { at = self.now.at; pages = length self.now.keys; rows = [] } }
+    {
+        RowsLeft::new(alloc, self.at, self.first_keys.len())
+    }
+
     /// The row of a key, in new memory. One page is looked at, at most: the one whose first key is the
     /// last that the key does not come before.
     pub fn row<K: RowKeys, D: Disk>(

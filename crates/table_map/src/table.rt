@@ -21,8 +21,8 @@ use std::marker::Model;
 /// pages were written.
 #[derive(Drop)]
 pub struct TableMap {
-    pages: TablePages,
-    overlay: Overlay,
+    pub(crate) pages: TablePages,
+    pub(crate) overlay: Overlay,
 }
 
 impl Model for TableMap {

@@ -4,4 +4,6 @@
 #[cfg(test)]
 mod lookups;
 #[cfg(test)]
+mod scans;
+#[cfg(test)]
 mod tables;

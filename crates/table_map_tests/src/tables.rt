@@ -1,5 +1,5 @@
 //! A table of rows that are known by their first byte, for tests.
-ghost use Rattle.std.specs.Prelude.{◌≡◌, take};
+ghost use Rattle.std.specs.Prelude.{◌≡◌, ◌+◌, ◌*◌, ◌≤◌, IfOk, length, take};
 
 use drda_disk::{Disk, MemDisk};
 use row_pages::{PageBuilder, PageCache, PageFault, PageKind};
@@ -66,8 +66,28 @@ pub fn disk_with_table(alloc: Global) -> Result<MemDisk, Fail> {
     Ok(disk)
 }
 
-/// The row of a key of the table, with these changes of keys made: `Some` puts a row of the key and
-/// this byte, `None` takes it out. Its second byte is given.
+/// The table, with these changes of keys made: `Some` puts a row of the key and this byte, `None`
+/// takes it out.
+fn changed_table<D: Disk>(
+    alloc: Global,
+    cache: &mut PageCache,
+    disk: &mut D,
+    changes: &[(u8, Option<u8>)],
+) -> Result<TableMap, PageFault>
+    ensures { IfOk result (λ table. table.places.at + 8192 * length table.places.keys ≤ length (D.life disk.new).seen) }
+{
+    if disk.size() < 32_768 {
+        return Err(PageFault::DeviceFailed);
+    }
+    let pages = TablePages::open(alloc, &FirstByte, cache, disk, TABLE_AT, 3)?;
+    let mut table = TableMap::new(alloc, pages);
+    for (key, byte) in changes {
+        change(alloc, &mut table, *key, *byte).map_err(|_| PageFault::NoMemory)?;
+    }
+    Ok(table)
+}
+
+/// The second byte of the row of a key, with these changes.
 pub fn found<D: Disk>(
     alloc: Global,
     disk: &mut D,
@@ -75,16 +95,52 @@ pub fn found<D: Disk>(
     key: u8,
 ) -> Result<Option<u8>, PageFault> {
     let mut cache = PageCache::new(alloc, 2).map_err(|_| PageFault::NoMemory)?;
-    if disk.size() < 32_768 {
-        return Err(PageFault::DeviceFailed);
-    }
-    let pages = TablePages::open(alloc, &FirstByte, &mut cache, disk, TABLE_AT, 3)?;
-    let mut table = TableMap::new(alloc, pages);
-    for (key, byte) in changes {
-        change(alloc, &mut table, *key, *byte).map_err(|_| PageFault::NoMemory)?;
-    }
+    let table = changed_table(alloc, &mut cache, disk, changes)?;
     let row = table.get(alloc, &FirstByte, &mut cache, disk, &[key])?;
     Ok(row.and_then(|row| row.get(1).copied()))
+}
+
+/// Whether all rows, with these changes, are the wanted ones.
+pub fn scans<D: Disk>(
+    alloc: Global,
+    disk: &mut D,
+    changes: &[(u8, Option<u8>)],
+    want: &[&[u8]],
+) -> Result<bool, PageFault> {
+    let mut cache = PageCache::new(alloc, 2).map_err(|_| PageFault::NoMemory)?;
+    let table = changed_table(alloc, &mut cache, disk, changes)?;
+    let rows = table.scan(alloc, &FirstByte, &mut cache, disk)?;
+    Ok(are_same(&rows, want))
+}
+
+fn are_same(rows: &[Vec<u8>], want: &[&[u8]]) -> bool {
+    if rows.len() != want.len() {
+        return false;
+    }
+    for (row, want) in rows.iter().zip(want) {
+        if row.as_slice() != *want {
+            return false;
+        }
+    }
+    true
+}
+
+/// How many pages the rows take with one of so many bytes behind them.
+pub fn pages_with<D: Disk>(alloc: Global, disk: &mut D, length: usize) -> Result<usize, PageFault> {
+    let mut cache = PageCache::new(alloc, 2).map_err(|_| PageFault::NoMemory)?;
+    let mut table = changed_table(alloc, &mut cache, disk, &[])?;
+    put_long(alloc, &mut table, 70, length).map_err(|_| PageFault::NoMemory)?;
+    table.page_count(alloc, &FirstByte, &mut cache, disk)
+}
+
+/// Puts a row of a key that has so many bytes, 1 at least.
+fn put_long(alloc: Global, table: &mut TableMap, key: u8, length: usize) -> Result<(), AllocError>
+    ensures { table.new.places ≡ table.old.places }
+{
+    table.reserve(alloc, &[key])?;
+    let row = vec![in alloc; key; length.max(1)]?;
+    table.put_reserved(&[key], row);
+    Ok(())
 }
 
 /// Makes a change.

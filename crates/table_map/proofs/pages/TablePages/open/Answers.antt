@@ -26,17 +26,17 @@ returns-in_err-key-clause-stays g c = Stays-trans _ _ _ c.loop-page.invariant.st
 pub returns-in_err-key-clause-cause : goal.returns-in_err-key-clause-cause
 returns-in_err-key-clause-cause g c = subst (λ n. CountsPageFault c.from_residual.result n (g.D.Disk.life c.first_key_at.new.disk).faults) c.loop-page.invariant.faults (search rules)
 
-pub returns-in_err-push_key-clause-kept : goal.returns-in_err-push_key-clause-kept
-returns-in_err-push_key-clause-kept g c honest read = c.first_key_at.ensures.kept honest (c.loop-page.invariant.kept honest read)
+pub returns-in_err-push_bytes-clause-kept : goal.returns-in_err-push_bytes-clause-kept
+returns-in_err-push_bytes-clause-kept g c honest read = c.first_key_at.ensures.kept honest (c.loop-page.invariant.kept honest read)
 
-pub returns-in_err-push_key-clause-stays : goal.returns-in_err-push_key-clause-stays
-returns-in_err-push_key-clause-stays g c = Stays-trans _ _ _ c.loop-page.invariant.stays c.first_key_at.ensures.stays
+pub returns-in_err-push_bytes-clause-stays : goal.returns-in_err-push_bytes-clause-stays
+returns-in_err-push_bytes-clause-stays g c = Stays-trans _ _ _ c.loop-page.invariant.stays c.first_key_at.ensures.stays
 
-pub returns-in_err-push_key-clause-cause : goal.returns-in_err-push_key-clause-cause
-returns-in_err-push_key-clause-cause g c =
+pub returns-in_err-push_bytes-clause-cause : goal.returns-in_err-push_bytes-clause-cause
+returns-in_err-push_bytes-clause-cause g c =
     let old = (g.D.Disk.life c.args.disk.now).faults in
-    let told = c.in_err-push_key.ensures.cause old in
-    subst (λ n. CountsPageFault c.from_residual-in_err-push_key.result old n) (sym (c.in_ok-key.ensures.cause ∙ c.loop-page.invariant.faults)) (search rules)
+    let told = c.in_err-push_bytes.ensures.cause old in
+    subst (λ n. CountsPageFault c.from_residual-in_err-push_bytes.result old n) (sym (c.in_ok-key.ensures.cause ∙ c.loop-page.invariant.faults)) (search rules)
 
 pub loop-page-preserved : goal.loop-page-preserved
 loop-page-preserved g c =
@@ -48,9 +48,9 @@ loop-page-preserved g c =
       stays = Stays-trans _ _ _ inv.stays c.first_key_at.ensures.stays;
       faults = c.in_ok-key.ensures.cause ∙ inv.faults;
       kept = λ honest read. c.first_key_at.ensures.kept honest (inv.kept honest read);
-      many = ap length c.in_ok-push_key.ensures.items ∙ omega (arith, length-append c.loop-page.first_keys.items (c.in_ok-key.key ∷ []), inv.many);
+      many = ap length c.in_ok-push_bytes.ensures.items ∙ omega (arith, length-append c.loop-page.first_keys.items (c.in_ok-key.key ∷ []), inv.many);
       keys = λ pages honest read are many.
-          one_more key_of pages c.loop-page.first_keys.items _ i c.in_ok-key.key (omega (arith, many)) c.in_ok-push_key.ensures.items (inv.keys pages honest read are many)
+          one_more key_of pages c.loop-page.first_keys.items _ i c.in_ok-key.key (omega (arith, many)) c.in_ok-push_bytes.ensures.items (inv.keys pages honest read are many)
           (c.in_ok-key.ensures.key (get_or pages i []) honest (inv.kept honest read)
           (subst (λ (f : List ℕ). IsPage (record { kind = kind.Rows; rows = get_or pages i [] }) (part f (c.args.at + 8192 * i) 8192)) (sym inv.stays.same) (page_there key_of [] first c.args.at pages i are (omega (arith, many)))));
     }

@@ -1,5 +1,5 @@
 use Rattle.std.proofs.Common.{◌≡◌}
-use Rattle.table_map_tests.proofs.tables.found.Given as goal
+use Rattle.table_map_tests.proofs.tables.changed_table.Given as goal
 
 abbrev pub invariant-loop-key : goal.invariant-loop-key
 invariant-loop-key g l = l.table.places ≡ l.initial.table.places

@@ -1,0 +1,38 @@
+use Rattle.std.proofs.Common.{ℕ, List, subst, arith, ◌∙◌}
+use Rattle.drda_disk.proofs.Moments.{Stays-trans}
+use Rattle.table_map.specs.Walk.{Settles}
+use Rattle.table_map.proofs.Going.{settled_left}
+use Rattle.table_map.proofs.cursor.RowCursor.next.Goals as goal
+
+pub returns-in-Ok-Row-clause-gives : goal.returns-in-Ok-Row-clause-gives
+returns-in-Ok-Row-clause-gives g c left honest read held =
+    let inv = c.loop-self.invariant in
+    let file = (g.D.Disk.life c.args.disk.now).seen in
+    let reads = subst (λ (f : List ℕ). Settles f c.loop-self.self.base c.settle.new.self) inv.stays.same (c.in_ok-settle.ensures.rows honest (inv.kept honest read)) in
+    let now = settled_left (g.K.RowKeys.key_of c.args.keys.now) file c.loop-self.self left c.settle.new.self reads (inv.left left honest read held) in
+    rw c.in-Ok-Row.field-0-is at c.in-Ok-Row.ensures.steps file left now
+
+pub returns-in-Ok-End-clause-gives : goal.returns-in-Ok-End-clause-gives
+returns-in-Ok-End-clause-gives g c left honest read held =
+    let inv = c.loop-self.invariant in
+    let file = (g.D.Disk.life c.args.disk.now).seen in
+    let reads = subst (λ (f : List ℕ). Settles f c.loop-self.self.base c.settle.new.self) inv.stays.same (c.in_ok-settle.ensures.rows honest (inv.kept honest read)) in
+    let now = settled_left (g.K.RowKeys.key_of c.args.keys.now) file c.loop-self.self left c.settle.new.self reads (inv.left left honest read held) in
+    rw c.in-Ok-End.field-0-is at c.in-Ok-End.ensures.steps file left now
+
+pub loop-self-preserved : goal.loop-self-preserved
+loop-self-preserved g c =
+    let inv = c.loop-self.invariant in
+    let file = (g.D.Disk.life c.args.disk.now).seen in
+    let falls = rw c.in-Ok-Skip.field-0-is at c.in-Ok-Skip.ensures.fewer in
+    record {
+      stays = Stays-trans _ _ _ inv.stays c.settle.ensures.stays;
+      faults = c.in_ok-settle.ensures.cause ∙ inv.faults;
+      kept = λ honest read. c.settle.ensures.kept honest (inv.kept honest read);
+      end = omega (arith, c.step.ensures.at, c.step.ensures.pages, c.settle.ensures.end, inv.end);
+      fewer = omega (arith, falls, c.settle.ensures.weight, inv.fewer);
+      left = λ left honest read held.
+          let reads = subst (λ (f : List ℕ). Settles f c.loop-self.self.base c.settle.new.self) inv.stays.same (c.in_ok-settle.ensures.rows honest (inv.kept honest read)) in
+          let now = settled_left (g.K.RowKeys.key_of c.args.keys.now) file c.loop-self.self left c.settle.new.self reads (inv.left left honest read held) in
+          rw c.in-Ok-Skip.field-0-is at c.in-Ok-Skip.ensures.steps file left now;
+    }

@@ -1,0 +1,22 @@
+use Rattle.std.proofs.Common.{◌≡◌, ℕ, List, ◌+◌, ◌*◌, length, map}
+use Rattle.std.specs.Prelude.{IsTrue}
+use Rattle.drda_disk.specs.Disk.{Stays}
+use Rattle.row_pages.specs.Keeping.{AreRead}
+use Rattle.table_map.specs.Cursor.{weight}
+use Rattle.table_map.specs.Stored.{IsStored}
+use Rattle.table_map.specs.Table.{rows_of_table, without_keys}
+use Rattle.table_map.proofs.Given.{IsGiven}
+use Rattle.table_map.proofs.table.TableMap.scan.Given as goal
+
+abbrev pub invariant-loop-rows : goal.invariant-loop-rows
+invariant-loop-rows g l = record {
+  stays : Stays (g.D.Disk.life l.fn.disk) (g.D.Disk.life l.disk);
+  faults : (g.D.Disk.life l.disk).faults ≡ (g.D.Disk.life l.fn.disk).faults;
+  kept : IsTrue g.D.Disk.is_modelled → AreRead l.fn.cache (g.D.Disk.life l.fn.disk).seen → AreRead l.cache (g.D.Disk.life l.disk).seen;
+  end : l.cursor.base.at + 8192 * l.cursor.base.pages ≡ l.fn.self.places.at + 8192 * length l.fn.self.places.keys;
+  rows : (pages : List (List (List ℕ))) → IsTrue g.D.Disk.is_modelled → AreRead l.fn.cache (g.D.Disk.life l.fn.disk).seen → IsStored (g.K.RowKeys.key_of l.keys) l.fn.self.places pages (g.D.Disk.life l.fn.disk).seen
+      → IsGiven (g.K.RowKeys.key_of l.keys) (g.D.Disk.life l.fn.disk).seen l.cursor (map (λ r. r.items) l.rows.items) (without_keys (rows_of_table (g.K.RowKeys.key_of l.keys) l.fn.self pages));
+}
+
+abbrev pub decreases-loop-rows : goal.decreases-loop-rows
+decreases-loop-rows g l = weight l.cursor

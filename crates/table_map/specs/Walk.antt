@@ -1,0 +1,55 @@
+-- Lists whose first element is looked at or taken.
+use Rattle.std.specs.Prelude.{◌≡◌, ◌⊎◌, ℕ, suc, ◌+◌, List, [], ◌∷◌, Option, Some, None}
+use Rattle.std.specs.Borrow.{Bor}
+use Rattle.std.specs.Global.{Vec}
+use Rattle.drda_words.specs.Place.{part}
+use Rattle.row_pages.specs.Page.{IsPage}
+use Rattle.row_pages.specs.declared.page.PageKind.TheVariants as kind
+use Rattle.key_map.specs.Merging.{Rows}
+
+-- where the next page lies, how many come, and the rows that are left of the page that was read
+pub record PagesLeft : Type 0 where
+  pub at : ℕ
+  pub pages : ℕ
+  pub rows : List (List ℕ)
+
+-- all rows of the page were given only where no page comes
+abbrev pub IsSettled : PagesLeft → Type 0
+IsSettled left = left.rows ≡ [] → left.pages ≡ 0
+
+-- the next page was read: its rows are left now, and the pages behind it
+pub record ReadsPage (file : List ℕ) (old new : PagesLeft) : Type 0 where
+  pub none : old.rows ≡ []
+  pub at : new.at ≡ old.at + 8192
+  pub pages : old.pages ≡ suc new.pages
+  pub rows : (rows : List (List ℕ)) → IsPage (record { kind = kind.Rows; rows = rows }) (part file old.at 8192) → new.rows ≡ rows
+
+-- nothing is read, or the rows of the page that came, as a disk with these bytes reads it
+abbrev pub Settles : List ℕ → PagesLeft → PagesLeft → Type 0
+Settles file old new = (new ≡ old) ⊎ ReadsPage file old new
+
+abbrev pub IsFirstRow : List (List ℕ) → Option (Bor (List ℕ)) → Type 0
+IsFirstRow rows None = rows ≡ []
+IsFirstRow rows (Some row) = (more : List (List ℕ)) × (rows ≡ row.now ∷ more)
+
+abbrev pub TakesRow : List (List ℕ) → Option (Vec ℕ) → List (List ℕ) → Type 0
+TakesRow old None new = (old ≡ []) × (new ≡ [])
+TakesRow old (Some row) new = old ≡ row.items ∷ new
+
+abbrev pub IsFirstEntry : Rows → Option (Bor (List ℕ) × Bor (List ℕ)) → Type 0
+IsFirstEntry entries None = entries ≡ []
+IsFirstEntry entries (Some e) = (more : Rows) × (entries ≡ (e.0.now, e.1.now) ∷ more)
+
+abbrev pub TakesEntry : Rows → Option (Bor (List ℕ) × Bor (List ℕ)) → Rows → Type 0
+TakesEntry old None new = (old ≡ []) × (new ≡ [])
+TakesEntry old (Some e) new = old ≡ (e.0.now, e.1.now) ∷ new
+
+-- an entry that was taken from an iterator, before those that it has left
+abbrev pub before : Option (Bor (List ℕ) × Bor (List ℕ)) → Rows → Rows
+before None rest = rest
+before (Some e) rest = (e.0.now, e.1.now) ∷ rest
+
+-- without one there is none left
+abbrev pub IsLast : Option (Bor (List ℕ) × Bor (List ℕ)) → Rows → Type 0
+IsLast None rest = rest ≡ []
+IsLast (Some e) rest = Unit {0}

@@ -1,0 +1,91 @@
+//! All rows of a table.
+ghost use Rattle.std.specs.Prelude.{◌≡◌, ◌+◌, ◌*◌, ◌≤◌, ◌∷◌, ℕ, List, IsTrue, IfOk, OnOk, length, map};
+ghost use Rattle.drda_disk.specs.Disk.{Stays};
+ghost use Rattle.row_pages.specs.Laying.{counted, laid, pages_with};
+ghost use Rattle.row_pages.specs.Keeping.{AreRead, CountsPageFault};
+ghost use Rattle.table_map.specs.Cursor.{IsLeft};
+ghost use Rattle.table_map.specs.Stored.{IsStored};
+ghost use Rattle.table_map.specs.Table.{rows_of_table, without_keys};
+
+use crate::changes::ChangesLeft;
+use crate::opening::push_bytes;
+use crate::{RowCursor, RowKeys, TableMap};
+use drda_disk::Disk;
+use row_pages::{PageCache, PageCount, PageFault};
+use std::alloc::Global;
+
+/// The bytes of the longest row that stands in a page.
+const LONGEST_ROW_BYTES: usize = 8_187;
+
+/// Counts a row more. One that is too long for a page is damaged.
+fn count_row(count: &mut PageCount, row: &[u8]) -> Result<(), PageFault>
+    ensures counts { OnOk result ((rows : List (List ℕ)) → pages_with count.new rows ≡ pages_with count.old (row.now ∷ rows)) }
+    ensures cause { (n : ℕ) → CountsPageFault result n n }
+{
+    if row.len() > LONGEST_ROW_BYTES {
+        return Err(PageFault::Damaged);
+    }
+    count.push(row);
+    Ok(())
+}
+
+impl TableMap {
+    /// A cursor in front of all rows. No page is read yet, and no memory is taken.
+    pub fn rows(&self, alloc: Global) -> RowCursor<'_>
+        ensures left { (key_of : List ℕ → List ℕ) (pages : List (List (List ℕ))) (file : List ℕ) → IsStored key_of self.now.places pages file
+            → IsLeft key_of file result (rows_of_table key_of self.now pages) }
+        ensures end { result.base.at + 8192 * result.base.pages ≡ self.now.places.at + 8192 * length self.now.places.keys }
+    {
+        RowCursor {
+            base: self.pages.rows_left(alloc),
+            changes: ChangesLeft::new(self.overlay.entries()),
+        }
+    }
+
+    /// All rows in the order of their keys, in new memory. Each page is looked at once.
+    pub fn scan<K: RowKeys, D: Disk>(
+        &self,
+        alloc: Global,
+        keys: &K,
+        cache: &mut PageCache,
+        disk: &mut D,
+    ) -> Result<Vec<Vec<u8>>, PageFault>
+        requires { self.now.places.at + 8192 * length self.now.places.keys ≤ length (D.life disk.old).seen }
+        ensures rows { (pages : List (List (List ℕ))) → IsTrue D.is_modelled → AreRead cache.old (D.life disk.old).seen → IsStored (K.key_of keys.now) self.now.places pages (D.life disk.old).seen
+            → IfOk result (λ rows. map (λ row. row.items) rows.items ≡ without_keys (rows_of_table (K.key_of keys.now) self.now pages)) }
+        ensures kept { IsTrue D.is_modelled → AreRead cache.old (D.life disk.old).seen → AreRead cache.new (D.life disk.new).seen }
+        ensures stays { Stays (D.life disk.old) (D.life disk.new) }
+        ensures cause { CountsPageFault result (D.life disk.old).faults (D.life disk.new).faults }
+    {
+        let mut cursor = self.rows(alloc);
+        let mut rows = Vec::new(alloc);
+        while let Some(row) = cursor.next(alloc, keys, cache, disk)? {
+            push_bytes(&mut rows, row)?;
+        }
+        Ok(rows)
+    }
+
+    /// How many pages all rows take when they are laid anew, one behind another; nothing is written.
+    /// Each page is looked at once. A row that is too long for a page is damaged.
+    pub fn page_count<K: RowKeys, D: Disk>(
+        &self,
+        alloc: Global,
+        keys: &K,
+        cache: &mut PageCache,
+        disk: &mut D,
+    ) -> Result<usize, PageFault>
+        requires { self.now.places.at + 8192 * length self.now.places.keys ≤ length (D.life disk.old).seen }
+        ensures count { (pages : List (List (List ℕ))) → IsTrue D.is_modelled → AreRead cache.old (D.life disk.old).seen → IsStored (K.key_of keys.now) self.now.places pages (D.life disk.old).seen
+            → IfOk result (λ count. count ≡ counted (length (laid (without_keys (rows_of_table (K.key_of keys.now) self.now pages))))) }
+        ensures kept { IsTrue D.is_modelled → AreRead cache.old (D.life disk.old).seen → AreRead cache.new (D.life disk.new).seen }
+        ensures stays { Stays (D.life disk.old) (D.life disk.new) }
+        ensures cause { CountsPageFault result (D.life disk.old).faults (D.life disk.new).faults }
+    {
+        let mut cursor = self.rows(alloc);
+        let mut count = PageCount::new();
+        while let Some(row) = cursor.next(alloc, keys, cache, disk)? {
+            count_row(&mut count, &row)?;
+        }
+        Ok(count.pages())
+    }
+}
