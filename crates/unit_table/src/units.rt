@@ -1,6 +1,6 @@
 //! The units of work.
 
-ghost use Rattle.std.specs.Prelude.{◌≡◌, [], map};
+ghost use Rattle.std.specs.Prelude.{◌≡◌, [], map, option_map, unwrap_or};
 ghost use Rattle.tables.specs.ChangeView.{change_of};
 ghost use Rattle.unit_locks.specs.Claims.{claims_of};
 ghost use Rattle.core_steps.specs.Laws.{AreListed};
@@ -73,6 +73,16 @@ impl Units {
         match place(self.entries.as_slice(), owner) {
             Ok(at) => !self.entries[at].changes.is_empty(),
             Err(_) => false,
+        }
+    }
+
+    /// What an owner's unit has changed, for its view of the tables. A unit without work is not listed.
+    pub fn unit(&self, owner: &Owner) -> Option<&UnitChanges>
+        ensures { unwrap_or (option_map (λ changes. changes.now) result) [] ≡ (unit_of (plain_owner owner.now) self.now).changes }
+    {
+        match place(self.entries.as_slice(), owner) {
+            Ok(at) => Some(&self.entries[at].changes),
+            Err(_) => None,
         }
     }
 

@@ -18,8 +18,10 @@ fn keeps_and_ends(rt: HostRuntime) -> Result<(), Fail> {
     }
     assert_eq!(rt; units.changes(&owner).len(), 2);
     assert_eq!(rt; units.left(&owner), 1_048_576 - 12);
+    assert!(rt; units.unit(&owner).is_some());
     assert_eq!(rt; units.end(&owner).as_slice().len(), 2);
     assert_eq!(rt; units.left(&owner), 1_048_576);
+    assert!(rt; units.unit(&owner).is_none());
     assert!(rt; !units.has_work(&owner));
     assert!(rt; units.changes(&owner).is_empty());
     Ok(())
