@@ -33,7 +33,7 @@ pub(crate) fn commit_unit(
     }
     match store.reserve(alloc, units.changes(owner)) {
         Ok(()) => {
-            store.apply_reserved(units.end(owner));
+            store.apply_reserved(units.end(owner).into_vec());
             Ok(())
         }
         Err(AllocError) => {

@@ -10,9 +10,10 @@ ghost use Rattle.unit_table.specs.Owner.{plain_owner};
 ghost use Rattle.rdb_core.specs.Steps.{units_after};
 
 use core_calls::{Answer, Refusal, Side, SqlFault};
-use row_values::Value;
+use row_values::{Schema, Value};
 use sql_text::{Command, Statement};
-use std::alloc::AllocError;
+use std::alloc::{AllocError, Global};
+use std::sync::Arc;
 use tables::Change;
 use unit_locks::Claim;
 use unit_table::{KeepError, Owner, Units};
@@ -77,11 +78,13 @@ fn wrong_number(statement: &Statement<'_>, parameters: &[Value<'_>]) -> Option<S
 }
 
 /// What becomes of a unit whose question claims and changes this, and is answered so, where none of
-/// its claims clashes with one of another unit. Out of memory, all units stay.
+/// its claims clashes with one of another unit. The changes are of one table, whose schema this is, as
+/// the view of the unit shows it; a table that is created brings its own. Out of memory, all units stay.
 pub fn conclude(
     units: &mut Units,
     owner: &Owner,
     claims: Vec<Claim>,
+    schema: Option<&Arc<Schema, Global>>,
     changes: Vec<Change>,
     answer: Answer,
 ) -> Result<Answer, AllocError>
@@ -90,7 +93,7 @@ pub fn conclude(
     ensures units { OnOk result (units.new ≡ units_after units.old (plain_owner owner.now) (outcome (others (plain_owner owner.now) units.old) (unit_of (plain_owner owner.now) units.old) claims.items (answer_of answer) (map change_of changes.items))) }
     ensures kept { OnErr result (units.new ≡ units.old) }
 {
-    match units.keep(owner, claims, changes) {
+    match units.keep(owner, claims, schema, changes) {
         Ok(()) => Ok(answer),
         Err(KeepError::TooMany) => Ok(Answer::Refused(Refusal::TooManyClaims)),
         Err(KeepError::NoMemory) => Err(AllocError),

@@ -1,62 +1,55 @@
 //! The changes of one unit.
 
-ghost use Rattle.std.specs.Prelude.{◌≡◌, ◌++◌, OnErr, OnOk, map, not};
-ghost use Rattle.core_steps.specs.Units.{has_any};
+ghost use Rattle.std.specs.Prelude.{◌≡◌, ◌++◌, IfOk, OnErr, OnOk, map};
 ghost use Rattle.tables.specs.ChangeView.{change_of};
 
-use std::alloc::AllocError;
-use std::marker::Model;
-use tables::Change;
+use row_values::Schema;
+use std::alloc::{AllocError, Global};
+use std::sync::Arc;
+use tables::{Action, Change};
+use unit_changes::UnitChanges;
 
-/// The changes of a unit, in their order.
-#[derive(Drop)]
-pub(crate) struct Changes {
-    list: Vec<Change>,
+/// Adds changes of one table, whose schema this is, at the end; a table that is created brings its own.
+/// Out of memory, none is added; other changes without a schema are refused likewise.
+pub(crate) fn add(
+    changes: &mut UnitChanges,
+    alloc: Global,
+    schema: Option<&Arc<Schema, Global>>,
+    more: Vec<Change>,
+) -> Result<(), AllocError>
+    ensures ok { OnOk result (changes.new ≡ changes.old ++ map change_of more.items) }
+    ensures err { OnErr result (changes.new ≡ changes.old) }
+{
+    match schema {
+        Some(schema) => changes.add(alloc, schema, more),
+        None if more.is_empty() => Ok(()),
+        None => {
+            let schema = own_schema(alloc, more.as_slice())?;
+            changes.add(alloc, &schema, more)
+        }
+    }
 }
 
-impl Model for Changes {
-    ghost use Rattle.std.specs.Prelude.{List, map};
-    ghost use Rattle.tables.specs.Change.{Change as ChangeIs};
-    ghost use Rattle.tables.specs.ChangeView.{change_of};
-
-    ghost Value = { List ChangeIs };
-
-    ghost view = { λ c. map change_of c.list.items };
+// The schema that a table is created with.
+fn own_schema(alloc: Global, changes: &[Change]) -> Result<Arc<Schema, Global>, AllocError> {
+    let [first, ..] = changes else {
+        return Err(AllocError);
+    };
+    match &first.action {
+        Action::CreateTable { schema, .. } => Ok(Arc::new(alloc, schema.copy(alloc)?)?),
+        Action::Put { .. } | Action::Remove { .. } => Err(AllocError),
+    }
 }
 
-impl Changes {
-    /// These changes.
-    pub(crate) fn of(list: Vec<Change>) -> Changes
-        ensures { result ≡ map change_of list.items }
-    {
-        Changes { list }
-    }
-
-    /// Whether there is none.
-    pub(crate) fn is_empty(&self) -> bool
-        ensures { result ≡ not (has_any self.now) }
-    {
-        self.list.is_empty()
-    }
-
-    pub(crate) fn as_slice(&self) -> &[Change]
-        ensures { map change_of result.now ≡ self.now }
-    {
-        self.list.as_slice()
-    }
-
-    /// Adds changes at the end. Out of memory, none is added.
-    pub(crate) fn add(&mut self, mut more: Vec<Change>) -> Result<(), AllocError>
-        ensures ok { OnOk result (self.new ≡ self.old ++ map change_of more.items) }
-        ensures err { OnErr result (self.new ≡ self.old) }
-    {
-        self.list.append(&mut more)
-    }
-
-    pub(crate) fn into_vec(self) -> Vec<Change>
-        ensures { map change_of result.items ≡ self }
-    {
-        let Changes { list } = self;
-        list
-    }
+/// The changes of a unit that begins with these.
+pub(crate) fn first(
+    alloc: Global,
+    schema: Option<&Arc<Schema, Global>>,
+    more: Vec<Change>,
+) -> Result<UnitChanges, AllocError>
+    ensures { IfOk result (λ changes. changes ≡ map change_of more.items) }
+{
+    let mut changes = UnitChanges::new(alloc);
+    add(&mut changes, alloc, schema, more)?;
+    Ok(changes)
 }

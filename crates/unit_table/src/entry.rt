@@ -1,7 +1,7 @@
 //! One unit of the table.
 
-use crate::changes::Changes;
 use crate::owner::Owner;
+use unit_changes::UnitChanges;
 
 /// A unit that has work.
 #[derive(Drop)]
@@ -11,5 +11,5 @@ pub(crate) struct Entry {
     /// The number by which its claims are found; no other unit has it.
     pub(crate) number: u16,
     /// What it has changed.
-    pub(crate) changes: Changes,
+    pub(crate) changes: UnitChanges,
 }

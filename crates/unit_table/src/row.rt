@@ -8,14 +8,17 @@ ghost use Rattle.unit_table.specs.Owner.{plain_owner};
 ghost use Rattle.unit_table.specs.Table.{AreKept, IsAt, IsGapFor, held};
 ghost use Rattle.unit_table.specs.Keeping.{Keeps};
 
-use crate::changes::Changes;
+use crate::changes::add;
 use crate::claiming::claim_all;
 use crate::entry::Entry;
 use crate::keep_error::KeepError;
 use crate::owner::Owner;
 use crate::place::free_number;
-use std::alloc::AllocError;
+use row_values::Schema;
+use std::alloc::{AllocError, Global};
+use std::sync::Arc;
 use tables::Change;
+use unit_changes::UnitChanges;
 use unit_locks::{Claim, Claims, UnitId};
 
 /// The unit that stands there ends.
@@ -24,7 +27,7 @@ pub(crate) fn end(
     claims: &mut Claims,
     at: usize,
     owner: &Owner,
-) -> Changes
+) -> UnitChanges
     requires kept { AreKept entries.old.items claims.old }
     requires at { IsAt (plain_owner owner.now) entries.old.items at }
     ensures kept { AreKept entries.new.items claims.new }
@@ -47,6 +50,8 @@ pub(crate) fn go_on(
     at: usize,
     owner: &Owner,
     more: Vec<Claim>,
+    alloc: Global,
+    schema: Option<&Arc<Schema, Global>>,
     changes: Vec<Change>,
 ) -> Result<(), KeepError>
     requires kept { AreKept entries.old.items claims.old }
@@ -61,7 +66,7 @@ pub(crate) fn go_on(
         Ok(()) => {}
         Err(fault) => return Err(fault),
     }
-    match entry.changes.add(changes) {
+    match add(&mut entry.changes, alloc, schema, changes) {
         Ok(()) => Ok(()),
         Err(AllocError) => {
             claims.truncate(unit, count);
@@ -77,7 +82,7 @@ pub(crate) fn begin(
     at: usize,
     owner: &Owner,
     more: Vec<Claim>,
-    changes: Changes,
+    changes: UnitChanges,
 ) -> Result<(), KeepError>
     requires kept { AreKept entries.old.items claims.old }
     requires at { IsGapFor (plain_owner owner.now) entries.old.items at }

@@ -1,23 +1,26 @@
 //! The units of work.
 
-ghost use Rattle.std.specs.Prelude.{◌≡◌, [], map};
+ghost use Rattle.std.specs.Prelude.{◌≡◌, [], map, option_map, unwrap_or};
 ghost use Rattle.tables.specs.ChangeView.{change_of};
 ghost use Rattle.unit_locks.specs.Claims.{claims_of};
 ghost use Rattle.core_steps.specs.Laws.{AreListed};
-ghost use Rattle.core_steps.specs.Units.{clashes, has_any, has_work, others, unit_of, without};
+ghost use Rattle.core_steps.specs.Units.{clashes, has_any, has_work, left_of, others, unit_of, without};
 ghost use Rattle.unit_table.specs.Keeping.{Keeps};
 ghost use Rattle.unit_table.specs.Owner.{plain_owner};
 
-use crate::changes::Changes;
+use crate::changes::first;
 use crate::clashing::clash_with_others;
 use crate::entry::Entry;
 use crate::keep_error::KeepError;
 use crate::owner::Owner;
 use crate::place::place;
 use crate::row;
-use std::alloc::Global;
+use row_values::Schema;
+use std::alloc::{AllocError, Global};
 use std::marker::Model;
+use std::sync::Arc;
 use tables::Change;
+use unit_changes::{MAX_CHANGED_BYTES, UnitChanges};
 use unit_locks::{Claim, Claims};
 
 /// The units that have work: what each has changed and what it claims. Contracts see the list that
@@ -73,6 +76,26 @@ impl Units {
         }
     }
 
+    /// What an owner's unit has changed, for its view of the tables. A unit without work is not listed.
+    pub fn unit(&self, owner: &Owner) -> Option<&UnitChanges>
+        ensures { unwrap_or (option_map (λ changes. changes.now) result) [] ≡ (unit_of (plain_owner owner.now) self.now).changes }
+    {
+        match place(self.entries.as_slice(), owner) {
+            Ok(at) => Some(&self.entries[at].changes),
+            Err(_) => None,
+        }
+    }
+
+    /// How many bytes of changes an owner's unit may still add, of 1,048,576 in all.
+    pub fn left(&self, owner: &Owner) -> usize
+        ensures { result ≡ left_of (unit_of (plain_owner owner.now) self.now) }
+    {
+        match place(self.entries.as_slice(), owner) {
+            Ok(at) => self.entries[at].changes.left(),
+            Err(_) => MAX_CHANGED_BYTES,
+        }
+    }
+
     /// Whether an owner's unit has a claim or a change.
     pub fn has_work(&self, owner: &Owner) -> bool
         ensures { result ≡ has_work (unit_of (plain_owner owner.now) self.now) }
@@ -97,12 +120,15 @@ impl Units {
 
     /// Keeps what a question of an owner's unit has claimed and changed, both or nothing: the unit has
     /// these claims behind those that it had, each once, and these changes behind its own. A unit that
-    /// then has a claim or a change is listed. On an error all units stay. `TooMany` comes exactly
-    /// where the unit would have more than 65,535 claims, unless memory is refused.
+    /// then has a claim or a change is listed. The changes are of one table, whose schema this is, as
+    /// the view of the unit shows it; a table that is created brings its own. Changes of several tables,
+    /// or without a schema, are refused like want of memory. On an error all units stay. `TooMany` comes exactly where the unit would have
+    /// more than 65,535 claims, unless memory is refused.
     pub fn keep(
         &mut self,
         owner: &Owner,
         claims: Vec<Claim>,
+        schema: Option<&Arc<Schema, Global>>,
         changes: Vec<Change>,
     ) -> Result<(), KeepError>
         ensures { Keeps result (plain_owner owner.now) claims.items (map change_of changes.items) self.old self.new }
@@ -114,28 +140,33 @@ impl Units {
                 at,
                 owner,
                 claims,
+                self.alloc,
+                schema,
                 changes,
             ),
             Err(_) if claims.is_empty() && changes.is_empty() => Ok(()),
-            Err(at) => row::begin(
-                &mut self.entries,
-                &mut self.claims,
-                at,
-                owner,
-                claims,
-                Changes::of(changes),
-            ),
+            Err(at) => match first(self.alloc, schema, changes) {
+                Ok(changes) => row::begin(
+                    &mut self.entries,
+                    &mut self.claims,
+                    at,
+                    owner,
+                    claims,
+                    changes,
+                ),
+                Err(AllocError) => Err(KeepError::NoMemory),
+            },
         }
     }
 
     /// An owner's unit ends, with its claims; its changes are handed out. Takes no memory.
-    pub fn end(&mut self, owner: &Owner) -> Vec<Change>
-        ensures changes { map change_of result.items ≡ (unit_of (plain_owner owner.now) self.old).changes }
+    pub fn end(&mut self, owner: &Owner) -> UnitChanges
+        ensures changes { result ≡ (unit_of (plain_owner owner.now) self.old).changes }
         ensures ended { self.new ≡ without (plain_owner owner.now) self.old }
     {
         match place(self.entries.as_slice(), owner) {
-            Ok(at) => row::end(&mut self.entries, &mut self.claims, at, owner).into_vec(),
-            Err(_) => Vec::new(self.alloc),
+            Ok(at) => row::end(&mut self.entries, &mut self.claims, at, owner),
+            Err(_) => UnitChanges::new(self.alloc),
         }
     }
 }

@@ -1,6 +1,6 @@
 //! Claims of several units.
 
-use crate::fixtures::{global, many_claims, one_change, one_claim};
+use crate::fixtures::{global, many_claims, one_change, one_claim, schema};
 use std::test::Fail;
 use unit_locks::Access;
 use unit_table::{KeepError, Owner, Units};
@@ -21,7 +21,12 @@ fn clashes_with_others_alone(rt: HostRuntime) -> Result<(), Fail> {
     for (held, asked, key, clashes) in CLASHES {
         let mut units = Units::new(rt.alloc());
         let none = Vec::new(rt.alloc());
-        units.keep(&Owner::Local(1), one_claim(rt.alloc(), held, 5)?, none)?;
+        units.keep(
+            &Owner::Local(1),
+            one_claim(rt.alloc(), held, 5)?,
+            None,
+            none,
+        )?;
         let claims = one_claim(rt.alloc(), asked, key)?;
         assert!(rt; !units.clashes(&Owner::Local(1), claims.as_slice()));
         assert_eq!(rt; units.clashes(&Owner::Local(2), claims.as_slice()), clashes);
@@ -37,7 +42,7 @@ fn listed_units_clash(rt: HostRuntime) -> Result<(), Fail> {
     for (number, key) in [(1, 5), (2, 6)] {
         let none = Vec::new(rt.alloc());
         let claims = one_claim(rt.alloc(), Access::Write, key)?;
-        units.keep(&Owner::Local(number), claims, none)?;
+        units.keep(&Owner::Local(number), claims, None, none)?;
     }
     let claims = one_claim(rt.alloc(), Access::Write, 6)?;
     assert!(rt; units.clashes(&Owner::Local(1), claims.as_slice()));
@@ -54,11 +59,12 @@ const LIMITS: [(u32, Result<(), KeepError>); 2] = [
 #[test]
 fn limits_the_claims_of_a_unit(rt: HostRuntime) -> Result<(), Fail> {
     let owner = Owner::Local(1);
+    let schema = schema(rt.alloc())?;
     for (count, outcome) in LIMITS {
         let mut units = Units::new(rt.alloc());
         let claims = many_claims(rt.alloc(), count)?;
         assert_eq!(rt;
-            units.keep(&owner, claims, one_change(rt.alloc())?),
+            units.keep(&owner, claims, Some(&schema), one_change(rt.alloc())?),
             outcome
         );
         assert_eq!(rt; units.has_changes(&owner), outcome.is_ok());

@@ -1,6 +1,8 @@
 //! Owners, claims and changes for the tests.
 
+use row_values::{Column, Kind, Schema};
 use std::alloc::{AllocError, Global};
+use std::sync::Arc;
 use std::test::Fail;
 use tables::Change;
 use unit_locks::{Access, Claim};
@@ -29,6 +31,19 @@ pub fn many_claims(alloc: Global, count: u32) -> Result<Vec<Claim>, AllocError> 
         claims.push(Claim::new(alloc, Access::Read, b"T", Some(&key.to_be_bytes()))?)?;
     }
     Ok(claims)
+}
+
+// The schema `K INTEGER NOT NULL`, with `K` as the key.
+pub fn schema(alloc: Global) -> Result<Arc<Schema, Global>, Fail> {
+    let mut columns = Vec::new(alloc);
+    columns.push(Column {
+        name: String::from_str(alloc, "K")?,
+        kind: Kind::Integer,
+        is_nullable: false,
+        length: 0,
+    })?;
+    let key: [u8; 1] = [0];
+    Ok(Arc::new(alloc, Schema::new(columns, key.to_vec(alloc)?)?)?)
 }
 
 // One change.

@@ -1,22 +1,27 @@
 //! Units that begin, go on and end.
 
-use crate::fixtures::{global, one_change, one_claim};
+use crate::fixtures::{global, one_change, one_claim, schema};
 use std::test::Fail;
 use unit_locks::Access;
-use unit_table::{Owner, Units};
+use unit_table::{KeepError, Owner, Units};
 
 #[test]
 fn keeps_and_ends(rt: HostRuntime) -> Result<(), Fail> {
     let owner = global(1)?;
+    let schema = schema(rt.alloc())?;
     let mut units = Units::new(rt.alloc());
     for count in [1, 2] {
         let claims = one_claim(rt.alloc(), Access::Write, count)?;
-        units.keep(&owner, claims, one_change(rt.alloc())?)?;
+        units.keep(&owner, claims, Some(&schema), one_change(rt.alloc())?)?;
         units.are_listed();
         assert!(rt; units.has_work(&owner));
     }
     assert_eq!(rt; units.changes(&owner).len(), 2);
-    assert_eq!(rt; units.end(&owner).len(), 2);
+    assert_eq!(rt; units.left(&owner), 1_048_576 - 12);
+    assert!(rt; units.unit(&owner).is_some());
+    assert_eq!(rt; units.end(&owner).as_slice().len(), 2);
+    assert_eq!(rt; units.left(&owner), 1_048_576);
+    assert!(rt; units.unit(&owner).is_none());
     assert!(rt; !units.has_work(&owner));
     assert!(rt; units.changes(&owner).is_empty());
     Ok(())
@@ -27,9 +32,21 @@ fn keeps_and_ends(rt: HostRuntime) -> Result<(), Fail> {
 fn keeps_nothing_of_nothing(rt: HostRuntime) -> Result<(), Fail> {
     let owner = Owner::Local(1);
     let mut units = Units::new(rt.alloc());
-    units.keep(&owner, Vec::new(rt.alloc()), Vec::new(rt.alloc()))?;
+    units.keep(&owner, Vec::new(rt.alloc()), None, Vec::new(rt.alloc()))?;
     assert!(rt; !units.has_work(&owner));
     assert!(rt; !units.has_changes(&owner));
+    Ok(())
+}
+
+// A change is kept with the schema of its table alone.
+#[test]
+fn refuses_changes_without_a_schema(rt: HostRuntime) -> Result<(), Fail> {
+    let owner = Owner::Local(1);
+    let mut units = Units::new(rt.alloc());
+    let change = one_change(rt.alloc())?;
+    let outcome = units.keep(&owner, Vec::new(rt.alloc()), None, change);
+    assert_eq!(rt; outcome, Err(KeepError::NoMemory));
+    assert!(rt; !units.has_work(&owner));
     Ok(())
 }
 
@@ -40,7 +57,7 @@ fn finds_numbers_again(rt: HostRuntime) -> Result<(), Fail> {
     for number in 0..70_000 {
         let owner = Owner::Local(number);
         let claims = one_claim(rt.alloc(), Access::Write, 5)?;
-        units.keep(&owner, claims, Vec::new(rt.alloc()))?;
+        units.keep(&owner, claims, None, Vec::new(rt.alloc()))?;
         let _none = units.end(&owner);
     }
     let claims = one_claim(rt.alloc(), Access::Write, 5)?;

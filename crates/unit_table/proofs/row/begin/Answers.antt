@@ -7,7 +7,7 @@ use Rattle.unit_table.specs.Keeping.{KeepsAll}
 use Rattle.unit_table.specs.declared.entry.Entry.{Entry}
 use Rattle.unit_table.proofs.Rows.{gap_idle, gap_inside}
 use Rattle.unit_table.proofs.Numbers.{held_as}
-use Rattle.unit_table.proofs.Changing.{begun_kept, kept_new, refused_units, same_claims}
+use Rattle.unit_table.proofs.Changing.{begun_kept, kept_new, refused_units, same_claims, same_kept}
 use Rattle.unit_table.proofs.row.begin.Goals as goal
 
 pub returns-in-Err-clause-units : goal.returns-in-Err-clause-units
@@ -44,3 +44,19 @@ returns-in-Ok-put_in-clause-units c =
     let free : is_given n es ≡ false = rw c.as_slice.ensures.value at c.in-Some.ensures.free in
     subst (λ (l : List Entry). KeepsAll o c.args.more.items c.args.changes (held old es) (held now l)) (sym c.in-Ok-put_in.ensures.ok)
     (kept_new old now o es c.args.at new c.requires.kept c.requires.at refl free c.in-Some.ensures.somebody c.claim_all.ensures.others c.args.more.items c.in-Ok.ensures.unit.added c.requires.work c.in-Ok.ensures.unit.room)
+
+pub returns-in-Err-put_in-clause-kept : goal.returns-in-Err-put_in-clause-kept
+returns-in-Err-put_in-clause-kept c =
+    let n = c.in-Some.number in
+    let es = c.args.entries.now.items in
+    let free : is_given n es ≡ false = rw c.as_slice.ensures.value at c.in-Some.ensures.free in
+    subst (λ (l : List Entry). AreKept l c.drop_unit.new.self) (sym c.in-Err-put_in.ensures.err)
+    (same_kept n c.args.claims.now c.drop_unit.new.self es c.requires.kept (λ m ne. c.drop_unit.ensures.others m ne ∙ c.claim_all.ensures.others m ne) (c.drop_unit.ensures.gone ∙ sym (c.requires.kept.free n free)))
+
+pub returns-in-Err-put_in-clause-units : goal.returns-in-Err-put_in-clause-units
+returns-in-Err-put_in-clause-units c =
+    let n = c.in-Some.number in
+    let es = c.args.entries.now.items in
+    let free : is_given n es ≡ false = rw c.as_slice.ensures.value at c.in-Some.ensures.free in
+    ap (λ (l : List Entry). held c.drop_unit.new.self l) c.in-Err-put_in.ensures.err
+    ∙ held_as n c.args.claims.now c.drop_unit.new.self es (λ m ne. c.drop_unit.ensures.others m ne ∙ c.claim_all.ensures.others m ne) (c.drop_unit.ensures.gone ∙ sym (c.requires.kept.free n free))

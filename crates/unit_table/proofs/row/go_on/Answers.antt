@@ -37,13 +37,13 @@ pub returns-in-Ok-add-clause-kept : goal.returns-in-Ok-add-clause-kept
 returns-in-Ok-add-clause-kept c =
     let e = c.index_mut-entry.result.now in
     went_on_kept c.args.claims.now c.claim_all.new.claims (plain_owner c.args.owner.now) c.args.entries.now.items c.args.at e c.requires.kept c.requires.at c.index_mut-entry.ensures.value
-    c.claim_all.ensures.others c.args.more.items (map change_of c.args.changes.items) c.add.new.self c.in-Ok.ensures.unit.added c.in-Ok-add.ensures.ok
+    c.claim_all.ensures.others c.args.more.items (map change_of c.args.changes.items) c.add.new.changes c.in-Ok.ensures.unit.added c.in-Ok-add.ensures.ok
 
 pub returns-in-Ok-add-clause-units : goal.returns-in-Ok-add-clause-units
 returns-in-Ok-add-clause-units c =
     let e = c.index_mut-entry.result.now in
     kept_on c.args.claims.now c.claim_all.new.claims (plain_owner c.args.owner.now) c.args.entries.now.items c.args.at e c.requires.kept c.requires.at c.index_mut-entry.ensures.value
-    c.claim_all.ensures.others c.args.more.items (map change_of c.args.changes.items) c.add.new.self c.in-Ok.ensures.unit.added c.in-Ok-add.ensures.ok c.in-Ok.ensures.unit.room
+    c.claim_all.ensures.others c.args.more.items (map change_of c.args.changes.items) c.add.new.changes c.in-Ok.ensures.unit.added c.in-Ok-add.ensures.ok c.in-Ok.ensures.unit.room
 
 pub returns-in-Err-add-clause-kept : goal.returns-in-Err-add-clause-kept
 returns-in-Err-add-clause-kept c =
@@ -51,7 +51,7 @@ returns-in-Err-add-clause-kept c =
     let old = claims_of c.args.claims.now e.number in
     let front : claims_of c.truncate.new.self e.number ≡ old =
     c.truncate.ensures.kept ∙ ap (λ (l : List Claim). take (length l) (claims_of c.claim_all.new.claims e.number)) c.of_unit-count.ensures ∙ front_stays old c.args.more.items (claims_of c.claim_all.new.claims e.number) c.in-Ok.ensures.unit.added in
-    stayed_kept c.args.claims.now c.truncate.new.self c.args.entries.now.items c.args.at e c.add.new.self c.requires.kept c.index_mut-entry.ensures.value c.in-Err-add.ensures.err
+    stayed_kept c.args.claims.now c.truncate.new.self c.args.entries.now.items c.args.at e c.add.new.changes c.requires.kept c.index_mut-entry.ensures.value c.in-Err-add.ensures.err
     (λ other ne. c.truncate.ensures.others other ne ∙ c.claim_all.ensures.others other ne) front
 
 pub returns-in-Err-add-clause-units : goal.returns-in-Err-add-clause-units
@@ -60,5 +60,5 @@ returns-in-Err-add-clause-units c =
     let old = claims_of c.args.claims.now e.number in
     let front : claims_of c.truncate.new.self e.number ≡ old =
     c.truncate.ensures.kept ∙ ap (λ (l : List Claim). take (length l) (claims_of c.claim_all.new.claims e.number)) c.of_unit-count.ensures ∙ front_stays old c.args.more.items (claims_of c.claim_all.new.claims e.number) c.in-Ok.ensures.unit.added in
-    stayed c.args.claims.now c.truncate.new.self c.args.entries.now.items c.args.at e c.add.new.self c.requires.kept c.index_mut-entry.ensures.value c.in-Err-add.ensures.err
+    stayed c.args.claims.now c.truncate.new.self c.args.entries.now.items c.args.at e c.add.new.changes c.requires.kept c.index_mut-entry.ensures.value c.in-Err-add.ensures.err
     (λ other ne. c.truncate.ensures.others other ne ∙ c.claim_all.ensures.others other ne) front

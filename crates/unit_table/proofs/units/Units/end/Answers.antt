@@ -1,6 +1,4 @@
 use Rattle.std.proofs.Common.{◌≡◌, List, sym, ◌∙◌, ap, subst}
-use Rattle.std.specs.Prelude.{map}
-use Rattle.tables.specs.ChangeView.{change_of}
 use Rattle.core_steps.specs.Units.{Held, Work, unit_of, without}
 use Rattle.unit_table.specs.Owner.{plain_owner}
 use Rattle.unit_table.specs.Table.{IsGapFor}
@@ -11,7 +9,7 @@ pub returns-in-Err-clause-changes : goal.returns-in-Err-clause-changes
 returns-in-Err-clause-changes c =
     let gap : IsGapFor (plain_owner c.args.owner.now) c.self.inside.entries.items c.in-Err.field-0 = rw c.as_slice.ensures.value at c.in-Err.ensures.absent in
     let o = plain_owner c.args.owner.now in
-    ap (map change_of) c.new.ensures.items
+    c.new.ensures
     ∙ sym (ap (λ (w : Work). w.changes) (gap_idle c.self.inside.claims o c.self.inside.entries.items c.in-Err.field-0 c.self.invariant.listed gap))
     ∙ ap (λ (hs : List Held). (unit_of o hs).changes) c.self.view_is
 

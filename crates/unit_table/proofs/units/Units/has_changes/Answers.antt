@@ -1,8 +1,10 @@
-use Rattle.std.proofs.Common.{◌≡◌, List, Bool, true, false, not, refl, sym, ◌∙◌, ap, arith}
+use Rattle.std.proofs.Common.{◌≡◌, ◌==◌, List, [], ◌∷◌, length, not, refl, sym, ◌∙◌, ap, arith}
+use Rattle.tables.specs.Change.{Change}
 use Rattle.core_steps.specs.Units.{Held, Work, has_any, unit_of}
 use Rattle.unit_table.specs.Owner.{plain_owner}
 use Rattle.unit_table.specs.Table.{IsAt, IsGapFor}
 use Rattle.unit_table.proofs.Rows.{at_inside, gap_idle}
+use Rattle.unit_table.proofs.Numbers.{not_equal}
 use Rattle.unit_table.proofs.Changing.{work_at}
 use Rattle.unit_table.proofs.units.Units.has_changes.Goals as goal
 
@@ -17,13 +19,13 @@ returns-in-Ok c =
     let at : IsAt (plain_owner c.args.owner.now) c.self.inside.entries.items c.in-Ok.at = rw c.as_slice.ensures.value at c.in-Ok.ensures.found in
     let o = plain_owner c.args.owner.now in
     ap not c.is_empty.ensures
-    ∙ not_twice (has_any c.index.result.now.changes)
+    ∙ some_or_none c.index.result.now.changes
     ∙ sym (ap (λ (w : Work). has_any w.changes) (work_at c.self.inside.claims o c.self.inside.entries.items c.in-Ok.at c.index.result.now at c.index.ensures))
     ∙ ap (λ (hs : List Held). has_any (unit_of o hs).changes) c.self.view_is
   where
-    not_twice : (b : Bool) → not (not b) ≡ b
-    not_twice true = refl
-    not_twice false = refl
+    some_or_none : (xs : List Change) → not (length xs == 0) ≡ has_any xs
+    some_or_none [] = refl
+    some_or_none (x ∷ xs) = ap not (not_equal (length (x ∷ xs)) 0 (λ q. absurd (omega (arith, q))))
 
 pub returns-in-Err : goal.returns-in-Err
 returns-in-Err c =
