@@ -76,6 +76,18 @@ impl UnitChanges {
         self.changes.as_slice()
     }
 
+    /// Hands the changes out, in their order. Takes no memory.
+    pub fn into_vec(self) -> Vec<Change>
+        ensures { map change_of result.items ≡ self }
+    {
+        let UnitChanges {
+            changes,
+            left: _,
+            tables: _,
+        } = self;
+        changes
+    }
+
     /// How many bytes of changes may still be added, of 1,048,576 in all.
     pub fn left(&self) -> usize
         ensures { result ≡ 1048576 - length (flat_map change_bytes self.now) }
