@@ -122,8 +122,8 @@ impl Units {
     /// these claims behind those that it had, each once, and these changes behind its own. A unit that
     /// then has a claim or a change is listed. The changes are of one table, whose schema this is, as
     /// the view of the unit shows it; a table that is created brings its own. Changes of several tables,
-    /// or without a schema, are refused like want of memory. On an error all units stay. `TooMany` comes exactly where the unit would have
-    /// more than 65,535 claims, unless memory is refused.
+    /// or without a schema, are refused like want of memory. On an error all units stay. `TooMany` comes
+    /// exactly where the unit would have more than 65,535 claims, unless memory is refused.
     pub fn keep(
         &mut self,
         owner: &Owner,
