@@ -11,9 +11,9 @@ use Rattle.core_calls.specs.declared.described.ParameterType.{ParameterType}
 use Rattle.sections.specs.Kept.{Section}
 use Rattle.sqlam_replies.specs.Sqldard.{are_described}
 use Rattle.sql_exchange.specs.Commands.{described_as, described_in}
-use Rattle.sql_exchange.specs.Reply.{parameter_column, parameter_columns}
-use Rattle.sql_exchange.specs.Statements.{Statements}
-use Rattle.sql_exchange.specs.Text.{statement_of}
+use Rattle.exchanges.specs.Reply.{parameter_column, parameter_columns}
+use Rattle.exchanges.specs.Statements.{Statements}
+use Rattle.exchanges.specs.Text.{statement_of}
 
 -- a parameter has no name
 names_short : (types : List ParameterType) → list_all (λ (c : Column). nat_le (length c.name) 30) (parameter_columns types) ≡ true

@@ -4,9 +4,8 @@ use Rattle.sql_text.specs.declared.tree.Command.{Command}
 use Rattle.sql_text.specs.declared.tree.Command.TheVariants as command
 use Rattle.sql_text.specs.declared.tree.Statement.{Statement}
 use Rattle.row_values.specs.Value.{Value}
-use Rattle.core_calls.specs.Answer.{Answer, count, done, full, in_global, input, no_memory, output, refused}
+use Rattle.core_calls.specs.Answer.{Answer, count, done, in_global, input, output}
 use Rattle.core_calls.specs.Call.{Call, commit, describe, roll_back, run}
-use Rattle.core_calls.specs.Refusal.{fault_of}
 use Rattle.core_calls.specs.declared.call.Side.{Side}
 use Rattle.core_calls.specs.declared.call.Side.TheVariants as side
 use Rattle.core_calls.specs.declared.sql_fault.SqlFault.{SqlFault}
@@ -19,23 +18,11 @@ use Rattle.sections.specs.Kept.{Preparation, Section}
 use Rattle.sections.specs.Cursors.{after_prepare, section_of}
 use Rattle.sqlam_replies.specs.declared.message.UnitEnd.{UnitEnd}
 use Rattle.sqlam_replies.specs.declared.message.UnitEnd.TheVariants.{Committed, RolledBack}
-use Rattle.sql_exchange.specs.Reply.{Reply, agent_failed, command_violation, count_card, description, fault_card, null_card, parameter_columns, rdb_updated, resource_limit, unit_ended}
-use Rattle.sql_exchange.specs.Statements.{Statements, unit_behind}
-use Rattle.sql_exchange.specs.Text.{is_held_by, statement_of, values_of}
-use Rattle.sql_exchange.specs.Doing.{Doing, Done, answered, asking, finished}
-
--- ---- answers that any call may have
-
--- the reply to a call that was not done, or whose answer is another call's
-abbrev pub refusal_reply : Answer → Reply
-refusal_reply (refused refusal) = fault_card (fault_of refusal)
-refusal_reply no_memory = resource_limit
-refusal_reply (full need room) = resource_limit
-refusal_reply _ = agent_failed
-
--- and nothing else changes
-abbrev pub not_done : Statements → Answer → Done
-not_done k answer = answered k (refusal_reply answer ∷ [])
+use Rattle.exchanges.specs.Reply.{Reply, command_violation, count_card, description, fault_card, null_card, parameter_columns, rdb_updated, unit_ended}
+use Rattle.exchanges.specs.Statements.{Statements, unit_behind}
+use Rattle.exchanges.specs.Text.{is_held_by, statement_of, values_of}
+use Rattle.exchanges.specs.Doing.{Doing, Done, answered, asking, finished}
+use Rattle.exchanges.specs.NotDone.{not_done}
 
 abbrev pub is_select : Command → Bool
 is_select (command.Select named table filter) = true

@@ -1,7 +1,1 @@
-pub mod Reply
-pub mod Kind
-pub mod Text
-pub mod Statements
-pub mod Doing
-pub mod Done
 pub mod Commands

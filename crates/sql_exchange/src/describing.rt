@@ -5,19 +5,14 @@ ghost use Rattle.row_values.specs.Column.{column_of};
 ghost use Rattle.drda_commands.specs.Values.{section_in};
 ghost use Rattle.drda_commands.specs.Views.{given_of};
 ghost use Rattle.sql_exchange.specs.Commands as commands;
-ghost use Rattle.sql_exchange.specs.Done.{WasDone};
-ghost use Rattle.sql_exchange.specs.Reply as spec;
+ghost use Rattle.exchanges.specs.Done.{WasDone};
+ghost use Rattle.exchanges.specs.Reply as spec;
 ghost use Rattle.sections.specs.Cursors.{section_of};
-ghost use Rattle.sql_exchange.specs.Text.{statement_of};
+ghost use Rattle.exchanges.specs.Text.{statement_of};
 
-use crate::answer::{add, not_done};
-use crate::ask::Ask;
-use crate::reply::Reply;
-use crate::running::refuse;
-use crate::statements::Statements;
-use crate::text::statement_of;
 use core_calls::{Answer, CoreCall, MAX_PARAMETERS, ParameterType, Side, SqlFault};
 use drda_commands::{Accepted, DescribedSide};
+use exchanges::{Ask, Reply, Statements, add, not_done, refuse, statement_of};
 use row_values::Column;
 use sections::NotPrepared;
 use sql_literals::StatementError;
@@ -142,7 +137,7 @@ fn describe_section<A: Ask>(
     ensures asker { OnErr result (asker.new ≡ asker.old) }
     ensures replies { OnErr result (replies.new.items ≡ replies.old.items) }
 {
-    match statements.sections().statement(name) {
+    match statements.sections.statement(name) {
         Ok(text) => describe_text(
             alloc,
             text.as_bytes(),

@@ -3,13 +3,10 @@
 ghost use Rattle.std.specs.Prelude.{◌≡◌, ◌≤◌, ◌++◌, OnErr, OnOk, length};
 ghost use Rattle.core_calls.specs.Call.{call_of};
 ghost use Rattle.sql_exchange.specs.Commands as commands;
-ghost use Rattle.sql_exchange.specs.Done.{WasDone};
+ghost use Rattle.exchanges.specs.Done.{WasDone};
 
-use crate::answer::{add, not_done};
-use crate::ask::Ask;
-use crate::reply::Reply;
-use crate::statements::Statements;
 use core_calls::{Answer, CoreCall};
+use exchanges::{Ask, Reply, Statements, add, not_done};
 use sqlam_replies::{
     MAX_MESSAGE_LENGTH, NULL_SQLCARD_LENGTH, ReplyMessage, UnitEnd, texts_have_lengths,
 };

@@ -4,17 +4,13 @@ ghost use Rattle.std.specs.Prelude.{◌≡◌, ◌≤◌, ◌+◌, ◌++◌, ◌
 ghost use Rattle.row_values.specs.Value.{value_of};
 ghost use Rattle.drda_commands.specs.Views.{given_of};
 ghost use Rattle.sql_exchange.specs.Commands as commands;
-ghost use Rattle.sql_exchange.specs.Done.{WasDone};
-ghost use Rattle.sql_exchange.specs.Reply.{fault_card};
-ghost use Rattle.sql_exchange.specs.Text.{statement_of};
+ghost use Rattle.exchanges.specs.Done.{WasDone};
+ghost use Rattle.exchanges.specs.Reply.{fault_card};
+ghost use Rattle.exchanges.specs.Text.{statement_of};
 
-use crate::answer::{add, not_done};
-use crate::ask::Ask;
-use crate::reply::Reply;
-use crate::statements::Statements;
-use crate::text::statement_of;
 use core_calls::{Answer, CoreCall, SqlFault};
 use drda_commands::Accepted;
+use exchanges::{Ask, Reply, Statements, add, not_done, refuse, statement_of};
 use row_values::Value;
 use sql_literals::StatementError;
 use sql_text::{Command, Statement};
@@ -30,35 +26,18 @@ fn is_search(command: &Command<'_>) -> bool
     }
 }
 
-// The SQLCARD of a fault, and no other reply.
-pub(crate) fn refuse(
-    alloc: Global,
-    fault: SqlFault,
-    replies: &mut Vec<Reply>,
-) -> Result<(), AllocError>
-    ensures ok { OnOk result (replies.new.items ≡ replies.old.items ++ fault_card fault ∷ []) }
-    ensures err { OnErr result (replies.new.items ≡ replies.old.items) }
-{
-    let text: Vec<u8> = Vec::with_capacity(alloc, SQLCARD_LENGTH)?;
-    replies.reserve(1)?;
-    add(replies, Reply::of_fault(text, fault));
-    Ok(())
-}
-
 // Tells of a change by its SQLCARD, behind RDBUPDRM where it is the first.
 fn tell(statements: &mut Statements, updated: Reply, card: Reply, replies: &mut Vec<Reply>)
     requires { vec_len replies.old + 2 ≤ vec_capacity replies.old }
     ensures statements { statements.new ≡ record statements.old { is_change_told = true } }
     ensures replies { replies.new.items ≡ replies.old.items ++ (if statements.old.is_change_told then card ∷ [] else updated ∷ card ∷ []) }
 {
-    if statements.is_change_told() {
-        statements.tell_change();
-        add(replies, card);
-    } else {
-        statements.tell_change();
+    let is_first = !statements.is_change_told;
+    statements.is_change_told = true;
+    if is_first {
         add(replies, updated);
-        add(replies, card);
     }
+    add(replies, card);
 }
 
 // Runs a statement with these values for its markers.

@@ -2,7 +2,8 @@
 
 use crate::fixtures::{Script, Scripted, Told, are_told};
 use ddm_objects::code_point::{AGNPRMRM, CMDVLTRM, ENDUOWRM, RSCLMTRM, SQLCARD};
-use sql_exchange::{Statements, end_unit};
+use exchanges::Statements;
+use sql_exchange::end_unit;
 use sqlam_replies::UnitEnd;
 use std::alloc::{AllocError, Global};
 use std::test::Fail;

@@ -3,7 +3,7 @@
 ghost use Rattle.std.specs.Prelude.{⊤};
 
 use core_calls::{Answer, CoreCall, Refusal, SqlFault};
-use sql_exchange::{Ask, Reply};
+use exchanges::{Ask, Reply};
 
 /// An answer.
 #[derive(Clone, Copy)]

@@ -6,7 +6,8 @@ use ddm_objects::code_point::{RDBUPDRM, RSCLMTRM, SQLCARD};
 use ddm_objects::{code_point, put};
 use drda_commands::{Stage, judge};
 use dss_frames::{Format, Segments, write_dss};
-use sql_exchange::{Reply, Statements, execute_immediate};
+use exchanges::{Reply, Statements};
+use sql_exchange::execute_immediate;
 use std::alloc::{AllocError, Global};
 use std::test::Fail;
 

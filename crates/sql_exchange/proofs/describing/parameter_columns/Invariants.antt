@@ -2,7 +2,7 @@
 use Rattle.std.proofs.Common.{◌≡◌, ◌≤◌, length, map, take}
 use Rattle.std.specs.Prelude.{vec_capacity}
 use Rattle.row_values.specs.Column.{column_of}
-use Rattle.sql_exchange.specs.Reply.{parameter_columns}
+use Rattle.exchanges.specs.Reply.{parameter_columns}
 use Rattle.sql_exchange.proofs.describing.parameter_columns.Given as goal
 
 abbrev pub invariant-loop-i : goal.invariant-loop-i

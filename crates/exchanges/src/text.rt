@@ -5,7 +5,7 @@ ghost use Rattle.std.specs.Option.{option_map};
 ghost use Rattle.drda_words.specs.Excuse.{Answers};
 ghost use Rattle.sql_literals.specs.Refused.{fault_of};
 ghost use Rattle.sql_text.specs.Text.{but_memory};
-ghost use Rattle.sql_exchange.specs.Text as spec;
+ghost use Rattle.exchanges.specs.Text as spec;
 
 use core_calls::SqlFault;
 use sql_literals::StatementError;
@@ -27,10 +27,7 @@ fn error_of(error: SqlError) -> StatementError
 }
 
 /// The statement that a text is, or why it is none.
-pub(crate) fn statement_of<'t>(
-    alloc: Global,
-    text: &'t [u8],
-) -> Result<Statement<'t>, StatementError>
+pub fn statement_of<'t>(alloc: Global, text: &'t [u8]) -> Result<Statement<'t>, StatementError>
     ensures { Answers (λ s. s) fault_of result (spec.statement_of text.now) }
 {
     if text.len() > MAX_TEXT_LENGTH {

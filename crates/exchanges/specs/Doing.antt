@@ -2,8 +2,8 @@
 use Rattle.std.specs.Prelude.{List}
 use Rattle.core_calls.specs.Call.{Call}
 use Rattle.core_calls.specs.Answer.{Answer}
-use Rattle.sql_exchange.specs.Reply.{Reply}
-use Rattle.sql_exchange.specs.Statements.{Statements}
+use Rattle.exchanges.specs.Reply.{Reply}
+use Rattle.exchanges.specs.Statements.{Statements}
 
 -- the replies in their order, and what is kept then
 pub record Done : Type 0 where

@@ -1,13 +1,8 @@
--- What a conversation keeps for its statements.
+-- What a conversation keeps for its statements: its sections, and whether RDBUPDRM has told a change since the
+-- conversation's opening or the end of its last unit (DRDA V5 volume 3, RDBUPDRM).
 use Rattle.std.specs.Prelude.{Bool, false, [], None}
-use Rattle.sections.specs.Kept.{Sections}
 use Rattle.sections.specs.Units.{after_unit}
-
--- its sections, and whether RDBUPDRM has told a change since the conversation's opening or the end of its last
--- unit (DRDA V5 volume 3, RDBUPDRM)
-pub record Statements : Type 0 where
-  pub sections : Sections
-  pub is_change_told : Bool
+pub use Rattle.exchanges.specs.declared.statements.Statements.{Statements}
 
 -- of a conversation that begins
 abbrev pub fresh : Statements

@@ -1,7 +1,7 @@
 -- There is room for an SQLDARD, so it is written.
 use Rattle.std.proofs.Common.{ap, arith, length, map}
 use Rattle.row_values.specs.Column.{column_of}
-use Rattle.sql_exchange.proofs.reply.Reply.of_columns.Goals as goal
+use Rattle.exchanges.proofs.reply.Reply.of_columns.Goals as goal
 
 pub unreachable-requires : goal.unreachable-requires
 unreachable-requires c =

@@ -2,9 +2,9 @@
 use Rattle.std.proofs.Common.{◌≡◌, ◌≤◌, ℕ, List, length, ap, sym, subst, ◌∙◌, Err}
 use Rattle.std.specs.Prelude.{IfSome}
 use Rattle.sql_text.specs.Text.{but_memory, reading}
-use Rattle.sql_exchange.specs.Text.{told}
-use Rattle.sql_exchange.proofs.Texts.{is_read, not_utf8, refused_as}
-use Rattle.sql_exchange.proofs.text.statement_of.Goals as goal
+use Rattle.exchanges.specs.Text.{told}
+use Rattle.exchanges.proofs.Texts.{is_read, not_utf8, refused_as}
+use Rattle.exchanges.proofs.text.statement_of.Goals as goal
 
 pub returns-in_default : goal.returns-in_default
 returns-in_default c = not_utf8 c.args.text.now c.if-text-gt-MAX_TEXT_LENGTH.false c.in_default.ensures.cases.0

@@ -1,6 +1,6 @@
 -- There is room for an SQLCARD, so it is written.
 use Rattle.std.proofs.Common.{ap, arith, length, of_z, to_z, w32}
-use Rattle.sql_exchange.proofs.reply.Reply.of_card.Goals as goal
+use Rattle.exchanges.proofs.reply.Reply.of_card.Goals as goal
 
 pub unreachable-requires : goal.unreachable-requires
 unreachable-requires c =

@@ -6,7 +6,7 @@ ghost use Rattle.row_values.specs.Column.{column_of};
 ghost use Rattle.sqlam_replies.specs.Sqldard.{are_described};
 ghost use Rattle.sqlam_replies.specs.Message.{has_short_values, message_of};
 ghost use Rattle.sqlam_replies.specs.Sqlcard.{null_sqlcard, sqlcard};
-ghost use Rattle.sql_exchange.specs.Reply as spec;
+ghost use Rattle.exchanges.specs.Reply as spec;
 
 use core_calls::{OutputColumns, SqlFault};
 use row_values::Column;
@@ -34,8 +34,8 @@ pub struct Reply {
 }
 
 impl Model for Reply {
-    ghost use Rattle.sql_exchange.specs.Reply.{Reply};
-    ghost use Rattle.sql_exchange.specs.Kind.{dss_type_of};
+    ghost use Rattle.exchanges.specs.Reply.{Reply};
+    ghost use Rattle.exchanges.specs.Kind.{dss_type_of};
 
     ghost Value = { Reply };
 
@@ -43,7 +43,7 @@ impl Model for Reply {
 }
 
 impl Reply {
-    ghost use Rattle.sql_exchange.specs.Kind.{dss_type_of};
+    ghost use Rattle.exchanges.specs.Kind.{dss_type_of};
 
     /// The kind of its DSS.
     pub fn kind(&self) -> ReplyKind
@@ -66,12 +66,13 @@ impl Reply {
         self.text.as_slice()
     }
 
-    // A reply message, in a list of no bytes that has room for it.
-    pub(crate) fn of_message(text: Vec<u8>, message: ReplyMessage<'_>) -> Reply
+    /// A reply message, in a list of no bytes that has room for it.
+    pub fn of_message(text: Vec<u8>, message: ReplyMessage<'_>) -> Reply
         requires empty { text.items ≡ [] }
         requires room { MAX_MESSAGE_LENGTH ≤ vec_capacity text }
         requires short { has_short_values message ≡ true }
-        ensures { result ≡ spec.message (message_of message.entry) }
+        ensures reply { result ≡ spec.message (message_of message.entry) }
+        ensures short { length result.text ≤ MAX_MESSAGE_LENGTH }
     {
         texts_have_lengths();
         let mut text = text;
@@ -85,11 +86,12 @@ impl Reply {
         }
     }
 
-    // The SQLCARD that reports nothing, in a list of no bytes that has room for it.
-    pub(crate) fn of_null_card(text: Vec<u8>) -> Reply
+    /// The SQLCARD that reports nothing, in a list of no bytes that has room for it.
+    pub fn of_null_card(text: Vec<u8>) -> Reply
         requires empty { text.items ≡ [] }
         requires room { length null_sqlcard ≤ vec_capacity text }
-        ensures { result ≡ spec.null_card }
+        ensures reply { result ≡ spec.null_card }
+        ensures short { length result.text ≤ SQLCARD_LENGTH }
     {
         let mut text = text;
         match null_sqlcard(&mut text) {
@@ -102,21 +104,23 @@ impl Reply {
         }
     }
 
-    // The SQLCARD of a fault, in a list of no bytes that has room for it.
-    pub(crate) fn of_fault(text: Vec<u8>, fault: SqlFault) -> Reply
+    /// The SQLCARD of a fault, in a list of no bytes that has room for it.
+    pub fn of_fault(text: Vec<u8>, fault: SqlFault) -> Reply
         requires empty { text.items ≡ [] }
         requires room { SQLCARD_LENGTH ≤ vec_capacity text }
-        ensures { result ≡ spec.fault_card fault }
+        ensures reply { result ≡ spec.fault_card fault }
+        ensures short { length result.text ≤ SQLCARD_LENGTH }
     {
         Reply::of_card(text, fault.code(), fault.state(), 0)
     }
 
-    // The SQLCARD of a statement that changed so many rows, in a list of no bytes that has room for it; of one
-    // that looks for the rows and found none, SQLCODE 100.
-    pub(crate) fn of_count(text: Vec<u8>, is_search: bool, count: u32) -> Reply
+    /// The SQLCARD of a statement that changed so many rows, in a list of no bytes that has room for it; of one
+    /// that looks for the rows and found none, SQLCODE 100.
+    pub fn of_count(text: Vec<u8>, is_search: bool, count: u32) -> Reply
         requires empty { text.items ≡ [] }
         requires room { SQLCARD_LENGTH ≤ vec_capacity text }
-        ensures { result ≡ spec.count_card is_search count }
+        ensures reply { result ≡ spec.count_card is_search count }
+        ensures short { length result.text ≤ SQLCARD_LENGTH }
     {
         if is_search && count == 0 {
             return Reply::of_card(text, 100, b"02000", 0);
@@ -128,7 +132,8 @@ impl Reply {
     fn of_card(text: Vec<u8>, code: i32, state: &[u8; 5], count: u32) -> Reply
         requires empty { text.items ≡ [] }
         requires room { SQLCARD_LENGTH ≤ vec_capacity text }
-        ensures { result ≡ spec.object (sqlcard code state.now count) }
+        ensures reply { result ≡ spec.object (sqlcard code state.now count) }
+        ensures short { length result.text ≤ SQLCARD_LENGTH }
     {
         texts_have_lengths();
         let mut text = text;
@@ -142,12 +147,13 @@ impl Reply {
         }
     }
 
-    // The SQLDARD of columns, in a list of no bytes that has room for it.
-    pub(crate) fn of_columns(text: Vec<u8>, unicode: bool, columns: &[Column]) -> Reply
+    /// The SQLDARD of columns, in a list of no bytes that has room for it.
+    pub fn of_columns(text: Vec<u8>, unicode: bool, columns: &[Column]) -> Reply
         requires empty { text.items ≡ [] }
         requires room { MAX_SQLDARD_LENGTH ≤ vec_capacity text }
         requires few { are_described (map column_of columns.now) ≡ true }
-        ensures { result ≡ spec.description unicode (map column_of columns.now) }
+        ensures reply { result ≡ spec.description unicode (map column_of columns.now) }
+        ensures short { length result.text ≤ MAX_SQLDARD_LENGTH }
     {
         texts_have_lengths();
         let mut text = text;
@@ -161,11 +167,12 @@ impl Reply {
         }
     }
 
-    // The SQLDARD of what is selected, in a list of no bytes that has room for it.
-    pub(crate) fn of_selection(text: Vec<u8>, unicode: bool, columns: &OutputColumns) -> Reply
+    /// The SQLDARD of what is selected, in a list of no bytes that has room for it.
+    pub fn of_selection(text: Vec<u8>, unicode: bool, columns: &OutputColumns) -> Reply
         requires empty { text.items ≡ [] }
         requires room { MAX_SQLDARD_LENGTH ≤ vec_capacity text }
-        ensures { result ≡ spec.description unicode (columns_of columns.now) }
+        ensures reply { result ≡ spec.description unicode (columns_of columns.now) }
+        ensures short { length result.text ≤ MAX_SQLDARD_LENGTH }
     {
         texts_have_lengths();
         let mut text = text;

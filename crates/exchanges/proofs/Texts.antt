@@ -9,7 +9,7 @@ use Rattle.sql_text.specs.declared.error.SqlError.{SqlError}
 use Rattle.sql_text.specs.declared.error.SqlError.TheVariants as error
 use Rattle.core_calls.specs.declared.sql_fault.SqlFault.{SqlFault}
 use Rattle.core_calls.specs.declared.sql_fault.SqlFault.TheVariants as fault
-use Rattle.sql_exchange.specs.Text.{statement_of, text_fault, told}
+use Rattle.exchanges.specs.Text.{statement_of, text_fault, told}
 
 not_true : (b : Bool) → (b ≡ true → ⊥) → b ≡ false
 not_true true h = absurd (h refl)

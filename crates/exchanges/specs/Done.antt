@@ -3,9 +3,9 @@
 use Rattle.std.specs.Prelude.{◌≡◌, ◌++◌, List}
 use Rattle.core_calls.specs.Call.{Call}
 use Rattle.core_calls.specs.Answer.{Answer}
-use Rattle.sql_exchange.specs.Reply.{Reply}
-use Rattle.sql_exchange.specs.Statements.{Statements}
-use Rattle.sql_exchange.specs.Doing.{Doing, Done, asking, finished}
+use Rattle.exchanges.specs.Reply.{Reply}
+use Rattle.exchanges.specs.Statements.{Statements}
+use Rattle.exchanges.specs.Doing.{Doing, Done, asking, finished}
 
 pub record IsAnswered (d : Done) (statements : Statements) (before after : List Reply) : Type 0 where
   pub kept : statements ≡ d.statements

@@ -1,0 +1,7 @@
+pub mod Reply
+pub mod Kind
+pub mod Text
+pub mod Statements
+pub mod Doing
+pub mod Done
+pub mod NotDone

@@ -1,0 +1,15 @@
+//! What the crates of SQL commands share: who is asked, the replies, what a conversation keeps for its
+//! statements, and the statement that a text is.
+#![tactic(auto)]
+
+mod answer;
+mod ask;
+mod reply;
+mod statements;
+mod text;
+
+pub use answer::{add, not_done, refuse};
+pub use ask::Ask;
+pub use reply::{Reply, ReplyKind};
+pub use statements::Statements;
+pub use text::statement_of;
