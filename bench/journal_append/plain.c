@@ -1,5 +1,5 @@
 // The same device calls as a journal's append makes, over a plain file: write, sync, write of a byte, sync.
-// Arguments: the file's path, the number of records and the bytes of a body.
+// Arguments: the file's path, the number of records, the bytes of a body and those of the file.
 #define _GNU_SOURCE
 #include <fcntl.h>
 #include <stdio.h>
@@ -9,10 +9,10 @@
 #include <unistd.h>
 
 int main(int argc, char **argv) {
-    if (argc < 4) return 2;
-    long count = atol(argv[2]), len = atol(argv[3]);
+    if (argc < 5) return 2;
+    long count = atol(argv[2]), len = atol(argv[3]), size = atol(argv[4]);
     int fd = open(argv[1], O_RDWR | O_CREAT | O_EXCL | O_CLOEXEC, 0666);
-    if (fd < 0 || ftruncate(fd, 1 << 26) || fsync(fd)) return 1;
+    if (fd < 0 || ftruncate(fd, size) || fsync(fd)) return 1;
     char *record = malloc(6 + len), open_gate = (char)0xA5;
     memset(record, 7, 6 + len);
     if (pwrite(fd, "", 1, 0) != 1 || fdatasync(fd)) return 1;
