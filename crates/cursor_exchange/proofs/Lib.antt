@@ -1,0 +1,4 @@
+pub mod Counting
+pub mod Fetched
+pub mod Opened
+pub mod Brought

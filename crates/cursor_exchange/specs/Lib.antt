@@ -1,0 +1,5 @@
+pub mod Replies
+pub mod Blocks
+pub mod Commands
+pub mod Asking
+pub mod Room

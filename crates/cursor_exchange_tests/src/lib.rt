@@ -1,0 +1,7 @@
+//! Tests of cursor_exchange.
+#![tactic(auto)]
+
+#[cfg(test)]
+mod cursors;
+#[cfg(test)]
+mod fixtures;
