@@ -197,15 +197,4 @@ impl Reply {
             Err(_) => unreachable!(),
         }
     }
-
-    /// A reply data object that is written, with its heading.
-    pub fn of_object(text: Vec<u8>) -> Reply
-        ensures { result ≡ spec.object text.items }
-    {
-        Reply {
-            kind: ReplyKind::Object,
-            severity: 0,
-            text,
-        }
-    }
 }
