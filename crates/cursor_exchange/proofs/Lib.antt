@@ -2,3 +2,4 @@ pub mod Counting
 pub mod Fetched
 pub mod Opened
 pub mod Brought
+pub mod Growing

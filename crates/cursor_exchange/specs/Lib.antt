@@ -3,3 +3,4 @@ pub mod Blocks
 pub mod Commands
 pub mod Asking
 pub mod Room
+pub mod Sizes

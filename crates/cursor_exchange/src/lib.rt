@@ -3,11 +3,15 @@
 #![tactic(auto)]
 
 mod closing;
+mod command;
 mod fetching;
 mod opening;
 mod query;
 mod replies;
+mod sizes;
 
 pub use closing::close;
+pub use command::do_command;
 pub use fetching::fetch;
 pub use opening::open;
+pub use sizes::most_length;
