@@ -1,9 +1,9 @@
 -- Longer contents take more bytes as a DSS.
-use Rattle.std.proofs.Common.{◌≡◌, ◌≤◌, ℕ, ◌+◌, List, Option, Some, max, unwrap_or, ap, subst, sym, ◌∙◌, arith}
+use Rattle.std.proofs.Common.{◌≡◌, ◌≤◌, ℕ, List, Option, ap, sym, ◌∙◌, arith}
 use Rattle.dss_frames.specs.Writing.{written_length}
 use Rattle.sections.specs.Blocks.{IsNextBlock}
 use Rattle.sections.specs.Cursors.{meant_cursor}
-use Rattle.sections.specs.Kept.{Cursor, Sections}
+use Rattle.sections.specs.Kept.{Sections}
 use Rattle.sections.specs.declared.cursor.Block.{Block}
 use Rattle.cursor_exchange.specs.Sizes.{next_size}
 

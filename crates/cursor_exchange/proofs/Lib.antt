@@ -3,3 +3,5 @@ pub mod Fetched
 pub mod Opened
 pub mod Brought
 pub mod Growing
+pub mod Local
+pub mod Fetches

@@ -4,3 +4,4 @@ pub mod Commands
 pub mod Asking
 pub mod Room
 pub mod Sizes
+pub mod Laws

@@ -34,11 +34,10 @@ fn next_size(accepted: &Accepted<'_>, statements: &Statements) -> u32
     ensures { result ≡ spec.next_size (block_size_in (given_of accepted.now.given)) (meant_cursor (name_in (given_of accepted.now.given)) (query_instance_in (given_of accepted.now.given)) statements.now.sections) }
 {
     let name = section_name(accepted);
-    match statements.sections.next_block(
-        name,
-        accepted.query_instance(),
-        accepted.block_size(),
-    ) {
+    match statements
+        .sections
+        .next_block(name, accepted.query_instance(), accepted.block_size())
+    {
         Ok(block) => block.size,
         Err(_) => 0,
     }
