@@ -4,8 +4,8 @@ use Rattle.std.specs.List.{flat_map}
 use Rattle.std.proofs.lemmas.List.{length-map}
 use borrow.Author.Tests.{leb-true, leb-false}
 use Rattle.tables.specs.RowList.{RowList}
-use Rattle.sqlam_replies.specs.Rows.{IsBlock, answered, rows_text}
-use Rattle.cursor_exchange.specs.Blocks.{fitting, remaining, rows_in_block}
+use Rattle.sqlam_replies.specs.Rows.{IsBlock, answered}
+use Rattle.cursor_exchange.specs.Blocks.{fitting, rows_in_block}
 
 within : {X : Type 0} (f : X → List ℕ) (xs : List X) (size : ℕ) → fitting (map f xs) size ≤ length xs
 within f [] size = omega arith

@@ -1,5 +1,5 @@
 -- The block that a cursor sends is the one of the definition.
-use Rattle.std.proofs.Common.{◌≡◌, ℕ, List, ◌∷◌, ◌++◌, Option, Some, unwrap_or, sym, ap, subst, ◌∙◌}
+use Rattle.std.proofs.Common.{◌≡◌, ℕ, List, ◌∷◌, ◌++◌, Option, unwrap_or, sym, ap, subst, ◌∙◌}
 use Rattle.drda_commands.specs.Given.{Given}
 use Rattle.drda_commands.specs.Values.{block_size_in, query_instance_in}
 use Rattle.sections.specs.Blocks.{IsNextBlock, after_advance, ends_behind}

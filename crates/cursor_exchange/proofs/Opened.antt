@@ -1,11 +1,9 @@
 -- A cursor that was just opened, and what its first block is.
-use Rattle.std.proofs.Common.{Result, Ok, Err, ◌≡◌, ℕ, ◌+◌, Bool, true, false, nat_le, List, [], ◌∷◌, ◌++◌, length, Option, None, Some, unwrap_or, sym, ap, subst, refl, ◌∙◌, if◌then◌else◌, ◌==◌, arith}
-use Rattle.std.specs.Prelude.{option_map, bytes_eq}
+use Rattle.std.proofs.Common.{Result, Ok, Err, ◌≡◌, ℕ, ◌+◌, Bool, nat_le, List, [], ◌∷◌, ◌++◌, length, Option, None, Some, sym, ap, subst, refl, ◌∙◌, if◌then◌else◌, ◌==◌, arith}
+use Rattle.std.specs.Prelude.{option_map}
 use Rattle.std.specs.Option.{option_and_then}
-use Rattle.std.specs.Map.{lookup}
 use Rattle.tables.specs.RowList.{RowList}
-use Rattle.drda_commands.specs.Values.{DescribedData}
-use Rattle.sections.specs.Blocks.{IsBlockOf, IsNextBlock, after_advance, ends_behind}
+use Rattle.sections.specs.Blocks.{IsBlockOf, IsNextBlock, after_advance}
 use Rattle.sections.specs.Cursors.{after_open, fault_in, is_meant, meant_cursor, opening_fault, section_of, with_cursor}
 use Rattle.sections.specs.Kept.{Cursor, Section, Sections}
 use Rattle.sections.specs.declared.cursor.Block.{Block}
@@ -20,7 +18,7 @@ use Rattle.cursor_exchange.specs.Asking.{WasQueried}
 use Rattle.exchanges.specs.Reply.{Reply}
 use Rattle.exchanges.specs.declared.statements.Statements.{Statements}
 use Rattle.cursor_exchange.specs.Blocks.{rows_in_block}
-use Rattle.cursor_exchange.specs.Commands.{after_query, asked, ending, first_block, is_held_in, opened_with, query_in, query_of}
+use Rattle.cursor_exchange.specs.Commands.{after_query, asked, ending, is_held_in, opened_with}
 use Rattle.cursor_exchange.specs.Replies.{query_opened, rows_description, some_rows}
 use Rattle.cursor_exchange.proofs.Counting.{one_block}
 

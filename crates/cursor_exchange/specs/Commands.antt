@@ -71,6 +71,14 @@ abbrev pub is_held_in : Option Section → Bool
 is_held_in None = false
 is_held_in (Some section) = section.is_held
 
+-- so many rows in a block of this size
+abbrev pub sent : Statements → List ℕ → Cursor → ℕ → ℕ → Done
+sent k name cursor size count =
+    answered (record k { sections = after_advance name count size k.sections }) (some_rows cursor.rows cursor.place count ∷ ending (ends_behind cursor count))
+
+abbrev pub sent_block : Statements → List ℕ → Cursor → ℕ → Done
+sent_block k name cursor size = sent k name cursor size (rows_in_block cursor.rows cursor.place size)
+
 -- a cursor over these rows, and the first block of so many of them
 abbrev pub opened_with : Statements → List ℕ → ℕ → RowList → ℕ → Done
 opened_with k name size l count =
@@ -90,14 +98,6 @@ module _ (rdb : List ℕ) where
   closed k given = closed_at k (name_in given) (meant_cursor (name_in given) (query_instance_in given) k.sections)
 
   -- ---- CNTQRY
-
-  -- so many rows in a block of this size
-  abbrev pub sent : Statements → List ℕ → Cursor → ℕ → ℕ → Done
-  sent k name cursor size count =
-      answered (record k { sections = after_advance name count size k.sections }) (some_rows cursor.rows cursor.place count ∷ ending (ends_behind cursor count))
-
-  abbrev pub sent_block : Statements → List ℕ → Cursor → ℕ → Done
-  sent_block k name cursor size = sent k name cursor size (rows_in_block cursor.rows cursor.place size)
 
   abbrev pub fetched_at : Statements → List ℕ → Option ℕ → Option Cursor → Done
   fetched_at k name size None = answered k (query_not_open rdb name ∷ [])

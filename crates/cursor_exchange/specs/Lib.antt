@@ -3,3 +3,5 @@ pub mod Blocks
 pub mod Commands
 pub mod Asking
 pub mod Room
+pub mod Sizes
+pub mod Laws

@@ -1,6 +1,6 @@
 -- The replies that commands on cursors have (DRDA V5 volume 3: OPNQRYRM, OPNQFLRM, ENDQRYRM, QRYNOPRM, QRYPOPRM,
 -- QRYDSC, QRYDTA); rdb is the database's name as it is answered.
-use Rattle.std.specs.Prelude.{ℕ, Bool, List, [], ◌∷◌, if◌then◌else◌}
+use Rattle.std.specs.Prelude.{ℕ, Bool, List, [], ◌∷◌}
 use Rattle.std.specs.Int.{to_be_bytes, w16, w64}
 use Rattle.ddm_objects.specs.declared.code_point.TheConstants.{ENDQRYRM, LMTBLKPRC, OPNQFLRM, OPNQRYRM, PKGNAMCSN, QRYINSID, QRYNOPRM, QRYPOPRM, QRYPRCTYP, RDBNAM, SQLCSRHLD}
 use Rattle.sqlam_replies.specs.Message.{error, held_mark, info, scalar, warning}

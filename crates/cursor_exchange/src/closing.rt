@@ -1,14 +1,16 @@
 //! CLSQRY.
 
-ghost use Rattle.std.specs.Prelude.{◌≡◌, ◌≤◌, OnErr, OnOk, length};
+ghost use Rattle.std.specs.Prelude.{◌≡◌, ◌≤◌, ◌+◌, OnErr, OnOk, length};
 ghost use Rattle.drda_commands.specs.Needs.{HasSection};
 ghost use Rattle.drda_commands.specs.Views.{given_of};
 ghost use Rattle.cursor_exchange.specs.Commands as commands;
+ghost use Rattle.cursor_exchange.specs.Sizes.{message_length};
 ghost use Rattle.exchanges.specs.Done.{IsAnswered};
+ghost use Rattle.exchanges.specs.Sizes.{written_lengths};
 
-use crate::replies::{not_open, section_name};
+use crate::replies::{add_short, not_open, section_name};
 use drda_commands::Accepted;
-use exchanges::{Reply, Statements, add};
+use exchanges::{Reply, Statements};
 use sections::QueryNotOpen;
 use sqlam_replies::{MAX_MESSAGE_LENGTH, texts_have_lengths};
 use std::alloc::{AllocError, Global};
@@ -26,6 +28,7 @@ pub fn close(
     requires rdb { length rdb.now ≤ 791 }
     requires section { HasSection (given_of accepted.given) }
     ensures ok { OnOk result (IsAnswered (commands.closed rdb.now statements.old (given_of accepted.entry.given)) statements.new replies.old.items replies.new.items) }
+    ensures size { OnOk result (written_lengths replies.new.items ≤ written_lengths replies.old.items + message_length) }
     ensures statements { OnErr result (statements.new ≡ statements.old) }
     ensures replies { OnErr result (replies.new.items ≡ replies.old.items) }
 {
@@ -34,8 +37,8 @@ pub fn close(
     let text: Vec<u8> = Vec::with_capacity(alloc, MAX_MESSAGE_LENGTH)?;
     replies.reserve(1)?;
     match statements.sections.close(name, accepted.query_instance()) {
-        Ok(()) => add(replies, Reply::of_null_card(text)),
-        Err(QueryNotOpen) => add(replies, not_open(text, rdb, name)),
+        Ok(()) => add_short(replies, Reply::of_null_card(text)),
+        Err(QueryNotOpen) => add_short(replies, not_open(text, rdb, name)),
     }
     Ok(())
 }

@@ -3,11 +3,17 @@
 #![tactic(auto)]
 
 mod closing;
+mod command;
 mod fetching;
+mod laws;
 mod opening;
 mod query;
 mod replies;
+mod sizes;
 
 pub use closing::close;
+pub use command::do_command;
 pub use fetching::fetch;
+pub use laws::{blocks_are_longest, fetches_send_all_rows, only_opening_asks, other_sections_stay};
 pub use opening::open;
+pub use sizes::most_length;

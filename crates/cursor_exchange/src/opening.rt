@@ -8,15 +8,20 @@ ghost use Rattle.cursor_exchange.specs.Blocks.{rows_in_block};
 ghost use Rattle.cursor_exchange.specs.Commands as commands;
 ghost use Rattle.cursor_exchange.specs.Replies as spec;
 ghost use Rattle.cursor_exchange.specs.Room.{IsRoom};
+ghost use Rattle.cursor_exchange.specs.Sizes as sizes;
+ghost use Rattle.drda_commands.specs.Values.{block_size_in};
 ghost use Rattle.exchanges.specs.Done.{IsAnswered, WasDone};
+ghost use Rattle.exchanges.specs.Sizes.{written_lengths};
 ghost use Rattle.sections.specs.Cursors.{opening_fault, section_of};
 ghost use Rattle.sections.specs.Room.{IsShort};
 
 use crate::query::ask_section;
-use crate::replies::{add_end, add_failed, of_description, of_rows, query_open, section_name};
+use crate::replies::{
+    add_end, add_failed, add_rows, add_short, of_description, of_rows, query_open, section_name,
+};
 use core_calls::{Answer, SqlFault};
 use drda_commands::{Accepted, DescribedData};
-use exchanges::{Ask, Reply, Statements, add, not_done};
+use exchanges::{Ask, Reply, Statements, not_done};
 use sections::{Block, MAX_ANSWER_ROW_LENGTH, MAX_QRYDSC_LENGTH, MAX_QRYDTA_HEADING, OpenFault};
 use sql_literals::StatementError;
 use sqlam_replies::{MAX_MESSAGE_LENGTH, ReplyMessage, SQLCARD_LENGTH};
@@ -55,7 +60,8 @@ fn add_opened(room: Room, instance: u64, block: &Block<'_>, replies: &mut Vec<Re
     requires short { IsShort block.now }
     requires within { block.now.start + block.now.count ≤ length block.now.rows.now.rows }
     requires capacity { vec_len replies.old + 5 ≤ vec_capacity replies.old }
-    ensures { replies.new.items ≡ replies.old.items ++ (spec.query_opened block.now.is_held instance ∷ spec.rows_description block.now.rows.now ∷ (if block.now.count == 0 then [] else spec.some_rows block.now.rows.now block.now.start block.now.count ∷ []) ++ commands.ending block.now.is_last) }
+    ensures items { replies.new.items ≡ replies.old.items ++ (spec.query_opened block.now.is_held instance ∷ spec.rows_description block.now.rows.now ∷ (if block.now.count == 0 then [] else spec.some_rows block.now.rows.now block.now.start block.now.count ∷ []) ++ commands.ending block.now.is_last) }
+    ensures size { written_lengths replies.new.items ≤ written_lengths replies.old.items + sizes.opening_length block.now.size }
 {
     let Room {
         first,
@@ -68,10 +74,11 @@ fn add_opened(room: Room, instance: u64, block: &Block<'_>, replies: &mut Vec<Re
         is_held: block.is_held,
         instance,
     };
-    add(replies, Reply::of_message(first, opened));
-    add(replies, of_description(description, block.rows));
+    add_short(replies, Reply::of_message(first, opened));
+    add_short(replies, of_description(description, block.rows));
     if block.count > 0 {
-        add(replies, of_rows(rows, block.rows, block.start, block.count));
+        let block_rows = of_rows(rows, block.rows, block.start, block.count);
+        add_rows(replies, block_rows, block.size);
     }
     add_end(block.is_last, end, card, replies);
 }
@@ -88,7 +95,8 @@ fn open_cursor(
     requires free { opening_fault name.now statements.old.sections ≡ None }
     requires room { IsRoom size room }
     requires capacity { vec_len replies.old + 5 ≤ vec_capacity replies.old }
-    ensures { IsAnswered (commands.opened_with statements.old name.now size rows (rows_in_block rows 0 size)) statements.new replies.old.items replies.new.items }
+    ensures done { IsAnswered (commands.opened_with statements.old name.now size rows (rows_in_block rows 0 size)) statements.new replies.old.items replies.new.items }
+    ensures size { written_lengths replies.new.items ≤ written_lengths replies.old.items + sizes.opening_length size }
 {
     let instance = statements.sections.open_reserved(name, rows, size);
     let Ok(block) = statements.sections.next_block(name, None, None) else {
@@ -113,7 +121,8 @@ fn conclude(
     requires room { IsRoom size room }
     requires rdb { length rdb.now ≤ 791 }
     requires capacity { vec_len replies.old + 5 ≤ vec_capacity replies.old }
-    ensures { IsAnswered (commands.after_query rdb.now statements.old name.now size (answer_of answer)) statements.new replies.old.items replies.new.items }
+    ensures done { IsAnswered (commands.after_query rdb.now statements.old name.now size (answer_of answer)) statements.new replies.old.items replies.new.items }
+    ensures size { written_lengths replies.new.items ≤ written_lengths replies.old.items + sizes.opening_length size }
 {
     match answer {
         Answer::Rows(rows) => open_cursor(room, name, size, rows, statements, replies),
@@ -124,7 +133,7 @@ fn conclude(
             refusal.fault(),
             replies,
         ),
-        answer => add(replies, not_done(answer, room.first)),
+        answer => add_short(replies, not_done(answer, room.first)),
     }
 }
 
@@ -137,6 +146,7 @@ fn refuse_open(
 ) -> Result<(), AllocError>
     requires rdb { length rdb.now ≤ 791 }
     ensures ok { OnOk result (replies.new.items ≡ replies.old.items ++ spec.open_failed rdb.now fault) }
+    ensures size { OnOk result (written_lengths replies.new.items ≤ written_lengths replies.old.items + sizes.ending_length) }
     ensures err { OnErr result (replies.new.items ≡ replies.old.items) }
 {
     let message: Vec<u8> = Vec::with_capacity(alloc, MAX_MESSAGE_LENGTH)?;
@@ -156,11 +166,12 @@ fn refuse_open_query(
     requires rdb { length rdb.now ≤ 791 }
     requires name { length name.now ≤ 791 }
     ensures ok { OnOk result (replies.new.items ≡ replies.old.items ++ spec.query_open rdb.now name.now ∷ []) }
+    ensures size { OnOk result (written_lengths replies.new.items ≤ written_lengths replies.old.items + sizes.message_length) }
     ensures err { OnErr result (replies.new.items ≡ replies.old.items) }
 {
     let text: Vec<u8> = Vec::with_capacity(alloc, MAX_MESSAGE_LENGTH)?;
     replies.reserve(1)?;
-    add(replies, query_open(text, rdb, name));
+    add_short(replies, query_open(text, rdb, name));
     Ok(())
 }
 
@@ -178,6 +189,7 @@ fn open_section<A: Ask>(
     requires free { opening_fault name.now statements.old.sections ≡ None }
     requires rdb { length rdb.now ≤ 791 }
     ensures ok { OnOk result (WasDone A.asks (commands.asked rdb.now statements.old name.now size (commands.query_in (option_map described_of parameters.entry) (section_of name.now statements.old.sections))) asker.old asker.new statements.new replies.old.items replies.new.items) }
+    ensures size { OnOk result (written_lengths replies.new.items ≤ written_lengths replies.old.items + sizes.opening_length size) }
     ensures asker { OnErr result (asker.new ≡ asker.old) }
     ensures statements { OnErr result (statements.new ≡ statements.old) }
     ensures replies { OnErr result (replies.new.items ≡ replies.old.items) }
@@ -210,6 +222,7 @@ pub fn open<A: Ask>(
     requires rdb { length rdb.now ≤ 791 }
     requires section { HasSection (given_of accepted.given) }
     ensures ok { OnOk result (WasDone A.asks (commands.opening rdb.now statements.old (given_of accepted.entry.given)) asker.old asker.new statements.new replies.old.items replies.new.items) }
+    ensures size { OnOk result (written_lengths replies.new.items ≤ written_lengths replies.old.items + sizes.opening_length (unwrap_or (block_size_in (given_of accepted.entry.given)) 0)) }
     ensures asker { OnErr result (asker.new ≡ asker.old) }
     ensures statements { OnErr result (statements.new ≡ statements.old) }
     ensures replies { OnErr result (replies.new.items ≡ replies.old.items) }

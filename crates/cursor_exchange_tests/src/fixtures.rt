@@ -3,10 +3,10 @@
 ghost use Rattle.std.specs.Prelude.{⊤};
 
 use core_calls::{Answer, CoreCall, Refusal, SqlFault};
-use cursor_exchange::{close, fetch, open};
+use cursor_exchange::{do_command, most_length};
 use ddm_objects::{code_point, put};
-use drda_commands::{Command, Stage, judge};
-use dss_frames::{Format, Segments, write_dss};
+use drda_commands::{Stage, judge};
+use dss_frames::{Format, Segments, write_dss, written_length};
 use exchanges::{Ask, Reply, Statements};
 use fdoca::are_places;
 use row_values::{Column, Kind, RowRef, Schema};
@@ -163,7 +163,16 @@ pub fn prepared(alloc: Global, text: &str, is_held: bool) -> Result<Statements, 
     Ok(statements)
 }
 
-/// Does a command; whether it was accepted.
+// The bytes that replies take as DSSs.
+fn written(replies: &[Reply]) -> usize {
+    let mut length: usize = 0;
+    for reply in replies {
+        length = length.saturating_add(written_length(reply.text().len().min(20_000_000)));
+    }
+    length
+}
+
+/// Does a command; whether it was accepted, and its replies take no more room than was told.
 pub fn ask(
     alloc: Global,
     asked: Asked,
@@ -178,13 +187,9 @@ pub fn ask(
         && let Some((request, objects)) = group.split_first()
         && let Ok(accepted) = judge(&[], Stage::Opened, false, request.contents, objects)
     {
-        match accepted.command {
-            Command::Opnqry => open(alloc, accepted, b"DRDADB", statements, asker, replies)?,
-            Command::Cntqry => fetch(alloc, accepted, b"DRDADB", statements, replies)?,
-            Command::Clsqry => close(alloc, accepted, b"DRDADB", statements, replies)?,
-            _ => {}
-        }
-        return Ok(true);
+        let room = most_length(&accepted, statements).saturating_add(written(replies));
+        do_command(alloc, accepted, b"DRDADB", statements, asker, replies)?;
+        return Ok(written(replies) <= room);
     }
     Ok(false)
 }

@@ -11,4 +11,4 @@ returns-in-Ok-clause-ok g c =
     concluded g.A.Ask.asks c.args.rdb.now c.args.statements.now c.args.name.now c.args.size
     (commands.query_in (option_map described_of c.args.parameters) (section_of c.args.name.now c.args.statements.now.sections))
     (answer_of c.in-Ok.answer) c.args.asker.now c.ask_section.new.asker c.conclude.new.statements c.args.replies.now.items _ c.conclude.new.replies.items
-    c.in-Ok.ensures.ok c.in_ok-reserve.ensures.items (record { kept = c.conclude.ensures.kept; replied = c.conclude.ensures.replied })
+    c.in-Ok.ensures.ok c.in_ok-reserve.ensures.items c.conclude.ensures.done

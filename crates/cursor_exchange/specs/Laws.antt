@@ -1,0 +1,79 @@
+-- What follows from what the commands on cursors do.
+use Rattle.std.specs.Prelude.{◌≡◌, ◌≢◌, ℕ, true, List, [], ◌∷◌, ◌++◌, length, None, Some, IsSome}
+use Rattle.std.specs.List.{flat_map}
+use Rattle.ddm_objects.specs.declared.code_point.TheConstants.{QRYDTA}
+use Rattle.ddm_objects.specs.Writing.{spelled}
+use Rattle.sqlam_replies.specs.Rows.{rows_text}
+use Rattle.core_calls.specs.Answer.{Answer}
+use Rattle.drda_commands.specs.declared.table.Command.{Command}
+use Rattle.drda_commands.specs.declared.table.Command.TheVariants.{Clsqry, Cntqry, Opnqry}
+use Rattle.drda_commands.specs.Given.{Given}
+use Rattle.drda_commands.specs.Values.{query_instance_in}
+use Rattle.sections.specs.Cursors.{cursor_of, is_meant, section_of}
+use Rattle.sections.specs.Kept.{Cursor}
+use Rattle.exchanges.specs.Reply.{Reply, object}
+use Rattle.exchanges.specs.declared.statements.Statements.{Statements}
+use Rattle.exchanges.specs.Doing.{Doing, Done, answered, asking, finished}
+use Rattle.cursor_exchange.specs.Commands.{doing, fetched, name_in}
+use Rattle.cursor_exchange.specs.Replies.{end_of_query}
+
+-- ---- who is asked
+
+abbrev pub AsksNobody : Doing → Type 0
+AsksNobody (finished d) = Unit {0}
+AsksNobody (asking call then) = ⊥
+
+abbrev pub FetchingAsksNobody : Type 0
+FetchingAsksNobody = (rdb : List ℕ) (given : Given) (k : Statements) → AsksNobody (doing rdb Cntqry given k)
+
+abbrev pub ClosingAsksNobody : Type 0
+ClosingAsksNobody = (rdb : List ℕ) (given : Given) (k : Statements) → AsksNobody (doing rdb Clsqry given k)
+
+-- ---- what stays
+
+-- whatever is answered, the sections of other names are as they were
+abbrev pub LeavesOthers : List ℕ → Statements → Doing → Type 0
+LeavesOthers name k (finished d) = (other : List ℕ) → name ≢ other → section_of other d.statements.sections ≡ section_of other k.sections
+LeavesOthers name k (asking call then) = (answer : Answer) (other : List ℕ) → name ≢ other → section_of other (then answer).statements.sections ≡ section_of other k.sections
+
+abbrev pub IsLocal : Command → Type 0
+IsLocal command = (rdb : List ℕ) (given : Given) (k : Statements) → LeavesOthers (name_in given) k (doing rdb command given k)
+
+abbrev pub OpeningIsLocal : Type 0
+OpeningIsLocal = IsLocal Opnqry
+
+abbrev pub FetchingIsLocal : Type 0
+FetchingIsLocal = IsLocal Cntqry
+
+abbrev pub ClosingIsLocal : Type 0
+ClosingIsLocal = IsLocal Clsqry
+
+-- ---- what is sent
+
+-- CNTQRYs one after another: what is kept in the end, and all replies
+abbrev pub fetched_in_turn : List ℕ → Statements → List Given → Done
+fetched_in_turn rdb k [] = answered k []
+fetched_in_turn rdb k (given ∷ givens) =
+    answered (fetched_in_turn rdb (fetched rdb k given).statements givens).statements
+    ((fetched rdb k given).replies ++ (fetched_in_turn rdb (fetched rdb k given).statements givens).replies)
+
+-- each means this cursor of this section
+abbrev pub AllMean : List ℕ → Cursor → List Given → Type 0
+AllMean name cursor [] = Unit {0}
+AllMean name cursor (given ∷ givens) = (name_in given ≡ name) × (is_meant (query_instance_in given) cursor ≡ true) × AllMean name cursor givens
+
+-- QRYDTA with each of these, and the end of the query behind them
+abbrev pub sent_in_turn : List (List ℕ) → List Reply
+sent_in_turn [] = end_of_query
+sent_in_turn (text ∷ texts) = object (spelled QRYDTA text) ∷ sent_in_turn texts
+
+-- where CNTQRYs read a cursor to its end, and the last one closes it, each of its remaining rows is sent once, in
+-- their order, and ENDQRYRM behind the last one alone
+abbrev pub FetchesSendAllRows : Type 0
+FetchesSendAllRows =
+    (rdb : List ℕ) (k : Statements) (name : List ℕ) (cursor : Cursor) (front : List Given) (last : Given)
+    → cursor_of name k.sections ≡ Some cursor → AllMean name cursor (front ++ last ∷ [])
+    → IsSome (cursor_of name (fetched_in_turn rdb k front).statements.sections)
+    → cursor_of name (fetched_in_turn rdb k (front ++ last ∷ [])).statements.sections ≡ None
+    → (texts : List (List ℕ)) × ((fetched_in_turn rdb k (front ++ last ∷ [])).replies ≡ sent_in_turn texts)
+    × (flat_map (λ text. text) texts ≡ rows_text cursor.rows cursor.place (length cursor.rows.rows))
