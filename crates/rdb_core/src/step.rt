@@ -1,11 +1,12 @@
 //! The core's one step.
 
-ghost use Rattle.std.specs.Prelude.{◌≡◌, map};
+ghost use Rattle.std.specs.Prelude.{◌≡◌, false, map};
 ghost use Rattle.row_values.specs.Value.{value_of};
+ghost use Rattle.core_calls.specs.Answer.{answer_of};
 ghost use Rattle.core_calls.specs.Call.{call_of, describe, query, run};
 ghost use Rattle.rdb_core.specs.Question.{call_asking, question_of};
 ghost use Rattle.rdb_core.specs.State.{state_of};
-ghost use Rattle.rdb_core.specs.Steps.{Steps};
+ghost use Rattle.rdb_core.specs.Steps.{IsTaken, Steps, may_want_any};
 
 use crate::asking::ask_unit;
 use crate::engine::Core;
@@ -16,10 +17,12 @@ use sql_text::Statement;
 use std::alloc::AllocError;
 
 impl Core {
-    /// What a conversation asks is answered, and the core takes one step. Out of memory, the core is as
-    /// before; a rollback and the loss of a conversation take no memory.
+    /// What a conversation asks is answered, and the core takes one step. Out of memory it answers
+    /// `NoMemory` and is as before. A rollback and the loss of a conversation take no memory, nor does a
+    /// commit of a unit without changes.
     pub fn step(&mut self, conversation: u64, call: &CoreCall<'_, '_>) -> Answer
         ensures step { Steps (state_of self.old) conversation (call_of call.now) result (state_of self.new) }
+        ensures sure { may_want_any (state_of self.old) conversation (call_of call.now) ≡ false → IsTaken (state_of self.old) conversation (call_of call.now) (answer_of result) (state_of self.new) }
     {
         match call {
             CoreCall::Run {
