@@ -12,7 +12,8 @@ use Rattle.core_calls.specs.Answer.{Answer, answer_of}
 use Rattle.core_calls.specs.declared.answer.Answer.{Answer as CodeAnswer}
 use Rattle.core_calls.specs.declared.answer.Answer.TheVariants as code
 use Rattle.core_steps.specs.Units.{Held, Owner, global, has_any, local, set_unit, unit_of, without}
-use Rattle.core_steps.specs.Asked.{Clashes, Done, Outcome, TooMany, Unfit}
+use Rattle.core_calls.specs.declared.sql_fault.SqlFault.{SqlFault}
+use Rattle.core_steps.specs.Asked.{Clashes, Done, Outcome, TooMany, Unfit, describing, querying, running, unfit}
 use Rattle.core_steps.specs.Step.{CoreState, answer, due_in, step_state}
 
 -- the answer and the state behind it are those of the step
@@ -42,11 +43,16 @@ may_want_memory s conversation (Some (request.Branch verb xid)) = wants_memory (
 may_want_memory s conversation (Some request.Recover) = true
 may_want_memory s conversation None = false
 
--- a call may want memory: a question always, a commit where the unit has changes
+-- what is refused before it claims anything wants no memory
+abbrev pub is_fit : Option SqlFault → Bool
+is_fit None = true
+is_fit (Some fault) = false
+
+-- a call may want memory: a question that is fit, a commit where the unit has changes
 abbrev pub may_want_any : CoreState → ℕ → Call → Bool
-may_want_any s conversation (call.run t params) = true
-may_want_any s conversation (call.query t params) = true
-may_want_any s conversation (call.describe t side) = true
+may_want_any s conversation (call.run t params) = is_fit (unfit (running t params))
+may_want_any s conversation (call.query t params) = is_fit (unfit (querying t params))
+may_want_any s conversation (call.describe t side) = is_fit (unfit (describing t side))
 may_want_any s conversation call.commit = has_any (unit_of (local conversation) s.base.units).changes
 may_want_any s conversation call.roll_back = false
 may_want_any s conversation (call.xa r) = may_want_memory s conversation r
