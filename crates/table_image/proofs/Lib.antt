@@ -2,3 +2,5 @@ mod Adding
 mod Filling
 mod Writing
 mod MergedRows
+mod EntryBytes
+mod Listing

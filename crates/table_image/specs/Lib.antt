@@ -2,4 +2,5 @@ pub mod Errors
 pub mod Adding
 pub mod Laying
 pub mod Stored
+pub mod Catalogue
 pub mod Writing
