@@ -1,5 +1,5 @@
 -- Tables in a catalogue, as they are written and read.
-use Rattle.std.proofs.Common.{◌≡◌, ℕ, ◌<◌, ◌^◌, List, ◌++◌, Option, Some, true, ◌&&◌, ap, ◌∙◌, ltb-true}
+use Rattle.std.proofs.Common.{◌≡◌, ℕ, ◌^◌, List, ◌++◌, Some, true, ◌&&◌, ap, ◌∙◌, ltb-true}
 use Rattle.std.specs.Prelude.{nat_lt}
 use Rattle.std.specs.Option.{option_and_then}
 use Rattle.std.specs.Int.{w32, from_be_bytes, to_be_bytes}

@@ -4,3 +4,4 @@ mod Writing
 mod MergedRows
 mod EntryBytes
 mod Listing
+mod ReadEntries

@@ -1,12 +1,11 @@
 -- The rows of a catalogue, one by one.
 use Rattle.std.proofs.Common.{◌≡◌, ℕ, ◌+◌, ◌*◌, ◌-◌, ◌<◌, ◌≤◌, List, [], ◌∷◌, ◌++◌, Bool, true, length, map, get_or, take, drop, refl, sym, ap, ap₂, subst, ◌∙◌, arith, append_assoc, append-nil}
-use Rattle.std.specs.Prelude.{Result, Err, IsTrue}
+use Rattle.std.specs.Prelude.{Result, Err}
 use Rattle.std.proofs.lemmas.List.{take_rest}
 use Rattle.row_pages.specs.Page.{Page}
 use Rattle.row_pages.specs.Laying.{laid, laid_behind}
 use Rattle.row_pages.specs.declared.page.PageKind.{PageKind}
 use Rattle.row_pages.specs.declared.page.PageKind.TheVariants as kind
-use Rattle.row_values.specs.Schema.{is_name}
 use Rattle.half_store.specs.Writing.{from_of, half_bytes_of, next_of}
 use Rattle.half_store.specs.declared.image.ImageWriter.{ImageWriter}
 use Rattle.table_image.specs.Adding.{end_of_half}

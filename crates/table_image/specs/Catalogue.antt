@@ -2,14 +2,11 @@
 use Rattle.std.specs.Prelude.{◌≡◌, ◌⊎◌, ℕ, zero, suc, ◌+◌, ◌^◌, Bool, true, ◌&&◌, nat_lt, List, [], ◌∷◌, ◌++◌, Option, Some, None, option_map, string_bytes}
 use Rattle.std.specs.Option.{option_and_then}
 use Rattle.std.specs.Int.{w32, from_be_bytes, to_be_bytes}
-use Rattle.drda_words.specs.Bytes.{AreBytes}
 use Rattle.drda_words.specs.Place.{part}
 use Rattle.row_values.specs.Schema.{Schema, is_name, is_schema}
 use Rattle.row_values.specs.Bytes.{name_at, named, schema_at, schema_bytes}
 use Rattle.row_pages.specs.Page.{IsPage}
-use Rattle.row_pages.specs.Laying.{rows_over}
 use Rattle.row_pages.specs.declared.page.PageKind.TheVariants as kind
-use Rattle.table_image.specs.Laying.{StandAt}
 use Rattle.table_image.specs.declared.entry.TablePlace.{TablePlace}
 use Rattle.table_image.specs.declared.entry.StoredTable.{StoredTable}
 

@@ -3,4 +3,5 @@ pub mod Adding
 pub mod Laying
 pub mod Stored
 pub mod Catalogue
+pub mod ReadCatalogue
 pub mod Writing

@@ -1,9 +1,9 @@
-use Rattle.std.proofs.Common.{rules, ◌≡◌, ◌+◌, ◌*◌, ◌∙◌, ℕ, List, length, map, ap, sym, arith, refl}
+use Rattle.std.proofs.Common.{rules, ◌+◌, ◌*◌, ◌∙◌, ℕ, List, length, map, ap, refl}
 use Rattle.half_store.specs.Writing.{next_of}
 use Rattle.row_pages.specs.Laying.{laid}
-use Rattle.table_image.specs.Catalogue.{place_of, rows_of}
+use Rattle.table_image.specs.Catalogue.{place_of}
 use Rattle.table_image.proofs.Adding.{and_more, no_page, same_from}
-use Rattle.table_image.proofs.Listing.{all_listed, all_stand, first_left, full_listed, names_left, none_left, nothing_laid, one_listed}
+use Rattle.table_image.proofs.Listing.{all_listed, first_left, full_listed, names_left, none_left, nothing_laid, one_listed}
 use Rattle.table_image.proofs.catalogue.write_catalogue.Goals as goal
 
 pub returns-in_err-rows-clause-adds : goal.returns-in_err-rows-clause-adds
