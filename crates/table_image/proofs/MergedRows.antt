@@ -80,7 +80,7 @@ begins modelled key_of file image writer page empty keys = record {
 
 -- ---- a row
 
-told_so : (T S : Type 0) (e : ImageError) (end at : ℕ) → TellsFull {T = T} (Err e) end at → TellsFull {T = S} (Err e) end at
+pub told_so : (T S : Type 0) (e : ImageError) (end at : ℕ) → TellsFull {T = T} (Err e) end at → TellsFull {T = S} (Err e) end at
 told_so T S NoMemory end at tells = tt
 told_so T S DeviceFailed end at tells = tt
 told_so T S Damaged end at tells = tt
