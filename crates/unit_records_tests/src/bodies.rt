@@ -86,3 +86,46 @@ fn bodies_are_read_and_written_again(rt: HostRuntime) {
         assert!(rt; reads_back(rt.alloc(), *kind, body), "{body:?}");
     }
 }
+
+fn is_damaged(alloc: Global, kind: Kind, body: &[u8]) -> bool {
+    match UnitRecord::read(alloc, kind, body) {
+        Err(ReadError::Damaged) => true,
+        _ => false,
+    }
+}
+
+// Whether the body is damaged where it is cut before a place, and where a byte follows it.
+fn is_whole(alloc: Global, kind: Kind, body: &[u8]) -> Option<bool> {
+    let mut longer = Vec::from_slice(alloc, body).ok()?;
+    longer.push(0).ok()?;
+    let mut whole = is_damaged(alloc, kind, longer.as_slice());
+    for length in 0..body.len() {
+        whole = whole && is_damaged(alloc, kind, &body[..length]);
+    }
+    Some(whole)
+}
+
+#[test]
+fn parts_of_bodies_are_damaged(rt: HostRuntime) {
+    for (kind, body) in &BODIES {
+        assert_eq!(rt; is_whole(rt.alloc(), *kind, body), Some(true), "{body:?}");
+    }
+}
+
+// Another record, an unknown outcome, the XID that names no branch, and an XID that is missing.
+const STRANGERS: [(Kind, &'static [u8]); 4] = [
+    (Kind::Commit, &[0, 0, 0, 7, 0, 0, 0, 1, 0, 0, 0, 0, b'g', 1]),
+    (Kind::Decide, &[0, 0, 0, 7, 0, 0, 0, 1, 0, 0, 0, 0, b'g', 3]),
+    (
+        Kind::Decide,
+        &[255, 255, 255, 255, 0, 0, 0, 1, 0, 0, 0, 0, b'g', 1],
+    ),
+    (Kind::Prepare, &[0, 0, 0, 0]),
+];
+
+#[test]
+fn other_bodies_are_damaged(rt: HostRuntime) {
+    for (kind, body) in &STRANGERS {
+        assert!(rt; is_damaged(rt.alloc(), *kind, body), "{body:?}");
+    }
+}
