@@ -1,3 +1,5 @@
 pub mod Following
 pub mod Placing
 pub mod Doubting
+pub mod Leading
+pub mod Holding

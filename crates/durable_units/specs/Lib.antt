@@ -1,3 +1,4 @@
 pub mod Durable
 pub mod Laws
 pub mod Replay
+pub mod Journal

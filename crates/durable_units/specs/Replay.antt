@@ -7,7 +7,7 @@ use Rattle.core_steps.specs.Units.{Work}
 use Rattle.unit_records.specs.Records.{UnitRecord}
 use Rattle.durable_units.specs.Durable.{Doubts, Durable, next}
 use Rattle.durable_units.specs.declared.prepared.PreparedUnit.{PreparedUnit}
-use Rattle.durable_units.specs.declared.replay.Replay.{Replay}
+use Rattle.durable_units.specs.declared.steps.Replay.{Replay}
 
 abbrev pub doubt_in : PreparedUnit → List ℕ × Work
 doubt_in u = (u.xid, record { changes = u.changes; claims = u.claims.items })

@@ -2,10 +2,12 @@
 #![tactic(auto)]
 
 mod gathered;
+mod journal;
 pub mod laws;
 mod placed;
 mod prepared;
-mod replay;
+mod steps;
 
+pub use journal::{ReplayError, replay};
 pub use prepared::PreparedUnit;
-pub use replay::Replay;
+pub use steps::Replay;

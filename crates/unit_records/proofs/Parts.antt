@@ -9,7 +9,8 @@ use Rattle.tables.specs.Change.{Change, change_at, change_bytes, is_change}
 use Rattle.tables.specs.Laws.{ChangeReadWasWritten, ChangeWrittenIsRead}
 use Rattle.xa_calls.specs.Xid.{AreParts, IsXid, Parts, wire, xid_in}
 use Rattle.unit_records.specs.Fronts.{OneFront, TakesFront}
-use Rattle.unit_records.specs.Records.{IsChange}
+use Rattle.unit_records.specs.Records.{IsChange, outcome_byte}
+use Rattle.unit_records.specs.Room.{DecisionsAreShort, DecisionsFit, DecisionsNeedNoRoom}
 
 -- ---- changes
 
@@ -49,10 +50,19 @@ xids_once found a b rest more good fine text =
     let same : a ≡ b = some_same a b (sym (xid_found found a rest good) ∙ ap xid_in text ∙ xid_found found b more fine) in
     (same, sym (drop-append_seam a rest) ∙ ap (drop (length a)) text ∙ ap (λ (l : List ℕ). drop (length l) (b ++ more)) same ∙ drop-append_seam b more)
 
--- ---- the length of an XID
+-- ---- lengths
+
+length-wire : (p : Parts) → length (wire p) ≡ 12 + length p.global + length p.branch
+length-wire p = omega (arith, length-append p.global p.branch)
 
 pub short_xid : (xid : List ℕ) → IsXid xid → length xid ≤ 140
-short_xid xid is =
-    let p = is.0 in
-    let size : length (wire p) ≡ 12 + length p.global + length p.branch = omega (arith, length-append p.global p.branch) in
-    omega (arith, ap length is.2, size, is.1.short_global, is.1.short_branch)
+short_xid xid is = omega (arith, ap length is.2, length-wire is.0, is.1.short_global, is.1.short_branch)
+
+pub decision_fits : DecisionsFit
+decision_fits xid changes claims o = omega (arith, length-append xid (outcome_byte o ∷ []))
+
+pub decision_needs_no_more : DecisionsNeedNoRoom
+decision_needs_no_more xid o = omega (arith, length-append xid (outcome_byte o ∷ []))
+
+pub decision_short : DecisionsAreShort
+decision_short p = omega (arith, length-wire p)

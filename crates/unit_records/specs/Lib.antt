@@ -1,4 +1,5 @@
 pub mod Fronts
 pub mod Records
+pub mod Room
 pub mod Laws
 pub mod Read

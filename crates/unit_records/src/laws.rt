@@ -1,6 +1,7 @@
 //! Laws of the bytes of records. The functions do nothing: their contracts are the laws.
 
 ghost use Rattle.unit_records.specs.Laws.{OneReading, PartsStandOnce, WrittenIsRead};
+ghost use Rattle.unit_records.specs.Room.{DecisionsAreShort, DecisionsFit, DecisionsNeedNoRoom};
 
 use tables::laws::changes_have_their_bytes;
 
@@ -11,6 +12,13 @@ pub fn records_have_one_reading()
 {
     parts_stand_once();
 }
+
+/// The decision of a branch takes the bytes that its prepare held back, and no more.
+pub fn decisions_have_room()
+    ensures fit { DecisionsFit }
+    ensures no_more { DecisionsNeedNoRoom }
+    ensures short { DecisionsAreShort }
+{}
 
 /// A text begins with one XID at most, and with one list of claims or of changes.
 pub(crate) fn parts_stand_once()

@@ -8,6 +8,7 @@ ghost use Rattle.unit_locks.specs.Claim.{IsClaim, claim_bytes};
 ghost use Rattle.xa_calls.specs.Xid.{IsXid, xid_in};
 ghost use Rattle.xa_manager.specs.declared.due.Outcome.{Outcome as OutcomeIs};
 ghost use Rattle.unit_records.specs.Records.{committed, decided, prepared, record_bytes};
+ghost use Rattle.unit_records.specs.Room.{decision_taken};
 
 use tables::Change;
 use unit_locks::Claim;
@@ -15,6 +16,9 @@ use xa_calls::Xid;
 
 /// The bytes of a number of changes or claims.
 const COUNT_BYTES: usize = 4;
+
+/// The bytes of a record in front of its body: its gate, its kind and its length.
+const HEAD_BYTES: usize = 6;
 
 /// The byte that says how a branch was decided.
 const OUTCOME_BYTES: usize = 1;
@@ -44,6 +48,15 @@ pub fn decide_length(xid: &Xid) -> usize
     ensures named { IsXid xid.now }
 {
     xid_bytes(xid).len() + OUTCOME_BYTES
+}
+
+/// How many bytes of its journal a prepare of this branch holds back for its decision, which takes so
+/// many with its head: 20 to 147.
+pub fn held_for_decision(xid: &Xid) -> usize
+    ensures held { result ≡ decision_taken xid.now }
+    ensures short { result ≤ 147 }
+{
+    HEAD_BYTES + xid_bytes(xid).len() + OUTCOME_BYTES
 }
 
 /// The bytes that write an XID.

@@ -8,7 +8,7 @@ mod read;
 mod record;
 mod write;
 
-pub use length::{commit_length, decide_length, prepare_length};
+pub use length::{commit_length, decide_length, held_for_decision, prepare_length};
 pub use record::UnitRecord;
 pub use row_values::ReadError;
 pub use write::{write_commit, write_decide, write_prepare};

@@ -1,11 +1,14 @@
 //! The bodies of records.
 
 use std::alloc::{AllocError, Global};
+use tables::Change;
 use unit_journal::Kind;
+use unit_locks::Claim;
 use unit_records::{
     ReadError, UnitRecord, commit_length, decide_length, prepare_length, write_commit,
     write_decide, write_prepare,
 };
+use xa_calls::Xid;
 
 // A table is created, a row put and one removed; nothing; a branch with a claim of all of a table and
 // one of a key, and a change; decisions.
@@ -31,31 +34,48 @@ const BODIES: [(Kind, &'static [u8]); 6] = [
             0, 0, 0, 7, 0, 0, 0, 1, 0, 0, 0, 0, b'g', 0, 0, 0, 0, 0, 0, 0, 0,
         ],
     ),
-    (
-        Kind::Decide,
-        &[0, 0, 0, 7, 0, 0, 0, 1, 0, 0, 0, 0, b'g', 1],
-    ),
+    (Kind::Decide, &[0, 0, 0, 7, 0, 0, 0, 1, 0, 0, 0, 0, b'g', 1]),
     (
         Kind::Decide,
         &[0, 0, 0, 7, 0, 0, 0, 1, 0, 0, 0, 1, b'g', b'b', 2],
     ),
 ];
 
+/// The longest body that is written here.
+const LONGEST: usize = 1_000;
+
+fn write_changes(out: &mut Vec<u8>, changes: &[Change]) -> Result<usize, AllocError> {
+    let length = commit_length(changes);
+    if length > LONGEST {
+        return Err(AllocError);
+    }
+    write_commit(out, changes)?;
+    Ok(length)
+}
+
+fn write_branch(
+    out: &mut Vec<u8>,
+    xid: &Xid,
+    changes: &[Change],
+    claims: &[Claim],
+) -> Result<usize, AllocError> {
+    let length = prepare_length(xid, changes, claims);
+    if length > LONGEST {
+        return Err(AllocError);
+    }
+    write_prepare(out, xid, changes, claims)?;
+    Ok(length)
+}
+
 // Appends the body of the record; how long it was told to be.
 fn write(out: &mut Vec<u8>, read: &UnitRecord) -> Result<usize, AllocError> {
     match read {
-        UnitRecord::Commit { changes } => {
-            write_commit(out, changes.as_slice())?;
-            Ok(commit_length(changes.as_slice()))
-        }
+        UnitRecord::Commit { changes } => write_changes(out, changes.as_slice()),
         UnitRecord::Prepare {
             xid,
             changes,
             claims,
-        } => {
-            write_prepare(out, xid, changes.as_slice(), claims.as_slice())?;
-            Ok(prepare_length(xid, changes.as_slice(), claims.as_slice()))
-        }
+        } => write_branch(out, xid, changes.as_slice(), claims.as_slice()),
         UnitRecord::Decide { xid, outcome } => {
             write_decide(out, xid, *outcome)?;
             Ok(decide_length(xid))
@@ -84,5 +104,48 @@ fn reads_back(alloc: Global, kind: Kind, body: &[u8]) -> bool {
 fn bodies_are_read_and_written_again(rt: HostRuntime) {
     for (kind, body) in &BODIES {
         assert!(rt; reads_back(rt.alloc(), *kind, body), "{body:?}");
+    }
+}
+
+fn is_damaged(alloc: Global, kind: Kind, body: &[u8]) -> bool {
+    match UnitRecord::read(alloc, kind, body) {
+        Err(ReadError::Damaged) => true,
+        _ => false,
+    }
+}
+
+// Whether the body is damaged where it is cut before a place, and where a byte follows it.
+fn is_whole(alloc: Global, kind: Kind, body: &[u8]) -> Option<bool> {
+    let mut longer = Vec::from_slice(alloc, body).ok()?;
+    longer.push(0).ok()?;
+    let mut whole = is_damaged(alloc, kind, longer.as_slice());
+    for length in 0..body.len() {
+        whole = whole && is_damaged(alloc, kind, &body[..length]);
+    }
+    Some(whole)
+}
+
+#[test]
+fn parts_of_bodies_are_damaged(rt: HostRuntime) {
+    for (kind, body) in &BODIES {
+        assert_eq!(rt; is_whole(rt.alloc(), *kind, body), Some(true), "{body:?}");
+    }
+}
+
+// Another record, an unknown outcome, the XID that names no branch, and an XID that is missing.
+const STRANGERS: [(Kind, &'static [u8]); 4] = [
+    (Kind::Commit, &[0, 0, 0, 7, 0, 0, 0, 1, 0, 0, 0, 0, b'g', 1]),
+    (Kind::Decide, &[0, 0, 0, 7, 0, 0, 0, 1, 0, 0, 0, 0, b'g', 3]),
+    (
+        Kind::Decide,
+        &[255, 255, 255, 255, 0, 0, 0, 1, 0, 0, 0, 0, b'g', 1],
+    ),
+    (Kind::Prepare, &[0, 0, 0, 0]),
+];
+
+#[test]
+fn other_bodies_are_damaged(rt: HostRuntime) {
+    for (kind, body) in &STRANGERS {
+        assert!(rt; is_damaged(rt.alloc(), *kind, body), "{body:?}");
     }
 }

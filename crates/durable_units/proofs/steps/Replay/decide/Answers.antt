@@ -2,7 +2,7 @@ use Rattle.std.proofs.Common.{List, ap, ◌∙◌, option_map, sym}
 use Rattle.std.specs.Prelude.{bytes_eq, position}
 use Rattle.durable_units.specs.declared.prepared.PreparedUnit.{PreparedUnit}
 use Rattle.durable_units.proofs.Doubting.{unit_nowhere}
-use Rattle.durable_units.proofs.replay.Replay.decide.Goals as goal
+use Rattle.durable_units.proofs.steps.Replay.decide.Goals as goal
 
 pub returns-in-None : goal.returns-in-None
 returns-in-None c =

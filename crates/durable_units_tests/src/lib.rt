@@ -1,0 +1,5 @@
+//! Tests of durable_units.
+#![tactic(auto)]
+
+#[cfg(test)]
+mod journals;

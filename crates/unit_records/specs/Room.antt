@@ -1,0 +1,41 @@
+-- How many bytes of a journal records take, hold back and release.
+use Rattle.std.specs.Prelude.{◌≡◌, ℕ, ◌+◌, List, length}
+use Rattle.tables.specs.Change.{Change}
+use Rattle.unit_locks.specs.Claim.{Claim}
+use Rattle.xa_calls.specs.Xid.{Parts, wire}
+use Rattle.xa_manager.specs.declared.due.Outcome.{Outcome}
+use Rattle.unit_records.specs.Records.{UnitRecord, committed, decided, prepared, record_bytes}
+
+-- a record with its gate, its kind and its length
+abbrev pub taken : UnitRecord → ℕ
+taken r = 6 + length (record_bytes r)
+
+-- what the decision of a branch takes, whichever it is
+abbrev pub decision_taken : List ℕ → ℕ
+decision_taken xid = 7 + length xid
+
+-- a prepare holds its decision's bytes back
+abbrev pub held : UnitRecord → ℕ
+held (committed changes) = 0
+held (prepared xid changes claims) = decision_taken xid
+held (decided xid o) = 0
+
+-- a decision releases what was held for it
+abbrev pub released : UnitRecord → ℕ
+released (committed changes) = 0
+released (prepared xid changes claims) = 0
+released (decided xid o) = decision_taken xid
+
+-- ---- laws
+
+-- a decision takes what its prepare held back for it
+abbrev pub DecisionsFit : Type 0
+DecisionsFit = (xid : List ℕ) (changes : List Change) (claims : List Claim) (o : Outcome) → taken (decided xid o) ≡ held (prepared xid changes claims)
+
+-- so it needs no room besides
+abbrev pub DecisionsNeedNoRoom : Type 0
+DecisionsNeedNoRoom = (xid : List ℕ) (o : Outcome) → taken (decided xid o) + held (decided xid o) ≡ released (decided xid o)
+
+-- which are 19 bytes and the two parts of the XID
+abbrev pub DecisionsAreShort : Type 0
+DecisionsAreShort = (p : Parts) → decision_taken (wire p) ≡ 19 + length p.global + length p.branch
