@@ -17,9 +17,8 @@ use Rattle.exchanges.specs.Done.{WasDone}
 use Rattle.conversation.specs.declared.session.Session.{Session}
 use Rattle.conversation.specs.declared.chain.Link.{Link}
 use Rattle.conversation.specs.Done.{Exchanges, IsExcused, IsFollowed}
-use Rattle.conversation.specs.Exchange.{Answer, Plan, access_done, at_once, at_once_or, plan, plan_for, refused, sql_plan}
+use Rattle.conversation.specs.Exchange.{Answer, Plan, access_done, at_once, at_once_or, plan, plan_for, refused, database_plan}
 use Rattle.conversation.specs.Laws.{AsksOnlyWhenOpened, verdict}
-use Rattle.conversation.specs.Served.{unserved}
 use Rattle.conversation.specs.Settings.{Settings}
 use Rattle.conversation.specs.Standing.{Standing}
 
@@ -34,13 +33,13 @@ command_in (Ok accepted) = accepted.command
 command_in (Err refusal) = Excsat
 
 pub accepted_due : (stage : Stage) (unicode : Bool) (contents : List ℕ) (objects : List (List ℕ)) (accepted : Accepted)
-    → judged unserved stage unicode contents objects ≡ Ok accepted → is_due accepted.command stage ≡ Ok tt
+    → judged [] stage unicode contents objects ≡ Ok accepted → is_due accepted.command stage ≡ Ok tt
 accepted_due stage unicode contents objects accepted e =
     let (o, e1, i1) = bind_ok (command_object contents) _ accepted e in
     let (command, e2, i2) = bind_ok (is_known o.code (command_for o.code)) _ accepted e1 in
     let (due, e3, i3) = bind_ok (is_due command stage) _ accepted e2 in
     let given : Given = record { parameters = o.value; objects = objects } in
-    let (served, e4, i4) = bind_ok (is_served unserved command) _ accepted e3 in
+    let (served, e4, i4) = bind_ok (is_served [] command) _ accepted e3 in
     let (whole, e5, i5) = bind_ok (is_whole command given) _ accepted e4 in
     let (single, e6, i6) = bind_ok (none_twice (items_for command) given) _ accepted e5 in
     let (present, e7, i7) = bind_ok (none_missing (items_for command) given) _ accepted e6 in
@@ -92,7 +91,7 @@ module _ {A : Type 0} (asks : A → Call → core.Answer → A → Type 0) where
       → p ≡ plan settings s.session s.statements (Ok accepted) → AtOnceOr settings s.session accepted.command accepted.given → IsFollowed asks p link s bytes next
       → (s.session.stage ≡ Opened) ⊎ Unasked s next
   accepted_asks settings s next accepted p link bytes is (inl found) f =
-      let otherwise : Plan = sql_plan settings s.session s.statements accepted.command accepted.given in
+      let otherwise : Plan = database_plan settings s.session s.statements accepted.command accepted.given in
       let at : p ≡ at_once s.statements found.0 = is ∙ ap (λ (x : Option Answer). at_once_or s.statements x otherwise) found.1 in
       inr (followed_at_once p found.0 link s next bytes at f)
   accepted_asks settings s next accepted p link bytes is (inr there) f = inl there

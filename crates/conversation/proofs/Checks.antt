@@ -10,15 +10,15 @@ use Rattle.drda_commands.specs.declared.stage.Mechanism.{Mechanism}
 use Rattle.drda_commands.specs.declared.stage.Stage.{Stage}
 use Rattle.drda_commands.specs.declared.stage.Stage.TheVariants.{Fresh, Known, Asked, Checked, Opened}
 use Rattle.drda_commands.specs.declared.table.Command.{Command}
-use Rattle.drda_commands.specs.declared.table.Command.TheVariants.{Excsat, Accsec, Secchk, Accrdb}
+use Rattle.drda_commands.specs.declared.table.Command.TheVariants.{Excsat, Accsec, Secchk, Accrdb, Syncctl}
 use Rattle.drda_commands.specs.declared.table.ItemKind.TheVariants.{Parameter}
 use Rattle.drda_commands.specs.Given.{Given, contents_of, found_at}
 use Rattle.drda_commands.specs.Judge.{Accepted, is_due}
 use Rattle.conversation.specs.declared.session.Session.{Session}
 use Rattle.conversation.specs.Done.{Does, DoesAll, Exchanges, IsExcused, IsFollowed}
-use Rattle.conversation.specs.Exchange.{Answer, Plan, access_done, asked_for, at_once, at_once_or, bytes_of, check_code, is_ours, known_from, link_of, mechanism_for, plan, plan_for, refused, sql_plan}
+use Rattle.conversation.specs.Exchange.{Answer, Plan, access_done, asked_for, at_once, at_once_or, bytes_of, check_code, is_ours, known_from, link_of, mechanism_for, plan, plan_for, refused, database_plan}
 use Rattle.conversation.specs.Laws.{OpenedBehindACheck, ChecksTheUser, HasCheckedTheUser, verdict}
-use Rattle.conversation.specs.Replies.{secchkrm, rdb_not_found}
+use Rattle.conversation.specs.Replies.{manager_missing, secchkrm, rdb_not_found}
 use Rattle.conversation.specs.Settings.{Settings}
 use Rattle.conversation.specs.Standing.{Standing, beginning}
 use Rattle.conversation.proofs.Asking.{accepted_due}
@@ -70,6 +70,10 @@ abbrev ChecksBy : Command → Option Answer → Type 0
 ChecksBy command None = Unit {0}
 ChecksBy command (Some a) = is_checked a.session.stage ≡ true → (command ≡ Secchk) × (a.reply ≡ secchkrm 0)
 
+missing_unchecked : (session : Session) → is_checked session.stage ≡ false → (b : Bool) → ChecksBy Syncctl (if b then Some (record { session = session; reply = manager_missing }) else None)
+missing_unchecked session off true = λ on. both _ on off
+missing_unchecked session off false = tt
+
 done_unchecked : (settings : Settings) (session : Session) (command : Command) (given : Given) → is_due command session.stage ≡ Ok tt → is_checked session.stage ≡ false
     → ChecksBy command (access_done settings session command given)
 done_unchecked settings session Excsat given due off = λ on. both _ on (known_unchecked session.stage off)
@@ -80,6 +84,7 @@ done_unchecked settings session Secchk given due off = λ on.
     let code : ℕ = check_code settings session (found_at Parameter 0x11A2 given) (found_at Parameter 0x11A0 given) (found_at Parameter 0x11A1 given) in
     (refl, ap secchkrm (code_is session code (code == 0) refl off on))
 done_unchecked settings session Accrdb given due off = λ on. both (is_checked session.stage) (accrdb_due session.stage due) off
+done_unchecked settings session Syncctl given due off = missing_unchecked session off (session.agreed.xa == 0)
 done_unchecked settings session command given due off = tt
 
 -- ---- one command
@@ -96,7 +101,7 @@ module _ {A : Type 0} (asks : A → Call → core.Answer → A → Type 0) where
     by_found : (accepted : Accepted) → verdict s.session request objects ≡ Ok accepted → (o : Option Answer) → access_done settings s.session accepted.command accepted.given ≡ o
         → ChecksBy accepted.command o → IsFollowed asks p (link_of request objects) s bytes next → ChecksTheUser s.session (request ∷ objects) bytes
     by_found accepted is (Some a) found checks f =
-        let otherwise : Plan = sql_plan settings s.session s.statements accepted.command accepted.given in
+        let otherwise : Plan = database_plan settings s.session s.statements accepted.command accepted.given in
         let at : p ≡ at_once s.statements a = ap (plan settings s.session s.statements) is ∙ ap (λ (x : Option Answer). at_once_or s.statements x otherwise) found in
         let stage : next.session.stage ≡ a.session.stage = ap (λ (t : Session). t.stage) (at_once_session asks p a (link_of request objects) s next bytes at f) in
         let (secchk, reply) = checks (ap is_checked (sym stage) ∙ on) in
@@ -112,7 +117,7 @@ module _ {A : Type 0} (asks : A → Call → core.Answer → A → Type 0) where
           answer = at_once_sent asks p a (link_of request objects) s next bytes at f ∙ ap (λ r. written format request.correlator r.text) reply;
         }
     by_found accepted is None found checks f =
-        let otherwise : Plan = sql_plan settings s.session s.statements accepted.command accepted.given in
+        let otherwise : Plan = database_plan settings s.session s.statements accepted.command accepted.given in
         let at : p ≡ otherwise = ap (plan settings s.session s.statements) is ∙ ap (λ (x : Option Answer). at_once_or s.statements x otherwise) found in
         stays f (ap (λ (q : Plan). q.session.stage) at)
 

@@ -8,8 +8,8 @@ use Rattle.core_calls.specs.declared.call.Side.{Side}
 use Rattle.core_calls.specs.declared.sql_fault.SqlFault.{SqlFault}
 use Rattle.row_values.specs.Value.{Value}
 use Rattle.sql_text.specs.declared.tree.Statement.{Statement}
-use Rattle.sections.specs.Kept.{Preparation, Section}
-use Rattle.sections.specs.Cursors.{section_of}
+use Rattle.sections.specs.Kept.{Cursor, Preparation, Section}
+use Rattle.sections.specs.Cursors.{meant_cursor, opening_fault, section_of}
 use Rattle.sqlam_replies.specs.declared.message.UnitEnd.{UnitEnd}
 use Rattle.sqlam_replies.specs.declared.message.UnitEnd.TheVariants.{Committed, RolledBack}
 use Rattle.drda_names.specs.Names.{padded_in}
@@ -21,11 +21,12 @@ use Rattle.drda_commands.specs.declared.refusal.Refusal.TheVariants.{Syntax, Out
 use Rattle.drda_commands.specs.declared.stage.Mechanism.{Mechanism}
 use Rattle.drda_commands.specs.declared.stage.Stage.TheVariants.{Opened}
 use Rattle.drda_commands.specs.declared.table.Command.{Command}
-use Rattle.drda_commands.specs.declared.table.Command.TheVariants.{Excsat, Accsec, Secchk, Accrdb, Excsqlimm, Prpsqlstt, Dscsqlstt, Excsqlstt, Rdbcmm, Rdbrllbck}
+use Rattle.drda_commands.specs.declared.table.Command.TheVariants.{Excsat, Accsec, Secchk, Accrdb, Excsqlimm, Prpsqlstt, Dscsqlstt, Excsqlstt, Rdbcmm, Rdbrllbck, Syncctl}
 use Rattle.drda_commands.specs.declared.table.ItemKind.TheVariants.{Parameter}
 use Rattle.drda_commands.specs.Given.{Given, Occurs, found_at}
 use Rattle.drda_commands.specs.Judge.{Accepted}
-use Rattle.drda_commands.specs.Values.{DescribedData, described_data_in, side_in}
+use Rattle.drda_commands.specs.Values.{DescribedData, block_size_in, described_data_in, query_instance_in, side_in}
+use Rattle.std.specs.Prelude.{nat_le, length, unwrap_or}
 use Rattle.exchanges.specs.declared.statements.Statements.{Statements}
 use Rattle.exchanges.specs.Doing.{Doing, answered, asking, finished}
 use Rattle.exchanges.specs.Done.{WasDone}
@@ -33,12 +34,23 @@ use Rattle.exchanges.specs.NotDone.{not_done}
 use Rattle.exchanges.specs.Reply.{Reply, agent_failed, changed_card, count_card, description, fault_card, not_found_card, rdb_updated}
 use Rattle.exchanges.specs.Text.{statement_of, values_of}
 use Rattle.sql_exchange.specs.Commands as sql_does
+use Rattle.cursor_exchange.specs.Blocks.{rows_in_block}
+use Rattle.cursor_exchange.specs.Commands as cursors_do
+use Rattle.cursor_exchange.specs.Replies.{query_opened, rows_description, some_rows}
+use Rattle.xa_exchange.specs.SyncControl as xa_does
+use Rattle.database_commands.specs.Commands.{doing}
+use Rattle.xa_calls.specs.declared.request.Request.{Request}
+use Rattle.xa_calls.specs.declared.request.Request.TheVariants as request
+use Rattle.tables.specs.RowList.{RowList}
+use Rattle.sections.specs.Blocks.{ends_behind}
+use Rattle.sections.specs.declared.fault.OpenFault.{OpenFault}
+use Rattle.sections.specs.declared.fault.OpenFault.TheVariants as unopened
 use Rattle.conversation.specs.declared.chain.Link.{Link}
 use Rattle.conversation.specs.declared.session.Session.{Session}
 use Rattle.conversation.specs.Done.{Exchanges, IsExcused, IsFollowed}
-use Rattle.conversation.specs.Exchange.{Answer, Plan, access_done, asked_for, at_once, at_once_or, breaks, bytes_of, chain_bits, check_code, closes, excused, is_ours, link_of, mechanism_for, plan, plan_for, refused, sent, sql_plan, worst}
+use Rattle.conversation.specs.Exchange.{Answer, Plan, access_done, asked_for, at_once, at_once_or, breaks, bytes_of, chain_bits, check_code, closes, excused, is_ours, link_of, mechanism_for, plan, plan_for, refused, sent, database_plan, worst}
 use Rattle.conversation.specs.Laws.{OnlyFailureCloses, verdict}
-use Rattle.conversation.specs.Replies.{accrdbrm, rdb_not_found, refusal_reply}
+use Rattle.conversation.specs.Replies.{manager_missing, accrdbrm, rdb_not_found, refusal_reply}
 use Rattle.conversation.specs.Settings.{Settings}
 use Rattle.conversation.specs.Standing.{Standing}
 use Rattle.conversation.proofs.Single.{at_once_session, one_format, one_sent}
@@ -132,14 +144,89 @@ described_mild : (unicode : Bool) (k : Statements) (which : Side) (section : Opt
 described_mild unicode k which None = inl refl
 described_mild unicode k which (Some section) = described_as_mild unicode k which (statement_of section.text)
 
-doing_mild : (unicode : Bool) (rdb : List ℕ) (command : Command) (given : Given) (k : Statements) → AreMild (sql_does.doing unicode rdb command given k)
-doing_mild unicode rdb Excsqlimm given k = immediate_mild rdb k (statement_of (sql_does.statement_text given))
-doing_mild unicode rdb Prpsqlstt given k = prepared_mild unicode k (sql_does.preparation given) (sql_does.wanted_side given) (statement_of (sql_does.statement_text given))
-doing_mild unicode rdb Dscsqlstt given k = described_mild unicode k (sql_does.side_for (side_in given)) (section_of (sql_does.section_name given) k.sections)
-doing_mild unicode rdb Excsqlstt given k = executed_mild rdb k (described_data_in given) (section_of (sql_does.section_name given) k.sections)
-doing_mild unicode rdb Rdbcmm given k = ending_mild rdb Committed k
-doing_mild unicode rdb Rdbrllbck given k = ending_mild rdb RolledBack k
-doing_mild unicode rdb command given k = inl refl
+sql_mild : (unicode : Bool) (rdb : List ℕ) (command : Command) (given : Given) (k : Statements) → AreMild (sql_does.doing unicode rdb command given k)
+sql_mild unicode rdb Excsqlimm given k = immediate_mild rdb k (statement_of (sql_does.statement_text given))
+sql_mild unicode rdb Prpsqlstt given k = prepared_mild unicode k (sql_does.preparation given) (sql_does.wanted_side given) (statement_of (sql_does.statement_text given))
+sql_mild unicode rdb Dscsqlstt given k = described_mild unicode k (sql_does.side_for (side_in given)) (section_of (sql_does.section_name given) k.sections)
+sql_mild unicode rdb Excsqlstt given k = executed_mild rdb k (described_data_in given) (section_of (sql_does.section_name given) k.sections)
+sql_mild unicode rdb Rdbcmm given k = ending_mild rdb Committed k
+sql_mild unicode rdb Rdbrllbck given k = ending_mild rdb RolledBack k
+sql_mild unicode rdb command given k = inl refl
+
+-- ---- and of those on cursors
+
+rows_mild : (r : Reply) → r.severity ≡ 0 → (is_last : Bool) → IsMild (r ∷ cursors_do.ending is_last)
+rows_mild r zero true = inl (ap (λ (n : ℕ). closes (max n (worst (cursors_do.ending true)))) zero)
+rows_mild r zero false = inl (ap (λ (n : ℕ). closes (max n 0)) zero)
+
+opened_mild : (held : Bool) (n : ℕ) (l : RowList) (count : ℕ) (is_empty is_last : Bool)
+    → IsMild (query_opened held n ∷ rows_description l ∷ ((if is_empty then [] else some_rows l 0 count ∷ []) ++ cursors_do.ending is_last))
+opened_mild held n l count true true = inl refl
+opened_mild held n l count true false = inl refl
+opened_mild held n l count false true = inl refl
+opened_mild held n l count false false = inl refl
+
+after_query_mild : (rdb : List ℕ) (k : Statements) (name : List ℕ) (size : ℕ) (answer : core.Answer) → IsMild (cursors_do.after_query rdb k name size answer).replies
+after_query_mild rdb k name size (rows l) =
+    let count : ℕ = rows_in_block l 0 size in
+    opened_mild (cursors_do.is_held_in (section_of name k.sections)) (k.sections.openings + 1) l count (count == 0) (nat_le (length l.rows) count)
+after_query_mild rdb k name size (refused_call refusal) = inl refl
+after_query_mild rdb k name size answer = not_done_mild k answer
+
+queried_mild : (rdb : List ℕ) (k : Statements) (name : List ℕ) (size : ℕ) (q : Result (Statement × List Value) SqlFault) → AreMild (cursors_do.asked rdb k name size q)
+queried_mild rdb k name size (Err f) = inl refl
+queried_mild rdb k name size (Ok q) = after_query_mild rdb k name size
+
+opening_mild : (rdb : List ℕ) (o : Option OpenFault) (k : Statements) (name : List ℕ) (size : ℕ) (parameters : Option DescribedData) → AreMild (cursors_do.opened_unless rdb o k name size parameters)
+opening_mild rdb (Some unopened.NotPrepared) k name size parameters = inl refl
+opening_mild rdb (Some unopened.QueryOpen) k name size parameters = inl refl
+opening_mild rdb (Some unopened.NoInstance) k name size parameters = inl refl
+opening_mild rdb None k name size parameters = queried_mild rdb k name size (cursors_do.query_in parameters (section_of name k.sections))
+
+fetched_mild : (rdb : List ℕ) (k : Statements) (name : List ℕ) (size : Option ℕ) (cursor : Option Cursor) → IsMild (cursors_do.fetched_at rdb k name size cursor).replies
+fetched_mild rdb k name size None = inl refl
+fetched_mild rdb k name size (Some cursor) =
+    let count : ℕ = rows_in_block cursor.rows cursor.place (unwrap_or size cursor.block_size) in
+    rows_mild (some_rows cursor.rows cursor.place count) refl (ends_behind cursor count)
+
+closed_mild : (rdb : List ℕ) (k : Statements) (name : List ℕ) (cursor : Option Cursor) → IsMild (cursors_do.closed_at rdb k name cursor).replies
+closed_mild rdb k name None = inl refl
+closed_mild rdb k name (Some cursor) = inl refl
+
+-- ---- and of SYNCCTL
+
+recovered_mild : (k : Statements) (answer : core.Answer) → IsMild (xa_does.after_recover k answer).replies
+recovered_mild k (in_doubt xids) = inl refl
+recovered_mild k answer = not_done_mild k answer
+
+called_mild : (r : Option Request) (k : Statements) (answer : core.Answer) → IsMild (xa_does.after_call r k answer).replies
+called_mild r k (xa c) = inl refl
+called_mild r k answer = not_done_mild k answer
+
+sync_mild : (r : Option Request) (k : Statements) → AreMild (xa_does.asked_for r k)
+sync_mild (Some request.Recover) k = recovered_mild k
+sync_mild (Some (request.Branch verb xid)) k = called_mild (Some (request.Branch verb xid)) k
+sync_mild None k = called_mild None k
+
+-- ---- of all of them
+
+doing_mild : (unicode : Bool) (rdb : List ℕ) (command : Command) (given : Given) (k : Statements) → AreMild (doing unicode rdb command given k)
+doing_mild unicode rdb Opnqry given k =
+    opening_mild rdb (opening_fault (cursors_do.name_in given) k.sections) k (cursors_do.name_in given) (unwrap_or (block_size_in given) 0) (described_data_in given)
+doing_mild unicode rdb Cntqry given k =
+    fetched_mild rdb k (cursors_do.name_in given) (block_size_in given) (meant_cursor (cursors_do.name_in given) (query_instance_in given) k.sections)
+doing_mild unicode rdb Clsqry given k = closed_mild rdb k (cursors_do.name_in given) (meant_cursor (cursors_do.name_in given) (query_instance_in given) k.sections)
+doing_mild unicode rdb Syncctl given k = sync_mild (xa_does.request_of given) k
+doing_mild unicode rdb Excsat given k = sql_mild unicode rdb Excsat given k
+doing_mild unicode rdb Accsec given k = sql_mild unicode rdb Accsec given k
+doing_mild unicode rdb Secchk given k = sql_mild unicode rdb Secchk given k
+doing_mild unicode rdb Accrdb given k = sql_mild unicode rdb Accrdb given k
+doing_mild unicode rdb Excsqlimm given k = sql_mild unicode rdb Excsqlimm given k
+doing_mild unicode rdb Prpsqlstt given k = sql_mild unicode rdb Prpsqlstt given k
+doing_mild unicode rdb Dscsqlstt given k = sql_mild unicode rdb Dscsqlstt given k
+doing_mild unicode rdb Excsqlstt given k = sql_mild unicode rdb Excsqlstt given k
+doing_mild unicode rdb Rdbcmm given k = sql_mild unicode rdb Rdbcmm given k
+doing_mild unicode rdb Rdbrllbck given k = sql_mild unicode rdb Rdbrllbck given k
 
 -- ---- the other commands
 
@@ -159,6 +246,10 @@ check_mild : (b : Bool) → closes (max (if b then 0 else 8) 0) ≡ false
 check_mild true = refl
 check_mild false = refl
 
+missing_open : (session : Session) (b : Bool) → StaysOpen session (if b then Some (record { session = session; reply = manager_missing }) else None)
+missing_open session true = (refl, refl)
+missing_open session false = tt
+
 access_open : (settings : Settings) (session : Session) (command : Command) (given : Given) → StaysOpen session (access_done settings session command given)
 access_open settings session Excsat given = (refl, refl)
 access_open settings session Accsec given =
@@ -172,6 +263,7 @@ access_open settings session Accrdb given =
     let rdbnam : Occurs = found_at Parameter RDBNAM given in
     either_open session (is_ours settings session.agreed.unicode rdbnam) (record { session = record session { stage = Opened }; reply = accrdbrm session.agreed.unicode })
     (record { session = session; reply = rdb_not_found (bytes_of rdbnam) }) (refl, refl) (refl, refl)
+access_open settings session Syncctl given = missing_open session (session.agreed.xa == 0)
 access_open settings session command given = tt
 
 refusal_mild : (settings : Settings) (unicode : Bool) (refusal : Refusal) → closes (worst (refusal_reply settings unicode refusal ∷ [])) ≡ false
@@ -224,15 +316,15 @@ module _ {A : Type 0} (asks : A → Call → core.Answer → A → Type 0) where
     by_found : (accepted : Accepted) → verdict s.session request objects ≡ Ok accepted → (o : Option Answer)
         → access_done settings s.session accepted.command accepted.given ≡ o → StaysOpen s.session o → IsFollowed asks p link s bytes next → TellsFailure bytes
     by_found accepted is (Some a) found stays f =
-        let otherwise : Plan = sql_plan settings s.session s.statements accepted.command accepted.given in
+        let otherwise : Plan = database_plan settings s.session s.statements accepted.command accepted.given in
         let at : p ≡ at_once s.statements a = ap (plan settings s.session s.statements) is ∙ ap (λ (x : Option Answer). at_once_or s.statements x otherwise) found in
         at_once_open a at stays f
     by_found accepted is None found stays f =
         let unicode : Bool = s.session.agreed.unicode in
-        let otherwise : Plan = sql_plan settings s.session s.statements accepted.command accepted.given in
+        let otherwise : Plan = database_plan settings s.session s.statements accepted.command accepted.given in
         let at : p ≡ otherwise = ap (plan settings s.session s.statements) is ∙ ap (λ (x : Option Answer). at_once_or s.statements x otherwise) found in
         let W : Plan → Type 0 = λ q. WasDone asks q.doing s.asked next.asked next.statements [] f.replies in
-        let d : Doing = sql_does.doing unicode (padded_in unicode settings.rdb) accepted.command accepted.given s.statements in
+        let d : Doing = doing unicode (padded_in unicode settings.rdb) accepted.command accepted.given s.statements in
         let mild : IsMild f.replies = replies_mild d s.asked next.asked next.statements f.replies (doing_mild unicode (padded_in unicode settings.rdb) accepted.command accepted.given s.statements) (subst W at f.done) in
         by_replies s.session (ap (λ (q : Plan). q.session) at) still_open f mild
 

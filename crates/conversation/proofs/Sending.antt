@@ -11,7 +11,7 @@ use Rattle.drda_commands.specs.Views.{accepted_of}
 use Rattle.exchanges.specs.declared.statements.Statements.{Statements}
 use Rattle.conversation.specs.declared.chain.Link.{Link}
 use Rattle.conversation.specs.declared.session.Session.{Session}
-use Rattle.conversation.specs.Exchange.{Answer, Plan, at_once, at_once_or, link_of, access_done, plan, plan_for, refused, sent, sql_plan}
+use Rattle.conversation.specs.Exchange.{Answer, Plan, at_once, at_once_or, link_of, access_done, plan, plan_for, refused, sent, database_plan}
 use Rattle.conversation.specs.Done.{Exchanges}
 use Rattle.conversation.specs.Settings.{Settings}
 use Rattle.conversation.specs.Standing.{Standing}
@@ -43,7 +43,7 @@ module _ {A : Type 0} (asks : A → Call → core.Answer → A → Type 0) where
       → OnOk r (Appends asks (plan settings s.session s.statements v) link s out (record { session = session; statements = statements; asked = s.asked }) out')
   access_once r settings s link accepted v a session statements out out' is found goes bytes kept =
       let here : plan settings s.session s.statements v ≡ at_once s.statements a =
-      ap (plan settings s.session s.statements) is ∙ ap (λ (f : Option Answer). at_once_or s.statements f (sql_plan settings s.session s.statements accepted.command accepted.given)) found in
+      ap (plan settings s.session s.statements) is ∙ ap (λ (f : Option Answer). at_once_or s.statements f (database_plan settings s.session s.statements accepted.command accepted.given)) found in
       once r s link a (plan settings s.session s.statements v) session statements out out' (sym here) goes bytes kept
 
   -- and of a refused command

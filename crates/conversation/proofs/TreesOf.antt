@@ -2,7 +2,7 @@
 use Rattle.std.proofs.Common.{◌≡◌, ◌⊎◌, ℕ, Bool, true, false, List, [], ◌∷◌, ◌++◌, Option, Some, None, Ok, Err, Result, refl, sym, ap, ◌∙◌, inl, inr, if◌then◌else◌, append_assoc, append-nil}
 use Rattle.std.specs.Prelude.{codes}
 use Rattle.std.specs.Int.{w16, to_be_bytes}
-use Rattle.ddm_objects.specs.declared.code_point.TheConstants.{EXTNAM, SRVCLSNM, SRVNAM, SRVRLSLV, MGRLVLLS, SVRCOD, SYNERRCD, CODPNT, RDBNAM, SECMEC, SECCHKCD, CCSIDSBC, CCSIDMBC, PRDID, TYPDEFNAM, TYPDEFOVR, EXCSATRD, ACCSECRD, SECCHKRM, ACCRDBRM, SYNTAXRM, PRCCNVRM, RDBACCRM, RDBNACRM, RDBNFNRM, CMDNSPRM, VALNSPRM, RSCLMTRM}
+use Rattle.ddm_objects.specs.declared.code_point.TheConstants.{EXTNAM, SRVCLSNM, SRVNAM, SRVRLSLV, MGRLVLLS, SVRCOD, SYNERRCD, CODPNT, RDBNAM, SECMEC, SECCHKCD, CCSIDSBC, CCSIDMBC, PRDID, TYPDEFNAM, TYPDEFOVR, EXCSATRD, ACCSECRD, SECCHKRM, ACCRDBRM, SYNTAXRM, PRCCNVRM, RDBACCRM, RDBNACRM, RDBNFNRM, CMDNSPRM, VALNSPRM, RSCLMTRM, MGRDEPRM}
 use Rattle.ddm_objects.specs.Writing.{spelled, Trees, NoTrees, Scalar, Container, text_of}
 use Rattle.dss_frames.specs.Dss.{Dss}
 use Rattle.dss_frames.specs.declared.fault.FrameFault.{FrameFault}
@@ -15,17 +15,17 @@ use Rattle.drda_commands.specs.declared.stage.Mechanism.{Mechanism}
 use Rattle.conversation.specs.declared.session.Session.{Session}
 use Rattle.drda_commands.specs.declared.stage.Stage.TheVariants.{Opened}
 use Rattle.drda_commands.specs.declared.table.Command.{Command}
-use Rattle.drda_commands.specs.declared.table.Command.TheVariants.{Excsat, Accsec, Secchk, Accrdb}
+use Rattle.drda_commands.specs.declared.table.Command.TheVariants.{Excsat, Accsec, Secchk, Accrdb, Syncctl}
 use Rattle.drda_commands.specs.declared.table.ItemKind.TheVariants.{Parameter}
 use Rattle.conversation.specs.Done.{Exchanges, IsExcused, IsFollowed}
-use Rattle.conversation.specs.Exchange.{Answer, Plan, access_done, asked_for, at_once, at_once_or, bytes_of, check_code, excused, is_ours, link_of, mechanism_for, plan, plan_for, refused, sql_plan}
+use Rattle.conversation.specs.Exchange.{Answer, Plan, access_done, asked_for, at_once, at_once_or, bytes_of, check_code, excused, is_ours, link_of, mechanism_for, plan, plan_for, refused, database_plan}
 use Rattle.drda_commands.specs.Given.{Given, Occurs, value_of, found_at}
 use Rattle.drda_commands.specs.Judge.{Accepted}
 use Rattle.conversation.specs.Laws.{RepliesAreTrees, IsOneTree, asks_nothing, is_access, verdict}
 use Rattle.conversation.specs.Levels.{levels_for}
 use Rattle.drda_names.specs.Names.{in_encoding, padded_in}
 use Rattle.drda_commands.specs.Refusals.{synerrcd_for}
-use Rattle.conversation.specs.Replies.{message, refusal_reply, rdb_not_found, no_memory_reply, excsatrd, accsecrd, accsecrd_refused, mechanism_code, check_severity, accrdbrm, fault_bytes}
+use Rattle.conversation.specs.Replies.{manager_missing, message, refusal_reply, rdb_not_found, no_memory_reply, excsatrd, accsecrd, accsecrd_refused, mechanism_code, check_severity, accrdbrm, fault_bytes}
 use Rattle.conversation.specs.Settings.{Settings}
 use Rattle.conversation.specs.Standing.{Standing}
 use Rattle.core_calls.specs.Call.{Call}
@@ -119,6 +119,10 @@ abbrev HasTree : Command → Option Answer → Type 0
 HasTree command None = is_access command ≡ false
 HasTree command (Some a) = IsTree a.reply
 
+missing_tree : (session : Session) (b : Bool) → HasTree Syncctl (if b then Some (record { session = session; reply = manager_missing }) else None)
+missing_tree session true = message_tree MGRDEPRM 8 [] NoTrees refl
+missing_tree session false = refl
+
 done_tree : (settings : Settings) (session : Session) (command : Command) (given : Given) → HasTree command (access_done settings session command given)
 done_tree settings session Excsat given = excsatrd_tree (value_of (found_at Parameter MGRLVLLS given))
 done_tree settings session Accsec given =
@@ -133,6 +137,7 @@ done_tree settings session Accrdb given =
     let rdbnam : Occurs = found_at Parameter RDBNAM given in
     either_tree (is_ours settings session.agreed.unicode rdbnam) (record { session = record session { stage = Opened }; reply = accrdbrm session.agreed.unicode })
     (record { session = session; reply = rdb_not_found (bytes_of rdbnam) }) (accrdbrm_tree session.agreed.unicode) (not_found_tree (bytes_of rdbnam))
+done_tree settings session Syncctl given = missing_tree session (session.agreed.xa == 0)
 done_tree settings session command given = refl
 
 -- ---- what is sent
@@ -166,7 +171,7 @@ module _ {A : Type 0} (asks : A → Call → core.Answer → A → Type 0) where
     by_found : (accepted : Accepted) → verdict s.session request objects ≡ Ok accepted → is_access accepted.command ≡ true → (o : Option Answer)
         → access_done settings s.session accepted.command accepted.given ≡ o → HasTree accepted.command o → IsFollowed asks p (link_of request objects) s bytes next → IsSent bytes
     by_found accepted is access (Some a) found tree f =
-        let otherwise : Plan = sql_plan settings s.session s.statements accepted.command accepted.given in
+        let otherwise : Plan = database_plan settings s.session s.statements accepted.command accepted.given in
         let at : p ≡ at_once s.statements a = ap (plan settings s.session s.statements) is ∙ ap (λ (x : Option Answer). at_once_or s.statements x otherwise) found in
         at_once_tree a at tree f
     by_found accepted is access None found tree f = let clash : true ≡ false = sym access ∙ tree in absurd (cc clash)

@@ -6,7 +6,7 @@ use Rattle.dss_frames.specs.Writing.{written}
 use Rattle.ddm_objects.specs.declared.code_point.TheConstants.{MGRLVLLS, SECMEC, RDBNAM, USRID, PASSWORD}
 use Rattle.drda_commands.specs.declared.refusal.Refusal.{Refusal}
 use Rattle.drda_commands.specs.declared.table.Command.{Command}
-use Rattle.drda_commands.specs.declared.table.Command.TheVariants.{Excsat, Accsec, Secchk, Accrdb}
+use Rattle.drda_commands.specs.declared.table.Command.TheVariants.{Excsat, Accsec, Secchk, Accrdb, Syncctl}
 use Rattle.drda_commands.specs.declared.table.ItemKind.TheVariants.{Parameter}
 use Rattle.drda_commands.specs.declared.stage.Stage.{Stage}
 use Rattle.drda_commands.specs.declared.stage.Stage.TheVariants.{Fresh, Known, Asked, Checked, Opened}
@@ -23,10 +23,9 @@ use Rattle.exchanges.specs.Reply.{Reply}
 use Rattle.exchanges.specs.Doing.{Doing, answered, finished}
 use Rattle.exchanges.specs.declared.statements.Statements.{Statements}
 use Rattle.sqlam_replies.specs.Message.{error, permanent_damage}
-use Rattle.sql_exchange.specs.Commands.{doing}
-use Rattle.conversation.specs.Served.{unserved}
+use Rattle.database_commands.specs.Commands.{doing}
 use Rattle.conversation.specs.Settings.{Settings}
-use Rattle.conversation.specs.Replies.{refusal_reply, rdb_not_found, no_memory_reply, excsatrd, accsecrd, accsecrd_refused, secchkrm, accrdbrm}
+use Rattle.conversation.specs.Replies.{refusal_reply, rdb_not_found, manager_missing, no_memory_reply, excsatrd, accsecrd, accsecrd_refused, secchkrm, accrdbrm}
 
 -- at its beginning
 abbrev pub fresh : Session
@@ -126,13 +125,20 @@ accrdb_done settings session rdbnam =
     if is_ours settings session.agreed.unicode rdbnam then record { session = record session { stage = Opened }; reply = accrdbrm session.agreed.unicode }
     else record { session = session; reply = rdb_not_found (bytes_of rdbnam) }
 
--- the commands that come before those of SQL; of the others none is answered here
+-- ---- SYNCCTL
+
+-- it needs the agreement on a level of XAMGR
+abbrev pub unless_agreed : Session → Option Answer
+unless_agreed session = if session.agreed.xa == 0 then Some (record { session = session; reply = manager_missing }) else None
+
+-- what is answered without the database: the commands that open it, and what it can't be asked
 abbrev pub access_done : Settings → Session → Command → Given → Option Answer
 access_done settings session Excsat given = Some (excsat_done session (value_of (found_at Parameter MGRLVLLS given)))
 access_done settings session Accsec given = Some (accsec_done settings session (found_at Parameter SECMEC given) (found_at Parameter RDBNAM given))
 access_done settings session Secchk given =
     Some (checked_with session (check_code settings session (found_at Parameter SECMEC given) (found_at Parameter USRID given) (found_at Parameter PASSWORD given)))
 access_done settings session Accrdb given = Some (accrdb_done settings session (found_at Parameter RDBNAM given))
+access_done settings session Syncctl given = unless_agreed session
 access_done settings session command given = None
 
 -- ---- what a command is to do
@@ -150,9 +156,9 @@ abbrev pub at_once_or : Statements → Option Answer → Plan → Plan
 at_once_or k (Some answer) otherwise = at_once k answer
 at_once_or k None otherwise = otherwise
 
--- an SQL command leaves what is remembered
-abbrev pub sql_plan : Settings → Session → Statements → Command → Given → Plan
-sql_plan settings session k command given =
+-- a command on the database leaves what is remembered
+abbrev pub database_plan : Settings → Session → Statements → Command → Given → Plan
+database_plan settings session k command given =
     record { session = session; doing = doing session.agreed.unicode (padded_in session.agreed.unicode settings.rdb) command given k }
 
 -- and so does a refused one
@@ -160,11 +166,11 @@ abbrev pub refused : Settings → Session → Refusal → Answer
 refused settings session refusal = record { session = session; reply = refusal_reply settings session.agreed.unicode refusal }
 
 abbrev pub plan : Settings → Session → Statements → Result Accepted Refusal → Plan
-plan settings session k (Ok accepted) = at_once_or k (access_done settings session accepted.command accepted.given) (sql_plan settings session k accepted.command accepted.given)
+plan settings session k (Ok accepted) = at_once_or k (access_done settings session accepted.command accepted.given) (database_plan settings session k accepted.command accepted.given)
 plan settings session k (Err refusal) = at_once k (refused settings session refusal)
 
 abbrev pub plan_for : Settings → Session → Statements → Dss → List Dss → Plan
-plan_for settings session k request objects = plan settings session k (judged unserved session.stage session.agreed.unicode request.contents (contents_of objects))
+plan_for settings session k request objects = plan settings session k (judged [] session.stage session.agreed.unicode request.contents (contents_of objects))
 
 -- ---- chains
 

@@ -1,7 +1,6 @@
 pub mod Settings
 pub mod Levels
 pub mod Replies
-pub mod Served
 pub mod Exchange
 pub mod Closing
 pub mod Held

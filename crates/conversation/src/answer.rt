@@ -8,7 +8,7 @@ ghost use Rattle.conversation.specs.Views.{answer_of};
 
 use crate::access::{accrdb, accsec, check_code, checked};
 use crate::levels::agreed_by;
-use crate::reply::{write_excsatrd, write_refusal};
+use crate::reply::{write_excsatrd, write_manager_missing, write_refusal};
 use crate::session::{Agreed, Session};
 use crate::settings::Settings;
 use ddm_objects::code_point;
@@ -57,8 +57,23 @@ fn excsat(session: Session, asked: Option<&[u8]>, text: &mut Vec<u8>) -> Result<
     })
 }
 
-/// A command that comes before those of SQL, with the text of its answer in place of what `text` was; none
-/// of any other.
+// MGRDEPRM for a SYNCCTL, where no level of XAMGR is agreed on.
+fn unless_agreed(session: Session, text: &mut Vec<u8>) -> Result<Option<Answer>, AllocError>
+    ensures { IfOk result (λ a. option_map (λ x. answer_of x text.new.items) a ≡ spec.unless_agreed session) }
+{
+    if session.agreed.xa != 0 {
+        return Ok(None);
+    }
+    write_manager_missing(text)?;
+    Ok(Some(Answer {
+        session,
+        kind: ReplyKind::Message,
+        severity: 8,
+    }))
+}
+
+/// What is answered without the database, with the text of the answer in place of what `text` was: the
+/// commands that open it, and a SYNCCTL without an agreement on XAMGR. None of any other command.
 pub(crate) fn access(
     settings: &Settings,
     session: Session,
@@ -89,6 +104,7 @@ pub(crate) fn access(
             let rdb = given.found(ItemKind::Parameter, code_point::RDBNAM);
             Ok(Some(accrdb(settings, session, rdb, text)?))
         }
+        Command::Syncctl => unless_agreed(session, text),
         _ => Ok(None),
     }
 }

@@ -1,8 +1,9 @@
 //! One command of a conversation.
 
-ghost use Rattle.std.specs.Prelude.{◌≡◌, ◌≤◌, ◌++◌, ◌∷◌, [], OnErr, OnOk, length};
+ghost use Rattle.std.specs.Prelude.{◌≡◌, ◌≤◌, ◌++◌, ◌∷◌, [], IfOk, OnErr, OnOk, length};
 ghost use Rattle.dss_frames.specs.Group.{command_of};
 ghost use Rattle.dss_frames.specs.Writing.{written};
+ghost use Rattle.drda_commands.specs.Needs.{Needs};
 ghost use Rattle.drda_commands.specs.Views.{given_of};
 ghost use Rattle.drda_names.specs.Names.{padded_in};
 ghost use Rattle.conversation.specs.Exchange as spec;
@@ -14,21 +15,12 @@ use crate::chain::{Link, append_replies, behind, format_before, link_of, worst};
 use crate::session::Session;
 use crate::settings::Settings;
 use crate::state::State;
-use ddm_objects::code_point;
+use database_commands::{do_command as do_on_database, most_length};
 use drda_commands::{Accepted, Refusal, judge};
 use drda_names::push_padded;
 use dss_frames::{Format, Group, write_dss};
 use exchanges::{Ask, ReplyKind};
-use sql_exchange::{MAX_REPLIES_LENGTH, do_command as do_sql};
 use std::alloc::{AllocError, Global};
-
-// The commands of the profile that are not served yet.
-const UNSERVED: [u16; 4] = [
-    code_point::SYNCCTL,
-    code_point::CLSQRY,
-    code_point::CNTQRY,
-    code_point::OPNQRY,
-];
 
 /// What became of a command.
 #[derive(Clone, Copy)]
@@ -98,8 +90,8 @@ fn write_database_name(
     push_padded(text, unicode, settings.rdb())
 }
 
-// Does an SQL command and appends its replies; of another command nothing. Out of memory nothing is asked,
-// and nothing appended. The memory that its replies take is there before anything is asked.
+// Does a command on the database and appends its replies. Out of memory nothing is asked, and nothing
+// appended. The memory that its replies take is there before anything is asked.
 fn run<A: Ask>(
     alloc: Global,
     settings: &Settings,
@@ -109,15 +101,16 @@ fn run<A: Ask>(
     asker: &mut A,
     out: &mut Vec<u8>,
 ) -> Result<(), AllocError>
-    ensures ok { OnOk result (Appends A.asks (spec.sql_plan settings.now state.old.session state.old.statements accepted.entry.command (given_of accepted.entry.given)) link (standing_of state.old asker.old) out.old.items (standing_of state.new asker.new) out.new.items) }
+    requires brings { Needs accepted.command (given_of accepted.given) }
+    ensures ok { OnOk result (Appends A.asks (spec.database_plan settings.now state.old.session state.old.statements accepted.entry.command (given_of accepted.entry.given)) link (standing_of state.old asker.old) out.old.items (standing_of state.new asker.new) out.new.items) }
     ensures standing { OnErr result (standing_of state.new asker.new ≡ standing_of state.old asker.old) }
     ensures out { OnErr result (out.new.items ≡ out.old.items) }
 {
     let unicode = state.session.agreed.unicode;
     write_database_name(settings, unicode, &mut state.text)?;
     state.replies.clear();
-    out.reserve(MAX_REPLIES_LENGTH)?;
-    do_sql(
+    out.reserve(most_length(&accepted, &state.statements))?;
+    do_on_database(
         alloc,
         accepted,
         &state.text,
@@ -161,6 +154,7 @@ fn answer<A: Ask>(
     asker: &mut A,
     out: &mut Vec<u8>,
 ) -> Result<(), AllocError>
+    requires brings { IfOk verdict (λ a. Needs a.command (given_of a.given)) }
     ensures ok { OnOk result (Appends A.asks (spec.plan settings.now state.old.session state.old.statements (verdict_of verdict.entry)) link (standing_of state.old asker.old) out.old.items (standing_of state.new asker.new) out.new.items) }
     ensures standing { OnErr result (standing_of state.new asker.new ≡ standing_of state.old asker.old) }
     ensures out { OnErr result (out.new.items ≡ out.old.items) }
@@ -197,7 +191,7 @@ pub(crate) fn do_command<A: Ask>(
         return Exchanged::Done;
     }
     let unicode = session.agreed.unicode;
-    let verdict = judge(&UNSERVED, session.stage, unicode, request.contents, objects);
+    let verdict = judge(&[], session.stage, unicode, request.contents, objects);
     match answer(alloc, settings, state, verdict, link, asker, out) {
         Ok(()) => Exchanged::Done,
         Err(AllocError) => {
