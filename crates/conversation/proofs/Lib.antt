@@ -1,5 +1,1 @@
-pub mod Closed
 mod Entries
-mod Chains
-mod Checks
-mod TreesOf
