@@ -1,8 +1,12 @@
 -- What the types of the code show.
-use Rattle.std.specs.Prelude.{◌≡◌, ℕ, List, ◌++◌}
+use Rattle.std.specs.Prelude.{◌≡◌, ℕ, List, ◌++◌, Result, Ok, Err}
 use Rattle.dss_frames.specs.Dss.{Dss}
 use Rattle.core_calls.specs.Call.{Call}
 use Rattle.core_calls.specs.Answer as core
+use Rattle.drda_commands.specs.declared.judging.Accepted as rust_accepted
+use Rattle.drda_commands.specs.declared.refusal.Refusal.{Refusal}
+use Rattle.drda_commands.specs.Judge.{Accepted}
+use Rattle.drda_commands.specs.Views.{accepted_of}
 use Rattle.exchanges.specs.Kind.{dss_type_of}
 use Rattle.conversation.specs.declared.answer.Answer as rust_answer
 use Rattle.conversation.specs.declared.chain.Link.{Link}
@@ -17,6 +21,11 @@ use Rattle.conversation.specs.Standing.{Standing}
 -- an answer with its text
 abbrev pub answer_of : rust_answer.Answer → List ℕ → Answer
 answer_of answer text = record { session = answer.session; reply = record { dss_type = dss_type_of answer.kind; severity = answer.severity; text = text } }
+
+-- what the judge says
+abbrev pub verdict_of : Result rust_accepted.Accepted Refusal → Result Accepted Refusal
+verdict_of (Ok accepted) = Ok (accepted_of accepted)
+verdict_of (Err refusal) = Err refusal
 
 abbrev pub standing_of : {A : Type 0} → State → A → Standing A
 standing_of state asked = record { session = state.session; statements = state.statements; asked = asked }

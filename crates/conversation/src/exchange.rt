@@ -1,13 +1,13 @@
 //! One command of a conversation.
 
-ghost use Rattle.std.specs.Prelude.{◌≡◌, ◌≤◌, ◌++◌, ◌∷◌, [], IfOk, Ok, OnErr, OnOk, length};
+ghost use Rattle.std.specs.Prelude.{◌≡◌, ◌≤◌, ◌++◌, ◌∷◌, [], OnErr, OnOk, length};
 ghost use Rattle.dss_frames.specs.Group.{command_of};
 ghost use Rattle.dss_frames.specs.Writing.{written};
-ghost use Rattle.drda_commands.specs.Views.{accepted_of, given_of};
+ghost use Rattle.drda_commands.specs.Views.{given_of};
 ghost use Rattle.drda_names.specs.Names.{padded_in};
 ghost use Rattle.conversation.specs.Exchange as spec;
 ghost use Rattle.conversation.specs.Replies.{no_memory_reply};
-ghost use Rattle.conversation.specs.Views.{answer_of, standing_of, Appends, Turns};
+ghost use Rattle.conversation.specs.Views.{answer_of, standing_of, verdict_of, Appends, Turns};
 
 use crate::answer::{Answer, access, refused};
 use crate::chain::{Link, append_replies, behind, format_before, link_of, worst};
@@ -151,20 +151,24 @@ fn refuse(
     send_one(state, answer, link, out)
 }
 
-// Does a command that is not refused. Out of memory nothing is asked, and nothing appended.
+// Does a command of which the judge says this. Out of memory nothing is asked, and nothing appended.
 fn answer<A: Ask>(
     alloc: Global,
     settings: &Settings,
     state: &mut State,
-    accepted: Accepted<'_>,
+    verdict: Result<Accepted<'_>, Refusal>,
     link: Link,
     asker: &mut A,
     out: &mut Vec<u8>,
 ) -> Result<(), AllocError>
-    ensures ok { OnOk result (Appends A.asks (spec.plan settings.now state.old.session state.old.statements (Ok (accepted_of accepted.entry))) link (standing_of state.old asker.old) out.old.items (standing_of state.new asker.new) out.new.items) }
+    ensures ok { OnOk result (Appends A.asks (spec.plan settings.now state.old.session state.old.statements (verdict_of verdict.entry)) link (standing_of state.old asker.old) out.old.items (standing_of state.new asker.new) out.new.items) }
     ensures standing { OnErr result (standing_of state.new asker.new ≡ standing_of state.old asker.old) }
     ensures out { OnErr result (out.new.items ≡ out.old.items) }
 {
+    let accepted = match verdict {
+        Ok(accepted) => accepted,
+        Err(refusal) => return refuse(settings, state, refusal, link, out),
+    };
     match access(settings, state.session, accepted, &mut state.text)? {
         Some(answer) => send_one(state, answer, link, out),
         None => run(alloc, settings, state, accepted, link, asker, out),
@@ -193,11 +197,8 @@ pub(crate) fn do_command<A: Ask>(
         return Exchanged::Done;
     }
     let unicode = session.agreed.unicode;
-    let answered = match judge(&UNSERVED, session.stage, unicode, request.contents, objects) {
-        Ok(accepted) => answer(alloc, settings, state, accepted, link, asker, out),
-        Err(refusal) => refuse(settings, state, refusal, link, out),
-    };
-    match answered {
+    let verdict = judge(&UNSERVED, session.stage, unicode, request.contents, objects);
+    match answer(alloc, settings, state, verdict, link, asker, out) {
         Ok(()) => Exchanged::Done,
         Err(AllocError) => {
             state.session = behind(session, link, 8);
