@@ -1,5 +1,3 @@
-pub mod Closed
 mod Entries
-mod Chains
-mod Checks
-mod TreesOf
+mod Names
+mod Sending

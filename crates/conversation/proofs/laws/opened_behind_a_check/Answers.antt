@@ -1,5 +1,0 @@
-use Rattle.conversation.proofs.Checks.{opened_behind}
-use Rattle.conversation.proofs.laws.opened_behind_a_check.Goals as goal
-
-pub returns : goal.returns
-returns c = opened_behind

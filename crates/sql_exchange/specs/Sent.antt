@@ -1,0 +1,11 @@
+-- Behind EXCSQLSTT: what is read of a descriptor and a row, or that memory was wanting.
+use Rattle.std.specs.Prelude.{◌≡◌, List, Option, None, Some, Result, Ok, Err}
+use Rattle.row_values.specs.Value.{Value}
+use Rattle.fdoca.specs.declared.fault.DescriptorFault.{DescriptorFault}
+use Rattle.fdoca.specs.declared.fault.DescriptorFault.TheVariants.{Malformed, TooManyFields, NoMemory}
+
+abbrev pub GivesValues : Option (List Value) → Result (List Value) DescriptorFault → Type 0
+GivesValues found (Ok values) = found ≡ Some values
+GivesValues found (Err Malformed) = found ≡ None
+GivesValues found (Err TooManyFields) = found ≡ None
+GivesValues found (Err NoMemory) = Unit {0}
