@@ -103,6 +103,7 @@ impl RowsLeft {
         ensures rows { IsTrue D.is_modelled → AreRead cache.old (D.life disk.old).seen → OnOk result (Settles (D.life disk.old).seen self.old self.new) }
         ensures settled { OnOk result (IsSettled self.new) }
         ensures end { self.new.at + 8192 * self.new.pages ≡ self.old.at + 8192 * self.old.pages }
+        ensures forward { self.old.at ≤ self.new.at }
         ensures weight { self.new.pages * 2 ^ 64 + length self.new.rows ≤ self.old.pages * 2 ^ 64 + length self.old.rows }
         ensures kept { IsTrue D.is_modelled → AreRead cache.old (D.life disk.old).seen → AreRead cache.new (D.life disk.new).seen }
         ensures stays { Stays (D.life disk.old) (D.life disk.new) }

@@ -118,6 +118,7 @@ impl<'a> RowCursor<'a> {
         ensures gives { (left : Rows) → IsTrue D.is_modelled → AreRead cache.old (D.life disk.old).seen → IsLeft (K.key_of keys.now) (D.life disk.old).seen self.old left
             → IfOk result (λ row. GivesFirst (K.key_of keys.now) (D.life disk.old).seen left row self.new) }
         ensures end { self.new.base.at + 8192 * self.new.base.pages ≡ self.old.base.at + 8192 * self.old.base.pages }
+        ensures forward { self.old.base.at ≤ self.new.base.at }
         ensures fewer { IfOk result (λ row. FallsAt row self.old self.new) }
         ensures kept { IsTrue D.is_modelled → AreRead cache.old (D.life disk.old).seen → AreRead cache.new (D.life disk.new).seen }
         ensures stays { Stays (D.life disk.old) (D.life disk.new) }

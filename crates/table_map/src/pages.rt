@@ -1,5 +1,5 @@
 //! The pages of a table.
-ghost use Rattle.std.specs.Prelude.{◌≡◌, ◌+◌, ◌*◌, ◌^◌, ◌<◌, ◌≤◌, ℕ, List, [], IsTrue, IfOk, length};
+ghost use Rattle.std.specs.Prelude.{◌≡◌, ◌+◌, ◌*◌, ◌^◌, ◌<◌, ◌≤◌, ℕ, List, [], IsTrue, IfOk, length, map};
 ghost use Rattle.drda_words.specs.Place.{part};
 ghost use Rattle.drda_disk.specs.Disk.{Stays};
 ghost use Rattle.row_pages.specs.Page.{IsPage};
@@ -74,6 +74,15 @@ fn row_in_page<K: RowKeys, D: Disk>(
 }
 
 impl TablePages {
+    /// Pages that lie from an offset on, one behind another, by the key of each one's first row. Takes no
+    /// memory.
+    pub fn new(at: usize, first_keys: Vec<Vec<u8>>) -> TablePages
+        requires { at + 8192 * length first_keys.items ≤ 2 ^ 40 }
+        ensures { result ≡ record { at = at; keys = map (λ key. key.items) first_keys.items } }
+    {
+        TablePages { at, first_keys }
+    }
+
     /// The rows of all pages, none of which is read yet.
     pub(crate) fn rows_left(&self, alloc: Global) -> RowsLeft
         ensures { result ≡ record { at = self.now.at; pages = length self.now.keys; rows = [] } }

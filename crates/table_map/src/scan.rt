@@ -35,6 +35,7 @@ impl TableMap {
         ensures left { (key_of : List ℕ → List ℕ) (pages : List (List (List ℕ))) (file : List ℕ) → IsStored key_of self.now.places pages file
             → IsLeft key_of file result (rows_of_table key_of self.now pages) }
         ensures end { result.base.at + 8192 * result.base.pages ≡ self.now.places.at + 8192 * length self.now.places.keys }
+        ensures begins { result.base.at ≡ self.now.places.at }
     {
         RowCursor {
             base: self.pages.rows_left(alloc),

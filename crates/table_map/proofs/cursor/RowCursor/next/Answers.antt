@@ -30,6 +30,7 @@ loop-self-preserved g c =
       faults = c.in_ok-settle.ensures.cause ∙ inv.faults;
       kept = λ honest read. c.settle.ensures.kept honest (inv.kept honest read);
       end = omega (arith, c.step.ensures.at, c.step.ensures.pages, c.settle.ensures.end, inv.end);
+      forward = omega (arith, c.step.ensures.at, c.settle.ensures.forward, inv.forward);
       fewer = omega (arith, falls, c.settle.ensures.weight, inv.fewer);
       left = λ left honest read held.
           let reads = subst (λ (f : List ℕ). Settles f c.loop-self.self.base c.settle.new.self) inv.stays.same (c.in_ok-settle.ensures.rows honest (inv.kept honest read)) in

@@ -12,6 +12,7 @@ invariant-loop-self g l = record {
   faults : (g.D.Disk.life l.disk).faults ≡ (g.D.Disk.life l.fn.disk).faults;
   kept : IsTrue g.D.Disk.is_modelled → AreRead l.fn.cache (g.D.Disk.life l.fn.disk).seen → AreRead l.cache (g.D.Disk.life l.disk).seen;
   end : l.self.base.at + 8192 * l.self.base.pages ≡ l.fn.self.base.at + 8192 * l.fn.self.base.pages;
+  forward : l.fn.self.base.at ≤ l.self.base.at;
   fewer : weight l.self ≤ weight l.fn.self;
   left : (left : Rows) → IsTrue g.D.Disk.is_modelled → AreRead l.fn.cache (g.D.Disk.life l.fn.disk).seen → IsLeft (g.K.RowKeys.key_of l.keys) (g.D.Disk.life l.fn.disk).seen l.fn.self left
       → IsLeft (g.K.RowKeys.key_of l.keys) (g.D.Disk.life l.fn.disk).seen l.self left;

@@ -1,0 +1,3 @@
+pub mod Durable
+pub mod Laws
+pub mod Replay

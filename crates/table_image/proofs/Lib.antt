@@ -1,0 +1,4 @@
+mod Adding
+mod Filling
+mod Writing
+mod MergedRows

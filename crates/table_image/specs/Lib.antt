@@ -1,0 +1,5 @@
+pub mod Errors
+pub mod Adding
+pub mod Laying
+pub mod Stored
+pub mod Writing

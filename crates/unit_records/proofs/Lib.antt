@@ -1,0 +1,4 @@
+pub mod Listing
+pub mod Parts
+pub mod Bodies
+pub mod Lengths

@@ -1,0 +1,4 @@
+pub mod Fronts
+pub mod Records
+pub mod Laws
+pub mod Read

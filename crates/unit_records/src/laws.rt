@@ -1,0 +1,22 @@
+//! Laws of the bytes of records. The functions do nothing: their contracts are the laws.
+
+ghost use Rattle.unit_records.specs.Laws.{OneReading, PartsStandOnce, WrittenIsRead};
+
+use tables::laws::changes_have_their_bytes;
+
+/// A body is one record at most of its kind, and what can be written is read from its bytes.
+pub fn records_have_one_reading()
+    ensures once { OneReading }
+    ensures written { WrittenIsRead }
+{
+    parts_stand_once();
+}
+
+/// A text begins with one XID at most, and with one list of claims or of changes.
+pub(crate) fn parts_stand_once()
+    ensures { PartsStandOnce }
+{
+    changes_have_their_bytes();
+    unit_locks::one_reading();
+    xa_calls::one_reading();
+}

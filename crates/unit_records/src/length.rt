@@ -1,0 +1,94 @@
+//! How many bytes the bodies of records have.
+
+ghost use Rattle.std.specs.Prelude.{◌≡◌, ◌-◌, ◌^◌, ◌≤◌, Some, min, length, map};
+ghost use Rattle.std.specs.List.{AllByRecursion, flat_map};
+ghost use Rattle.tables.specs.Change.{change_bytes};
+ghost use Rattle.tables.specs.ChangeView.{change_of};
+ghost use Rattle.unit_locks.specs.Claim.{IsClaim, claim_bytes};
+ghost use Rattle.xa_calls.specs.Xid.{IsXid, xid_in};
+ghost use Rattle.xa_manager.specs.declared.due.Outcome.{Outcome as OutcomeIs};
+ghost use Rattle.unit_records.specs.Records.{committed, decided, prepared, record_bytes};
+
+use tables::Change;
+use unit_locks::Claim;
+use xa_calls::Xid;
+
+/// The bytes of a number of changes or claims.
+const COUNT_BYTES: usize = 4;
+
+/// The byte that says how a branch was decided.
+const OUTCOME_BYTES: usize = 1;
+
+/// The length of the body of a commit with these changes, up to 2^64 - 1.
+pub fn commit_length(changes: &[Change]) -> usize
+    ensures { result ≡ min (length (record_bytes (committed (map change_of changes.now)))) (2 ^ 64 - 1) }
+{
+    COUNT_BYTES.saturating_add(changes_length(changes))
+}
+
+/// The length of the body of a prepare with these changes and claims, up to 2^64 - 1.
+pub fn prepare_length(xid: &Xid, changes: &[Change], claims: &[Claim]) -> usize
+    ensures length { result ≡ min (length (record_bytes (prepared xid.now (map change_of changes.now) claims.now))) (2 ^ 64 - 1) }
+    ensures named { IsXid xid.now }
+    ensures claims { AllByRecursion IsClaim claims.now }
+{
+    (xid_bytes(xid).len() + 2 * COUNT_BYTES)
+        .saturating_add(claims_length(claims))
+        .saturating_add(changes_length(changes))
+}
+
+/// The length of the body of a decision, whichever it is: 14 to 141.
+pub fn decide_length(xid: &Xid) -> usize
+    ensures length { (outcome : OutcomeIs) → result ≡ length (record_bytes (decided xid.now outcome)) }
+    ensures short { result ≤ 141 }
+    ensures named { IsXid xid.now }
+{
+    xid_bytes(xid).len() + OUTCOME_BYTES
+}
+
+/// The bytes that write an XID.
+pub(crate) fn xid_bytes(xid: &Xid) -> &[u8]
+    ensures bytes { result.now ≡ xid.now }
+    ensures named { IsXid xid.now }
+    ensures short { length xid.now ≤ 140 }
+{
+    let bytes = xid.as_bytes();
+    names_a_branch(bytes);
+    bytes
+}
+
+// Does nothing: the bytes of an XID are one by their parts.
+fn names_a_branch(bytes: &[u8])
+    requires { xid_in bytes.now ≡ Some bytes.now }
+    ensures named { IsXid bytes.now }
+    ensures short { length bytes.now ≤ 140 }
+{
+    xa_calls::one_reading();
+}
+
+// The bytes of the changes without their number.
+fn changes_length(changes: &[Change]) -> usize
+    ensures { result ≡ min (length (flat_map change_bytes (map change_of changes.now))) (2 ^ 64 - 1) }
+{
+    let mut sum: usize = 0;
+    let mut left = changes;
+    while let [change, rest @ ..] = left {
+        sum = sum.saturating_add(change.length());
+        left = rest;
+    }
+    sum
+}
+
+// The bytes of the claims without their number.
+fn claims_length(claims: &[Claim]) -> usize
+    ensures length { result ≡ min (length (flat_map claim_bytes claims.now)) (2 ^ 64 - 1) }
+    ensures good { AllByRecursion IsClaim claims.now }
+{
+    let mut sum: usize = 0;
+    let mut left = claims;
+    while let [claim, rest @ ..] = left {
+        sum = sum.saturating_add(claim.to_bytes().len());
+        left = rest;
+    }
+    sum
+}

@@ -1,0 +1,92 @@
+//! Reading the bodies of records.
+
+ghost use Rattle.std.specs.Prelude.{◌≡◌, ◌≢◌, [], ◌∷◌, IfNone, IfSome};
+ghost use Rattle.unit_journal.specs.declared.kind.Kind.TheVariants as kind;
+ghost use Rattle.xa_manager.specs.declared.due.Outcome.{Outcome as OutcomeIs};
+ghost use Rattle.unit_records.specs.Records.{outcome_byte};
+ghost use Rattle.unit_records.specs.Read.{Reads};
+
+use crate::fronts::{take_changes, take_claims, take_xid};
+use crate::laws::parts_stand_once;
+use crate::record::UnitRecord;
+use row_values::ReadError;
+use std::alloc::Global;
+use xa_manager::Outcome;
+
+/// The byte of a decision to commit.
+const COMMIT: u8 = 1;
+
+/// The byte of a decision to roll back.
+const ROLL_BACK: u8 = 2;
+
+/// Nothing but changes.
+pub(crate) fn read_commit(alloc: Global, body: &[u8]) -> Result<UnitRecord, ReadError>
+    ensures { Reads kind.Commit body.now result }
+{
+    parts_stand_once();
+    let (changes, rest) = match take_changes(alloc, body) {
+        Ok(taken) => taken,
+        Err(error) => return Err(error),
+    };
+    if !rest.is_empty() {
+        return Err(ReadError::Damaged);
+    }
+    Ok(UnitRecord::Commit { changes })
+}
+
+/// An XID, claims and changes.
+pub(crate) fn read_prepare(alloc: Global, body: &[u8]) -> Result<UnitRecord, ReadError>
+    ensures { Reads kind.Prepare body.now result }
+{
+    parts_stand_once();
+    let (xid, rest) = match take_xid(body) {
+        Ok(taken) => taken,
+        Err(error) => return Err(error),
+    };
+    let (claims, rest) = match take_claims(alloc, rest) {
+        Ok(taken) => taken,
+        Err(error) => return Err(error),
+    };
+    let (changes, rest) = match take_changes(alloc, rest) {
+        Ok(taken) => taken,
+        Err(error) => return Err(error),
+    };
+    if !rest.is_empty() {
+        return Err(ReadError::Damaged);
+    }
+    Ok(UnitRecord::Prepare {
+        xid,
+        changes,
+        claims,
+    })
+}
+
+/// An XID and a byte.
+pub(crate) fn read_decide(body: &[u8]) -> Result<UnitRecord, ReadError>
+    ensures { Reads kind.Decide body.now result }
+{
+    parts_stand_once();
+    let (xid, rest) = match take_xid(body) {
+        Ok(taken) => taken,
+        Err(error) => return Err(error),
+    };
+    match outcome_in(rest) {
+        Some(outcome) => Ok(UnitRecord::Decide { xid, outcome }),
+        None => Err(ReadError::Damaged),
+    }
+}
+
+// The outcome whose byte stands here, and nothing else.
+fn outcome_in(bytes: &[u8]) -> Option<Outcome>
+    ensures some { IfSome result (λ outcome. bytes.now ≡ outcome_byte outcome ∷ []) }
+    ensures none { IfNone result ((outcome : OutcomeIs) → bytes.now ≢ outcome_byte outcome ∷ []) }
+{
+    let [code] = bytes else {
+        return None;
+    };
+    match *code {
+        COMMIT => Some(Outcome::Commit),
+        ROLL_BACK => Some(Outcome::RollBack),
+        _ => None,
+    }
+}

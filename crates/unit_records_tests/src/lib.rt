@@ -1,0 +1,5 @@
+//! Tests of unit_records.
+#![tactic(auto)]
+
+#[cfg(test)]
+mod bodies;
