@@ -1,11 +1,13 @@
 //! The core's one step.
 
-ghost use Rattle.std.specs.Prelude.{◌≡◌, map};
+ghost use Rattle.std.specs.Prelude.{◌≡◌, false, map};
 ghost use Rattle.row_values.specs.Value.{value_of};
+ghost use Rattle.core_calls.specs.Answer.{answer_of};
 ghost use Rattle.core_calls.specs.Call.{call_of, describe, query, run};
+ghost use Rattle.core_steps.specs.Asked.{unfit};
 ghost use Rattle.rdb_core.specs.Question.{call_asking, question_of};
 ghost use Rattle.rdb_core.specs.State.{state_of};
-ghost use Rattle.rdb_core.specs.Steps.{Steps};
+ghost use Rattle.rdb_core.specs.Steps.{IsTaken, Steps, is_fit, may_want_any};
 
 use crate::asking::ask_unit;
 use crate::engine::Core;
@@ -16,10 +18,12 @@ use sql_text::Statement;
 use std::alloc::AllocError;
 
 impl Core {
-    /// What a conversation asks is answered, and the core takes one step. Out of memory, the core is as
-    /// before; a rollback and the loss of a conversation take no memory.
+    /// What a conversation asks is answered, and the core takes one step. Out of memory it answers
+    /// `NoMemory` and is as before. A rollback and the loss of a conversation take no memory, nor do a
+    /// commit of a unit without changes and a statement that is refused before it claims anything.
     pub fn step(&mut self, conversation: u64, call: &CoreCall<'_, '_>) -> Answer
         ensures step { Steps (state_of self.old) conversation (call_of call.now) result (state_of self.new) }
+        ensures sure { may_want_any (state_of self.old) conversation (call_of call.now) ≡ false → IsTaken (state_of self.old) conversation (call_of call.now) (answer_of result) (state_of self.new) }
     {
         match call {
             CoreCall::Run {
@@ -49,6 +53,7 @@ impl Core {
         parameters: &'a [Value<'t>],
     ) -> Answer
         ensures step { Steps (state_of self.old) conversation (run statement.now (map value_of parameters.now)) result (state_of self.new) }
+        ensures sure { may_want_any (state_of self.old) conversation (run statement.now (map value_of parameters.now)) ≡ false → IsTaken (state_of self.old) conversation (run statement.now (map value_of parameters.now)) (answer_of result) (state_of self.new) }
     {
         self.ask(
             conversation,
@@ -69,6 +74,7 @@ impl Core {
         parameters: &'a [Value<'t>],
     ) -> Answer
         ensures step { Steps (state_of self.old) conversation (query statement.now (map value_of parameters.now)) result (state_of self.new) }
+        ensures sure { may_want_any (state_of self.old) conversation (query statement.now (map value_of parameters.now)) ≡ false → IsTaken (state_of self.old) conversation (query statement.now (map value_of parameters.now)) (answer_of result) (state_of self.new) }
     {
         self.ask(
             conversation,
@@ -83,13 +89,15 @@ impl Core {
     /// (DDM DSCSQLSTT). A CREATE TABLE is not. Where its table is there nothing is claimed.
     pub fn describe(&mut self, conversation: u64, statement: &Statement<'_>, side: Side) -> Answer
         ensures step { Steps (state_of self.old) conversation (describe statement.now side) result (state_of self.new) }
+        ensures sure { may_want_any (state_of self.old) conversation (describe statement.now side) ≡ false → IsTaken (state_of self.old) conversation (describe statement.now side) (answer_of result) (state_of self.new) }
     {
         self.ask(conversation, Question::Describing { statement, side })
     }
 
     // A question of the unit that a conversation works in.
     fn ask(&mut self, conversation: u64, question: Question<'_, '_>) -> Answer
-        ensures { Steps (state_of self.old) conversation (call_asking (question_of question.entry)) result (state_of self.new) }
+        ensures step { Steps (state_of self.old) conversation (call_asking (question_of question.entry)) result (state_of self.new) }
+        ensures sure { is_fit (unfit (question_of question.entry)) ≡ false → IsTaken (state_of self.old) conversation (call_asking (question_of question.entry)) (answer_of result) (state_of self.new) }
     {
         match unfit(question) {
             Some(fault) => return Answer::Refused(Refusal::Unfit(fault)),
