@@ -72,6 +72,14 @@ end_call RolledBack = roll_back
 abbrev pub with_told : Bool → Statements → Statements
 with_told is_told k = record k { is_change_told = is_told }
 
+-- the text is prepared where the reply is no refusal
+abbrev pub with_prepared : Statements → Preparation → Statements
+with_prepared k p = record k { sections = after_prepare p k.sections }
+
+-- else every section is as it was, and none waits for a text
+abbrev pub unprepared : Statements → Statements
+unprepared k = record k { sections = record k.sections { reserved = None } }
+
 -- the database's name as it is answered
 module _ (rdb : List ℕ) where
   -- ---- RDBCMM and RDBRLLBCK
@@ -139,14 +147,6 @@ module _ (unicode : Bool) where
   describing k prepared s which =
       if is_create s.command then finished (answered prepared (description unicode [] ∷ []))
       else asking (describe s which) (after_describe k prepared)
-
-  -- the text is prepared where the reply is no refusal
-  abbrev pub with_prepared : Statements → Preparation → Statements
-  with_prepared k p = record k { sections = after_prepare p k.sections }
-
-  -- else every section is as it was, and none waits for a text
-  abbrev pub unprepared : Statements → Statements
-  unprepared k = record k { sections = record k.sections { reserved = None } }
 
   -- a text is prepared, and described too where that is wanted
   abbrev pub prepared_as : Statements → Preparation → Option Side → Statement → Doing
