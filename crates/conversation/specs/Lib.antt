@@ -5,6 +5,8 @@ pub mod Served
 pub mod Exchange
 pub mod Closing
 pub mod Held
+pub mod Standing
+pub mod Done
 pub mod Views
 pub mod Steps
 pub mod Laws

@@ -14,13 +14,8 @@ use Rattle.drda_commands.specs.declared.stage.Mechanism.TheVariants.{UserAndPass
 use Rattle.conversation.specs.Levels.{levels_for}
 use Rattle.drda_commands.specs.Refusals.{synerrcd_for}
 use Rattle.drda_names.specs.Names.{in_encoding, padded_in}
+use Rattle.exchanges.specs.Reply.{Reply}
 use Rattle.conversation.specs.Settings.{Settings}
-
--- a reply: its DSS type (2 a reply message, 3 an object), its severity (0 where it has none), its text
-pub record Reply : Type 0 where
-  pub dss_type : ℕ
-  pub severity : ℕ
-  pub text : List ℕ
 
 -- a reply message: its severity is the first parameter
 abbrev pub message : ℕ → ℕ → List ℕ → Reply

@@ -1,5 +1,6 @@
 pub mod Reply
 pub mod Kind
+pub mod Sizes
 pub mod Text
 pub mod Statements
 pub mod Doing

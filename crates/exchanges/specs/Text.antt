@@ -1,8 +1,9 @@
 -- The text of a statement, the words of its attributes and the values of its markers, as a command brings
 -- them (DRDA V5 volume 3: SQLSTT, SQLATTR, SQLDTA).
-use Rattle.std.specs.Prelude.{◌-◌, ◌++◌, ◌==◌, ◌||◌, ◌&&◌, nat_le, nat_lt, ℕ, Bool, false, if◌then◌else◌, codes, bytes_eq, List, [], ◌∷◌, length, Option, Some, None, Result, Ok, Err}
+use Rattle.std.specs.Prelude.{◌==◌, ◌||◌, ◌&&◌, nat_le, nat_lt, ℕ, Bool, true, false, if◌then◌else◌, codes, List, [], ◌∷◌, length, Option, Some, None, Result, Ok, Err}
+use Rattle.std.specs.List.{filter, slice_split}
 use Rattle.std.specs.Option.{option_and_then, option_map_or}
-use Rattle.std.specs.Str.{is_utf8}
+use Rattle.std.specs.Str.{is_utf8, str_eq_ignore_ascii_case}
 use Rattle.sql_text.specs.Text.{reading}
 use Rattle.sql_text.specs.declared.error.SqlError.{SqlError}
 use Rattle.sql_text.specs.declared.error.SqlError.TheVariants as error
@@ -37,27 +38,23 @@ statement_of text =
 abbrev pub is_blank : ℕ → Bool
 is_blank b = (b == 0x20) || (b == 0x09) || (b == 0x0A) || (b == 0x0D)
 
-abbrev pub capital : ℕ → ℕ
-capital b = if nat_le 0x61 b && nat_le b 0x7A then b - 0x20 else b
+abbrev pub is_word : List ℕ → Bool
+is_word [] = false
+is_word (b ∷ bytes) = true
 
-abbrev pub with_word : List ℕ → List (List ℕ) → List (List ℕ)
-with_word [] words = words
-with_word (b ∷ bytes) words = (b ∷ bytes) ∷ words
-
--- what stands between blanks; word is what was read of the word under way
-abbrev pub words_behind : List ℕ → List ℕ → List (List ℕ)
-words_behind word [] = with_word word []
-words_behind word (b ∷ bytes) = if is_blank b then with_word word (words_behind [] bytes) else words_behind (word ++ capital b ∷ []) bytes
-
--- the words of a text, in capitals
+-- what stands between blanks
 abbrev pub words : List ℕ → List (List ℕ)
-words text = words_behind [] text
+words text = filter is_word (slice_split is_blank text)
 
--- WITH stands there, and HOLD next behind it
+abbrev pub begins_with_hold : List (List ℕ) → Bool
+begins_with_hold [] = false
+begins_with_hold (word ∷ others) = str_eq_ignore_ascii_case word (codes "HOLD")
+
+-- WITH stands there, and HOLD next behind it, in letters of either case
 abbrev pub has_with_hold : List (List ℕ) → Bool
 has_with_hold [] = false
-has_with_hold (a ∷ []) = false
-has_with_hold (a ∷ b ∷ rest) = (bytes_eq a (codes "WITH") && bytes_eq b (codes "HOLD")) || has_with_hold (b ∷ rest)
+has_with_hold (word ∷ others) =
+    (str_eq_ignore_ascii_case word (codes "WITH") && begins_with_hold others) || has_with_hold others
 
 -- whether attributes, where some come, ask for cursors that are held over a commit
 abbrev pub is_held_by : Option (List ℕ) → Bool

@@ -4,19 +4,26 @@ ghost use Rattle.std.specs.Prelude.{◌≡◌, ◌≤◌, ◌<◌, ◌+◌, ◌+
 ghost use Rattle.core_calls.specs.Answer.{answer_of};
 ghost use Rattle.exchanges.specs.NotDone as spec;
 ghost use Rattle.exchanges.specs.Reply.{fault_card};
+ghost use Rattle.exchanges.specs.Sizes.{written_lengths};
+ghost use Rattle.dss_frames.specs.Writing.{first_size, written_length};
 
 use crate::reply::Reply;
+use crate::sizes::replies_add_up;
 use core_calls::{Answer, SqlFault};
 use sqlam_replies::{MAX_MESSAGE_LENGTH, ReplyMessage, SQLCARD_LENGTH};
 use std::alloc::{AllocError, Global};
 
-/// Adds a reply, for which there is room.
+/// Adds a reply, for which there is room; so the bytes of replies grow by those of its DSS, which are six
+/// more than those of its text where that goes in one segment.
 pub fn add(replies: &mut Vec<Reply>, reply: Reply)
     requires { vec_len replies.old + 1 ≤ vec_capacity replies.old }
     ensures items { replies.new.items ≡ replies.old.items ++ reply ∷ [] }
     ensures capacity { vec_capacity replies.old ≤ vec_capacity replies.new }
     ensures len { vec_len replies.new ≡ vec_len replies.old + 1 }
+    ensures size { written_lengths replies.new.items ≡ written_lengths replies.old.items + written_length (length reply.text) }
+    ensures short { length reply.text ≤ first_size → written_lengths replies.new.items ≡ written_lengths replies.old.items + (6 + length reply.text) }
 {
+    replies_add_up();
     match replies.push(reply) {
         Ok(()) => {}
         Err(_) => unreachable!(),
@@ -43,6 +50,7 @@ pub fn not_done(answer: Answer, text: Vec<u8>) -> Reply
 pub fn refuse(alloc: Global, fault: SqlFault, replies: &mut Vec<Reply>) -> Result<(), AllocError>
     ensures ok { OnOk result (replies.new.items ≡ replies.old.items ++ fault_card fault ∷ []) }
     ensures err { OnErr result (replies.new.items ≡ replies.old.items) }
+    ensures size { OnOk result (written_lengths replies.new.items ≤ written_lengths replies.old.items + (6 + SQLCARD_LENGTH)) }
 {
     let text: Vec<u8> = Vec::with_capacity(alloc, SQLCARD_LENGTH)?;
     replies.reserve(1)?;

@@ -5,11 +5,13 @@
 mod answer;
 mod ask;
 mod reply;
+mod sizes;
 mod statements;
 mod text;
 
 pub use answer::{add, not_done, refuse};
 pub use ask::Ask;
 pub use reply::{Reply, ReplyKind};
+pub use sizes::replies_add_up;
 pub use statements::Statements;
 pub use text::statement_of;

@@ -93,6 +93,7 @@ impl Reply {
         ensures reply { result ≡ spec.null_card }
         ensures short { length result.text ≤ SQLCARD_LENGTH }
     {
+        texts_have_lengths();
         let mut text = text;
         match null_sqlcard(&mut text) {
             Ok(()) => Reply {

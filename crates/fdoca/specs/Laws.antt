@@ -1,5 +1,5 @@
 -- The laws that tie the definitions to one another.
-use Rattle.std.specs.Prelude.{◌≡◌, ℕ, Bool, List, map, true}
+use Rattle.std.specs.Prelude.{◌≡◌, ℕ, Bool, List, map, true, Some}
 use Rattle.std.specs.List.{list_all}
 use Rattle.row_values.specs.Value.{Value}
 use Rattle.row_values.specs.Column.{Column}
@@ -8,6 +8,7 @@ use Rattle.row_values.specs.Row.{all_fit}
 use Rattle.fdoca.specs.declared.field.Field.{Field}
 use Rattle.fdoca.specs.Descriptor.{Describes, IsTriplet}
 use Rattle.fdoca.specs.Row.{AreParameters, AreValues, IsRow}
+use Rattle.fdoca.specs.Reading.{descriptor_at, row_at}
 use Rattle.fdoca.specs.Writing.{answer_fields, field_for, sent_values}
 
 -- a text describes one list of fields at most
@@ -21,6 +22,20 @@ IsRowOnce = (fields : List Field) (bytes : List ℕ) (values others : List Value
 -- so a descriptor and a row have one reading at most
 abbrev pub AreParametersOnce : Type 0
 AreParametersOnce = (descriptor row : List ℕ) (values others : List Value) → AreParameters descriptor row values → AreParameters descriptor row others → values ≡ others
+
+-- the reader of a descriptor finds the fields that it describes, and no others
+abbrev pub DescriptorIsFound : Type 0
+DescriptorIsFound = (bytes : List ℕ) (fields : List Field) → Describes bytes fields → descriptor_at bytes ≡ Some fields
+
+abbrev pub FoundIsDescriptor : Type 0
+FoundIsDescriptor = (bytes : List ℕ) (fields : List Field) → descriptor_at bytes ≡ Some fields → Describes bytes fields
+
+-- the reader of a row finds its values, and no others
+abbrev pub RowIsFound : Type 0
+RowIsFound = (fields : List Field) (bytes : List ℕ) (values : List Value) → IsRow fields bytes values → row_at fields bytes ≡ Some values
+
+abbrev pub FoundIsRow : Type 0
+FoundIsRow = (fields : List Field) (bytes : List ℕ) (values : List Value) → row_at fields bytes ≡ Some values → IsRow fields bytes values
 
 -- the lengths of the columns are such as columns have
 abbrev pub have_limits : List Column → Bool
