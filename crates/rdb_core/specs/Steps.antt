@@ -6,12 +6,14 @@ use Rattle.xa_calls.specs.declared.request.Request.TheVariants as request
 use Rattle.xa_manager.specs.declared.due.Action.{Action}
 use Rattle.xa_manager.specs.declared.due.Action.TheVariants as action
 use Rattle.xa_manager.specs.declared.due.Outcome.TheVariants as decided
+use Rattle.core_calls.specs.Call as call
 use Rattle.core_calls.specs.Call.{Call}
 use Rattle.core_calls.specs.Answer.{Answer, answer_of}
 use Rattle.core_calls.specs.declared.answer.Answer.{Answer as CodeAnswer}
 use Rattle.core_calls.specs.declared.answer.Answer.TheVariants as code
-use Rattle.core_steps.specs.Units.{Held, Owner, global, has_any, set_unit, unit_of, without}
-use Rattle.core_steps.specs.Asked.{Clashes, Done, Outcome, TooMany, Unfit}
+use Rattle.core_steps.specs.Units.{Held, Owner, global, has_any, local, set_unit, unit_of, without}
+use Rattle.core_calls.specs.declared.sql_fault.SqlFault.{SqlFault}
+use Rattle.core_steps.specs.Asked.{Clashes, Done, Outcome, TooMany, Unfit, describing, querying, running, unfit}
 use Rattle.core_steps.specs.Step.{CoreState, answer, due_in, step_state}
 
 -- the answer and the state behind it are those of the step
@@ -40,6 +42,21 @@ abbrev pub may_want_memory : CoreState → ℕ → Option Request → Bool
 may_want_memory s conversation (Some (request.Branch verb xid)) = wants_memory (due_in s.branches s.base conversation verb xid).action (unit_of (global xid) s.base.units).changes
 may_want_memory s conversation (Some request.Recover) = true
 may_want_memory s conversation None = false
+
+-- what is refused before it claims anything wants no memory
+abbrev pub is_fit : Option SqlFault → Bool
+is_fit None = true
+is_fit (Some fault) = false
+
+-- a call may want memory: a question that is fit, a commit where the unit has changes
+abbrev pub may_want_any : CoreState → ℕ → Call → Bool
+may_want_any s conversation (call.run t params) = is_fit (unfit (running t params))
+may_want_any s conversation (call.query t params) = is_fit (unfit (querying t params))
+may_want_any s conversation (call.describe t side) = is_fit (unfit (describing t side))
+may_want_any s conversation call.commit = has_any (unit_of (local conversation) s.base.units).changes
+may_want_any s conversation call.roll_back = false
+may_want_any s conversation (call.xa r) = may_want_memory s conversation r
+may_want_any s conversation call.lost = false
 
 -- the units that are left once those of these XIDs have ended
 abbrev pub left_units : List (List ℕ) → List Held → List Held

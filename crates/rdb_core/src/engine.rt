@@ -22,9 +22,9 @@ use xa_manager::{Work, XaTable};
 /// Contracts see its state by `state_of`, and each call is a step of that state.
 #[derive(Drop)]
 pub struct Core {
-    alloc: Global,
-    store: TableStore,
-    units: Units,
+    pub(crate) alloc: Global,
+    pub(crate) store: TableStore,
+    pub(crate) units: Units,
     branches: XaTable,
 }
 

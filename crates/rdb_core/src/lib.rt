@@ -1,8 +1,11 @@
 //! The core of the database: one step for each call of a conversation.
 #![tactic(auto)]
 
+mod asking;
 mod ending;
 mod engine;
-pub mod question;
+mod question;
+mod reply;
+mod step;
 
 pub use engine::Core;
