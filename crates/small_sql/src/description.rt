@@ -4,30 +4,16 @@ ghost use Rattle.std.specs.Prelude.{◌≡◌, IfErr, IfOk, IsTrue, false};
 ghost use Rattle.tables.specs.Tables.{schema_of};
 ghost use Rattle.sql_meaning.specs.Describe.{described};
 ghost use Rattle.sql_meaning.specs.Scope as scope;
-ghost use Rattle.sql_meaning.specs.Values.{name_of};
 ghost use Rattle.small_sql.specs.Described.{described_as};
 
 use crate::read::no_memory;
+use crate::subject::table_schema;
 use core_calls::{Side, SqlFault};
 use sql_descriptions::Description;
-use sql_lex::Part;
-use sql_literals::{StatementError, table_name};
+use sql_literals::StatementError;
 use sql_text::Command;
 use std::alloc::Global;
 use tables::TableView;
-
-// The table that a statement is about.
-fn table<'a, 'b>(command: &'a Command<'b>) -> &'a Part<'b>
-    ensures { name_of result.now ≡ scope.table_name command.now }
-{
-    match command {
-        Command::Create { table, .. } => table,
-        Command::Insert { table, .. } => table,
-        Command::Update { table, .. } => table,
-        Command::Delete { table, .. } => table,
-        Command::Select { table, .. } => table,
-    }
-}
 
 /// What one side of a statement is described by, or why it is refused: no table has its name, then the
 /// first selected name that is no column, then the first fault of its WHERE, in which a marker has
@@ -44,10 +30,7 @@ pub fn describe<V: TableView>(
     ensures store { V.store view.new ≡ V.store view.old }
     ensures beneath { V.beneath view.new ≡ V.beneath view.old }
 {
-    let Ok(table) = table_name(alloc, table(command).bytes()) else {
-        return Err(no_memory::<V>());
-    };
-    let schema = view.schema(alloc, table.as_str())?;
+    let schema = table_schema(alloc, command, view)?;
     match sql_descriptions::describe(alloc, side, command, schema) {
         Ok(description) => Ok(Ok(description)),
         Err(StatementError::Fault(fault)) => Ok(Err(fault)),

@@ -12,6 +12,7 @@ mod query;
 mod read;
 mod removal;
 mod statement;
+mod subject;
 
 pub use answer::Answer;
 pub use claim::claims;
@@ -22,3 +23,4 @@ pub use modification::update;
 pub use query::select;
 pub use removal::delete;
 pub use statement::run;
+pub use subject::table_schema;

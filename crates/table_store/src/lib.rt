@@ -7,5 +7,7 @@ mod store;
 mod stored_table;
 mod table_map;
 mod tree;
+mod view;
 
 pub use store::TableStore;
+pub use view::StoreView;

@@ -52,7 +52,7 @@ fn agree(
     alloc: Global,
     name: &str,
 ) -> Result<bool, Fail> {
-    let here = store.scan(alloc, name)?;
+    let here = store.view().scan(alloc, name)?;
     let there = plain.scan(alloc, name)?;
     if here.len() != there.len() {
         return Ok(false);
@@ -81,7 +81,7 @@ fn are_same_after(
             return Ok(false);
         }
     }
-    Ok(store.tables()? == plain.tables()?)
+    Ok(store.view().tables()? == plain.tables()?)
 }
 
 #[test]
@@ -95,6 +95,6 @@ fn the_plain_tables_show_the_same(rt: HostRuntime) -> Result<(), Fail> {
             "after change {i}"
         );
     }
-    assert_eq!(rt; store.tables()?, 3);
+    assert_eq!(rt; store.view().tables()?, 3);
     Ok(())
 }

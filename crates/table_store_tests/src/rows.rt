@@ -32,7 +32,7 @@ const ORDERS: [[&str; 3]; 4] = [
 ];
 
 fn is_known(store: &mut TableStore, alloc: Global, name: &str) -> Result<bool, Fail> {
-    Ok(store.schema(alloc, name)?.is_some())
+    Ok(store.view().schema(alloc, name)?.is_some())
 }
 
 #[test]
@@ -45,7 +45,7 @@ fn tables_created_in_any_order_are_found(rt: HostRuntime) -> Result<(), Fail> {
             commit_one(&mut store, alloc, create(alloc, name, numbers(alloc)?)?)?;
             assert!(rt; is_known(&mut store, alloc, name)?);
         }
-        assert_eq!(rt; store.tables()?, 3);
+        assert_eq!(rt; store.view().tables()?, 3);
     }
     Ok(())
 }
@@ -77,7 +77,7 @@ fn stands_as(
     schema: &Schema,
     rows: &[&[Value<'_>]],
 ) -> Result<bool, Fail> {
-    let found = store.scan(alloc, "T")?;
+    let found = store.view().scan(alloc, "T")?;
     if found.len() != rows.len() {
         return Ok(false);
     }
@@ -183,7 +183,7 @@ fn two_rows(alloc: Global) -> Result<TableStore, Fail> {
 
 // Whether `T` has this row of a number, or none where none is given.
 fn has(store: &mut TableStore, alloc: Global, n: i64, v: Option<i64>) -> Result<bool, Fail> {
-    let found = store.get(
+    let found = store.view().get(
         alloc,
         "T",
         key(alloc, &numbers(alloc)?, &[Value::Number(n)])?.as_slice(),
@@ -202,8 +202,8 @@ fn a_list_creates_a_table_and_fills_it(rt: HostRuntime) -> Result<(), Fail> {
     for (n, v) in [(1, Some(10)), (2, Some(20)), (7, None)] {
         assert!(rt; has(&mut store, alloc, n, v)?);
     }
-    assert!(rt; store.get(alloc, "T", b"no key")?.is_none());
-    assert!(rt; store.scan(alloc, "U")?.is_empty());
+    assert!(rt; store.view().get(alloc, "T", b"no key")?.is_none());
+    assert!(rt; store.view().scan(alloc, "U")?.is_empty());
     Ok(())
 }
 
@@ -219,7 +219,7 @@ fn a_row_takes_the_place_of_the_one_of_its_key(rt: HostRuntime) -> Result<(), Fa
     for (n, v) in [(1, Some(10)), (2, Some(21))] {
         assert!(rt; has(&mut store, alloc, n, v)?);
     }
-    assert_eq!(rt; store.scan(alloc, "T")?.len(), 2);
+    assert_eq!(rt; store.view().scan(alloc, "T")?.len(), 2);
     Ok(())
 }
 
@@ -252,7 +252,7 @@ fn room_that_is_given_up_leaves_the_tables(rt: HostRuntime) -> Result<(), Fail> 
     assert!(rt; has(&mut store, alloc, 3, None)?);
     assert!(rt; !is_known(&mut store, alloc, "U")?);
     store.release();
-    assert_eq!(rt; store.tables()?, 1);
-    assert_eq!(rt; store.scan(alloc, "T")?.len(), 2);
+    assert_eq!(rt; store.view().tables()?, 1);
+    assert_eq!(rt; store.view().scan(alloc, "T")?.len(), 2);
     Ok(())
 }

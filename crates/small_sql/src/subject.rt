@@ -1,0 +1,49 @@
+//! The table that a statement is about.
+
+ghost use Rattle.std.specs.Prelude.{◌≡◌, IfErr, IfOk, IsTrue, false, option_map, true};
+ghost use Rattle.std.specs.Arc.{arc_value};
+ghost use Rattle.tables.specs.Tables.{schema_of};
+ghost use Rattle.tables.specs.View.{is_store};
+ghost use Rattle.sql_meaning.specs.Scope as scope;
+ghost use Rattle.sql_meaning.specs.Values.{name_of};
+
+use crate::read::no_memory;
+use row_values::Schema;
+use sql_lex::Part;
+use sql_literals::table_name;
+use sql_text::Command;
+use std::alloc::Global;
+use std::sync::Arc;
+use tables::TableView;
+
+// The name of the table, as the text has it.
+fn table<'a, 'b>(command: &'a Command<'b>) -> &'a Part<'b>
+    ensures { name_of result.now ≡ scope.table_name command.now }
+{
+    match command {
+        Command::Create { table, .. } => table,
+        Command::Insert { table, .. } => table,
+        Command::Update { table, .. } => table,
+        Command::Delete { table, .. } => table,
+        Command::Select { table, .. } => table,
+    }
+}
+
+/// The schema of the table that a statement is about, where there is one. It is shared with the view,
+/// which does not change.
+pub fn table_schema<V: TableView>(
+    alloc: Global,
+    command: &Command<'_>,
+    view: &mut V,
+) -> Result<Option<Arc<Schema, Global>>, V::Fault>
+    ensures found { IfOk result (λ schema. IsTrue V.is_told → option_map arc_value schema ≡ schema_of (V.store view.old) (scope.table_name command.now)) }
+    ensures good { IfOk result (λ _. IsTrue V.is_told → is_store (V.store view.old) ≡ true) }
+    ensures fault { IfErr result (λ fault. IsTrue V.is_told → V.tells_damage fault ≡ false) }
+    ensures store { V.store view.new ≡ V.store view.old }
+    ensures beneath { V.beneath view.new ≡ V.beneath view.old }
+{
+    let Ok(table) = table_name(alloc, table(command).bytes()) else {
+        return Err(no_memory::<V>());
+    };
+    view.schema(alloc, table.as_str())
+}
