@@ -12,7 +12,7 @@ use Rattle.sections.specs.Kept.{Section}
 use Rattle.sqlam_replies.specs.Sqldard.{are_described}
 use Rattle.sql_exchange.specs.Commands.{described_as, described_in}
 use Rattle.exchanges.specs.Reply.{parameter_column, parameter_columns}
-use Rattle.exchanges.specs.Statements.{Statements}
+use Rattle.exchanges.specs.declared.statements.Statements.{Statements}
 use Rattle.exchanges.specs.Text.{statement_of}
 
 -- a parameter has no name

@@ -1,18 +1,21 @@
-//! DSCSQLSTT.
+//! DSCSQLSTT, and what describes the statement of PRPSQLSTT.
 
-ghost use Rattle.std.specs.Prelude.{◌≡◌, ◌≤◌, ◌++◌, ◌∷◌, [], OnErr, OnOk, length, map, true, unwrap_or, vec_capacity};
+ghost use Rattle.std.specs.Prelude.{◌≡◌, ◌≤◌, ◌+◌, [], OnErr, OnOk, if◌then◌else◌, length, map, true, vec_capacity, vec_len};
 ghost use Rattle.row_values.specs.Column.{column_of};
-ghost use Rattle.drda_commands.specs.Values.{section_in};
 ghost use Rattle.drda_commands.specs.Views.{given_of};
 ghost use Rattle.sql_exchange.specs.Commands as commands;
 ghost use Rattle.exchanges.specs.Done.{WasDone};
 ghost use Rattle.exchanges.specs.Reply as spec;
+ghost use Rattle.exchanges.specs.Sizes.{written_lengths};
+ghost use Rattle.exchanges.specs.declared.statements.Statements as kept;
 ghost use Rattle.sections.specs.Cursors.{section_of};
 ghost use Rattle.exchanges.specs.Text.{statement_of};
 
+use crate::brought::{section_name, side_for};
+use crate::replying::{MAX_REPLIES_LENGTH, add_short};
 use core_calls::{Answer, CoreCall, MAX_PARAMETERS, ParameterType, Side, SqlFault};
-use drda_commands::{Accepted, DescribedSide};
-use exchanges::{Ask, Reply, Statements, add, not_done, refuse, statement_of};
+use drda_commands::Accepted;
+use exchanges::{Ask, Reply, Statements, not_done, refuse, statement_of};
 use row_values::Column;
 use sections::NotPrepared;
 use sql_literals::StatementError;
@@ -29,15 +32,6 @@ fn is_create(command: &Command<'_>) -> bool
         | Command::Update { .. }
         | Command::Delete { .. }
         | Command::Select { .. } => false,
-    }
-}
-
-fn side_for(side: DescribedSide) -> Side
-    ensures { result ≡ commands.side_for side }
-{
-    match side {
-        DescribedSide::Columns => Side::Output,
-        DescribedSide::Parameters => Side::Input,
     }
 }
 
@@ -68,8 +62,48 @@ fn parameter_columns(alloc: Global, types: &[ParameterType], columns: Vec<Column
     columns
 }
 
-// The columns or the parameters of a statement.
-fn describe_statement<A: Ask>(
+// Describes the columns or the parameters of a statement, by lists of no bytes and of no columns that have room
+// for any; whether it was described.
+pub(crate) fn describe_statement<A: Ask>(
+    alloc: Global,
+    statement: &Statement<'_>,
+    side: Side,
+    unicode: bool,
+    text: Vec<u8>,
+    columns: Vec<Column>,
+    asker: &mut A,
+    replies: &mut Vec<Reply>,
+) -> bool
+    requires text { text.items ≡ [] }
+    requires text_room { MAX_SQLDARD_LENGTH ≤ vec_capacity text }
+    requires columns { columns.items ≡ [] }
+    requires columns_room { MAX_PARAMETERS ≤ vec_capacity columns }
+    requires room { vec_len replies.old + 1 ≤ vec_capacity replies.old }
+    ensures done { (k prepared : kept.Statements) → WasDone A.asks (commands.describing unicode k prepared statement.now side) asker.old asker.new (if result then prepared else k) replies.old.items replies.new.items }
+    ensures size { written_lengths replies.new.items ≤ written_lengths replies.old.items + MAX_REPLIES_LENGTH }
+{
+    if is_create(&statement.command) {
+        add_short(replies, Reply::of_columns(text, unicode, &[]));
+        return true;
+    }
+    match asker.ask(&CoreCall::Describe { statement, side }) {
+        Answer::Output(selection) => {
+            add_short(replies, Reply::of_selection(text, unicode, &selection));
+            true
+        }
+        Answer::Input(types) => {
+            let columns = parameter_columns(alloc, types.as_slice(), columns);
+            add_short(replies, Reply::of_columns(text, unicode, &columns));
+            true
+        }
+        answer => {
+            add_short(replies, not_done(answer, text));
+            false
+        }
+    }
+}
+
+fn describe_prepared<A: Ask>(
     alloc: Global,
     statement: &Statement<'_>,
     side: Side,
@@ -79,26 +113,16 @@ fn describe_statement<A: Ask>(
     replies: &mut Vec<Reply>,
 ) -> Result<(), AllocError>
     ensures ok { OnOk result (WasDone A.asks (commands.describing unicode statements.now statements.now statement.now side) asker.old asker.new statements.now replies.old.items replies.new.items) }
+    ensures size { OnOk result (written_lengths replies.new.items ≤ written_lengths replies.old.items + MAX_REPLIES_LENGTH) }
     ensures asker { OnErr result (asker.new ≡ asker.old) }
     ensures replies { OnErr result (replies.new.items ≡ replies.old.items) }
 {
     let text: Vec<u8> = Vec::with_capacity(alloc, MAX_SQLDARD_LENGTH)?;
     let columns: Vec<Column> = Vec::with_capacity(alloc, MAX_PARAMETERS)?;
     replies.reserve(1)?;
-    if is_create(&statement.command) {
-        add(replies, Reply::of_columns(text, unicode, &[]));
-        return Ok(());
-    }
-    match asker.ask(&CoreCall::Describe { statement, side }) {
-        Answer::Output(selection) => {
-            add(replies, Reply::of_selection(text, unicode, &selection));
-        }
-        Answer::Input(types) => {
-            let columns = parameter_columns(alloc, types.as_slice(), columns);
-            add(replies, Reply::of_columns(text, unicode, &columns));
-        }
-        answer => add(replies, not_done(answer, text)),
-    }
+    describe_statement(
+        alloc, statement, side, unicode, text, columns, asker, replies,
+    );
     Ok(())
 }
 
@@ -112,12 +136,13 @@ fn describe_text<A: Ask>(
     replies: &mut Vec<Reply>,
 ) -> Result<(), AllocError>
     ensures ok { OnOk result (WasDone A.asks (commands.described_as unicode statements.now side (statement_of text.now)) asker.old asker.new statements.now replies.old.items replies.new.items) }
+    ensures size { OnOk result (written_lengths replies.new.items ≤ written_lengths replies.old.items + MAX_REPLIES_LENGTH) }
     ensures asker { OnErr result (asker.new ≡ asker.old) }
     ensures replies { OnErr result (replies.new.items ≡ replies.old.items) }
 {
     match statement_of(alloc, text) {
         Ok(statement) => {
-            describe_statement(alloc, &statement, side, unicode, statements, asker, replies)
+            describe_prepared(alloc, &statement, side, unicode, statements, asker, replies)
         }
         Err(StatementError::Fault(fault)) => refuse(alloc, fault, replies),
         Err(StatementError::NoMemory) => Err(AllocError),
@@ -134,6 +159,7 @@ fn describe_section<A: Ask>(
     replies: &mut Vec<Reply>,
 ) -> Result<(), AllocError>
     ensures ok { OnOk result (WasDone A.asks (commands.described_in unicode statements.now side (section_of name.now statements.now.sections)) asker.old asker.new statements.now replies.old.items replies.new.items) }
+    ensures size { OnOk result (written_lengths replies.new.items ≤ written_lengths replies.old.items + MAX_REPLIES_LENGTH) }
     ensures asker { OnErr result (asker.new ≡ asker.old) }
     ensures replies { OnErr result (replies.new.items ≡ replies.old.items) }
 {
@@ -151,16 +177,6 @@ fn describe_section<A: Ask>(
     }
 }
 
-// The name of the section that is meant, of which a command that is accepted has one.
-fn section_name<'a>(accepted: &Accepted<'a>) -> &'a [u8]
-    ensures { result.now ≡ unwrap_or (section_in (given_of accepted.now.given)) [] }
-{
-    match accepted.section() {
-        Some(name) => name,
-        None => &[],
-    }
-}
-
 /// Describes the statement of a section (DSCSQLSTT), its columns or its parameters: an SQLDARD, which has no
 /// columns for a CREATE TABLE; or the SQLCARD of why it was refused, -518 where the section has no statement.
 /// Names are answered as UTF-8 with `unicode`, else in code page 500. Out of memory, nothing is asked.
@@ -173,6 +189,7 @@ pub fn describe<A: Ask>(
     replies: &mut Vec<Reply>,
 ) -> Result<(), AllocError>
     ensures ok { OnOk result (WasDone A.asks (commands.describing_section unicode statements.now (given_of accepted.entry.given)) asker.old asker.new statements.now replies.old.items replies.new.items) }
+    ensures size { OnOk result (written_lengths replies.new.items ≤ written_lengths replies.old.items + MAX_REPLIES_LENGTH) }
     ensures asker { OnErr result (asker.new ≡ asker.old) }
     ensures replies { OnErr result (replies.new.items ≡ replies.old.items) }
 {

@@ -1,12 +1,14 @@
 //! RDBCMM and RDBRLLBCK.
 
-ghost use Rattle.std.specs.Prelude.{◌≡◌, ◌≤◌, ◌++◌, OnErr, OnOk, length};
+ghost use Rattle.std.specs.Prelude.{◌≡◌, ◌≤◌, ◌+◌, OnErr, OnOk, length};
 ghost use Rattle.core_calls.specs.Call.{call_of};
 ghost use Rattle.sql_exchange.specs.Commands as commands;
 ghost use Rattle.exchanges.specs.Done.{WasDone};
+ghost use Rattle.exchanges.specs.Sizes.{written_lengths};
 
+use crate::replying::{MAX_REPLIES_LENGTH, add_short};
 use core_calls::{Answer, CoreCall};
-use exchanges::{Ask, Reply, Statements, add, not_done};
+use exchanges::{Ask, Reply, Statements, not_done};
 use sqlam_replies::{
     MAX_MESSAGE_LENGTH, NULL_SQLCARD_LENGTH, ReplyMessage, UnitEnd, texts_have_lengths,
 };
@@ -43,6 +45,7 @@ pub fn end_unit<A: Ask>(
 ) -> Result<(), AllocError>
     requires { length rdb.now ≤ 791 }
     ensures ok { OnOk result (WasDone A.asks (commands.ending rdb.now end statements.old) asker.old asker.new statements.new replies.old.items replies.new.items) }
+    ensures size { OnOk result (written_lengths replies.new.items ≤ written_lengths replies.old.items + MAX_REPLIES_LENGTH) }
     ensures asker { OnErr result (asker.new ≡ asker.old) }
     ensures statements { OnErr result (statements.new ≡ statements.old) }
     ensures replies { OnErr result (replies.new.items ≡ replies.old.items) }
@@ -55,17 +58,17 @@ pub fn end_unit<A: Ask>(
     match answer {
         Answer::Done => {
             statements.end_unit(keeps_held(end));
-            add(
+            add_short(
                 replies,
                 Reply::of_message(first, ReplyMessage::UnitEnded(end)),
             );
-            add(replies, Reply::of_null_card(second));
+            add_short(replies, Reply::of_null_card(second));
         }
-        Answer::InGlobal => add(
+        Answer::InGlobal => add_short(
             replies,
             Reply::of_message(first, ReplyMessage::CommandViolation(rdb)),
         ),
-        answer => add(replies, not_done(answer, first)),
+        answer => add_short(replies, not_done(answer, first)),
     }
     Ok(())
 }

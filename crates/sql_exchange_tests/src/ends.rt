@@ -32,7 +32,7 @@ fn is_ended(
     script: Script,
     expected: &[Told],
 ) -> Result<bool, AllocError> {
-    let mut asker = Scripted { script, asked: 0 };
+    let mut asker = Scripted::new(alloc, script);
     let mut statements = Statements::new(alloc);
     let mut replies = Vec::new(alloc);
     end_unit(

@@ -2,8 +2,11 @@
 
 ghost use Rattle.std.specs.Prelude.{⊤};
 
-use core_calls::{Answer, CoreCall, Refusal, SqlFault};
+use core_calls::{Answer, CoreCall, ParameterTypes, Refusal, SqlFault};
+use ddm_objects::put;
 use exchanges::{Ask, Reply};
+use row_values::Value;
+use std::alloc::{AllocError, Global};
 
 /// An answer.
 #[derive(Clone, Copy)]
@@ -14,20 +17,63 @@ pub enum Script {
     NoMemory,
     Closed,
     Refused(SqlFault),
+    // No parameters.
+    Input,
 }
 
-/// Gives one answer, and counts how often it was asked.
+/// Gives one answer, counts how often it was asked, and notes the numbers that it was given as parameters, a
+/// digit each.
 #[derive(Drop)]
 pub struct Scripted {
-    pub script: Script,
+    alloc: Global,
+    script: Script,
     pub asked: u32,
+    pub seen: u64,
+}
+
+impl Scripted {
+    pub fn new(alloc: Global, script: Script) -> Scripted {
+        Scripted {
+            alloc,
+            script,
+            asked: 0,
+            seen: 0,
+        }
+    }
+}
+
+fn with_digits(seen: u64, parameters: &[Value<'_>]) -> u64 {
+    let mut seen = seen;
+    for value in parameters {
+        if let Value::Number(number) = value {
+            seen = seen
+                .wrapping_mul(10)
+                .wrapping_add(u64::from_ne_bytes(number.to_ne_bytes()));
+        }
+    }
+    seen
+}
+
+/// An object of texts, SQLSTT or SQLATTR, with this one.
+pub fn text_object(alloc: Global, code: u16, text: &[u8]) -> Result<Vec<u8>, AllocError> {
+    let mut texts = Vec::new(alloc);
+    let [_, _, _, _, l1, l2, l3, l4] = text.len().to_be_bytes();
+    texts.extend_from_slice(&[0x00, l1, l2, l3, l4])?;
+    texts.extend_from_slice(text)?;
+    texts.push(0xFF)?;
+    let mut object = Vec::new(alloc);
+    put(&mut object, code, &texts)?;
+    Ok(object)
 }
 
 impl Ask for Scripted {
     ghost asks = { λ _ _ _ _. ⊤ };
 
-    fn ask(&mut self, _call: &CoreCall<'_, '_>) -> Answer {
+    fn ask(&mut self, call: &CoreCall<'_, '_>) -> Answer {
         self.asked = self.asked.saturating_add(1);
+        if let CoreCall::Run { parameters, .. } = call {
+            self.seen = with_digits(self.seen, parameters);
+        }
         match self.script {
             Script::Count(count) => Answer::Count(count),
             Script::Done => Answer::Done,
@@ -35,6 +81,7 @@ impl Ask for Scripted {
             Script::NoMemory => Answer::NoMemory,
             Script::Closed => Answer::Closed,
             Script::Refused(fault) => Answer::Refused(Refusal::Unfit(fault)),
+            Script::Input => Answer::Input(ParameterTypes::new(Vec::new(self.alloc))),
         }
     }
 }

@@ -6,4 +6,6 @@ mod ends;
 #[cfg(test)]
 mod fixtures;
 #[cfg(test)]
+mod prepared;
+#[cfg(test)]
 mod texts;

@@ -1,6 +1,6 @@
 //! EXCSQLIMM.
 
-use crate::fixtures::{Script, Scripted, Told, are_told};
+use crate::fixtures::{Script, Scripted, Told, are_told, text_object};
 use core_calls::SqlFault;
 use ddm_objects::code_point::{RDBUPDRM, RSCLMTRM, SQLCARD};
 use ddm_objects::{code_point, put};
@@ -19,20 +19,13 @@ fn command(alloc: Global, text: &[u8]) -> Result<Vec<u8>, AllocError> {
     put(&mut request, code_point::EXCSQLIMM, &section)?;
     let mut bytes = Vec::new(alloc);
     write_dss(&mut bytes, Format { byte: 0x51 }, 1, &request)?;
-    write_dss(&mut bytes, Format { byte: 0x03 }, 1, &object(alloc, text)?)?;
+    write_dss(
+        &mut bytes,
+        Format { byte: 0x03 },
+        1,
+        &text_object(alloc, code_point::SQLSTT, text)?,
+    )?;
     Ok(bytes)
-}
-
-// SQLSTT with this text.
-fn object(alloc: Global, text: &[u8]) -> Result<Vec<u8>, AllocError> {
-    let mut texts = Vec::new(alloc);
-    let [_, _, _, _, l1, l2, l3, l4] = text.len().to_be_bytes();
-    texts.extend_from_slice(&[0x00, l1, l2, l3, l4])?;
-    texts.extend_from_slice(text)?;
-    texts.push(0xFF)?;
-    let mut object = Vec::new(alloc);
-    put(&mut object, code_point::SQLSTT, &texts)?;
-    Ok(object)
 }
 
 // Runs the statement; whether the command was accepted.
@@ -64,7 +57,7 @@ fn is_run_twice(
     expected: &[Told],
     asked: u32,
 ) -> Result<bool, AllocError> {
-    let mut asker = Scripted { script, asked: 0 };
+    let mut asker = Scripted::new(alloc, script);
     let mut statements = Statements::new(alloc);
     let mut replies = Vec::new(alloc);
     let first = run(alloc, text, &mut statements, &mut asker, &mut replies)?;
