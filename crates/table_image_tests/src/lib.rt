@@ -1,0 +1,7 @@
+//! Tests of table_image.
+#![tactic(auto)]
+
+#[cfg(test)]
+mod tables;
+#[cfg(test)]
+mod written;
