@@ -124,7 +124,7 @@ module _ {A : Type 0} (asks : A → Call → core.Answer → A → Type 0) where
     by_verdict : (v : Result Accepted Refusal) → verdict s.session request objects ≡ v → IsFollowed asks p (link_of request objects) s bytes next → ChecksTheUser s.session (request ∷ objects) bytes
     by_verdict (Ok accepted) is f =
         by_found accepted is (access_done settings s.session accepted.command accepted.given) refl
-        (done_unchecked settings s.session accepted.command accepted.given (accepted_due s.session.stage s.session.agreed.unicode request.contents (contents_of objects) accepted is) off) f
+        (done_unchecked settings s.session accepted.command accepted.given (accepted_due [] s.session.stage s.session.agreed.unicode request.contents (contents_of objects) accepted is) off) f
     by_verdict (Err refusal) is f =
         let at : p ≡ at_once s.statements (refused settings s.session refusal) = ap (plan settings s.session s.statements) is in
         stays f (ap (λ (q : Plan). q.session.stage) at)

@@ -1,5 +1,5 @@
 -- Only AGNPRMRM closes a conversation.
-use Rattle.std.proofs.Common.{◌≡◌, ◌⊎◌, ◌+◌, ◌&&◌, ◌||◌, ◌==◌, ℕ, Bool, true, false, not, max, List, [], ◌∷◌, Option, Some, None, Result, Ok, Err, if◌then◌else◌, refl, sym, ap, subst, ◌∙◌, inl, inr}
+use Rattle.std.proofs.Common.{◌≡◌, ◌⊎◌, ◌+◌, ◌&&◌, ◌||◌, ◌==◌, ℕ, Bool, true, false, not, max, List, [], ◌∷◌, ◌++◌, Option, Some, None, Result, Ok, Err, if◌then◌else◌, refl, sym, ap, subst, ◌∙◌, inl, inr}
 use Rattle.core_calls.specs.Call.{Call, describe}
 use Rattle.core_calls.specs.declared.sql_fault.SqlFault.TheVariants.{NotPrepared}
 use Rattle.core_calls.specs.Answer as core
@@ -21,7 +21,7 @@ use Rattle.drda_commands.specs.declared.refusal.Refusal.TheVariants.{Syntax, Out
 use Rattle.drda_commands.specs.declared.stage.Mechanism.{Mechanism}
 use Rattle.drda_commands.specs.declared.stage.Stage.TheVariants.{Opened}
 use Rattle.drda_commands.specs.declared.table.Command.{Command}
-use Rattle.drda_commands.specs.declared.table.Command.TheVariants.{Excsat, Accsec, Secchk, Accrdb, Excsqlimm, Prpsqlstt, Dscsqlstt, Excsqlstt, Rdbcmm, Rdbrllbck, Syncctl}
+use Rattle.drda_commands.specs.declared.table.Command.TheVariants.{Excsat, Accsec, Secchk, Accrdb, Excsqlimm, Prpsqlstt, Dscsqlstt, Excsqlstt, Opnqry, Cntqry, Clsqry, Rdbcmm, Rdbrllbck, Syncctl}
 use Rattle.drda_commands.specs.declared.table.ItemKind.TheVariants.{Parameter}
 use Rattle.drda_commands.specs.Given.{Given, Occurs, found_at}
 use Rattle.drda_commands.specs.Judge.{Accepted}
@@ -159,17 +159,17 @@ rows_mild : (r : Reply) → r.severity ≡ 0 → (is_last : Bool) → IsMild (r 
 rows_mild r zero true = inl (ap (λ (n : ℕ). closes (max n (worst (cursors_do.ending true)))) zero)
 rows_mild r zero false = inl (ap (λ (n : ℕ). closes (max n 0)) zero)
 
-opened_mild : (held : Bool) (n : ℕ) (l : RowList) (count : ℕ) (is_empty is_last : Bool)
-    → IsMild (query_opened held n ∷ rows_description l ∷ ((if is_empty then [] else some_rows l 0 count ∷ []) ++ cursors_do.ending is_last))
-opened_mild held n l count true true = inl refl
-opened_mild held n l count true false = inl refl
-opened_mild held n l count false true = inl refl
-opened_mild held n l count false false = inl refl
+opened_mild : (held : Bool) (n : ℕ) (l : RowList) (size : ℕ) (is_empty is_last : Bool)
+    → IsMild (query_opened held n ∷ rows_description l ∷ ((if is_empty then [] else some_rows l 0 size ∷ []) ++ cursors_do.ending is_last))
+opened_mild held n l size true true = inl refl
+opened_mild held n l size true false = inl refl
+opened_mild held n l size false true = inl refl
+opened_mild held n l size false false = inl refl
 
 after_query_mild : (rdb : List ℕ) (k : Statements) (name : List ℕ) (size : ℕ) (answer : core.Answer) → IsMild (cursors_do.after_query rdb k name size answer).replies
 after_query_mild rdb k name size (rows l) =
-    let count : ℕ = rows_in_block l 0 size in
-    opened_mild (cursors_do.is_held_in (section_of name k.sections)) (k.sections.openings + 1) l count (count == 0) (nat_le (length l.rows) count)
+    let number : ℕ = rows_in_block l 0 size in
+    opened_mild (cursors_do.is_held_in (section_of name k.sections)) (k.sections.openings + 1) l number (number == 0) (nat_le (length l.rows) number)
 after_query_mild rdb k name size (refused_call refusal) = inl refl
 after_query_mild rdb k name size answer = not_done_mild k answer
 
@@ -186,8 +186,8 @@ opening_mild rdb None k name size parameters = queried_mild rdb k name size (cur
 fetched_mild : (rdb : List ℕ) (k : Statements) (name : List ℕ) (size : Option ℕ) (cursor : Option Cursor) → IsMild (cursors_do.fetched_at rdb k name size cursor).replies
 fetched_mild rdb k name size None = inl refl
 fetched_mild rdb k name size (Some cursor) =
-    let count : ℕ = rows_in_block cursor.rows cursor.place (unwrap_or size cursor.block_size) in
-    rows_mild (some_rows cursor.rows cursor.place count) refl (ends_behind cursor count)
+    let number : ℕ = rows_in_block cursor.rows cursor.place (unwrap_or size cursor.block_size) in
+    rows_mild (some_rows cursor.rows cursor.place number) refl (ends_behind cursor number)
 
 closed_mild : (rdb : List ℕ) (k : Statements) (name : List ℕ) (cursor : Option Cursor) → IsMild (cursors_do.closed_at rdb k name cursor).replies
 closed_mild rdb k name None = inl refl

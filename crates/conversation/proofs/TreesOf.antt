@@ -1,5 +1,5 @@
 -- What is sent is one tree of objects.
-use Rattle.std.proofs.Common.{◌≡◌, ◌⊎◌, ℕ, Bool, true, false, List, [], ◌∷◌, ◌++◌, Option, Some, None, Ok, Err, Result, refl, sym, ap, ◌∙◌, inl, inr, if◌then◌else◌, append_assoc, append-nil}
+use Rattle.std.proofs.Common.{◌==◌, ◌≡◌, ◌⊎◌, ℕ, Bool, true, false, List, [], ◌∷◌, ◌++◌, Option, Some, None, Ok, Err, Result, refl, sym, ap, ◌∙◌, inl, inr, if◌then◌else◌, append_assoc, append-nil}
 use Rattle.std.specs.Prelude.{codes}
 use Rattle.std.specs.Int.{w16, to_be_bytes}
 use Rattle.ddm_objects.specs.declared.code_point.TheConstants.{EXTNAM, SRVCLSNM, SRVNAM, SRVRLSLV, MGRLVLLS, SVRCOD, SYNERRCD, CODPNT, RDBNAM, SECMEC, SECCHKCD, CCSIDSBC, CCSIDMBC, PRDID, TYPDEFNAM, TYPDEFOVR, EXCSATRD, ACCSECRD, SECCHKRM, ACCRDBRM, SYNTAXRM, PRCCNVRM, RDBACCRM, RDBNACRM, RDBNFNRM, CMDNSPRM, VALNSPRM, RSCLMTRM, MGRDEPRM}
