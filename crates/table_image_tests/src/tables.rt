@@ -46,7 +46,7 @@ pub const NO_PAGES: Run = Run { at: 0, pages: 0 };
 pub type Change = (u8, usize);
 
 /// The bytes of a store.
-const STORE_BYTES: usize = 2_097_152;
+pub const STORE_BYTES: usize = 2_097_152;
 
 /// An empty store, as it is opened.
 pub fn new_store(alloc: Global) -> Result<(MemDisk, Active), Fail> {
