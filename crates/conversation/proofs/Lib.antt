@@ -1,5 +1,9 @@
-pub mod Closed
 mod Entries
+mod Names
+mod Sending
 mod Chains
+mod Asking
+mod Single
 mod Checks
 mod TreesOf
+mod Failing

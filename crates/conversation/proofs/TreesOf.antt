@@ -1,8 +1,8 @@
 -- What is sent is one tree of objects.
-use Rattle.std.proofs.Common.{◌≡◌, ◌⊎◌, ◌+◌, ◌&&◌, ℕ, Bool, true, false, not, List, [], ◌∷◌, ◌++◌, Option, Some, None, Ok, Err, Result, refl, sym, ap, subst, ◌∙◌, inl, inr, if◌then◌else◌, append_assoc, append-nil}
+use Rattle.std.proofs.Common.{◌==◌, ◌≡◌, ◌⊎◌, ℕ, Bool, true, false, List, [], ◌∷◌, ◌++◌, Option, Some, None, Ok, Err, Result, refl, sym, ap, ◌∙◌, inl, inr, if◌then◌else◌, append_assoc, append-nil}
 use Rattle.std.specs.Prelude.{codes}
 use Rattle.std.specs.Int.{w16, to_be_bytes}
-use Rattle.ddm_objects.specs.declared.code_point.TheConstants.{EXTNAM, SRVCLSNM, SRVNAM, SRVRLSLV, MGRLVLLS, SVRCOD, SYNERRCD, CODPNT, RDBNAM, SECMEC, SECCHKCD, CCSIDSBC, CCSIDMBC, PRDID, TYPDEFNAM, TYPDEFOVR, EXCSATRD, ACCSECRD, SECCHKRM, ACCRDBRM, SYNTAXRM, PRCCNVRM, RDBACCRM, RDBNACRM, RDBNFNRM, CMDNSPRM, VALNSPRM, RSCLMTRM}
+use Rattle.ddm_objects.specs.declared.code_point.TheConstants.{EXTNAM, SRVCLSNM, SRVNAM, SRVRLSLV, MGRLVLLS, SVRCOD, SYNERRCD, CODPNT, RDBNAM, SECMEC, SECCHKCD, CCSIDSBC, CCSIDMBC, PRDID, TYPDEFNAM, TYPDEFOVR, EXCSATRD, ACCSECRD, SECCHKRM, ACCRDBRM, SYNTAXRM, PRCCNVRM, RDBACCRM, RDBNACRM, RDBNFNRM, CMDNSPRM, VALNSPRM, RSCLMTRM, MGRDEPRM}
 use Rattle.ddm_objects.specs.Writing.{spelled, Trees, NoTrees, Scalar, Container, text_of}
 use Rattle.dss_frames.specs.Dss.{Dss}
 use Rattle.dss_frames.specs.declared.fault.FrameFault.{FrameFault}
@@ -15,20 +15,23 @@ use Rattle.drda_commands.specs.declared.stage.Mechanism.{Mechanism}
 use Rattle.conversation.specs.declared.session.Session.{Session}
 use Rattle.drda_commands.specs.declared.stage.Stage.TheVariants.{Opened}
 use Rattle.drda_commands.specs.declared.table.Command.{Command}
-use Rattle.drda_commands.specs.declared.table.Command.TheVariants.{Excsat, Accsec, Secchk, Accrdb}
+use Rattle.drda_commands.specs.declared.table.Command.TheVariants.{Excsat, Accsec, Secchk, Accrdb, Syncctl}
 use Rattle.drda_commands.specs.declared.table.ItemKind.TheVariants.{Parameter}
-use Rattle.drda_commands.specs.Given.{contents_of}
-use Rattle.conversation.specs.Exchange.{Answer, Exchange, exchanged, excused, sent, answered, command_done, asked_for, is_ours, mechanism_for, bytes_of, check_code, breaks, goes_on}
+use Rattle.conversation.specs.Done.{Exchanges, IsExcused, IsFollowed}
+use Rattle.conversation.specs.Exchange.{Answer, Plan, access_done, asked_for, at_once, at_once_or, bytes_of, check_code, excused, is_ours, link_of, mechanism_for, plan, plan_for, refused, database_plan}
 use Rattle.drda_commands.specs.Given.{Given, Occurs, value_of, found_at}
-use Rattle.drda_commands.specs.Judge.{Accepted, judged}
-use Rattle.drda_commands.specs.Tables.{code_for}
-use Rattle.conversation.specs.Laws.{RepliesAreTrees, IsOneTree}
+use Rattle.drda_commands.specs.Judge.{Accepted}
+use Rattle.conversation.specs.Laws.{RepliesAreTrees, IsOneTree, asks_nothing, is_access, verdict}
 use Rattle.conversation.specs.Levels.{levels_for}
 use Rattle.drda_names.specs.Names.{in_encoding, padded_in}
 use Rattle.drda_commands.specs.Refusals.{synerrcd_for}
-use Rattle.conversation.specs.Replies.{Reply, message, refusal_reply, rdb_not_found, no_memory_reply, excsatrd, accsecrd, accsecrd_refused, mechanism_code, check_severity, accrdbrm, fault_bytes}
-use Rattle.conversation.specs.Served.{unserved}
+use Rattle.conversation.specs.Replies.{manager_missing, message, refusal_reply, rdb_not_found, no_memory_reply, excsatrd, accsecrd, accsecrd_refused, mechanism_code, check_severity, accrdbrm, fault_bytes}
 use Rattle.conversation.specs.Settings.{Settings}
+use Rattle.conversation.specs.Standing.{Standing}
+use Rattle.core_calls.specs.Call.{Call}
+use Rattle.core_calls.specs.Answer as core
+use Rattle.exchanges.specs.Reply.{Reply}
+use Rattle.conversation.proofs.Single.{at_once_sent, one_format, one_sent}
 
 -- the reply's text is one object, with trees in it
 abbrev IsTree : Reply → Type 0
@@ -111,7 +114,16 @@ asked_tree : (session : Session) (mechanism : Option Mechanism) → IsTree (aske
 asked_tree session (Some mechanism) = accsecrd_tree mechanism
 asked_tree session None = accsecrd_refused_tree
 
-done_tree : (settings : Settings) (session : Session) (command : Command) (given : Given) → IsTree (command_done settings session command given).reply
+-- of a command that comes before those of SQL there is an answer, a tree
+abbrev HasTree : Command → Option Answer → Type 0
+HasTree command None = is_access command ≡ false
+HasTree command (Some a) = IsTree a.reply
+
+missing_tree : (session : Session) (b : Bool) → HasTree Syncctl (if b then Some (record { session = session; reply = manager_missing }) else None)
+missing_tree session true = message_tree MGRDEPRM 8 [] NoTrees refl
+missing_tree session false = refl
+
+done_tree : (settings : Settings) (session : Session) (command : Command) (given : Given) → HasTree command (access_done settings session command given)
 done_tree settings session Excsat given = excsatrd_tree (value_of (found_at Parameter MGRLVLLS given))
 done_tree settings session Accsec given =
     let rdbnam : Occurs = found_at Parameter RDBNAM given in
@@ -125,11 +137,8 @@ done_tree settings session Accrdb given =
     let rdbnam : Occurs = found_at Parameter RDBNAM given in
     either_tree (is_ours settings session.agreed.unicode rdbnam) (record { session = record session { stage = Opened }; reply = accrdbrm session.agreed.unicode })
     (record { session = session; reply = rdb_not_found (bytes_of rdbnam) }) (accrdbrm_tree session.agreed.unicode) (not_found_tree (bytes_of rdbnam))
-done_tree settings session command given = refusal_tree settings session.agreed.unicode (CommandNotSupported (code_for command))
-
-answered_tree : (settings : Settings) (session : Session) (verdict : Result Accepted Refusal) → IsTree (answered settings session verdict).reply
-answered_tree settings session (Ok accepted) = done_tree settings session accepted.command accepted.given
-answered_tree settings session (Err refusal) = refusal_tree settings session.agreed.unicode refusal
+done_tree settings session Syncctl given = missing_tree session (session.agreed.xa == 0)
+done_tree settings session command given = refl
 
 -- ---- what is sent
 
@@ -145,30 +154,41 @@ one_tree format correlator reply bytes tree is = record {
 abbrev IsSent : List ℕ → Type 0
 IsSent bytes = (bytes ≡ []) ⊎ IsOneTree bytes
 
-sent_tree : (request : Dss) (chained : Bool) (answer : Answer) → IsTree answer.reply → IsOneTree (sent request chained answer).bytes
-sent_tree request chained answer tree =
-    let broken : Bool = chained && breaks answer.reply.severity request.format in
-    one_tree ((if chained && not broken then 0x40 else 0) + answer.reply.dss_type) request.correlator answer.reply (sent request chained answer).bytes tree refl
+excused_tree : (session : Session) (request : Dss) (objects : List Dss) (bytes : List ℕ) → bytes ≡ (excused session (request ∷ objects)).bytes → IsSent bytes
+excused_tree session request objects bytes is =
+    inr (one_tree (one_format (link_of request objects) session no_memory_reply) request.correlator no_memory_reply bytes (message_tree RSCLMTRM 8 [] NoTrees refl)
+    (is ∙ one_sent (link_of request objects) session no_memory_reply))
 
-either_sent : (b : Bool) (x y : Exchange) → IsSent x.bytes → IsSent y.bytes → IsSent (if b then x else y).bytes
-either_sent true x y p q = p
-either_sent false x y p q = q
+module _ {A : Type 0} (asks : A → Call → core.Answer → A → Type 0) where
+  module _ (settings : Settings) (s next : Standing A) (request : Dss) (objects : List Dss) (bytes : List ℕ) where
+    abbrev p : Plan
+    p = plan_for settings s.session s.statements request objects
 
-exchanged_sent : (settings : Settings) (session : Session) (command : List Dss) → IsSent (exchanged settings session command).bytes
-exchanged_sent settings session [] = inl refl
-exchanged_sent settings session (request ∷ objects) =
-    either_sent session.is_broken _ _ (inl refl)
-    (inr (sent_tree request (goes_on (request ∷ objects)) (answered settings session (judged unserved session.stage session.agreed.unicode request.contents (contents_of objects)))
-    (answered_tree settings session (judged unserved session.stage session.agreed.unicode request.contents (contents_of objects)))))
+    at_once_tree : (a : Answer) → p ≡ at_once s.statements a → IsTree a.reply → IsFollowed asks p (link_of request objects) s bytes next → IsSent bytes
+    at_once_tree a at tree f =
+        inr (one_tree (one_format (link_of request objects) a.session a.reply) request.correlator a.reply bytes tree (at_once_sent asks p a (link_of request objects) s next bytes at f))
 
-excused_sent : (session : Session) (command : List Dss) → IsSent (excused session command).bytes
-excused_sent session [] = inl refl
-excused_sent session (request ∷ objects) =
-    inr (sent_tree request (goes_on (request ∷ objects)) (record { session = session; reply = no_memory_reply }) (message_tree RSCLMTRM 8 [] NoTrees refl))
+    by_found : (accepted : Accepted) → verdict s.session request objects ≡ Ok accepted → is_access accepted.command ≡ true → (o : Option Answer)
+        → access_done settings s.session accepted.command accepted.given ≡ o → HasTree accepted.command o → IsFollowed asks p (link_of request objects) s bytes next → IsSent bytes
+    by_found accepted is access (Some a) found tree f =
+        let otherwise : Plan = database_plan settings s.session s.statements accepted.command accepted.given in
+        let at : p ≡ at_once s.statements a = ap (plan settings s.session s.statements) is ∙ ap (λ (x : Option Answer). at_once_or s.statements x otherwise) found in
+        at_once_tree a at tree f
+    by_found accepted is access None found tree f = let clash : true ≡ false = sym access ∙ tree in absurd (cc clash)
 
-pub commands_are_trees : RepliesAreTrees
-commands_are_trees settings session next command bytes (inl d) = subst IsSent (sym d.0) (exchanged_sent settings session command)
-commands_are_trees settings session next command bytes (inr d) = subst IsSent (sym d.1) (excused_sent session command)
+    by_verdict : (v : Result Accepted Refusal) → verdict s.session request objects ≡ v → asks_nothing v ≡ true → IsFollowed asks p (link_of request objects) s bytes next → IsSent bytes
+    by_verdict (Ok accepted) is access f =
+        by_found accepted is access (access_done settings s.session accepted.command accepted.given) refl (done_tree settings s.session accepted.command accepted.given) f
+    by_verdict (Err refusal) is access f =
+        at_once_tree (refused settings s.session refusal) (ap (plan settings s.session s.statements) is) (refusal_tree settings s.session.agreed.unicode refusal) f
+
+    by_outcome : asks_nothing (verdict s.session request objects) ≡ true → Exchanges asks settings s (request ∷ objects) bytes next ⊎ IsExcused s (request ∷ objects) bytes next → IsSent bytes
+    by_outcome access (inl (inl q)) = inl q.silent
+    by_outcome access (inl (inr d)) = by_verdict (verdict s.session request objects) refl access d.followed
+    by_outcome access (inr e) = excused_tree s.session request objects bytes e.reply
+
+  pub commands_are_trees : RepliesAreTrees asks
+  commands_are_trees settings s next request objects bytes access d = by_outcome settings s next request objects bytes access d.does
 
 pub faults_are_trees : (fault : FrameFault) → IsOneTree (fault_bytes fault)
 faults_are_trees fault =

@@ -1,10 +1,11 @@
 pub mod Settings
 pub mod Levels
 pub mod Replies
-pub mod Served
 pub mod Exchange
 pub mod Closing
 pub mod Held
+pub mod Standing
+pub mod Done
 pub mod Views
 pub mod Steps
 pub mod Laws

@@ -4,7 +4,7 @@ use Rattle.std.specs.Int.{w16, to_be_bytes}
 use Rattle.dss_frames.specs.declared.fault.FrameFault.{FrameFault}
 use Rattle.dss_frames.specs.Fault.{synerrcd}
 use Rattle.dss_frames.specs.Writing.{written}
-use Rattle.ddm_objects.specs.declared.code_point.TheConstants.{EXTNAM, SRVCLSNM, SRVNAM, SRVRLSLV, MGRLVLLS, SVRCOD, SYNERRCD, CODPNT, RDBNAM, SECMEC, SECCHKCD, CCSIDSBC, CCSIDMBC, PRDID, TYPDEFNAM, TYPDEFOVR, EXCSATRD, ACCSECRD, SECCHKRM, ACCRDBRM, SYNTAXRM, PRCCNVRM, RDBACCRM, RDBNACRM, RDBNFNRM, CMDNSPRM, VALNSPRM, RSCLMTRM}
+use Rattle.ddm_objects.specs.declared.code_point.TheConstants.{EXTNAM, SRVCLSNM, SRVNAM, SRVRLSLV, MGRLVLLS, SVRCOD, SYNERRCD, CODPNT, RDBNAM, SECMEC, SECCHKCD, CCSIDSBC, CCSIDMBC, PRDID, TYPDEFNAM, TYPDEFOVR, EXCSATRD, ACCSECRD, SECCHKRM, ACCRDBRM, SYNTAXRM, PRCCNVRM, RDBACCRM, RDBNACRM, RDBNFNRM, CMDNSPRM, VALNSPRM, RSCLMTRM, MGRDEPRM}
 use Rattle.ddm_objects.specs.Writing.{spelled}
 use Rattle.drda_commands.specs.declared.refusal.Refusal.{Refusal}
 use Rattle.drda_commands.specs.declared.refusal.Refusal.TheVariants.{Syntax, OutOfTurn, RdbAccessed, RdbNotAccessed, CommandNotSupported, ValueNotSupported}
@@ -14,13 +14,8 @@ use Rattle.drda_commands.specs.declared.stage.Mechanism.TheVariants.{UserAndPass
 use Rattle.conversation.specs.Levels.{levels_for}
 use Rattle.drda_commands.specs.Refusals.{synerrcd_for}
 use Rattle.drda_names.specs.Names.{in_encoding, padded_in}
+use Rattle.exchanges.specs.Reply.{Reply}
 use Rattle.conversation.specs.Settings.{Settings}
-
--- a reply: its DSS type (2 a reply message, 3 an object), its severity (0 where it has none), its text
-pub record Reply : Type 0 where
-  pub dss_type : ℕ
-  pub severity : ℕ
-  pub text : List ℕ
 
 -- a reply message: its severity is the first parameter
 abbrev pub message : ℕ → ℕ → List ℕ → Reply
@@ -43,6 +38,10 @@ refusal_reply settings unicode (ValueNotSupported code) = message VALNSPRM 8 (sp
 -- no database has this name, which is answered as it came
 abbrev pub rdb_not_found : List ℕ → Reply
 rdb_not_found name = message RDBNFNRM 8 (spelled RDBNAM name)
+
+-- a call of XA, where no level of XAMGR is agreed on
+abbrev pub manager_missing : Reply
+manager_missing = message MGRDEPRM 8 []
 
 -- what a command is answered that found no memory
 abbrev pub no_memory_reply : Reply

@@ -6,7 +6,7 @@ ghost use Rattle.conversation.specs.Replies.{rdb_not_found};
 ghost use Rattle.drda_commands.specs.Views.{occurs_of};
 ghost use Rattle.conversation.specs.Views.{answer_of};
 
-use crate::exchange::Answer;
+use crate::answer::Answer;
 use crate::reply::{
     severity_of, write_accrdbrm, write_accsecrd, write_accsecrd_refused, write_rdb_not_found,
     write_secchkrm,
@@ -15,7 +15,7 @@ use crate::session::Session;
 use crate::settings::Settings;
 use drda_commands::{Mechanism, Occurs, Stage};
 use drda_names::{is_name, is_padded_name};
-use dss_frames::DssType;
+use exchanges::ReplyKind;
 use std::alloc::AllocError;
 
 fn is_ours(settings: &Settings, unicode: bool, name: Occurs<'_>) -> bool
@@ -58,7 +58,7 @@ fn not_found(session: Session, name: Occurs<'_>, text: &mut Vec<u8>) -> Result<A
     write_rdb_not_found(text, bytes_of(name))?;
     Ok(Answer {
         session,
-        dss_type: DssType::Reply,
+        kind: ReplyKind::Message,
         severity: 8,
     })
 }
@@ -85,7 +85,7 @@ fn asked_for(
     };
     Ok(Answer {
         session,
-        dss_type: DssType::Object,
+        kind: ReplyKind::Object,
         severity: 0,
     })
 }
@@ -196,7 +196,7 @@ pub(crate) fn checked(session: Session, code: u8, text: &mut Vec<u8>) -> Result<
     };
     Ok(Answer {
         session: Session { stage, ..session },
-        dss_type: DssType::Reply,
+        kind: ReplyKind::Message,
         severity: severity_of(code),
     })
 }
@@ -219,7 +219,7 @@ pub(crate) fn accrdb(
             stage: Stage::Opened,
             ..session
         },
-        dss_type: DssType::Reply,
+        kind: ReplyKind::Message,
         severity: 0,
     })
 }

@@ -3,7 +3,9 @@
 use crate::exchange::{Exchanged, do_command};
 use crate::session::{Session, fresh_session};
 use crate::settings::Settings;
+use crate::state::State;
 use dss_frames::{Format, FrameFault, Segments, write_dss};
+use exchanges::{Ask, Statements};
 use std::alloc::{AllocError, Global};
 use std::marker::Model;
 
@@ -24,10 +26,10 @@ pub enum Need {
 /// replies out.
 #[derive(Drop)]
 pub struct Front {
+    alloc: Global,
     settings: Settings,
     segments: Segments,
-    session: Session,
-    text: Vec<u8>,
+    state: State,
 }
 
 impl Model for Front {
@@ -36,44 +38,44 @@ impl Model for Front {
 
     ghost Value = { Held };
 
-    ghost view = { λ f. record { settings = f.settings; rest = f.segments.rest; session = f.session } };
+    ghost view = { λ f. record { settings = f.settings; rest = f.segments.rest; session = f.state.session; statements = f.state.statements } };
 
-    ghost invariant = { λ f. IsOpenAtFault f.segments.at_fault f.session.is_closed };
+    ghost invariant = { λ f. IsOpenAtFault f.segments.at_fault f.state.session.is_closed };
 }
 
 impl Front {
     ghost use Rattle.std.specs.Prelude.{◌≡◌, ◌≤◌, ◌+◌, ◌++◌, [], IfOk, OnOk, IsTrue, false, length, take, vec_len, vec_capacity};
-    ghost use Rattle.conversation.specs.Exchange.{fresh};
+    ghost use Rattle.conversation.specs.Held.{newly_held};
     ghost use Rattle.dss_frames.specs.Fault.{IsUnfinished};
     ghost use Rattle.conversation.specs.Steps.{Steps, KeepsToOne, IsWanted};
 
     /// A conversation of which nothing has come.
     pub fn new(alloc: Global, settings: &Settings) -> Result<Front, AllocError>
-        ensures { IfOk result (λ f. f ≡ record { settings = settings.now; rest = []; session = fresh }) }
+        ensures { IfOk result (λ f. f ≡ newly_held settings.now) }
     {
         Ok(Front {
+            alloc,
             settings: settings.copied(alloc)?,
             segments: Segments::new(alloc),
-            session: fresh_session(),
-            text: Vec::new(alloc),
+            state: fresh_state(alloc),
         })
     }
 
-    /// Begins anew, with the same settings: what came and what was agreed on is forgotten, and its
-    /// memory given back.
+    /// Begins anew, with the same settings: what came, what was agreed on and what was kept for its
+    /// statements is forgotten, and its memory given back.
     pub fn restart(&mut self, alloc: Global)
-        ensures { self.new ≡ record { settings = self.old.settings; rest = []; session = fresh } }
+        ensures { self.new ≡ newly_held self.old.settings }
     {
+        self.alloc = alloc;
         self.segments = Segments::new(alloc);
-        self.session = fresh_session();
-        self.text = Vec::new(alloc);
+        self.state = fresh_state(alloc);
     }
 
-    /// Whether a fault of the framing closed the conversation.
+    /// Whether a fault of the framing, or of who is asked, closed the conversation.
     pub fn is_closed(&self) -> bool
         ensures { result ≡ self.now.session.is_closed }
     {
-        self.session.is_closed
+        self.state.session.is_closed
     }
 
     /// Takes the bytes that come next, and says how many it took: all of them, none once it is
@@ -100,30 +102,34 @@ impl Front {
         self.segments.wanted()
     }
 
-    /// Does the next command, where all of it has come, and appends its reply to `out`, which has
-    /// room for the 21 bytes that answer a fault of the framing. Such a fault closes the
-    /// conversation.
-    pub fn next(&mut self, out: &mut Vec<u8>) -> Need
+    /// Does the next command, where all of it has come, asks `asker` what it asks for, and appends its
+    /// replies to `out`, which has room for the 21 bytes that answer a fault of the framing. Such a
+    /// fault closes the conversation, and so does an asker that can't go on (AGNPRMRM). Memory is taken
+    /// before anything is asked.
+    pub fn next<A: Ask>(&mut self, asker: &mut A, out: &mut Vec<u8>) -> Need
         requires room { vec_len out.old + 21 ≤ vec_capacity out.old }
-        ensures { Steps self.old out.old.items result self.new out.new.items }
+        ensures { Steps A.asks self.old asker.old out.old.items result self.new asker.new out.new.items }
     {
         if self.is_closed() {
             return Need::Closed;
         }
         match self.segments.next() {
             Ok(None) => Need::Bytes,
-            Ok(Some(group)) => match do_command(
-                &self.settings,
-                &mut self.session,
-                group,
-                &mut self.text,
-                out,
-            ) {
-                Exchanged::Done => Need::Local,
-                Exchanged::Short(bytes) => Need::Short(bytes),
-            },
+            Ok(Some(group)) => {
+                match do_command(
+                    self.alloc,
+                    &self.settings,
+                    &mut self.state,
+                    group,
+                    asker,
+                    out,
+                ) {
+                    Exchanged::Done => behind_command(self.state.session),
+                    Exchanged::Short(bytes) => Need::Short(bytes),
+                }
+            }
             Err(fault) => {
-                self.session = closed(self.session);
+                self.state.session = closed(self.state.session);
                 answer_fault(fault, out);
                 Need::Closed
             }
@@ -131,9 +137,35 @@ impl Front {
     }
 }
 
-ghost use Rattle.std.specs.Prelude.{◌≡◌, ◌≤◌, ◌+◌, ◌++◌, vec_len, vec_capacity};
+ghost use Rattle.std.specs.Prelude.{◌≡◌, ◌≤◌, ◌+◌, ◌++◌, if◌then◌else◌, vec_len, vec_capacity};
 ghost use Rattle.conversation.specs.Replies.{fault_bytes};
+ghost use Rattle.conversation.specs.Exchange.{fresh};
 ghost use Rattle.conversation.specs.Steps as steps;
+ghost use Rattle.exchanges.specs.Statements as statements;
+
+// The state of a conversation of which nothing has come. Takes no memory.
+fn fresh_state(alloc: Global) -> State
+    ensures session { result.session ≡ fresh }
+    ensures statements { result.statements ≡ statements.fresh }
+{
+    State {
+        session: fresh_session(),
+        statements: Statements::new(alloc),
+        text: Vec::new(alloc),
+        replies: Vec::new(alloc),
+    }
+}
+
+// What a conversation needs behind a command.
+fn behind_command(session: Session) -> Need
+    ensures { result ≡ (if session.is_closed then Need.Closed else Need.Local) }
+{
+    if session.is_closed {
+        Need::Closed
+    } else {
+        Need::Local
+    }
+}
 
 // A fault of the framing closes a conversation, and leaves all else.
 fn closed(session: Session) -> Session

@@ -1,33 +1,41 @@
 //! Laws of the definitions. The functions do nothing: their contracts are the laws.
 
-ghost use Rattle.conversation.specs.Laws.{NoCommandCloses, RefusalsKeepTheStage, BrokenChainsAreSilent, OpenedBehindACheck, RepliesAreTrees, IsOneTree};
+ghost use Rattle.conversation.specs.Laws.{AsksOnlyWhenOpened, BrokenChainsAreSilent, IsOneTree, OnlyFailureCloses, OpenedBehindACheck, RefusalsKeepTheStage, RepliesAreTrees};
 ghost use Rattle.conversation.specs.Replies.{fault_bytes};
 ghost use Rattle.dss_frames.specs.declared.fault.FrameFault.{FrameFault};
 
-/// No command closes a conversation, nor opens a closed one, answered or out of memory: what closes it is a
-/// fault of the framing.
-pub fn no_command_closes()
-    ensures { NoCommandCloses }
+use exchanges::Ask;
+
+/// No command closes a conversation but one that is answered by AGNPRMRM alone, in no chain. What else closes
+/// one is a fault of the framing.
+pub fn only_failure_closes<A: Ask>()
+    ensures { OnlyFailureCloses A.asks }
 {}
 
-/// A command that is refused leaves the stage and what was agreed on, answered or out of memory.
-pub fn refusals_keep_the_stage()
-    ensures { RefusalsKeepTheStage }
+/// A command that is refused leaves the stage, what was agreed on and what is kept for statements, and asks
+/// nothing, answered or out of memory.
+pub fn refusals_keep_the_stage<A: Ask>()
+    ensures { RefusalsKeepTheStage A.asks }
 {}
 
-/// The commands of a broken chain send nothing and change nothing up to its end, which mends it.
-pub fn broken_chains_are_silent()
-    ensures { BrokenChainsAreSilent }
+/// Nothing is asked, and nothing is kept for statements, before the database is opened.
+pub fn asks_only_when_opened<A: Ask>()
+    ensures { AsksOnlyWhenOpened A.asks }
+{}
+
+/// The commands of a broken chain send nothing, ask nothing and change nothing up to its end, which mends it.
+pub fn broken_chains_are_silent<A: Ask>()
+    ensures { BrokenChainsAreSilent A.asks }
 {}
 
 /// From a new conversation the database is opened only behind a SECCHK that was answered with code 00.
-pub fn opened_behind_a_check()
-    ensures { OpenedBehindACheck }
+pub fn opened_behind_a_check<A: Ask>()
+    ensures { OpenedBehindACheck A.asks }
 {}
 
-/// What is sent for a command is nothing, or one DSS whose contents are one object with trees of
-/// objects in it; so is the answer to a fault of the framing.
-pub fn replies_are_trees()
-    ensures commands { RepliesAreTrees }
+/// What is sent for a command that is refused, or comes before those of SQL, is nothing or one DSS whose
+/// contents are one object with trees of objects in it; so is the answer to a fault of the framing.
+pub fn replies_are_trees<A: Ask>()
+    ensures commands { RepliesAreTrees A.asks }
     ensures faults { (fault : FrameFault) → IsOneTree (fault_bytes fault) }
 {}

@@ -1,8 +1,11 @@
-//! One conversation of DRDA: the bytes of a requester in, commands judged in the order of refusals,
-//! and replies out. It knows nothing of sockets, threads or the disk.
+//! One conversation of DRDA: the bytes of a requester in, commands judged in the order of refusals and
+//! done, and replies out. It asks what statements mean of whoever is handed in, and knows nothing of
+//! sockets, threads or the disk.
 #![tactic(auto)]
 
 mod access;
+mod answer;
+mod chain;
 mod exchange;
 mod front;
 pub mod laws;
@@ -10,6 +13,7 @@ mod levels;
 mod reply;
 mod session;
 mod settings;
+mod state;
 
 pub use drda_commands::{Mechanism, Stage};
 pub use front::{Front, Need};

@@ -4,7 +4,7 @@ ghost use Rattle.std.specs.Prelude.{◌≡◌, ◌∷◌, ◌++◌, [], OnOk, ma
 ghost use Rattle.std.specs.Option.{option_copied};
 ghost use Rattle.ddm_objects.specs.Writing.{spelled};
 ghost use Rattle.ebcdic_500.specs.CodePage.{byte_for};
-ghost use Rattle.conversation.specs.Replies.{message, refusal_reply, rdb_part, rdb_not_found, levels_part, excsatrd, accsecrd, accsecrd_refused, secchkrm, check_severity, ccsids, accrdbrm};
+ghost use Rattle.conversation.specs.Replies.{message, refusal_reply, rdb_part, manager_missing, rdb_not_found, levels_part, excsatrd, accsecrd, accsecrd_refused, secchkrm, check_severity, ccsids, accrdbrm};
 ghost use Rattle.conversation.specs.Replies as spec;
 ghost use Rattle.drda_names.specs.Names.{in_encoding};
 ghost use Rattle.ddm_objects.specs.declared.code_point.TheConstants.{EXTNAM, SRVCLSNM, SRVNAM, SRVRLSLV, TYPDEFOVR};
@@ -120,6 +120,14 @@ pub(crate) fn write_refusal(
             )
         }
     }
+}
+
+/// Writes MGRDEPRM in place of what the text was.
+pub(crate) fn write_manager_missing(text: &mut Vec<u8>) -> Result<(), AllocError>
+    ensures { OnOk result (text.new.items ≡ manager_missing.text) }
+{
+    text.clear();
+    write_bare_error(text, code_point::MGRDEPRM)
 }
 
 /// Writes RDBNFNRM, with the name as it came, in place of what the text was.

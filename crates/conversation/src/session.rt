@@ -22,7 +22,7 @@ pub struct Session {
     pub agreed: Agreed,
     /// The chain under way is broken: its other commands are read, and not done.
     pub is_broken: bool,
-    /// A fault of the framing closed the conversation.
+    /// A fault of the framing, or of who is asked, closed the conversation.
     pub is_closed: bool,
 }
 

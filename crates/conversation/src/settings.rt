@@ -58,7 +58,7 @@ fn is_rdb_name(name: &str) -> bool
     1 <= name.len() && name.len() <= 18 && are_printable(name.as_bytes())
 }
 
-ghost use Rattle.std.specs.Prelude.{◌≡◌};
+ghost use Rattle.std.specs.Prelude.{◌≡◌, ◌≤◌, length};
 ghost use Rattle.std.specs.List.{list_all};
 ghost use Rattle.conversation.specs.Settings.{is_printable, is_rdb_name};
 
@@ -124,7 +124,8 @@ impl Settings {
 
     /// The database's name: 1 to 18 printable ASCII characters without blanks.
     pub(crate) fn rdb(&self) -> &[u8]
-        ensures { result.now ≡ self.now.rdb }
+        ensures name { result.now ≡ self.now.rdb }
+        ensures short { length result.now ≤ 18 }
     {
         self.rdb.as_bytes()
     }

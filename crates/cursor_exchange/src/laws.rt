@@ -1,7 +1,7 @@
 //! Laws of the definitions. The functions do nothing: their contracts are the laws.
 
 ghost use Rattle.cursor_exchange.specs.Blocks.{BlocksAreLongest, BlocksAreOne};
-ghost use Rattle.cursor_exchange.specs.Laws.{ClosingAsksNobody, ClosingIsLocal, FetchesSendAllRows, FetchingAsksNobody, FetchingIsLocal, OpeningIsLocal};
+ghost use Rattle.cursor_exchange.specs.Laws.{ClosingAsksNobody, ClosingIsLocal, FetchesSendAllRows, FetchingAsksNobody, FetchingIsLocal, OpeningIsLocal, QueriesSendAllRows};
 
 use sections::calls_are_local;
 
@@ -27,7 +27,8 @@ pub fn other_sections_stay()
 }
 
 /// A cursor that is read to its end sends each of its remaining rows once, in their order, and ENDQRYRM
-/// behind the last one alone.
+/// behind the last one alone; so a query sends each of its rows once.
 pub fn fetches_send_all_rows()
-    ensures { FetchesSendAllRows }
+    ensures fetches { FetchesSendAllRows }
+    ensures queries { QueriesSendAllRows }
 {}

@@ -136,11 +136,7 @@ fn command(alloc: Global, asked: Asked) -> Result<Vec<u8>, AllocError> {
     let mut parameters = Vec::new(alloc);
     put(&mut parameters, code_point::PKGNAMCSN, &[0x40; 64])?;
     if let Some(size) = asked.size {
-        put(
-            &mut parameters,
-            code_point::QRYBLKSZ,
-            &size.to_be_bytes(),
-        )?;
+        put(&mut parameters, code_point::QRYBLKSZ, &size.to_be_bytes())?;
     }
     if let Some(instance) = asked.instance {
         put(

@@ -1,5 +1,5 @@
 -- What is accepted has brought what it requires.
-use Rattle.std.proofs.Common.{◌≡◌, ℕ, Bool, true, false, not, ◌&&◌, ◌||◌, List, [], ◌∷◌, length, Result, Ok, Err, Option, ◌≤◌, refl, sym, ap, subst, ◌∙◌, if◌then◌else◌, arith}
+use Rattle.std.proofs.Common.{◌≡◌, ℕ, Bool, true, false, not, ◌&&◌, ◌||◌, List, [], ◌∷◌, length, Result, Ok, Err, Option, Some, None, ◌≤◌, refl, sym, ap, subst, ◌∙◌, if◌then◌else◌, arith}
 use Rattle.std.specs.Prelude.{is_some, nat_le, IsSome, IfSome}
 use Rattle.std.specs.List.{list_any}
 use Rattle.std.specs.Option.{option_and_then}
@@ -13,7 +13,7 @@ use Rattle.drda_commands.specs.declared.table.Form.{Form}
 use Rattle.drda_commands.specs.declared.table.Item.{Item}
 use Rattle.drda_commands.specs.declared.table.ItemKind.TheVariants.{Parameter, DataObject}
 use Rattle.drda_commands.specs.Given.{Given, Occurs, never, once, twice, value_of, found_at}
-use Rattle.drda_commands.specs.Judge.{has_twice, has_no_text, is_absent, is_sync_type, is_supported, has_bad_value, item_twice, item_missing, item_bad, none_twice, none_missing, none_bad}
+use Rattle.drda_commands.specs.Judge.{has_twice, has_no_text, is_absent, is_block_size, is_sync_type, is_supported, has_bad_value, item_twice, item_missing, item_bad, none_twice, none_missing, none_bad}
 use Rattle.drda_commands.specs.Needs.{HasSection, Needs}
 use Rattle.drda_commands.specs.Tables.{items_for}
 use Rattle.drda_commands.specs.Texts.{text_in}
@@ -86,16 +86,12 @@ section_came given value is fits = subst (λ (o : Occurs). Fits (value_of o)) (s
 statement_came : (given : Given) (value : List ℕ) → found_at DataObject SQLSTT given ≡ once value → not (is_some (text_in value)) ≡ false → IsSome (statement_in given)
 statement_came given value is there = ap (λ (o : Occurs). is_some (option_and_then text_in (value_of o))) is ∙ not_false (is_some (text_in value)) there
 
-four : (value : List ℕ) → (nat_le 4 (length value) && nat_le (length value) 4) ≡ true → is_some (number4 value) ≡ true
-four [] e = absurd (cc e)
-four (a ∷ []) e = absurd (cc e)
-four (a ∷ b ∷ []) e = absurd (cc e)
-four (a ∷ b ∷ c ∷ []) e = absurd (cc e)
-four (a ∷ b ∷ c ∷ d ∷ []) e = refl
-four (a ∷ b ∷ c ∷ d ∷ x ∷ more) e = absurd (grind (arith, e))
+sized : (size : Option ℕ) → is_block_size size ≡ true → is_some size ≡ true
+sized None e = absurd (cc e)
+sized (Some n) e = refl
 
-size_came : (given : Given) (value : List ℕ) → found_at Parameter QRYBLKSZ given ≡ once value → (nat_le 4 (length value) && nat_le (length value) 4) ≡ true → IsSome (block_size_in given)
-size_came given value is fits = ap (λ (o : Occurs). is_some (option_and_then number4 (value_of o))) is ∙ four value fits
+size_came : (given : Given) (value : List ℕ) → found_at Parameter QRYBLKSZ given ≡ once value → is_block_size (number4 value) ≡ true → IsSome (block_size_in given)
+size_came given value is fits = ap (λ (o : Occurs). is_some (option_and_then number4 (value_of o))) is ∙ sized (number4 value) fits
 
 single : (value : List ℕ) → is_sync_type value ≡ true → is_some (number1 value) ≡ true
 single [] e = absurd (cc e)

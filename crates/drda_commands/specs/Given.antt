@@ -9,7 +9,7 @@ use Rattle.drda_commands.specs.declared.table.Command.{Command}
 use Rattle.drda_commands.specs.declared.table.ItemKind.{ItemKind}
 use Rattle.drda_commands.specs.declared.table.ItemKind.TheVariants.{Parameter, DataObject}
 use Rattle.drda_commands.specs.declared.table.Form.{Form}
-use Rattle.drda_commands.specs.declared.table.Form.TheVariants.{ManagerLevels, AnyBytes, Bytes, Boolean, SqldaType, SyncType, DefinitionName, DefinitionOverrides, StatementTexts, DescribedData}
+use Rattle.drda_commands.specs.declared.table.Form.TheVariants.{ManagerLevels, AnyBytes, Bytes, BlockSize, Boolean, SqldaType, SyncType, DefinitionName, DefinitionOverrides, StatementTexts, DescribedData}
 use Rattle.drda_commands.specs.declared.table.Item.{Item}
 use Rattle.drda_commands.specs.declared.refusal.SyntaxError.{SyntaxError}
 use Rattle.drda_commands.specs.declared.refusal.SyntaxError.TheVariants.{InObject, MalformedText}
@@ -84,6 +84,7 @@ abbrev pub own_fault : Form → List ℕ → Option SyntaxError
 own_fault ManagerLevels value = None
 own_fault AnyBytes value = None
 own_fault (Bytes least greatest) value = None
+own_fault BlockSize value = None
 own_fault Boolean value = None
 own_fault SqldaType value = None
 own_fault SyncType value = None

@@ -16,10 +16,11 @@ use Rattle.drda_commands.specs.declared.stage.Stage.{Stage}
 use Rattle.drda_commands.specs.declared.stage.Stage.TheVariants.{Known, Asked, Checked, Opened}
 use Rattle.drda_commands.specs.declared.table.Item.{Item}
 use Rattle.drda_commands.specs.declared.table.Form.{Form}
-use Rattle.drda_commands.specs.declared.table.Form.TheVariants.{ManagerLevels, AnyBytes, Bytes, Boolean, SqldaType, SyncType, DefinitionName, DefinitionOverrides, StatementTexts, DescribedData}
+use Rattle.drda_commands.specs.declared.table.Form.TheVariants.{ManagerLevels, AnyBytes, Bytes, BlockSize, Boolean, SqldaType, SyncType, DefinitionName, DefinitionOverrides, StatementTexts, DescribedData}
 use Rattle.drda_names.specs.Names.{is_name}
 use Rattle.drda_commands.specs.Tables.{command_for, code_for, items_for}
 use Rattle.drda_commands.specs.Texts.{text_in}
+use Rattle.drda_commands.specs.Values.{number4}
 use Rattle.xa_calls.specs.Numbers.{sync_type_of}
 use Rattle.drda_commands.specs.Given.{Given, Occurs, never, once, twice, found_at, found_inside, count_in, first_fault}
 
@@ -85,6 +86,7 @@ abbrev pub is_twice_inside : Form → List ℕ → Bool
 is_twice_inside ManagerLevels value = false
 is_twice_inside AnyBytes value = false
 is_twice_inside (Bytes least greatest) value = false
+is_twice_inside BlockSize value = false
 is_twice_inside Boolean value = false
 is_twice_inside SqldaType value = false
 is_twice_inside SyncType value = false
@@ -106,6 +108,7 @@ abbrev pub has_no_text : Form → List ℕ → Bool
 has_no_text ManagerLevels value = false
 has_no_text AnyBytes value = false
 has_no_text (Bytes least greatest) value = false
+has_no_text BlockSize value = false
 has_no_text Boolean value = false
 has_no_text SqldaType value = false
 has_no_text SyncType value = false
@@ -133,6 +136,11 @@ abbrev pub is_boolean : List ℕ → Bool
 is_boolean (b ∷ []) = (b == 0xF0) || (b == 0xF1)
 is_boolean value = false
 
+-- QRYBLKSZ (DRDA V5 volume 3): a number of four bytes; ours are 512 to 10,485,760
+abbrev pub is_block_size : Option ℕ → Bool
+is_block_size None = false
+is_block_size (Some size) = nat_le 512 size && nat_le size 10485760
+
 -- TYPSQLDA (DRDA V5 volume 3): one byte, 00 to 05
 abbrev pub is_sqlda_type : List ℕ → Bool
 is_sqlda_type (b ∷ []) = nat_le b 5
@@ -150,6 +158,7 @@ abbrev pub is_supported : Bool → Form → List ℕ → Bool
 is_supported unicode ManagerLevels value = length value % 4 == 0
 is_supported unicode AnyBytes value = true
 is_supported unicode (Bytes least greatest) value = nat_le least (length value) && nat_le (length value) greatest
+is_supported unicode BlockSize value = is_block_size (number4 value)
 is_supported unicode Boolean value = is_boolean value
 is_supported unicode SqldaType value = is_sqlda_type value
 is_supported unicode SyncType value = is_sync_type value

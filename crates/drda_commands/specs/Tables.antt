@@ -8,7 +8,7 @@ use Rattle.drda_commands.specs.declared.table.Command.TheVariants.{Excsat, Accse
 use Rattle.drda_commands.specs.declared.table.Item.{Item}
 use Rattle.drda_commands.specs.declared.table.ItemKind.TheVariants.{Parameter, DataObject}
 use Rattle.drda_commands.specs.declared.table.Form.{Form}
-use Rattle.drda_commands.specs.declared.table.Form.TheVariants.{ManagerLevels, AnyBytes, Bytes, Boolean, SqldaType, SyncType, DefinitionName, DefinitionOverrides, StatementTexts, DescribedData}
+use Rattle.drda_commands.specs.declared.table.Form.TheVariants.{ManagerLevels, AnyBytes, BlockSize, Bytes, BlockSize, Boolean, SqldaType, SyncType, DefinitionName, DefinitionOverrides, StatementTexts, DescribedData}
 
 -- a command's code point
 abbrev pub code_for : Command → ℕ
@@ -65,10 +65,6 @@ required_object code form = record { kind = DataObject; code = code; is_required
 abbrev pub section : Item
 section = required PKGNAMCSN (Bytes 64 791)
 
--- the size of a block of a query, QRYBLKSZ: a number of four bytes
-abbrev pub block_size : Form
-block_size = Bytes 4 4
-
 -- the opening of a query, QRYINSID: a number of eight bytes
 abbrev pub query_instance : Item
 query_instance = parameter QRYINSID (Bytes 8 8)
@@ -84,8 +80,8 @@ own_items Prpsqlstt =
     section ∷ parameter RTNSQLDA Boolean ∷ parameter TYPSQLDA SqldaType ∷ required_object SQLSTT StatementTexts ∷ data_object SQLATTR StatementTexts ∷ []
 own_items Dscsqlstt = section ∷ parameter TYPSQLDA SqldaType ∷ []
 own_items Excsqlstt = section ∷ data_object SQLDTA DescribedData ∷ []
-own_items Opnqry = section ∷ required QRYBLKSZ block_size ∷ data_object SQLDTA DescribedData ∷ []
-own_items Cntqry = section ∷ parameter QRYBLKSZ block_size ∷ query_instance ∷ []
+own_items Opnqry = section ∷ required QRYBLKSZ BlockSize ∷ data_object SQLDTA DescribedData ∷ []
+own_items Cntqry = section ∷ parameter QRYBLKSZ BlockSize ∷ query_instance ∷ []
 own_items Clsqry = section ∷ query_instance ∷ []
 own_items Rdbcmm = []
 own_items Rdbrllbck = []

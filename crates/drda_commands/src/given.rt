@@ -122,6 +122,7 @@ fn own_fault(form: Form, value: &[u8]) -> Option<SyntaxError>
         Form::ManagerLevels
         | Form::AnyBytes
         | Form::Bytes { .. }
+        | Form::BlockSize
         | Form::Boolean
         | Form::SqldaType
         | Form::SyncType

@@ -16,10 +16,16 @@ use crate::refusal::{Refusal, SyntaxError};
 use crate::stage::Stage;
 use crate::table::{Command, Form, Item, command_of, items_of};
 use crate::texts::text_in;
+use crate::values::number4;
 use ddm_objects::{Object, code_point};
 use drda_names::is_name;
 use dss_frames::Group;
 use xa_calls::SyncType;
+
+/// The least and the greatest size of a block, in bytes (QRYBLKSZ).
+const LEAST_BLOCK: u32 = 512;
+
+const GREATEST_BLOCK: u32 = 10_485_760;
 
 /// A command that is not refused, and what it brought.
 #[derive(Clone, Copy)]
@@ -91,6 +97,7 @@ fn is_twice_inside(form: Form, value: &[u8]) -> bool
         Form::ManagerLevels
         | Form::AnyBytes
         | Form::Bytes { .. }
+        | Form::BlockSize
         | Form::Boolean
         | Form::SqldaType
         | Form::SyncType
@@ -120,6 +127,7 @@ fn is_absent(form: Form, occurs: Occurs<'_>) -> bool
             Form::ManagerLevels
             | Form::AnyBytes
             | Form::Bytes { .. }
+            | Form::BlockSize
             | Form::Boolean
             | Form::SqldaType
             | Form::SyncType
@@ -157,6 +165,15 @@ fn is_boolean(value: &[u8]) -> bool
     }
 }
 
+fn is_block_size(size: Option<u32>) -> bool
+    ensures { result ≡ spec.is_block_size size }
+{
+    match size {
+        Some(size) => LEAST_BLOCK <= size && size <= GREATEST_BLOCK,
+        None => false,
+    }
+}
+
 fn is_sqlda_type(value: &[u8]) -> bool
     ensures { result ≡ spec.is_sqlda_type value.now }
 {
@@ -182,6 +199,7 @@ fn is_supported(unicode: bool, form: Form, value: &[u8]) -> bool
         Form::ManagerLevels => value.len() % 4 == 0,
         Form::AnyBytes | Form::StatementTexts | Form::DescribedData => true,
         Form::Bytes { least, greatest } => least <= value.len() && value.len() <= greatest,
+        Form::BlockSize => is_block_size(number4(value)),
         Form::Boolean => is_boolean(value),
         Form::SqldaType => is_sqlda_type(value),
         Form::SyncType => is_sync_type(value),

@@ -52,8 +52,10 @@ pub enum Form {
     ManagerLevels,
     /// Any bytes: a name is judged where it is used.
     AnyBytes,
-    /// So many bytes, at least and at most: SECMEC, PKGNAMCSN, QRYBLKSZ, QRYINSID.
+    /// So many bytes, at least and at most: SECMEC, PKGNAMCSN, QRYINSID.
     Bytes { least: usize, greatest: usize },
+    /// QRYBLKSZ: a number of four bytes, 512 to 10,485,760.
+    BlockSize,
     /// BOOLEAN: F0 (false) or F1 (true), as RTNSQLDA.
     Boolean,
     /// TYPSQLDA: which SQLDA is described, 00 to 05.
@@ -163,11 +165,6 @@ const TWO_BYTES: Form = Form::Bytes {
     greatest: 2,
 };
 
-const FOUR_BYTES: Form = Form::Bytes {
-    least: 4,
-    greatest: 4,
-};
-
 const EIGHT_BYTES: Form = Form::Bytes {
     least: 8,
     greatest: 8,
@@ -239,7 +236,7 @@ static EXCSQLSTT_ITEMS: [Item; 4] = [SECTION, DATA, NAME_BEHIND, OVERRIDES_BEHIN
 
 static OPNQRY_ITEMS: [Item; 5] = [
     SECTION,
-    item!(Parameter, QRYBLKSZ, true, FOUR_BYTES),
+    item!(Parameter, QRYBLKSZ, true, Form::BlockSize),
     DATA,
     NAME_BEHIND,
     OVERRIDES_BEHIND,
@@ -247,7 +244,7 @@ static OPNQRY_ITEMS: [Item; 5] = [
 
 static CNTQRY_ITEMS: [Item; 5] = [
     SECTION,
-    item!(Parameter, QRYBLKSZ, false, FOUR_BYTES),
+    item!(Parameter, QRYBLKSZ, false, Form::BlockSize),
     QUERY_INSTANCE,
     NAME_BEHIND,
     OVERRIDES_BEHIND,

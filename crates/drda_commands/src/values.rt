@@ -48,7 +48,7 @@ fn side_of(value: Option<&[u8]>) -> DescribedSide
     }
 }
 
-fn number4(value: &[u8]) -> Option<u32>
+pub(crate) fn number4(value: &[u8]) -> Option<u32>
     ensures { result ≡ number4 value.now }
 {
     let [a, b, c, d] = value else {

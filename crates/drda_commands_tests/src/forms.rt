@@ -5,7 +5,7 @@ use ddm_objects::code_point::*;
 use std::test::Fail;
 
 // A command with a parameter, beside the others that it wants, and how it is judged.
-const PARAMETERS: [(u16, &[Part], Verdict); 35] = [
+const PARAMETERS: [(u16, &[Part], Verdict); 37] = [
     (CLSQRY, &[(PKGNAMCSN, &[0x40; 63])], (VALNSPRM, PKGNAMCSN)),
     (CLSQRY, &[(PKGNAMCSN, &[0x40; 64])], (0, CLSQRY)),
     (CLSQRY, &[(PKGNAMCSN, &[0x40; 791])], (0, CLSQRY)),
@@ -26,7 +26,12 @@ const PARAMETERS: [(u16, &[Part], Verdict); 35] = [
         &[SECTION, (QRYBLKSZ, &[0; 3])],
         (VALNSPRM, QRYBLKSZ),
     ),
-    (CNTQRY, &[SECTION, (QRYBLKSZ, &[0; 4])], (0, CNTQRY)),
+    (CNTQRY, &[SECTION, (QRYBLKSZ, &[0, 0, 2, 0])], (0, CNTQRY)),
+    (
+        CNTQRY,
+        &[SECTION, (QRYBLKSZ, &[0, 0, 1, 0xFF])],
+        (VALNSPRM, QRYBLKSZ),
+    ),
     (
         CNTQRY,
         &[SECTION, (QRYBLKSZ, &[0; 5])],
@@ -34,7 +39,16 @@ const PARAMETERS: [(u16, &[Part], Verdict); 35] = [
     ),
     (CNTQRY, &[SECTION], (0, CNTQRY)),
     (OPNQRY, &[SECTION], (SYNTAXRM, 0x0E)),
-    (OPNQRY, &[SECTION, (QRYBLKSZ, &[0; 4])], (0, OPNQRY)),
+    (
+        OPNQRY,
+        &[SECTION, (QRYBLKSZ, &[0, 0xA0, 0, 0])],
+        (0, OPNQRY),
+    ),
+    (
+        OPNQRY,
+        &[SECTION, (QRYBLKSZ, &[0, 0xA0, 0, 1])],
+        (VALNSPRM, QRYBLKSZ),
+    ),
     (DSCSQLSTT, &[], (SYNTAXRM, 0x0E)),
     (DSCSQLSTT, &[SECTION], (0, DSCSQLSTT)),
     (DSCSQLSTT, &[SECTION, (TYPSQLDA, &[])], (VALNSPRM, TYPSQLDA)),

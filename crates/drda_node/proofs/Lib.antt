@@ -1,4 +1,5 @@
 pub mod Written
+pub mod Askers
 pub mod Conversing
 pub mod Stepping
 pub mod Pieces

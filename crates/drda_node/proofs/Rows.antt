@@ -4,6 +4,7 @@ use Rattle.std.proofs.lemmas.List.{map-set}
 use Rattle.drda_node.specs.declared.place.Place.{Place}
 use Rattle.std.specs.List.{list_all}
 use Rattle.drda_node.specs.Machine.{Conversation, Machine}
+use Rattle.core_steps.specs.Step.{CoreState}
 use Rattle.conversation.specs.Settings.{Settings}
 use Rattle.drda_node.specs.Feeding.{shown_held}
 use Rattle.drda_node.specs.Register.{shown, Register}
@@ -84,9 +85,10 @@ not_full (None ∷ row) place free full = cc full
 not_full (Some c ∷ row) zero free full = cc free
 not_full (Some c ∷ row) (suc place) free full = not_full row place free full
 
--- a machine whose row is this
-pub same_row : (settings : Settings) (rows row : List (Option Conversation)) → rows ≡ row → (let m : Machine = record { settings = settings; row = rows } in m) ≡ record { settings = settings; row = row }
-same_row settings rows row e = ap (λ (r : List (Option Conversation)). let m : Machine = record { settings = settings; row = r } in m) e
+-- a machine whose row and core are these
+pub same_machine : (settings : Settings) (rows row : List (Option Conversation)) (cores core : CoreState) → rows ≡ row → cores ≡ core
+    → (let m : Machine = record { settings = settings; row = rows; core = cores } in m) ≡ record { settings = settings; row = row; core = core }
+same_machine settings rows row cores core e f = λ i. record { settings = settings; row = e i; core = f i }
 
 pub same_numbers : (numbers before : List ℕ) (given : ℕ) → numbers ≡ before → (let r : Register = record { numbers = numbers; given = given } in r) ≡ record { numbers = before; given = given }
 same_numbers numbers before given e = ap (λ (ns : List ℕ). let r : Register = record { numbers = ns; given = given } in r) e

@@ -1,7 +1,7 @@
 -- What an event does to the machine, and the records that answer it.
 use Rattle.std.specs.Prelude.{◌≡◌, ◌⊎◌, ℕ, Bool, List, [], ◌∷◌, ◌++◌, Option, Some, None, slice_get, if◌then◌else◌}
-use Rattle.drda_node.specs.Machine.{Conversation, Machine, with_place, opened, lost}
-use Rattle.drda_node.specs.Hearing.{Hears}
+use Rattle.drda_node.specs.Machine.{Conversation, Machine, opened, lost}
+use Rattle.drda_node.specs.Hearing.{Attended, attended, attended_at, Hears}
 use Rattle.drda_node.specs.Records.{record_text, Event, opens, sends, loses, checkpoints}
 
 -- ---- the records that go out
@@ -27,10 +27,10 @@ OpensAt (Some None) machine number written new =
 -- the replies of a conversation to bytes that came, and whether it is closed then
 pub record Replies (before : Conversation) (machine : Machine) (number : ℕ) (bytes written : List ℕ) (new : Machine) : Type 0 where
   pub replies : List ℕ
-  pub after : Conversation
-  pub hears : Hears machine.settings before bytes replies after
-  pub written_is : written ≡ record_text 2 number replies ++ closing number after.session.is_closed
-  pub row : new ≡ with_place machine number (Some after)
+  pub after : Attended
+  pub hears : Hears machine.settings number (attended machine before) bytes replies after
+  pub written_is : written ≡ record_text 2 number replies ++ closing number after.standing.session.is_closed
+  pub row : new ≡ attended_at machine number after
 
 abbrev pub SendsAt : Option (Option Conversation) → Machine → ℕ → List ℕ → List ℕ → Machine → Type 0
 SendsAt None machine number bytes written new = (written ≡ refusal number 2) × (new ≡ machine)

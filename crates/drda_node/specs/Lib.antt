@@ -1,4 +1,5 @@
 pub mod Machine
+pub mod Asking
 pub mod Hearing
 pub mod Records
 pub mod Happening

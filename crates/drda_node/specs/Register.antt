@@ -1,5 +1,6 @@
 -- Which conversation is meant: a place, and the number that was given to the one that stands there.
 use Rattle.std.specs.Prelude.{◌≡◌, ℕ, ◌+◌, List, map, Option, Some, None, slice_get, slice_set, if◌then◌else◌}
+use Rattle.rdb_core.specs.State.{state_of}
 use Rattle.drda_node.specs.declared.node.Node.{Node}
 use Rattle.drda_node.specs.declared.place.Place.{Place}
 use Rattle.drda_node.specs.declared.node.ConversationId.{ConversationId}
@@ -11,7 +12,7 @@ shown place = if place.is_open then Some (shown_held place.front) else None
 
 -- the machine that a node is
 abbrev pub machine : Node → Machine
-machine node = record { settings = node.settings; row = map shown node.places.items }
+machine node = record { settings = node.settings; row = map shown node.places.items; core = state_of node.core }
 
 -- the number that was last given at each place, and how many numbers were given
 pub record Register : Type 0 where

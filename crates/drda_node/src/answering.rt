@@ -1,8 +1,8 @@
 //! Events done by a node, and the records that answer them.
 
 ghost use Rattle.std.specs.Prelude.{◌≡◌, ◌≤◌, ◌+◌, [], ◌++◌, ℕ, List, OnOk, IfOk, length, drop};
-ghost use Rattle.drda_node.specs.Machine.{Conversation, IsOpen};
-ghost use Rattle.drda_node.specs.Hearing.{HearsAt};
+ghost use Rattle.drda_node.specs.Machine.{IsOpen};
+ghost use Rattle.drda_node.specs.Hearing.{Attended, HearsAt};
 ghost use Rattle.drda_node.specs.Records.{StartsUnsized, opens, sends, loses, checkpoints, record_text};
 ghost use Rattle.drda_node.specs.Reading.{event_of, size_of};
 ghost use Rattle.drda_node.specs.Happening.{Happens, refusal, closing};
@@ -140,10 +140,10 @@ fn feed_all(
     replies: &mut Vec<u8>,
 ) -> Result<bool, AllocError>
     requires { IsOpen (machine node.old) place }
-    ensures { IfOk result (λ is_closed. (after : Conversation) × (written : List ℕ)
+    ensures { IfOk result (λ is_closed. (after : Attended) × (written : List ℕ)
         × (replies.new.items ≡ replies.old.items ++ written)
         × HearsAt (machine node.old) place bytes.now written after (machine node.new)
-        × (after.session.is_closed ≡ is_closed)) }
+        × (after.standing.session.is_closed ≡ is_closed)) }
 {
     stays_read();
     let mut at = 0;

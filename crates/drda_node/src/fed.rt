@@ -14,9 +14,9 @@ pub struct Fed {
 pub enum FedState {
     /// All bytes were taken, and more may come.
     Open,
-    /// The conversation is closed: a fault of the framing was answered, now or before. Where it is
-    /// answered now, the last byte that was taken is the last one of the faulty header; a conversation
-    /// that was closed before takes none.
+    /// The conversation is closed: a fault of the framing was answered, or a command by AGNPRMRM, now or
+    /// before. Where it is answered now, the last byte that was taken is the last one of the faulty header
+    /// or of the command; a conversation that was closed before takes none.
     Closed,
     /// Memory was refused to the command that these bytes completed: it was not done, and this is its
     /// reply, which comes behind what was appended. The rest of the piece is to be fed again.

@@ -2,19 +2,27 @@
 
 ghost use Rattle.std.specs.Prelude.{◌≡◌, ◌≤◌, ◌+◌, length, vec_len, vec_capacity};
 ghost use Rattle.conversation.specs.Steps.{KeepsToOne};
-ghost use Rattle.drda_node.specs.Feeding.{IsBetweenCommands, KeepsToWanted, Takes, shown_held, state_for};
+ghost use Rattle.drda_node.specs.Asking.{IsSameAsker, core_of};
+ghost use Rattle.drda_node.specs.Feeding.{IsBetweenCommands, KeepsToWanted, Takes, state_for, with_core};
 
+use crate::asker::Asker;
 use crate::fed::{Fed, FedState};
 use conversation::{Front, Need};
 use dss_frames::stays_read;
 
 /// Gives a conversation bytes and does each command that is whole. It hands on no more bytes than the
 /// command under way still wants, so that what is taken was answered or belongs to one command.
-pub(crate) fn converse(front: &mut Front, piece: &[u8], out: &mut Vec<u8>) -> Fed
+pub(crate) fn converse(
+    front: &mut Front,
+    asker: &mut Asker<'_>,
+    piece: &[u8],
+    out: &mut Vec<u8>,
+) -> Fed
     requires { IsBetweenCommands front.old }
     ensures settled { IsBetweenCommands front.new }
     ensures settings { front.new.settings ≡ front.old.settings }
-    ensures takes { Takes front.old.settings (shown_held front.old) piece.now out.old.items result (shown_held front.new) out.new.items }
+    ensures same_asker { IsSameAsker asker.old asker.new }
+    ensures takes { Takes front.old.settings asker.old.conversation (with_core front.old (core_of asker.old)) piece.now out.old.items result (with_core front.new (core_of asker.new)) out.new.items }
 {
     stays_read();
     if front.is_closed() {
@@ -32,7 +40,7 @@ pub(crate) fn converse(front: &mut Front, piece: &[u8], out: &mut Vec<u8>) -> Fe
             };
         };
         let size = front.wanted().min(piece.len() - taken);
-        let fed = hand_on(front, &piece[taken..taken + size], out);
+        let fed = hand_on(front, asker, &piece[taken..taken + size], out);
         taken += fed.taken;
         match fed.state {
             FedState::Open => {
@@ -49,18 +57,19 @@ pub(crate) fn converse(front: &mut Front, piece: &[u8], out: &mut Vec<u8>) -> Fe
 }
 
 // One step, with bytes that belong to one command.
-fn hand_on(front: &mut Front, part: &[u8], out: &mut Vec<u8>) -> Fed
+fn hand_on(front: &mut Front, asker: &mut Asker<'_>, part: &[u8], out: &mut Vec<u8>) -> Fed
     requires settled { IsBetweenCommands front.old }
     requires room { vec_len out.old + 21 ≤ vec_capacity out.old }
     requires one_command { KeepsToOne front.old.rest (length part.now) }
     requires wanted { KeepsToWanted front.old.rest (length part.now) }
     ensures settled { IsBetweenCommands front.new }
     ensures settings { front.new.settings ≡ front.old.settings }
-    ensures takes { Takes front.old.settings (shown_held front.old) part.now out.old.items result (shown_held front.new) out.new.items }
+    ensures same_asker { IsSameAsker asker.old asker.new }
+    ensures takes { Takes front.old.settings asker.old.conversation (with_core front.old (core_of asker.old)) part.now out.old.items result (with_core front.new (core_of asker.new)) out.new.items }
 {
     stays_read();
     let taken = front.feed(part);
-    let need = front.next(out);
+    let need = front.next(asker, out);
     Fed {
         taken,
         state: state_of(need, taken == part.len()),

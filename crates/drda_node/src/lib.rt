@@ -1,7 +1,8 @@
-//! A node: up to 64 conversations side by side, and their events from one stream of records.
+//! A node: up to 64 conversations side by side over one core, and their events from one stream of records.
 #![tactic(auto)]
 
 mod answering;
+mod asker;
 mod event;
 mod fed;
 mod feeding;

@@ -3,9 +3,11 @@
 ghost use Rattle.std.specs.Prelude.{◌≡◌, length};
 ghost use Rattle.drda_node.specs.Sharing.{AllServe};
 
+use crate::asker::Asker;
 use crate::fed::Fed;
 use crate::place::Place;
 use conversation::Settings;
+use rdb_core::Core;
 use std::alloc::{AllocError, Global};
 use thiserror::Error;
 
@@ -38,11 +40,12 @@ pub enum Done {
     Done,
 }
 
-/// Up to 64 conversations.
+/// Up to 64 conversations, and the core that they ask.
 #[derive(Drop)]
 pub struct Node {
     alloc: Global,
     settings: Settings,
+    pub(crate) core: Core,
     pub(crate) places: Vec<Place>,
     pub(crate) next_number: u64,
     ghost sixty_four: { length places.items ≡ 64 },
@@ -55,7 +58,7 @@ impl Node {
     ghost use Rattle.drda_node.specs.Feeding.{Feeds};
     ghost use Rattle.drda_node.specs.Register.{machine, register, place_of, Names, Opens};
 
-    /// A node with no conversation.
+    /// A node with no conversation, over a core without tables.
     pub fn start(alloc: Global, settings: Settings) -> Result<Node, AllocError>
         ensures { IfOk result (λ n. machine n ≡ at_start settings) }
     {
@@ -66,6 +69,7 @@ impl Node {
         Ok(Node {
             alloc,
             settings,
+            core: Core::start(alloc),
             places,
             next_number: 0,
         })
@@ -145,11 +149,16 @@ impl Node {
         ensures feeds { Feeds (machine self.old) place piece.now out.old.items result (machine self.new) out.new.items }
         ensures register { register self.new ≡ register self.old }
     {
-        self.places[place].feed(piece, out)
+        let mut asker = Asker {
+            core: &mut self.core,
+            conversation: place as u64,
+        };
+        self.places[place].feed(&mut asker, piece, out)
     }
 
     /// Takes a conversation away: its place is free, what it had not sent whole is dropped, and its
-    /// memory is given back.
+    /// memory is given back. Its unit of work ends without its changes, and so does each branch that it
+    /// was the last to start or join, and that is not prepared. Takes no memory.
     pub fn lost(&mut self, id: ConversationId)
         requires { Names (machine self.old) (register self.old) id }
         ensures machine { machine self.new ≡ lost (machine self.old) (place_of id) }
@@ -165,6 +174,7 @@ impl Node {
         ensures register { register self.new ≡ register self.old }
     {
         self.places[place].close(self.alloc);
+        let _ = self.core.lose(place as u64);
     }
 
     /// Checkpoints the store. There is none yet, so nothing changes.

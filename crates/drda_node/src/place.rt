@@ -2,6 +2,7 @@
 
 ghost use Rattle.drda_node.specs.Feeding.{IsBetweenCommands};
 
+use crate::asker::Asker;
 use crate::fed::Fed;
 use crate::feeding::converse;
 use conversation::{Front, Settings};
@@ -19,7 +20,8 @@ pub struct Place {
 
 impl Place {
     ghost use Rattle.std.specs.Prelude.{◌≡◌, IfOk, true};
-    ghost use Rattle.drda_node.specs.Feeding.{Takes, shown_held};
+    ghost use Rattle.drda_node.specs.Asking.{IsSameAsker, core_of};
+    ghost use Rattle.drda_node.specs.Feeding.{Takes, with_core};
     ghost use Rattle.drda_node.specs.Register.{shown};
     ghost use Rattle.drda_node.specs.Machine.{beginning};
 
@@ -60,13 +62,14 @@ impl Place {
     }
 
     /// Gives the conversation bytes.
-    pub(crate) fn feed(&mut self, piece: &[u8], out: &mut Vec<u8>) -> Fed
+    pub(crate) fn feed(&mut self, asker: &mut Asker<'_>, piece: &[u8], out: &mut Vec<u8>) -> Fed
         requires { self.old.is_open ≡ true }
-        ensures takes { Takes self.old.front.settings (shown_held self.old.front) piece.now out.old.items result (shown_held self.new.front) out.new.items }
+        ensures takes { Takes self.old.front.settings asker.old.conversation (with_core self.old.front (core_of asker.old)) piece.now out.old.items result (with_core self.new.front (core_of asker.new)) out.new.items }
+        ensures same_asker { IsSameAsker asker.old asker.new }
         ensures open { self.new.is_open ≡ true }
         ensures number { self.new.number ≡ self.old.number }
         ensures settings { self.new.front.settings ≡ self.old.front.settings }
     {
-        converse(&mut self.front, piece, out)
+        converse(&mut self.front, asker, piece, out)
     }
 }

@@ -22,11 +22,11 @@ more_step xid work e es rest Less other more = omega arith
 more_step xid work e es rest Equal other more = absurd (other refl)
 more_step xid work e es rest Greater other more = omega arith
 
-not_found : (b : Bool) (work : Work) (o : Option Work) → is_some (cond b (Some work) o) ≡ false → (b ≡ false) × (is_some o ≡ false)
+pub not_found : (b : Bool) (work : Work) (o : Option Work) → is_some (cond b (Some work) o) ≡ false → (b ≡ false) × (is_some o ≡ false)
 not_found true work o h = absurd cc
 not_found false work o h = (refl, h)
 
-other_xid : (a b : List ℕ) → bytes_eq a b ≡ false → slice_cmp nat_cmp a b ≢ Equal
+pub other_xid : (a b : List ℕ) → bytes_eq a b ≡ false → slice_cmp nat_cmp a b ≢ Equal
 other_xid a b other tie = true≢false (sym (ap (bytes_eq a) (sym (names_apart.exact a b tie)) ∙ itself a) ∙ other)
 
 one_held : (doubts : Doubts) (xid : List ℕ) (work : Work) → is_some (doubt_of doubts xid) ≡ false → held_for (with_doubt doubts xid work) ≡ held_for doubts + decision_taken xid
@@ -48,11 +48,11 @@ one_released (e ∷ es) xid work found = fewer_step xid work e es (without_doubt
 
 -- ---- records
 
-if_some : (b : Bool) (x e : Durable) → (if b then Some x else None) ≡ Some e → (b ≡ true) × (x ≡ e)
+pub if_some : (b : Bool) (x e : Durable) → (if b then Some x else None) ≡ Some e → (b ≡ true) × (x ≡ e)
 if_some true x e h = (refl, cc)
 if_some false x e h = absurd cc
 
-not_true : (b : Bool) → not b ≡ true → b ≡ false
+pub not_true : (b : Bool) → not b ≡ true → b ≡ false
 not_true true h = absurd cc
 not_true false h = refl
 

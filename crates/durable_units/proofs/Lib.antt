@@ -3,3 +3,5 @@ pub mod Placing
 pub mod Doubting
 pub mod Leading
 pub mod Holding
+pub mod Keeping
+pub mod Sounding

@@ -1,4 +1,6 @@
 pub mod Durable
 pub mod Laws
+pub mod Places
+pub mod Sound
 pub mod Replay
 pub mod Journal

@@ -2,7 +2,10 @@
 
 ghost use Rattle.durable_units.specs.Laws.{FrontsStand, GoesOn, HeldForDoubts, OneMore};
 ghost use Rattle.durable_units.specs.Journal.{LeadingWereWritten, NoStop, OneState, WrittenLead};
+ghost use Rattle.durable_units.specs.Places.{ChangesKeepTables, PlacesGoOn, RowsKeepPlaces, TablesGivePlaces};
+ghost use Rattle.durable_units.specs.Sound.{StatesStaySound};
 
+use tables::laws::{changes_are_local, changes_make_tables};
 use unit_records::laws::records_have_one_reading;
 
 /// Records are replayed one after another: what follows others goes on from where they led, and where
@@ -28,3 +31,23 @@ pub fn records_lead_one_way()
 pub fn doubts_hold_their_decisions()
     ensures { HeldForDoubts }
 {}
+
+/// When changes that have their places keep them: changes of rows wherever the tables are kept, and all
+/// changes where no table is created besides. A change creates a table or leaves all of them.
+pub fn places_depend_on_tables()
+    ensures go_on { PlacesGoOn }
+    ensures rows { RowsKeepPlaces }
+    ensures tables { TablesGivePlaces }
+    ensures kept { ChangesKeepTables }
+{
+    changes_are_local();
+    changes_make_tables();
+}
+
+/// Each record that can be written keeps a state sound: a store, and XIDs in doubt that rise, 256 at
+/// most, each with a unit that can be written.
+pub fn states_stay_sound()
+    ensures { StatesStaySound }
+{
+    changes_are_local();
+}

@@ -13,7 +13,9 @@ const CREATED: (Kind, &'static [u8]) = (
         0, 0, 0, 2, 1, 1, b'T', 1, 1, b'A', 2, 0, 0, 0, 1, 0, 2, 1, b'T', 0, 5, 0, 0, 0, 0, 5,
     ],
 );
+
 const NOTHING: (Kind, &'static [u8]) = (Kind::Commit, &[0, 0, 0, 0]);
+
 const PREPARED: (Kind, &'static [u8]) = (
     Kind::Prepare,
     &[
@@ -21,26 +23,27 @@ const PREPARED: (Kind, &'static [u8]) = (
         b'T', 0, 5, 0, 0, 0, 0, 6,
     ],
 );
+
 const ANOTHER: (Kind, &'static [u8]) = (
     Kind::Prepare,
     &[
         0, 0, 0, 7, 0, 0, 0, 1, 0, 0, 0, 0, b'f', 0, 0, 0, 0, 0, 0, 0, 0,
     ],
 );
-const DONE: (Kind, &'static [u8]) = (
-    Kind::Decide,
-    &[0, 0, 0, 7, 0, 0, 0, 1, 0, 0, 0, 0, b'g', 1],
-);
+
+const DONE: (Kind, &'static [u8]) = (Kind::Decide, &[0, 0, 0, 7, 0, 0, 0, 1, 0, 0, 0, 0, b'g', 1]);
+
 const UNDONE: (Kind, &'static [u8]) = (
     Kind::Decide,
     &[0, 0, 0, 7, 0, 0, 0, 1, 0, 0, 0, 0, b'g', 2],
 );
+
 const REMOVED: (Kind, &'static [u8]) = (
     Kind::Commit,
     &[0, 0, 0, 1, 3, 1, b'T', 0, 5, 0, 0, 0, 0, 5],
 );
-const SHORT_ROW: (Kind, &'static [u8]) =
-    (Kind::Commit, &[0, 0, 0, 1, 2, 1, b'T', 0, 2, 0, 0]);
+
+const SHORT_ROW: (Kind, &'static [u8]) = (Kind::Commit, &[0, 0, 0, 1, 2, 1, b'T', 0, 2, 0, 0]);
 
 // How many rows T has, how many units are in doubt, and how many claims the first of them has; or the
 // gate of the record that is damaged. The gate of record i is at i times 100.

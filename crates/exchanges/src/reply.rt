@@ -86,17 +86,6 @@ impl Reply {
         }
     }
 
-    /// A reply data object of this text.
-    pub fn of_object(text: Vec<u8>) -> Reply
-        ensures { result ≡ spec.object text.items }
-    {
-        Reply {
-            kind: ReplyKind::Object,
-            severity: 0,
-            text,
-        }
-    }
-
     /// The SQLCARD that reports nothing, in a list of no bytes that has room for it.
     pub fn of_null_card(text: Vec<u8>) -> Reply
         requires empty { text.items ≡ [] }
@@ -195,6 +184,17 @@ impl Reply {
                 text,
             },
             Err(_) => unreachable!(),
+        }
+    }
+
+    /// A reply data object that is written, with its heading.
+    pub fn of_object(text: Vec<u8>) -> Reply
+        ensures { result ≡ spec.object text.items }
+    {
+        Reply {
+            kind: ReplyKind::Object,
+            severity: 0,
+            text,
         }
     }
 }

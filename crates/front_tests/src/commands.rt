@@ -3,14 +3,30 @@
 use crate::hexadecimal::bytes_of;
 use crate::texts::*;
 use conversation::{Front, Need, Settings, SettingsError};
+use core_calls::{Answer, CoreCall};
+use exchanges::Ask;
 use std::alloc::Global;
 use std::test::Fail;
+
+// Who does all that is asked, and has nothing to tell.
+#[derive(Drop)]
+struct Willing;
+
+impl Ask for Willing {
+    ghost use Rattle.std.specs.Prelude.{⊤};
+
+    ghost asks = { λ _ _ _ _. ⊤ };
+
+    fn ask(&mut self, _call: &CoreCall<'_, '_>) -> Answer {
+        Answer::Done
+    }
+}
 
 // All that the conversation has to say now, with ample memory.
 fn push_answers(front: &mut Front, out: &mut Vec<u8>) -> Option<()> {
     for _ in 0..100 {
         out.reserve(21).ok()?;
-        match front.next(out) {
+        match front.next(&mut Willing, out) {
             Need::Local => {}
             Need::Short(bytes) => out.extend_from_slice(&bytes).ok()?,
             Need::Bytes | Need::Closed => break,
@@ -220,7 +236,7 @@ const ANSWERED: [(&[&str], &[&str]); 24] = [
             SECCHKRM,
             ACCRDBRM,
             "0026 D002 0005 0020 2207 0006 1149 0008 0016 2110 53484F50 20*14",
-            NOT_SERVED,
+            COMMITTED,
         ],
     ),
 ];

@@ -12,6 +12,8 @@ mod program;
 #[cfg(test)]
 mod refusals;
 #[cfg(test)]
+mod sql;
+#[cfg(test)]
 mod texts;
 #[cfg(test)]
 mod vectors;

@@ -76,7 +76,7 @@ const STAGES: [(&[&str], [&str; 5]); 5] = [
             OUT_OF_TURN_2,
             OUT_OF_TURN_3,
             ACCESSED,
-            NOT_SERVED,
+            COMMITTED,
         ],
     ),
 ];
@@ -202,18 +202,18 @@ fn the_earlier_refusal_wins(rt: HostRuntime) -> Result<(), Fail> {
 }
 
 #[test]
-fn unserved_commands_are_known(rt: HostRuntime) -> Result<(), Fail> {
+fn commands_of_sql_wait_for_the_database(rt: HostRuntime) -> Result<(), Fail> {
     for code in [
         "1055", "2005", "2006", "2008", "200A", "200B", "200C", "200D", "200E", "200F",
     ] {
-        let answered = is_known_and_unserved(rt.alloc(), code);
+        let answered = waits_for_the_database(rt.alloc(), code);
         assert_eq!(rt; answered, Some(true), "{code}");
     }
     Ok(())
 }
 
 // Whether RDBNACRM answers a command of this code point before the database is accessed.
-fn is_known_and_unserved(alloc: Global, code: &str) -> Option<bool> {
+fn waits_for_the_database(alloc: Global, code: &str) -> Option<bool> {
     let request = bytes_of(alloc, &[EXCSAT_ALONE, "000A D001 0006 0004", code]).ok()?;
     let wanted = bytes_of(alloc, &[EXCSATRD_ALONE, NOT_ACCESSED]).ok()?;
     let answer = answer_in_pieces(alloc, &request, WHOLE, WHOLE)?;

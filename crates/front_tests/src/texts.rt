@@ -45,13 +45,14 @@ pub const ACCRDB: &str =
 pub const ACCRDBRM: &str = "0039 D002 0004 0033 2201 0006 1149 0000 000C 112E 5244413031303030
     000D 002F 51544453514C415343 0010 0035 0006 119C 04B8 0006 119E 04B8";
 
-/// RDBCMM, which needs the database, and its refusals: by RDBNACRM before the database was accessed, and by
-/// CMDNSPRM behind that.
+/// RDBCMM, which needs the database: it is refused by RDBNACRM before that was accessed, and answered by
+/// ENDUOWRM and SQLCARD behind that.
 pub const RDBCMM: &str = "000A D001 0006 0004 200E";
 
 pub const NOT_ACCESSED: &str = "0026 D002 0006 0020 2204 0006 1149 0008 0016 2110 53484F50 20*14";
 
-pub const NOT_SERVED: &str = "0016 D002 0006 0010 1250 0006 1149 0008 0006 000C 200E";
+pub const COMMITTED: &str =
+    "0015 D052 0006 000F 220C 0006 1149 0004 0005 2115 01 000B D003 0006 0005 2408 FF";
 
 /// PRCCNVRM to the correlators 2, 3 and 4.
 pub const OUT_OF_TURN_2: &str = "0010 D002 0002 000A 1245 0006 1149 0008";

@@ -4,10 +4,6 @@
 #[cfg(test)]
 mod answers;
 #[cfg(test)]
-mod asked;
-#[cfg(test)]
 mod ends;
 #[cfg(test)]
 mod fixtures;
-#[cfg(test)]
-mod statements;

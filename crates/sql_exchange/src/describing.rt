@@ -1,6 +1,6 @@
 //! DSCSQLSTT, and what describes the statement of PRPSQLSTT.
 
-ghost use Rattle.std.specs.Prelude.{◌≡◌, ◌≤◌, ◌+◌, ◌++◌, ◌∷◌, [], OnErr, OnOk, if◌then◌else◌, length, map, true, vec_capacity, vec_len};
+ghost use Rattle.std.specs.Prelude.{◌≡◌, ◌≤◌, ◌+◌, [], OnErr, OnOk, if◌then◌else◌, length, map, true, vec_capacity, vec_len};
 ghost use Rattle.row_values.specs.Column.{column_of};
 ghost use Rattle.drda_commands.specs.Views.{given_of};
 ghost use Rattle.sql_exchange.specs.Commands as commands;

@@ -1,6 +1,6 @@
 //! RDBCMM and RDBRLLBCK.
 
-ghost use Rattle.std.specs.Prelude.{◌≡◌, ◌≤◌, ◌+◌, ◌++◌, OnErr, OnOk, length};
+ghost use Rattle.std.specs.Prelude.{◌≡◌, ◌≤◌, ◌+◌, OnErr, OnOk, length};
 ghost use Rattle.core_calls.specs.Call.{call_of};
 ghost use Rattle.sql_exchange.specs.Commands as commands;
 ghost use Rattle.exchanges.specs.Done.{WasDone};

@@ -1,7 +1,6 @@
 //! EXCSQLSTT.
 
 ghost use Rattle.std.specs.Prelude.{◌≡◌, ◌≤◌, ◌+◌, IfOk, None, OnErr, OnOk, Some, length, option_map, true};
-ghost use Rattle.drda_commands.specs.Values.{described_data_in};
 ghost use Rattle.drda_commands.specs.Views.{described_of, given_of};
 ghost use Rattle.sections.specs.Cursors.{section_of};
 ghost use Rattle.sql_exchange.specs.Commands as commands;

@@ -2,7 +2,6 @@
 
 ghost use Rattle.std.specs.Prelude.{◌≡◌, ◌≤◌, ◌+◌, ◌++◌, ◌∷◌, [], None, OnErr, OnOk, Some, true};
 ghost use Rattle.std.specs.Str.{is_utf8};
-ghost use Rattle.drda_commands.specs.Values.{attributes_in};
 ghost use Rattle.drda_commands.specs.Views.{given_of};
 ghost use Rattle.exchanges.specs.Done.{WasDone};
 ghost use Rattle.exchanges.specs.Reply.{null_card};

@@ -1,11 +1,16 @@
 -- A page of a catalogue, as it is read.
-use Rattle.std.proofs.Common.{◌≡◌, ℕ, ◌+◌, ◌-◌, ◌<◌, suc, inl, inr, List, [], ◌++◌, Some, None, option_map, map, refl, sym, ap, subst, ◌∙◌, arith, append_assoc, append-nil}
+use Rattle.std.proofs.Common.{◌≡◌, ℕ, ◌+◌, ◌-◌, ◌<◌, suc, inl, inr, List, [], ◌∷◌, ◌++◌, length, Option, Some, None, option_map, map, refl, sym, ap, subst, ◌∙◌, arith, append_assoc, append-nil}
 use Rattle.drda_words.specs.Place.{part}
 use Rattle.row_pages.specs.Page.{IsPage, Page}
 use Rattle.row_pages.specs.Parsing.{OnePage}
 use Rattle.row_pages.specs.declared.page.PageKind.TheVariants as kind
-use Rattle.std.specs.Prelude.{Result, Ok, Err}
+use Rattle.std.specs.Prelude.{Result, Ok, Err, unwrap_or}
 use Rattle.std.specs.Global.{Vec}
+use Rattle.std.specs.List.{AllByRecursion}
+use Rattle.std.specs.Option.{option_and_then}
+use Rattle.row_pages.specs.Laying.{IsShort, Laying, laid, rows_over}
+use Rattle.table_image.specs.Laying.{StandAt}
+use Rattle.table_image.proofs.EntryBytes.{entry_back}
 use Rattle.row_pages.specs.Keeping.{TellsDamage}
 use Rattle.row_pages.specs.declared.kept.PageFault.{PageFault}
 use Rattle.row_pages.specs.declared.kept.PageFault.TheVariants as fault
@@ -13,7 +18,7 @@ use Rattle.table_image.specs.ReadCatalogue.{ReadsBytes, TellsCatalogue, catalogu
 use Rattle.table_image.specs.declared.entry.StoredTable.{StoredTable}
 use Rattle.table_image.specs.declared.reading.CatalogueError.{CatalogueError}
 use Rattle.table_image.specs.declared.reading.CatalogueError.TheVariants.{NoMemory, DeviceFailed, Damaged}
-use Rattle.table_image.specs.Catalogue.{Entry, HasEntries, IsDamagedAt, IsEntryPage, entries_in, entry_of}
+use Rattle.table_image.specs.Catalogue.{AreEntries, Entry, HasEntries, IsDamagedAt, IsEntryPage, entries_in, entry_at, entry_of, rows_of}
 
 -- a row of the page is no table
 pub no_entries : {X : Type 0} → OnePage → (page : Page) (bytes : List ℕ) → IsPage page bytes → (f : List Entry → X) → option_map f (entries_in page.rows) ≡ None → (entries : List Entry) → IsEntryPage bytes entries → ⊥
@@ -66,3 +71,50 @@ module _ (file : List ℕ) (at n : ℕ) (old new : List StoredTable) (start page
 pub all_read : (file : List ℕ) (at n : ℕ) (tables : List StoredTable) (start pages : ℕ) → n ≡ 0 → ((rest : List Entry) → HasEntries file at n rest → HasEntries file start pages (map entry_of tables ++ rest)) → HasEntries file start pages (map entry_of tables)
 all_read file at n tables start pages none before =
     subst (λ (es : List Entry). HasEntries file start pages es) (append-nil (map entry_of tables)) (before [] (subst (λ m. HasEntries file at m []) (sym none) refl))
+
+-- ---- what was written is read
+
+entries_back : (es : List Entry) → AreEntries es → entries_in (rows_of es) ≡ Some es
+entries_back [] good = refl
+entries_back (e ∷ es) good =
+    ap (λ (o : Option Entry). option_and_then (λ (x : Entry). option_map (λ (xs : List Entry). x ∷ xs) (entries_in (rows_of es))) o) (entry_back e good.0)
+    ∙ ap (λ (o : Option (List Entry)). option_map (λ (xs : List Entry). e ∷ xs) o) (entries_back es good.1)
+
+-- rows of tables, and rows of tables behind them
+record Splits (rows more : List (List ℕ)) (es : List Entry) : Type 0 where
+  front : List Entry
+  back : List Entry
+  first : entries_in rows ≡ Some front
+  second : entries_in more ≡ Some back
+  same : es ≡ front ++ back
+
+one_split : (row : List ℕ) (rows more : List (List ℕ)) (es : List Entry) (o : Option Entry) (q : Option (List Entry)) → entry_at row ≡ o → entries_in (rows ++ more) ≡ q
+    → option_and_then (λ (x : Entry). option_map (λ (xs : List Entry). x ∷ xs) q) o ≡ Some es → ((rest : List Entry) → entries_in (rows ++ more) ≡ Some rest → Splits rows more rest) → Splits (row ∷ rows) more es
+one_split row rows more es None q first there is ih = absurd cc
+one_split row rows more es (Some e) None first there is ih = absurd cc
+one_split row rows more es (Some e) (Some rest) first there is ih =
+    let s = ih rest there in
+    record {
+      front = e ∷ s.front;
+      back = s.back;
+      first =
+          ap (λ (o : Option Entry). option_and_then (λ (x : Entry). option_map (λ (xs : List Entry). x ∷ xs) (entries_in rows)) o) first
+          ∙ ap (λ (o : Option (List Entry)). option_map (λ (xs : List Entry). e ∷ xs) o) s.first;
+      second = s.second;
+      same = sym (ap (λ (o : Option (List Entry)). unwrap_or o []) is) ∙ ap (λ (xs : List Entry). e ∷ xs) s.same;
+    }
+
+splits : (rows more : List (List ℕ)) (es : List Entry) → entries_in (rows ++ more) ≡ Some es → Splits rows more es
+splits [] more es is = record { front = []; back = es; first = refl; second = is; same = refl }
+splits (row ∷ rows) more es is =
+    one_split row rows more es (entry_at row) (entries_in (rows ++ more)) refl refl is (λ rest there. splits rows more rest there)
+
+read_back : (file : List ℕ) (at : ℕ) (pages : List (List (List ℕ))) (es : List Entry) → StandAt kind.Catalogue file at pages → entries_in (rows_over pages) ≡ Some es → HasEntries file at (length pages) es
+read_back file at [] es stand is = sym (ap (λ (o : Option (List Entry)). unwrap_or o []) is)
+read_back file at (p ∷ pages) es stand is =
+    let s = splits p (rows_over pages) es is in
+    (s.front, s.back, record { rows = p; page = stand.0; are = s.first }, read_back file (at + 8192) pages s.back stand.1 s.second, s.same)
+
+pub catalogue_back : Laying → (file : List ℕ) (at : ℕ) (es : List Entry) → AreEntries es → AllByRecursion IsShort (rows_of es) → StandAt kind.Catalogue file at (laid (rows_of es)) → HasEntries file at (length (laid (rows_of es))) es
+catalogue_back law file at es good short stand =
+    read_back file at (laid (rows_of es)) es stand (ap (λ (l : List (List ℕ)). entries_in l) (law (rows_of es) short).same ∙ entries_back es good)

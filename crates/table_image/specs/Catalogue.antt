@@ -1,10 +1,13 @@
 -- The catalogue of a store: a row for each table, in pages of their own.
-use Rattle.std.specs.Prelude.{◌≡◌, ◌⊎◌, ℕ, zero, suc, ◌+◌, ◌^◌, Bool, true, ◌&&◌, nat_lt, List, [], ◌∷◌, ◌++◌, Option, Some, None, option_map, string_bytes}
+use Rattle.std.specs.Prelude.{◌≡◌, ◌⊎◌, ℕ, zero, suc, ◌+◌, ◌^◌, Bool, true, ◌&&◌, nat_lt, List, [], ◌∷◌, ◌++◌, length, Option, Some, None, option_map, string_bytes}
+use Rattle.std.specs.List.{AllByRecursion}
 use Rattle.std.specs.Option.{option_and_then}
 use Rattle.std.specs.Int.{w32, from_be_bytes, to_be_bytes}
 use Rattle.drda_words.specs.Place.{part}
 use Rattle.row_values.specs.Schema.{Schema, is_name, is_schema}
 use Rattle.row_values.specs.Bytes.{name_at, named, schema_at, schema_bytes}
+use Rattle.row_pages.specs.Laying.{IsShort, laid}
+use Rattle.table_image.specs.Laying.{StandAt}
 use Rattle.row_pages.specs.Page.{IsPage}
 use Rattle.row_pages.specs.declared.page.PageKind.TheVariants as kind
 use Rattle.table_image.specs.declared.entry.TablePlace.{TablePlace}
@@ -83,3 +86,7 @@ HaveNames (e ∷ es) = (is_name e.name ≡ true) × HaveNames es
 abbrev pub AreEntries : List Entry → Type 0
 AreEntries [] = Unit {0}
 AreEntries (e ∷ es) = (is_entry e ≡ true) × AreEntries es
+
+-- a catalogue that was written is read back
+abbrev pub CatalogueIsRead : Type 0
+CatalogueIsRead = (file : List ℕ) (at : ℕ) (entries : List Entry) → AreEntries entries → AllByRecursion IsShort (rows_of entries) → StandAt kind.Catalogue file at (laid (rows_of entries)) → HasEntries file at (length (laid (rows_of entries))) entries

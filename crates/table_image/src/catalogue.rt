@@ -2,7 +2,8 @@
 ghost use Rattle.std.specs.Prelude.{◌≡◌, ◌+◌, ◌*◌, ◌≤◌, ◌^◌, ℕ, List, true, IsTrue, OnOk, IfOk, length, map};
 ghost use Rattle.drda_disk.specs.Disk.{Stays};
 ghost use Rattle.row_pages.specs.Keeping.{AreRead};
-ghost use Rattle.row_pages.specs.Laying.{laid};
+ghost use Rattle.row_pages.specs.Laying.{IsShort, laid};
+ghost use Rattle.std.specs.List.{AllByRecursion};
 ghost use Rattle.half_store.specs.Writing.{from_of, half_bytes_of, next_of};
 ghost use Rattle.table_image.specs.Adding.{AddsPages, end_of_half};
 ghost use Rattle.table_image.specs.Catalogue.{HaveNames, place_of, rows_of};
@@ -34,6 +35,7 @@ pub fn write_catalogue<D: Disk>(
     ensures adds { AddsPages D.is_modelled (D.life disk.old) (D.life disk.new) image.old image.new }
     ensures stand { OnOk result (IsTrue D.is_modelled → StandAt PageKind.Catalogue (D.life disk.new).seen (next_of image.old) (laid (rows_of (map place_of tables.now)))) }
     ensures pages { OnOk result (next_of image.new ≡ next_of image.old + 8192 * length (laid (rows_of (map place_of tables.now)))) }
+    ensures short { OnOk result (AllByRecursion IsShort (rows_of (map place_of tables.now))) }
     ensures full { TellsFull result (end_of_half image.old) (next_of image.old + 8192 * length (laid (rows_of (map place_of tables.now)))) }
     ensures kept { IsTrue D.is_modelled → AreRead cache.old (D.life disk.old).seen → AreRead cache.new (D.life disk.new).seen }
     ensures cause { CountsImage result (D.life disk.old).faults (D.life disk.new).faults }

@@ -10,6 +10,7 @@ use row_values::{ReadError, Schema, put_name, split_name};
 use std::alloc::{AllocError, Global};
 
 /// Where a table lies in an image.
+#[derive(Drop)]
 pub struct TablePlace<'a> {
     pub name: &'a str,
     pub schema: &'a Schema,

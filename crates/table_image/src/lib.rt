@@ -13,4 +13,4 @@ pub use catalogue::write_catalogue;
 pub use entry::{StoredTable, TablePlace, entries_have_their_bytes};
 pub use errors::ImageError;
 pub use merging::merge_into;
-pub use reading::{CatalogueError, read_catalogue};
+pub use reading::{CatalogueError, catalogues_are_read, read_catalogue};

@@ -5,13 +5,13 @@ ghost use Rattle.drda_disk.specs.Disk.{Stays};
 ghost use Rattle.row_values.specs.Bytes.{Reads};
 ghost use Rattle.row_pages.specs.Page.{IsPage};
 ghost use Rattle.row_pages.specs.Keeping.{AreRead};
-ghost use Rattle.table_image.specs.Catalogue.{entries_in, entry_of};
+ghost use Rattle.table_image.specs.Catalogue.{CatalogueIsRead, entries_in, entry_of};
 ghost use Rattle.table_image.specs.ReadCatalogue.{CountsCatalogue, ReadsBytes, TellsCatalogue, catalogue_error};
 
 use crate::StoredTable;
 use crate::entry::read_entry;
 use drda_disk::Disk;
-use row_pages::{KeptPage, PAGE_BYTES, PageCache, PageFault, PageKind, one_page};
+use row_pages::{KeptPage, PAGE_BYTES, PageCache, PageFault, PageKind, one_laying, one_page};
 use row_values::ReadError;
 use std::alloc::Global;
 use thiserror::Error;
@@ -123,4 +123,11 @@ pub fn read_catalogue<D: Disk>(
         left -= 1;
     }
     Ok(tables)
+}
+
+/// A catalogue that was written is read back: its pages have the tables that were given, in their order.
+pub fn catalogues_are_read()
+    ensures { CatalogueIsRead }
+{
+    one_laying();
 }

@@ -2,4 +2,4 @@ use Rattle.conversation.proofs.Chains.{chains_are_silent}
 use Rattle.conversation.proofs.laws.broken_chains_are_silent.Goals as goal
 
 pub returns : goal.returns
-returns c = chains_are_silent
+returns g c = chains_are_silent g.A.Ask.asks

@@ -2,4 +2,4 @@ use Rattle.conversation.proofs.Checks.{opened_behind}
 use Rattle.conversation.proofs.laws.opened_behind_a_check.Goals as goal
 
 pub returns : goal.returns
-returns c = opened_behind
+returns g c = opened_behind g.A.Ask.asks

@@ -2,7 +2,7 @@ use Rattle.conversation.proofs.TreesOf.{commands_are_trees, faults_are_trees}
 use Rattle.conversation.proofs.laws.replies_are_trees.Goals as goal
 
 pub returns-clause-commands : goal.returns-clause-commands
-returns-clause-commands c = commands_are_trees
+returns-clause-commands g c = commands_are_trees g.A.Ask.asks
 
 pub returns-clause-faults : goal.returns-clause-faults
-returns-clause-faults c = faults_are_trees
+returns-clause-faults g c = faults_are_trees

@@ -3,8 +3,12 @@ use Rattle.std.proofs.lemmas.List.{take_rest, length-drop}
 use Rattle.drda_node.specs.declared.fed.FedState.{FedState}
 use Rattle.drda_node.specs.Register.{machine}
 use Rattle.drda_node.specs.Feeding.{Feeds, LeftAs, bytes_behind}
-use Rattle.drda_node.proofs.Heard.{Heard, heard_more, heard_all, heard_closed, said_behind}
+use Rattle.drda_node.proofs.Heard.{Heard, heard_more, heard_all, heard_closed, said_behind, still_there}
 use Rattle.drda_node.proofs.answering.feed_all.Goals as goal
+
+pub feed_at-fed-requires : goal.feed_at-fed-requires
+feed_at-fed-requires c =
+    still_there (machine c.args.node.now) c.args.place c.args.bytes.now c.feeding.at c.args.replies.now.items (machine c.feeding.node) c.feeding.replies.items c.requires c.feeding.invariant.heard
 
 pub returns-in-Open : goal.returns-in-Open
 returns-in-Open c =

@@ -2,8 +2,10 @@ use Rattle.std.proofs.Common.{◌≡◌, ◌≤◌, ◌<◌, ◌+◌, ◌-◌, �
 use Rattle.std.proofs.lemmas.List.{length-take}
 use Rattle.drda_node.specs.declared.fed.FedState.{FedState}
 use Rattle.drda_node.specs.declared.fed.FedState.TheVariants.{Later}
-use Rattle.drda_node.specs.Feeding.{Takes, shown_held}
+use Rattle.drda_node.specs.Asking.{core_of}
+use Rattle.drda_node.specs.Feeding.{Takes, with_core}
 use Rattle.conversation.specs.Settings.{Settings}
+use Rattle.drda_node.proofs.Askers.{same_self, same_then}
 use Rattle.drda_node.proofs.Pieces.{IsUnderWay, starts, stays_closed, stops, ends_so, goes_on}
 use Rattle.drda_node.proofs.Stepping.{within_piece}
 use Rattle.drda_node.proofs.feeding.converse.Goals as goal
@@ -12,19 +14,24 @@ below : (a b : ℕ) → a ≤ b → (a ≡ b → ⊥) → a < b
 below a b le apart = omega (arith, le, apart)
 
 pub returns-then-is_closed-clause-takes : goal.returns-then-is_closed-clause-takes
-returns-then-is_closed-clause-takes c = stays_closed c.args.front.now c.args.piece.now c.args.out.now.items c.requires (sym c.is_closed.ensures ∙ c.if-is_closed.true)
+returns-then-is_closed-clause-takes c = stays_closed c.args.asker.now.conversation c.args.front.now (core_of c.args.asker.now) c.args.piece.now c.args.out.now.items c.requires (sym c.is_closed.ensures ∙ c.if-is_closed.true)
 
 pub pieces-init : goal.pieces-init
 pieces-init c = record {
   settled = c.requires;
   settings = refl;
-  under_way = starts c.args.front.now c.args.piece.now c.args.out.now.items c.requires (sym c.is_closed.ensures ∙ c.if-is_closed.false);
+  same_asker = same_self c.args.asker.now;
+  under_way = starts c.args.asker.now.conversation c.args.front.now (core_of c.args.asker.now) c.args.piece.now c.args.out.now.items c.requires (sym c.is_closed.ensures ∙ c.if-is_closed.false);
 }
 
 pub returns-in_default-clause-takes : goal.returns-in_default-clause-takes
 returns-in_default-clause-takes c =
-    subst (λ (z : List ℕ). Takes c.args.front.now.settings (shown_held c.args.front.now) c.args.piece.now c.args.out.now.items (record { taken = c.pieces.taken; state = Later }) (shown_held c.pieces.front) z) (sym c.reserve.ensures.items)
-    (stops c.args.front.now.settings (shown_held c.args.front.now) c.args.piece.now c.args.out.now.items c.pieces.taken (shown_held c.pieces.front) c.pieces.out.items c.pieces.invariant.under_way)
+    let settings = c.args.front.now.settings in
+    let place = c.args.asker.now.conversation in
+    let old = with_core c.args.front.now (core_of c.args.asker.now) in
+    let between = with_core c.pieces.front (core_of c.pieces.asker) in
+    subst (λ (z : List ℕ). Takes settings place old c.args.piece.now c.args.out.now.items (record { taken = c.pieces.taken; state = Later }) between z) (sym c.reserve.ensures.items)
+    (stops settings place old c.args.piece.now c.args.out.now.items c.pieces.taken between c.pieces.out.items c.pieces.invariant.under_way)
 
 pub hand_on-fed-requires-clause-one_command : goal.hand_on-fed-requires-clause-one_command
 hand_on-fed-requires-clause-one_command c = λ more command rest unfinished few taken.
@@ -40,9 +47,10 @@ hand_on-fed-requires-clause-wanted c = λ unfinished.
 
 pub returns-then-taken-piece-clause-takes : goal.returns-then-taken-piece-clause-takes
 returns-then-taken-piece-clause-takes c =
-    let old = shown_held c.args.front.now in
-    let between = shown_held c.pieces.front in
-    let new = shown_held c.hand_on-fed.new.front in
+    let old = with_core c.args.front.now (core_of c.args.asker.now) in
+    let between = with_core c.pieces.front (core_of c.pieces.asker) in
+    let new = with_core c.hand_on-fed.new.front (core_of c.hand_on-fed.new.asker) in
+    let place = c.args.asker.now.conversation in
     let piece = c.args.piece.now in
     let fed = c.hand_on-fed.result in
     let settings = c.args.front.now.settings in
@@ -50,17 +58,19 @@ returns-then-taken-piece-clause-takes c =
     let out = c.args.out.now.items in
     let out1 = c.reserve.new.self.items in
     let out2 = c.hand_on-fed.new.out.items in
-    let takes = subst (λ (v : Settings). Takes v between (take size (drop c.pieces.taken piece)) out1 fed new out2) c.pieces.invariant.settings c.hand_on-fed.ensures.takes in
-    let under_way = subst (λ (z : List ℕ). IsUnderWay settings old piece out c.pieces.taken between z) (sym c.reserve.ensures.items) c.pieces.invariant.under_way in
+    let takes = subst (λ (v : Settings). Takes v place between (take size (drop c.pieces.taken piece)) out1 fed new out2) c.pieces.invariant.settings
+    (subst (λ (n : ℕ). Takes c.pieces.front.settings n between (take size (drop c.pieces.taken piece)) out1 fed new out2) c.pieces.invariant.same_asker.conversation c.hand_on-fed.ensures.takes) in
+    let under_way = subst (λ (z : List ℕ). IsUnderWay settings place old piece out c.pieces.taken between z) (sym c.reserve.ensures.items) c.pieces.invariant.under_way in
     let size_is : size ≡ min c.wanted.result (length piece - c.pieces.taken) = omega (arith, c.min-size.ensures) in
-    subst (λ (s : FedState). Takes settings old piece out (record { taken = c.pieces.taken + fed.taken; state = s }) new out2) c.in-Open.is
-    (ends_so settings c.stays_read.ensures.fault old between new piece out out1 out2 c.pieces.taken c.wanted.result size fed under_way size_is c.wanted.ensures.some takes (λ e. c.if-taken-piece.true))
+    subst (λ (s : FedState). Takes settings place old piece out (record { taken = c.pieces.taken + fed.taken; state = s }) new out2) c.in-Open.is
+    (ends_so settings place c.stays_read.ensures.fault old between new piece out out1 out2 c.pieces.taken c.wanted.result size fed under_way size_is c.wanted.ensures.some takes (λ e. c.if-taken-piece.true))
 
 pub pieces-preserved : goal.pieces-preserved
 pieces-preserved c =
-    let old = shown_held c.args.front.now in
-    let between = shown_held c.pieces.front in
-    let new = shown_held c.hand_on-fed.new.front in
+    let old = with_core c.args.front.now (core_of c.args.asker.now) in
+    let between = with_core c.pieces.front (core_of c.pieces.asker) in
+    let new = with_core c.hand_on-fed.new.front (core_of c.hand_on-fed.new.asker) in
+    let place = c.args.asker.now.conversation in
     let piece = c.args.piece.now in
     let fed = c.hand_on-fed.result in
     let settings = c.args.front.now.settings in
@@ -68,20 +78,23 @@ pieces-preserved c =
     let out = c.args.out.now.items in
     let out1 = c.reserve.new.self.items in
     let out2 = c.hand_on-fed.new.out.items in
-    let takes = subst (λ (v : Settings). Takes v between (take size (drop c.pieces.taken piece)) out1 fed new out2) c.pieces.invariant.settings c.hand_on-fed.ensures.takes in
-    let under_way = subst (λ (z : List ℕ). IsUnderWay settings old piece out c.pieces.taken between z) (sym c.reserve.ensures.items) c.pieces.invariant.under_way in
+    let takes = subst (λ (v : Settings). Takes v place between (take size (drop c.pieces.taken piece)) out1 fed new out2) c.pieces.invariant.settings
+    (subst (λ (n : ℕ). Takes c.pieces.front.settings n between (take size (drop c.pieces.taken piece)) out1 fed new out2) c.pieces.invariant.same_asker.conversation c.hand_on-fed.ensures.takes) in
+    let under_way = subst (λ (z : List ℕ). IsUnderWay settings place old piece out c.pieces.taken between z) (sym c.reserve.ensures.items) c.pieces.invariant.under_way in
     record {
       settled = c.hand_on-fed.ensures.settled;
       settings = c.hand_on-fed.ensures.settings ∙ c.pieces.invariant.settings;
-      under_way = goes_on settings c.stays_read.ensures.fault old between new piece out out1 out2 c.pieces.taken size fed under_way takes c.in-Open.is
+      same_asker = same_then c.args.asker.now c.pieces.asker c.hand_on-fed.new.asker c.pieces.invariant.same_asker c.hand_on-fed.ensures.same_asker;
+      under_way = goes_on settings place c.stays_read.ensures.fault old between new piece out out1 out2 c.pieces.taken size fed under_way takes c.in-Open.is
           (below (c.pieces.taken + fed.taken) (length piece) (within_piece piece c.pieces.taken size fed.taken c.pieces.invariant.under_way.within takes.within) c.if-taken-piece.false);
     }
 
 pub returns-in_default-state : goal.returns-in_default-state
 returns-in_default-state c =
-    let old = shown_held c.args.front.now in
-    let between = shown_held c.pieces.front in
-    let new = shown_held c.hand_on-fed.new.front in
+    let old = with_core c.args.front.now (core_of c.args.asker.now) in
+    let between = with_core c.pieces.front (core_of c.pieces.asker) in
+    let new = with_core c.hand_on-fed.new.front (core_of c.hand_on-fed.new.asker) in
+    let place = c.args.asker.now.conversation in
     let piece = c.args.piece.now in
     let fed = c.hand_on-fed.result in
     let settings = c.args.front.now.settings in
@@ -89,11 +102,13 @@ returns-in_default-state c =
     let out = c.args.out.now.items in
     let out1 = c.reserve.new.self.items in
     let out2 = c.hand_on-fed.new.out.items in
-    let takes = subst (λ (v : Settings). Takes v between (take size (drop c.pieces.taken piece)) out1 fed new out2) c.pieces.invariant.settings c.hand_on-fed.ensures.takes in
-    let under_way = subst (λ (z : List ℕ). IsUnderWay settings old piece out c.pieces.taken between z) (sym c.reserve.ensures.items) c.pieces.invariant.under_way in
+    let takes = subst (λ (v : Settings). Takes v place between (take size (drop c.pieces.taken piece)) out1 fed new out2) c.pieces.invariant.settings
+    (subst (λ (n : ℕ). Takes c.pieces.front.settings n between (take size (drop c.pieces.taken piece)) out1 fed new out2) c.pieces.invariant.same_asker.conversation c.hand_on-fed.ensures.takes) in
+    let under_way = subst (λ (z : List ℕ). IsUnderWay settings place old piece out c.pieces.taken between z) (sym c.reserve.ensures.items) c.pieces.invariant.under_way in
     let size_is : size ≡ min c.wanted.result (length piece - c.pieces.taken) = omega (arith, c.min-size.ensures) in
     record {
       settled = c.hand_on-fed.ensures.settled;
       settings = c.hand_on-fed.ensures.settings ∙ c.pieces.invariant.settings;
-      takes = ends_so settings c.stays_read.ensures.fault old between new piece out out1 out2 c.pieces.taken c.wanted.result size fed under_way size_is c.wanted.ensures.some takes (λ e. absurd (c.in_default-state.not-Open e));
+      same_asker = same_then c.args.asker.now c.pieces.asker c.hand_on-fed.new.asker c.pieces.invariant.same_asker c.hand_on-fed.ensures.same_asker;
+      takes = ends_so settings place c.stays_read.ensures.fault old between new piece out out1 out2 c.pieces.taken c.wanted.result size fed under_way size_is c.wanted.ensures.some takes (λ e. absurd (c.in_default-state.not-Open e));
     }

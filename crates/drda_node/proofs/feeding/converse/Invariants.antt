@@ -1,5 +1,6 @@
 use Rattle.std.proofs.Common.{◌≡◌, ◌-◌, length}
-use Rattle.drda_node.specs.Feeding.{IsBetweenCommands, shown_held}
+use Rattle.drda_node.specs.Asking.{IsSameAsker, core_of}
+use Rattle.drda_node.specs.Feeding.{IsBetweenCommands, with_core}
 use Rattle.drda_node.proofs.Pieces.{IsUnderWay}
 use Rattle.drda_node.proofs.feeding.converse.Given as goal
 
@@ -7,7 +8,8 @@ abbrev pub invariant-pieces : goal.invariant-pieces
 invariant-pieces l = record {
   settled : IsBetweenCommands l.front;
   settings : l.front.settings ≡ l.fn.front.settings;
-  under_way : IsUnderWay l.fn.front.settings (shown_held l.fn.front) l.piece l.fn.out.items l.taken (shown_held l.front) l.out.items;
+  same_asker : IsSameAsker l.fn.asker l.asker;
+  under_way : IsUnderWay l.fn.front.settings l.fn.asker.conversation (with_core l.fn.front (core_of l.fn.asker)) l.piece l.fn.out.items l.taken (with_core l.front (core_of l.asker)) l.out.items;
 }
 
 abbrev pub decreases-pieces : goal.decreases-pieces

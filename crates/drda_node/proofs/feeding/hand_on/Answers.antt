@@ -1,6 +1,8 @@
 use Rattle.std.proofs.Common.{◌≡◌, ◌≤◌, ◌<◌, ℕ, false, arith, ◌==◌, rules, length, sym, subst}
 use Rattle.drda_node.specs.declared.fed.FedState.{FedState}
-use Rattle.drda_node.specs.Feeding.{Takes, shown_held}
+use Rattle.drda_node.specs.Asking.{core_of}
+use Rattle.drda_node.specs.Feeding.{Takes, with_core}
+use Rattle.drda_node.proofs.Askers.{over}
 use Rattle.drda_node.proofs.Stepping.{handed, moved}
 use Rattle.drda_node.proofs.feeding.hand_on.Goals as goal
 
@@ -9,25 +11,37 @@ fewer a b le apart = grind (arith, le, apart)
 
 pub returns-clause-settled : goal.returns-clause-settled
 returns-clause-settled c =
-    let step = handed c.stays_read.ensures.nothing c.args.front.now c.feed-taken.new.self c.args.part.now c.args.out.now.items c.feed-taken.result c.next-need.result c.next-need.new.self c.next-need.new.out.items
-    c.requires.settled c.requires.one_command c.feed-taken.ensures.taken c.feed-taken.ensures.within c.feed-taken.ensures.closed c.next-need.ensures in
+    let (asked, same) = over c.next-need.result c.feed-taken.new.self c.next-need.new.self c.args.asker.now c.next-need.new.asker c.args.out.now.items c.next-need.new.out.items c.next-need.ensures in
+    let step = handed c.stays_read.ensures.nothing c.args.asker.now.conversation c.args.front.now c.feed-taken.new.self (core_of c.args.asker.now) c.args.part.now c.args.out.now.items c.feed-taken.result c.next-need.result c.next-need.new.self
+    (core_of c.next-need.new.asker) c.next-need.new.out.items c.requires.settled c.requires.one_command c.feed-taken.ensures.taken c.feed-taken.ensures.within c.feed-taken.ensures.closed asked in
     step.settled
 
 pub returns-clause-settings : goal.returns-clause-settings
 returns-clause-settings c =
-    let step = handed c.stays_read.ensures.nothing c.args.front.now c.feed-taken.new.self c.args.part.now c.args.out.now.items c.feed-taken.result c.next-need.result c.next-need.new.self c.next-need.new.out.items
-    c.requires.settled c.requires.one_command c.feed-taken.ensures.taken c.feed-taken.ensures.within c.feed-taken.ensures.closed c.next-need.ensures in
+    let (asked, same) = over c.next-need.result c.feed-taken.new.self c.next-need.new.self c.args.asker.now c.next-need.new.asker c.args.out.now.items c.next-need.new.out.items c.next-need.ensures in
+    let step = handed c.stays_read.ensures.nothing c.args.asker.now.conversation c.args.front.now c.feed-taken.new.self (core_of c.args.asker.now) c.args.part.now c.args.out.now.items c.feed-taken.result c.next-need.result c.next-need.new.self
+    (core_of c.next-need.new.asker) c.next-need.new.out.items c.requires.settled c.requires.one_command c.feed-taken.ensures.taken c.feed-taken.ensures.within c.feed-taken.ensures.closed asked in
     step.settings
+
+pub returns-clause-same_asker : goal.returns-clause-same_asker
+returns-clause-same_asker c =
+    let (asked, same) = over c.next-need.result c.feed-taken.new.self c.next-need.new.self c.args.asker.now c.next-need.new.asker c.args.out.now.items c.next-need.new.out.items c.next-need.ensures in
+    same
 
 pub returns-clause-takes : goal.returns-clause-takes
 returns-clause-takes c =
     let old = c.args.front.now in
     let new = c.next-need.new.self in
+    let core = core_of c.args.asker.now in
+    let core' = core_of c.next-need.new.asker in
+    let place = c.args.asker.now.conversation in
     let part = c.args.part.now in
     let out = c.args.out.now.items in
     let out' = c.next-need.new.out.items in
     let count = c.feed-taken.result in
-    let step = handed c.stays_read.ensures.nothing c.args.front.now c.feed-taken.new.self c.args.part.now c.args.out.now.items c.feed-taken.result c.next-need.result c.next-need.new.self c.next-need.new.out.items
-    c.requires.settled c.requires.one_command c.feed-taken.ensures.taken c.feed-taken.ensures.within c.feed-taken.ensures.closed c.next-need.ensures in
-    subst (λ (s : FedState). Takes old.settings (shown_held old) part out (record { taken = count; state = s }) (shown_held new) out') (sym c.state_of.ensures)
-    (moved c.next-need.result (count == length part) old part out count new out' c.feed-taken.ensures.within (λ e. search rules) (fewer count (length part) c.feed-taken.ensures.within) c.feed-taken.ensures.closed c.requires.settled c.requires.wanted step)
+    let (asked, same) = over c.next-need.result c.feed-taken.new.self new c.args.asker.now c.next-need.new.asker out out' c.next-need.ensures in
+    let step = handed c.stays_read.ensures.nothing place old c.feed-taken.new.self core part out count c.next-need.result new core' out'
+    c.requires.settled c.requires.one_command c.feed-taken.ensures.taken c.feed-taken.ensures.within c.feed-taken.ensures.closed asked in
+    subst (λ (s : FedState). Takes old.settings place (with_core old core) part out (record { taken = count; state = s }) (with_core new core') out') (sym c.state_of.ensures)
+    (moved place c.next-need.result (count == length part) old core part out count new core' out' c.feed-taken.ensures.within (λ e. search rules) (fewer count (length part) c.feed-taken.ensures.within) c.feed-taken.ensures.closed c.requires.settled
+    c.requires.wanted step)

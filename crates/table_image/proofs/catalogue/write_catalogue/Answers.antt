@@ -1,6 +1,7 @@
-use Rattle.std.proofs.Common.{rules, ◌+◌, ◌*◌, ◌∙◌, ℕ, List, length, map, ap, refl}
+use Rattle.std.proofs.Common.{rules, ◌+◌, ◌*◌, ◌∙◌, ℕ, List, length, map, subst, ap, refl}
 use Rattle.half_store.specs.Writing.{next_of}
-use Rattle.row_pages.specs.Laying.{laid}
+use Rattle.row_pages.specs.Laying.{IsShort, laid}
+use Rattle.std.specs.List.{AllByRecursion}
 use Rattle.table_image.specs.Catalogue.{place_of}
 use Rattle.table_image.proofs.Adding.{and_more, no_page, same_from}
 use Rattle.table_image.proofs.Listing.{all_listed, first_left, full_listed, names_left, none_left, nothing_laid, one_listed}
@@ -64,3 +65,10 @@ returns-clause-pages g c =
     c.in_ok-finish.ensures.pages (next_of c.args.image.now) inv.lists.rows inv.lists.laying
     ∙ ap (λ (l : List (List ℕ)). next_of c.args.image.now + 8192 * length (laid l))
     (all_listed g.D.Disk.is_modelled (g.D.Disk.life c.loop-left.disk).seen (next_of c.args.image.now) c.loop-left.image c.loop-left.rows (map place_of c.loop-left.left.now) (map place_of c.args.tables.now) inv.lists none)
+
+pub returns-clause-short : goal.returns-clause-short
+returns-clause-short g c =
+    let inv = c.loop-left.invariant in
+    subst (λ (l : List (List ℕ)). AllByRecursion IsShort l)
+    (all_listed g.D.Disk.is_modelled (g.D.Disk.life c.loop-left.disk).seen (next_of c.args.image.now) c.loop-left.image c.loop-left.rows (map place_of c.loop-left.left.now) (map place_of c.args.tables.now) inv.lists (none_left c.loop-left.left.now c.in_default.len_below))
+    inv.lists.laying.short

@@ -1,9 +1,11 @@
-use Rattle.std.proofs.Common.{◌≡◌, Some, ap, ◌∙◌, sym, subst}
+use Rattle.std.proofs.Common.{◌≡◌, Some, refl, ap, ◌∙◌, sym, subst}
 use Rattle.conversation.specs.Settings.{Settings}
-use Rattle.drda_node.specs.Feeding.{shown_held, Takes}
+use Rattle.drda_node.specs.Feeding.{shown_held, Takes, with_core}
+use Rattle.rdb_core.specs.State.{state_of}
+use Rattle.drda_node.specs.Asking.{core_of}
 use Rattle.drda_node.specs.declared.place.Place.{Place}
 use Rattle.drda_node.specs.Register.{shown, number_of}
-use Rattle.drda_node.proofs.Rows.{below_view, view_at, view_set, view_kept, shows_open, open_shows, same_row, same_numbers}
+use Rattle.drda_node.proofs.Rows.{below_view, view_at, view_set, view_kept, shows_open, open_shows, same_machine, same_numbers}
 use Rattle.drda_node.proofs.node.Node.feed_at.Goals as goal
 
 pub returns-clause-feeds : goal.returns-clause-feeds
@@ -17,10 +19,10 @@ returns-clause-feeds c =
     let settings : place.front.settings ≡ c.args.self.now.settings = ap (λ (p : Place). p.front.settings) c.index_mut.ensures.value ∙ c.args.self.now.alike c.args.place place (below_view shown items c.args.place (Some h) here) in
     record {
       before = shown_held place.front;
-      after = shown_held new.front;
+      after = with_core new.front (core_of c.feed.new.asker);
       was = here ∙ ap (λ o. Some o) (sym is ∙ shows);
-      row = same_row c.args.self.now.settings _ _ (view_set shown items c.args.place new (Some (shown_held new.front)) (open_shows new c.feed.ensures.open));
-      takes = subst (λ (v : Settings). Takes v (shown_held place.front) c.args.piece.now c.args.out.now.items c.feed.result (shown_held new.front) c.feed.new.out.items) settings c.feed.ensures.takes;
+      row = same_machine c.args.self.now.settings _ _ _ _ (view_set shown items c.args.place new (Some (shown_held new.front)) (open_shows new c.feed.ensures.open)) refl;
+      takes = subst (λ (v : Settings). Takes v c.args.place (with_core place.front (state_of c.args.self.now.core)) c.args.piece.now c.args.out.now.items c.feed.result (with_core new.front (core_of c.feed.new.asker)) c.feed.new.out.items) settings c.feed.ensures.takes;
     }
 
 pub returns-clause-register : goal.returns-clause-register

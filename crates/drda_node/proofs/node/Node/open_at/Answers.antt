@@ -1,7 +1,7 @@
 use Rattle.std.proofs.Common.{Some, rules, refl}
 use Rattle.drda_node.specs.Machine.{beginning}
 use Rattle.drda_node.specs.Register.{shown, number_of}
-use Rattle.drda_node.proofs.Rows.{view_set, same_row}
+use Rattle.drda_node.proofs.Rows.{view_set, same_machine}
 use Rattle.drda_node.proofs.node.Node.open_at.Goals as goal
 
 pub returns-clause-opened : goal.returns-clause-opened
@@ -9,7 +9,7 @@ returns-clause-opened c =
     let items = c.args.self.now.places.items in
     record {
       free = c.requires;
-      row = same_row c.args.self.now.settings _ _ (view_set shown items c.args.place c.begin.new.self (Some beginning) c.begin.ensures.shown);
+      row = same_machine c.args.self.now.settings _ _ _ _ (view_set shown items c.args.place c.begin.new.self (Some beginning) c.begin.ensures.shown) refl;
       number = refl;
       numbers = view_set number_of items c.args.place c.begin.new.self c.args.self.now.next_number c.begin.ensures.number;
       given = search rules;

@@ -1,0 +1,12 @@
+use Rattle.std.proofs.Common.{◌≡◌, ◌≤◌, ◌+◌, ◌++◌, length, vec_capacity, vec_len}
+use Rattle.exchanges.specs.Sizes.{written_lengths}
+use Rattle.conversation.specs.Exchange.{in_dsss}
+use Rattle.conversation.proofs.chain.append_replies.Given as goal
+
+abbrev pub invariant-replies : goal.invariant-replies
+invariant-replies l =
+    (l.out.items ++ in_dsss l.correlator l.is_chained l.left ≡ l.initial.out.items ++ in_dsss l.correlator l.is_chained l.replies)
+    × (vec_len l.out + written_lengths l.left ≤ vec_capacity l.out)
+
+abbrev pub decreases-replies : goal.decreases-replies
+decreases-replies l = length l.left

@@ -1,0 +1,127 @@
+//! Chains of commands, and the DSSs of replies.
+
+ghost use Rattle.std.specs.Prelude.{◌≡◌, ◌≤◌, ◌+◌, ◌++◌, ◌∷◌, [], length, vec_capacity, vec_len};
+ghost use Rattle.dss_frames.specs.Group.{command_of};
+ghost use Rattle.dss_frames.specs.Writing.{written, written_length};
+ghost use Rattle.exchanges.specs.Kind.{dss_type_of};
+ghost use Rattle.exchanges.specs.Sizes.{written_lengths};
+ghost use Rattle.conversation.specs.Exchange as spec;
+
+use crate::session::Session;
+use dss_frames::{Dss, Format, Group, write_dss, written_dss_is_read};
+use exchanges::{Reply, ReplyKind};
+
+/// Where a command stands in its chain.
+#[derive(Clone, Copy)]
+pub(crate) struct Link {
+    /// The format byte of its request.
+    pub format: Format,
+    pub correlator: u16,
+    /// Another command of the chain follows.
+    pub is_chained: bool,
+}
+
+/// Whether another command of the chain follows.
+fn goes_on(group: Group<'_>) -> bool
+    ensures { result ≡ spec.goes_on (command_of group.entry) }
+{
+    let mut is_chained = false;
+    let mut left = group;
+    'dsss: while let Some((dss, more)) = left.split_first() {
+        is_chained = dss.format.is_chained();
+        left = more;
+    }
+    is_chained
+}
+
+/// Where a command stands in its chain that has this request and is this group.
+pub(crate) fn link_of(request: Dss<'_>, group: Group<'_>) -> Link
+    ensures { result ≡ record { format = request.entry.format; correlator = request.entry.correlator; is_chained = spec.goes_on (command_of group.entry) } }
+{
+    Link {
+        format: request.format,
+        correlator: request.correlator,
+        is_chained: goes_on(group),
+    }
+}
+
+fn breaks(severity: u16, format: Format) -> bool
+    ensures { result ≡ spec.breaks severity format.byte }
+{
+    severity >= 64 || severity >= 8 && !format.continues_on_error()
+}
+
+/// How a conversation goes on behind replies of this severity.
+pub(crate) fn behind(session: Session, link: Link, severity: u16) -> Session
+    ensures { result ≡ spec.behind session link severity }
+{
+    Session {
+        is_broken: link.is_chained && breaks(severity, link.format),
+        is_closed: session.is_closed || severity >= 64,
+        ..session
+    }
+}
+
+/// The greatest severity of some replies.
+pub(crate) fn worst(replies: &[Reply]) -> u16
+    ensures { result ≡ spec.worst replies.now }
+{
+    let mut worst = 0;
+    let mut left = replies;
+    'replies: while let [reply, others @ ..] = left {
+        worst = reply.severity().max(worst);
+        left = others;
+    }
+    worst
+}
+
+/// The format of a reply before these others of its command.
+pub(crate) fn format_before(others: &[Reply], kind: ReplyKind, is_chained: bool) -> Format
+    ensures { result.byte ≡ spec.chain_bits is_chained others.now + dss_type_of kind }
+{
+    let number = match kind {
+        ReplyKind::Message => 2,
+        ReplyKind::Object => 3,
+    };
+    Format {
+        byte: if !others.is_empty() {
+            0x50 + number
+        } else if is_chained {
+            0x40 + number
+        } else {
+            number
+        },
+    }
+}
+
+/// Appends a DSS for which there is room.
+fn append_dss(out: &mut Vec<u8>, format: Format, correlator: u16, contents: &[u8])
+    requires { vec_len out.old + written_length (length contents.now) ≤ vec_capacity out.old }
+    ensures items { out.new.items ≡ out.old.items ++ written format.byte correlator contents.now }
+    ensures len { vec_len out.new ≡ vec_len out.old + written_length (length contents.now) }
+    ensures capacity { vec_capacity out.old ≤ vec_capacity out.new }
+{
+    written_dss_is_read();
+    match write_dss(out, format, correlator, contents) {
+        Ok(()) => {}
+        Err(_) => unreachable!(),
+    }
+}
+
+/// Appends the replies of a command, for which there is room.
+pub(crate) fn append_replies(
+    out: &mut Vec<u8>,
+    correlator: u16,
+    is_chained: bool,
+    replies: &[Reply],
+)
+    requires { vec_len out.old + written_lengths replies.now ≤ vec_capacity out.old }
+    ensures { out.new.items ≡ out.old.items ++ spec.in_dsss correlator is_chained replies.now }
+{
+    let mut left = replies;
+    'replies: while let [reply, others @ ..] = left {
+        let format = format_before(others, reply.kind(), is_chained);
+        append_dss(out, format, correlator, reply.text());
+        left = others;
+    }
+}

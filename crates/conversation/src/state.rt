@@ -1,0 +1,14 @@
+//! What the commands of a conversation work on.
+
+use crate::session::Session;
+use exchanges::{Reply, Statements};
+
+/// What is remembered of a conversation, and room for its replies.
+#[derive(Drop)]
+pub(crate) struct State {
+    pub session: Session,
+    pub statements: Statements,
+    /// The text of a reply, or the database's name as it is answered.
+    pub text: Vec<u8>,
+    pub replies: Vec<Reply>,
+}

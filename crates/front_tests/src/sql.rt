@@ -1,0 +1,165 @@
+//! Statements of conversations side by side, over one core.
+
+use crate::hexadecimal::bytes_of;
+use crate::program::{Finished, run_over};
+use crate::texts::*;
+use std::alloc::Global;
+use std::test::Fail;
+
+/// What a conversation does. All its commands have the correlator 6.
+#[derive(Clone, Copy)]
+enum Act {
+    /// It opens, and accesses the database SHOP.
+    Opens,
+    /// It has a statement run at once (EXCSQLIMM).
+    Runs(&'static str),
+    Commits,
+    RollsBack,
+    IsLost,
+}
+
+/// A conversation's number, what it does, and the replies.
+type Step = (u8, Act, &'static str);
+
+const COMMIT: &str = "000A D001 0006 0004 200E";
+
+const ROLLBACK: &str = "000A D001 0006 0004 200F";
+
+// The SQLCARDs: no row and one row changed (behind RDBUPDRM, where it is the unit's first change), and SQLCODE
+// -803 and -913.
+const CREATED: &str = "0026 D052 0006 0020 2218 0006 1149 0000 0016 2110 53484F50 20*14
+    0047 D003 0006 0041 2408 00 00000000 3030303030 5244413031303030 00 00*8 00000000 00*12 20*11 0000 0000 0000 FF";
+
+const FIRST_ROW: &str = "0026 D052 0006 0020 2218 0006 1149 0000 0016 2110 53484F50 20*14
+    0047 D003 0006 0041 2408 00 00000000 3030303030 5244413031303030 00 00*8 00000001 00*12 20*11 0000 0000 0000 FF";
+
+const NEXT_ROW: &str =
+    "0047 D003 0006 0041 2408 00 00000000 3030303030 5244413031303030 00 00*8 00000001 00*12 20*11 0000 0000 0000 FF";
+
+const DUPLICATE: &str =
+    "0047 D003 0006 0041 2408 00 FFFFFCDD 3233353035 5244413031303030 00 00*8 00000000 00*12 20*11 0000 0000 0000 FF";
+
+const CLASH: &str =
+    "0047 D003 0006 0041 2408 00 FFFFFC6F 3537303333 5244413031303030 00 00*8 00000000 00*12 20*11 0000 0000 0000 FF";
+
+const ROLLED_BACK: &str =
+    "0015 D052 0006 000F 220C 0006 1149 0004 0005 2115 02 000B D003 0006 0005 2408 FF";
+
+const CREATE: &str = "CREATE TABLE T (K INTEGER NOT NULL, V VARCHAR(600), PRIMARY KEY (K))";
+
+const ONE: &str = "INSERT INTO T VALUES (1, 'a')";
+
+const TWO: &str = "INSERT INTO T VALUES (2, 'b')";
+
+const STORIES: [&[Step]; 3] = [
+    // What is committed is there for another conversation.
+    &[
+        (0, Act::Opens, ""),
+        (0, Act::Runs(CREATE), CREATED),
+        (0, Act::Runs(ONE), NEXT_ROW),
+        (0, Act::Commits, COMMITTED),
+        (1, Act::Opens, ""),
+        (1, Act::Runs(ONE), DUPLICATE),
+        (1, Act::Runs(TWO), FIRST_ROW),
+        (0, Act::Runs(TWO), CLASH),
+    ],
+    // A conversation that is lost leaves nothing, and its place begins with nothing.
+    &[
+        (0, Act::Opens, ""),
+        (0, Act::Runs(CREATE), CREATED),
+        (0, Act::Commits, COMMITTED),
+        (1, Act::Opens, ""),
+        (1, Act::Runs(ONE), FIRST_ROW),
+        (0, Act::Runs(ONE), CLASH),
+        (1, Act::IsLost, ""),
+        (0, Act::Runs(ONE), FIRST_ROW),
+        (1, Act::Opens, ""),
+        (1, Act::Runs(ONE), CLASH),
+        (1, Act::Runs(TWO), FIRST_ROW),
+    ],
+    // Nor does a unit that is rolled back.
+    &[
+        (5, Act::Opens, ""),
+        (5, Act::Runs(CREATE), CREATED),
+        (5, Act::Commits, COMMITTED),
+        (5, Act::Runs(ONE), FIRST_ROW),
+        (5, Act::RollsBack, ROLLED_BACK),
+        (5, Act::Runs(ONE), FIRST_ROW),
+        (5, Act::Runs(ONE), DUPLICATE),
+    ],
+];
+
+fn push_record(records: &mut Vec<u8>, kind: u8, number: u8, bytes: &[u8]) -> Option<()> {
+    let [a, b, c, d] = u32::try_from(bytes.len()).ok()?.to_be_bytes();
+    records.extend_from_slice(&[kind, number, a, b, c, d]).ok()?;
+    records.extend_from_slice(bytes).ok()
+}
+
+// EXCSQLIMM, and the text in a DSS of its own.
+fn statement(alloc: Global, text: &str) -> Option<Vec<u8>> {
+    let size = u8::try_from(text.len()).ok()?;
+    let object = size.checked_add(10)?;
+    let whole = size.checked_add(16)?;
+    let mut bytes = bytes_of(alloc, &["000A D051 0006 0004 200A"]).ok()?;
+    bytes
+        .extend_from_slice(&[
+            0, whole, 0xD0, 0x03, 0, 6, 0, object, 0x24, 0x14, 0, 0, 0, 0, size,
+        ])
+        .ok()?;
+    bytes.extend_from_slice(text.as_bytes()).ok()?;
+    bytes.push(0xFF).ok()?;
+    Some(bytes)
+}
+
+fn push_event(alloc: Global, records: &mut Vec<u8>, number: u8, act: Act) -> Option<()> {
+    let bytes = match act {
+        Act::Opens => {
+            push_record(records, 1, number, &[])?;
+            bytes_of(alloc, &[EXCSAT_ALONE, ACCSEC, SECCHK_ALONE, ACCRDB]).ok()?
+        }
+        Act::Runs(text) => statement(alloc, text)?,
+        Act::Commits => bytes_of(alloc, &[COMMIT]).ok()?,
+        Act::RollsBack => bytes_of(alloc, &[ROLLBACK]).ok()?,
+        Act::IsLost => return push_record(records, 3, number, &[]),
+    };
+    push_record(records, 2, number, &bytes)
+}
+
+fn push_answer(
+    alloc: Global,
+    records: &mut Vec<u8>,
+    number: u8,
+    act: Act,
+    replies: &str,
+) -> Option<()> {
+    let accessed = [EXCSATRD_ALONE, ACCSECRD, SECCHKRM_ALONE, ACCRDBRM];
+    let bytes = match act {
+        Act::Opens => {
+            push_record(records, 1, number, &[])?;
+            bytes_of(alloc, &accessed).ok()?
+        }
+        Act::IsLost => return push_record(records, 3, number, &[]),
+        _ => bytes_of(alloc, &[replies]).ok()?,
+    };
+    push_record(records, 2, number, &bytes)
+}
+
+fn is_told(alloc: Global, story: &[Step]) -> Option<bool> {
+    let mut input = Vec::new(alloc);
+    let mut wanted = Vec::new(alloc);
+    for (number, act, replies) in story {
+        push_event(alloc, &mut input, *number, *act)?;
+        push_answer(alloc, &mut wanted, *number, *act, replies)?;
+    }
+    let words = ["drdad", "pipe", "--rdb", "SHOP", "--user", "ana:pw"];
+    let Finished { status, out, err } = run_over(alloc, &words, &input);
+    Some(status == 0 && err.is_empty() && out.as_slice() == wanted.as_slice())
+}
+
+#[test]
+fn conversations_share_a_core(rt: HostRuntime) -> Result<(), Fail> {
+    for (at, story) in STORIES.iter().enumerate() {
+        assert_eq!(rt; is_told(rt.alloc(), story), Some(true), "{at}");
+    }
+    Ok(())
+}
