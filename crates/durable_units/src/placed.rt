@@ -117,7 +117,7 @@ fn known_schema(
     ensures memory { IfErr result (λ error. error ≡ NoMemory) }
     ensures store { store_in store.new ≡ store_in store.old }
 {
-    match schema_under(store, before, alloc, table) {
+    match schema_under(&mut store.view(), before, alloc, table) {
         Ok(schema) => Ok(schema),
         Err(_) => Err(ReadError::NoMemory),
     }
@@ -129,7 +129,7 @@ fn count(store: &mut TableStore, before: &UnitChanges, alloc: Global) -> Result<
     ensures memory { IfErr result (λ error. error ≡ NoMemory) }
     ensures store { store_in store.new ≡ store_in store.old }
 {
-    match tables_under(store, before, alloc) {
+    match tables_under(&mut store.view(), before, alloc) {
         Ok(tables) => Ok(tables),
         Err(_) => Err(ReadError::NoMemory),
     }
