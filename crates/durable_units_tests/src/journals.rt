@@ -82,8 +82,8 @@ fn records(alloc: Global, said: &[(Kind, &'static [u8])]) -> Option<Vec<Record>>
 }
 
 fn shown(alloc: Global, state: Replay) -> Option<(usize, usize, usize)> {
-    let (mut store, units) = state.into_parts();
-    let rows = store.scan(alloc, "T").ok()?;
+    let (store, units) = state.into_parts();
+    let rows = store.view().scan(alloc, "T").ok()?;
     let claims = match units.first() {
         Some(unit) => unit.claims.len(),
         None => 0,
