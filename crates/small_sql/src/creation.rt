@@ -49,7 +49,6 @@ pub fn create<V: TableView>(
     ensures answer { IfOk result (λ answer. IsTrue V.is_told → (params : List Value) → meaning params left (command.Create table.now definitions.now key.now) (V.store view.old) ≡ answer_of answer) }
     ensures fault { IfErr result (λ fault. IsTrue V.is_told → V.tells_damage fault ≡ false) }
     ensures store { V.store view.new ≡ V.store view.old }
-    ensures beneath { V.beneath view.new ≡ V.beneath view.old }
 {
     let Ok(table) = table_name(alloc, table.bytes()) else {
         return Err(no_memory::<V>());

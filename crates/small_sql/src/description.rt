@@ -28,7 +28,6 @@ pub fn describe<V: TableView>(
     ensures answer { IfOk result (λ answer. IsTrue V.is_told → described side command.now (schema_of (V.store view.old) (scope.table_name command.now)) ≡ described_as answer) }
     ensures fault { IfErr result (λ fault. IsTrue V.is_told → V.tells_damage fault ≡ false) }
     ensures store { V.store view.new ≡ V.store view.old }
-    ensures beneath { V.beneath view.new ≡ V.beneath view.old }
 {
     let schema = table_schema(alloc, command, view)?;
     match sql_descriptions::describe(alloc, side, command, schema) {

@@ -31,7 +31,6 @@ fn is_free<V: TableView>(
     ensures free { IfOk result (λ free. IsTrue V.is_told → free ≡ (length (rows_of_key (option_map (λ k. k.items) key.now) table.now (V.store view.old)) == 0)) }
     ensures fault { IfErr result (λ fault. IsTrue V.is_told → V.tells_damage fault ≡ false) }
     ensures store { V.store view.new ≡ V.store view.old }
-    ensures beneath { V.beneath view.new ≡ V.beneath view.old }
 {
     match key {
         None => Ok(true),
@@ -79,7 +78,6 @@ pub fn insert<V: TableView>(
     ensures answer { IfOk result (λ answer. IsTrue V.is_told → meaning (map value_of params.now) left (command.Insert table.now columns.now values.now) (V.store view.old) ≡ answer_of answer) }
     ensures fault { IfErr result (λ fault. IsTrue V.is_told → V.tells_damage fault ≡ false) }
     ensures store { V.store view.new ≡ V.store view.old }
-    ensures beneath { V.beneath view.new ≡ V.beneath view.old }
 {
     statements_are_framed();
     let Ok(table) = table_name(alloc, table.bytes()) else {

@@ -34,7 +34,6 @@ pub fn select<V: TableView>(
     ensures answer { IfOk result (λ answer. IsTrue V.is_told → (left : ℕ) → meaning (map value_of params.now) left (command.Select columns.now table.now (option_copied filter.entry)) (V.store view.old) ≡ answer_of answer) }
     ensures fault { IfErr result (λ fault. IsTrue V.is_told → V.tells_damage fault ≡ false) }
     ensures store { V.store view.new ≡ V.store view.old }
-    ensures beneath { V.beneath view.new ≡ V.beneath view.old }
 {
     statements_are_framed();
     let Ok(table) = table_name(alloc, table.bytes()) else {

@@ -78,7 +78,6 @@ fn looked_up<V: TableView>(
     ensures rows { IfOk result (λ rows. IsTrue V.is_told → rows ≡ rows_covered (scope_by (option_map (λ k. k.items) key.now)) table.now (V.store view.old)) }
     ensures fault { IfErr result (λ fault. IsTrue V.is_told → V.tells_damage fault ≡ false) }
     ensures store { V.store view.new ≡ V.store view.old }
-    ensures beneath { V.beneath view.new ≡ V.beneath view.old }
 {
     match key {
         None => view.scan(alloc, table),
@@ -105,7 +104,6 @@ pub(crate) fn rows_found<V: TableView>(
     ensures rows { IfOk result (λ found. IsTrue V.is_told → found ≡ record plan.list { rows = rows_found plan table.now (V.store view.old) }) }
     ensures fault { IfErr result (λ fault. IsTrue V.is_told → V.tells_damage fault ≡ false) }
     ensures store { V.store view.new ≡ V.store view.old }
-    ensures beneath { V.beneath view.new ≡ V.beneath view.old }
 {
     stores_hold_tables();
     let Plan { filter, key, list } = plan;

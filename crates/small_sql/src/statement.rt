@@ -30,7 +30,6 @@ pub fn run<V: TableView>(
     ensures answer { IfOk result (λ answer. IsTrue V.is_told → meaning (map value_of params.now) left command.now (V.store view.old) ≡ answer_of answer) }
     ensures fault { IfErr result (λ fault. IsTrue V.is_told → V.tells_damage fault ≡ false) }
     ensures store { V.store view.new ≡ V.store view.old }
-    ensures beneath { V.beneath view.new ≡ V.beneath view.old }
 {
     match command {
         Command::Create {

@@ -40,7 +40,6 @@ pub fn table_schema<V: TableView>(
     ensures good { IfOk result (λ _. IsTrue V.is_told → is_store (V.store view.old) ≡ true) }
     ensures fault { IfErr result (λ fault. IsTrue V.is_told → V.tells_damage fault ≡ false) }
     ensures store { V.store view.new ≡ V.store view.old }
-    ensures beneath { V.beneath view.new ≡ V.beneath view.old }
 {
     let Ok(table) = table_name(alloc, table(command).bytes()) else {
         return Err(no_memory::<V>());

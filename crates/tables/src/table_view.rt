@@ -1,6 +1,6 @@
 //! What a statement sees of tables.
 
-ghost use Rattle.std.specs.Prelude.{◌≡◌, [], Bool, IfErr, IfOk, IsTrue, alloc_error, false, length, option_map, true};
+ghost use Rattle.std.specs.Prelude.{◌≡◌, Bool, IfErr, IfOk, IsTrue, alloc_error, false, length, option_map, true};
 ghost use Rattle.std.specs.Arc.{arc_value};
 ghost use Rattle.tables.specs.Tables.{Store, row_of, rows_of, schema_of};
 ghost use Rattle.tables.specs.View.{is_store};
@@ -13,15 +13,12 @@ use std::sync::Arc;
 /// A view of the tables of a store. A call that answers tells of the store truly where the view is
 /// told truly itself: `is_told` is a constant of the type, true for tables in memory, and false for
 /// tables in a file, of which no contract can say what it holds. A view that is told truly never tells
-/// damage. No call changes the store. A view that stands on another one, as a unit's on the committed
-/// tables, tells the store `beneath` it too, which no call changes either.
+/// damage. No call changes the store.
 pub trait TableView {
     /// Why a view may not answer: out of memory, or the store is damaged, or what else there is.
     type Fault: From<AllocError>;
 
     ghost store: { Self → Store };
-
-    ghost beneath: { Self → Store } = { λ _. [] };
 
     ghost is_told: { Bool };
 
@@ -36,16 +33,14 @@ pub trait TableView {
         ensures found { IfOk result (λ schema. IsTrue is_told → option_map arc_value schema ≡ schema_of (store self.old) table.now) }
         ensures good { IsTrue is_told → is_store (store self.old) ≡ true }
         ensures fault { IfErr result (λ fault. IsTrue is_told → tells_damage fault ≡ false) }
-        ensures store { store self.new ≡ store self.old }
-        ensures beneath { beneath self.new ≡ beneath self.old };
+        ensures store { store self.new ≡ store self.old };
 
     /// How many tables there are.
     fn tables(&mut self) -> Result<usize, Self::Fault>
         ensures count { IfOk result (λ n. IsTrue is_told → n ≡ length (store self.old)) }
         ensures good { IsTrue is_told → is_store (store self.old) ≡ true }
         ensures fault { IfErr result (λ fault. IsTrue is_told → tells_damage fault ≡ false) }
-        ensures store { store self.new ≡ store self.old }
-        ensures beneath { beneath self.new ≡ beneath self.old };
+        ensures store { store self.new ≡ store self.old };
 
     /// The row of this key, where the table has it. A table that is not there has no rows.
     fn get(
@@ -57,16 +52,14 @@ pub trait TableView {
         ensures found { IfOk result (λ row. IsTrue is_told → option_map (λ bytes. bytes.items) row ≡ row_of (store self.old) table.now key.now) }
         ensures good { IsTrue is_told → is_store (store self.old) ≡ true }
         ensures fault { IfErr result (λ fault. IsTrue is_told → tells_damage fault ≡ false) }
-        ensures store { store self.new ≡ store self.old }
-        ensures beneath { beneath self.new ≡ beneath self.old };
+        ensures store { store self.new ≡ store self.old };
 
     /// All rows of the table, in the order of their keys. A table that is not there has none.
     fn scan(&mut self, alloc: Global, table: &str) -> Result<Rows, Self::Fault>
         ensures rows { IfOk result (λ rows. IsTrue is_told → rows ≡ rows_of (store self.old) table.now) }
         ensures good { IsTrue is_told → is_store (store self.old) ≡ true }
         ensures fault { IfErr result (λ fault. IsTrue is_told → tells_damage fault ≡ false) }
-        ensures store { store self.new ≡ store self.old }
-        ensures beneath { beneath self.new ≡ beneath self.old };
+        ensures store { store self.new ≡ store self.old };
 
     /// The fault of a row that is none of its table's schema, which only a view that is not told
     /// truly can meet.

@@ -177,8 +177,6 @@ impl<'a, V: TableView> TableView for UnitView<'a, V> {
 
     ghost store = { λ v. apply_all v.changes.now (V.store v.base.now) };
 
-    ghost beneath = { λ v. V.store v.base.now };
-
     ghost is_told = { V.is_told };
 
     ghost tells_damage = { V.tells_damage };
