@@ -1,5 +1,5 @@
 -- What the records of a journal stand for, one after another: the committed store, and the units in doubt.
-use Rattle.std.specs.Prelude.{ℕ, Bool, true, false, List, [], ◌∷◌, length, Option, Some, None, is_some, not, nat_lt, bytes_eq, ◌&&◌, if◌then◌else◌, option_map}
+use Rattle.std.specs.Prelude.{ℕ, Bool, true, false, List, [], ◌∷◌, length, Option, Some, None, is_some, not, nat_lt, bytes_eq, ◌&&◌, ◌||◌, if◌then◌else◌, option_map}
 use Rattle.std.specs.Option.{option_and_then}
 use Rattle.std.specs.Ordering.{nat_cmp}
 use Rattle.std.specs.Cmp.Lexicographic.{slice_cmp}
@@ -10,6 +10,9 @@ use Rattle.row_values.specs.Row.{is_row}
 use Rattle.row_values.specs.Key.{is_key}
 use Rattle.tables.specs.Change.{Change, create, put, remove}
 use Rattle.tables.specs.Tables.{Store, apply, schema_of}
+use Rattle.unit_locks.specs.Claim.{Claim}
+use Rattle.unit_locks.specs.Claims.{all_added, has}
+use Rattle.unit_locks.specs.declared.access.Access.TheVariants.{Write}
 use Rattle.xa_manager.specs.declared.due.Outcome.{Outcome}
 use Rattle.xa_manager.specs.declared.due.Outcome.TheVariants as outcome
 use Rattle.core_steps.specs.Units.{Work, apply_all}
@@ -56,6 +59,21 @@ with_doubt doubts xid work = insert_entry (slice_cmp nat_cmp) doubts xid work
 abbrev pub without_doubt : Doubts → List ℕ → Doubts
 without_doubt doubts xid = remove_entry (bytes_eq xid) doubts
 
+-- no table is created
+abbrev pub creates_none : List Change → Bool
+creates_none [] = true
+creates_none (create name schema ∷ changes) = false
+creates_none (put name row ∷ changes) = creates_none changes
+creates_none (remove name key ∷ changes) = creates_none changes
+
+-- the claim to write all names: of the table `*`, which is none
+abbrev pub names_claim : Claim
+names_claim = record { access = Write; table = 42 ∷ []; key = None }
+
+-- a unit that creates a table has claimed all names
+abbrev pub is_claimed : List Change → List Claim → Bool
+is_claimed changes claims = creates_none changes || has claims names_claim
+
 -- the XID is not in doubt yet, and fewer than 256 are
 abbrev pub is_free : Doubts → List ℕ → Bool
 is_free doubts xid = not (is_some (doubt_of doubts xid)) && nat_lt (length doubts) 256
@@ -67,11 +85,11 @@ decide outcome.RollBack store work = store
 
 -- ---- records
 
--- where a record has no place among those before it, the journal is damaged there
+-- A unit has each claim once, in the order in which it first made them. Where a record has no place among those before it, the journal is damaged there
 abbrev pub next : Durable → UnitRecord → Option Durable
 next d (committed changes) = if have_places changes d.store then Some (record { store = apply_all changes d.store; doubts = d.doubts }) else None
-next d (prepared xid changes claims) = if have_places changes d.store && is_free d.doubts xid
-    then Some (record { store = d.store; doubts = with_doubt d.doubts xid (record { changes = changes; claims = claims }) }) else None
+next d (prepared xid changes claims) = if have_places changes d.store && (is_claimed changes claims && is_free d.doubts xid)
+    then Some (record { store = d.store; doubts = with_doubt d.doubts xid (record { changes = changes; claims = all_added [] claims }) }) else None
 next d (decided xid o) = option_map (λ work. record { store = decide o d.store work; doubts = without_doubt d.doubts xid }) (doubt_of d.doubts xid)
 
 -- all records, from a state on

@@ -5,7 +5,7 @@ use Rattle.row_values.specs.Schema.{Schema}
 use Rattle.tables.specs.Change.{Change, create, put, remove}
 use Rattle.tables.specs.Tables.{Store, apply, schema_of}
 use Rattle.core_steps.specs.Units.{apply_all}
-use Rattle.durable_units.specs.Durable.{have_places}
+pub use Rattle.durable_units.specs.Durable.{creates_none, have_places}
 
 -- changes behind others: those of a statement behind those of its unit
 abbrev pub PlacesGoOn : Type 0
@@ -19,12 +19,6 @@ KeepsSchemas s t = (q : List ℕ) (schema : Schema) → schema_of s q ≡ Some s
 pub record SameTables (s t : Store) : Type 0 where
   pub schemas : (q : List ℕ) → schema_of s q ≡ schema_of t q
   pub names : keys_of s ≡ keys_of t
-
-abbrev pub creates_none : List Change → Bool
-creates_none [] = true
-creates_none (create name schema ∷ changes) = false
-creates_none (put name row ∷ changes) = creates_none changes
-creates_none (remove name key ∷ changes) = creates_none changes
 
 -- changes of rows keep their places where more tables are created
 abbrev pub RowsKeepPlaces : Type 0

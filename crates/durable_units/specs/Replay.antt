@@ -1,16 +1,18 @@
 -- What a replay shows, and what its calls answer.
-use Rattle.std.specs.Prelude.{◌≡◌, ℕ, Bool, true, false, List, map, Option, Some, None, Result, Ok, Err}
+use Rattle.std.specs.Prelude.{◌≡◌, ℕ, Bool, true, false, List, [], map, Option, Some, None, Result, Ok, Err}
 use Rattle.row_values.specs.declared.row.ReadError.{ReadError}
 use Rattle.row_values.specs.declared.row.ReadError.TheVariants.{Damaged, NoMemory}
 use Rattle.table_store.specs.TableStore.{store_in}
+use Rattle.unit_locks.specs.Claims.{all_added}
 use Rattle.core_steps.specs.Units.{Work}
 use Rattle.unit_records.specs.Records.{UnitRecord}
 use Rattle.durable_units.specs.Durable.{Doubts, Durable, next}
 use Rattle.durable_units.specs.declared.prepared.PreparedUnit.{PreparedUnit}
 use Rattle.durable_units.specs.declared.steps.Replay.{Replay}
 
+-- with each claim once
 abbrev pub doubt_in : PreparedUnit → List ℕ × Work
-doubt_in u = (u.xid, record { changes = u.changes; claims = u.claims.items })
+doubt_in u = (u.xid, record { changes = u.changes; claims = all_added [] u.claims.items })
 
 abbrev pub doubts_in : List PreparedUnit → Doubts
 doubts_in units = map doubt_in units

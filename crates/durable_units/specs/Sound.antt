@@ -1,5 +1,5 @@
 -- What holds of every state that records lead to.
-use Rattle.std.specs.Prelude.{◌≡◌, ◌≤◌, ℕ, true, List, length, Some}
+use Rattle.std.specs.Prelude.{◌≡◌, ◌≤◌, ℕ, true, List, [], length, Some}
 use Rattle.std.specs.List.{AllByRecursion}
 use Rattle.std.specs.Ordering.{nat_cmp}
 use Rattle.std.specs.Cmp.Lexicographic.{slice_cmp}
@@ -8,11 +8,15 @@ use Rattle.drda_words.specs.Order.{rises}
 use Rattle.tables.specs.View.{is_store}
 use Rattle.core_steps.specs.Units.{Work}
 use Rattle.unit_records.specs.Records.{IsGood, UnitRecord, prepared}
-use Rattle.durable_units.specs.Durable.{Durable, next}
+use Rattle.durable_units.specs.Durable.{Durable, is_claimed, next}
+use Rattle.unit_locks.specs.Claims.{all_added}
 
--- a unit in doubt whose prepare can be written
-abbrev pub IsGoodDoubt : List ℕ × Work → Type 0
-IsGoodDoubt e = IsGood (prepared e.0 e.1.changes e.1.claims)
+-- a unit in doubt whose prepare can be written, and that has claimed all names where it creates a table
+pub record IsGoodDoubt (e : List ℕ × Work) : Type 0 where
+  pub good : IsGood (prepared e.0 e.1.changes e.1.claims)
+  pub claimed : is_claimed e.1.changes e.1.claims ≡ true
+  -- each claim once
+  pub once : all_added [] e.1.claims ≡ e.1.claims
 
 -- the committed store is one; the XIDs in doubt rise, 256 at most, each with a unit that can be written
 pub record IsSound (d : Durable) : Type 0 where

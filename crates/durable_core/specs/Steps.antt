@@ -1,0 +1,65 @@
+-- What a call makes of a core whose units are recorded on a disk.
+use Rattle.std.specs.Prelude.{◌≡◌, ◌⊎◌, ℕ, ◌+◌, ◌-◌, ◌<◌, true, false, Option, Some, None}
+use Rattle.unit_records.specs.Records.{UnitRecord}
+use Rattle.unit_records.specs.Room.{held, released, taken}
+use Rattle.core_calls.specs.Call.{Call}
+use Rattle.core_calls.specs.Answer.{Answer, closed, device_failed, full, no_memory}
+use Rattle.core_steps.specs.Step.{answer, step_state}
+use Rattle.recording.specs.Due.{record_due}
+use Rattle.durable_core.specs.Journaled.{Shown}
+
+-- what a record makes of the room
+abbrev pub RoomAfter : Option UnitRecord → ℕ → ℕ → Type 0
+RoomAfter None old new = new ≡ old
+RoomAfter (Some r) old new = new + (taken r + held r) ≡ old + released r
+
+-- the answer and the state behind it are those of the step
+pub record IsTaken (old : Shown) (conversation : ℕ) (k : Call) (told : Answer) (new : Shown) : Type 0 where
+  pub going : old.is_failed ≡ false
+  pub answer_is : told ≡ answer old.state.branches old.state.base conversation k
+  pub state : new.state ≡ step_state old.state conversation k
+  pub room : RoomAfter (record_due old.state conversation k) old.room new.room
+  pub faults : new.disk.faults ≡ old.disk.faults
+  pub still : new.is_failed ≡ false
+
+-- ---- excuses: all else stays
+
+-- out of memory, before any device call
+pub record FindsNoMemory (old : Shown) (told : Answer) (new : Shown) : Type 0 where
+  pub going : old.is_failed ≡ false
+  pub answer_is : told ≡ no_memory
+  pub same : new ≡ old
+
+-- the record that is due, and what it holds back, are longer than the room and what it releases
+pub record FindsNoRoom (old : Shown) (conversation : ℕ) (k : Call) (told : Answer) (new : Shown) : Type 0 where
+  pub going : old.is_failed ≡ false
+  pub record_is : UnitRecord
+  pub due : record_due old.state conversation k ≡ Some record_is
+  pub answer_is : told ≡ full (taken record_is + held record_is - released record_is) old.room
+  pub less : old.room + released record_is < taken record_is + held record_is
+  pub same : new ≡ old
+
+-- the device failed in this call; what of its record a crash leaves, `Journaled` says
+pub record FailsHere (old : Shown) (conversation : ℕ) (k : Call) (told : Answer) (new : Shown) : Type 0 where
+  pub going : old.is_failed ≡ false
+  pub record_is : UnitRecord
+  pub due : record_due old.state conversation k ≡ Some record_is
+  pub answer_is : told ≡ device_failed
+  pub name : new.name ≡ old.name
+  pub state : new.state ≡ old.state
+  pub room : new.room ≡ old.room
+  pub faults : new.disk.faults ≡ old.disk.faults + 1
+  pub failed : new.is_failed ≡ true
+
+-- the device failed before: nothing is done
+pub record IsClosed (old : Shown) (told : Answer) (new : Shown) : Type 0 where
+  pub failed : old.is_failed ≡ true
+  pub answer_is : told ≡ closed
+  pub same : new ≡ old
+
+abbrev pub IsExcused : Shown → ℕ → Call → Answer → Shown → Type 0
+IsExcused old conversation k told new =
+    FindsNoMemory old told new ⊎ (FindsNoRoom old conversation k told new ⊎ (FailsHere old conversation k told new ⊎ IsClosed old told new))
+
+abbrev pub Steps : Shown → ℕ → Call → Answer → Shown → Type 0
+Steps old conversation k told new = IsTaken old conversation k told new ⊎ IsExcused old conversation k told new

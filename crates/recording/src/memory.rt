@@ -1,0 +1,23 @@
+//! Units whose changes are kept in memory alone.
+
+use crate::record_error::RecordError;
+use crate::recorder::Recorder;
+use crate::saying::Saying;
+
+/// Records nothing: for tables that end with the program.
+#[derive(Clone, Copy, Debug, PartialEq, Eq)]
+pub struct NoRecords;
+
+impl Recorder for NoRecords {
+    ghost use Rattle.std.specs.Prelude.{◌≡◌};
+
+    ghost allows = { λ _ _. Unit {0} };
+
+    ghost records = { λ old _ new. new ≡ old };
+
+    ghost fails = { λ _ _ _ _. ⊥ };
+
+    fn record(&mut self, _saying: Saying<'_>) -> Result<(), RecordError> {
+        Ok(())
+    }
+}

@@ -1,0 +1,10 @@
+//! Laws of the definitions. The functions do nothing: their contracts are the laws.
+
+ghost use Rattle.sql_places.specs.Places.{ChangesHavePlaces, CreationsClaimNames};
+
+/// Each change that a question of a unit makes has its place behind those before it, in the store that it
+/// sees; a question that creates a table claims all names.
+pub fn changes_have_places()
+    ensures places { ChangesHavePlaces }
+    ensures names { CreationsClaimNames }
+{}
