@@ -57,6 +57,7 @@ module _ {D : Type 0} (modelled : Bool) (life : D → Life) where
   -- whether the record is there shows when the store is opened again
   pub record IsLeftOpen (old : DiskRecorder D) (said : UnitRecord) (new : DiskRecorder D) : Type 0 where
     pub good : IsGood said
+    pub fits : taken said + held said ≤ room_of (journal_of old) + released said
     pub moments : LeavesOneMore old said new
     pub others : SameOutside (region_of (journal_of old)) (life_of old).seen (life_of new).seen
     pub journal : journal_of new ≡ journal_of old
