@@ -6,7 +6,7 @@ use Rattle.core_calls.specs.Call.{Call}
 use Rattle.core_calls.specs.Answer.{Answer, closed, device_failed, full, no_memory}
 use Rattle.core_steps.specs.Step.{answer, step_state}
 use Rattle.recording.specs.Due.{record_due}
-use Rattle.durable_core.specs.Journaled.{Shown}
+use Rattle.durable_images.specs.Journaled.{Shown}
 
 -- what a record makes of the room
 abbrev pub RoomAfter : Option UnitRecord → ℕ → ℕ → Type 0

@@ -6,7 +6,7 @@ use Rattle.unit_records.specs.Records.{UnitRecord}
 use Rattle.durable_units.specs.Durable.{Durable, replayed_from}
 use Rattle.core_steps.specs.Step.{CoreState}
 use Rattle.durable_steps.specs.Part.{durable_part}
-use Rattle.durable_core.specs.Opens.{OpensTo}
+use Rattle.durable_images.specs.Opens.{OpensTo}
 
 -- what of a core concerns its disk
 pub record Shown : Type 1 where
