@@ -1,7 +1,6 @@
 pub mod Counting
 pub mod Fetched
 pub mod Opened
-pub mod Brought
 pub mod Growing
 pub mod Local
 pub mod Fetches

@@ -2,8 +2,6 @@
 use Rattle.std.specs.Prelude.{ℕ, ◌+◌, ◌==◌, nat_le, Bool, true, false, List, [], ◌∷◌, ◌++◌, length, Option, Some, None, unwrap_or, Result, Ok, Err, if◌then◌else◌}
 use Rattle.row_values.specs.Value.{Value}
 use Rattle.tables.specs.RowList.{RowList}
-use Rattle.sql_text.specs.declared.tree.Command as tree
-use Rattle.sql_text.specs.declared.tree.Command.TheVariants.{Select}
 use Rattle.sql_text.specs.declared.tree.Statement.{Statement}
 use Rattle.core_calls.specs.Answer.{Answer, refused, rows}
 use Rattle.core_calls.specs.Call.{query}
@@ -21,7 +19,7 @@ use Rattle.sections.specs.declared.fault.OpenFault.TheVariants as unopened
 use Rattle.sections.specs.Kept.{Cursor, Section}
 use Rattle.exchanges.specs.Reply.{Reply, null_card}
 use Rattle.exchanges.specs.declared.statements.Statements.{Statements}
-use Rattle.exchanges.specs.Text.{statement_of, values_of}
+use Rattle.exchanges.specs.Text.{is_select, statement_of, values_of}
 use Rattle.exchanges.specs.Doing.{Doing, Done, answered, asking, finished}
 use Rattle.exchanges.specs.NotDone.{not_done}
 use Rattle.cursor_exchange.specs.Blocks.{rows_in_block}
@@ -40,10 +38,6 @@ abbrev pub first_block : RowList → ℕ → List Reply
 first_block l count = (if count == 0 then [] else some_rows l 0 count ∷ []) ++ ending (nat_le (length l.rows) count)
 
 -- ---- the query of a section
-
-abbrev pub is_select : tree.Command → Bool
-is_select (Select named table filter) = true
-is_select _ = false
 
 abbrev pub or_mismatch : Option (List Value) → Result (List Value) SqlFault
 or_mismatch None = Err fault.ParameterMismatch

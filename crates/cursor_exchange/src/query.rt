@@ -8,43 +8,18 @@ ghost use Rattle.drda_commands.specs.Views.{described_of};
 ghost use Rattle.exchanges.specs.Text as text_spec;
 ghost use Rattle.sql_literals.specs.Refused.{fault_of};
 ghost use Rattle.sections.specs.Cursors.{section_of};
-ghost use Rattle.cursor_exchange.specs.Asking.{GivesValues, WasQueried};
+ghost use Rattle.cursor_exchange.specs.Asking.{WasQueried};
 ghost use Rattle.cursor_exchange.specs.Commands as commands;
 
 use core_calls::{Answer, CoreCall, SqlFault};
 use drda_commands::DescribedData;
-use exchanges::{Ask, statement_of};
-use fdoca::{Descriptor, DescriptorFault, Values, read_row, readings_are_found};
+use exchanges::{Ask, is_select, read_values, statement_of};
+use fdoca::DescriptorFault;
 use row_values::Value;
 use sections::{NotPrepared, Sections};
 use sql_literals::StatementError;
-use sql_text::{Command, Statement};
+use sql_text::Statement;
 use std::alloc::Global;
-
-fn is_select(command: &Command<'_>) -> bool
-    ensures { result ≡ commands.is_select command.now }
-{
-    match command {
-        Command::Select { .. } => true,
-        Command::Create { .. }
-        | Command::Insert { .. }
-        | Command::Update { .. }
-        | Command::Delete { .. } => false,
-    }
-}
-
-// The values of a row, by the descriptor that comes with it.
-fn read_values<'v>(
-    alloc: Global,
-    description: &[u8],
-    row: &'v [u8],
-) -> Result<Values<'v>, DescriptorFault>
-    ensures { GivesValues (text_spec.row_of (Some description.now) (Some row.now)) result }
-{
-    readings_are_found();
-    let descriptor = Descriptor::parse(alloc, description)?;
-    read_row(alloc, &descriptor, row)
-}
 
 // Asks a query with these values for its markers.
 fn ask_with<'t, A: Ask>(statement: &Statement<'t>, values: &[Value<'t>], asker: &mut A) -> Answer

@@ -2,6 +2,7 @@ pub mod Reply
 pub mod Kind
 pub mod Sizes
 pub mod Text
+pub mod Values
 pub mod Statements
 pub mod Doing
 pub mod Done

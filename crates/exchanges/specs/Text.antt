@@ -7,6 +7,8 @@ use Rattle.std.specs.Str.{is_utf8, str_eq_ignore_ascii_case}
 use Rattle.sql_text.specs.Text.{reading}
 use Rattle.sql_text.specs.declared.error.SqlError.{SqlError}
 use Rattle.sql_text.specs.declared.error.SqlError.TheVariants as error
+use Rattle.sql_text.specs.declared.tree.Command.{Command}
+use Rattle.sql_text.specs.declared.tree.Command.TheVariants as command
 use Rattle.sql_text.specs.declared.tree.Statement.{Statement}
 use Rattle.row_values.specs.Value.{Value}
 use Rattle.fdoca.specs.Calls.{most_fields}
@@ -32,6 +34,10 @@ abbrev pub statement_of : List ℕ → Result Statement SqlFault
 statement_of text =
     if nat_lt 32767 (length text) then Err fault.LimitReached
     else (if is_utf8 text then told (reading text) else Err fault.Syntax)
+
+abbrev pub is_select : Command → Bool
+is_select (command.Select named table filter) = true
+is_select _ = false
 
 -- ---- WITH HOLD
 

@@ -8,10 +8,12 @@ mod reply;
 mod sizes;
 mod statements;
 mod text;
+mod values;
 
 pub use answer::{add, not_done, refuse};
 pub use ask::Ask;
 pub use reply::{Reply, ReplyKind};
 pub use sizes::replies_add_up;
 pub use statements::Statements;
-pub use text::statement_of;
+pub use text::{is_select, statement_of};
+pub use values::read_values;

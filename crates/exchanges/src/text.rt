@@ -9,7 +9,7 @@ ghost use Rattle.exchanges.specs.Text as spec;
 
 use core_calls::SqlFault;
 use sql_literals::StatementError;
-use sql_text::{SqlError, Statement, parse};
+use sql_text::{Command, SqlError, Statement, parse};
 use std::alloc::Global;
 
 /// The most bytes that the text of a statement has.
@@ -39,5 +39,18 @@ pub fn statement_of<'t>(alloc: Global, text: &'t [u8]) -> Result<Statement<'t>, 
     match parse(alloc, text) {
         Ok(statement) => Ok(statement),
         Err(error) => Err(error_of(error)),
+    }
+}
+
+/// Whether it is a SELECT.
+pub fn is_select(command: &Command<'_>) -> bool
+    ensures { result ≡ spec.is_select command.now }
+{
+    match command {
+        Command::Select { .. } => true,
+        Command::Create { .. }
+        | Command::Insert { .. }
+        | Command::Update { .. }
+        | Command::Delete { .. } => false,
     }
 }

@@ -1,4 +1,3 @@
 pub mod Described
 pub mod Holding
 pub mod Prepared
-pub mod Sent

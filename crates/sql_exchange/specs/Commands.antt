@@ -23,13 +23,9 @@ use Rattle.sqlam_replies.specs.declared.message.UnitEnd.TheVariants.{Committed, 
 use Rattle.exchanges.specs.Reply.{Reply, command_violation, count_card, description, fault_card, null_card, parameter_columns, rdb_updated, unit_ended}
 use Rattle.exchanges.specs.declared.statements.Statements.{Statements}
 use Rattle.exchanges.specs.Statements.{unit_behind}
-use Rattle.exchanges.specs.Text.{is_held_by, statement_of, values_of}
+use Rattle.exchanges.specs.Text.{is_held_by, is_select, statement_of, values_of}
 use Rattle.exchanges.specs.Doing.{Doing, Done, answered, asking, finished}
 use Rattle.exchanges.specs.NotDone.{not_done}
-
-abbrev pub is_select : Command → Bool
-is_select (command.Select named table filter) = true
-is_select _ = false
 
 abbrev pub is_create : Command → Bool
 is_create (command.Create table definitions key) = true

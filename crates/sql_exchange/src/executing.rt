@@ -4,47 +4,21 @@ ghost use Rattle.std.specs.Prelude.{◌≡◌, ◌≤◌, ◌+◌, IfOk, None, O
 ghost use Rattle.drda_commands.specs.Views.{described_of, given_of};
 ghost use Rattle.sections.specs.Cursors.{section_of};
 ghost use Rattle.sql_exchange.specs.Commands as commands;
-ghost use Rattle.sql_exchange.specs.Sent.{GivesValues};
 ghost use Rattle.exchanges.specs.Done.{WasDone};
 ghost use Rattle.exchanges.specs.Sizes.{written_lengths};
-ghost use Rattle.exchanges.specs.Text.{row_of, statement_of, values_of};
+ghost use Rattle.exchanges.specs.Text.{statement_of, values_of};
 
 use crate::brought::section_name;
 use crate::replying::MAX_REPLIES_LENGTH;
 use crate::running::{refuse_run, run};
 use core_calls::SqlFault;
 use drda_commands::{Accepted, DescribedData};
-use exchanges::{Ask, Reply, Statements, statement_of};
-use fdoca::{Descriptor, DescriptorFault, Values, read_row, readings_are_found};
+use exchanges::{Ask, Reply, Statements, is_select, read_values, statement_of};
+use fdoca::DescriptorFault;
 use sections::NotPrepared;
 use sql_literals::StatementError;
-use sql_text::{Command, Statement};
+use sql_text::Statement;
 use std::alloc::{AllocError, Global};
-
-fn is_select(command: &Command<'_>) -> bool
-    ensures { result ≡ commands.is_select command.now }
-{
-    match command {
-        Command::Select { .. } => true,
-        Command::Create { .. }
-        | Command::Insert { .. }
-        | Command::Update { .. }
-        | Command::Delete { .. } => false,
-    }
-}
-
-// The values of a row, by the descriptor that comes with it.
-fn read_values<'a>(
-    alloc: Global,
-    description: &[u8],
-    row: &'a [u8],
-) -> Result<Values<'a>, DescriptorFault>
-    ensures { GivesValues (row_of (Some description.now) (Some row.now)) result }
-{
-    readings_are_found();
-    let descriptor = Descriptor::parse(alloc, description)?;
-    read_row(alloc, &descriptor, row)
-}
 
 // Runs a statement with the values that a descriptor and a row give.
 fn execute_with<'t, A: Ask>(

@@ -1,7 +1,7 @@
 -- By the laws of the readers.
 use Rattle.std.proofs.Common.{rules}
-use Rattle.sql_exchange.proofs.Sent.{not_described, row_read}
-use Rattle.sql_exchange.proofs.executing.read_values.Goals as goal
+use Rattle.exchanges.proofs.Sent.{not_described, row_read}
+use Rattle.exchanges.proofs.values.read_values.Goals as goal
 
 pub returns-in_err-descriptor : goal.returns-in_err-descriptor
 returns-in_err-descriptor c = not_described c.readings_are_found.ensures.described c.args.description.now c.args.row.now c.in_err-descriptor.field-0.0 c.from_residual.result c.in_err-descriptor.ensures (search rules)

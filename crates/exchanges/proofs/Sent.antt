@@ -10,7 +10,7 @@ use Rattle.fdoca.specs.declared.fault.DescriptorFault.{DescriptorFault}
 use Rattle.fdoca.specs.declared.fault.DescriptorFault.TheVariants.{Malformed, TooManyFields, NoMemory}
 use Rattle.fdoca.specs.declared.field.Field.{Field}
 use Rattle.exchanges.specs.Text.{row_of}
-use Rattle.sql_exchange.specs.Sent.{GivesValues}
+use Rattle.exchanges.specs.Values.{GivesValues}
 
 -- the row of these fields, if they are few
 abbrev pub row_in : List ℕ → Option (List Field) → Option (List Value)
