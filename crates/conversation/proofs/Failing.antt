@@ -32,7 +32,7 @@ use Rattle.exchanges.specs.Doing.{Doing, answered, asking, finished}
 use Rattle.exchanges.specs.Done.{WasDone}
 use Rattle.exchanges.specs.NotDone.{not_done}
 use Rattle.exchanges.specs.Reply.{Reply, agent_failed, changed_card, count_card, description, fault_card, not_found_card, rdb_updated}
-use Rattle.exchanges.specs.Text.{statement_of, values_of}
+use Rattle.exchanges.specs.Text.{is_select, statement_of, values_of}
 use Rattle.sql_exchange.specs.Commands as sql_does
 use Rattle.cursor_exchange.specs.Blocks.{rows_in_block}
 use Rattle.cursor_exchange.specs.Commands as cursors_do
@@ -114,7 +114,7 @@ executed_with_mild rdb k s (Some values) = running_mild rdb k s values
 executed_by_mild : (rdb : List ℕ) (k : Statements) (brought : Option DescribedData) (r : Result Statement SqlFault) → AreMild (sql_does.executed_by rdb k brought r)
 executed_by_mild rdb k brought (Err f) = inl refl
 executed_by_mild rdb k brought (Ok s) =
-    either_doing (sql_does.is_select s.command) (finished (answered k (fault_card NotPrepared ∷ []))) (sql_does.executed_with rdb k s (values_of brought)) (inl refl) (executed_with_mild rdb k s (values_of brought))
+    either_doing (is_select s.command) (finished (answered k (fault_card NotPrepared ∷ []))) (sql_does.executed_with rdb k s (values_of brought)) (inl refl) (executed_with_mild rdb k s (values_of brought))
 
 executed_mild : (rdb : List ℕ) (k : Statements) (brought : Option DescribedData) (section : Option Section) → AreMild (sql_does.executed_in rdb k brought section)
 executed_mild rdb k brought None = inl refl
