@@ -96,7 +96,7 @@ module _ (s : CoreState) (x : List ℕ) (kept : IsKept s) where
       → next (durable_part s) (prepared x u.changes u.claims) ≡ Some (durable_part (record { base = s.base; branches = with_state s.branches x Prepared }))
   prepare_leads last known few =
       let test = both_true (have_places u.changes s.base.store) (is_claimed u.changes u.claims && is_free ds x) (kept.places (global x) (ap waits known))
-          (both_true (is_claimed u.changes u.claims) (is_free ds x) (kept.claimed (global x)) (free last known few)) in
+      (both_true (is_claimed u.changes u.claims) (is_free ds x) (kept.claimed (global x)) (free last known few)) in
       let with_claims : List Claim → Durable = λ cs. record { store = s.base.store; doubts = with_doubt ds x (record { changes = u.changes; claims = cs }) } in
       ap (λ t. if t then some (with_claims (all_added [] u.claims)) else None) test
       ∙ ap (λ cs. some (with_claims cs)) (kept.once (global x))
@@ -109,7 +109,7 @@ module _ (s : CoreState) (x : List ℕ) (kept : IsKept s) where
       let hs = s.base.units in
       let rest : Rises (without bs x) = rises_filter _ bs rise in
       let same : without_doubt ds x ≡ doubts_in (without bs x) b.units =
-          pairs_decided (unit_in hs) bs x rise known ∙ sym (out_agree (without bs x) hs (global x) rest (out_without bs x)) ∙ ap (doubts_in (without bs x)) (sym gone) in
+      pairs_decided (unit_in hs) bs x rise known ∙ sym (out_agree (without bs x) hs (global x) rest (out_without bs x)) ∙ ap (doubts_in (without bs x)) (sym gone) in
       ap (option_map (λ (work : Work). let e : Durable = record { store = decide o s.base.store work; doubts = without_doubt ds x } in e)) (doubted (unit_in hs) bs x known)
       ∙ ap some (same_part _ _ _ _ (sym store) same)
 
