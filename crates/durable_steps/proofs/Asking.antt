@@ -1,15 +1,13 @@
 -- A question that is done keeps what is kept: its changes have their places in what its unit sees, and where
 -- they create a table no other unit does.
-use Rattle.std.proofs.Common.{◌≡◌, ⊎_elim, ℕ, Bool, true, false, List, [], ◌∷◌, ◌++◌, refl, sym, ◌∙◌, ap, subst}
-use Rattle.std.specs.Prelude.{◌&&◌}
+use Rattle.std.proofs.Common.{◌≡◌, ⊎_elim, Bool, true, false, List, [], ◌∷◌, ◌++◌, refl, sym, ◌∙◌, subst}
 use Rattle.std.specs.List.{AllByRecursion}
 use Rattle.row_values.proofs.ValueLaws.{both_true}
 use Rattle.tables.specs.Change.{Change}
 use Rattle.tables.specs.Laws.{StoresAreKept}
-use Rattle.tables.specs.Tables.{Store}
 use Rattle.tables.specs.View.{is_store}
 use Rattle.unit_locks.specs.Claim.{Claim}
-use Rattle.unit_locks.specs.Claims.{AddsClaims, In, all_added}
+use Rattle.unit_locks.specs.Claims.{AddsClaims, all_added}
 use Rattle.unit_locks.specs.Clash.{clash}
 use Rattle.core_calls.specs.Answer.{Answer}
 use Rattle.core_steps.specs.Units.{Held, Owner, Work, clashes, left_of, others, same_owner, set_unit, unit_of, view}
@@ -18,7 +16,7 @@ use Rattle.core_steps.specs.Events.{Ask, Base, bare, happens_asked}
 use Rattle.core_steps.proofs.Asking.{all_apart, through}
 use Rattle.core_steps.proofs.Owners.{both, others_has, owners_same, same_self, unit_of_other, unit_of_set, which}
 use Rattle.unit_records.specs.Records.{IsChange}
-use Rattle.durable_units.specs.Durable.{creates_none, have_places, is_claimed, names_claim}
+use Rattle.durable_units.specs.Durable.{creates_none, have_places, names_claim}
 use Rattle.durable_units.specs.Places.{PlacesGoOn}
 use Rattle.sql_places.specs.Places.{ArePlaced, ChangesHavePlaces, CreationsClaimNames}
 use Rattle.durable_steps.proofs.Claiming.{ClaimsNames, claimed_if, either_creates, names_in, names_more, none_created, once_all}

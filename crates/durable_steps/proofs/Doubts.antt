@@ -1,8 +1,8 @@
 -- The units of branches in doubt, and what edits of the branches leave of them.
-use Rattle.std.proofs.Common.{◌≡◌, inl, inr, ⊎_elim, ℕ, suc, ◌+◌, Bool, true, false, not, List, [], ◌∷◌, length, Option, Some, None, refl, sym, ◌∙◌, ap, subst, map, arith}
+use Rattle.std.proofs.Common.{◌≡◌, ⊎_elim, ℕ, suc, Bool, true, false, not, List, [], ◌∷◌, length, Option, Some, None, refl, sym, ◌∙◌, ap, subst, map, arith}
 use Rattle.std.specs.Prelude.{bytes_eq, filter, if◌then◌else◌, is_some}
 use Rattle.drda_words.specs.Order.{precedes}
-use Rattle.drda_words.proofs.Precedes.{bytes_eq-refl, precedes_another, same_bytes}
+use Rattle.drda_words.proofs.Precedes.{bytes_eq-refl, same_bytes}
 use Rattle.xa_manager.specs.declared.branch.Branch.{Branch}
 use Rattle.xa_manager.specs.declared.branch.BranchState.{BranchState}
 use Rattle.xa_manager.specs.declared.branch.BranchState.TheVariants.{Prepared}

@@ -1,12 +1,11 @@
 -- Every step of a kept core keeps it.
-use Rattle.std.proofs.Common.{◌≡◌, ◌⊎◌, inl, inr, ⊎_elim, ℕ, Bool, true, false, not, List, [], ◌∷◌, Option, Some, None, refl, sym, ◌∙◌, ap, subst}
+use Rattle.std.proofs.Common.{◌≡◌, ◌⊎◌, inl, inr, ⊎_elim, ℕ, Bool, true, false, not, List, [], ◌∷◌, Option, Some, None, refl, sym, ap, subst}
 use Rattle.std.specs.Prelude.{bytes_eq, option_map, unwrap_or}
 use Rattle.drda_words.specs.Order.{IsRising}
 use Rattle.tables.specs.Laws.{StoresAreKept}
 use Rattle.unit_locks.specs.Claims.{AddsClaims}
 use Rattle.xa_calls.specs.declared.request.Ending.{Ending}
 use Rattle.xa_calls.specs.declared.request.Ending.TheVariants as ending
-use Rattle.xa_calls.specs.declared.request.Request.{Request}
 use Rattle.xa_calls.specs.declared.request.Request.TheVariants as request
 use Rattle.xa_manager.specs.declared.branch.Branch.{Branch}
 use Rattle.xa_manager.specs.declared.branch.BranchState.{BranchState}
@@ -20,13 +19,13 @@ use Rattle.xa_manager.specs.Laws.{ActionsFit, FitsAction, JoinedIsActive}
 use Rattle.xa_manager.proofs.Rising.{table_branch, table_filter, table_state}
 use Rattle.core_calls.specs.Call as call
 use Rattle.core_calls.specs.Call.{Call}
-use Rattle.core_steps.specs.Units.{Owner, global, idle, local, same_owner, unit_of, without}
+use Rattle.core_steps.specs.Units.{Owner, global, idle, local, unit_of, without}
 use Rattle.core_steps.specs.Asked.{Question, describing, querying, running}
 use Rattle.core_steps.specs.Events.{Ask, Base, Commit, Event, Leave, bare, bare_run}
 use Rattle.core_steps.specs.Step.{CoreState, due_in, events, facts, lost_xids, next, owner_of, step_state}
-use Rattle.core_steps.specs.Laws.{Ends, InDoubtWait, IsPrepared}
+use Rattle.core_steps.specs.Laws.{Ends, InDoubtWait}
 use Rattle.core_steps.proofs.Keeping.{NoAsks, of_commit, of_lost, of_roll_back, of_xa}
-use Rattle.core_steps.proofs.Owners.{both, owners_same, unit_of_gone, unit_of_without, which}
+use Rattle.core_steps.proofs.Owners.{both, unit_of_gone, which}
 use Rattle.durable_units.specs.Places.{ChangesKeepTables, PlacesGoOn, RowsKeepPlaces, TablesGivePlaces}
 use Rattle.sql_places.specs.Places.{ChangesHavePlaces, CreationsClaimNames}
 use Rattle.durable_steps.specs.Kept.{IsKept, is_in_doubt_in, waits}

@@ -1,5 +1,5 @@
 -- A record that is due has its place, and leads to what is durable after the step.
-use Rattle.std.proofs.Common.{◌≡◌, ◌<◌, ◌≤◌, ◌+◌, inl, inr, ⊎_elim, ℕ, Bool, true, false, not, List, [], ◌∷◌, length, Option, Some, None, refl, sym, ◌∙◌, ap, subst, map, option_map, arith}
+use Rattle.std.proofs.Common.{◌≡◌, ◌<◌, ◌≤◌, ℕ, true, false, not, List, [], ◌∷◌, length, Option, Some, None, refl, sym, ◌∙◌, ap, subst, option_map, arith}
 use Rattle.std.specs.Prelude.{◌&&◌, if◌then◌else◌, is_some, nat_lt, unwrap_or}
 use Rattle.std.proofs.lemmas.Bool.{lt-ltb}
 use Rattle.std.proofs.lemmas.List.{length-map}
@@ -9,13 +9,12 @@ use Rattle.unit_locks.specs.Claim.{Claim}
 use Rattle.unit_locks.specs.Claims.{all_added}
 use Rattle.xa_calls.specs.declared.request.Request.TheVariants as request
 use Rattle.xa_manager.specs.declared.branch.Branch.{Branch}
-use Rattle.xa_manager.specs.declared.branch.BranchState.{BranchState}
 use Rattle.xa_manager.specs.declared.branch.BranchState.TheVariants.{Idle, Prepared}
 use Rattle.xa_manager.specs.declared.due.Action.{Action}
 use Rattle.xa_manager.specs.declared.due.Action.TheVariants as action
 use Rattle.xa_manager.specs.declared.due.Outcome.TheVariants as outcome
 use Rattle.xa_manager.specs.declared.due.Work.{Work as Facts}
-use Rattle.xa_manager.specs.Branch.{in_doubt_count, in_doubt_xids, is_in_doubt, joined_xid, state_of, with_state, without}
+use Rattle.xa_manager.specs.Branch.{in_doubt_count, in_doubt_xids, joined_xid, state_of, with_state, without}
 use Rattle.xa_manager.specs.Due.{after, facts_of}
 use Rattle.xa_manager.specs.Laws.{ActionsFit, FitsAction}
 use Rattle.xa_manager.proofs.Rising.{Rises, rises, rises_filter}
@@ -26,15 +25,15 @@ use Rattle.core_steps.specs.Units as units
 use Rattle.core_steps.specs.Events.{Base, Commit, Leave, bare, bare_run}
 use Rattle.core_steps.specs.Step.{CoreState, action_events, due_in, facts, step_state, unless_joined}
 use Rattle.unit_records.specs.Records.{UnitRecord, committed, decided, prepared}
-use Rattle.unit_records.specs.Room.{decision_taken, released}
+use Rattle.unit_records.specs.Room.{released}
 use Rattle.durable_units.specs.Durable.{Doubts, Durable, decide, doubt_of, have_places, is_claimed, is_free, next, with_doubt, without_doubt}
 use Rattle.durable_units.specs.Laws.{HeldForDoubts, held_for}
-use Rattle.recording.specs.Due.{action_due, commit_due, record_due}
+use Rattle.recording.specs.Due.{action_due, commit_due}
 use Rattle.durable_steps.specs.Kept.{IsKept, is_in_doubt_in, waits}
 use Rattle.durable_steps.specs.Laws.{DecisionsAreOfDoubts, RecordsLead}
 use Rattle.durable_steps.specs.Part.{doubts_in, durable_part}
 use Rattle.durable_steps.proofs.Deciding.{doubted, not_doubted, pairs_decided, pairs_prepared}
-use Rattle.durable_steps.proofs.Doubts.{pairs, unit_in, xids_count}
+use Rattle.durable_steps.proofs.Doubts.{unit_in, xids_count}
 use Rattle.durable_steps.proofs.Silent.{out_agree, out_before, out_without, part_committed, rise_without, same_part, same_without}
 
 abbrev some : Durable → Option Durable

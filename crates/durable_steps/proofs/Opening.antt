@@ -1,6 +1,5 @@
 -- A core that is opened is kept.
-use Rattle.std.proofs.Common.{◌≡◌, ◌≤◌, inl, inr, ⊎_elim, ℕ, Bool, true, false, List, [], ◌∷◌, length, Option, Some, None, refl, sym, ◌∙◌, ap, subst, map, arith}
-use Rattle.std.specs.Prelude.{bytes_eq}
+use Rattle.std.proofs.Common.{◌≡◌, ◌≤◌, ⊎_elim, ℕ, Bool, true, false, List, [], ◌∷◌, length, refl, sym, ◌∙◌, ap, arith}
 use Rattle.std.specs.List.{AllByRecursion, list_all}
 use Rattle.std.specs.Map.{keys_of}
 use Rattle.std.specs.Ordering.{is_lt, nat_cmp}
@@ -10,15 +9,15 @@ use Rattle.drda_words.specs.Order.{rises}
 use Rattle.row_values.proofs.ValueLaws.{first_true, second_true}
 use Rattle.xa_manager.specs.declared.branch.Branch.{Branch}
 use Rattle.xa_manager.specs.declared.branch.BranchState.TheVariants.{Prepared}
-use Rattle.xa_manager.specs.Branch.{IsTable, in_doubt_xids, state_of}
+use Rattle.xa_manager.specs.Branch.{IsTable, in_doubt_xids}
 use Rattle.xa_manager.proofs.Rising.{Above, Rises, rising}
-use Rattle.core_steps.specs.Units.{Held, Owner, Work, global, idle, local, same_owner, set_unit, unit_of}
+use Rattle.core_steps.specs.Units.{Owner, Work, global, idle, local, same_owner, unit_of}
 use Rattle.core_steps.proofs.Owners.{both, owners_same, unit_of_other, unit_of_set, which}
 use Rattle.durable_units.specs.Durable.{Doubts, Durable, creates_none, have_places}
 use Rattle.durable_units.specs.Sound.{IsGoodDoubt, IsSound}
-use Rattle.durable_steps.specs.Kept.{IsKept, is_in_doubt_in, waits}
-use Rattle.durable_steps.specs.Laws.{IsOpened, OpeningsAreKept}
-use Rattle.durable_steps.specs.Part.{doubt_branches, doubt_units, doubts_in, durable_part, opened}
+use Rattle.durable_steps.specs.Kept.{is_in_doubt_in, waits}
+use Rattle.durable_steps.specs.Laws.{OpeningsAreKept}
+use Rattle.durable_steps.specs.Part.{doubt_branches, doubt_units, opened}
 use Rattle.durable_steps.proofs.Asking.{set}
 use Rattle.durable_steps.proofs.Deciding.{eq_turned}
 use Rattle.durable_steps.proofs.Doubts.{other_first, pairs, pairs_agree, prepared_here, state_rest, unit_in, xids_count}

@@ -1,9 +1,7 @@
 -- What is kept of the committed store and the units, whichever of them are in doubt; and that commits and
 -- ends of units keep it.
-use Rattle.std.proofs.Common.{◌≡◌, ◌⊎◌, inl, inr, ⊎_elim, Bool, true, false, List, [], ◌∷◌, ◌++◌, refl, sym, ◌∙◌, ap, subst}
-use Rattle.std.specs.Prelude.{◌&&◌}
+use Rattle.std.proofs.Common.{◌≡◌, ◌⊎◌, ⊎_elim, Bool, true, false, List, [], ◌∷◌, refl, sym, ◌∙◌, ap, subst}
 use Rattle.std.specs.List.{AllByRecursion}
-use Rattle.row_values.proofs.ValueLaws.{both_true}
 use Rattle.tables.specs.Change.{Change, create, is_change, put, remove}
 use Rattle.tables.specs.Laws.{StoresAreKept}
 use Rattle.tables.specs.Tables.{Store, apply}

@@ -4,7 +4,6 @@ use Rattle.std.specs.Prelude.{bytes_eq, filter, if◌then◌else◌}
 use Rattle.drda_words.proofs.Precedes.{bytes_eq-refl, precedes_other, same_bytes}
 use Rattle.tables.specs.Change.{Change}
 use Rattle.tables.specs.Tables.{Store}
-use Rattle.xa_calls.specs.declared.request.Request.{Request}
 use Rattle.xa_calls.specs.declared.request.Request.TheVariants as request
 use Rattle.xa_manager.specs.declared.branch.Branch.{Branch}
 use Rattle.xa_manager.specs.declared.branch.BranchState.{BranchState}
@@ -20,15 +19,15 @@ use Rattle.core_calls.specs.Call as call
 use Rattle.core_calls.specs.Call.{Call}
 use Rattle.core_steps.specs.Units.{Held, Owner, Work, global, local, same_owner, unit_of, view}
 use Rattle.core_steps.specs.Units as units
-use Rattle.core_steps.specs.Asked.{Outcome, Question, describing, querying, running}
-use Rattle.core_steps.specs.Events.{Ask, Base, Commit, Event, Leave, asked_of, bare, bare_run, happens_asked}
-use Rattle.core_steps.specs.Step.{CoreState, action_events, due_in, events, facts, lost_xids, owner_of, step_state, unless_joined}
+use Rattle.core_steps.specs.Asked.{Question, describing, querying, running}
+use Rattle.core_steps.specs.Events.{Ask, Base, Commit, Leave, asked_of, bare, bare_run, happens_asked}
+use Rattle.core_steps.specs.Step.{CoreState, action_events, due_in, facts, lost_xids, owner_of, step_state, unless_joined}
 use Rattle.core_steps.specs.Laws.{InXids}
 use Rattle.core_steps.proofs.Losing.{lost_leaves_nothing}
 use Rattle.core_steps.proofs.Happening.{others_stay, store_stays}
 use Rattle.core_steps.proofs.Owners.{both, owners_same, unit_of_without, which}
 use Rattle.durable_units.specs.Durable.{Doubts, Durable}
-use Rattle.recording.specs.Due.{action_due, commit_due, record_due}
+use Rattle.recording.specs.Due.{action_due, commit_due}
 use Rattle.durable_steps.specs.Kept.{IsKept, is_in_doubt_in, waits}
 use Rattle.durable_steps.specs.Laws.{SilentStepsStay}
 use Rattle.durable_steps.specs.Part.{doubts_in, durable_part}
