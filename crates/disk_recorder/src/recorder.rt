@@ -7,7 +7,7 @@ ghost use Rattle.unit_journal.specs.Journal.{held_of, region_of, room_of};
 ghost use Rattle.unit_records.specs.Records.{UnitRecord, committed, decided, prepared};
 
 use crate::bodies::{commit_body, decide_body, prepare_body};
-use drda_disk::Disk;
+use drda_disk::{Disk, Region};
 use recording::{RecordError, Recorder, Saying};
 use std::alloc::Global;
 use tables::Change;
@@ -58,6 +58,13 @@ impl<D: Disk> DiskRecorder<D> {
         ensures { result ≡ has_failed self.now }
     {
         self.is_failed
+    }
+
+    /// The part of the disk that the journal has.
+    pub fn region(&self) -> Region
+        ensures { result ≡ region_of (journal_of self.now) }
+    {
+        self.journal.region()
     }
 
     /// How many bytes of the journal are left for records.
