@@ -10,7 +10,7 @@ use Rattle.durable_units.specs.Durable.{Durable, replayed_from}
 use Rattle.durable_units.specs.Laws.{GoesOn}
 use Rattle.durable_steps.specs.Part.{durable_part}
 use Rattle.durable_images.specs.Opens.{OpensTo}
-use Rattle.durable_images.specs.Journaled.{CallsGoOn, IsDurable, IsUntouched, Journaled, Made, OpensAfterSome, Shown, StaysFailed, shown_on}
+use Rattle.durable_images.specs.Journaled.{CallsGoOn, IsDurable, IsUnchanged, IsUntouched, Journaled, Made, OpensAfterSome, Shown, StaysFailed, shown_on}
 
 -- ---- fronts of two lists
 
@@ -55,6 +55,9 @@ module _ (goes_on : GoesOn) where
 
 pub untouched : (a : Life) → IsUntouched a a
 untouched a = record { stays = Stays-refl a; moment = refl; faults = refl }
+
+pub unchanged : (s : Shown) → IsUnchanged s s
+unchanged s = record { name = refl; state = refl; disk = untouched s.disk; room = refl; is_failed = refl }
 
 untouched_both : (a b c : Life) → IsUntouched a b → IsUntouched b c → IsUntouched a c
 untouched_both a b c first second = record { stays = Stays-trans a b c first.stays second.stays; moment = second.moment ∙ first.moment; faults = second.faults ∙ first.faults }

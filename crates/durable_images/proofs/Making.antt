@@ -13,9 +13,9 @@ use Rattle.durable_units.specs.Durable.{Durable, next, replayed_from}
 use Rattle.durable_units.specs.Laws.{held_for}
 use Rattle.durable_steps.specs.Part.{durable_part}
 use Rattle.durable_images.specs.Opens.{Holds, OpensTo}
-use Rattle.durable_images.specs.Journaled.{IsDurable, Made, OnDisk, OneCallIsMade, OpensAfterSome, Shown, StaysFailed, shown_on}
+use Rattle.durable_images.specs.Journaled.{IsDurable, IsUnchanged, Made, OnDisk, OneCallIsMade, OpensAfterSome, Shown, StaysFailed, shown_on}
 use Rattle.durable_images.proofs.Adding.{records_open}
-use Rattle.durable_images.proofs.Going.{untouched}
+use Rattle.durable_images.proofs.Going.{unchanged, untouched}
 
 opens_here : (name : List ℕ) (d : Durable) (rs : List UnitRecord) (c : List ℕ) → OpensTo name d c → OpensAfterSome name d rs c
 opens_here name d rs c opens = record { count = 0; state = d; leads = refl; opens = opens }
@@ -57,5 +57,6 @@ one_call_is_made written {D} life = record {
   recorded = λ old new. made_one written (shown_on life old) (shown_on life new);
   silent = λ old new. made_silent (shown_on life old) (shown_on life new);
   failed = λ old new failed same. subst (λ (n : OnDisk D). StaysFailed (shown_on life old) (shown_on life n)) (sym same) (record { failed = failed; name = refl; state = refl; disk = untouched (life old.disk) });
+  unchanged = λ old new same. subst (λ (n : OnDisk D). IsUnchanged (shown_on life old) (shown_on life n)) (sym same) (unchanged (shown_on life old));
   read_only = λ old new stays only. stays_leaves (life old) (life new) _ stays only;
 }

@@ -99,7 +99,8 @@ module _ {D : Type 0} (life : D → Life) where
     pub silent : (old new : OnDisk D) → IsDurable (shown_on old) → Stays (life old.disk) (life new.disk)
         → new.name ≡ old.name → durable_part new.state ≡ durable_part old.state
         → Made [] (shown_on old) (shown_on new)
-    -- a call of a core that has failed, or any that changes nothing
+    -- a call that changes nothing, of a core that has failed or of any
     pub failed : (old new : OnDisk D) → old.is_failed ≡ true → new ≡ old → StaysFailed (shown_on old) (shown_on new)
+    pub unchanged : (old new : OnDisk D) → new ≡ old → IsUnchanged (shown_on old) (shown_on new)
     -- what is only read is left
     pub read_only : (old new : D) → Stays (life old) (life new) → Only (life old) → LeavesOnly (life old) (life new) (λ c. c ≡ (life old).seen)
