@@ -1,5 +1,5 @@
 -- An image opens to one state at most; a fresh store opens to none of tables.
-use Rattle.std.proofs.Common.{◌≡◌, ℕ, ◌+◌, ◌-◌, ◌<◌, ◌≤◌, Bool, true, false, cond, List, [], length, get_or, Result, Ok, Err, refl, sym, ◌∙◌, ap, subst, arith}
+use Rattle.std.proofs.Common.{◌≡◌, ℕ, ◌+◌, ◌-◌, ◌*◌, ◌<◌, ◌≤◌, Bool, true, false, cond, List, [], length, get_or, Result, Ok, Err, refl, sym, ◌∙◌, ap, subst, arith}
 use Rattle.std.proofs.lemmas.Bool.Decides.{nat_tests}
 use Rattle.drda_disk.specs.Region.{end_of}
 use Rattle.drda_disk.specs.declared.region.Region.{Region}
@@ -13,7 +13,7 @@ use Rattle.unit_journal.specs.Stands.{Stands, StandsFrom}
 use Rattle.unit_journal.proofs.Spelling.{byte_part}
 use Rattle.durable_units.specs.Durable.{fresh}
 use Rattle.durable_units.specs.Journal.{Leads, OneState}
-use Rattle.durable_images.specs.Laws.{FreshStoresOpen, OpensToOne}
+use Rattle.durable_images.specs.Laws.{FreshStoresOpen, OpensThere, OpensToOne}
 use Rattle.durable_images.specs.Opens.{IsJournal}
 
 -- ---- one state
@@ -34,6 +34,30 @@ module _ (readings : OneReading) (states : OneState) where
       let store : p.store ≡ q.store = one_store p.store q.store (active_of image) p.active q.active in
       let entries : es ≡ fs = readings.records b image es fs (stands_there (length image) p.store q.store a b es image store p.journal q.journal p.stands) q.stands in
       (sym p.named ∙ ap (λ (s : Store). s.name) store ∙ q.named, states fresh d e fs (subst (λ (l : List Entry). Leads fresh l d) entries p.leads) q.leads)
+
+-- what opens stands where the half says
+pub opens_there : OpensThere
+opens_there name d image store region (a, es, p) active place =
+    let same : p.store ≡ store = one_store p.store store (active_of image) p.active active in
+    let pages : store.header.pages ≡ 0 = ap (λ (s : Store). s.header.pages) (sym same) ∙ p.journal.no_pages in
+    let journal : IsJournal (length image) store region = record { no_pages = pages; begins = place.begins ∙ ap (λ n. offset_of (half_len (length image)) store.half + 8192 * (1 + n)) pages; ends = place.ends } in
+    let old : IsJournal (length image) store a = subst (λ (s : Store). IsJournal (length image) s a) same p.journal in
+    let len : region.length ≡ a.length = omega (arith, journal.begins, journal.ends, old.begins, old.ends) in
+    let named : store.name ≡ name = ap (λ (s : Store). s.name) (sym same) ∙ p.named in
+    record {
+      named = named;
+      no_pages = pages;
+      es = es;
+      holds = record {
+        store = store;
+        active = active;
+        named = named;
+        journal = journal;
+        stands = stands_there (length image) p.store store a region es image same p.journal journal p.stands;
+        leads = p.leads;
+        room = omega (arith, p.room, len);
+      };
+    }
 
 -- ---- a fresh store
 

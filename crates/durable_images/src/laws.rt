@@ -1,7 +1,7 @@
 //! Laws of the definitions. The functions do nothing: their contracts are the laws.
 
 ghost use Rattle.durable_images.specs.Journaled.{CallsGoOn, OneCallIsMade};
-ghost use Rattle.durable_images.specs.Laws.{FreshStoresOpen, OpensToOne, RecordsOpen, RecordsStay};
+ghost use Rattle.durable_images.specs.Laws.{FreshStoresOpen, OpensThere, OpensToOne, RecordsOpen, RecordsStay};
 
 use drda_disk::Disk;
 use durable_units::laws::{records_follow_one_another, records_lead_one_way};
@@ -16,11 +16,21 @@ pub fn images_open_to_one_state()
     records_lead_one_way();
 }
 
-/// Where a record is added, images from before it or after it open to the state before it or behind it,
-/// and those where it stands to the state behind it.
+/// An image that opens has its journal where its active half says.
+pub fn images_open_there()
+    ensures { OpensThere }
+{}
+
+/// Where a record is added, images from before it or after it open to the state before it or behind it.
 pub fn records_open()
-    ensures before_or_after { RecordsOpen }
-    ensures after { RecordsStay }
+    ensures { RecordsOpen }
+{
+    records_have_one_reading();
+}
+
+/// Where a record was added, an image in which it stands opens to the state behind it.
+pub fn records_stay()
+    ensures { RecordsStay }
 {
     records_have_one_reading();
 }
