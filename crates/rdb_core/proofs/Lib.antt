@@ -1,2 +1,4 @@
 pub mod Lost
 pub mod Questions
+pub mod Due
+pub mod Back
