@@ -1,4 +1,3 @@
 pub mod Lost
 pub mod Questions
-pub mod Due
 pub mod Back

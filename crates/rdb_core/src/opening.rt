@@ -47,6 +47,7 @@ impl<R: Recorder> Core<R> {
         ensures exact { RestoresUnit result (state_of self.old).branches xid }
         ensures recorder { recorder_of self.new ≡ recorder_of self.old }
     {
+        self.units.are_listed();
         match self.units.restore(xid, changes, claims) {
             Ok(()) => {}
             Err(AllocError) => return Err(RestoreError::NoMemory),
@@ -54,7 +55,6 @@ impl<R: Recorder> Core<R> {
         match self.branches.restore(&xid) {
             Ok(()) => Ok(()),
             Err(error) => {
-                self.units.are_listed();
                 let _changes = self.units.end(&Owner::Global(xid));
                 Err(error)
             }
