@@ -1,0 +1,86 @@
+-- What words ask for.
+use Rattle.std.specs.Prelude.{ℕ, Bool, ◌==◌, nat_lt, List, [], ◌∷◌, length, Option, Some, None, codes, bytes_eq, if◌then◌else◌, option_map}
+use Rattle.std.specs.List.{position_or_len, before_first, after_first}
+use Rattle.clap.specs.Words.{Kinds, Row, Text, first_of}
+use Rattle.command_line.specs.Grammar.{faults, given}
+use Rattle.command_line.specs.Number.{number_in, port_in}
+use Rattle.command_line.specs.declared.job.Job.{Job as CodeJob}
+use Rattle.command_line.specs.declared.job.Job.TheVariants as code
+use Rattle.command_line.specs.declared.job.Login.{Login as CodeLogin}
+
+pub record Login : Type 0 where
+  pub user : Text
+  pub password : Text
+
+pub data Job : Type 0 where
+  -- the path, the size, the name
+  init : Text → ℕ → Text → Job
+  -- perhaps a path, the name
+  pipe : Option Text → Text → Login → Job
+  -- the path, the port, perhaps how many conversations
+  serve : Text → ℕ → Login → Option ℕ → Job
+  in_doubt : Text → Job
+
+abbrev pub plain_login : CodeLogin → Login
+plain_login l = record { user = l.user.now; password = l.password.now }
+
+abbrev pub plain_job : CodeJob → Job
+plain_job (code.Init path size rdb) = init path.now size rdb.now
+plain_job (code.Pipe path rdb login) = pipe (option_map (λ p. p.now) path) rdb.now (plain_login login)
+plain_job (code.Serve path port login count) = serve path.now port (plain_login login) count
+plain_job (code.InDoubt path) = in_doubt path.now
+
+-- ---- what texts say
+
+abbrev pub is_colon : ℕ → Bool
+is_colon b = b == 58
+
+-- U:P, split at the first colon
+abbrev pub login_in : Text → Option Login
+login_in text = if nat_lt (position_or_len is_colon text) (length text)
+    then Some (record { user = before_first is_colon text; password = after_first is_colon text }) else None
+
+abbrev pub init_by : Option Text → Option Text → Option Text → Option Job
+init_by (Some path) (Some size) (Some rdb) = option_map (λ (n : ℕ). init path n rdb) (number_in size)
+init_by path size rdb = None
+
+abbrev pub pipe_by : Option Text → Option Text → Option Text → Option Job
+pipe_by path (Some rdb) (Some user) = option_map (λ (l : Login). pipe path rdb l) (login_in user)
+pipe_by path rdb user = None
+
+-- the count, where one is given, is a number
+abbrev pub counted : Option Text → Option (Option ℕ)
+counted None = Some None
+counted (Some text) = option_map (λ (n : ℕ). Some n) (number_in text)
+
+abbrev pub serve_with : Text → Option ℕ → Option Login → Option (Option ℕ) → Option Job
+serve_with path (Some port) (Some login) (Some count) = Some (serve path port login count)
+serve_with path port login count = None
+
+abbrev pub serve_by : Option Text → Option Text → Option Text → Option Text → Option Job
+serve_by (Some path) (Some port) (Some user) count = serve_with path (port_in port) (login_in user) (counted count)
+serve_by path port user count = None
+
+abbrev pub in_doubt_by : Option Text → Option Job
+in_doubt_by path = option_map (λ (p : Text). in_doubt p) path
+
+-- ---- what words say
+
+abbrev pub value : List Row → Text → Option Text
+value rows id = first_of id rows
+
+abbrev pub said_to : Text → List Row → Option Job
+said_to name rows =
+    if bytes_eq name (codes "init") then init_by (value rows (codes "path")) (value rows (codes "size")) (value rows (codes "rdb"))
+    else (if bytes_eq name (codes "pipe") then pipe_by (value rows (codes "path")) (value rows (codes "rdb")) (value rows (codes "user"))
+    else (if bytes_eq name (codes "serve") then serve_by (value rows (codes "path")) (value rows (codes "port")) (value rows (codes "user")) (value rows (codes "count"))
+    else (if bytes_eq name (codes "indoubt") then in_doubt_by (value rows (codes "path")) else None)))
+
+abbrev pub said_by : Kinds → Option (Text × List Row) → Option Job
+said_by [] (Some sub) = said_to sub.0 sub.1
+said_by [] None = None
+said_by (kind ∷ kinds) sub = None
+
+-- the job that words ask for, the program's name before them
+abbrev pub said : List Text → Option Job
+said words = said_by (faults words) (given words)

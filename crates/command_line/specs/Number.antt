@@ -1,0 +1,28 @@
+-- Unsigned decimal numbers of 64 bits. A plus may stand first.
+use Rattle.std.specs.Prelude.{ℕ, ◌^◌, ◌&&◌, Bool, true, false, nat_lt, [], ◌∷◌, Option, Some, None, if◌then◌else◌}
+use Rattle.std.specs.Char.{digit_value}
+use Rattle.std.specs.Str.Parse.{digits_value, without_leading_plus}
+use Rattle.clap.specs.Words.{Text}
+
+-- decimal digits alone, and one at least
+abbrev pub are_digits : Text → Bool
+are_digits [] = true
+are_digits (c ∷ cs) = nat_lt (digit_value c) 10 && are_digits cs
+
+abbrev pub is_numeral : Text → Bool
+is_numeral [] = false
+is_numeral (c ∷ cs) = are_digits (c ∷ cs)
+
+abbrev pub number_by : Text → Option ℕ
+number_by ds = if is_numeral ds && nat_lt (digits_value 10 ds) (2 ^ 64) then Some (digits_value 10 ds) else None
+
+abbrev pub number_in : Text → Option ℕ
+number_in text = number_by (without_leading_plus text)
+
+-- a port has 16 bits
+abbrev pub port_by : Option ℕ → Option ℕ
+port_by None = None
+port_by (Some n) = if nat_lt n 65536 then Some n else None
+
+abbrev pub port_in : Text → Option ℕ
+port_in text = port_by (number_in text)

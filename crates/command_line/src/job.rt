@@ -1,0 +1,39 @@
+//! What the words of a command line ask for.
+
+/// Who may open the database.
+#[derive(Clone, Copy, Debug)]
+pub struct Login<'a> {
+    /// What stands before the first colon of U:P.
+    pub user: &'a str,
+    /// What stands behind it.
+    pub password: &'a str,
+}
+
+/// What the words ask for. Contracts see it by `plain_job`.
+#[derive(Clone, Copy, Debug)]
+pub enum Job<'a> {
+    /// `init PATH --size N --rdb NAME`: a new store of so many bytes.
+    Init {
+        path: &'a str,
+        size: u64,
+        rdb: &'a str,
+    },
+    /// `pipe [PATH] [--rdb NAME] --user U:P`: event records on the standard streams, over the store of
+    /// the path, or over one in memory of this name, which is `RDB` where none is given.
+    Pipe {
+        path: Option<&'a str>,
+        rdb: &'a str,
+        login: Login<'a>,
+    },
+    /// `serve PATH --port N --user U:P [--count N]`: conversations over sockets, so many or without end.
+    Serve {
+        path: &'a str,
+        port: u16,
+        login: Login<'a>,
+        count: Option<u64>,
+    },
+    /// `indoubt PATH`: the units in doubt of a store.
+    InDoubt {
+        path: &'a str,
+    },
+}

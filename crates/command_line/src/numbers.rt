@@ -1,0 +1,24 @@
+//! Numbers in words.
+
+ghost use Rattle.std.specs.Prelude.{◌≡◌};
+ghost use Rattle.command_line.specs.Number as spec;
+
+/// The unsigned decimal number of 64 bits that a text is.
+pub(crate) fn number_in(text: &str) -> Option<u64>
+    ensures { result ≡ spec.number_in text.now }
+{
+    match text.parse::<u64>() {
+        Ok(number) => Some(number),
+        Err(_) => None,
+    }
+}
+
+/// The port that a text is.
+pub(crate) fn port_in(text: &str) -> Option<u16>
+    ensures { result ≡ spec.port_in text.now }
+{
+    match number_in(text) {
+        Some(number) if number < 65_536 => Some(number as u16),
+        Some(_) | None => None,
+    }
+}

@@ -1,0 +1,87 @@
+//! What the texts behind a subcommand ask for.
+
+ghost use Rattle.std.specs.Prelude.{◌≡◌, option_map};
+ghost use Rattle.command_line.specs.Job as spec;
+
+use crate::job::{Job, Login};
+use crate::numbers::{number_in, port_in};
+
+pub(crate) fn init_by<'a>(
+    path: Option<&'a str>,
+    size: Option<&'a str>,
+    rdb: Option<&'a str>,
+) -> Option<Job<'a>>
+    ensures { option_map spec.plain_job result ≡ spec.init_by (option_map (λ p. p.now) path.entry) (option_map (λ s. s.now) size.entry) (option_map (λ r. r.now) rdb.entry) }
+{
+    let (Some(path), Some(size), Some(rdb)) = (path, size, rdb) else {
+        return None;
+    };
+    let size = number_in(size)?;
+    Some(Job::Init { path, size, rdb })
+}
+
+pub(crate) fn pipe_by<'a>(
+    path: Option<&'a str>,
+    rdb: Option<&'a str>,
+    user: Option<&'a str>,
+) -> Option<Job<'a>>
+    ensures { option_map spec.plain_job result ≡ spec.pipe_by (option_map (λ p. p.now) path.entry) (option_map (λ r. r.now) rdb.entry) (option_map (λ u. u.now) user.entry) }
+{
+    let (Some(rdb), Some(user)) = (rdb, user) else {
+        return None;
+    };
+    let login = login_in(user)?;
+    Some(Job::Pipe { path, rdb, login })
+}
+
+pub(crate) fn serve_by<'a>(
+    path: Option<&'a str>,
+    port: Option<&'a str>,
+    user: Option<&'a str>,
+    count: Option<&'a str>,
+) -> Option<Job<'a>>
+    ensures { option_map spec.plain_job result ≡ spec.serve_by (option_map (λ p. p.now) path.entry) (option_map (λ t. t.now) port.entry) (option_map (λ u. u.now) user.entry) (option_map (λ t. t.now) count.entry) }
+{
+    let (Some(path), Some(port), Some(user)) = (path, port, user) else {
+        return None;
+    };
+    let port = port_in(port)?;
+    let login = login_in(user)?;
+    let count = counted(count)?;
+    Some(Job::Serve {
+        path,
+        port,
+        login,
+        count,
+    })
+}
+
+pub(crate) fn in_doubt_by<'a>(path: Option<&'a str>) -> Option<Job<'a>>
+    ensures { option_map spec.plain_job result ≡ spec.in_doubt_by (option_map (λ p. p.now) path.entry) }
+{
+    match path {
+        Some(path) => Some(Job::InDoubt { path }),
+        None => None,
+    }
+}
+
+// U:P, split at the first colon.
+fn login_in<'a>(text: &'a str) -> Option<Login<'a>>
+    ensures { option_map spec.plain_login result ≡ spec.login_in text.now }
+{
+    let (user, password) = text.split_once(':')?;
+    Some(Login { user, password })
+}
+
+// How many conversations, where that is said.
+fn counted(text: Option<&str>) -> Option<Option<u64>>
+    ensures { result ≡ spec.counted (option_map (λ t. t.now) text.entry) }
+{
+    match text {
+        None => Some(None),
+        Some(text) => match number_in(text) {
+            Some(number) => Some(Some(number)),
+            None => None,
+        },
+    }
+}

@@ -1,0 +1,129 @@
+//! Reading the words.
+
+ghost use Rattle.std.specs.Prelude.{◌≡◌, [], codes, map, option_map, string_bytes};
+ghost use Rattle.clap.specs.Words.{found_of, rows_of, subcommand_rows_of};
+ghost use Rattle.command_line.specs.Job as spec;
+ghost use Rattle.command_line.specs.Reading.{Parses, Says, Tells};
+
+use crate::app::drdad;
+use crate::job::Job;
+use crate::texts::{in_doubt_by, init_by, pipe_by, serve_by};
+use clap::ArgMatches;
+use clap::error::ErrorKind;
+use std::alloc::{AllocError, Global};
+use std::convert::AsStr;
+use std::fmt::Write;
+use thiserror::Error;
+
+/// Why the words ask for nothing.
+#[derive(Clone, Copy, Debug, PartialEq, Eq, Error)]
+pub enum BadWords {
+    /// They are no command line of the program, or ask for help.
+    #[error("bad arguments")]
+    NoJob,
+    /// Memory was refused.
+    #[error("no memory")]
+    NoMemory,
+}
+
+impl From<AllocError> for BadWords {
+    ghost use Rattle.command_line.specs.declared.words.BadWords.TheVariants.{NoMemory};
+
+    ghost from_gives = { λ _ e. e ≡ NoMemory };
+
+    fn from(_: AllocError) -> BadWords {
+        BadWords::NoMemory
+    }
+}
+
+/// What the parser of words finds in words of `drdad`, the program's name first. What it has to say of
+/// a mistake, or of a request for help, is appended to `said`, as far as memory allows. `NoJob` comes
+/// exactly where the words are none of the grammar's.
+pub fn parse_words<'a, S: AsStr>(
+    alloc: Global,
+    words: &'a [S],
+    said: &mut String,
+) -> Result<ArgMatches<'a>, BadWords>
+    ensures parses { Parses subcommand_rows_of (map S.text words.now) result }
+    ensures tells { Tells result (string_bytes said.old) (string_bytes said.new) }
+{
+    match drdad(alloc)?.try_get_matches_from(words) {
+        Ok(matches) => Ok(matches),
+        Err(error) => match error.kind() {
+            ErrorKind::OutOfMemory => Err(BadWords::NoMemory),
+            _ => {
+                let _ = writeln!(said, "{error}");
+                Err(BadWords::NoJob)
+            }
+        },
+    }
+}
+
+/// The job that words of `drdad` ask for, the program's name first, lent from them. `NoJob` comes
+/// exactly where they ask for none: they are none of the grammar's, or a number is none, a port has
+/// more than 16 bits, or a U:P has no colon. What the parser of words has to say is appended to `said`.
+pub fn job_of<'a, S: AsStr>(
+    alloc: Global,
+    words: &'a [S],
+    said: &mut String,
+) -> Result<Job<'a>, BadWords>
+    ensures job { Says (spec.said (map S.text words.now)) result }
+    ensures tells { Tells result (string_bytes said.old) (string_bytes said.new) }
+{
+    let matches = parse_words(alloc, words, said)?;
+    match job_in(&matches) {
+        Some(job) => Ok(job),
+        None => Err(BadWords::NoJob),
+    }
+}
+
+// What the subcommand that was found asks for.
+fn job_in<'a>(matches: &ArgMatches<'a>) -> Option<Job<'a>>
+    ensures { option_map spec.plain_job result ≡ spec.said_by [] (subcommand_rows_of matches.now) }
+{
+    let (name, given) = matches.subcommand()?;
+    match name {
+        "init" => init_in(given),
+        "pipe" => pipe_in(given),
+        "serve" => serve_in(given),
+        "indoubt" => in_doubt_in(given),
+        _ => None,
+    }
+}
+
+fn init_in<'a>(given: &ArgMatches<'a>) -> Option<Job<'a>>
+    ensures { option_map spec.plain_job result ≡ spec.init_by (spec.value (rows_of (found_of given.now)) (codes "path")) (spec.value (rows_of (found_of given.now)) (codes "size")) (spec.value (rows_of (found_of given.now)) (codes "rdb")) }
+{
+    init_by(
+        given.get_str("path"),
+        given.get_str("size"),
+        given.get_str("rdb"),
+    )
+}
+
+fn pipe_in<'a>(given: &ArgMatches<'a>) -> Option<Job<'a>>
+    ensures { option_map spec.plain_job result ≡ spec.pipe_by (spec.value (rows_of (found_of given.now)) (codes "path")) (spec.value (rows_of (found_of given.now)) (codes "rdb")) (spec.value (rows_of (found_of given.now)) (codes "user")) }
+{
+    pipe_by(
+        given.get_str("path"),
+        given.get_str("rdb"),
+        given.get_str("user"),
+    )
+}
+
+fn serve_in<'a>(given: &ArgMatches<'a>) -> Option<Job<'a>>
+    ensures { option_map spec.plain_job result ≡ spec.serve_by (spec.value (rows_of (found_of given.now)) (codes "path")) (spec.value (rows_of (found_of given.now)) (codes "port")) (spec.value (rows_of (found_of given.now)) (codes "user")) (spec.value (rows_of (found_of given.now)) (codes "count")) }
+{
+    serve_by(
+        given.get_str("path"),
+        given.get_str("port"),
+        given.get_str("user"),
+        given.get_str("count"),
+    )
+}
+
+fn in_doubt_in<'a>(given: &ArgMatches<'a>) -> Option<Job<'a>>
+    ensures { option_map spec.plain_job result ≡ spec.in_doubt_by (spec.value (rows_of (found_of given.now)) (codes "path")) }
+{
+    in_doubt_by(given.get_str("path"))
+}
