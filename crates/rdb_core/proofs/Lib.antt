@@ -1,3 +1,2 @@
 pub mod Lost
 pub mod Questions
-pub mod Back

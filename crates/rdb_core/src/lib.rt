@@ -4,9 +4,7 @@
 mod asking;
 mod ending;
 mod engine;
-mod opening;
 mod question;
-mod refusing;
 mod reply;
 mod step;
 

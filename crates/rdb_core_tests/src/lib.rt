@@ -7,5 +7,3 @@ mod answers;
 mod ends;
 #[cfg(test)]
 mod fixtures;
-#[cfg(test)]
-mod refusals;

@@ -1,0 +1,12 @@
+pub mod Written
+pub mod Cores
+pub mod Askers
+pub mod Journal
+pub mod Conversing
+pub mod Stepping
+pub mod Pieces
+pub mod Recording
+pub mod Runs
+pub mod Rows
+pub mod Heard
+pub mod Refusing

@@ -1,0 +1,152 @@
+-- A piece that is handed on in parts, so far and one part further on.
+use Rattle.std.proofs.Common.{◌≡◌, ◌⊎◌, ◌≤◌, ◌<◌, ◌+◌, ◌-◌, ℕ, true, false, List, [], ◌∷◌, ◌++◌, length, take, drop, min, refl, sym, ap, subst, ◌∙◌, append_assoc, inl, inr, arith}
+use Rattle.std.proofs.lemmas.List.{length-take, length-drop}
+use Rattle.dss_frames.specs.Dss.{Dss}
+use Rattle.dss_frames.specs.declared.fault.FrameFault.{FrameFault}
+use Rattle.dss_frames.specs.Fault.{FaultAt}
+use Rattle.dss_frames.specs.Reading.{unfinished, Reads}
+use Rattle.conversation.specs.Settings.{Settings}
+use Rattle.conversation.specs.Held.{Held}
+use Rattle.durable_node.specs.Hearing.{Attended, Hears}
+use Rattle.durable_node.specs.declared.fed.Fed.{Fed}
+use Rattle.durable_node.specs.declared.fed.FedState.{FedState}
+use Rattle.durable_node.specs.declared.fed.FedState.TheVariants.{Open, Closed, Later}
+use Rattle.durable_node.specs.Asking.{AskedCore}
+use Rattle.durable_node.specs.Feeding.{IsBetweenCommands, IsLeft, EndsAtFault, EndsWithCommand, Told, Takes, LeftAs, bytes_behind, with_core}
+use Rattle.durable_node.proofs.Conversing.{reads_then, reads_so_far}
+use Rattle.durable_node.proofs.Stepping.{told_start, told_more, within_piece, none_more, left_more, more_taken}
+
+-- so many bytes of the piece were taken, bytes are left, and the conversation is open
+pub record IsUnderWay (settings : Settings) (place : ℕ) (old : Attended) (piece out : List ℕ) (taken : ℕ) (between : Attended) (out' : List ℕ) : Type 0 where
+  pub within : taken ≤ length piece
+  pub told : Told settings place old (take taken piece) out [] between out'
+  pub none : old.standing.session.is_closed ≡ true → taken ≡ 0
+  pub still_open : between.standing.session.is_closed ≡ false
+  pub left : IsLeft taken piece
+
+nothing_or_some : (piece : List ℕ) → IsLeft 0 piece
+nothing_or_some [] = inr refl
+nothing_or_some (b ∷ piece) = inl (omega arith)
+
+pub starts : (place : ℕ) (held : Held) (core : AskedCore) (piece out : List ℕ) → IsBetweenCommands held → held.session.is_closed ≡ false → IsUnderWay held.settings place (with_core held core) piece out 0 (with_core held core) out
+starts place held core piece out settled is_open = record {
+  within = omega arith;
+  told = told_start place held core out settled;
+  none = λ shut. refl;
+  still_open = is_open;
+  left = nothing_or_some piece;
+}
+
+-- it was closed before
+pub stays_closed : (place : ℕ) (held : Held) (core : AskedCore) (piece out : List ℕ) → IsBetweenCommands held → held.session.is_closed ≡ true
+    → Takes held.settings place (with_core held core) piece out (record { taken = 0; state = Closed }) (with_core held core) out
+stays_closed place held core piece out settled shut = record {
+  within = omega arith;
+  told = told_start place held core out settled;
+  state = shut;
+  all = λ e. absurd (cc e);
+  later = λ e. absurd (cc e);
+  closed = λ e is_open. let both : true ≡ false = sym shut ∙ is_open in absurd (cc both);
+  none = λ e. refl;
+}
+
+-- it found no memory
+pub stops : (settings : Settings) (place : ℕ) (old : Attended) (piece out : List ℕ) (taken : ℕ) (between : Attended) (out' : List ℕ) → IsUnderWay settings place old piece out taken between out'
+    → Takes settings place old piece out (record { taken = taken; state = Later }) between out'
+stops settings place old piece out taken between out' u = record {
+  within = u.within;
+  told = u.told;
+  state = u.still_open;
+  all = λ e. absurd (cc e);
+  later = λ e. u.left;
+  closed = λ e. absurd (cc e);
+  none = u.none;
+}
+
+module _ (settings : Settings) (place : ℕ) (fault_more : (bytes more : List ℕ) (fault : FrameFault) → FaultAt bytes fault → FaultAt (bytes ++ more) fault) where
+  left_later : (piece : List ℕ) (taken size count : ℕ) → taken ≤ length piece → 0 < min size (length piece - taken) ⊎ (piece ≡ []) → IsLeft count (take size (drop taken piece)) → IsLeft (taken + count) piece
+  left_later piece taken size count within (inr empty) more = inr empty
+  left_later piece taken size count within (inl some) (inl more) =
+      let of_take : length (take size (drop taken piece)) ≡ min size (length (drop taken piece)) = length-take size (drop taken piece) in
+      let of_drop : length (drop taken piece) ≡ length piece - taken = length-drop taken piece in
+      inl (omega (arith, of_take, of_drop, more, within))
+  left_later piece taken size count within (inl some) (inr none) =
+      let of_take : length (take size (drop taken piece)) ≡ min size (length (drop taken piece)) = length-take size (drop taken piece) in
+      let of_drop : length (drop taken piece) ≡ length piece - taken = length-drop taken piece in
+      let empty : length (take size (drop taken piece)) ≡ 0 = ap length none in
+      absurd (omega (arith, of_take, of_drop, empty, some))
+
+  some_wanted : (piece : List ℕ) (taken wanted size : ℕ) → size ≡ min wanted (length piece - taken) → IsLeft taken piece → 1 ≤ wanted → 0 < min size (length piece - taken) ⊎ (piece ≡ [])
+  some_wanted piece taken wanted size is (inl left) some = inl (omega (arith, is, left, some))
+  some_wanted piece taken wanted size is (inr empty) some = inr empty
+
+  -- the bytes of a piece are read on where those of its front ended
+  read_on : (a b : Attended) (piece : List ℕ) (taken size count : ℕ) (commands others : List (List Dss)) (rest : List ℕ) → count ≤ size → Reads (a.rest ++ take taken piece) commands (unfinished b.rest)
+      → Reads (b.rest ++ take count (take size (drop taken piece))) others (unfinished rest) → Reads (a.rest ++ take (taken + count) piece) (commands ++ others) (unfinished rest)
+  read_on a b piece taken size count commands others rest few front behind =
+      let text : (a.rest ++ take taken piece) ++ take count (take size (drop taken piece)) ≡ a.rest ++ take (taken + count) piece =
+      append_assoc a.rest (take taken piece) (take count (take size (drop taken piece))) ∙ ap (λ (z : List ℕ). a.rest ++ z) (more_taken piece taken size count few) in
+      subst (λ (z : List ℕ). Reads z (commands ++ others) (unfinished rest)) text
+      (reads_then commands others (a.rest ++ take taken piece) b.rest (take count (take size (drop taken piece))) (unfinished rest) front behind)
+
+  ends_later : (a b : Attended) (piece : List ℕ) (taken size count : ℕ) (commands : List (List Dss)) → Reads (a.rest ++ take taken piece) commands (unfinished b.rest)
+      → count ≤ size → EndsAtFault b (take size (drop taken piece)) count ⊎ EndsWithCommand b (take size (drop taken piece)) count → EndsAtFault a piece (taken + count) ⊎ EndsWithCommand a piece (taken + count)
+  ends_later a b piece taken size count commands front few (inl f) =
+      let some = f.some in
+      let one_less : count - 1 ≤ size = omega (arith, few) in
+      let count_is : taken + (count - 1) ≡ taken + count - 1 = omega (arith, some) in
+      inl (record {
+        some = omega (arith, some);
+        commands = commands ++ f.commands;
+        rest = f.rest;
+        one_less = subst (λ (n : ℕ). Reads (a.rest ++ take n piece) (commands ++ f.commands) (unfinished f.rest)) count_is
+            (read_on a b piece taken size (count - 1) commands f.commands f.rest one_less front f.one_less);
+      })
+  ends_later a b piece taken size count commands front few (inr f) =
+      let some = f.some in
+      inr (record {
+        some = omega (arith, some);
+        commands = commands ++ f.commands;
+        whole = read_on a b piece taken size count commands f.commands [] few front f.whole;
+      })
+
+  closed_later : (a b : Attended) (piece replies : List ℕ) (taken size count : ℕ) → Hears settings place a (take taken piece) replies b → b.standing.session.is_closed ≡ false
+      → count ≤ size → EndsAtFault b (take size (drop taken piece)) count ⊎ EndsWithCommand b (take size (drop taken piece)) count → EndsAtFault a piece (taken + count) ⊎ EndsWithCommand a piece (taken + count)
+  closed_later a b piece replies taken size count (inl h) still_open few f =
+      let (commands, front) = reads_so_far settings place a.standing b.standing (a.rest ++ take taken piece) replies b.rest h.converses still_open in
+      ends_later a b piece taken size count commands front few f
+  closed_later a b piece replies taken size count (inr h) still_open few f =
+      let both : true ≡ false = sym h.closed ∙ sym (ap (λ (d : Attended). d.standing.session.is_closed) h.same) ∙ still_open in
+      absurd (cc both)
+
+  few_taken : (piece : List ℕ) (taken size count : ℕ) → count ≤ length (take size (drop taken piece)) → count ≤ size
+  few_taken piece taken size count within =
+      let of_take : length (take size (drop taken piece)) ≡ min size (length (drop taken piece)) = length-take size (drop taken piece) in
+      omega (arith, of_take, within)
+
+  -- one part further on, at the end
+  pub ends_so : (old between new : Attended) (piece out out1 out2 : List ℕ) (taken wanted size : ℕ) (fed : Fed) → IsUnderWay settings place old piece out taken between out1
+      → size ≡ min wanted (length piece - taken) → 1 ≤ wanted
+      → Takes settings place between (take size (drop taken piece)) out1 fed new out2 → (fed.state ≡ Open → taken + fed.taken ≡ length piece)
+      → Takes settings place old piece out (record { taken = taken + fed.taken; state = fed.state }) new out2
+  ends_so old between new piece out out1 out2 taken wanted size fed u is some takes all = record {
+    within = within_piece piece taken size fed.taken u.within takes.within;
+    told = told_more settings place fault_more old between new piece out out1 out2 taken size fed u.told takes;
+    state = left_more fed.state taken fed.taken new takes.state;
+    all = all;
+    later = λ e. left_later piece taken size fed.taken u.within (some_wanted piece taken wanted size is u.left some) (takes.later e);
+    closed = λ e is_open. closed_later old between piece (u.told.replies ++ []) taken size fed.taken u.told.hears u.still_open (few_taken piece taken size fed.taken takes.within) (takes.closed e u.still_open);
+    none = none_more settings place old between new piece out out1 out2 taken size fed u.told takes u.none;
+  }
+
+  -- one part further on, with bytes left
+  pub goes_on : (old between new : Attended) (piece out out1 out2 : List ℕ) (taken size : ℕ) (fed : Fed) → IsUnderWay settings place old piece out taken between out1
+      → Takes settings place between (take size (drop taken piece)) out1 fed new out2 → fed.state ≡ Open → taken + fed.taken < length piece
+      → IsUnderWay settings place old piece out (taken + fed.taken) new out2
+  goes_on old between new piece out out1 out2 taken size fed u takes is more = record {
+    within = within_piece piece taken size fed.taken u.within takes.within;
+    told = subst (λ (s : FedState). Told settings place old (take (taken + fed.taken) piece) out (bytes_behind s) new out2) is (told_more settings place fault_more old between new piece out out1 out2 taken size fed u.told takes);
+    none = none_more settings place old between new piece out out1 out2 taken size fed u.told takes u.none;
+    still_open = subst (λ (s : FedState). LeftAs s fed.taken new) is takes.state;
+    left = inl more;
+  }

@@ -1,0 +1,392 @@
+-- One step of a conversation, and the next.
+use Rattle.std.proofs.Common.{◌≡◌, ◌⊎◌, ◌||◌, Bool, zero, suc, ◌≤◌, ◌<◌, ◌+◌, ◌-◌, ℕ, true, false, List, [], ◌∷◌, ◌++◌, length, take, drop, min, refl, sym, ap, subst, ◌∙◌, append_assoc, append-nil, inl, inr, arith}
+use Rattle.std.proofs.Math.Seq.{take-add}
+use Rattle.std.proofs.lemmas.List.{take-take, length-take-le, length-take, length-drop}
+use Rattle.dss_frames.specs.Dss.{Dss}
+use Rattle.dss_frames.specs.declared.fault.FrameFault.{FrameFault}
+use Rattle.dss_frames.specs.Fault.{BeginsWith, FaultAt, IsUnfinished}
+use Rattle.dss_frames.specs.Reading.{unfinished, faulty, Reads}
+use Rattle.conversation.specs.declared.session.Session.{Session}
+use Rattle.conversation.specs.declared.front.Need.{Need}
+use Rattle.conversation.specs.declared.front.Need.TheVariants.{Bytes, Local, Short, Closed}
+use Rattle.conversation.specs.Settings.{Settings}
+use Rattle.conversation.specs.Held.{Held}
+use Rattle.conversation.specs.Replies.{fault_bytes}
+use Rattle.conversation.specs.Exchange.{excused}
+use Rattle.conversation.specs.Standing.{Standing, standing}
+use Rattle.conversation.specs.Done.{Does}
+use Rattle.conversation.specs.Steps.{Steps, Converses, KeepsToOne}
+use Rattle.durable_node.specs.Asking.{AskedCore, asks}
+use Rattle.durable_node.specs.Hearing.{Attended, Hears}
+use Rattle.durable_node.specs.declared.fed.Fed.{Fed}
+use Rattle.durable_node.specs.declared.fed.FedState.{FedState}
+use Rattle.durable_node.specs.declared.fed.FedState.TheVariants.{Open, Later, Closed as is_shut, Short as is_short}
+use Rattle.durable_node.specs.Feeding.{IsBetweenCommands, KeepsToWanted, EndsAtFault, EndsWithCommand, Told, Takes, LeftAs, bytes_behind, state_for, with_core}
+use Rattle.durable_node.proofs.Conversing.{hears_then, hears_closed}
+
+abbrev pub reply_behind : Need → List ℕ
+reply_behind Bytes = []
+reply_behind Local = []
+reply_behind (Short bytes) = bytes
+reply_behind Closed = []
+
+abbrev pub NeedIs : Need → List ℕ → Held → Type 0
+NeedIs Bytes part new = new.session.is_closed ≡ false
+NeedIs Local part new = new.session.is_closed ≡ false
+NeedIs (Short bytes) part new = (0 < length part) × (new.session.is_closed ≡ false)
+NeedIs Closed part new = new.session.is_closed ≡ true
+
+-- the bytes that were held and those that came are whole commands
+abbrev pub IsWhole : Held → List ℕ → Type 0
+IsWhole old part = (0 < length part) × ((commands : List (List Dss)) × Reads (old.rest ++ part) commands (unfinished []))
+
+pub record Stepped (place : ℕ) (old : Held) (core : AskedCore) (part out : List ℕ) (need : Need) (new : Held) (core' : AskedCore) (out' : List ℕ) : Type 0 where
+  pub told : Told old.settings place (with_core old core) part out (reply_behind need) (with_core new core') out'
+  pub settled : IsBetweenCommands new
+  pub settings : new.settings ≡ old.settings
+  pub state : NeedIs need part new
+  pub ended : need ≡ Closed → old.session.is_closed ≡ false → ((fault : FrameFault) × FaultAt (old.rest ++ part) fault) ⊎ IsWhole old part
+
+-- a command stands where there was none, so some byte came
+some_came : (rest part : List ℕ) (command : List Dss) (remains : List ℕ) → IsUnfinished rest → BeginsWith (rest ++ part) command remains → 0 < length part
+some_came rest [] command remains unfinished_rest taken =
+    absurd (unfinished_rest.no_command command remains (subst (λ (z : List ℕ). BeginsWith z command remains) (append-nil rest) taken))
+some_came rest (b ∷ part) command remains unfinished_rest taken = omega arith
+
+-- a command that found no memory leaves the conversation open
+excused_open : (session : Session) (command : List Dss) → session.is_closed ≡ false → (excused session command).session.is_closed ≡ false
+excused_open session [] still_open = still_open
+excused_open session (request ∷ objects) still_open = ap (λ (b : Bool). b || false) still_open
+
+module _ (nothing : IsUnfinished []) (place : ℕ) where
+  -- one command, and no byte behind it
+  one_command : (settings : Settings) (s next : Standing AskedCore) (text rest bytes : List ℕ) (command : List Dss) → BeginsWith text command rest → rest ≡ []
+      → Does (asks place) settings s command bytes next → next.session.is_closed ≡ false → Converses (asks place) settings s text bytes rest next
+  one_command settings s next text rest bytes command taken none does still_open = inl (record {
+    commands = command ∷ [];
+    end = unfinished rest;
+    reads = (rest, taken, (refl, subst IsUnfinished (sym none) nothing));
+    replies = bytes;
+    closing = [];
+    between = next;
+    does = (bytes, [], next, does, sym (append-nil bytes), (refl, refl));
+    still_open = still_open;
+    ends = (refl, refl, refl);
+    written = sym (append-nil bytes);
+  })
+
+  -- and it closes the conversation
+  last_command : (settings : Settings) (s next : Standing AskedCore) (text rest left bytes : List ℕ) (command : List Dss) → BeginsWith text command rest → rest ≡ []
+      → Does (asks place) settings s command bytes next → next.session.is_closed ≡ true → Converses (asks place) settings s text bytes left next
+  last_command settings s next text rest left bytes command taken none does shut = inr (record {
+    front = text;
+    beyond = [];
+    text_is = sym (append-nil text);
+    commands = command ∷ [];
+    reads = (rest, taken, (none, nothing));
+    does = (bytes, [], next, does, sym (append-nil bytes), (refl, refl));
+    closed_there = shut;
+  })
+
+  pub steps : (old : Held) (core : AskedCore) (part out : List ℕ) (wanted : ℕ) (need : Need) (new : Held) (core' : AskedCore) (out' : List ℕ) → IsBetweenCommands old
+      → (old.session.is_closed ≡ true → part ≡ []) → KeepsToOne old.rest wanted → length part ≤ wanted
+      → Steps (asks place) (record old { rest = old.rest ++ part }) core out need new core' out' → Stepped place old core part out need new core' out'
+  steps old core part out wanted Bytes new core' out' settled none keeps few s =
+      let rest : new.rest ≡ old.rest ++ part = ap (λ (h : Held). h.rest) s.same in
+      let session : new.session ≡ old.session = ap (λ (h : Held). h.session) s.same in
+      record {
+        told = record {
+          replies = [];
+          appended = s.silent ∙ sym (append-nil out);
+          hears = inl (record {
+            still_open = s.open_still;
+            converses = inl (record {
+              commands = [];
+              end = unfinished (old.rest ++ part);
+              reads = (refl, s.unfinished_rest);
+              replies = [];
+              closing = [];
+              between = standing old core;
+              does = (refl, refl);
+              still_open = s.open_still;
+              ends = (refl, rest, λ i. standing (s.same i) (s.unasked i));
+              written = refl;
+            });
+          });
+        };
+        settings = ap (λ (h : Held). h.settings) s.same;
+        settled = λ is_open. subst IsUnfinished (sym rest) s.unfinished_rest;
+        state = ap (λ (t : Session). t.is_closed) session ∙ s.open_still;
+        ended = λ e is_open. absurd (cc e);
+      }
+  steps old core part out wanted Local new core' out' settled none keeps few (s, still_open) =
+      let alone : new.rest ≡ [] = keeps part s.command new.rest (settled s.open_still) few s.taken in
+      record {
+        told = record {
+          replies = s.bytes;
+          appended = s.reply;
+          hears = inl (record {
+            still_open = s.open_still;
+            converses = subst (λ (z : List ℕ). Converses (asks place) old.settings (standing old core) (old.rest ++ part) z new.rest (standing new core')) (sym (append-nil s.bytes))
+                (one_command old.settings (standing old core) (standing new core') (old.rest ++ part) new.rest s.bytes s.command s.taken alone (record { still_open = s.open_still; does = inl s.exchanges }) still_open);
+          });
+        };
+        settings = s.settings;
+        settled = λ is_open. subst IsUnfinished (sym alone) nothing;
+        state = still_open;
+        ended = λ e is_open. absurd (cc e);
+      }
+  steps old core part out wanted (Short bytes) new core' out' settled none keeps few s =
+      let alone : new.rest ≡ [] = keeps part s.command new.rest (settled s.open_still) few s.taken in
+      let still_open : new.session.is_closed ≡ false =
+      ap (λ (t : Standing AskedCore). t.session.is_closed) s.excused.same ∙ excused_open old.session s.command s.open_still in
+      record {
+        told = record {
+          replies = [];
+          appended = s.silent ∙ sym (append-nil out);
+          hears = inl (record {
+            still_open = s.open_still;
+            converses = one_command old.settings (standing old core) (standing new core') (old.rest ++ part) new.rest bytes s.command s.taken alone (record { still_open = s.open_still; does = inr s.excused }) still_open;
+          });
+        };
+        settings = s.settings;
+        settled = λ is_open. subst IsUnfinished (sym alone) nothing;
+        state = (some_came old.rest part s.command new.rest (settled s.open_still) s.taken, still_open);
+        ended = λ e is_open. absurd (cc e);
+      }
+  steps old core part out wanted Closed new core' out' settled none keeps few (inl (s, shut)) =
+      let alone : new.rest ≡ [] = keeps part s.command new.rest (settled s.open_still) few s.taken in
+      record {
+        told = record {
+          replies = s.bytes;
+          appended = s.reply;
+          hears = inl (record {
+            still_open = s.open_still;
+            converses = subst (λ (z : List ℕ). Converses (asks place) old.settings (standing old core) (old.rest ++ part) z new.rest (standing new core')) (sym (append-nil s.bytes))
+                (last_command old.settings (standing old core) (standing new core') (old.rest ++ part) new.rest new.rest s.bytes s.command s.taken alone (record { still_open = s.open_still; does = inl s.exchanges }) shut);
+          });
+        };
+        settings = s.settings;
+        settled = λ is_open. let both : true ≡ false = sym shut ∙ is_open in absurd (cc both);
+        state = shut;
+        ended = λ e is_open. inr (some_came old.rest part s.command new.rest (settled s.open_still) s.taken, (s.command ∷ [], (new.rest, s.taken, (alone, nothing))));
+      }
+  steps old core part out wanted Closed new core' out' settled none keeps few (inr (inl s)) =
+      let shut : new.session.is_closed ≡ true = ap (λ (t : Session). t.is_closed) s.session in
+      record {
+        told = record {
+          replies = fault_bytes s.fault;
+          appended = s.reply;
+          hears = inl (record {
+            still_open = s.open_still;
+            converses = inl (record {
+              commands = [];
+              end = faulty s.fault;
+              reads = s.there;
+              replies = [];
+              closing = fault_bytes s.fault;
+              between = standing old core;
+              does = (refl, refl);
+              still_open = s.open_still;
+              ends = (refl, λ i. record { session = s.session i; statements = s.statements i; asked = s.unasked i });
+              written = append-nil (fault_bytes s.fault);
+            });
+          });
+        };
+        settings = s.settings;
+        settled = λ is_open. let both : true ≡ false = sym shut ∙ is_open in absurd (cc both);
+        state = shut;
+        ended = λ e is_open. inl (s.fault, s.there);
+      }
+  steps old core part out wanted Closed new core' out' settled none keeps few (inr (inr s)) =
+      let rest : new.rest ≡ old.rest = ap (λ (h : Held). h.rest) s.same ∙ ap (λ (z : List ℕ). old.rest ++ z) (none s.closed_before) ∙ append-nil old.rest in
+      let session : new.session ≡ old.session = ap (λ (h : Held). h.session) s.same in
+      let shut : new.session.is_closed ≡ true = ap (λ (t : Session). t.is_closed) session ∙ s.closed_before in
+      record {
+        told = record {
+          replies = [];
+          appended = s.silent ∙ sym (append-nil out);
+          hears = inr (record {
+            closed = s.closed_before;
+            silent = refl;
+            same = λ i. record { rest = rest i; standing = standing (s.same i) (s.unasked i) };
+          });
+        };
+        settings = ap (λ (h : Held). h.settings) s.same;
+        settled = λ is_open. let both : true ≡ false = sym shut ∙ is_open in absurd (cc both);
+        state = shut;
+        ended = λ e is_open. let both : true ≡ false = sym s.closed_before ∙ is_open in absurd (cc both);
+      }
+
+  -- the same of a piece of which so many bytes were taken
+  pub handed : (old fed : Held) (core : AskedCore) (part out : List ℕ) (count : ℕ) (need : Need) (new : Held) (core' : AskedCore) (out' : List ℕ) → IsBetweenCommands old → KeepsToOne old.rest (length part)
+      → fed ≡ record old { rest = old.rest ++ take count part } → count ≤ length part → (old.session.is_closed ≡ true → count ≡ 0)
+      → Steps (asks place) fed core out need new core' out' → Stepped place old core (take count part) out need new core' out'
+  handed old fed core part out count need new core' out' settled keeps is within none s =
+      let few : length (take count part) ≡ count = length-take-le count part within in
+      steps old core (take count part) out (length part) need new core' out' settled (λ shut. ap (λ (n : ℕ). take n part) (none shut)) keeps (omega (arith, few, within))
+      (subst (λ (h : Held). Steps (asks place) h core out need new core' out') is s)
+
+module _ (settings : Settings) (place : ℕ) (fault_more : (bytes more : List ℕ) (fault : FrameFault) → FaultAt bytes fault → FaultAt (bytes ++ more) fault) where
+  pub told_then : (a b c : Attended) (p q out extra out' out'' : List ℕ) → Told settings place a p out [] b out' → Told settings place b q out' extra c out'' → Told settings place a (p ++ q) out extra c out''
+  told_then a b c p q out extra out' out'' first second =
+      let said : (first.replies ++ []) ++ (second.replies ++ extra) ≡ (first.replies ++ second.replies) ++ extra =
+      ap (λ (z : List ℕ). z ++ (second.replies ++ extra)) (append-nil first.replies) ∙ sym (append_assoc first.replies second.replies extra) in
+      record {
+        replies = first.replies ++ second.replies;
+        appended = second.appended ∙ ap (λ (z : List ℕ). z ++ second.replies) first.appended ∙ append_assoc out first.replies second.replies;
+        hears = subst (λ (z : List ℕ). Hears settings place a (p ++ q) z c) said (hears_then settings place fault_more a b c p q (first.replies ++ []) (second.replies ++ extra) first.hears second.hears);
+      }
+
+closed_or_open : (b : Bool) → (b ≡ true) ⊎ (b ≡ false)
+closed_or_open true = inl refl
+closed_or_open false = inr refl
+
+-- nothing is heard in no bytes
+told_nothing : (place : ℕ) (held : Held) (core : AskedCore) (out : List ℕ) → (held.session.is_closed ≡ true) ⊎ (held.session.is_closed ≡ false) → IsBetweenCommands held
+    → Told held.settings place (with_core held core) [] out [] (with_core held core) out
+told_nothing place held core out (inl shut) settled = record { replies = []; appended = sym (append-nil out); hears = inr (record { closed = shut; silent = refl; same = refl }) }
+told_nothing place held core out (inr is_open) settled = record {
+  replies = [];
+  appended = sym (append-nil out);
+  hears = inl (record {
+    still_open = is_open;
+    converses = inl (record {
+      commands = [];
+      end = unfinished held.rest;
+      reads = (append-nil held.rest, settled is_open);
+      replies = [];
+      closing = [];
+      between = standing held core;
+      does = (refl, refl);
+      still_open = is_open;
+      ends = (refl, refl, refl);
+      written = refl;
+    });
+  });
+}
+
+pub told_start : (place : ℕ) (held : Held) (core : AskedCore) (out : List ℕ) → IsBetweenCommands held → Told held.settings place (with_core held core) [] out [] (with_core held core) out
+told_start place held core out settled = told_nothing place held core out (closed_or_open held.session.is_closed) settled
+
+-- the bytes of a piece that were taken so far, and some more
+pub more_taken : (piece : List ℕ) (taken size count : ℕ) → count ≤ size → take taken piece ++ take count (take size (drop taken piece)) ≡ take (taken + count) piece
+more_taken piece taken size count few = ap (λ (z : List ℕ). take taken piece ++ z) (take-take count size (drop taken piece) few) ∙ sym (take-add taken count piece)
+
+-- what was taken is no byte where none was there
+taken_some : (count : ℕ) (part : List ℕ) → 0 < length (take count part) → 0 < count
+taken_some zero part some = some
+taken_some (suc count) part some = omega arith
+
+-- the last byte that was taken is the last one of the faulty header
+pub ends_at_fault : (before : Attended) (part : List ℕ) (count : ℕ) (fault : FrameFault) → count ≤ length part → IsUnfinished before.rest → KeepsToWanted before.rest (length part)
+    → FaultAt (before.rest ++ take count part) fault → EndsAtFault before part count
+ends_at_fault before part zero fault within unfinished_rest keeps there =
+    absurd (unfinished_rest.no_fault fault (subst (λ (z : List ℕ). FaultAt z fault) (append-nil before.rest) there))
+ends_at_fault before part (suc count) fault within unfinished_rest keeps there =
+    let (wanted, is_wanted, few) = keeps unfinished_rest in
+    let one_less : length (take (suc count - 1) part) ≡ min (suc count - 1) (length part) = length-take (suc count - 1) part in
+    record {
+      some = omega arith;
+      commands = [];
+      rest = before.rest ++ take (suc count - 1) part;
+      one_less = (refl, is_wanted.less (take (suc count - 1) part) (omega (arith, one_less, few, within)));
+    }
+
+-- or of the command
+ends_now : (before : Attended) (part : List ℕ) (count : ℕ) → count ≤ length part → IsUnfinished before.rest → KeepsToWanted before.rest (length part)
+    → ((fault : FrameFault) × FaultAt (before.rest ++ take count part) fault) ⊎ ((0 < length (take count part)) × ((commands : List (List Dss)) × Reads (before.rest ++ take count part) commands (unfinished [])))
+    → EndsAtFault before part count ⊎ EndsWithCommand before part count
+ends_now before part count within unfinished_rest keeps (inl (fault, there)) = inl (ends_at_fault before part count fault within unfinished_rest keeps there)
+ends_now before part count within unfinished_rest keeps (inr (some, (commands, whole))) =
+    inr (record { some = taken_some count part some; commands = commands; whole = whole })
+
+-- the state, by whether all of the bytes were taken
+pub moved : (place : ℕ) (need : Need) (all : Bool) (old : Held) (core : AskedCore) (part out : List ℕ) (count : ℕ) (new : Held) (core' : AskedCore) (out' : List ℕ) → count ≤ length part → (all ≡ true → count ≡ length part)
+    → (all ≡ false → count < length part) → (old.session.is_closed ≡ true → count ≡ 0) → IsBetweenCommands old → KeepsToWanted old.rest (length part) → Stepped place old core (take count part) out need new core' out'
+    → Takes old.settings place (with_core old core) part out (record { taken = count; state = state_for need all }) (with_core new core') out'
+moved place Bytes true old core part out count new core' out' within whole few none settled keeps s = record {
+  within = within;
+  told = s.told;
+  state = s.state;
+  all = λ e. whole refl;
+  later = λ e. absurd (cc e);
+  closed = λ e. absurd (cc e);
+  none = none;
+}
+moved place Bytes false old core part out count new core' out' within whole few none settled keeps s = record {
+  within = within;
+  told = s.told;
+  state = s.state;
+  all = λ e. absurd (cc e);
+  later = λ e. inl (few refl);
+  closed = λ e. absurd (cc e);
+  none = none;
+}
+moved place Local true old core part out count new core' out' within whole few none settled keeps s = record {
+  within = within;
+  told = s.told;
+  state = s.state;
+  all = λ e. whole refl;
+  later = λ e. absurd (cc e);
+  closed = λ e. absurd (cc e);
+  none = none;
+}
+moved place Local false old core part out count new core' out' within whole few none settled keeps s = record {
+  within = within;
+  told = s.told;
+  state = s.state;
+  all = λ e. absurd (cc e);
+  later = λ e. inl (few refl);
+  closed = λ e. absurd (cc e);
+  none = none;
+}
+moved place (Short bytes) all old core part out count new core' out' within whole few none settled keeps s = record {
+  within = within;
+  told = s.told;
+  state = (taken_some count part s.state.0, s.state.1);
+  all = λ e. absurd (cc e);
+  later = λ e. absurd (cc e);
+  closed = λ e. absurd (cc e);
+  none = none;
+}
+moved place Closed all old core part out count new core' out' within whole few none settled keeps s = record {
+  within = within;
+  told = s.told;
+  state = s.state;
+  all = λ e. absurd (cc e);
+  later = λ e. absurd (cc e);
+  closed = λ e is_open. ends_now (with_core old core) part count within (settled is_open) keeps (s.ended refl is_open);
+  none = none;
+}
+
+-- a longer piece leaves a conversation alike
+pub left_more : (state : FedState) (before taken : ℕ) (after : Attended) → LeftAs state taken after → LeftAs state (before + taken) after
+left_more Open before taken after h = h
+left_more is_shut before taken after h = h
+left_more (is_short bytes) before taken after h = let some = h.0 in (omega arith, h.1)
+left_more Later before taken after h = h
+
+module _ (settings : Settings) (place : ℕ) (fault_more : (bytes more : List ℕ) (fault : FrameFault) → FaultAt bytes fault → FaultAt (bytes ++ more) fault) where
+  pub told_more : (a b c : Attended) (piece out out1 out2 : List ℕ) (taken size : ℕ) (fed : Fed) → Told settings place a (take taken piece) out [] b out1 → Takes settings place b (take size (drop taken piece)) out1 fed c out2
+      → Told settings place a (take (taken + fed.taken) piece) out (bytes_behind fed.state) c out2
+  told_more a b c piece out out1 out2 taken size fed told more =
+      let length_of : length (take size (drop taken piece)) ≡ min size (length (drop taken piece)) = length-take size (drop taken piece) in
+      let few : fed.taken ≤ size = omega (arith, length_of, more.within) in
+      subst (λ (z : List ℕ). Told settings place a z out (bytes_behind fed.state) c out2) (more_taken piece taken size fed.taken few)
+      (told_then settings place fault_more a b c (take taken piece) (take fed.taken (take size (drop taken piece))) out (bytes_behind fed.state) out1 out2 told more.told)
+
+-- so many bytes were taken, and no more than there are
+pub within_piece : (piece : List ℕ) (taken size count : ℕ) → taken ≤ length piece → count ≤ length (take size (drop taken piece)) → taken + count ≤ length piece
+within_piece piece taken size count some more =
+    let of_take : length (take size (drop taken piece)) ≡ min size (length (drop taken piece)) = length-take size (drop taken piece) in
+    let of_drop : length (drop taken piece) ≡ length piece - taken = length-drop taken piece in
+    omega (arith, of_take, of_drop)
+
+-- what was closed takes none
+pub none_more : (settings : Settings) (place : ℕ) (a b c : Attended) (piece out out1 out2 : List ℕ) (taken size : ℕ) (fed : Fed) → Told settings place a (take taken piece) out [] b out1 → Takes settings place b (take size (drop taken piece)) out1 fed c out2
+    → (a.standing.session.is_closed ≡ true → taken ≡ 0) → a.standing.session.is_closed ≡ true → taken + fed.taken ≡ 0
+none_more settings place a b c piece out out1 out2 taken size fed told more none shut =
+    let first = none shut in
+    let second = more.none (hears_closed settings place a b (take taken piece) (told.replies ++ []) told.hears shut) in
+    omega (arith, first, second)

@@ -1,0 +1,16 @@
+use Rattle.std.proofs.Common.{Some, rules, refl}
+use Rattle.durable_node.specs.Machine.{beginning}
+use Rattle.durable_node.specs.Register.{shown, number_of}
+use Rattle.durable_node.proofs.Rows.{view_set, same_machine}
+use Rattle.durable_node.proofs.node.Node.open_at.Goals as goal
+
+pub returns-clause-opened : goal.returns-clause-opened
+returns-clause-opened g c =
+    let items = c.args.self.now.places.items in
+    record {
+      free = c.requires;
+      row = same_machine c.args.self.now.settings _ _ _ _ (view_set shown items c.args.place c.begin.new.self (Some beginning) c.begin.ensures.shown) refl;
+      number = refl;
+      numbers = view_set number_of items c.args.place c.begin.new.self c.args.self.now.next_number c.begin.ensures.number;
+      given = search rules;
+    }

@@ -1,0 +1,35 @@
+use Rattle.std.proofs.Common.{◌≡◌, ℕ, ◌+◌, ◌-◌, ◌≤◌, List, ◌++◌, rules, arith, length, take, slice_range, sym, ap, ◌∙◌, subst, le_refl, drop_at, length-take-le, take_all}
+use Rattle.std.proofs.lemmas.Slice.{take-put_mid_below}
+use Rattle.std.specs.Io.KnownBytes.{Consumes}
+use Rattle.std.proofs.KnownBytes.{Consumes-trans}
+use borrow.Rule.Slice.PartMut.{put_mid, post_of}
+use Rattle.std.proofs.Math.Seq.{take-add}
+use Rattle.std.proofs.lemmas.List.{take-append-le}
+use Rattle.durable_node.proofs.reading.fill.Goals as goal
+
+take_split : (a b : ℕ) (old new : List ℕ) → a ≤ b → take a new ≡ take a old → take a old ++ slice_range new a b ≡ take b new
+take_split a b old new h front =
+    let same : a + (b - a) ≡ b = omega arith in
+    ap (λ l. l ++ slice_range new a b) (sym front) ∙ sym (take-add a (b - a) new) ∙ ap (λ n. take n new) same
+
+slice_range-put_mid : (a k n : ℕ) (xs ys : List ℕ) → a ≤ length xs → n ≤ length ys → slice_range (put_mid a k xs ys) a (a + n) ≡ take n ys
+slice_range-put_mid a k n xs ys within fits =
+    let same : (a + n) - a ≡ n = omega arith in
+    let after = post_of a k xs in
+    ap (take ((a + n) - a)) (drop_at (take a xs) (ys ++ after) a (length-take-le a xs within)) ∙ ap (λ m. take m (ys ++ after)) same ∙ take-append-le n ys after fits
+
+pub returns-then-at-buffer : goal.returns-then-at-buffer
+returns-then-at-buffer g c = subst (Consumes _ _) (take_all c.reading.at c.reading.buffer c.if-at-buffer.true) c.reading.invariant.consumed
+
+pub reading-preserved : goal.reading-preserved
+reading-preserved g c =
+    let from = c.reading.at in
+    let room = length c.reading.buffer - from in
+    let within = c.reading.invariant.within in
+    let part = slice_range-put_mid from room c.in-Ok.count c.reading.buffer c.read.new.buf within c.in-Ok.ensures.bound.0 in
+    let joined = take_split from (from + c.in-Ok.count) c.reading.buffer (put_mid from room c.reading.buffer c.read.new.buf) (omega arith) (take-put_mid_below _ _ _ _ _ (le_refl _) within) in
+    record {
+      same_length = search rules;
+      within = search rules;
+      consumed = subst (Consumes _ _) (ap (λ l. take from c.reading.buffer ++ l) (sym part) ∙ joined) (Consumes-trans _ _ _ _ _ c.reading.invariant.consumed c.in-Ok.ensures.bytes.0);
+    }

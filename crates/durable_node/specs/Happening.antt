@@ -1,0 +1,57 @@
+-- What an event does to the machine, and the records that answer it.
+use Rattle.std.specs.Prelude.{◌≡◌, ◌⊎◌, ℕ, Bool, List, [], ◌∷◌, ◌++◌, Option, Some, None, slice_get, if◌then◌else◌}
+use Rattle.durable_node.specs.Machine.{Conversation, Machine, opened, lost}
+use Rattle.durable_node.specs.Hearing.{Attended, attended, attended_at, Hears}
+use Rattle.durable_node.specs.Records.{record_text, Event, opens, sends, loses, checkpoints}
+
+-- ---- the records that go out
+
+-- 06: the event was refused: 01 its number can't be opened, 02 it is not open, 03 there is no memory
+abbrev pub refusal : ℕ → ℕ → List ℕ
+refusal number reason = record_text 6 number (reason ∷ [])
+
+-- 05: the conversation is closed
+abbrev pub closing : ℕ → Bool → List ℕ
+closing number is_closed = if is_closed then record_text 5 number [] else []
+
+-- ---- events
+
+-- by what stands at the place of that number: nothing past the last place; or it is free, or taken
+abbrev pub OpensAt : Option (Option Conversation) → Machine → ℕ → List ℕ → Machine → Type 0
+OpensAt None machine number written new = (written ≡ refusal number 1) × (new ≡ machine)
+OpensAt (Some (Some conversation)) machine number written new = (written ≡ refusal number 1) × (new ≡ machine)
+OpensAt (Some None) machine number written new =
+    ((written ≡ record_text 1 number []) × (new ≡ opened machine number))
+    ⊎ ((written ≡ refusal number 3) × (new ≡ machine))
+
+-- the replies of a conversation to bytes that came, and whether it is closed then
+pub record Replies (before : Conversation) (machine : Machine) (number : ℕ) (bytes written : List ℕ) (new : Machine) : Type 0 where
+  pub replies : List ℕ
+  pub after : Attended
+  pub hears : Hears machine.settings number (attended machine before) bytes replies after
+  pub written_is : written ≡ record_text 2 number replies ++ closing number after.standing.session.is_closed
+  pub row : new ≡ attended_at machine number after
+
+abbrev pub SendsAt : Option (Option Conversation) → Machine → ℕ → List ℕ → List ℕ → Machine → Type 0
+SendsAt None machine number bytes written new = (written ≡ refusal number 2) × (new ≡ machine)
+SendsAt (Some None) machine number bytes written new = (written ≡ refusal number 2) × (new ≡ machine)
+SendsAt (Some (Some before)) machine number bytes written new = Replies before machine number bytes written new
+
+abbrev pub LosesAt : Option (Option Conversation) → Machine → ℕ → List ℕ → Machine → Type 0
+LosesAt None machine number written new = (written ≡ refusal number 2) × (new ≡ machine)
+LosesAt (Some None) machine number written new = (written ≡ refusal number 2) × (new ≡ machine)
+LosesAt (Some (Some conversation)) machine number written new = (written ≡ record_text 3 number []) × (new ≡ lost machine number)
+
+-- From this machine the event makes this machine, and is answered by these records. A conversation's
+-- number is its place in the row; a checkpoint changes nothing, and its number is given back.
+abbrev pub Happens : Machine → Event → List ℕ → Machine → Type 0
+Happens machine (opens number) written new = OpensAt (slice_get machine.row number) machine number written new
+Happens machine (sends number bytes) written new = SendsAt (slice_get machine.row number) machine number bytes written new
+Happens machine (loses number) written new = LosesAt (slice_get machine.row number) machine number written new
+Happens machine (checkpoints number) written new = (written ≡ record_text 4 number (0 ∷ [])) × (new ≡ machine)
+
+-- events in order, and their answers one after the other
+abbrev pub HappenAll : Machine → List Event → List ℕ → Machine → Type 0
+HappenAll machine [] written last = (written ≡ []) × (last ≡ machine)
+HappenAll machine (event ∷ events) written last =
+    (first others : List ℕ) × (next : Machine) × Happens machine event first next × (written ≡ first ++ others) × HappenAll next events others last

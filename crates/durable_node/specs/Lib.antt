@@ -1,0 +1,10 @@
+pub mod Machine
+pub mod Asking
+pub mod Hearing
+pub mod Records
+pub mod Happening
+pub mod Reading
+pub mod Feeding
+pub mod Register
+pub mod Serving
+pub mod Sharing

@@ -1,0 +1,19 @@
+//! A node over a store on a disk: up to 64 conversations side by side over one core, and their events from one stream of records.
+#![tactic(auto)]
+
+mod answering;
+mod asker;
+mod event;
+mod fed;
+mod feeding;
+mod node;
+mod place;
+mod reading;
+mod row;
+mod serving;
+mod writing;
+
+pub use fed::{Fed, FedState};
+pub use node::{ConversationId, Done, Node, OpenError};
+pub use serving::{RunEnd, run};
+pub use writing::write_whole;

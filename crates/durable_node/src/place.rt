@@ -1,0 +1,82 @@
+//! A place for a conversation.
+
+ghost use Rattle.durable_node.specs.Feeding.{IsBetweenCommands};
+
+use crate::asker::Asker;
+use crate::fed::Fed;
+use crate::feeding::converse;
+use conversation::{Front, Settings};
+use drda_disk::Disk;
+use dss_frames::stays_read;
+use std::alloc::{AllocError, Global};
+
+/// A place for a conversation, with the number that was given to the one that stands there.
+#[derive(Drop)]
+pub struct Place {
+    pub(crate) number: u64,
+    pub(crate) is_open: bool,
+    pub(crate) front: Front,
+    ghost settled: { IsBetweenCommands front },
+}
+
+impl Place {
+    ghost use Rattle.std.specs.Prelude.{◌≡◌, IfOk, true};
+    ghost use Rattle.durable_node.specs.Asking.{IsJournaled, IsSameAsker, core_of};
+    ghost use Rattle.durable_node.specs.Feeding.{Takes, with_core};
+    ghost use Rattle.durable_node.specs.Register.{shown};
+    ghost use Rattle.durable_node.specs.Machine.{beginning};
+
+    /// A free place.
+    pub(crate) fn new(alloc: Global, settings: &Settings) -> Result<Place, AllocError>
+        ensures free { IfOk result (λ p. shown p ≡ None) }
+        ensures settings { IfOk result (λ p. p.front.settings ≡ settings.now) }
+    {
+        stays_read();
+        Ok(Place {
+            number: 0,
+            is_open: false,
+            front: Front::new(alloc, settings)?,
+        })
+    }
+
+    /// Lets a conversation begin here, under this number.
+    pub(crate) fn begin(&mut self, alloc: Global, number: u64)
+        ensures shown { shown self.new ≡ Some beginning }
+        ensures number { self.new.number ≡ number }
+        ensures settings { self.new.front.settings ≡ self.old.front.settings }
+    {
+        stays_read();
+        self.front.restart(alloc);
+        self.is_open = true;
+        self.number = number;
+    }
+
+    /// Takes the conversation away, and gives its memory back.
+    pub(crate) fn close(&mut self, alloc: Global)
+        ensures shown { shown self.new ≡ None }
+        ensures number { self.new.number ≡ self.old.number }
+        ensures settings { self.new.front.settings ≡ self.old.front.settings }
+    {
+        stays_read();
+        self.front.restart(alloc);
+        self.is_open = false;
+    }
+
+    /// Gives the conversation bytes.
+    pub(crate) fn feed<D: Disk>(
+        &mut self,
+        asker: &mut Asker<'_, D>,
+        piece: &[u8],
+        out: &mut Vec<u8>,
+    ) -> Fed
+        requires { self.old.is_open ≡ true }
+        ensures takes { Takes self.old.front.settings asker.old.conversation (with_core self.old.front (core_of asker.old)) piece.now out.old.items result (with_core self.new.front (core_of asker.new)) out.new.items }
+        ensures journaled { IsJournaled D.is_modelled D.life asker.old.core.now asker.new.core.now }
+        ensures same_asker { IsSameAsker asker.old asker.new }
+        ensures open { self.new.is_open ≡ true }
+        ensures number { self.new.number ≡ self.old.number }
+        ensures settings { self.new.front.settings ≡ self.old.front.settings }
+    {
+        converse(&mut self.front, asker, piece, out)
+    }
+}

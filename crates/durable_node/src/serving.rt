@@ -1,0 +1,81 @@
+//! Serving a stream of events.
+
+ghost use Rattle.std.specs.Prelude.{IfSome};
+ghost use Rattle.durable_node.specs.Asking.{IsJournaled};
+ghost use Rattle.durable_node.specs.Register.{core_in, machine};
+ghost use Rattle.durable_node.specs.Serving.{Runs};
+
+use crate::answering::answer;
+use crate::event::LARGEST;
+use crate::node::Node;
+use crate::reading::{Incoming, read_event};
+use crate::writing::write_whole;
+use drda_disk::Disk;
+use durable_images::laws::calls_go_on;
+use std::alloc::{AllocError, Global};
+use std::io::{Read, Write};
+
+/// How a run ended.
+#[derive(Clone, Copy, Debug, PartialEq, Eq)]
+pub enum RunEnd {
+    /// All events were answered.
+    Ended,
+    /// What came is no event.
+    BadEvent,
+    /// Reading failed, or 2^63 reads were not enough.
+    ReadFault,
+    /// Writing failed.
+    WriteFault,
+    /// Memory was refused.
+    NoMemory,
+}
+
+/// Reads events, does each, and writes the records that answer it, and nothing else.
+///
+/// What is written is what the machine answers: on Ended to exactly the events of the input, and
+/// nothing stands behind them; on BadEvent to exactly the events in front of what is no event; on
+/// ReadFault and NoMemory to some events in front; on WriteFault a front of such answers. A crash at any
+/// moment leaves a disk that opens to the tables and the units in doubt after the first of the records
+/// that the events made due.
+pub fn run<D: Disk, R: Read, W: Write>(
+    alloc: Global,
+    node: &mut Node<D>,
+    reader: &mut R,
+    writer: &mut W,
+) -> RunEnd
+    ensures runs { IfSome (R.remaining reader.old) (λ input.
+        Runs (machine node.old) input (W.contents writer.old) result (W.contents writer.new) (machine node.new)) }
+    ensures journaled { IsJournaled D.is_modelled D.life (core_in node.old) (core_in node.new) }
+{
+    calls_go_on::<D>();
+    node.core.is_durable();
+    let Ok(mut buffer) = room_for_bytes(alloc) else {
+        return RunEnd::NoMemory;
+    };
+    let mut text = Vec::new(alloc);
+    'events: for _ in 0..1u64 << 63 {
+        match read_event(reader, &mut buffer) {
+            Incoming::Event(head) => {
+                let Ok(()) = answer(node, head, &buffer, &mut text) else {
+                    return RunEnd::NoMemory;
+                };
+                let Ok(()) = write_whole(writer, &text) else {
+                    return RunEnd::WriteFault;
+                };
+            }
+            Incoming::Ended => return RunEnd::Ended,
+            Incoming::Bad => return RunEnd::BadEvent,
+            Incoming::Fault => return RunEnd::ReadFault,
+        }
+    }
+    RunEnd::ReadFault
+}
+
+ghost use Rattle.std.specs.Prelude.{◌≡◌, IfOk, vec_len, length};
+
+/// Room for the bytes of one record.
+fn room_for_bytes(alloc: Global) -> Result<Vec<u8>, AllocError>
+    ensures { IfOk result (λ v. length v.items ≡ 65536) }
+{
+    vec![in alloc; 0u8; LARGEST]
+}

@@ -1,0 +1,22 @@
+use Rattle.std.proofs.Common.{◌≡◌, List, refl, sym, ◌∙◌, ap}
+use Rattle.xa_manager.specs.declared.branch.Branch.{Branch}
+use Rattle.core_steps.specs.Units.{Held, local, without}
+use Rattle.core_steps.specs.Events.{Base}
+use Rattle.core_steps.specs.Step.{lost_xids}
+use Rattle.table_store.specs.TableStore.{store_in}
+use Rattle.recorded_core.specs.Steps.{left_units}
+use Rattle.recorded_core.proofs.Lost.{as_events}
+use Rattle.recorded_core.proofs.engine.Core.lose.Goals as goal
+
+pub returns : goal.returns
+returns g c =
+    let n = c.args.conversation in
+    let old = c.args.self.now in
+    let s = store_in old.store in
+    let xs = lost_xids old.branches n in
+    let units : c.end_lost.new.units ≡ left_units xs (without (local n) old.units) =
+    c.end_lost.ensures
+    ∙ ap (λ (bs : List Branch). left_units (lost_xids bs n) c.end-changes.new.self) c.branches.ensures.all
+    ∙ ap (λ (us : List Held). left_units xs us) c.end-changes.ensures.ended in
+    let base = ap (λ (us : List Held). let b : Base = record { store = s; units = us } in b) units ∙ sym (as_events xs s (without (local n) old.units)) in
+    record { taken = record { answer_is = refl; state = λ j. record { base = base j; branches = c.lost.ensures j } }; recorded = refl }

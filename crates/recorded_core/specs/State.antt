@@ -1,0 +1,16 @@
+-- The state of a core, as its step has it.
+use Rattle.std.specs.Prelude.{[]}
+use Rattle.core_steps.specs.Step.{CoreState}
+use Rattle.recorded_core.specs.declared.engine.Core.{Core}
+use Rattle.recorded_core.specs.Base.{base_of}
+
+abbrev pub state_of : {R : Type 0} → Core R → CoreState
+state_of core = record { base = base_of core.store core.units; branches = core.branches }
+
+-- who records what becomes of its units
+abbrev pub recorder_of : {R : Type 0} → Core R → R
+recorder_of core = core.recorder
+
+-- no tables, no units, no branches
+abbrev pub empty : CoreState
+empty = record { base = record { store = []; units = [] }; branches = [] }

@@ -1,0 +1,13 @@
+//! The core of the database: one step for each call of a conversation.
+#![tactic(auto)]
+
+mod asking;
+mod ending;
+mod engine;
+mod opening;
+mod question;
+mod refusing;
+mod reply;
+mod step;
+
+pub use engine::Core;

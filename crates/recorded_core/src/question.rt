@@ -1,0 +1,116 @@
+//! What a unit is asked.
+
+ghost use Rattle.std.specs.Prelude.{◌≡◌, map};
+ghost use Rattle.row_values.specs.Value.{value_of};
+ghost use Rattle.core_steps.specs.Asked.{describing, is_select, number_fault, querying, running, unfit};
+ghost use Rattle.recorded_core.specs.Question.{command_of, question_of};
+
+use core_calls::{Side, SqlFault};
+use row_values::Value;
+use sql_text::{Command, Statement};
+
+/// What is asked of a unit. Contracts see it by `question_of`.
+#[derive(Clone, Copy)]
+pub(crate) enum Question<'a, 't> {
+    /// A statement that is no SELECT is run, with these values for its markers.
+    Running {
+        statement: &'a Statement<'t>,
+        parameters: &'a [Value<'t>],
+    },
+    /// A SELECT is evaluated, with these values for its markers.
+    Querying {
+        statement: &'a Statement<'t>,
+        parameters: &'a [Value<'t>],
+    },
+    /// One side of a statement is described.
+    Describing {
+        statement: &'a Statement<'t>,
+        side: Side,
+    },
+}
+
+/// What the statement of a question asks for.
+pub(crate) fn command<'a, 't>(question: Question<'a, 't>) -> &'a Command<'t>
+    ensures { result.now ≡ command_of (question_of question.entry) }
+{
+    match question {
+        Question::Running { statement, .. } => &statement.command,
+        Question::Querying { statement, .. } => &statement.command,
+        Question::Describing { statement, .. } => &statement.command,
+    }
+}
+
+/// Why a question is refused before it claims anything.
+pub(crate) fn unfit(question: Question<'_, '_>) -> Option<SqlFault>
+    ensures { result ≡ unfit (question_of question.entry) }
+{
+    match question {
+        Question::Running {
+            statement,
+            parameters,
+        } => unfit_to_run(statement, parameters),
+        Question::Querying {
+            statement,
+            parameters,
+        } => unfit_to_query(statement, parameters),
+        Question::Describing { statement, side } => unfit_to_describe(statement, side),
+    }
+}
+
+// Why a statement can't be run with these parameters: it is a SELECT, or has another number of markers.
+fn unfit_to_run(statement: &Statement<'_>, parameters: &[Value<'_>]) -> Option<SqlFault>
+    ensures { result ≡ unfit (running statement.now (map value_of parameters.now)) }
+{
+    if is_query(&statement.command) {
+        return Some(SqlFault::NotPrepared);
+    }
+    wrong_number(statement, parameters)
+}
+
+// Why a statement can't be a query with these parameters: it is no SELECT, or has another number of
+// markers.
+fn unfit_to_query(statement: &Statement<'_>, parameters: &[Value<'_>]) -> Option<SqlFault>
+    ensures { result ≡ unfit (querying statement.now (map value_of parameters.now)) }
+{
+    if !is_query(&statement.command) {
+        return Some(SqlFault::NotPrepared);
+    }
+    wrong_number(statement, parameters)
+}
+
+// Why a statement can't be described: it is a CREATE TABLE.
+fn unfit_to_describe(statement: &Statement<'_>, side: Side) -> Option<SqlFault>
+    ensures { result ≡ unfit (describing statement.now side) }
+{
+    match statement.command {
+        Command::Create { .. } => Some(SqlFault::NotPrepared),
+        Command::Insert { .. }
+        | Command::Update { .. }
+        | Command::Delete { .. }
+        | Command::Select { .. } => None,
+    }
+}
+
+// Whether it is a SELECT.
+fn is_query(command: &Command<'_>) -> bool
+    ensures { result ≡ is_select command.now }
+{
+    match command {
+        Command::Select { .. } => true,
+        Command::Create { .. }
+        | Command::Insert { .. }
+        | Command::Update { .. }
+        | Command::Delete { .. } => false,
+    }
+}
+
+// As many values are wanted as there are markers.
+fn wrong_number(statement: &Statement<'_>, parameters: &[Value<'_>]) -> Option<SqlFault>
+    ensures { result ≡ number_fault statement.now (map value_of parameters.now) }
+{
+    if statement.markers == parameters.len() {
+        None
+    } else {
+        Some(SqlFault::ParameterMismatch)
+    }
+}

@@ -1,0 +1,118 @@
+//! The core's one step.
+
+ghost use Rattle.std.specs.Prelude.{◌≡◌, None, Some, false, map};
+ghost use Rattle.row_values.specs.Value.{value_of};
+ghost use Rattle.unit_records.specs.Records.{UnitRecord};
+ghost use Rattle.recording.specs.Due.{record_due};
+ghost use Rattle.core_calls.specs.Answer.{answer_of};
+ghost use Rattle.core_calls.specs.Call.{call_of, describe, query, run};
+ghost use Rattle.core_steps.specs.Asked.{unfit};
+ghost use Rattle.recorded_core.specs.Question.{call_asking, question_of};
+ghost use Rattle.recorded_core.specs.State.{recorder_of, state_of};
+ghost use Rattle.recorded_core.specs.Steps.{Steps, Takes, is_fit, may_want_any};
+
+use crate::asking::ask_unit;
+use crate::engine::Core;
+use crate::question::{Question, unfit};
+use core_calls::{Answer, CoreCall, Refusal, Side};
+use recording::Recorder;
+use row_values::Value;
+use sql_text::Statement;
+use std::alloc::AllocError;
+
+impl<R: Recorder> Core<R> {
+    /// What a conversation asks is answered, and the core takes one step. What is committed, prepared or
+    /// decided is recorded first; where that is refused the answer says why, and the core is as before.
+    /// Out of memory it answers `NoMemory` and is as before. A rollback and the loss of a conversation
+    /// take no memory, nor do a commit of a unit without changes and a statement that is refused before
+    /// it claims anything; nothing is recorded of them.
+    pub fn step(&mut self, conversation: u64, call: &CoreCall<'_, '_>) -> Answer
+        requires allowed { (r : UnitRecord) → record_due (state_of self.old) conversation (call_of call.now) ≡ Some r → R.allows (recorder_of self.old) r }
+        ensures step { Steps R.records R.fails (state_of self.old) conversation (call_of call.now) (answer_of result) (state_of self.new) (recorder_of self.old) (recorder_of self.new) }
+        ensures sure { may_want_any (state_of self.old) conversation (call_of call.now) ≡ false → record_due (state_of self.old) conversation (call_of call.now) ≡ None → Takes R.records (state_of self.old) conversation (call_of call.now) (answer_of result) (state_of self.new) (recorder_of self.old) (recorder_of self.new) }
+    {
+        match call {
+            CoreCall::Run {
+                statement,
+                parameters,
+            } => self.run(conversation, statement, parameters),
+            CoreCall::Query {
+                statement,
+                parameters,
+            } => self.query(conversation, statement, parameters),
+            CoreCall::Describe { statement, side } => self.describe(conversation, statement, *side),
+            CoreCall::Commit => self.commit(conversation),
+            CoreCall::Rollback => self.roll_back(conversation),
+            CoreCall::Xa(request) => self.xa(conversation, request),
+            CoreCall::Lost => self.lose(conversation),
+        }
+    }
+
+    /// A statement that is no SELECT is run in the unit that the conversation works in (DDM EXCSQLIMM
+    /// and EXCSQLSTT), over that unit's view, with these values for its markers. A SELECT is refused,
+    /// and so is another number of values. Where a claim of it clashes with one of another unit, it is
+    /// refused and nothing is kept; else its claims and its changes are kept together.
+    pub fn run<'a, 't>(
+        &mut self,
+        conversation: u64,
+        statement: &'a Statement<'t>,
+        parameters: &'a [Value<'t>],
+    ) -> Answer
+        ensures step { Steps R.records R.fails (state_of self.old) conversation (run statement.now (map value_of parameters.now)) (answer_of result) (state_of self.new) (recorder_of self.old) (recorder_of self.new) }
+        ensures sure { may_want_any (state_of self.old) conversation (run statement.now (map value_of parameters.now)) ≡ false → Takes R.records (state_of self.old) conversation (run statement.now (map value_of parameters.now)) (answer_of result) (state_of self.new) (recorder_of self.old) (recorder_of self.new) }
+    {
+        self.ask(
+            conversation,
+            Question::Running {
+                statement,
+                parameters,
+            },
+        )
+    }
+
+    /// A SELECT is evaluated over the view of the unit that the conversation works in (DDM OPNQRY), with
+    /// these values for its markers. No other statement is, nor one with another number of values. The
+    /// unit keeps its claims and changes nothing.
+    pub fn query<'a, 't>(
+        &mut self,
+        conversation: u64,
+        statement: &'a Statement<'t>,
+        parameters: &'a [Value<'t>],
+    ) -> Answer
+        ensures step { Steps R.records R.fails (state_of self.old) conversation (query statement.now (map value_of parameters.now)) (answer_of result) (state_of self.new) (recorder_of self.old) (recorder_of self.new) }
+        ensures sure { may_want_any (state_of self.old) conversation (query statement.now (map value_of parameters.now)) ≡ false → Takes R.records (state_of self.old) conversation (query statement.now (map value_of parameters.now)) (answer_of result) (state_of self.new) (recorder_of self.old) (recorder_of self.new) }
+    {
+        self.ask(
+            conversation,
+            Question::Querying {
+                statement,
+                parameters,
+            },
+        )
+    }
+
+    /// One side of a statement is described over the view of the unit that the conversation works in
+    /// (DDM DSCSQLSTT). A CREATE TABLE is not. Where its table is there nothing is claimed.
+    pub fn describe(&mut self, conversation: u64, statement: &Statement<'_>, side: Side) -> Answer
+        ensures step { Steps R.records R.fails (state_of self.old) conversation (describe statement.now side) (answer_of result) (state_of self.new) (recorder_of self.old) (recorder_of self.new) }
+        ensures sure { may_want_any (state_of self.old) conversation (describe statement.now side) ≡ false → Takes R.records (state_of self.old) conversation (describe statement.now side) (answer_of result) (state_of self.new) (recorder_of self.old) (recorder_of self.new) }
+    {
+        self.ask(conversation, Question::Describing { statement, side })
+    }
+
+    // A question of the unit that a conversation works in.
+    fn ask(&mut self, conversation: u64, question: Question<'_, '_>) -> Answer
+        ensures step { Steps R.records R.fails (state_of self.old) conversation (call_asking (question_of question.entry)) (answer_of result) (state_of self.new) (recorder_of self.old) (recorder_of self.new) }
+        ensures sure { is_fit (unfit (question_of question.entry)) ≡ false → Takes R.records (state_of self.old) conversation (call_asking (question_of question.entry)) (answer_of result) (state_of self.new) (recorder_of self.old) (recorder_of self.new) }
+    {
+        match unfit(question) {
+            Some(fault) => return Answer::Refused(Refusal::Unfit(fault)),
+            None => {}
+        }
+        let owner = self.owner(conversation);
+        match ask_unit(&self.store, &mut self.units, self.alloc, &owner, question) {
+            Ok(answer) => answer,
+            Err(AllocError) => Answer::NoMemory,
+        }
+    }
+}

@@ -1,0 +1,19 @@
+//! Calls for the tests.
+
+use core_calls::Answer;
+use recorded_core::Core;
+use recording::NoRecords;
+use xa_calls::{BadXid, Request, Verb, Xid};
+
+// The XID of format 7 whose global part is the number, without a branch part.
+pub fn numbered(number: u8) -> Result<Xid, BadXid> {
+    Xid::read(&[0, 0, 0, 7, 0, 0, 0, 1, 0, 0, 0, 0, number])
+}
+
+// The code that a conversation is answered which asks this of a branch.
+pub fn ask(core: &mut Core<NoRecords>, conversation: u64, verb: Verb, xid: Xid) -> Option<i32> {
+    match core.xa(conversation, &Ok(Request::Branch(verb, xid))) {
+        Answer::Xa(code) => Some(code.number()),
+        _ => None,
+    }
+}

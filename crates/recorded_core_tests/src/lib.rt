@@ -1,0 +1,11 @@
+//! Tests of recorded_core.
+#![tactic(auto)]
+
+#[cfg(test)]
+mod answers;
+#[cfg(test)]
+mod ends;
+#[cfg(test)]
+mod fixtures;
+#[cfg(test)]
+mod refusals;
