@@ -1,86 +1,96 @@
-//! The program over streams that are handed in.
+//! The program.
 
-ghost use Rattle.std.specs.Prelude.{◌≡◌, IfSome, Some, map};
-ghost use Rattle.drda_program.specs.CommandLine.{said};
-ghost use Rattle.drda_program.specs.Program.{Does, Exits, Serves};
-ghost use Rattle.drda_program.specs.Endings.{result_for};
-
-use crate::command_line::settings_of;
+use crate::doubts::doubt_lines;
 use crate::fault::Fault;
-use conversation::Settings;
-use drda_node::{Node, RunEnd, run, write_whole};
+use crate::files::StoreFiles;
+use crate::listening::listen;
+use crate::records::{answer_records, node_over};
+use crate::stores::{fresh, make_file, open_file};
+use command_line::{Job, job_of};
+use drda_node::write_whole;
 use std::alloc::Global;
 use std::convert::AsStr;
 use std::io::{Read, Write};
-
-// What is reported of a run, by its end and by whether the last flush succeeded.
-fn result_of(end: RunEnd, is_flushed: bool) -> Result<(), Fault>
-    ensures { result ≡ result_for end is_flushed }
-{
-    if !is_flushed {
-        return Err(Fault::Device);
-    }
-    match end {
-        RunEnd::Ended => Ok(()),
-        RunEnd::BadEvent => Err(Fault::BadEvent),
-        RunEnd::ReadFault | RunEnd::WriteFault => Err(Fault::Device),
-        RunEnd::NoMemory => Err(Fault::NoMemory),
-    }
-}
-
-// Runs a node with these settings.
-fn serve<R: Read, W: Write>(
-    alloc: Global,
-    settings: Settings,
-    reader: &mut R,
-    out: &mut W,
-) -> Result<(), Fault>
-    ensures { IfSome (R.remaining reader.old) (λ input. Serves settings input (W.contents out.old) result (W.contents out.new)) }
-{
-    let mut node = Node::start(alloc, settings)?;
-    let end = run(alloc, &mut node, reader, out);
-    let is_flushed = out.flush().is_ok();
-    result_of(end, is_flushed)
-}
-
-fn try_words<S: AsStr, R: Read, W: Write, E: Write>(
-    alloc: Global,
-    words: &[S],
-    reader: &mut R,
-    out: &mut W,
-    err: &mut E,
-) -> Result<(), Fault>
-    ensures { IfSome (R.remaining reader.old) (λ input.
-        Does (said (map S.text words.now)) input (W.contents out.old) result (W.contents out.new) (E.contents err.old) (E.contents err.new)) }
-{
-    let settings = settings_of(alloc, words, err)?;
-    serve(alloc, settings, reader, out)
-}
+use std::net::Net;
 
 /// Does what the words say, the program's name first, and answers the exit status; a fault's line goes
 /// to `err`, behind the text of the command-line parser where that has one, and nothing else does.
-/// Faults come in this order: arguments, then those of the run.
-///
-/// Where the words say a user, a password and a database (`said`), a machine that is started with them
-/// answers the events of the input. The status is 0 only where all of the input was events and all are
-/// answered; 1 only where the words say nothing, and then nothing is written; 2 where a stream failed,
-/// the last flush of `out` included, however the run had ended; 4 only where something else stands
-/// behind the events that are answered; 5 where memory was refused.
-pub fn run_words<S: AsStr, R: Read, W: Write, E: Write>(
+pub fn run_words<S: AsStr, F: StoreFiles, N: Net, R: Read, W: Write, E: Write>(
     alloc: Global,
     words: &[S],
+    files: &mut F,
+    net: &N,
     reader: &mut R,
     out: &mut W,
     err: &mut E,
-) -> u8
-    ensures { IfSome (R.remaining reader.old) (λ input.
-        Exits (said (map S.text words.now)) input (W.contents out.old) result (W.contents out.new) (E.contents err.old) (E.contents err.new)) }
-{
-    match try_words(alloc, words, reader, out, err) {
+) -> u8 {
+    let mut said = String::new(alloc);
+    let result = match job_of(alloc, words, &mut said) {
+        Ok(job) => do_job(alloc, job, files, net, reader, out),
+        Err(bad) => Err(Fault::from(bad)),
+    };
+    match result {
         Ok(()) => 0,
         Err(fault) => {
-            let _ = write_whole(err, fault.line());
+            let _ = write_whole(err, said.as_bytes());
+            let _ = writeln!(err, "drdad: {fault}");
             fault.status()
         }
+    }
+}
+
+fn do_job<F: StoreFiles, N: Net, R: Read, W: Write>(
+    alloc: Global,
+    job: Job<'_>,
+    files: &mut F,
+    net: &N,
+    reader: &mut R,
+    out: &mut W,
+) -> Result<(), Fault> {
+    match job {
+        Job::Init { path, size, rdb } => {
+            make_file(alloc, files, path, size, rdb)?;
+            say_size(size, out)
+        }
+        Job::Pipe {
+            path: None,
+            rdb,
+            login,
+        } => answer_records(alloc, fresh(alloc, rdb)?, login, reader, out),
+        Job::Pipe {
+            path: Some(path),
+            rdb: _,
+            login,
+        } => answer_records(alloc, open_file(alloc, files, path)?, login, reader, out),
+        Job::Serve {
+            path,
+            port,
+            login,
+            count,
+        } => {
+            let mut node = node_over(alloc, open_file(alloc, files, path)?, login)?;
+            listen(alloc, &mut node, net, port, count, out)
+        }
+        Job::InDoubt { path } => {
+            let core = open_file(alloc, files, path)?;
+            let text = doubt_lines(alloc, &core)?;
+            say(text.as_bytes(), out)
+        }
+    }
+}
+
+fn say_size<W: Write>(size: u64, out: &mut W) -> Result<(), Fault> {
+    match writeln!(out, "formatted {size}") {
+        Ok(()) => say(&[], out),
+        Err(_) => Err(Fault::Device),
+    }
+}
+
+fn say<W: Write>(text: &[u8], out: &mut W) -> Result<(), Fault> {
+    let is_written = write_whole(out, text).is_ok();
+    if is_written && out.flush().is_ok() {
+        Ok(())
+    } else {
+        Err(Fault::Device)
     }
 }
