@@ -1,10 +1,10 @@
 -- A text is read as a number exactly where it is one.
-use Rattle.std.proofs.Common.{◌≡◌, ◌∙◌, ℕ, ◌^◌, ◌<◌, Bool, true, false, ◌&&◌, List, [], ◌∷◌, length, Option, Some, None, Result, Ok, Err, refl, sym, ap, arith, if◌then◌else◌}
+use Rattle.std.proofs.Common.{◌≡◌, ◌∙◌, ℕ, ◌^◌, ◌<◌, Bool, true, false, ◌&&◌, List, [], ◌∷◌, Some, None, refl, sym, ap, arith, if◌then◌else◌}
 use Rattle.std.specs.Prelude.{nat_lt}
 use Rattle.std.specs.Char.{digit_value}
-use Rattle.std.specs.Str.Parse.{AllDigits, IsNumeral, ParsesUnsigned, digits_value, without_leading_plus}
+use Rattle.std.specs.Str.Parse.{AllDigits, IsNumeral, digits_value, without_leading_plus}
 use Rattle.std.proofs.lemmas.Bool.Decides.{nat_tests}
-use Rattle.command_line.specs.Number.{are_digits, is_numeral, number_by, number_in}
+use Rattle.command_line.specs.Number.{are_digits, is_numeral, number_in}
 
 below : (n limit : ℕ) → n < limit → nat_lt n limit ≡ true
 below n limit less = grind (arith, nat_tests)
@@ -37,17 +37,21 @@ by_tests true true n p q = refl
 by_tests true false n p q = absurd cc
 by_tests false b n p q = absurd cc
 
-pub read : {E : Type 0} → (text : List ℕ) (n : ℕ) → ParsesUnsigned {E} 64 10 text (Ok n) → Some n ≡ number_in text
+-- what parsing a text of digits says
+abbrev Reads : List ℕ → Type 0
+Reads text = IsNumeral 10 (without_leading_plus text) × (digits_value 10 (without_leading_plus text) < 2 ^ 64)
+
+pub read : (text : List ℕ) (n : ℕ) → Reads text × (n ≡ digits_value 10 (without_leading_plus text)) → Some n ≡ number_in text
 read text n is =
     let ds = without_leading_plus text in
     ap (λ (k : ℕ). Some k) is.1 ∙ sym (by_tests (is_numeral ds) (nat_lt (digits_value 10 ds) (2 ^ 64)) (digits_value 10 ds) (numeral ds is.0.0) (below (digits_value 10 ds) (2 ^ 64) is.0.1))
 
 none_by : (a b : Bool) (n : ℕ) → ((a ≡ true) × (b ≡ true) → ⊥) → None ≡ (if a && b then Some n else None)
-none_by true true n no = absurd (no (refl, refl))
-none_by true false n no = refl
-none_by false b n no = refl
+none_by true true n never = absurd (never (refl, refl))
+none_by true false n never = refl
+none_by false b n never = refl
 
-pub not_read : {E : Type 0} → (text : List ℕ) (e : E) → ParsesUnsigned 64 10 text (Err e) → None ≡ number_in text
-not_read text e no =
+pub not_read : (text : List ℕ) → (Reads text → ⊥) → None ≡ number_in text
+not_read text never =
     let ds = without_leading_plus text in
-    none_by (is_numeral ds) (nat_lt (digits_value 10 ds) (2 ^ 64)) (digits_value 10 ds) (λ h. no (is_one ds h.0, is_below (digits_value 10 ds) (2 ^ 64) h.1))
+    none_by (is_numeral ds) (nat_lt (digits_value 10 ds) (2 ^ 64)) (digits_value 10 ds) (λ h. never (is_one ds h.0, is_below (digits_value 10 ds) (2 ^ 64) h.1))

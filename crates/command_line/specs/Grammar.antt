@@ -3,8 +3,10 @@
 --   drdad pipe [PATH] [--rdb NAME] --user U:P
 --   drdad serve PATH --port N --user U:P [--count N]
 --   drdad indoubt PATH
-use Rattle.std.specs.Prelude.{true, List, [], ◌∷◌, Option, Some, codes}
-use Rattle.clap.specs.Words.{App, Kinds, Row, Rule, Text, fault_of, new_app, new_rule, subcommand_of, with_rule, with_subcommand}
+use Rattle.std.specs.Prelude.{◌≡◌, true, false, List, [], ◌∷◌, Option, Some, codes}
+use Rattle.clap.specs.declared.builder.arg.Arg.{Arg}
+use Rattle.clap.specs.declared.builder.command.Command.{Command}
+use Rattle.clap.specs.Words.{AddsSubcommand, App, Kinds, Row, Rule, Text, app_of, fault_of, new_app, new_rule, subcommand_of, with_rule, with_subcommand}
 
 -- a word that stands for itself
 abbrev pub word_rule : Text → Rule
@@ -49,3 +51,13 @@ faults words = fault_of drdad words
 -- the subcommand that the words name, with what they give it
 unfoldable pub given : List Text → Option (Text × List Row)
 given words = subcommand_of drdad words
+
+-- ---- in code
+
+-- an argument of its own subcommand
+abbrev pub IsOwn : Arg → Type 0
+IsOwn arg = arg.global ≡ false
+
+-- a subcommand with such arguments alone is added as it is
+abbrev pub AddsItself : Command → Type 0
+AddsItself sub = (old new : Command) → AddsSubcommand old sub new → app_of new ≡ with_subcommand (app_of old) (app_of sub).top

@@ -1,7 +1,6 @@
 -- What words ask for.
 use Rattle.std.specs.Prelude.{ℕ, Bool, ◌==◌, nat_lt, List, [], ◌∷◌, length, Option, Some, None, codes, bytes_eq, if◌then◌else◌, option_map}
 use Rattle.std.specs.List.{position_or_len, before_first, after_first}
-use Rattle.std.specs.Option.{option_and_then}
 use Rattle.clap.specs.Words.{Kinds, Row, Text, first_of}
 use Rattle.command_line.specs.Grammar.{faults, given}
 use Rattle.command_line.specs.Number.{number_in, port_in}

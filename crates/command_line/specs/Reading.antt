@@ -1,6 +1,5 @@
 -- What reading the words answers.
 use Rattle.std.specs.Prelude.{◌≡◌, ◌≢◌, ℕ, List, [], Option, Some, None, Result, Ok, Err}
-use Rattle.std.specs.Io.KnownBytes.{Appends}
 use Rattle.clap.specs.Words.{Row, Text}
 use Rattle.command_line.specs.Grammar.{faults, given}
 use Rattle.command_line.specs.Job.{Job, plain_job}
@@ -20,8 +19,8 @@ Says said (Ok job) = said ≡ Some (plain_job job)
 Says said (Err NoJob) = said ≡ None
 Says said (Err NoMemory) = Unit {0}
 
--- what is written of that: a text, and only where the words say nothing
-abbrev pub Tells : {M : Type 0} → Result M BadWords → Option (List ℕ) → Option (List ℕ) → Type 0
+-- what the parser has said of that: nothing, unless the words say nothing
+abbrev pub Tells : {M : Type 0} → Result M BadWords → List ℕ → List ℕ → Type 0
 Tells (Ok m) before now = now ≡ before
-Tells (Err NoJob) before now = (text : List ℕ) × Appends before now text
+Tells (Err NoJob) before now = Unit {0}
 Tells (Err NoMemory) before now = now ≡ before

@@ -8,25 +8,32 @@ use clap::{Arg, Command};
 use std::alloc::{AllocError, Global};
 
 fn needed_word<'a>(alloc: Global, id: &'a str) -> Arg<'a>
-    ensures { rule_of result ≡ grammar.needed_word id.entry.now }
+    ensures rule { rule_of result ≡ grammar.needed_word id.entry.now }
+    ensures own { grammar.IsOwn result }
 {
     Arg::new(alloc, id).required(true)
 }
 
 fn option<'a>(alloc: Global, id: &'a str, value: &'a str) -> Arg<'a>
-    ensures { rule_of result ≡ grammar.option_rule id.entry.now }
+    ensures rule { rule_of result ≡ grammar.option_rule id.entry.now }
+    ensures own { grammar.IsOwn result }
 {
     Arg::new(alloc, id).long(id).value_name(value)
 }
 
 fn needed_option<'a>(alloc: Global, id: &'a str, value: &'a str) -> Arg<'a>
-    ensures { rule_of result ≡ grammar.needed_option id.entry.now }
+    ensures rule { rule_of result ≡ grammar.needed_option id.entry.now }
+    ensures own { grammar.IsOwn result }
 {
-    Arg::new(alloc, id).long(id).value_name(value).required(true)
+    Arg::new(alloc, id)
+        .long(id)
+        .value_name(value)
+        .required(true)
 }
 
 fn rdb_option<'a>(alloc: Global) -> Arg<'a>
-    ensures { rule_of result ≡ grammar.default_option (codes "rdb") (codes "RDB") }
+    ensures rule { rule_of result ≡ grammar.default_option (codes "rdb") (codes "RDB") }
+    ensures own { grammar.IsOwn result }
 {
     Arg::new(alloc, "rdb")
         .long("rdb")
@@ -35,7 +42,7 @@ fn rdb_option<'a>(alloc: Global) -> Arg<'a>
 }
 
 fn init<'a>(alloc: Global) -> Result<Command<'a>, AllocError>
-    ensures { IfOk result (λ c. app_of c ≡ grammar.init) }
+    ensures { IfOk result (λ c. (app_of c ≡ grammar.init) × grammar.AddsItself c) }
 {
     let path = needed_word(alloc, "path");
     let size = needed_option(alloc, "size", "N");
@@ -48,7 +55,7 @@ fn init<'a>(alloc: Global) -> Result<Command<'a>, AllocError>
 }
 
 fn pipe<'a>(alloc: Global) -> Result<Command<'a>, AllocError>
-    ensures { IfOk result (λ c. app_of c ≡ grammar.pipe) }
+    ensures { IfOk result (λ c. (app_of c ≡ grammar.pipe) × grammar.AddsItself c) }
 {
     let path = Arg::new(alloc, "path");
     let rdb = rdb_option(alloc);
@@ -61,7 +68,7 @@ fn pipe<'a>(alloc: Global) -> Result<Command<'a>, AllocError>
 }
 
 fn serve<'a>(alloc: Global) -> Result<Command<'a>, AllocError>
-    ensures { IfOk result (λ c. app_of c ≡ grammar.serve) }
+    ensures { IfOk result (λ c. (app_of c ≡ grammar.serve) × grammar.AddsItself c) }
 {
     let path = needed_word(alloc, "path");
     let port = needed_option(alloc, "port", "N");
@@ -76,7 +83,7 @@ fn serve<'a>(alloc: Global) -> Result<Command<'a>, AllocError>
 }
 
 fn in_doubt<'a>(alloc: Global) -> Result<Command<'a>, AllocError>
-    ensures { IfOk result (λ c. app_of c ≡ grammar.in_doubt) }
+    ensures { IfOk result (λ c. (app_of c ≡ grammar.in_doubt) × grammar.AddsItself c) }
 {
     let path = needed_word(alloc, "path");
     Command::new(alloc, "indoubt")

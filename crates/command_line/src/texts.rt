@@ -56,6 +56,15 @@ pub(crate) fn serve_by<'a>(
     })
 }
 
+pub(crate) fn in_doubt_by<'a>(path: Option<&'a str>) -> Option<Job<'a>>
+    ensures { option_map spec.plain_job result ≡ spec.in_doubt_by (option_map (λ p. p.now) path.entry) }
+{
+    match path {
+        Some(path) => Some(Job::InDoubt { path }),
+        None => None,
+    }
+}
+
 // U:P, split at the first colon.
 fn login_in<'a>(text: &'a str) -> Option<Login<'a>>
     ensures { option_map spec.plain_login result ≡ spec.login_in text.now }

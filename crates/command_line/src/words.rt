@@ -1,19 +1,18 @@
 //! Reading the words.
 
-ghost use Rattle.std.specs.Prelude.{◌≡◌, ℕ, List, [], codes, map, option_map};
-ghost use Rattle.std.specs.Io.KnownBytes.{Appends};
+ghost use Rattle.std.specs.Prelude.{◌≡◌, [], codes, map, option_map, string_bytes};
 ghost use Rattle.clap.specs.Words.{found_of, rows_of, subcommand_rows_of};
 ghost use Rattle.command_line.specs.Job as spec;
 ghost use Rattle.command_line.specs.Reading.{Parses, Says, Tells};
 
 use crate::app::drdad;
 use crate::job::Job;
-use crate::texts::{init_by, pipe_by, serve_by};
+use crate::texts::{in_doubt_by, init_by, pipe_by, serve_by};
+use clap::ArgMatches;
 use clap::error::ErrorKind;
-use clap::{ArgMatches, Error as WordsError};
 use std::alloc::{AllocError, Global};
 use std::convert::AsStr;
-use std::io::Write;
+use std::fmt::Write;
 use thiserror::Error;
 
 /// Why the words ask for nothing.
@@ -38,50 +37,40 @@ impl From<AllocError> for BadWords {
 }
 
 /// What the parser of words finds in words of `drdad`, the program's name first. What it has to say of
-/// a mistake, or of a request for help, is written to `err`, and nothing else. `NoJob` comes exactly
-/// where the words are none of the grammar's.
-pub fn parse_words<'a, S: AsStr, E: Write>(
+/// a mistake, or of a request for help, is appended to `said`, as far as memory allows. `NoJob` comes
+/// exactly where the words are none of the grammar's.
+pub fn parse_words<'a, S: AsStr>(
     alloc: Global,
     words: &'a [S],
-    err: &mut E,
+    said: &mut String,
 ) -> Result<ArgMatches<'a>, BadWords>
     ensures parses { Parses subcommand_rows_of (map S.text words.now) result }
-    ensures tells { Tells result (E.contents err.old) (E.contents err.new) }
+    ensures tells { Tells result (string_bytes said.old) (string_bytes said.new) }
 {
     match drdad(alloc)?.try_get_matches_from(words) {
         Ok(matches) => Ok(matches),
         Err(error) => match error.kind() {
             ErrorKind::OutOfMemory => Err(BadWords::NoMemory),
             _ => {
-                say(alloc, &error, err);
+                let _ = writeln!(said, "{error}");
                 Err(BadWords::NoJob)
             }
         },
     }
 }
 
-// What the parser has to say of a mistake, as far as memory and the stream allow.
-fn say<E: Write>(alloc: Global, error: &WordsError, err: &mut E)
-    ensures { (text : List ℕ) × Appends (E.contents err.old) (E.contents err.new) text }
-{
-    let mut text = String::new(alloc);
-    let _ = writeln!(text, "{error}");
-    let _ = err.write_all(text.as_bytes());
-}
-
 /// The job that words of `drdad` ask for, the program's name first, lent from them. `NoJob` comes
 /// exactly where they ask for none: they are none of the grammar's, or a number is none, a port has
-/// more than 16 bits, or a U:P has no colon. What the parser of words has to say is written to `err`,
-/// and nothing else is.
-pub fn job_of<'a, S: AsStr, E: Write>(
+/// more than 16 bits, or a U:P has no colon. What the parser of words has to say is appended to `said`.
+pub fn job_of<'a, S: AsStr>(
     alloc: Global,
     words: &'a [S],
-    err: &mut E,
+    said: &mut String,
 ) -> Result<Job<'a>, BadWords>
     ensures job { Says (spec.said (map S.text words.now)) result }
-    ensures tells { Tells result (E.contents err.old) (E.contents err.new) }
+    ensures tells { Tells result (string_bytes said.old) (string_bytes said.new) }
 {
-    let matches = parse_words(alloc, words, err)?;
+    let matches = parse_words(alloc, words, said)?;
     match job_in(&matches) {
         Some(job) => Ok(job),
         None => Err(BadWords::NoJob),
@@ -105,13 +94,21 @@ fn job_in<'a>(matches: &ArgMatches<'a>) -> Option<Job<'a>>
 fn init_in<'a>(given: &ArgMatches<'a>) -> Option<Job<'a>>
     ensures { option_map spec.plain_job result ≡ spec.init_by (spec.value (rows_of (found_of given.now)) (codes "path")) (spec.value (rows_of (found_of given.now)) (codes "size")) (spec.value (rows_of (found_of given.now)) (codes "rdb")) }
 {
-    init_by(given.get_str("path"), given.get_str("size"), given.get_str("rdb"))
+    init_by(
+        given.get_str("path"),
+        given.get_str("size"),
+        given.get_str("rdb"),
+    )
 }
 
 fn pipe_in<'a>(given: &ArgMatches<'a>) -> Option<Job<'a>>
     ensures { option_map spec.plain_job result ≡ spec.pipe_by (spec.value (rows_of (found_of given.now)) (codes "path")) (spec.value (rows_of (found_of given.now)) (codes "rdb")) (spec.value (rows_of (found_of given.now)) (codes "user")) }
 {
-    pipe_by(given.get_str("path"), given.get_str("rdb"), given.get_str("user"))
+    pipe_by(
+        given.get_str("path"),
+        given.get_str("rdb"),
+        given.get_str("user"),
+    )
 }
 
 fn serve_in<'a>(given: &ArgMatches<'a>) -> Option<Job<'a>>
@@ -128,6 +125,5 @@ fn serve_in<'a>(given: &ArgMatches<'a>) -> Option<Job<'a>>
 fn in_doubt_in<'a>(given: &ArgMatches<'a>) -> Option<Job<'a>>
     ensures { option_map spec.plain_job result ≡ spec.in_doubt_by (spec.value (rows_of (found_of given.now)) (codes "path")) }
 {
-    let path = given.get_str("path")?;
-    Some(Job::InDoubt { path })
+    in_doubt_by(given.get_str("path"))
 }
