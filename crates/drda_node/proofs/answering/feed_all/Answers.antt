@@ -81,3 +81,15 @@ feeding-preserved g c =
       journaled = more g.D.Disk.is_modelled g.D.Disk.life c.calls_go_on.ensures (core_in c.args.node.now) (core_in c.feeding.node) (core_in c.feed_at-fed.new.self) c.feeding.invariant.journaled c.feed_at-fed.ensures.journaled;
       heard = inr (f.after, said_behind first new place (take (at + fed.taken) bytes) out _ out' _ f.after all c.in_ok-extend_from_slice-in-Short.ensures.items);
     }
+
+pub returns-in-Open-clause-journaled : goal.returns-in-Open-clause-journaled
+returns-in-Open-clause-journaled g c = more g.D.Disk.is_modelled g.D.Disk.life c.calls_go_on.ensures (core_in c.args.node.now) (core_in c.feeding.node) (core_in c.feed_at-fed.new.self) c.feeding.invariant.journaled c.feed_at-fed.ensures.journaled
+
+pub returns-in-Closed-clause-journaled : goal.returns-in-Closed-clause-journaled
+returns-in-Closed-clause-journaled g c = more g.D.Disk.is_modelled g.D.Disk.life c.calls_go_on.ensures (core_in c.args.node.now) (core_in c.feeding.node) (core_in c.feed_at-fed.new.self) c.feeding.invariant.journaled c.feed_at-fed.ensures.journaled
+
+pub returns-in_err-extend_from_slice-in-Short-clause-journaled : goal.returns-in_err-extend_from_slice-in-Short-clause-journaled
+returns-in_err-extend_from_slice-in-Short-clause-journaled g c = more g.D.Disk.is_modelled g.D.Disk.life c.calls_go_on.ensures (core_in c.args.node.now) (core_in c.feeding.node) (core_in c.feed_at-fed.new.self) c.feeding.invariant.journaled c.feed_at-fed.ensures.journaled
+
+pub returns-in-Later-clause-journaled : goal.returns-in-Later-clause-journaled
+returns-in-Later-clause-journaled g c = more g.D.Disk.is_modelled g.D.Disk.life c.calls_go_on.ensures (core_in c.args.node.now) (core_in c.feeding.node) (core_in c.feed_at-fed.new.self) c.feeding.invariant.journaled c.feed_at-fed.ensures.journaled

@@ -100,3 +100,10 @@ returns-in_default-answer-clause-journaled g c = more g.D.Disk.is_modelled g.D.D
 
 pub returns-in_default-write_whole-clause-journaled : goal.returns-in_default-write_whole-clause-journaled
 returns-in_default-write_whole-clause-journaled g c = more g.D.Disk.is_modelled g.D.Disk.life c.calls_go_on.ensures (core_in c.args.node.now) (core_in c.events.node) (core_in c.answer.new.node) c.events.invariant.journaled c.answer.ensures.journaled
+
+pub events-init : goal.events-init
+events-init g c = record {
+  room = c.in-Ok.ensures;
+  journaled = none g.D.Disk.is_modelled g.D.Disk.life c.calls_go_on.ensures (core_in c.args.node.now) c.is_durable.ensures;
+  so_far = starts (g.R.Read.remaining c.args.reader.now) (g.W.Write.contents c.args.writer.now) (machine c.args.node.now);
+}
