@@ -1,5 +1,5 @@
 -- A step of a conversation whose asker asks the core is a step that asks the core, once at most.
-use Rattle.std.proofs.Common.{◌≡◌, ◌⊎◌, ℕ, Bool, List, [], ◌∷◌, refl, sym, ap, subst, ◌∙◌, inl, inr}
+use Rattle.std.proofs.Common.{◌≡◌, ◌⊎◌, ℕ, Bool, List, [], ◌∷◌, refl, ap, ◌∙◌, inl, inr}
 use Rattle.drda_disk.specs.Disk.{Life}
 use Rattle.dss_frames.specs.Dss.{Dss}
 use Rattle.exchanges.specs.Reply.{Reply}

@@ -1,5 +1,5 @@
 -- Two stretches of bytes, one after the other: their readings, what is done, and what is heard.
-use Rattle.std.proofs.Common.{◌≡◌, ℕ, true, false, List, [], ◌∷◌, ◌++◌, refl, sym, ap, subst, ◌∙◌, append_assoc, append-nil, inl, inr}
+use Rattle.std.proofs.Common.{◌≡◌, ℕ, true, false, List, [], ◌∷◌, ◌++◌, sym, ap, subst, ◌∙◌, append_assoc, append-nil, inl, inr}
 use Rattle.dss_frames.specs.Dss.{Dss}
 use Rattle.dss_frames.specs.declared.fault.FrameFault.{FrameFault}
 use Rattle.dss_frames.specs.Fault.{BeginsWith, FaultAt}
@@ -7,7 +7,7 @@ use Rattle.dss_frames.specs.Reading.{End, unfinished, faulty, Reads}
 use Rattle.conversation.specs.Settings.{Settings}
 use Rattle.conversation.specs.Standing.{Standing}
 use Rattle.conversation.specs.Done.{DoesAll}
-use Rattle.conversation.specs.Steps.{ClosesWithin, Converses, Ends, ReadsAll}
+use Rattle.conversation.specs.Steps.{Converses, Ends, ReadsAll}
 use Rattle.drda_node.specs.Asking.{AskedCore, asks}
 use Rattle.drda_node.specs.Hearing.{Attended, Hears}
 

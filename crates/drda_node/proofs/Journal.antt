@@ -1,5 +1,5 @@
 -- What calls leave on the disk, one after another.
-use Rattle.std.proofs.Common.{◌≡◌, ◌⊎◌, Bool, false, sym, ap, subst, inl, inr}
+use Rattle.std.proofs.Common.{◌≡◌, Bool, false, sym, ap, subst, inl, inr}
 use Rattle.std.specs.Prelude.{IsTrue}
 use Rattle.drda_disk.specs.Disk.{Life}
 use Rattle.durable_images.specs.Journaled.{CallsGoOn, IsDurable, OnDisk, shown_on}

@@ -1,9 +1,10 @@
 -- Who is asked: the core, for one conversation, which it knows by its place in the row. What a conversation
 -- leaves unfinished goes with it when it is lost, so that another one may have its place.
-use Rattle.std.specs.Prelude.{◌≡◌, ◌⊎◌, ℕ, ◌+◌, ◌-◌, ◌^◌, ◌<◌, min, Bool, true, false, IsTrue, Some}
+use Rattle.std.specs.Prelude.{◌≡◌, ◌⊎◌, ℕ, ◌+◌, ◌-◌, ◌^◌, ◌<◌, min, Bool, true, false, IsTrue, Some, if◌then◌else◌}
 use Rattle.drda_disk.specs.Disk.{Life}
 use Rattle.unit_records.specs.Records.{UnitRecord}
 use Rattle.unit_records.specs.Room.{held, released, taken}
+use Rattle.core_calls.specs.Call as call
 use Rattle.core_calls.specs.Call.{Call}
 use Rattle.core_calls.specs.Answer.{Answer, closed, device_failed, full, no_memory}
 use Rattle.core_steps.specs.Step.{CoreState, answer as answer_to, step_state}
@@ -63,6 +64,10 @@ IsExcused old place call answer new =
 -- the core takes the step of this conversation's call, and answers it
 abbrev pub asks : ℕ → AskedCore → Call → Answer → AskedCore → Type 0
 asks place old call answer new = IsTaken old place call answer new ⊎ IsExcused old place call answer new
+
+-- what is left of the core where a conversation is lost: its units end; once the device has failed nothing is done
+abbrev pub left_by : AskedCore → ℕ → AskedCore
+left_by old place = record { state = if old.has_failed then old.state else step_state old.state place call.lost; has_failed = old.has_failed }
 
 -- ---- in code
 

@@ -4,7 +4,7 @@ use Rattle.conversation.specs.Settings.{Settings}
 use Rattle.conversation.specs.Standing.{Standing}
 use Rattle.conversation.specs.Steps.{Converses}
 use Rattle.drda_node.specs.Asking.{AskedCore, asks}
-use Rattle.drda_node.specs.Machine.{Conversation, Machine}
+use Rattle.drda_node.specs.Machine.{Conversation, Machine, asked_in}
 
 -- the bytes after the last completed command of a conversation, and how it stands with the core
 pub record Attended : Type 0 where
@@ -14,7 +14,7 @@ pub record Attended : Type 0 where
 abbrev pub attended : Machine → Conversation → Attended
 attended machine conversation = record {
   rest = conversation.rest;
-  standing = record { session = conversation.session; statements = conversation.statements; asked = record { state = machine.core; has_failed = machine.has_failed } };
+  standing = record { session = conversation.session; statements = conversation.statements; asked = asked_in machine };
 }
 
 abbrev pub conversation_of : Attended → Conversation

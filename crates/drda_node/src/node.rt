@@ -216,7 +216,7 @@ impl<D: Disk> Node<D> {
         ensures journaled { IsJournaled D.is_modelled D.life (core_in self.old) (core_in self.new) }
     {
         self.places[place].close(self.alloc);
-        let _ = self.core.lose(place as u64);
+        end_units(&mut self.core, place as u64);
     }
 
     /// Checkpoints the store. There is none yet, so nothing changes.
@@ -229,4 +229,15 @@ impl<D: Disk> Node<D> {
         self.core.is_durable();
         Done::Done
     }
+}
+
+ghost use Rattle.drda_node.specs.Asking.{IsJournaled, asked_of, left_by};
+
+// Ends what was a conversation's alone. What the core answers says nothing that is not known.
+#[tactic(auto, using(crate::proofs::Cores::core_loses))]
+fn end_units<D: Disk>(core: &mut DurableCore<D>, conversation: u64)
+    ensures left { asked_of core.new ≡ left_by (asked_of core.old) conversation }
+    ensures journaled { IsJournaled D.is_modelled D.life core.old core.new }
+{
+    let _ = core.lose(conversation);
 }

@@ -2,7 +2,7 @@ use Rattle.std.proofs.Common.{◌≡◌, ◌≤◌, ◌+◌, ◌-◌, ◌++◌, 
 use Rattle.std.proofs.lemmas.List.{take_rest, length-drop}
 use Rattle.drda_node.specs.declared.fed.FedState.{FedState}
 use Rattle.drda_node.specs.Register.{core_in, machine}
-use Rattle.drda_node.proofs.Journal.{more, none}
+use Rattle.drda_node.proofs.Journal.{more}
 use Rattle.drda_node.specs.Feeding.{Feeds, LeftAs, bytes_behind}
 use Rattle.drda_node.proofs.Heard.{Heard, heard_more, heard_all, heard_closed, said_behind, still_there}
 use Rattle.drda_node.proofs.answering.feed_all.Goals as goal

@@ -1,11 +1,10 @@
 use Rattle.std.proofs.Common.{None, ap, ◌∙◌}
 use Rattle.drda_node.specs.Register.{shown, number_of}
-use Rattle.drda_node.proofs.Cores.{core_loses}
 use Rattle.drda_node.proofs.Rows.{view_set, view_kept, same_machine, same_numbers}
 use Rattle.drda_node.proofs.node.Node.lose_at.Goals as goal
 
 pub returns-clause-machine : goal.returns-clause-machine
-returns-clause-machine g c = same_machine c.args.self.now.settings _ _ _ _ (view_set shown c.args.self.now.places.items c.args.place c.close.new.self None c.close.ensures.shown) (core_loses g.D.Disk.life c.args.self.now.core _ c.args.place _ c.lose.ensures.step)
+returns-clause-machine g c = same_machine c.args.self.now.settings _ _ _ _ (view_set shown c.args.self.now.places.items c.args.place c.close.new.self None c.close.ensures.shown) c.end_units.ensures.left
 
 pub returns-clause-register : goal.returns-clause-register
 returns-clause-register g c =
