@@ -9,6 +9,7 @@ mod feeding;
 mod node;
 mod place;
 mod reading;
+mod row;
 mod serving;
 mod writing;
 

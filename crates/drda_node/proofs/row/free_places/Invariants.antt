@@ -1,7 +1,7 @@
 use Rattle.std.proofs.Common.{◌≡◌, length, map, replicate, None}
 use Rattle.drda_node.specs.Sharing.{AllServe}
 use Rattle.drda_node.specs.Register.{shown}
-use Rattle.drda_node.proofs.node.Node.start.Given as goal
+use Rattle.drda_node.proofs.row.free_places.Given as goal
 
 abbrev pub invariant-loop : goal.invariant-loop
 invariant-loop l = record {
