@@ -8,10 +8,11 @@ use Rattle.std.specs.BTreeMap.{insert_entry}
 use Rattle.row_values.proofs.ValueLaws.{first_true, mapped, second_true}
 use Rattle.tables.proofs.Changes.{names_apart}
 use Rattle.tables.proofs.Finding.{itself, same_bytes}
+use Rattle.unit_locks.specs.Claims.{all_added}
 use Rattle.core_steps.specs.Units.{Work}
 use Rattle.unit_records.specs.Records.{UnitRecord, committed, decided, prepared}
 use Rattle.unit_records.specs.Room.{decision_taken}
-use Rattle.durable_units.specs.Durable.{Doubts, Durable, decide, doubt_of, have_places, is_free, next, with_doubt, without_doubt}
+use Rattle.durable_units.specs.Durable.{Doubts, Durable, decide, doubt_of, have_places, is_claimed, is_free, next, with_doubt, without_doubt}
 use Rattle.durable_units.specs.Laws.{HeldForDoubts, held_for}
 
 -- ---- a unit more
@@ -61,10 +62,10 @@ held_for_doubts d e (committed changes) h =
     let is = if_some (have_places changes d.store) _ e h in
     ap (λ (x : Durable). held_for x.doubts + 0) (sym is.1)
 held_for_doubts d e (prepared xid changes claims) h =
-    let is = if_some (have_places changes d.store && is_free d.doubts xid) _ e h in
-    let free = second_true (have_places changes d.store) (is_free d.doubts xid) is.0 in
+    let is = if_some (have_places changes d.store && (is_claimed changes claims && is_free d.doubts xid)) _ e h in
+    let free = second_true (is_claimed changes claims) (is_free d.doubts xid) (second_true (have_places changes d.store) (is_claimed changes claims && is_free d.doubts xid) is.0) in
     let unknown = not_true (is_some (doubt_of d.doubts xid)) (first_true (not (is_some (doubt_of d.doubts xid))) (nat_lt (length d.doubts) 256) free) in
-    let sum = one_held d.doubts xid (record { changes = changes; claims = claims }) unknown in
+    let sum = one_held d.doubts xid (record { changes = changes; claims = all_added [] claims }) unknown in
     let same = ap (λ (x : Durable). held_for x.doubts) is.1 in
     omega (arith, sum, same)
 held_for_doubts d e (decided xid o) h =

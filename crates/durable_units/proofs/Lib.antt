@@ -4,4 +4,5 @@ pub mod Doubting
 pub mod Leading
 pub mod Holding
 pub mod Keeping
+pub mod Claiming
 pub mod Sounding

@@ -13,12 +13,16 @@ use Rattle.tables.specs.Change.{Change, create, is_change, put, remove}
 use Rattle.tables.specs.Laws.{StoresAreKept}
 use Rattle.tables.specs.Tables.{Store, apply}
 use Rattle.tables.specs.View.{is_sound, is_store}
+use Rattle.unit_locks.specs.Claims.{all_added}
 use Rattle.core_steps.specs.Units.{Work, apply_all}
+use Rattle.unit_journal.specs.Record.{Entry}
 use Rattle.xa_manager.specs.declared.due.Outcome.{Outcome}
 use Rattle.xa_manager.specs.declared.due.Outcome.TheVariants as outcome
 use Rattle.unit_records.specs.Records.{IsChange, IsGood, UnitRecord, committed, decided, prepared}
-use Rattle.durable_units.specs.Durable.{Doubts, Durable, decide, doubt_of, have_places, is_free, next, with_doubt, without_doubt}
-use Rattle.durable_units.specs.Sound.{IsGoodDoubt, IsSound, StatesStaySound}
+use Rattle.durable_units.specs.Durable.{Doubts, Durable, decide, doubt_of, fresh, have_places, is_claimed, is_free, next, with_doubt, without_doubt}
+use Rattle.durable_units.specs.Sound.{IsGoodDoubt, IsSound, LeadsAreSound, StatesStaySound}
+use Rattle.durable_units.specs.Journal.{Leads}
+use Rattle.durable_units.proofs.Claiming.{claimed_once, good_once, same_once}
 use Rattle.durable_units.proofs.Holding.{if_some, not_found, not_true, other_xid}
 
 -- ---- the store
@@ -105,7 +109,7 @@ others_rise (e ∷ es) xid all =
 
 -- the work of a unit that is found
 found_good : (b : Bool) (e : List ℕ × Work) (o : Option Work) (xid : List ℕ) (work : Work) → IsGoodDoubt e → cond b (Some e.1) o ≡ Some work → (o ≡ Some work → AllByRecursion IsChange work.changes) → AllByRecursion IsChange work.changes
-found_good true e o xid work good is other = let same : e.1 ≡ work = cc in subst (λ (w : Work). AllByRecursion IsChange w.changes) same good.2.1
+found_good true e o xid work good is other = let same : e.1 ≡ work = cc in subst (λ (w : Work). AllByRecursion IsChange w.changes) same good.good.2.1
 found_good false e o xid work good is other = other is
 
 work_good : (doubts : Doubts) (xid : List ℕ) (work : Work) → AllByRecursion IsGoodDoubt doubts → doubt_of doubts xid ≡ Some work → AllByRecursion IsChange work.changes
@@ -123,18 +127,21 @@ states_stay_sound kept d e (committed changes) good h sound =
     let is = if_some (have_places changes d.store) _ e h in
     subst IsSound is.1 (record { store = stores_kept kept changes d.store good.1 sound.store; rising = sound.rising; few = sound.few; good = sound.good })
 states_stay_sound kept d e (prepared xid changes claims) good h sound =
-    let is = if_some (have_places changes d.store && is_free d.doubts xid) _ e h in
-    let free = second_true (have_places changes d.store) (is_free d.doubts xid) is.0 in
+    let is = if_some (have_places changes d.store && (is_claimed changes claims && is_free d.doubts xid)) _ e h in
+    let both = second_true (have_places changes d.store) (is_claimed changes claims && is_free d.doubts xid) is.0 in
+    let claimed = first_true (is_claimed changes claims) (is_free d.doubts xid) both in
+    let free = second_true (is_claimed changes claims) (is_free d.doubts xid) both in
     let unknown = not_true (is_some (doubt_of d.doubts xid)) (first_true (not (is_some (doubt_of d.doubts xid))) (nat_lt (length d.doubts) 256) free) in
     let room = second_true (not (is_some (doubt_of d.doubts xid))) (nat_lt (length d.doubts) 256) free in
     let below : length d.doubts < 256 = grind (arith, nat_tests) in
-    let work : Work = record { changes = changes; claims = claims } in
+    let work : Work = record { changes = changes; claims = all_added [] claims } in
+    let new : IsGoodDoubt (xid, work) = record { good = (good.0, good_once claims good.1, good.2); claimed = claimed_once changes claims claimed; once = same_once claims } in
     let count = one_more d.doubts xid work unknown in
     subst IsSound is.1 (record {
       store = sound.store;
       rising = rises_put (slice_cmp nat_cmp) nat_list_cmp_total xid work d.doubts sound.rising;
       few = omega (arith, count, below);
-      good = all_good d.doubts xid work unknown good sound.good;
+      good = all_good d.doubts xid work unknown new sound.good;
     })
 states_stay_sound kept d e (decided xid o) good h sound =
     let found = mapped (λ (work : Work). let x : Durable = record { store = decide o d.store work; doubts = without_doubt d.doubts xid } in x) (doubt_of d.doubts xid) e h in
@@ -145,3 +152,15 @@ states_stay_sound kept d e (decided xid o) good h sound =
       few = omega (arith, count, sound.few);
       good = others_good d.doubts xid sound.good;
     })
+
+-- ---- from the first record on
+
+stays_sound : StatesStaySound → (d e : Durable) (es : List Entry) → IsSound d → Leads d es e → IsSound e
+stays_sound step d e [] sound leads = subst IsSound leads sound
+stays_sound step d e (x ∷ es) sound leads = stays_sound step leads.0 e es (step d leads.0 leads.1.said leads.1.is.good leads.1.step sound) leads.2
+
+fresh_sound : IsSound fresh
+fresh_sound = record { store = refl; rising = refl; few = omega arith; good = tt }
+
+pub leads_are_sound : StatesStaySound → LeadsAreSound
+leads_are_sound step d es leads = stays_sound step fresh d es fresh_sound leads

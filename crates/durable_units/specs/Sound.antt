@@ -7,9 +7,11 @@ use Rattle.std.specs.Map.{keys_of}
 use Rattle.drda_words.specs.Order.{rises}
 use Rattle.tables.specs.View.{is_store}
 use Rattle.core_steps.specs.Units.{Work}
-use Rattle.unit_records.specs.Records.{IsGood, UnitRecord, prepared}
-use Rattle.durable_units.specs.Durable.{Durable, is_claimed, next}
 use Rattle.unit_locks.specs.Claims.{all_added}
+use Rattle.unit_journal.specs.Record.{Entry}
+use Rattle.unit_records.specs.Records.{IsGood, UnitRecord, prepared}
+use Rattle.durable_units.specs.Durable.{Durable, fresh, is_claimed, next}
+use Rattle.durable_units.specs.Journal.{Leads}
 
 -- a unit in doubt whose prepare can be written, and that has claimed all names where it creates a table
 pub record IsGoodDoubt (e : List ℕ × Work) : Type 0 where
@@ -28,3 +30,7 @@ pub record IsSound (d : Durable) : Type 0 where
 -- a record that can be written keeps a state sound
 abbrev pub StatesStaySound : Type 0
 StatesStaySound = (d e : Durable) (r : UnitRecord) → IsGood r → next d r ≡ Some e → IsSound d → IsSound e
+
+-- so entries lead from a store that was just made to a sound state
+abbrev pub LeadsAreSound : Type 0
+LeadsAreSound = (d : Durable) (es : List Entry) → Leads fresh es d → IsSound d

@@ -28,7 +28,8 @@ pub enum ReplayError {
 }
 
 /// The committed tables and the units in doubt that the records of a journal lead to, from its first
-/// on. `Damaged` exactly where a record has no place among those before it, or its body is none of its
+/// on. `Damaged` exactly where a record has no place among those before it (as `Replay::step` tells; so
+/// a prepare that creates a table and does not claim all names has none), or its body is none of its
 /// kind: at the first such record's gate.
 pub fn replay(alloc: Global, records: &[Record]) -> Result<Replay, ReplayError>
     ensures replays { Replays records.now result }
@@ -57,5 +58,5 @@ fn read_and_step(state: &mut Replay, alloc: Global, entry: &Record) -> Result<()
         Ok(said) => said,
         Err(error) => return Err(error),
     };
-    state.step(alloc, said)
+    state.step(alloc, entry.at, said)
 }

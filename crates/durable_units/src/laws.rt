@@ -3,7 +3,7 @@
 ghost use Rattle.durable_units.specs.Laws.{FrontsStand, GoesOn, HeldForDoubts, OneMore};
 ghost use Rattle.durable_units.specs.Journal.{LeadingWereWritten, NoStop, OneState, WrittenLead};
 ghost use Rattle.durable_units.specs.Places.{ChangesKeepTables, PlacesGoOn, RowsKeepPlaces, TablesGivePlaces};
-ghost use Rattle.durable_units.specs.Sound.{StatesStaySound};
+ghost use Rattle.durable_units.specs.Sound.{LeadsAreSound, StatesStaySound};
 
 use tables::laws::{changes_are_local, changes_make_tables};
 use unit_records::laws::records_have_one_reading;
@@ -45,9 +45,17 @@ pub fn places_depend_on_tables()
 }
 
 /// Each record that can be written keeps a state sound: a store, and XIDs in doubt that rise, 256 at
-/// most, each with a unit that can be written.
+/// most, each with a unit that can be written, that has each claim once, and that has claimed all names
+/// where it creates a table.
 pub fn states_stay_sound()
     ensures { StatesStaySound }
 {
     changes_are_local();
+}
+
+/// The state that entries lead to from a store that was just made is sound.
+pub fn records_lead_to_sound_states()
+    ensures { LeadsAreSound }
+{
+    states_stay_sound();
 }

@@ -1,6 +1,7 @@
 //! What the records of a journal stand for: the committed tables and the units in doubt.
 #![tactic(auto)]
 
+mod claimed;
 mod gathered;
 mod journal;
 pub mod laws;

@@ -13,12 +13,15 @@ use unit_locks::Claim;
 use xa_calls::Xid;
 
 /// A unit in doubt: its branch's XID, its changes, and its claims in the order in which it first made
-/// them, reading ones too.
+/// them, reading ones too. Contracts see each claim once, whatever the record repeats.
 #[derive(Debug, Drop)]
 pub struct PreparedUnit {
     pub xid: Xid,
     pub changes: UnitChanges,
     pub claims: Vec<Claim>,
+    /// The offset of the disk at which the gate of its prepare's record stands, as `Replay::step` was
+    /// told. Contracts do not see it.
+    pub at: usize,
 }
 
 /// Where the unit of an XID stands, if it is in doubt.

@@ -6,6 +6,7 @@ ghost use Rattle.unit_records.specs.Records.{committed, decided, prepared};
 ghost use Rattle.unit_records.specs.Read.{record_of};
 ghost use Rattle.durable_units.specs.Durable.{fresh, next};
 
+use crate::claimed::is_claimed;
 use crate::gathered::{gather, make};
 use crate::prepared::{PreparedUnit, add, is_known, place_of, take_at};
 use row_values::ReadError;
@@ -41,11 +42,13 @@ impl Replay {
         }
     }
 
-    /// Makes the next record good. `Damaged` exactly where it has no place among those before it: a
-    /// change of a commit or of a prepare is of no table, or of another form than its table's, or
-    /// creates a table that is there or the 1,001st; the XID of a prepare is in doubt already, or 256
-    /// are; the XID of a decision is not in doubt. After an error the replay is not used again.
-    pub fn step(&mut self, alloc: Global, said: UnitRecord) -> Result<(), ReadError>
+    /// Makes the next record good, whose gate is at this offset of the disk. `Damaged` exactly where
+    /// it has no place among those before it: a change of a commit or of a prepare is of no table, or
+    /// of another form than its table's, or creates a table that is there or the 1,001st; a prepare
+    /// creates a table and does not claim all names; its XID is in doubt already, or 256 are; the XID
+    /// of a decision is not in doubt. A claim that a prepare repeats counts once. After an error the
+    /// replay is not used again.
+    pub fn step(&mut self, alloc: Global, at: usize, said: UnitRecord) -> Result<(), ReadError>
         ensures { Steps result (next (durable_of self.old) (record_of said)) (durable_of self.new) }
     {
         match said {
@@ -54,7 +57,7 @@ impl Replay {
                 xid,
                 changes,
                 claims,
-            } => self.prepare(alloc, xid, changes, claims),
+            } => self.prepare(alloc, at, xid, changes, claims),
             UnitRecord::Decide { xid, outcome } => self.decide(alloc, &xid, outcome),
         }
     }
@@ -82,6 +85,7 @@ impl Replay {
     fn prepare(
         &mut self,
         alloc: Global,
+        at: usize,
         xid: Xid,
         changes: Vec<Change>,
         claims: Vec<Claim>,
@@ -92,6 +96,9 @@ impl Replay {
             Ok(unit) => unit,
             Err(error) => return Err(error),
         };
+        if !is_claimed(changes.as_slice(), claims.as_slice()) {
+            return Err(ReadError::Damaged);
+        }
         if is_known(self.units.as_slice(), &xid) || self.units.len() >= MAX_IN_DOUBT {
             return Err(ReadError::Damaged);
         }
@@ -101,6 +108,7 @@ impl Replay {
                 xid,
                 changes,
                 claims,
+                at,
             },
         )?;
         Ok(())

@@ -31,6 +31,23 @@ const ANOTHER: (Kind, &'static [u8]) = (
     ],
 );
 
+// Another branch creates U without the claim of all names; with it, twice.
+const UNCLAIMED: (Kind, &'static [u8]) = (
+    Kind::Prepare,
+    &[
+        0, 0, 0, 7, 0, 0, 0, 1, 0, 0, 0, 0, b'f', 0, 0, 0, 1, 1, 1, b'U', 0, 0, 0, 0, 1, 1, 1,
+        b'U', 1, 1, b'A', 2, 0, 0, 0, 1, 0,
+    ],
+);
+
+const CLAIMED: (Kind, &'static [u8]) = (
+    Kind::Prepare,
+    &[
+        0, 0, 0, 7, 0, 0, 0, 1, 0, 0, 0, 0, b'f', 0, 0, 0, 2, 1, 1, b'*', 0, 1, 1, b'*', 0, 0, 0,
+        0, 1, 1, 1, b'U', 1, 1, b'A', 2, 0, 0, 0, 1, 0,
+    ],
+);
+
 const DONE: (Kind, &'static [u8]) = (Kind::Decide, &[0, 0, 0, 7, 0, 0, 0, 1, 0, 0, 0, 0, b'g', 1]);
 
 const UNDONE: (Kind, &'static [u8]) = (
@@ -49,7 +66,7 @@ const SHORT_ROW: (Kind, &'static [u8]) = (Kind::Commit, &[0, 0, 0, 1, 2, 1, b'T'
 // gate of the record that is damaged. The gate of record i is at i times 100.
 type Told = Result<(usize, usize, usize), usize>;
 
-const JOURNALS: [(&'static [(Kind, &'static [u8])], Told); 13] = [
+const JOURNALS: [(&'static [(Kind, &'static [u8])], Told); 15] = [
     (&[], Ok((0, 0, 0))),
     (&[CREATED, NOTHING], Ok((1, 0, 0))),
     (&[CREATED, PREPARED], Ok((1, 1, 1))),
@@ -57,6 +74,8 @@ const JOURNALS: [(&'static [(Kind, &'static [u8])], Told); 13] = [
     (&[CREATED, ANOTHER, PREPARED, DONE], Ok((2, 1, 0))),
     (&[CREATED, PREPARED, UNDONE], Ok((1, 0, 0))),
     (&[CREATED, REMOVED, REMOVED], Ok((0, 0, 0))),
+    (&[CREATED, CLAIMED], Ok((1, 1, 2))),
+    (&[CREATED, UNCLAIMED], Err(100)),
     (&[CREATED, CREATED], Err(100)),
     (&[PREPARED], Err(0)),
     (&[CREATED, PREPARED, PREPARED], Err(200)),
