@@ -2,6 +2,13 @@
 
 ghost use Rattle.durable_steps.specs.Laws.{DecisionsAreOfDoubts, OpeningsAreKept, RecordsLead, SilentStepsStay, StepsKeep};
 
+use core_steps::laws::units_in_doubt_wait;
+use durable_units::laws::{doubts_hold_their_decisions, places_depend_on_tables};
+use sql_places::laws::changes_have_places;
+use tables::laws::changes_are_local;
+use unit_locks::adding;
+use xa_manager::{actions_fit_states, works_while_active};
+
 /// What is durable of a core is what its records lead to: each step of a kept core makes one record due at
 /// most, which has its place among those before and leads to what is durable after the step; a step
 /// without a record changes nothing durable.
@@ -10,7 +17,16 @@ pub fn steps_are_recorded()
     ensures silent { SilentStepsStay }
     ensures lead { RecordsLead }
     ensures decisions { DecisionsAreOfDoubts }
-{}
+{
+    actions_fit_states();
+    adding();
+    changes_are_local();
+    changes_have_places();
+    doubts_hold_their_decisions();
+    places_depend_on_tables();
+    units_in_doubt_wait();
+    works_while_active();
+}
 
 /// A core that is opened over what records lead to is kept, and just that is durable of it.
 pub fn openings_are_kept()

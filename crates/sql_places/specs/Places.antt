@@ -4,7 +4,6 @@ use Rattle.std.specs.List.{AllByRecursion}
 use Rattle.tables.specs.Change.{Change}
 use Rattle.tables.specs.Tables.{Store}
 use Rattle.tables.specs.View.{is_store}
-use Rattle.unit_locks.specs.Claim.{Claim}
 use Rattle.unit_locks.specs.Claims.{In}
 use Rattle.unit_locks.specs.declared.access.Access.TheVariants.{Write}
 use Rattle.sql_meaning.specs.Scope.{claim, star}

@@ -1,0 +1,10 @@
+pub mod Rows
+pub mod Stores
+pub mod Placing
+pub mod Checking
+pub mod Creating
+pub mod Inserting
+pub mod Updating
+pub mod Deleting
+pub mod Answering
+pub mod Claiming
