@@ -1,12 +1,17 @@
 -- What calls leave on the disk: at any moment, the tables and units in doubt after the first of the records
 -- that they made.
-use Rattle.std.specs.Prelude.{◌≡◌, ℕ, Bool, true, false, List, [], take, Some}
-use Rattle.drda_disk.specs.Disk.{LeavesOnly, Life, Only}
-use Rattle.unit_records.specs.Records.{UnitRecord}
-use Rattle.durable_units.specs.Durable.{Durable, replayed_from}
+use Rattle.std.specs.Prelude.{◌≡◌, ℕ, ◌+◌, ◌≤◌, Bool, true, false, List, [], ◌∷◌, length, take, Some}
+use Rattle.drda_disk.specs.Disk.{LeavesOnly, Life, Only, Stays}
+use Rattle.drda_disk.specs.declared.region.Region.{Region}
+use Rattle.unit_journal.specs.Record.{Entry, laid}
+use Rattle.unit_journal.specs.Stands.{IsBeforeOrAfter}
+use Rattle.unit_records.specs.Records.{IsGood, UnitRecord, entry_of}
+use Rattle.unit_records.specs.Room.{taken}
+use Rattle.durable_units.specs.Durable.{Durable, next, replayed_from}
+use Rattle.durable_units.specs.Laws.{held_for}
 use Rattle.core_steps.specs.Step.{CoreState}
 use Rattle.durable_steps.specs.Part.{durable_part}
-use Rattle.durable_images.specs.Opens.{OpensTo}
+use Rattle.durable_images.specs.Opens.{Holds, OpensTo}
 
 -- what of a core concerns its disk
 pub record Shown : Type 1 where
@@ -37,19 +42,65 @@ pub record Made (records : List UnitRecord) (old new : Shown) : Type 0 where
   pub moments : LeavesOnly old.disk new.disk (OpensAfterSome old.name (durable_part old.state) records)
   pub state : new.is_failed ≡ false → replayed_from (durable_part old.state) records ≡ Some (durable_part new.state)
 
+-- no device call was made
+pub record IsUntouched (old new : Life) : Type 0 where
+  pub stays : Stays old new
+  pub moment : new.moment ≡ old.moment
+  pub faults : new.faults ≡ old.faults
+
+-- all is as it was
+pub record IsUnchanged (old new : Shown) : Type 0 where
+  pub name : new.name ≡ old.name
+  pub state : new.state ≡ old.state
+  pub disk : IsUntouched old.disk new.disk
+  pub room : new.room ≡ old.room
+  pub is_failed : new.is_failed ≡ old.is_failed
+
 -- a core that has failed makes no device call
 pub record StaysFailed (old new : Shown) : Type 0 where
   pub failed : new.is_failed ≡ true
   pub name : new.name ≡ old.name
   pub state : new.state ≡ old.state
-  pub disk : new.disk ≡ old.disk
+  pub disk : IsUntouched old.disk new.disk
 
 abbrev pub Journaled : Shown → Shown → Type 0
 Journaled old new = (old.is_failed ≡ false → (records : List UnitRecord) × Made records old new) × (old.is_failed ≡ true → StaysFailed old new)
 
--- ---- laws
+-- ---- laws, of cores over a disk of any type
 
--- calls one after another
-pub record CallsGoOn : Type 0 where
-  pub none : (s : Shown) → (s.is_failed ≡ false → IsDurable s) → Journaled s s
-  pub both : (a b c : Shown) → Journaled a b → Journaled b c → Journaled a c
+pub record OnDisk (D : Type 0) : Type 0 where
+  pub name : List ℕ
+  pub state : CoreState
+  pub disk : D
+  pub room : ℕ
+  pub is_failed : Bool
+
+module _ {D : Type 0} (life : D → Life) where
+  abbrev pub shown_on : OnDisk D → Shown
+  shown_on s = record { name = s.name; state = s.state; disk = life s.disk; room = s.room; is_failed = s.is_failed }
+
+  -- calls one after another
+  pub record CallsGoOn : Type 0 where
+    pub none : (s : OnDisk D) → (s.is_failed ≡ false → IsDurable (shown_on s)) → Journaled (shown_on s) (shown_on s)
+    pub both : (a b c : OnDisk D) → Journaled (shown_on a) (shown_on b) → Journaled (shown_on b) (shown_on c) → Journaled (shown_on a) (shown_on c)
+
+  -- What is read holds what is durable of a core.
+  pub record OneCallIsMade : Type 0 where
+    -- so the core is durable, where a crash leaves nothing else
+    pub durable : (s : OnDisk D) (region : Region) (es : List Entry) → Only (life s.disk) → Holds s.name region es (durable_part s.state) (life s.disk).seen → IsDurable (shown_on s)
+    -- a call that makes a record, or fails as it makes it
+    pub recorded : (old new : OnDisk D) (region : Region) (es : List Entry) (r : UnitRecord) (e : Durable)
+        → Holds old.name region es (durable_part old.state) (life old.disk).seen → IsGood r → next (durable_part old.state) r ≡ Some e
+        → length (laid es) + taken r + 1 + held_for e.doubts ≤ region.length
+        → LeavesOnly (life old.disk) (life new.disk) (IsBeforeOrAfter region (life old.disk).seen es (entry_of r))
+        → new.name ≡ old.name → (new.is_failed ≡ false → durable_part new.state ≡ e)
+        → Made (r ∷ []) (shown_on old) (shown_on new)
+    -- a call that makes none
+    pub silent : (old new : OnDisk D) → IsDurable (shown_on old) → Stays (life old.disk) (life new.disk)
+        → new.name ≡ old.name → durable_part new.state ≡ durable_part old.state
+        → Made [] (shown_on old) (shown_on new)
+    -- a call that changes nothing, of a core that has failed or of any
+    pub failed : (old new : OnDisk D) → old.is_failed ≡ true → new ≡ old → StaysFailed (shown_on old) (shown_on new)
+    pub unchanged : (old new : OnDisk D) → new ≡ old → IsUnchanged (shown_on old) (shown_on new)
+    -- what is only read is left
+    pub read_only : (old new : D) → Stays (life old) (life new) → Only (life old) → LeavesOnly (life old) (life new) (λ c. c ≡ (life old).seen)
