@@ -59,12 +59,15 @@ module _ {D : Type 0} (modelled : Bool) (life : D → Life) (name : List ℕ) wh
   unchanged : (s : CoreState) (r : DiskRecorder D) → IsUnchanged (shown_on life (core_on name s r)) (shown_on life (core_on name s r))
   unchanged s r = record { name = refl; state = refl; disk = untouched r; room = refl; is_failed = refl }
 
+  -- the core is durable until the device fails
+  pub durable_from : OneCallIsMade life → (s : CoreState) (r : DiskRecorder D) → IsRecorded modelled life name s r → IsTrue modelled → has_failed r ≡ false → IsDurable (shown_on life (core_on name s r))
+  durable_from made s r is modelled_disk going =
+      let there = is.on_disk modelled_disk going in
+      made.durable (core_on name s r) (region_of (journal_of r)) there.entries there.settled.durable there.holds
+
   module _ (laws : Laws life) (s : CoreState) (r : DiskRecorder D) (is : IsRecorded modelled life name s r) where
-    -- the core is durable until the device fails
-    pub durable : IsTrue modelled → has_failed r ≡ false → IsDurable (shown_on life (core_on name s r))
-    durable modelled_disk going =
-        let there = is.on_disk modelled_disk going in
-        laws.calls_made.durable (core_on name s r) (region_of (journal_of r)) there.entries there.settled.durable there.holds
+    durable : IsTrue modelled → has_failed r ≡ false → IsDurable (shown_on life (core_on name s r))
+    durable modelled_disk going = durable_from laws.calls_made s r is modelled_disk going
 
     -- once it has failed nothing is done
     pub failed : has_failed r ≡ true → Journaled (shown_on life (core_on name s r)) (shown_on life (core_on name s r))

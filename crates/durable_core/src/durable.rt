@@ -10,7 +10,7 @@ ghost use Rattle.durable_core.specs.Steps.{Loses, Steps};
 use core_calls::{Answer, CoreCall};
 use disk_recorder::DiskRecorder;
 use drda_disk::Disk;
-use durable_images::laws::{calls_make_records, records_open};
+use durable_images::laws::{calls_make_records, records_stay};
 use durable_steps::laws::steps_are_recorded;
 use durable_units::laws::doubts_hold_their_decisions;
 use rdb_core::Core;
@@ -58,7 +58,7 @@ impl<D: Disk> DurableCore<D> {
     {
         steps_are_recorded();
         doubts_hold_their_decisions();
-        records_open();
+        records_stay();
         calls_make_records::<D>();
         if self.core.recorder().is_failed() {
             return Answer::Closed;
@@ -73,6 +73,8 @@ impl<D: Disk> DurableCore<D> {
         ensures journaled { IsTrue D.is_modelled → Journaled (shown_on D.life self.old) (shown_on D.life self.new) }
     {
         steps_are_recorded();
+        doubts_hold_their_decisions();
+        records_stay();
         calls_make_records::<D>();
         if self.core.recorder().is_failed() {
             return Answer::Closed;
