@@ -52,7 +52,11 @@ fn without_pages(active: Active) -> Result<(String, Region), OpenError>
     if active.pages != 0 {
         let pages = active.pages as usize;
         return Err(OpenError::Damaged {
-            at: (active.region.at + PAGES_AT).saturating_sub(PAGE_BYTES * (1 + pages)),
+            at: active
+                .region
+                .at
+                .saturating_sub(PAGE_BYTES * (1 + pages))
+                .saturating_add(PAGES_AT),
         });
     }
     Ok((active.name, active.region))

@@ -20,12 +20,17 @@ pub(crate) fn hold_all(journal: &mut Journal, units: &[PreparedUnit]) -> Result<
     ensures tells { (image : _) → TellsStore result image }
     ensures cause { (n : _) → Counts result n n }
 {
-    for i in 0..units.len() {
-        if journal.hold(held_for_decision(&units[i].xid)).is_err() {
-            return Err(OpenError::Damaged {
-                at: last_prepare(units),
-            });
+    let mut left = units;
+    while let [unit, rest @ ..] = left {
+        match journal.hold(held_for_decision(&unit.xid)) {
+            Ok(()) => {}
+            Err(_) => {
+                return Err(OpenError::Damaged {
+                    at: last_prepare(units),
+                });
+            }
         }
+        left = rest;
     }
     Ok(())
 }

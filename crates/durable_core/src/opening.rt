@@ -16,9 +16,9 @@ use crate::reading::{Found, read_journal, read_units};
 use crate::restoring::restore_all;
 use disk_recorder::DiskRecorder;
 use drda_disk::Disk;
-use durable_images::laws::images_open_to_one_state;
+use durable_images::laws::{images_open_there, images_open_to_one_state};
 use durable_steps::laws::openings_are_kept;
-use durable_units::laws::{records_lead_one_way, states_stay_sound};
+use durable_units::laws::{records_lead_one_way, records_lead_to_sound_states};
 use rdb_core::Core;
 use std::alloc::{AllocError, Global};
 use unit_journal::a_region_has_one_reading;
@@ -55,7 +55,8 @@ fn read_store<D: Disk>(alloc: Global, disk: &mut D) -> Result<Found, OpenError>
 {
     images_open_to_one_state();
     records_lead_one_way();
-    states_stay_sound();
+    records_lead_to_sound_states();
+    images_open_there();
     a_region_has_one_reading();
     let (name, region) = read_head(alloc, disk)?;
     let (mut journal, records) = read_journal(alloc, disk, region)?;
