@@ -1,0 +1,5 @@
+pub mod Stepping
+pub mod Doubted
+pub mod Heads
+pub mod Opened
+pub mod Parts
