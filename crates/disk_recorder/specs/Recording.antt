@@ -1,5 +1,5 @@
 -- What becomes of a disk and its journal where a unit is recorded.
-use Rattle.std.specs.Prelude.{◌≡◌, ℕ, ◌+◌, ◌-◌, ◌<◌, ◌≤◌, Bool, true, false, List, [], ◌∷◌, ◌++◌, length}
+use Rattle.std.specs.Prelude.{◌≡◌, ℕ, ◌+◌, ◌-◌, ◌^◌, ◌<◌, ◌≤◌, Bool, true, false, List, [], ◌∷◌, ◌++◌, length, min}
 use Rattle.drda_disk.specs.Disk.{LeavesOnly, Life}
 use Rattle.drda_disk.specs.Region.{SameOutside, end_of}
 use Rattle.unit_journal.specs.declared.journal.Journal.{Journal}
@@ -43,14 +43,14 @@ module _ {D : Type 0} (modelled : Bool) (life : D → Life) where
     pub moments : LeavesOneMore old said new
     pub others : SameOutside (region_of (journal_of old)) (life_of old).seen (life_of new).seen
     pub region : region_of (journal_of new) ≡ region_of (journal_of old)
-    pub held : held_of (journal_of new) + released said ≡ held_of (journal_of old) + held said
     pub room : room_of (journal_of new) + (taken said + held said) ≡ room_of (journal_of old) + released said
+    pub held : held_of (journal_of new) + released said ≡ held_of (journal_of old) + held said
     pub faults : (life_of new).faults ≡ (life_of old).faults
     pub going : has_failed new ≡ false
 
-  -- the record and what it holds back are longer than the room and what it releases
+  -- the record and what it holds back are longer than the room and what it releases; what is needed stops at 2^64 - 1
   pub record HasNoRoom (old : DiskRecorder D) (said : UnitRecord) (need room : ℕ) : Type 0 where
-    pub need_is : need ≡ taken said + held said - released said
+    pub need_is : need ≡ min (taken said + held said - released said) (2 ^ 64 - 1)
     pub room_is : room ≡ room_of (journal_of old)
     pub less : room_of (journal_of old) + released said < taken said + held said
 

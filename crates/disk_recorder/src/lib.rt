@@ -1,6 +1,7 @@
 //! Units of work recorded in the journal of a disk.
 #![tactic(auto)]
 
+mod bodies;
 mod recorder;
 
 pub use recorder::DiskRecorder;

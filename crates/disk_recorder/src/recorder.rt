@@ -1,13 +1,21 @@
 //! Who records in a journal.
 
-ghost use Rattle.std.specs.Prelude.{◌≤◌, length};
+ghost use Rattle.std.specs.Prelude.{◌≡◌, ◌+◌, ◌<◌, ◌≤◌, ◌^◌, false, IfErr, OnOk, length, map};
 ghost use Rattle.drda_disk.specs.Region.{end_of};
-ghost use Rattle.unit_journal.specs.Journal.{region_of};
+ghost use Rattle.tables.specs.ChangeView.{change_of};
+ghost use Rattle.unit_journal.specs.Journal.{held_of, region_of, room_of};
+ghost use Rattle.unit_records.specs.Records.{UnitRecord, committed, decided, prepared};
 
-use drda_disk::Disk;
+use crate::bodies::{commit_body, decide_body, prepare_body};
+use drda_disk::{Disk, Region};
 use recording::{RecordError, Recorder, Saying};
 use std::alloc::Global;
-use unit_journal::Journal;
+use tables::Change;
+use unit_journal::{AppendError, Journal, Kind};
+use unit_locks::Claim;
+use unit_records::held_for_decision;
+use xa_calls::Xid;
+use xa_manager::Outcome;
 
 /// Records in the journal of a disk, each record by four device calls: write, sync, gate, sync. A
 /// prepare holds the bytes of its decision back, so that a decision always has room. Once the device
@@ -20,16 +28,163 @@ pub struct DiskRecorder<D> {
     is_failed: bool,
 }
 
+impl<D: Disk> DiskRecorder<D> {
+    ghost use Rattle.disk_recorder.specs.Bodies.{Says};
+    ghost use Rattle.disk_recorder.specs.Recording.{Allows, Fails, Records, disk_of, has_failed, journal_of};
+
+    /// Records in this journal of this disk, whose device has not failed.
+    pub fn new(alloc: Global, disk: D, journal: Journal) -> DiskRecorder<D>
+        ensures disk { disk_of result ≡ disk }
+        ensures journal { journal_of result ≡ journal }
+        ensures going { has_failed result ≡ false }
+    {
+        DiskRecorder {
+            alloc,
+            disk,
+            journal,
+            is_failed: false,
+        }
+    }
+
+    /// The disk.
+    pub fn disk(&self) -> &D
+        ensures { result.now ≡ disk_of self.now }
+    {
+        &self.disk
+    }
+
+    /// Whether the device has failed in a record.
+    pub fn is_failed(&self) -> bool
+        ensures { result ≡ has_failed self.now }
+    {
+        self.is_failed
+    }
+
+    /// The part of the disk that the journal has.
+    pub fn region(&self) -> Region
+        ensures { result ≡ region_of (journal_of self.now) }
+    {
+        self.journal.region()
+    }
+
+    /// How many bytes of the journal are left for records.
+    pub fn room(&self) -> usize
+        ensures { result ≡ room_of (journal_of self.now) }
+    {
+        self.journal.room()
+    }
+
+    /// How many bytes of the journal are held back for decisions.
+    pub fn held(&self) -> usize
+        ensures { result ≡ held_of (journal_of self.now) }
+    {
+        self.journal.held()
+    }
+
+    /// The disk, when nothing more is to be recorded.
+    pub fn into_disk(self) -> D
+        ensures { result ≡ disk_of self }
+    {
+        self.disk
+    }
+
+    // The room, which is below 2^32 as a journal's region is at most that long.
+    fn small_room(&self) -> usize
+        ensures value { result ≡ room_of (journal_of self.now) }
+        ensures small { result < 2 ^ 32 }
+    {
+        self.journal.room()
+    }
+
+    fn commit(&mut self, changes: &[Change]) -> Result<(), RecordError>
+        requires { Allows D.is_modelled D.life self.old (committed (map change_of changes.now)) }
+        ensures ok { OnOk result (Records D.is_modelled D.life self.old (committed (map change_of changes.now)) self.new) }
+        ensures err { IfErr result (λ error. Fails D.is_modelled D.life self.old (committed (map change_of changes.now)) error self.new) }
+    {
+        match commit_body(self.alloc, changes, self.small_room()) {
+            Ok(body) => self.append(Kind::Commit, &body, 0, 0),
+            Err(error) => Err(error),
+        }
+    }
+
+    fn prepare(
+        &mut self,
+        xid: &Xid,
+        changes: &[Change],
+        claims: &[Claim],
+    ) -> Result<(), RecordError>
+        requires { Allows D.is_modelled D.life self.old (prepared xid.now (map change_of changes.now) claims.now) }
+        ensures ok { OnOk result (Records D.is_modelled D.life self.old (prepared xid.now (map change_of changes.now) claims.now) self.new) }
+        ensures err { IfErr result (λ error. Fails D.is_modelled D.life self.old (prepared xid.now (map change_of changes.now) claims.now) error self.new) }
+    {
+        match prepare_body(self.alloc, xid, changes, claims, self.small_room()) {
+            Ok(body) => self.append(Kind::Prepare, &body, held_for_decision(xid), 0),
+            Err(error) => Err(error),
+        }
+    }
+
+    fn decide(&mut self, xid: &Xid, outcome: Outcome) -> Result<(), RecordError>
+        requires { Allows D.is_modelled D.life self.old (decided xid.now outcome) }
+        ensures ok { OnOk result (Records D.is_modelled D.life self.old (decided xid.now outcome) self.new) }
+        ensures err { IfErr result (λ error. Fails D.is_modelled D.life self.old (decided xid.now outcome) error self.new) }
+    {
+        match decide_body(self.alloc, xid, outcome, self.small_room()) {
+            Ok(body) => self.append(Kind::Decide, &body, 0, held_for_decision(xid)),
+            Err(_) => Err(RecordError::NoMemory),
+        }
+    }
+
+    // Adds a record that fits; a failure of the device is remembered.
+    fn append(
+        &mut self,
+        kind: Kind,
+        body: &[u8],
+        hold: usize,
+        release: usize,
+    ) -> Result<(), RecordError>
+        requires going { has_failed self.old ≡ false }
+        requires inside { end_of (region_of (journal_of self.old)) ≤ length (D.life (disk_of self.old)).seen }
+        requires released { release ≤ held_of (journal_of self.old) }
+        requires fits { 6 + length body.now + hold ≤ room_of (journal_of self.old) + release }
+        ensures ok { (said : UnitRecord) → Says said kind body.now hold release → OnOk result (Records D.is_modelled D.life self.old said self.new) }
+        ensures err { (said : UnitRecord) → Says said kind body.now hold release → IfErr result (λ error. Fails D.is_modelled D.life self.old said error self.new) }
+    {
+        match self
+            .journal
+            .append(self.alloc, &mut self.disk, kind, body, hold, release)
+        {
+            Ok(()) => Ok(()),
+            Err(AppendError::NoMemory) => Err(RecordError::NoMemory),
+            Err(AppendError::Full(full)) => Err(RecordError::Full {
+                need: full.need as u64,
+                room: full.room as u64,
+            }),
+            Err(AppendError::DeviceFailed) => {
+                self.is_failed = true;
+                Err(RecordError::DeviceFailed)
+            }
+        }
+    }
+}
+
 impl<D: Disk> Recorder for DiskRecorder<D> {
     ghost use Rattle.disk_recorder.specs.Recording.{Allows, Fails, Records};
 
-    ghost allows = { λ old said. Allows D.life old said };
+    ghost allows = { λ old said. Allows D.is_modelled D.life old said };
 
     ghost records = { λ old said new. Records D.is_modelled D.life old said new };
 
     ghost fails = { λ old said error new. Fails D.is_modelled D.life old said error new };
 
     fn record(&mut self, saying: Saying<'_>) -> Result<(), RecordError> {
-        todo
+        match saying {
+            Saying::Commit { changes } => self.commit(changes),
+            Saying::Prepare {
+                xid,
+                changes,
+                claims,
+            } => self.prepare(xid, changes, claims),
+            Saying::Decide { xid, outcome } => self.decide(xid, outcome),
+        }
     }
 }

@@ -1,12 +1,12 @@
 -- What a call makes of a core whose units are recorded on a disk.
-use Rattle.std.specs.Prelude.{◌≡◌, ◌⊎◌, ℕ, ◌+◌, ◌-◌, ◌<◌, true, false, Option, Some, None}
+use Rattle.std.specs.Prelude.{◌≡◌, ◌⊎◌, ℕ, ◌+◌, ◌-◌, ◌^◌, ◌<◌, min, true, false, Option, Some, None}
 use Rattle.unit_records.specs.Records.{UnitRecord}
 use Rattle.unit_records.specs.Room.{held, released, taken}
-use Rattle.core_calls.specs.Call.{Call}
+use Rattle.core_calls.specs.Call.{Call, lost}
 use Rattle.core_calls.specs.Answer.{Answer, closed, device_failed, full, no_memory}
 use Rattle.core_steps.specs.Step.{answer, step_state}
 use Rattle.recording.specs.Due.{record_due}
-use Rattle.durable_images.specs.Journaled.{Shown}
+use Rattle.durable_images.specs.Journaled.{IsUnchanged, Shown}
 
 -- what a record makes of the room
 abbrev pub RoomAfter : Option UnitRecord → ℕ → ℕ → Type 0
@@ -28,16 +28,16 @@ pub record IsTaken (old : Shown) (conversation : ℕ) (k : Call) (told : Answer)
 pub record FindsNoMemory (old : Shown) (told : Answer) (new : Shown) : Type 0 where
   pub going : old.is_failed ≡ false
   pub answer_is : told ≡ no_memory
-  pub same : new ≡ old
+  pub same : IsUnchanged old new
 
 -- the record that is due, and what it holds back, are longer than the room and what it releases
 pub record FindsNoRoom (old : Shown) (conversation : ℕ) (k : Call) (told : Answer) (new : Shown) : Type 0 where
   pub going : old.is_failed ≡ false
   pub record_is : UnitRecord
   pub due : record_due old.state conversation k ≡ Some record_is
-  pub answer_is : told ≡ full (taken record_is + held record_is - released record_is) old.room
+  pub answer_is : told ≡ full (min (taken record_is + held record_is - released record_is) (2 ^ 64 - 1)) old.room
   pub less : old.room + released record_is < taken record_is + held record_is
-  pub same : new ≡ old
+  pub same : IsUnchanged old new
 
 -- the device failed in this call; what of its record a crash leaves, `Journaled` says
 pub record FailsHere (old : Shown) (conversation : ℕ) (k : Call) (told : Answer) (new : Shown) : Type 0 where
@@ -55,7 +55,7 @@ pub record FailsHere (old : Shown) (conversation : ℕ) (k : Call) (told : Answe
 pub record IsClosed (old : Shown) (told : Answer) (new : Shown) : Type 0 where
   pub failed : old.is_failed ≡ true
   pub answer_is : told ≡ closed
-  pub same : new ≡ old
+  pub same : IsUnchanged old new
 
 abbrev pub IsExcused : Shown → ℕ → Call → Answer → Shown → Type 0
 IsExcused old conversation k told new =
@@ -63,3 +63,7 @@ IsExcused old conversation k told new =
 
 abbrev pub Steps : Shown → ℕ → Call → Answer → Shown → Type 0
 Steps old conversation k told new = IsTaken old conversation k told new ⊎ IsExcused old conversation k told new
+
+-- a loss makes no record and takes no memory
+abbrev pub Loses : Shown → ℕ → Answer → Shown → Type 0
+Loses old conversation told new = IsTaken old conversation lost told new ⊎ IsClosed old told new

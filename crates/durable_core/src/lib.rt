@@ -1,9 +1,14 @@
 //! The core over a disk: what is committed, prepared and decided outlasts a crash.
 #![tactic(auto)]
 
-mod core;
-pub mod laws;
+mod durable;
+mod errors;
+mod head;
+mod holding;
 mod opening;
+mod reading;
+mod restoring;
 
-pub use core::DurableCore;
-pub use opening::{OpenError, Refused};
+pub use durable::DurableCore;
+pub use errors::{OpenError, Refused};
+pub use opening::open;

@@ -1,39 +1,96 @@
 //! Opening a store.
 
-use crate::core::DurableCore;
+ghost use Rattle.std.specs.Prelude.{◌≡◌, IfErr, IfOk, IsTrue, List, ℕ, length};
+ghost use Rattle.drda_disk.specs.Disk.{Stays};
+ghost use Rattle.durable_units.specs.Durable.{Durable};
+ghost use Rattle.durable_images.specs.Opens.{OpensTo};
+ghost use Rattle.durable_core.specs.Found.{IsFound, durable_in, name_in};
+ghost use Rattle.durable_core.specs.Opening.{CountsOpen, Finds, IsOpenedTo, OpensStore, StoodThere, disk_in};
+ghost use Rattle.durable_core.specs.Reads.{Counts, IsPlain, TellsStore};
+
+use crate::durable::DurableCore;
+use crate::errors::{OpenError, Refused};
+use crate::head::read_head;
+use crate::holding::hold_all;
+use crate::reading::{Found, read_journal, read_units};
+use crate::restoring::restore_all;
+use disk_recorder::DiskRecorder;
 use drda_disk::Disk;
-use std::alloc::Global;
-use thiserror::Error;
-
-/// Why a store was not opened.
-#[derive(Clone, Copy, Debug, PartialEq, Eq, Error)]
-pub enum OpenError {
-    /// The disk has no store's size, or does not begin as a store does.
-    #[error("not a store")]
-    NotAStore,
-    /// The store is damaged at this offset of the disk.
-    #[error("damaged at {at}")]
-    Damaged { at: usize },
-    #[error("the device failed")]
-    DeviceFailed,
-    #[error("no memory")]
-    NoMemory,
-}
-
-/// A disk that was not opened, and why.
-#[derive(Debug, Drop)]
-pub struct Refused<D> {
-    pub disk: D,
-    pub error: OpenError,
-}
+use durable_images::laws::{images_open_there, images_open_to_one_state};
+use durable_steps::laws::openings_are_kept;
+use durable_units::laws::{records_lead_one_way, records_lead_to_sound_states};
+use rdb_core::Core;
+use std::alloc::{AllocError, Global};
+use unit_journal::a_region_has_one_reading;
 
 /// Opens the store of a disk: the head, the records of the journal from its first on, and the units in
-/// doubt with their claims. Nothing is written. ...
+/// doubt with their claims. Nothing is written. Each refusal hands the disk back.
+///
+/// `NotAStore` comes where the disk has not 2 MiB to 1 GiB or does not begin with `DRDASTO1`.
+/// `Damaged` comes where the head, the header of a half or a record of the journal is damaged, at its
+/// offset; where the active half has pages, at their number in its header, since this version writes
+/// none; and where the decisions of the units in doubt have no room behind the records, at the last
+/// record that prepared one of them. What opens is never answered so.
 pub fn open<D: Disk>(alloc: Global, disk: D) -> Result<DurableCore<D>, Refused<D>>
-    // what opens: no refusal but those of memory and of the device, and exactly that state
     ensures opens { (name : List ℕ) (d : Durable) → IsTrue D.is_modelled → OpensTo name d (D.life disk).seen → Finds name d result }
-    // what is opened stood there
-    ensures found { IsTrue D.is_modelled → IfOk result (λ core. (d : Durable) × OpensTo (shown core).name d (D.life disk).seen × ((shown core).state ≡ opened d)) }
-    // nothing is written, whether it opens or not
-    ensures stays { Stays (D.life disk) (life of the disk in result) }
-;
+    ensures found { IsTrue D.is_modelled → IfOk result (StoodThere (D.life disk).seen) }
+    ensures tells { IsTrue D.is_modelled → OpensStore result (D.life disk).seen }
+    ensures stays { Stays (D.life disk) (D.life (disk_in result)) }
+    ensures cause { CountsOpen result (D.life disk).faults (D.life (disk_in result)).faults }
+{
+    images_open_to_one_state();
+    let mut disk = disk;
+    match read_store(alloc, &mut disk) {
+        Ok(found) => begin(alloc, disk, found),
+        Err(error) => Err(Refused { disk, error }),
+    }
+}
+
+// The parts of the store that a disk is.
+fn read_store<D: Disk>(alloc: Global, disk: &mut D) -> Result<Found, OpenError>
+    ensures found { IfOk result (IsFound D.is_modelled (D.life disk.new)) }
+    ensures opens { (name : List ℕ) (d : Durable) → IsTrue D.is_modelled → OpensTo name d (D.life disk.old).seen → IsPlain result }
+    ensures tells { IsTrue D.is_modelled → TellsStore result (D.life disk.old).seen }
+    ensures stays { Stays (D.life disk.old) (D.life disk.new) }
+    ensures cause { Counts result (D.life disk.old).faults (D.life disk.new).faults }
+{
+    records_lead_one_way();
+    records_lead_to_sound_states();
+    images_open_there();
+    a_region_has_one_reading();
+    let (name, region) = read_head(alloc, disk)?;
+    let (mut journal, records) = read_journal(alloc, disk, region)?;
+    let (store, units) = read_units(alloc, records.as_slice())?.into_parts();
+    hold_all(&mut journal, units.as_slice())?;
+    Ok(Found {
+        name,
+        journal,
+        store,
+        units,
+    })
+}
+
+// The core over a disk of which this was read.
+fn begin<D: Disk>(alloc: Global, disk: D, found: Found) -> Result<DurableCore<D>, Refused<D>>
+    requires { IsFound D.is_modelled (D.life disk) found }
+    ensures ok { IfOk result (IsOpenedTo (name_in found) (durable_in found)) }
+    ensures err { IfErr result (λ refused. refused.error ≡ OpenError.NoMemory) }
+    ensures disk { disk_in result ≡ disk }
+{
+    openings_are_kept();
+    let Found {
+        name,
+        journal,
+        store,
+        units,
+    } = found;
+    let recorder = DiskRecorder::new(alloc, disk, journal);
+    let mut core = Core::restored(alloc, recorder, store);
+    match restore_all(&mut core, units) {
+        Ok(()) => Ok(DurableCore { name, core }),
+        Err(AllocError) => Err(Refused {
+            disk: core.into_recorder().into_disk(),
+            error: OpenError::NoMemory,
+        }),
+    }
+}

@@ -34,8 +34,8 @@ pub(crate) fn claim_all(
     }
 }
 
-// Adds claims to those of a unit; out of memory some of them, behind those that it had.
-fn add_all(claims: &mut Claims, unit: UnitId, more: Vec<Claim>) -> Result<(), AllocError>
+/// Adds claims to those of a unit; out of memory some of them, behind those that it had.
+pub(crate) fn add_all(claims: &mut Claims, unit: UnitId, more: Vec<Claim>) -> Result<(), AllocError>
     ensures ok { OnOk result (claims_of claims.new unit.0 ≡ all_added (claims_of claims.old unit.0) more.items) }
     ensures front { take (length (claims_of claims.old unit.0)) (claims_of claims.new unit.0) ≡ claims_of claims.old unit.0 }
     ensures others { (other : ℕ) → other ≢ unit.0 → claims_of claims.new other ≡ claims_of claims.old other }

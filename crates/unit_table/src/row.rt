@@ -1,15 +1,16 @@
 //! Units that begin, go on and end in the row of all units.
 
-ghost use Rattle.std.specs.Prelude.{◌≡◌, ◌≤◌, ◌⊎◌, true, OnErr, OnOk, length, map};
+ghost use Rattle.std.specs.Prelude.{◌≡◌, ◌≤◌, ◌⊎◌, [], true, OnErr, OnOk, length, map};
 ghost use Rattle.std.specs.List.{insert};
 ghost use Rattle.tables.specs.ChangeView.{change_of};
-ghost use Rattle.core_steps.specs.Units.{has_any, unit_of, without};
+ghost use Rattle.unit_locks.specs.Claims.{all_added};
+ghost use Rattle.core_steps.specs.Units.{has_any, set_unit, unit_of, without};
 ghost use Rattle.unit_table.specs.Owner.{plain_owner};
 ghost use Rattle.unit_table.specs.Table.{AreKept, IsAt, IsGapFor, held};
 ghost use Rattle.unit_table.specs.Keeping.{Keeps};
 
 use crate::changes::add;
-use crate::claiming::claim_all;
+use crate::claiming::{add_all, claim_all};
 use crate::entry::Entry;
 use crate::keep_error::KeepError;
 use crate::owner::Owner;
@@ -108,6 +109,47 @@ pub(crate) fn begin(
         Err(AllocError) => {
             claims.drop_unit(unit);
             Err(KeepError::NoMemory)
+        }
+    }
+}
+
+/// A unit with these claims, however many they are, and these changes begins there.
+pub(crate) fn restore(
+    entries: &mut Vec<Entry>,
+    claims: &mut Claims,
+    at: usize,
+    owner: &Owner,
+    more: Vec<Claim>,
+    changes: UnitChanges,
+) -> Result<(), AllocError>
+    requires kept { AreKept entries.old.items claims.old }
+    requires at { IsGapFor (plain_owner owner.now) entries.old.items at }
+    requires work { (has_any changes ≡ true) ⊎ (has_any more.items ≡ true) }
+    ensures kept { AreKept entries.new.items claims.new }
+    ensures ok { OnOk result (held claims.new entries.new.items ≡ set_unit (plain_owner owner.now) (record { changes = changes; claims = all_added [] more.items }) (held claims.old entries.old.items)) }
+    ensures err { OnErr result (held claims.new entries.new.items ≡ held claims.old entries.old.items) }
+{
+    let Some(number) = free_number(entries.as_slice()) else {
+        return Err(AllocError);
+    };
+    let unit = UnitId(number);
+    match add_all(claims, unit, more) {
+        Ok(()) => {}
+        Err(AllocError) => {
+            claims.drop_unit(unit);
+            return Err(AllocError);
+        }
+    }
+    let entry = Entry {
+        owner: *owner,
+        number,
+        changes,
+    };
+    match put_in(entries, at, entry) {
+        Ok(()) => Ok(()),
+        Err(AllocError) => {
+            claims.drop_unit(unit);
+            Err(AllocError)
         }
     }
 }

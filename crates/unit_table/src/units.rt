@@ -1,10 +1,10 @@
 //! The units of work.
 
-ghost use Rattle.std.specs.Prelude.{◌≡◌, [], map, option_map, unwrap_or};
+ghost use Rattle.std.specs.Prelude.{◌≡◌, OnErr, OnOk, [], false, map, option_map, unwrap_or};
 ghost use Rattle.tables.specs.ChangeView.{change_of};
-ghost use Rattle.unit_locks.specs.Claims.{claims_of};
+ghost use Rattle.unit_locks.specs.Claims.{all_added, claims_of};
 ghost use Rattle.core_steps.specs.Laws.{AreListed};
-ghost use Rattle.core_steps.specs.Units.{clashes, has_any, has_work, left_of, others, unit_of, without};
+ghost use Rattle.core_steps.specs.Units.{clashes, global, has_any, has_work, left_of, others, set_unit, unit_of, without};
 ghost use Rattle.unit_table.specs.Keeping.{Keeps};
 ghost use Rattle.unit_table.specs.Owner.{plain_owner};
 
@@ -21,7 +21,8 @@ use std::marker::Model;
 use std::sync::Arc;
 use tables::Change;
 use unit_changes::{MAX_CHANGED_BYTES, UnitChanges};
-use unit_locks::{Claim, Claims};
+use unit_locks::{Claim, Claims, UnitId};
+use xa_calls::Xid;
 
 /// The units that have work: what each has changed and what it claims. Contracts see the list that
 /// the core's step has of them, in the order of their owners; an owner that is not listed has no work.
@@ -62,6 +63,16 @@ impl Units {
     {
         match place(self.entries.as_slice(), owner) {
             Ok(at) => self.entries[at].changes.as_slice(),
+            Err(_) => &[],
+        }
+    }
+
+    /// The claims of an owner's unit, in the order in which it first made them.
+    pub fn claims(&self, owner: &Owner) -> &[Claim]
+        ensures { result.now ≡ (unit_of (plain_owner owner.now) self.now).claims }
+    {
+        match place(self.entries.as_slice(), owner) {
+            Ok(at) => self.claims.of_unit(UnitId(self.entries[at].number)),
             Err(_) => &[],
         }
     }
@@ -167,6 +178,35 @@ impl Units {
         match place(self.entries.as_slice(), owner) {
             Ok(at) => row::end(&mut self.entries, &mut self.claims, at, owner),
             Err(_) => UnitChanges::new(self.alloc),
+        }
+    }
+
+    /// The unit of a branch that was found in doubt is as it was when the branch was prepared: it has
+    /// these changes, and of these claims each once. There is no limit on their number. A unit with
+    /// neither is not listed. Memory may be refused, also where as many units have work as can be
+    /// numbered; all units stay then.
+    pub fn restore(
+        &mut self,
+        xid: Xid,
+        changes: UnitChanges,
+        claims: Vec<Claim>,
+    ) -> Result<(), AllocError>
+        requires idle { has_work (unit_of (global xid) self.old) ≡ false }
+        ensures ok { OnOk result (self.new ≡ set_unit (global xid) (record { changes = changes; claims = all_added [] claims.items }) self.old) }
+        ensures err { OnErr result (self.new ≡ self.old) }
+    {
+        let owner = Owner::Global(xid);
+        match place(self.entries.as_slice(), &owner) {
+            Ok(_) => unreachable!(),
+            Err(_) if claims.is_empty() && changes.is_empty() => Ok(()),
+            Err(at) => row::restore(
+                &mut self.entries,
+                &mut self.claims,
+                at,
+                &owner,
+                claims,
+                changes,
+            ),
         }
     }
 }

@@ -5,6 +5,7 @@ use std::alloc::{AllocError, Global};
 use std::sync::Arc;
 use std::test::Fail;
 use tables::Change;
+use unit_changes::UnitChanges;
 use unit_locks::{Access, Claim};
 use unit_table::Owner;
 use xa_calls::Xid;
@@ -51,5 +52,13 @@ pub fn one_change(alloc: Global) -> Result<Vec<Change>, Fail> {
     let mut changes = Vec::new(alloc);
     let (change, _) = Change::read(alloc, PUT)?;
     changes.push(change)?;
+    Ok(changes)
+}
+
+// The changes of a unit that has changed one row.
+pub fn unit_changes(alloc: Global) -> Result<UnitChanges, Fail> {
+    let schema = schema(alloc)?;
+    let mut changes = UnitChanges::new(alloc);
+    changes.add(alloc, &schema, one_change(alloc)?)?;
     Ok(changes)
 }

@@ -1,6 +1,6 @@
 //! Units that begin, go on and end.
 
-use crate::fixtures::{global, one_change, one_claim, schema};
+use crate::fixtures::{global, many_claims, one_change, one_claim, schema, unit_changes};
 use std::test::Fail;
 use unit_locks::Access;
 use unit_table::{KeepError, Owner, Units};
@@ -62,5 +62,21 @@ fn finds_numbers_again(rt: HostRuntime) -> Result<(), Fail> {
     }
     let claims = one_claim(rt.alloc(), Access::Write, 5)?;
     assert!(rt; !units.clashes(&Owner::Local(1), claims.as_slice()));
+    Ok(())
+}
+
+// A unit that was found in doubt has its changes and claims again.
+#[test]
+fn restores_units_in_doubt(rt: HostRuntime) -> Result<(), Fail> {
+    let owner = global(1)?;
+    let Owner::Global(xid) = owner else {
+        return Err("no branch")?;
+    };
+    let mut units = Units::new(rt.alloc());
+    let changes = unit_changes(rt.alloc())?;
+    units.restore(xid, changes, many_claims(rt.alloc(), 3)?)?;
+    assert_eq!(rt; units.changes(&owner).len(), 1);
+    assert_eq!(rt; units.claims(&owner).len(), 3);
+    assert!(rt; units.claims(&Owner::Local(1)).is_empty());
     Ok(())
 }

@@ -1,0 +1,5 @@
+//! Tests of disk_recorder.
+#![tactic(auto)]
+
+#[cfg(test)]
+mod records;

@@ -1,0 +1,44 @@
+-- A core over what was read of a store.
+use Rattle.std.proofs.Common.{◌≡◌, ℕ, ◌≤◌, Bool, false, IsTrue, List, length, refl, sym, ◌∙◌, ap, subst}
+use Rattle.drda_disk.specs.Disk.{Life}
+use Rattle.drda_disk.specs.Region.{end_of}
+use Rattle.unit_journal.specs.Journal.{IsSettled, held_of, region_of}
+use Rattle.unit_journal.specs.declared.journal.Journal.{Journal}
+use Rattle.durable_units.specs.Durable.{Durable}
+use Rattle.durable_units.specs.Laws.{held_for}
+use Rattle.core_steps.specs.Step.{CoreState}
+use Rattle.durable_steps.specs.Kept.{IsKept}
+use Rattle.durable_steps.specs.Laws.{OpeningsAreKept}
+use Rattle.durable_steps.specs.Part.{durable_part, opened}
+use Rattle.disk_recorder.specs.Recording.{disk_of, has_failed, journal_of}
+use Rattle.disk_recorder.specs.declared.recorder.DiskRecorder.{DiskRecorder}
+use Rattle.durable_images.specs.Opens.{Holds}
+use Rattle.durable_core.specs.Recorded.{IsOnDisk, IsRecorded}
+use Rattle.durable_core.specs.Found.{IsFound, durable_in, name_in}
+use Rattle.durable_core.specs.declared.reading.Found.{Found}
+
+module _ {D : Type 0} (modelled : Bool) (life : D → Life) (laws : OpeningsAreKept) (disk : D) (f : Found) (found : IsFound modelled (life disk) f)
+    (s : CoreState) (r : DiskRecorder D) (state : s ≡ opened (durable_in f)) (same_disk : disk_of r ≡ disk) (same_journal : journal_of r ≡ f.journal) where
+  part_is : durable_part s ≡ durable_in f
+  part_is = ap (λ (t : CoreState). durable_part t) state ∙ (laws (durable_in f) found.sound).part
+
+  on_disk : IsTrue modelled → IsOnDisk modelled life (name_in f) s r
+  on_disk is =
+      let there = found.stands is in
+      record {
+        entries = there.entries;
+        settled = subst (λ (j : Journal). IsSettled modelled (life (disk_of r)) j there.entries) (sym same_journal)
+            (subst (λ (x : D). IsSettled modelled (life x) f.journal there.entries) (sym same_disk) there.settled);
+        holds = subst (λ (j : Journal). Holds (name_in f) (region_of j) there.entries (durable_part s) (life (disk_of r)).seen) (sym same_journal)
+            (subst (λ (d : Durable). Holds (name_in f) (region_of f.journal) there.entries d (life (disk_of r)).seen) (sym part_is)
+                (subst (λ (x : D). Holds (name_in f) (region_of f.journal) there.entries (durable_in f) (life x).seen) (sym same_disk) there.holds));
+      }
+
+  pub is_recorded : IsRecorded modelled life (name_in f) s r
+  is_recorded = record {
+    kept = subst (λ (t : CoreState). IsKept t) (sym state) (laws (durable_in f) found.sound).kept;
+    held = ap (λ (j : Journal). held_of j) same_journal ∙ found.held ∙ ap (λ (d : Durable). held_for d.doubts) (sym part_is);
+    inside = subst (λ (j : Journal). end_of (region_of j) ≤ length (life (disk_of r)).seen) (sym same_journal)
+        (subst (λ (x : D). end_of (region_of f.journal) ≤ length (life x).seen) (sym same_disk) found.inside);
+    on_disk = λ is going. on_disk is;
+  }

@@ -1,0 +1,258 @@
+-- What a call of the core makes of it and of who records: it stays recorded, and each answer is one of `Steps`.
+use Rattle.std.proofs.Common.{◌≡◌, ◌⊎◌, inl, inr, ⊎_elim, ℕ, ◌+◌, ◌-◌, ◌≤◌, ◌^◌, min, Bool, true, false, IsTrue, List, [], ◌∷◌, ◌++◌, length, Option, Some, None, refl, sym, ◌∙◌, ap, subst, arith}
+use Rattle.std.proofs.lemmas.Bool.{false≢true}
+use Rattle.drda_disk.specs.Disk.{Life}
+use Rattle.drda_disk.specs.Region.{end_of}
+use Rattle.drda_disk.specs.declared.region.Region.{Region}
+use Rattle.drda_disk.proofs.Moments.{Stays-refl}
+use Rattle.unit_journal.specs.Journal.{IsSettled, held_of, region_of, room_of}
+use Rattle.unit_journal.specs.declared.journal.Journal.{Journal}
+use Rattle.unit_journal.specs.Record.{Entry, laid}
+use Rattle.unit_journal.specs.Stands.{Stands}
+use Rattle.unit_records.specs.Records.{UnitRecord, entry_of}
+use Rattle.unit_records.specs.Room.{held, released, taken}
+use Rattle.durable_units.specs.Durable.{Durable, next}
+use Rattle.durable_units.specs.Laws.{HeldForDoubts, held_for}
+use Rattle.core_calls.specs.Call.{Call}
+use Rattle.core_calls.specs.Answer.{Answer, closed, no_memory}
+use Rattle.core_steps.specs.Step.{CoreState, answer, step_state}
+use Rattle.recording.specs.Due.{record_due}
+use Rattle.recording.specs.declared.record_error.RecordError.{RecordError}
+use Rattle.recording.specs.declared.record_error.RecordError.TheVariants as error
+use Rattle.durable_steps.specs.Part.{durable_part}
+use Rattle.durable_steps.specs.Kept.{IsKept}
+use Rattle.durable_steps.specs.Laws.{DecisionsAreOfDoubts, RecordsLead, SilentStepsStay, StepsKeep}
+use Rattle.disk_recorder.specs.Recording.{Allows, Fails, IsLeftOpen, Records, disk_of, has_failed, journal_of}
+use Rattle.disk_recorder.specs.declared.recorder.DiskRecorder.{DiskRecorder}
+use Rattle.durable_images.specs.Opens.{Holds}
+use Rattle.durable_images.specs.Laws.{RecordsStay}
+use Rattle.durable_images.specs.Journaled.{IsDurable, IsUnchanged, IsUntouched, Journaled, Made, OnDisk, OneCallIsMade, shown_on}
+use Rattle.rdb_core.specs.Recorded as told
+use Rattle.rdb_core.specs.Steps as core
+use Rattle.durable_core.specs.Recorded.{IsOnDisk, IsRecorded, core_on}
+use Rattle.durable_core.specs.Steps.{IsClosed, RoomAfter, Steps}
+
+-- the laws that it rests on
+pub record Laws {D : Type 0} (life : D → Life) : Type 0 where
+  pub steps_keep : StepsKeep
+  pub silent_stay : SilentStepsStay
+  pub records_lead : RecordsLead
+  pub are_of_doubts : DecisionsAreOfDoubts
+  pub held_for_doubts : HeldForDoubts
+  pub records_stay : RecordsStay
+  pub calls_made : OneCallIsMade life
+
+-- a record that finds room fits behind the others, with the bytes that are held then
+fits : (at len l need hold free before after room : ℕ) → room ≡ at + len - (at + l) - 1 - before → l + 1 + before ≤ len → need + hold ≤ room + free → after + free ≡ before + hold → l + need + 1 + after ≤ len
+fits at len l need hold free before after room is inside less same = omega (arith, is, inside, less, same)
+
+module _ {D : Type 0} (modelled : Bool) (life : D → Life) (name : List ℕ) where
+  -- what became of a call of a core
+  pub record IsDone (s : CoreState) (r : DiskRecorder D) (conversation : ℕ) (k : Call) (said : Answer) (new : CoreState) (after : DiskRecorder D) : Type 0 where
+    pub recorded : IsRecorded modelled life name new after
+    pub steps : Steps (shown_on life (core_on name s r)) conversation k said (shown_on life (core_on name new after))
+    pub journaled : IsTrue modelled → Journaled (shown_on life (core_on name s r)) (shown_on life (core_on name new after))
+
+  untouched : (r : DiskRecorder D) → IsUntouched (life (disk_of r)) (life (disk_of r))
+  untouched r = record { stays = Stays-refl (life (disk_of r)); moment = refl; faults = refl }
+
+  unchanged : (s : CoreState) (r : DiskRecorder D) → IsUnchanged (shown_on life (core_on name s r)) (shown_on life (core_on name s r))
+  unchanged s r = record { name = refl; state = refl; disk = untouched r; room = refl; is_failed = refl }
+
+  -- the core is durable until the device fails
+  pub durable_from : OneCallIsMade life → (s : CoreState) (r : DiskRecorder D) → IsRecorded modelled life name s r → IsTrue modelled → has_failed r ≡ false → IsDurable (shown_on life (core_on name s r))
+  durable_from made s r is modelled_disk going =
+      let there = is.on_disk modelled_disk going in
+      made.durable (core_on name s r) (region_of (journal_of r)) there.entries there.settled.durable there.holds
+
+  module _ (laws : Laws life) (s : CoreState) (r : DiskRecorder D) (is : IsRecorded modelled life name s r) where
+    durable : IsTrue modelled → has_failed r ≡ false → IsDurable (shown_on life (core_on name s r))
+    durable modelled_disk going = durable_from laws.calls_made s r is modelled_disk going
+
+    -- once it has failed nothing is done
+    pub failed : has_failed r ≡ true → Journaled (shown_on life (core_on name s r)) (shown_on life (core_on name s r))
+    failed is_failed = (λ going. absurd (false≢true (sym going ∙ is_failed)), λ before. laws.calls_made.failed (core_on name s r) (core_on name s r) before refl)
+
+    pub is_closed : has_failed r ≡ true → IsClosed (shown_on life (core_on name s r)) closed (shown_on life (core_on name s r))
+    is_closed is_failed = record { failed = is_failed; answer_is = refl; same = unchanged s r }
+
+    module _ (going : has_failed r ≡ false) (conversation : ℕ) (k : Call) where
+      -- what a record asks for
+      pub allowed : (said : UnitRecord) → record_due s conversation k ≡ Some said → Allows modelled life r said
+      allowed said due = record {
+        going = going;
+        inside = is.inside;
+        released_is_held = subst (λ (n : ℕ). released said ≤ n) (sym is.held) (laws.are_of_doubts s conversation k said is.kept due);
+      }
+
+      -- ---- no record
+
+      silent_journaled : (new : CoreState) → durable_part new ≡ durable_part s → IsTrue modelled → Journaled (shown_on life (core_on name s r)) (shown_on life (core_on name new r))
+      silent_journaled new same modelled_disk =
+          (λ still. ([], laws.calls_made.silent (core_on name s r) (core_on name new r) (durable modelled_disk going) (Stays-refl (life (disk_of r))) refl same),
+           λ is_failed. absurd (false≢true (sym going ∙ is_failed)))
+
+      silent_recorded : (new : CoreState) → IsKept new → durable_part new ≡ durable_part s → IsRecorded modelled life name new r
+      silent_recorded new kept same = record {
+        kept = kept;
+        held = is.held ∙ ap (λ (d : Durable). held_for d.doubts) (sym same);
+        inside = is.inside;
+        on_disk = λ modelled_disk still.
+            let there = is.on_disk modelled_disk still in
+            record {
+              entries = there.entries;
+              settled = there.settled;
+              holds = subst (λ (d : Durable). Holds name (region_of (journal_of r)) there.entries d (life (disk_of r)).seen) (sym same) there.holds;
+            };
+      }
+
+      silent_step : record_due s conversation k ≡ None → IsDone s r conversation k (answer s.branches s.base conversation k) (step_state s conversation k) r
+      silent_step none =
+          let same : durable_part (step_state s conversation k) ≡ durable_part s = laws.silent_stay s conversation k is.kept none in
+          record {
+            recorded = silent_recorded (step_state s conversation k) (laws.steps_keep s conversation k is.kept) same;
+            steps = inl (record {
+              going = going;
+              answer_is = refl;
+              state = refl;
+              room = subst (λ (o : Option UnitRecord). RoomAfter o (room_of (journal_of r)) (room_of (journal_of r))) (sym none) refl;
+              faults = refl;
+              still = going;
+            });
+            journaled = silent_journaled (step_state s conversation k) same;
+          }
+
+      out_of_memory : IsDone s r conversation k no_memory s r
+      out_of_memory = record {
+        recorded = is;
+        steps = inr (inl (record { going = going; answer_is = refl; same = unchanged s r }));
+        journaled = silent_journaled s refl;
+      }
+
+      -- ---- a record
+
+      module _ (said : UnitRecord) (due : record_due s conversation k ≡ Some said) where
+        leads : next (durable_part s) said ≡ Some (durable_part (step_state s conversation k))
+        leads = laws.records_lead s conversation k said is.kept due
+
+        holds_for : held_for (durable_part (step_state s conversation k)).doubts + released said ≡ held_for (durable_part s).doubts + held said
+        holds_for = laws.held_for_doubts (durable_part s) (durable_part (step_state s conversation k)) said leads
+
+        fit : (there : IsOnDisk modelled life name s r) → taken said + held said ≤ room_of (journal_of r) + released said
+            → length (laid there.entries) + taken said + 1 + held_for (durable_part (step_state s conversation k)).doubts ≤ (region_of (journal_of r)).length
+        fit there less = fits (region_of (journal_of r)).at (region_of (journal_of r)).length (length (laid there.entries)) (taken said) (held said) (released said) (held_of (journal_of r)) (held_for (durable_part (step_state s conversation k)).doubts) (room_of (journal_of r))
+            (ap (λ (n : ℕ). end_of (region_of (journal_of r)) - n - 1 - held_of (journal_of r)) there.settled.next)
+            (subst (λ (n : ℕ). length (laid there.entries) + 1 + n ≤ (region_of (journal_of r)).length) (sym is.held) there.holds.room)
+            less (holds_for ∙ ap (λ (n : ℕ). n + held said) (sym is.held))
+
+        module _ (after : DiskRecorder D) (made : Records modelled life r said after) where
+          less : taken said + held said ≤ room_of (journal_of r) + released said
+          less = omega (arith, made.room)
+
+          record_on_disk : IsTrue modelled → IsOnDisk modelled life name (step_state s conversation k) after
+          record_on_disk modelled_disk =
+              let there = is.on_disk modelled_disk going in
+              let settled = made.settled there.entries there.settled in
+              let here = subst (λ (g : Region). Stands g (there.entries ++ entry_of said ∷ []) (life (disk_of after)).seen) made.region settled.stands in
+              record {
+                entries = there.entries ++ entry_of said ∷ [];
+                settled = settled;
+                holds = subst (λ (g : Region). Holds name g (there.entries ++ entry_of said ∷ []) (durable_part (step_state s conversation k)) (life (disk_of after)).seen) (sym made.region)
+                    (laws.records_stay name (region_of (journal_of r)) there.entries (durable_part s) (durable_part (step_state s conversation k)) said (life (disk_of r)).seen (life (disk_of after)).seen
+                        there.holds made.good leads (fit there less) made.others here);
+              }
+
+          record_journaled : IsTrue modelled → Journaled (shown_on life (core_on name s r)) (shown_on life (core_on name (step_state s conversation k) after))
+          record_journaled modelled_disk =
+              let there = is.on_disk modelled_disk going in
+              (λ still. (said ∷ [], laws.calls_made.recorded (core_on name s r) (core_on name (step_state s conversation k) after) (region_of (journal_of r)) there.entries said
+                  (durable_part (step_state s conversation k)) there.holds made.good leads (fit there less) (made.moments there.entries there.settled) refl (λ more. refl)),
+               λ is_failed. absurd (false≢true (sym going ∙ is_failed)))
+
+          recorded_step : IsDone s r conversation k (answer s.branches s.base conversation k) (step_state s conversation k) after
+          recorded_step = record {
+            recorded = record {
+              kept = laws.steps_keep s conversation k is.kept;
+              held = omega (arith, made.held, holds_for, is.held);
+              inside = subst (λ (g : Region). end_of g ≤ length (life (disk_of after)).seen) (sym made.region) (subst (λ (n : ℕ). end_of (region_of (journal_of r)) ≤ n) (sym made.others.size) is.inside);
+              on_disk = λ modelled_disk still. record_on_disk modelled_disk;
+            };
+            steps = inl (record {
+              going = going;
+              answer_is = refl;
+              state = refl;
+              room = subst (λ (o : Option UnitRecord). RoomAfter o (room_of (journal_of r)) (room_of (journal_of after))) (sym due) made.room;
+              faults = made.faults;
+              still = made.going;
+            });
+            journaled = record_journaled;
+          }
+
+        -- ---- the device failed
+
+        module _ (after : DiskRecorder D) (left : IsLeftOpen modelled life r said after) where
+          left_journaled : IsTrue modelled → Journaled (shown_on life (core_on name s r)) (shown_on life (core_on name s after))
+          left_journaled modelled_disk =
+              let there = is.on_disk modelled_disk going in
+              (λ still. (said ∷ [], laws.calls_made.recorded (core_on name s r) (core_on name s after) (region_of (journal_of r)) there.entries said
+                  (durable_part (step_state s conversation k)) there.holds left.good leads (fit there left.fits) (left.moments there.entries there.settled) refl
+                  (λ more. absurd (false≢true (sym more ∙ left.failed)))),
+               λ is_failed. absurd (false≢true (sym going ∙ is_failed)))
+
+          failed_step : (said_so : Answer) → said_so ≡ told.refusal_answer error.DeviceFailed → IsDone s r conversation k said_so s after
+          failed_step said_so answer_is = record {
+            recorded = record {
+              kept = is.kept;
+              held = ap (λ (j : Journal). held_of j) left.journal ∙ is.held;
+              inside = subst (λ (j : Journal). end_of (region_of j) ≤ length (life (disk_of after)).seen) (sym left.journal) (subst (λ (n : ℕ). end_of (region_of (journal_of r)) ≤ n) (sym left.others.size) is.inside);
+              on_disk = λ modelled_disk still. absurd (false≢true (sym still ∙ left.failed));
+            };
+            steps = inr (inr (inr (inl (record {
+              going = going;
+              record_is = said;
+              due = due;
+              answer_is = answer_is;
+              name = refl;
+              state = refl;
+              room = ap (λ (j : Journal). room_of j) left.journal;
+              faults = left.faults;
+              failed = left.failed;
+            }))));
+            journaled = left_journaled;
+          }
+
+        -- a record that is refused
+        refused_by : (fault : RecordError) (after : DiskRecorder D) → Fails modelled life r said fault after → IsDone s r conversation k (told.refusal_answer fault) s after
+        refused_by error.NoMemory after same = subst (λ (x : DiskRecorder D). IsDone s r conversation k no_memory s x) (sym same) out_of_memory
+        refused_by (error.Full need room) after no_room =
+            let at_need : told.refusal_answer (error.Full need room) ≡ told.refusal_answer (error.Full (min (taken said + held said - released said) (2 ^ 64 - 1)) (room_of (journal_of r)))
+                = ap (λ (n : ℕ). told.refusal_answer (error.Full n room)) no_room.1.need_is ∙ ap (λ (n : ℕ). told.refusal_answer (error.Full (min (taken said + held said - released said) (2 ^ 64 - 1)) n)) no_room.1.room_is in
+            subst (λ (x : DiskRecorder D). IsDone s r conversation k (told.refusal_answer (error.Full need room)) s x) (sym no_room.0) (record {
+              recorded = is;
+              steps = inr (inr (inl (record { going = going; record_is = said; due = due; answer_is = at_need; less = no_room.1.less; same = unchanged s r })));
+              journaled = silent_journaled s refl;
+            })
+        refused_by error.DeviceFailed after left = failed_step after left (told.refusal_answer error.DeviceFailed) refl
+
+      -- ---- each answer of the core
+
+      taken_by : (o : Option UnitRecord) → record_due s conversation k ≡ o → (after : DiskRecorder D) → told.IsRecorded (Records modelled life) o r after
+          → IsDone s r conversation k (answer s.branches s.base conversation k) (step_state s conversation k) after
+      taken_by None none after same = subst (λ (x : DiskRecorder D). IsDone s r conversation k (answer s.branches s.base conversation k) (step_state s conversation k) x) (sym same) (silent_step none)
+      taken_by (Some said) due after made = recorded_step said due after made
+
+      pub taken_step : (said : Answer) (new : CoreState) (after : DiskRecorder D) → core.Takes (Records modelled life) s conversation k said new r after → IsDone s r conversation k said new after
+      taken_step said new after takes =
+          subst (λ (a : Answer). IsDone s r conversation k a new after) (sym takes.taken.answer_is)
+              (subst (λ (n : CoreState). IsDone s r conversation k (answer s.branches s.base conversation k) n after) (sym takes.taken.state) (taken_by (record_due s conversation k) refl after takes.recorded))
+
+      kept_by : (fault : RecordError) (after : DiskRecorder D) → told.Refuses (Fails modelled life) (record_due s conversation k) fault r after → IsDone s r conversation k (told.refusal_answer fault) s after
+      kept_by fault after (inl out) =
+          subst (λ (f : RecordError). IsDone s r conversation k (told.refusal_answer f) s after) (sym out.fault_is) (subst (λ (x : DiskRecorder D). IsDone s r conversation k no_memory s x) (sym out.recorder) out_of_memory)
+      kept_by fault after (inr refused) = refused_by refused.record_is refused.due_is fault after refused.failed
+
+      pub any_step : (said : Answer) (new : CoreState) (after : DiskRecorder D) → core.Steps (Records modelled life) (Fails modelled life) s conversation k said new r after → IsDone s r conversation k said new after
+      any_step said new after (inl takes) = taken_step said new after takes
+      any_step said new after (inr kept) =
+          subst (λ (a : Answer). IsDone s r conversation k a new after) (sym kept.answer_is)
+              (subst (λ (n : CoreState). IsDone s r conversation k (told.refusal_answer kept.fault) n after) (sym kept.state) (kept_by kept.fault after kept.cause))

@@ -1,0 +1,31 @@
+-- What is read of a store before its core is made.
+use Rattle.std.specs.Prelude.{◌≡◌, ℕ, ◌≤◌, Bool, IsTrue, List, length, string_bytes}
+use Rattle.drda_disk.specs.Disk.{Life}
+use Rattle.drda_disk.specs.Region.{end_of}
+use Rattle.unit_journal.specs.Journal.{IsSettled, held_of, region_of}
+use Rattle.unit_journal.specs.Record.{Entry}
+use Rattle.table_store.specs.TableStore.{store_in}
+use Rattle.durable_units.specs.Durable.{Durable}
+use Rattle.durable_units.specs.Laws.{held_for}
+use Rattle.durable_units.specs.Replay.{doubts_in}
+use Rattle.durable_units.specs.Sound.{IsSound}
+use Rattle.durable_images.specs.Opens.{Holds}
+use Rattle.durable_core.specs.declared.reading.Found.{Found}
+
+abbrev pub name_in : Found → List ℕ
+name_in f = string_bytes f.name
+
+abbrev pub durable_in : Found → Durable
+durable_in f = record { store = store_in f.store; doubts = doubts_in f.units.items }
+
+-- these records stand on the disk to stay, and lead to what was found
+pub record StandsThere (modelled : Bool) (disk : Life) (f : Found) : Type 0 where
+  pub entries : List Entry
+  pub settled : IsSettled modelled disk f.journal entries
+  pub holds : Holds (name_in f) (region_of f.journal) entries (durable_in f) disk.seen
+
+pub record IsFound (modelled : Bool) (disk : Life) (f : Found) : Type 0 where
+  pub sound : IsSound (durable_in f)
+  pub held : held_of f.journal ≡ held_for (durable_in f).doubts
+  pub inside : end_of (region_of f.journal) ≤ length disk.seen
+  pub stands : IsTrue modelled → StandsThere modelled disk f

@@ -1,0 +1,40 @@
+-- What opening a store answers.
+use Rattle.std.specs.Prelude.{◌≡◌, ℕ, false, List, Result, Ok, Err}
+use Rattle.durable_units.specs.Durable.{Durable}
+use Rattle.durable_steps.specs.Part.{opened}
+use Rattle.durable_images.specs.Opens.{OpensTo}
+use Rattle.durable_images.specs.Journaled.{OnDisk}
+use Rattle.durable_core.specs.Reads.{CountsError, IsExcused, TellsNoStore}
+use Rattle.durable_core.specs.declared.errors.Refused.{Refused}
+
+-- the disk, which each answer hands on
+abbrev pub disk_in : {D : Type 0} → Result (OnDisk D) (Refused D) → D
+disk_in (Ok core) = core.disk
+disk_in (Err refused) = refused.disk
+
+-- the core has this name, and these tables and units in doubt, and nothing else; its device has not failed
+pub record IsOpenedTo {D : Type 0} (name : List ℕ) (d : Durable) (core : OnDisk D) : Type 0 where
+  pub named : core.name ≡ name
+  pub state : core.state ≡ opened d
+  pub going : core.is_failed ≡ false
+
+-- just this is opened, or memory or the device is told
+abbrev pub Finds : {D : Type 0} → List ℕ → Durable → Result (OnDisk D) (Refused D) → Type 0
+Finds name d (Ok core) = IsOpenedTo name d core
+Finds name d (Err refused) = IsExcused refused.error
+
+-- what is opened stood there
+pub record StoodThere {D : Type 0} (image : List ℕ) (core : OnDisk D) : Type 0 where
+  pub durable : Durable
+  pub stood : OpensTo core.name durable image
+  pub is : IsOpenedTo core.name durable core
+
+-- the device has failed once more exactly where that is told
+abbrev pub CountsOpen : {D : Type 0} → Result (OnDisk D) (Refused D) → ℕ → ℕ → Type 0
+CountsOpen (Ok core) old new = new ≡ old
+CountsOpen (Err refused) old new = CountsError refused.error old new
+
+-- an image is no store where that is told
+abbrev pub OpensStore : {D : Type 0} → Result (OnDisk D) (Refused D) → List ℕ → Type 0
+OpensStore (Ok core) image = Unit {0}
+OpensStore (Err refused) image = TellsNoStore refused.error image

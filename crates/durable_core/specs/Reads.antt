@@ -1,0 +1,57 @@
+-- What is read of a store, or why it is not.
+use Rattle.std.specs.Prelude.{◌≡◌, ℕ, ◌+◌, ◌^◌, ◌<◌, ◌≤◌, List, length, Result, Ok, Err}
+use Rattle.drda_disk.specs.Region.{end_of}
+use Rattle.drda_disk.specs.declared.region.Region.{Region}
+use Rattle.half_store.specs.Active.{Store, active_of, not_a_store}
+use Rattle.durable_images.specs.Opens.{IsJournal}
+use Rattle.durable_core.specs.declared.errors.OpenError.{OpenError}
+use Rattle.durable_core.specs.declared.errors.OpenError.TheVariants.{Damaged, DeviceFailed, NoMemory, NotAStore}
+
+-- memory was refused or the device failed: nothing is said of the store
+abbrev pub IsExcused : OpenError → Type 0
+IsExcused NotAStore = ⊥
+IsExcused (Damaged at) = ⊥
+IsExcused DeviceFailed = Unit {0}
+IsExcused NoMemory = Unit {0}
+
+-- the device has failed once more exactly where that is told
+abbrev pub CountsError : OpenError → ℕ → ℕ → Type 0
+CountsError NotAStore old new = new ≡ old
+CountsError (Damaged at) old new = new ≡ old
+CountsError DeviceFailed old new = new ≡ old + 1
+CountsError NoMemory old new = new ≡ old
+
+-- an image is no store where that is told
+abbrev pub TellsNoStore : OpenError → List ℕ → Type 0
+TellsNoStore NotAStore image = active_of image ≡ Err not_a_store
+TellsNoStore (Damaged at) image = Unit {0}
+TellsNoStore DeviceFailed image = Unit {0}
+TellsNoStore NoMemory image = Unit {0}
+
+-- no damage is told, and not that it is no store
+abbrev pub IsPlain : {T : Type 0} → Result T OpenError → Type 0
+IsPlain (Ok x) = Unit {0}
+IsPlain (Err e) = IsExcused e
+
+abbrev pub TellsStore : {T : Type 0} → Result T OpenError → List ℕ → Type 0
+TellsStore (Ok x) image = Unit {0}
+TellsStore (Err e) image = TellsNoStore e image
+
+abbrev pub Counts : {T : Type 0} → Result T OpenError → ℕ → ℕ → Type 0
+Counts (Ok x) old new = new ≡ old
+Counts (Err e) old new = CountsError e old new
+
+-- ---- the head
+
+-- an image is a store of this name, without pages, whose journal's region is this
+pub record IsHead (image : List ℕ) (name : List ℕ) (region : Region) : Type 0 where
+  pub store : Store
+  pub active : active_of image ≡ Ok store
+  pub named : store.name ≡ name
+  pub journal : IsJournal (length image) store region
+
+-- the region has a byte at least, and lies in the disk
+pub record IsInside (size : ℕ) (region : Region) : Type 0 where
+  pub some : 0 < region.length
+  pub small : region.length ≤ 2 ^ 32
+  pub inside : end_of region ≤ size

@@ -1,0 +1,33 @@
+-- What holds of every core over a disk.
+use Rattle.std.specs.Prelude.{◌≡◌, ℕ, ◌≤◌, Bool, false, IsTrue, List, length}
+use Rattle.drda_disk.specs.Disk.{Life}
+use Rattle.drda_disk.specs.Region.{end_of}
+use Rattle.unit_journal.specs.Journal.{IsSettled, held_of, region_of, room_of}
+use Rattle.unit_journal.specs.Record.{Entry}
+use Rattle.durable_units.specs.Laws.{held_for}
+use Rattle.core_steps.specs.Step.{CoreState}
+use Rattle.durable_steps.specs.Kept.{IsKept}
+use Rattle.durable_steps.specs.Part.{durable_part}
+use Rattle.disk_recorder.specs.Recording.{disk_of, has_failed, journal_of}
+use Rattle.disk_recorder.specs.declared.recorder.DiskRecorder.{DiskRecorder}
+use Rattle.durable_images.specs.Opens.{Holds}
+use Rattle.durable_images.specs.Journaled.{OnDisk}
+
+-- what is seen of a core, by its name, its state and who records
+abbrev pub core_on : {D : Type 0} → List ℕ → CoreState → DiskRecorder D → OnDisk D
+core_on name state r = record { name = name; state = state; disk = disk_of r; room = room_of (journal_of r); is_failed = has_failed r }
+
+module _ {D : Type 0} (modelled : Bool) (life : D → Life) where
+  -- the records on the disk, which are there to stay, lead to what is durable of the core
+  pub record IsOnDisk (name : List ℕ) (state : CoreState) (r : DiskRecorder D) : Type 0 where
+    pub entries : List Entry
+    pub settled : IsSettled modelled (life (disk_of r)) (journal_of r) entries
+    pub holds : Holds name (region_of (journal_of r)) entries (durable_part state) (life (disk_of r)).seen
+
+  -- The core is kept, and its journal, which lies in the disk, holds the bytes of the decisions of its units in
+  -- doubt back. Until the device fails, all that is durable of it is on the disk.
+  pub record IsRecorded (name : List ℕ) (state : CoreState) (r : DiskRecorder D) : Type 0 where
+    pub kept : IsKept state
+    pub held : held_of (journal_of r) ≡ held_for (durable_part state).doubts
+    pub inside : end_of (region_of (journal_of r)) ≤ length (life (disk_of r)).seen
+    pub on_disk : IsTrue modelled → has_failed r ≡ false → IsOnDisk name state r

@@ -1,0 +1,127 @@
+//! The core over a disk, and its calls.
+
+ghost use Rattle.std.specs.Prelude.{◌≡◌, IfOk, IsTrue, false, string_bytes};
+ghost use Rattle.core_calls.specs.Answer.{answer_of};
+ghost use Rattle.core_calls.specs.Call.{call_of};
+ghost use Rattle.xa_manager.specs.Branch.{in_doubt_xids};
+ghost use Rattle.durable_images.specs.Journaled.{IsDurable, Journaled, shown_on};
+ghost use Rattle.durable_core.specs.Steps.{Loses, Steps};
+
+use core_calls::{Answer, CoreCall};
+use disk_recorder::DiskRecorder;
+use drda_disk::Disk;
+use durable_images::laws::{calls_make_records, records_stay};
+use durable_steps::laws::steps_are_recorded;
+use durable_units::laws::doubts_hold_their_decisions;
+use rdb_core::Core;
+use std::alloc::AllocError;
+use std::marker::Model;
+use xa_manager::Xids;
+
+/// The committed tables, the units of work and the XA branches of a store on a disk. Each call is a
+/// step of the state; what a step commits, prepares or decides is a record in the store's journal first.
+/// A crash at any moment of a call, inside of a device call too, leaves a disk that opens to the tables
+/// and the units in doubt from before the call or from after it; once a call has answered, to those
+/// after it.
+///
+/// Once the device has failed it answers `Closed` and makes no device call: whether the last record is
+/// there shows when the store is opened again.
+#[derive(Drop)]
+pub struct DurableCore<D: Disk> {
+    pub(crate) name: String,
+    pub(crate) core: Core<DiskRecorder<D>>,
+}
+
+impl<D: Disk> Model for DurableCore<D> {
+    ghost use Rattle.std.specs.Prelude.{string_bytes};
+    ghost use Rattle.durable_images.specs.Journaled.{OnDisk};
+
+    ghost Value = { OnDisk D };
+
+    ghost use Rattle.rdb_core.specs.State.{recorder_of, state_of};
+    ghost use Rattle.durable_core.specs.Recorded.{IsRecorded, core_on};
+
+    ghost view = { λ c. core_on (string_bytes c.name) (state_of c.core) (recorder_of c.core) };
+
+    ghost invariant = { λ c. IsRecorded D.is_modelled D.life (string_bytes c.name) (state_of c.core) (recorder_of c.core) };
+}
+
+impl<D: Disk> DurableCore<D> {
+    /// What a conversation asks is answered, and the core takes one step; see `Steps`. `Full` comes where
+    /// the record that is due has no room, with what it needs and what is left; `NoMemory` before any
+    /// device call; `DeviceFailed` in the call in which the device fails, and `Closed` in each later one.
+    /// At each of these the core is as before. On the disk there is at any moment what is durable before
+    /// the call or behind it.
+    pub fn step(&mut self, conversation: u64, call: &CoreCall<'_, '_>) -> Answer
+        ensures step { Steps (shown_on D.life self.old) conversation (call_of call.now) (answer_of result) (shown_on D.life self.new) }
+        ensures journaled { IsTrue D.is_modelled → Journaled (shown_on D.life self.old) (shown_on D.life self.new) }
+    {
+        steps_are_recorded();
+        doubts_hold_their_decisions();
+        records_stay();
+        calls_make_records::<D>();
+        if self.core.recorder().is_failed() {
+            return Answer::Closed;
+        }
+        self.core.step(conversation, call)
+    }
+
+    /// The conversation is lost: its local unit ends, and so does each branch that it was the last to
+    /// start or join, and that is not prepared. Nothing is recorded, and no memory is taken.
+    pub fn lose(&mut self, conversation: u64) -> Answer
+        ensures step { Loses (shown_on D.life self.old) conversation (answer_of result) (shown_on D.life self.new) }
+        ensures journaled { IsTrue D.is_modelled → Journaled (shown_on D.life self.old) (shown_on D.life self.new) }
+    {
+        steps_are_recorded();
+        doubts_hold_their_decisions();
+        records_stay();
+        calls_make_records::<D>();
+        if self.core.recorder().is_failed() {
+            return Answer::Closed;
+        }
+        self.core.lose(conversation)
+    }
+
+    /// The name of the database.
+    pub fn name(&self) -> &str
+        ensures { result.now ≡ self.now.name }
+    {
+        self.name.as_str()
+    }
+
+    /// How many bytes of the journal are left for records.
+    pub fn room(&self) -> usize
+        ensures { result ≡ self.now.room }
+    {
+        self.core.recorder().room()
+    }
+
+    /// Whether the device has failed.
+    pub fn is_failed(&self) -> bool
+        ensures { result ≡ self.now.is_failed }
+    {
+        self.core.recorder().is_failed()
+    }
+
+    /// The XIDs in doubt, ascending by their bytes.
+    pub fn in_doubt(&self) -> Result<Xids, AllocError>
+        ensures { IfOk result (λ xids. xids ≡ in_doubt_xids self.now.state.branches) }
+    {
+        self.core.in_doubt()
+    }
+
+    /// The disk, as the last call left it.
+    pub fn into_disk(self) -> D
+        ensures { result ≡ self.disk }
+    {
+        self.core.into_recorder().into_disk()
+    }
+
+    /// While the device has not failed, what is durable of the core is on the disk to stay. Does nothing.
+    pub fn is_durable(&self)
+        ensures { IsTrue D.is_modelled → self.now.is_failed ≡ false → IsDurable (shown_on D.life self.now) }
+    {
+        calls_make_records::<D>();
+        let _name = &self.name;
+    }
+}

@@ -1,0 +1,35 @@
+//! Units in doubt, prepared again.
+
+ghost use Rattle.std.specs.Prelude.{◌≡◌, OnOk, []};
+ghost use Rattle.durable_units.specs.Replay.{doubts_in};
+ghost use Rattle.durable_units.specs.Sound.{IsSound};
+ghost use Rattle.durable_steps.specs.Part.{opened};
+ghost use Rattle.rdb_core.specs.State.{recorder_of, state_of};
+
+use durable_units::PreparedUnit;
+use rdb_core::Core;
+use recording::Recorder;
+use std::alloc::AllocError;
+use xa_manager::RestoreError;
+
+/// Prepares the branches of units in doubt again, with their units, in a core without any.
+pub(crate) fn restore_all<R: Recorder>(
+    core: &mut Core<R>,
+    units: Vec<PreparedUnit>,
+) -> Result<(), AllocError>
+    requires alone { state_of core.old ≡ opened (record { store = (state_of core.old).base.store; doubts = [] }) }
+    requires sound { IsSound (record { store = (state_of core.old).base.store; doubts = doubts_in units.items }) }
+    ensures restored { OnOk result (state_of core.new ≡ opened (record { store = (state_of core.old).base.store; doubts = doubts_in units.items })) }
+    ensures recorder { recorder_of core.new ≡ recorder_of core.old }
+{
+    let mut left = units;
+    while let Some(unit) = left.pop() {
+        match core.restore(unit.xid, unit.changes, unit.claims) {
+            Ok(()) => {}
+            Err(RestoreError::NoMemory) => return Err(AllocError),
+            Err(RestoreError::Known) => unreachable!(),
+            Err(RestoreError::Full) => unreachable!(),
+        }
+    }
+    Ok(())
+}

@@ -1,0 +1,27 @@
+-- A branch in doubt that is restored with its unit.
+use Rattle.std.specs.Prelude.{Result, Ok, Err, List, [], ℕ}
+use Rattle.tables.specs.Change.{Change}
+use Rattle.unit_locks.specs.Claim.{Claim}
+use Rattle.unit_locks.specs.Claims.{all_added}
+use Rattle.core_steps.specs.Units.{global, set_unit}
+use Rattle.core_steps.specs.Step.{CoreState}
+use Rattle.xa_manager.specs.Branch.{with_branch}
+use Rattle.xa_manager.specs.declared.branch.BranchState.TheVariants.{Prepared}
+use Rattle.xa_manager.specs.declared.branch.Branch.{Branch}
+use Rattle.xa_manager.specs.declared.table.RestoreError.{RestoreError}
+use Rattle.xa_manager.specs.declared.table.RestoreError.TheVariants as error
+use Rattle.xa_manager.specs.Place.{MayRestore, Restores}
+
+-- when each answer is given: as the branch's; memory may be refused to the unit first, whatever the branch
+abbrev pub RestoresUnit : {T : Type 0} → Result T RestoreError → List Branch → List ℕ → Type 0
+RestoresUnit (Ok x) branches xid = MayRestore branches xid
+RestoresUnit (Err error.NoMemory) branches xid = Unit {0}
+RestoresUnit (Err error.Known) branches xid = Restores {T = Unit {0}} (Err error.Known) branches xid
+RestoresUnit (Err error.Full) branches xid = Restores {T = Unit {0}} (Err error.Full) branches xid
+
+-- with a branch in doubt more, and its unit as it was when it was prepared
+abbrev pub with_in_doubt : CoreState → List ℕ → List Change → List Claim → CoreState
+with_in_doubt s xid changes claims = record {
+  base = record { store = s.base.store; units = set_unit (global xid) (record { changes = changes; claims = all_added [] claims }) s.base.units };
+  branches = with_branch s.branches (record { xid = xid; state = Prepared });
+}
