@@ -3,3 +3,4 @@ pub mod Doubted
 pub mod Heads
 pub mod Opened
 pub mod Parts
+pub mod Answered

@@ -9,20 +9,18 @@ use Rattle.unit_journal.specs.declared.journal.Journal.{Journal}
 use Rattle.unit_journal.specs.Laws.{OneReading}
 use Rattle.unit_journal.specs.Record.{Entry, laid}
 use Rattle.unit_journal.specs.Stands.{Stands}
-use Rattle.unit_journal.proofs.Settled.{IsSettled-held}
 use Rattle.durable_units.specs.Durable.{Doubts, Durable, fresh}
 use Rattle.durable_units.specs.Journal.{Leads, OneState}
 use Rattle.durable_units.specs.Laws.{held_for}
-use Rattle.durable_units.specs.Sound.{IsSound, LeadsAreSound}
 use Rattle.durable_images.specs.Opens.{Holds, IsJournal, OpensTo}
 use Rattle.durable_images.specs.Laws.{IsBehindPages, IsThere, OpensThere, OpensToOne}
-use Rattle.durable_core.specs.Reads.{IsExcused, IsHead, IsInside, IsPlain}
-use Rattle.durable_core.specs.Found.{IsFound, StandsThere, durable_in, name_in}
+use Rattle.durable_core.specs.Reads.{IsHead, IsPlain}
+use Rattle.durable_core.specs.Found.{StandsThere, durable_in, name_in}
 use Rattle.durable_core.specs.declared.errors.OpenError.{OpenError}
 use Rattle.durable_core.specs.declared.reading.Found.{Found}
 
-pub excused : {T : Type 0} (r : Result T OpenError) (e : OpenError) → r ≡ Err e → IsPlain r → IsExcused e
-excused {T} r e is plain = subst (λ (x : Result T OpenError). IsPlain x) is plain
+pub passed_on : {T F : Type 0} (r : Result T OpenError) (e : OpenError) (last : Result F OpenError) → r ≡ Err e → last ≡ Err e → IsPlain r → IsPlain last
+passed_on {T} {F} r e last is last_is plain = subst (λ (x : Result F OpenError). IsPlain x) (sym last_is) (subst (λ (x : Result T OpenError). IsPlain x) is plain)
 
 -- the region of a store without pages is what is left behind its pages
 behind : (size : ℕ) (store : Store) (region : Region) → IsJournal size store region → IsBehindPages size store region
@@ -58,30 +56,6 @@ module _ (image : List ℕ) (name : List ℕ) (d : Durable) (opens : OpensTo nam
           let long : (region_of j).length ≡ region.length = ap (λ (g : Region). g.length) place in
           let fits : held_for doubts ≤ room_of j = omega (arith, there.holds.room, held, laid_is, long, none, next) in
           plain fits
-
--- what was found stands there
-module _ (modelled : Bool) (first last : Life) (f : Found) (region : Region) (es : List Entry) (seen : last.seen ≡ first.seen)
-    (inside : IsInside (length first.seen) region) (place : region_of f.journal ≡ region) (led : Leads fresh es (durable_in f))
-    (held : held_of f.journal ≡ held_for (durable_in f).doubts) (fits : next_of f.journal + 1 + held_of f.journal ≤ end_of (region_of f.journal)) where
-  stands_there : IsHead first.seen (name_in f) region → Stands region es first.seen → IsSettled modelled last f.journal es → StandsThere modelled last f
-  stands_there head stands settled =
-      let long : length (laid es) + 1 + held_for (durable_in f).doubts ≤ region.length
-          = omega (arith, fits, settled.next, held, ap (λ (g : Region). g.length) place, ap (λ (g : Region). g.at) place) in
-      record {
-        entries = es;
-        settled = settled;
-        holds = subst (λ (g : Region). Holds (name_in f) g es (durable_in f) last.seen) (sym place)
-            (subst (λ (image : List ℕ). Holds (name_in f) region es (durable_in f) image) (sym seen)
-                (record { store = head.store; active = head.active; named = head.named; journal = head.journal; stands = stands; leads = led; room = long }));
-      }
-
-  pub is_found : LeadsAreSound → (IsTrue modelled → IsHead first.seen (name_in f) region) → (IsTrue modelled → Stands region es first.seen) → (IsTrue modelled → IsSettled modelled last f.journal es) → IsFound modelled last f
-  is_found sound head stands settled = record {
-    sound = sound (durable_in f) es led;
-    held = held;
-    inside = subst (λ (g : Region). end_of g ≤ length last.seen) (sym place) (subst (λ (image : List ℕ). end_of region ≤ length image) (sym seen) inside.inside);
-    stands = λ is. stands_there (head is) (stands is) (settled is);
-  }
 
 -- and it is what opens
 pub finds_one : (modelled : Bool) (last : Life) (image : List ℕ) (f : Found) → OpensToOne → last.seen ≡ image → (name : List ℕ) (d : Durable) → OpensTo name d image → StandsThere modelled last f → (name_in f ≡ name) × (durable_in f ≡ d)

@@ -1,5 +1,5 @@
 -- What is read of a store before its core is made.
-use Rattle.std.specs.Prelude.{◌≡◌, ℕ, ◌≤◌, Bool, IsTrue, List, length, string_bytes, Result, Ok, Err}
+use Rattle.std.specs.Prelude.{◌≡◌, ℕ, ◌≤◌, Bool, IsTrue, List, length, string_bytes}
 use Rattle.drda_disk.specs.Disk.{Life}
 use Rattle.drda_disk.specs.Region.{end_of}
 use Rattle.unit_journal.specs.Journal.{IsSettled, held_of, region_of}
@@ -10,8 +10,6 @@ use Rattle.durable_units.specs.Laws.{held_for}
 use Rattle.durable_units.specs.Replay.{doubts_in}
 use Rattle.durable_units.specs.Sound.{IsSound}
 use Rattle.durable_images.specs.Opens.{Holds}
-use Rattle.durable_core.specs.Reads.{IsExcused}
-use Rattle.durable_core.specs.declared.errors.OpenError.{OpenError}
 use Rattle.durable_core.specs.declared.reading.Found.{Found}
 
 abbrev pub name_in : Found → List ℕ
@@ -31,8 +29,3 @@ pub record IsFound (modelled : Bool) (disk : Life) (f : Found) : Type 0 where
   pub held : held_of f.journal ≡ held_for (durable_in f).doubts
   pub inside : end_of (region_of f.journal) ≤ length disk.seen
   pub stands : IsTrue modelled → StandsThere modelled disk f
-
--- this is found, or memory or the device is told
-abbrev pub FindsParts : List ℕ → Durable → Result Found OpenError → Type 0
-FindsParts name d (Ok f) = (name_in f ≡ name) × (durable_in f ≡ d)
-FindsParts name d (Err e) = IsExcused e

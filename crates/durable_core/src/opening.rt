@@ -4,9 +4,9 @@ ghost use Rattle.std.specs.Prelude.{◌≡◌, IfErr, IfOk, IsTrue, List, ℕ, l
 ghost use Rattle.drda_disk.specs.Disk.{Stays};
 ghost use Rattle.durable_units.specs.Durable.{Durable};
 ghost use Rattle.durable_images.specs.Opens.{OpensTo};
-ghost use Rattle.durable_core.specs.Found.{FindsParts, IsFound, durable_in, name_in};
+ghost use Rattle.durable_core.specs.Found.{IsFound, durable_in, name_in};
 ghost use Rattle.durable_core.specs.Opening.{CountsOpen, Finds, IsOpenedTo, OpensStore, StoodThere, disk_in};
-ghost use Rattle.durable_core.specs.Reads.{Counts, TellsStore};
+ghost use Rattle.durable_core.specs.Reads.{Counts, IsPlain, TellsStore};
 
 use crate::durable::DurableCore;
 use crate::errors::{OpenError, Refused};
@@ -38,6 +38,7 @@ pub fn open<D: Disk>(alloc: Global, disk: D) -> Result<DurableCore<D>, Refused<D
     ensures stays { Stays (D.life disk) (D.life (disk_in result)) }
     ensures cause { CountsOpen result (D.life disk).faults (D.life (disk_in result)).faults }
 {
+    images_open_to_one_state();
     let mut disk = disk;
     match read_store(alloc, &mut disk) {
         Ok(found) => begin(alloc, disk, found),
@@ -48,12 +49,11 @@ pub fn open<D: Disk>(alloc: Global, disk: D) -> Result<DurableCore<D>, Refused<D
 // The parts of the store that a disk is.
 fn read_store<D: Disk>(alloc: Global, disk: &mut D) -> Result<Found, OpenError>
     ensures found { IfOk result (IsFound D.is_modelled (D.life disk.new)) }
-    ensures opens { (name : List ℕ) (d : Durable) → IsTrue D.is_modelled → OpensTo name d (D.life disk.old).seen → FindsParts name d result }
+    ensures opens { (name : List ℕ) (d : Durable) → IsTrue D.is_modelled → OpensTo name d (D.life disk.old).seen → IsPlain result }
     ensures tells { IsTrue D.is_modelled → TellsStore result (D.life disk.old).seen }
     ensures stays { Stays (D.life disk.old) (D.life disk.new) }
     ensures cause { Counts result (D.life disk.old).faults (D.life disk.new).faults }
 {
-    images_open_to_one_state();
     records_lead_one_way();
     records_lead_to_sound_states();
     images_open_there();

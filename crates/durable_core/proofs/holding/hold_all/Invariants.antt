@@ -1,4 +1,4 @@
-use Rattle.std.proofs.Common.{◌≡◌, ◌+◌, ◌≤◌}
+use Rattle.std.proofs.Common.{◌≡◌, ◌+◌, ◌≤◌, length}
 use Rattle.unit_journal.specs.Journal.{held_of, next_of, region_of}
 use Rattle.durable_units.specs.Laws.{held_for}
 use Rattle.durable_units.specs.Replay.{doubts_in}
@@ -13,3 +13,6 @@ invariant-loop-left l =
       region : region_of l.journal ≡ region_of l.fn.journal;
       next : next_of l.journal ≡ next_of l.fn.journal;
     }
+
+abbrev pub decreases-loop-left : goal.decreases-loop-left
+decreases-loop-left l = length l.left

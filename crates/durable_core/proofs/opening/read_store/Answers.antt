@@ -1,0 +1,33 @@
+use Rattle.std.proofs.Common.{rules, ◌≡◌, ℕ, List, Result, Ok, Err, string_bytes, refl, sym, ◌∙◌, ap, subst}
+use Rattle.unit_journal.specs.Record.{Entry, entries_of}
+use Rattle.unit_journal.specs.declared.record.Record.{Record}
+use Rattle.unit_journal.specs.Stands.{Stands}
+use Rattle.durable_units.specs.Durable.{Durable, fresh}
+use Rattle.durable_units.specs.Journal.{Leads}
+use Rattle.durable_units.specs.Replay.{doubts_in, durable_of}
+use Rattle.durable_units.specs.declared.prepared.PreparedUnit.{PreparedUnit}
+use Rattle.durable_core.specs.declared.errors.OpenError.{OpenError}
+use Rattle.durable_core.specs.declared.reading.Found.{Found}
+use Rattle.durable_core.proofs.Parts.{held_plain, journal_plain, passed_on, units_plain}
+use Rattle.durable_core.proofs.opening.read_store.Goals as goal
+
+pub returns-in_err-journal-clause-opens : goal.returns-in_err-journal-clause-opens
+returns-in_err-journal-clause-opens g c name d is opens =
+    passed_on c.read_journal.result c.in_err-journal.field-0.0 c.from_residual-in_err-journal.result (search rules) (search rules)
+        (journal_plain (g.D.Disk.life c.args.disk.now).seen name d opens c.images_open_there.ensures (string_bytes c.in_ok-name.name) c.in_ok-name.region (c.in_ok-name.ensures.head is) c.read_journal.result
+            (λ es stands. c.read_journal.ensures.opens es is (subst (λ (i : List ℕ). Stands c.in_ok-name.region es i) (sym c.in_ok-name.ensures.stays.same) stands)))
+
+pub returns-in_err-read_units-clause-opens : goal.returns-in_err-read_units-clause-opens
+returns-in_err-read_units-clause-opens g c name d is opens =
+    passed_on c.read_units.result c.in_err-read_units.field-0.0 c.from_residual-in_err-read_units.result (search rules) (search rules)
+        (units_plain (g.D.Disk.life c.args.disk.now).seen name d opens c.images_open_there.ensures (string_bytes c.in_ok-name.name) c.in_ok-name.region (c.in_ok-name.ensures.head is) c.a_region_has_one_reading.ensures (entries_of c.in_ok-journal.records.items) (subst (λ (i : List ℕ). Stands c.in_ok-name.region (entries_of c.in_ok-journal.records.items) i) c.in_ok-name.ensures.stays.same (c.in_ok-journal.ensures.stand is)) c.read_units.result
+            (λ e leads. c.read_units.ensures.opens e (subst (λ (rs : List Record). Leads fresh (entries_of rs) e) (sym c.as_slice.ensures.value) leads)))
+
+pub returns-in_err-hold_all-clause-opens : goal.returns-in_err-hold_all-clause-opens
+returns-in_err-hold_all-clause-opens g c name d is opens =
+    passed_on c.hold_all.result c.in_err-hold_all.field-0.0 c.from_residual-in_err-hold_all.result (search rules) (search rules)
+        (held_plain (g.D.Disk.life c.args.disk.now).seen name d opens c.images_open_there.ensures (string_bytes c.in_ok-name.name) c.in_ok-name.region (c.in_ok-name.ensures.head is) c.a_region_has_one_reading.ensures (entries_of c.in_ok-journal.records.items) (subst (λ (i : List ℕ). Stands c.in_ok-name.region (entries_of c.in_ok-journal.records.items) i) c.in_ok-name.ensures.stays.same (c.in_ok-journal.ensures.stand is)) c.hold_all.result
+            c.records_lead_one_way.ensures.one (durable_of c.in_ok-read_units.field-0)
+            (subst (λ (rs : List Record). Leads fresh (entries_of rs) (durable_of c.in_ok-read_units.field-0)) c.as_slice.ensures.value c.in_ok-read_units.ensures.leads)
+            c.in_ok-journal.journal c.in_ok-journal.ensures.region.0 c.in_ok-journal.ensures.region.1 (c.in_ok-journal.ensures.records is).settled.next
+            (doubts_in c.as_slice-2.result.now) (ap (λ (us : List PreparedUnit). doubts_in us) c.as_slice-2.ensures.value ∙ c.into_parts-store.ensures.units) c.hold_all.ensures.opens)
