@@ -1,2 +1,1 @@
-pub mod Flushing
-pub mod Words
+pub mod Hearing

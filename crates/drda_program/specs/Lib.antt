@@ -1,3 +1,2 @@
 pub mod Endings
-pub mod CommandLine
-pub mod Program
+pub mod Talking

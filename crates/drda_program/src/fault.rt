@@ -1,5 +1,8 @@
 //! Why the program ends without success.
 
+ghost use Rattle.std.specs.Prelude.{◌≡◌};
+ghost use Rattle.drda_program.specs.Endings.{status_for};
+
 use command_line::BadWords;
 use std::alloc::AllocError;
 use thiserror::Error;
@@ -29,7 +32,9 @@ pub enum Fault {
 
 impl Fault {
     /// The exit status.
-    pub fn status(self) -> u8 {
+    pub fn status(self) -> u8
+        ensures { result ≡ status_for self }
+    {
         match self {
             Fault::BadArguments => 1,
             Fault::Device => 2,
@@ -42,6 +47,10 @@ impl Fault {
 }
 
 impl From<AllocError> for Fault {
+    ghost use Rattle.drda_program.specs.declared.fault.Fault.TheVariants.{NoMemory};
+
+    ghost from_gives = { λ _ fault. fault ≡ NoMemory };
+
     fn from(_: AllocError) -> Fault {
         Fault::NoMemory
     }

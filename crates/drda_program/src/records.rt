@@ -1,5 +1,8 @@
 //! Event records on two streams.
 
+ghost use Rattle.std.specs.Prelude.{◌≡◌};
+ghost use Rattle.drda_program.specs.Endings.{result_for};
+
 use crate::fault::Fault;
 use command_line::Login;
 use conversation::{Settings, SettingsError};
@@ -27,7 +30,9 @@ pub(crate) fn node_over<D: Disk + Drop>(
 }
 
 // What is reported of a run, by its end and by whether the last flush succeeded.
-fn result_of(end: RunEnd, is_flushed: bool) -> Result<(), Fault> {
+fn result_of(end: RunEnd, is_flushed: bool) -> Result<(), Fault>
+    ensures { result ≡ result_for end is_flushed }
+{
     if !is_flushed {
         return Err(Fault::Device);
     }
