@@ -1,15 +1,14 @@
 -- Two stretches of bytes, one after the other: their readings, what is done, and what is heard.
-use Rattle.std.proofs.Common.{◌≡◌, ℕ, true, false, List, [], ◌∷◌, ◌++◌, refl, sym, ap, subst, ◌∙◌, append_assoc, append-nil, inl, inr}
+use Rattle.std.proofs.Common.{◌≡◌, ℕ, true, false, List, [], ◌∷◌, ◌++◌, sym, ap, subst, ◌∙◌, append_assoc, append-nil, inl, inr}
 use Rattle.dss_frames.specs.Dss.{Dss}
 use Rattle.dss_frames.specs.declared.fault.FrameFault.{FrameFault}
 use Rattle.dss_frames.specs.Fault.{BeginsWith, FaultAt}
 use Rattle.dss_frames.specs.Reading.{End, unfinished, faulty, Reads}
-use Rattle.core_steps.specs.Step.{CoreState}
 use Rattle.conversation.specs.Settings.{Settings}
 use Rattle.conversation.specs.Standing.{Standing}
 use Rattle.conversation.specs.Done.{DoesAll}
-use Rattle.conversation.specs.Steps.{ClosesWithin, Converses, Ends, ReadsAll}
-use Rattle.drda_node.specs.Asking.{asks}
+use Rattle.conversation.specs.Steps.{Converses, Ends, ReadsAll}
+use Rattle.drda_node.specs.Asking.{AskedCore, asks}
 use Rattle.drda_node.specs.Hearing.{Attended, Hears}
 
 -- ---- readings
@@ -38,28 +37,28 @@ stand_in_front (command ∷ commands) text left p =
     }
 
 module _ (settings : Settings) (place : ℕ) where
-  does_then : (before after : List (List Dss)) (s between last : Standing CoreState) (x y : List ℕ) → DoesAll (asks place) settings s before x between → DoesAll (asks place) settings between after y last
+  does_then : (before after : List (List Dss)) (s between last : Standing AskedCore) (x y : List ℕ) → DoesAll (asks place) settings s before x between → DoesAll (asks place) settings between after y last
       → DoesAll (asks place) settings s (before ++ after) (x ++ y) last
   does_then [] after s between last x y p q =
-      subst (λ (z : List ℕ). DoesAll (asks place) settings s after (z ++ y) last) (sym p.0) (subst (λ (t : Standing CoreState). DoesAll (asks place) settings t after y last) p.1 q)
+      subst (λ (z : List ℕ). DoesAll (asks place) settings s after (z ++ y) last) (sym p.0) (subst (λ (t : Standing AskedCore). DoesAll (asks place) settings t after y last) p.1 q)
   does_then (command ∷ before) after s between last x y p q =
       (p.0, p.1 ++ y, p.2, p.3, ap (λ (z : List ℕ). z ++ y) p.4 ∙ append_assoc p.0 p.1 y, does_then before after p.2 between last p.1 y p.5 q)
 
   -- what an open conversation has read ends in the middle of a command
-  reads_so_far_at : (end : End) (s between : Standing CoreState) (text x left : List ℕ) → (p : ReadsAll (asks place) settings s text x left between) → between.session.is_closed ≡ false
+  reads_so_far_at : (end : End) (s between : Standing AskedCore) (text x left : List ℕ) → (p : ReadsAll (asks place) settings s text x left between) → between.session.is_closed ≡ false
       → Reads text p.commands end → Ends (asks place) p.between end p.closing left between → Reads text p.commands (unfinished left)
   reads_so_far_at (unfinished rest) s between text x left p still_open reads ends = subst (λ (z : List ℕ). Reads text p.commands (unfinished z)) (sym ends.1) reads
   reads_so_far_at (faulty fault) s between text x left p still_open reads ends =
-      let shut : true ≡ false = sym (ap (λ (t : Standing CoreState). t.session.is_closed) ends.1) ∙ still_open in
+      let shut : true ≡ false = sym (ap (λ (t : Standing AskedCore). t.session.is_closed) ends.1) ∙ still_open in
       absurd (cc shut)
 
-  pub reads_so_far : (s between : Standing CoreState) (text x left : List ℕ) → Converses (asks place) settings s text x left between → between.session.is_closed ≡ false
+  pub reads_so_far : (s between : Standing AskedCore) (text x left : List ℕ) → Converses (asks place) settings s text x left between → between.session.is_closed ≡ false
       → (commands : List (List Dss)) × Reads text commands (unfinished left)
   reads_so_far s between text x left (inl p) still_open = (p.commands, reads_so_far_at p.end s between text x left p still_open p.reads p.ends)
   reads_so_far s between text x left (inr p) still_open = let both : true ≡ false = sym p.closed_there ∙ still_open in absurd (cc both)
 
   -- a text that ends in the middle of a command, and bytes behind it
-  reads_all_then : (end : End) (s between last : Standing CoreState) (text more x y left remains : List ℕ) → (p : ReadsAll (asks place) settings s text x left between) → between.session.is_closed ≡ false
+  reads_all_then : (end : End) (s between last : Standing AskedCore) (text more x y left remains : List ℕ) → (p : ReadsAll (asks place) settings s text x left between) → between.session.is_closed ≡ false
       → Converses (asks place) settings between (left ++ more) y remains last → Reads text p.commands end → Ends (asks place) p.between end p.closing left between
       → Converses (asks place) settings s (text ++ more) (x ++ y) remains last
   reads_all_then (unfinished rest) s between last text more x y left remains p still_open (inl q) reads ends =
@@ -71,7 +70,7 @@ module _ (settings : Settings) (place : ℕ) where
         replies = p.replies ++ q.replies;
         closing = q.closing;
         between = q.between;
-        does = does_then p.commands q.commands s p.between q.between p.replies q.replies p.does (subst (λ (t : Standing CoreState). DoesAll (asks place) settings t q.commands q.replies q.between) ends.2 q.does);
+        does = does_then p.commands q.commands s p.between q.between p.replies q.replies p.does (subst (λ (t : Standing AskedCore). DoesAll (asks place) settings t q.commands q.replies q.between) ends.2 q.does);
         still_open = q.still_open;
         ends = q.ends;
         written = ap (λ (z : List ℕ). z ++ y) silent ∙ ap (λ (z : List ℕ). p.replies ++ z) q.written ∙ sym (append_assoc p.replies q.replies q.closing);
@@ -87,14 +86,14 @@ module _ (settings : Settings) (place : ℕ) where
         commands = p.commands ++ q.commands;
         reads = stands.reads q.front q.commands (unfinished []) q.reads;
         does = subst (λ (z : List ℕ). DoesAll (asks place) settings s (p.commands ++ q.commands) (z ++ y) last) (sym silent)
-            (does_then p.commands q.commands s p.between last p.replies y p.does (subst (λ (t : Standing CoreState). DoesAll (asks place) settings t q.commands y last) ends.2 q.does));
+            (does_then p.commands q.commands s p.between last p.replies y p.does (subst (λ (t : Standing AskedCore). DoesAll (asks place) settings t q.commands y last) ends.2 q.does));
         closed_there = q.closed_there;
       })
   reads_all_then (faulty fault) s between last text more x y left remains p still_open q reads ends =
-      let shut : true ≡ false = sym (ap (λ (t : Standing CoreState). t.session.is_closed) ends.1) ∙ still_open in
+      let shut : true ≡ false = sym (ap (λ (t : Standing AskedCore). t.session.is_closed) ends.1) ∙ still_open in
       absurd (cc shut)
 
-  converses_then : (s between last : Standing CoreState) (text more x y left remains : List ℕ) → Converses (asks place) settings s text x left between → between.session.is_closed ≡ false
+  converses_then : (s between last : Standing AskedCore) (text more x y left remains : List ℕ) → Converses (asks place) settings s text x left between → between.session.is_closed ≡ false
       → Converses (asks place) settings between (left ++ more) y remains last → Converses (asks place) settings s (text ++ more) (x ++ y) remains last
   converses_then s between last text more x y left remains (inl p) still_open q = reads_all_then p.end s between last text more x y left remains p still_open q p.reads p.ends
   converses_then s between last text more x y left remains (inr p) still_open q = let both : true ≡ false = sym p.closed_there ∙ still_open in absurd (cc both)
@@ -105,10 +104,10 @@ module _ (settings : Settings) (place : ℕ) (fault_more : (bytes more : List �
   faulty_more (command ∷ commands) text more fault p = (p.0 ++ more, command_more text more p.0 command p.1, faulty_more commands p.0 more fault p.2)
 
   -- behind a fault anything may stand
-  reads_all_closed : (end : End) (s last : Standing CoreState) (text more x left : List ℕ) → last.session.is_closed ≡ true → (p : ReadsAll (asks place) settings s text x left last)
+  reads_all_closed : (end : End) (s last : Standing AskedCore) (text more x left : List ℕ) → last.session.is_closed ≡ true → (p : ReadsAll (asks place) settings s text x left last)
       → Reads text p.commands end → Ends (asks place) p.between end p.closing left last → Converses (asks place) settings s (text ++ more) x left last
   reads_all_closed (unfinished rest) s last text more x left shut p reads ends =
-      let still : true ≡ false = sym shut ∙ ap (λ (t : Standing CoreState). t.session.is_closed) ends.2 ∙ p.still_open in
+      let still : true ≡ false = sym shut ∙ ap (λ (t : Standing AskedCore). t.session.is_closed) ends.2 ∙ p.still_open in
       absurd (cc still)
   reads_all_closed (faulty fault) s last text more x left shut p reads ends = inl (record {
     commands = p.commands;
@@ -124,7 +123,7 @@ module _ (settings : Settings) (place : ℕ) (fault_more : (bytes more : List �
   })
 
   -- and so it may behind a command that closes the conversation
-  converses_closed : (s last : Standing CoreState) (text more x left : List ℕ) → last.session.is_closed ≡ true → Converses (asks place) settings s text x left last
+  converses_closed : (s last : Standing AskedCore) (text more x left : List ℕ) → last.session.is_closed ≡ true → Converses (asks place) settings s text x left last
       → Converses (asks place) settings s (text ++ more) x left last
   converses_closed s last text more x left shut (inl p) = reads_all_closed p.end s last text more x left shut p p.reads p.ends
   converses_closed s last text more x left shut (inr p) = inr (record {

@@ -1,5 +1,7 @@
 pub mod Written
+pub mod Cores
 pub mod Askers
+pub mod Journal
 pub mod Conversing
 pub mod Stepping
 pub mod Pieces

@@ -7,11 +7,11 @@ use Rattle.dss_frames.specs.Fault.{FaultAt}
 use Rattle.dss_frames.specs.Reading.{unfinished, Reads}
 use Rattle.conversation.specs.Settings.{Settings}
 use Rattle.conversation.specs.Held.{Held}
-use Rattle.core_steps.specs.Step.{CoreState}
 use Rattle.drda_node.specs.Hearing.{Attended, Hears}
 use Rattle.drda_node.specs.declared.fed.Fed.{Fed}
 use Rattle.drda_node.specs.declared.fed.FedState.{FedState}
 use Rattle.drda_node.specs.declared.fed.FedState.TheVariants.{Open, Closed, Later}
+use Rattle.drda_node.specs.Asking.{AskedCore}
 use Rattle.drda_node.specs.Feeding.{IsBetweenCommands, IsLeft, EndsAtFault, EndsWithCommand, Told, Takes, LeftAs, bytes_behind, with_core}
 use Rattle.drda_node.proofs.Conversing.{reads_then, reads_so_far}
 use Rattle.drda_node.proofs.Stepping.{told_start, told_more, within_piece, none_more, left_more, more_taken}
@@ -28,7 +28,7 @@ nothing_or_some : (piece : List ℕ) → IsLeft 0 piece
 nothing_or_some [] = inr refl
 nothing_or_some (b ∷ piece) = inl (omega arith)
 
-pub starts : (place : ℕ) (held : Held) (core : CoreState) (piece out : List ℕ) → IsBetweenCommands held → held.session.is_closed ≡ false → IsUnderWay held.settings place (with_core held core) piece out 0 (with_core held core) out
+pub starts : (place : ℕ) (held : Held) (core : AskedCore) (piece out : List ℕ) → IsBetweenCommands held → held.session.is_closed ≡ false → IsUnderWay held.settings place (with_core held core) piece out 0 (with_core held core) out
 starts place held core piece out settled is_open = record {
   within = omega arith;
   told = told_start place held core out settled;
@@ -38,7 +38,7 @@ starts place held core piece out settled is_open = record {
 }
 
 -- it was closed before
-pub stays_closed : (place : ℕ) (held : Held) (core : CoreState) (piece out : List ℕ) → IsBetweenCommands held → held.session.is_closed ≡ true
+pub stays_closed : (place : ℕ) (held : Held) (core : AskedCore) (piece out : List ℕ) → IsBetweenCommands held → held.session.is_closed ≡ true
     → Takes held.settings place (with_core held core) piece out (record { taken = 0; state = Closed }) (with_core held core) out
 stays_closed place held core piece out settled shut = record {
   within = omega arith;

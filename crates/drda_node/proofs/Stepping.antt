@@ -16,8 +16,7 @@ use Rattle.conversation.specs.Exchange.{excused}
 use Rattle.conversation.specs.Standing.{Standing, standing}
 use Rattle.conversation.specs.Done.{Does}
 use Rattle.conversation.specs.Steps.{Steps, Converses, KeepsToOne}
-use Rattle.core_steps.specs.Step.{CoreState}
-use Rattle.drda_node.specs.Asking.{asks}
+use Rattle.drda_node.specs.Asking.{AskedCore, asks}
 use Rattle.drda_node.specs.Hearing.{Attended, Hears}
 use Rattle.drda_node.specs.declared.fed.Fed.{Fed}
 use Rattle.drda_node.specs.declared.fed.FedState.{FedState}
@@ -41,7 +40,7 @@ NeedIs Closed part new = new.session.is_closed ≡ true
 abbrev pub IsWhole : Held → List ℕ → Type 0
 IsWhole old part = (0 < length part) × ((commands : List (List Dss)) × Reads (old.rest ++ part) commands (unfinished []))
 
-pub record Stepped (place : ℕ) (old : Held) (core : CoreState) (part out : List ℕ) (need : Need) (new : Held) (core' : CoreState) (out' : List ℕ) : Type 0 where
+pub record Stepped (place : ℕ) (old : Held) (core : AskedCore) (part out : List ℕ) (need : Need) (new : Held) (core' : AskedCore) (out' : List ℕ) : Type 0 where
   pub told : Told old.settings place (with_core old core) part out (reply_behind need) (with_core new core') out'
   pub settled : IsBetweenCommands new
   pub settings : new.settings ≡ old.settings
@@ -61,7 +60,7 @@ excused_open session (request ∷ objects) still_open = ap (λ (b : Bool). b || 
 
 module _ (nothing : IsUnfinished []) (place : ℕ) where
   -- one command, and no byte behind it
-  one_command : (settings : Settings) (s next : Standing CoreState) (text rest bytes : List ℕ) (command : List Dss) → BeginsWith text command rest → rest ≡ []
+  one_command : (settings : Settings) (s next : Standing AskedCore) (text rest bytes : List ℕ) (command : List Dss) → BeginsWith text command rest → rest ≡ []
       → Does (asks place) settings s command bytes next → next.session.is_closed ≡ false → Converses (asks place) settings s text bytes rest next
   one_command settings s next text rest bytes command taken none does still_open = inl (record {
     commands = command ∷ [];
@@ -77,7 +76,7 @@ module _ (nothing : IsUnfinished []) (place : ℕ) where
   })
 
   -- and it closes the conversation
-  last_command : (settings : Settings) (s next : Standing CoreState) (text rest left bytes : List ℕ) (command : List Dss) → BeginsWith text command rest → rest ≡ []
+  last_command : (settings : Settings) (s next : Standing AskedCore) (text rest left bytes : List ℕ) (command : List Dss) → BeginsWith text command rest → rest ≡ []
       → Does (asks place) settings s command bytes next → next.session.is_closed ≡ true → Converses (asks place) settings s text bytes left next
   last_command settings s next text rest left bytes command taken none does shut = inr (record {
     front = text;
@@ -89,7 +88,7 @@ module _ (nothing : IsUnfinished []) (place : ℕ) where
     closed_there = shut;
   })
 
-  pub steps : (old : Held) (core : CoreState) (part out : List ℕ) (wanted : ℕ) (need : Need) (new : Held) (core' : CoreState) (out' : List ℕ) → IsBetweenCommands old
+  pub steps : (old : Held) (core : AskedCore) (part out : List ℕ) (wanted : ℕ) (need : Need) (new : Held) (core' : AskedCore) (out' : List ℕ) → IsBetweenCommands old
       → (old.session.is_closed ≡ true → part ≡ []) → KeepsToOne old.rest wanted → length part ≤ wanted
       → Steps (asks place) (record old { rest = old.rest ++ part }) core out need new core' out' → Stepped place old core part out need new core' out'
   steps old core part out wanted Bytes new core' out' settled none keeps few s =
@@ -140,7 +139,7 @@ module _ (nothing : IsUnfinished []) (place : ℕ) where
   steps old core part out wanted (Short bytes) new core' out' settled none keeps few s =
       let alone : new.rest ≡ [] = keeps part s.command new.rest (settled s.open_still) few s.taken in
       let still_open : new.session.is_closed ≡ false =
-      ap (λ (t : Standing CoreState). t.session.is_closed) s.excused.same ∙ excused_open old.session s.command s.open_still in
+      ap (λ (t : Standing AskedCore). t.session.is_closed) s.excused.same ∙ excused_open old.session s.command s.open_still in
       record {
         told = record {
           replies = [];
@@ -220,7 +219,7 @@ module _ (nothing : IsUnfinished []) (place : ℕ) where
       }
 
   -- the same of a piece of which so many bytes were taken
-  pub handed : (old fed : Held) (core : CoreState) (part out : List ℕ) (count : ℕ) (need : Need) (new : Held) (core' : CoreState) (out' : List ℕ) → IsBetweenCommands old → KeepsToOne old.rest (length part)
+  pub handed : (old fed : Held) (core : AskedCore) (part out : List ℕ) (count : ℕ) (need : Need) (new : Held) (core' : AskedCore) (out' : List ℕ) → IsBetweenCommands old → KeepsToOne old.rest (length part)
       → fed ≡ record old { rest = old.rest ++ take count part } → count ≤ length part → (old.session.is_closed ≡ true → count ≡ 0)
       → Steps (asks place) fed core out need new core' out' → Stepped place old core (take count part) out need new core' out'
   handed old fed core part out count need new core' out' settled keeps is within none s =
@@ -244,7 +243,7 @@ closed_or_open true = inl refl
 closed_or_open false = inr refl
 
 -- nothing is heard in no bytes
-told_nothing : (place : ℕ) (held : Held) (core : CoreState) (out : List ℕ) → (held.session.is_closed ≡ true) ⊎ (held.session.is_closed ≡ false) → IsBetweenCommands held
+told_nothing : (place : ℕ) (held : Held) (core : AskedCore) (out : List ℕ) → (held.session.is_closed ≡ true) ⊎ (held.session.is_closed ≡ false) → IsBetweenCommands held
     → Told held.settings place (with_core held core) [] out [] (with_core held core) out
 told_nothing place held core out (inl shut) settled = record { replies = []; appended = sym (append-nil out); hears = inr (record { closed = shut; silent = refl; same = refl }) }
 told_nothing place held core out (inr is_open) settled = record {
@@ -267,7 +266,7 @@ told_nothing place held core out (inr is_open) settled = record {
   });
 }
 
-pub told_start : (place : ℕ) (held : Held) (core : CoreState) (out : List ℕ) → IsBetweenCommands held → Told held.settings place (with_core held core) [] out [] (with_core held core) out
+pub told_start : (place : ℕ) (held : Held) (core : AskedCore) (out : List ℕ) → IsBetweenCommands held → Told held.settings place (with_core held core) [] out [] (with_core held core) out
 told_start place held core out settled = told_nothing place held core out (closed_or_open held.session.is_closed) settled
 
 -- the bytes of a piece that were taken so far, and some more
@@ -303,7 +302,7 @@ ends_now before part count within unfinished_rest keeps (inr (some, (commands, w
     inr (record { some = taken_some count part some; commands = commands; whole = whole })
 
 -- the state, by whether all of the bytes were taken
-pub moved : (place : ℕ) (need : Need) (all : Bool) (old : Held) (core : CoreState) (part out : List ℕ) (count : ℕ) (new : Held) (core' : CoreState) (out' : List ℕ) → count ≤ length part → (all ≡ true → count ≡ length part)
+pub moved : (place : ℕ) (need : Need) (all : Bool) (old : Held) (core : AskedCore) (part out : List ℕ) (count : ℕ) (new : Held) (core' : AskedCore) (out' : List ℕ) → count ≤ length part → (all ≡ true → count ≡ length part)
     → (all ≡ false → count < length part) → (old.session.is_closed ≡ true → count ≡ 0) → IsBetweenCommands old → KeepsToWanted old.rest (length part) → Stepped place old core (take count part) out need new core' out'
     → Takes old.settings place (with_core old core) part out (record { taken = count; state = state_for need all }) (with_core new core') out'
 moved place Bytes true old core part out count new core' out' within whole few none settled keeps s = record {

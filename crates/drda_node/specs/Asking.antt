@@ -1,31 +1,91 @@
 -- Who is asked: the core, for one conversation, which it knows by its place in the row. What a conversation
 -- leaves unfinished goes with it when it is lost, so that another one may have its place.
-use Rattle.std.specs.Prelude.{◌≡◌, ◌⊎◌, ℕ}
+use Rattle.std.specs.Prelude.{◌≡◌, ◌⊎◌, ℕ, ◌+◌, ◌-◌, ◌^◌, ◌<◌, min, Bool, true, false, IsTrue, Some, if◌then◌else◌}
+use Rattle.drda_disk.specs.Disk.{Life}
+use Rattle.unit_records.specs.Records.{UnitRecord}
+use Rattle.unit_records.specs.Room.{held, released, taken}
+use Rattle.core_calls.specs.Call as call
 use Rattle.core_calls.specs.Call.{Call}
-use Rattle.core_calls.specs.Answer.{Answer, no_memory}
-use Rattle.core_steps.specs.Step.{CoreState}
-use Rattle.rdb_core.specs.State.{state_of}
-use Rattle.rdb_core.specs.Steps.{IsTaken}
+use Rattle.core_calls.specs.Answer.{Answer, closed, device_failed, full, no_memory}
+use Rattle.core_steps.specs.Step.{CoreState, answer as answer_to, step_state}
+use Rattle.recording.specs.Due.{record_due}
+use Rattle.durable_images.specs.Journaled.{Journaled, OnDisk, shown_on}
 use Rattle.drda_node.specs.declared.asker.Asker.{Asker}
 
--- out of memory: the core stays as it is
-pub record IsExcused (old : CoreState) (answer : Answer) (new : CoreState) : Type 0 where
+-- what a core is to those who ask it: its state, and whether the device has failed
+pub record AskedCore : Type 0 where
+  pub state : CoreState
+  pub has_failed : Bool
+
+-- the answer and the state behind it are those of the step
+pub record IsTaken (old : AskedCore) (place : ℕ) (call : Call) (answer : Answer) (new : AskedCore) : Type 0 where
+  pub going : old.has_failed ≡ false
+  pub answer_is : answer ≡ answer_to old.state.branches old.state.base place call
+  pub state : new.state ≡ step_state old.state place call
+  pub still : new.has_failed ≡ false
+
+-- ---- excuses: the call is not done
+
+-- out of memory
+pub record FindsNoMemory (old : AskedCore) (answer : Answer) (new : AskedCore) : Type 0 where
+  pub going : old.has_failed ≡ false
   pub answer_is : answer ≡ no_memory
   pub same : new ≡ old
 
+-- the record that is due, and what it holds back, are longer than the room of the journal and what it releases
+pub record FindsNoRoom (old : AskedCore) (place : ℕ) (call : Call) (answer : Answer) (new : AskedCore) : Type 0 where
+  pub going : old.has_failed ≡ false
+  pub record_is : UnitRecord
+  pub due : record_due old.state place call ≡ Some record_is
+  pub room : ℕ
+  pub answer_is : answer ≡ full (min (taken record_is + held record_is - released record_is) (2 ^ 64 - 1)) room
+  pub less : room + released record_is < taken record_is + held record_is
+  pub same : new ≡ old
+
+-- the device failed where the call's record was to be made
+pub record FailsHere (old : AskedCore) (place : ℕ) (call : Call) (answer : Answer) (new : AskedCore) : Type 0 where
+  pub going : old.has_failed ≡ false
+  pub record_is : UnitRecord
+  pub due : record_due old.state place call ≡ Some record_is
+  pub answer_is : answer ≡ device_failed
+  pub state : new.state ≡ old.state
+  pub failed : new.has_failed ≡ true
+
+-- it had failed before
+pub record IsClosed (old : AskedCore) (answer : Answer) (new : AskedCore) : Type 0 where
+  pub failed : old.has_failed ≡ true
+  pub answer_is : answer ≡ closed
+  pub same : new ≡ old
+
+abbrev pub IsExcused : AskedCore → ℕ → Call → Answer → AskedCore → Type 0
+IsExcused old place call answer new =
+    FindsNoMemory old answer new ⊎ (FindsNoRoom old place call answer new ⊎ (FailsHere old place call answer new ⊎ IsClosed old answer new))
+
 -- the core takes the step of this conversation's call, and answers it
-abbrev pub asks : ℕ → CoreState → Call → Answer → CoreState → Type 0
-asks place old call answer new = IsTaken old place call answer new ⊎ IsExcused old answer new
+abbrev pub asks : ℕ → AskedCore → Call → Answer → AskedCore → Type 0
+asks place old call answer new = IsTaken old place call answer new ⊎ IsExcused old place call answer new
+
+-- what is left of the core where a conversation is lost: its units end; once the device has failed nothing is done
+abbrev pub left_by : AskedCore → ℕ → AskedCore
+left_by old place = record { state = if old.has_failed then old.state else step_state old.state place call.lost; has_failed = old.has_failed }
 
 -- ---- in code
 
-abbrev pub core_of : Asker → CoreState
-core_of asker = state_of asker.core.now
+abbrev pub asked_of : {D : Type 0} → OnDisk D → AskedCore
+asked_of s = record { state = s.state; has_failed = s.is_failed }
+
+abbrev pub core_of : {D : Type 0} → Asker D → AskedCore
+core_of asker = asked_of asker.core.now
 
 -- the same core is asked for the same conversation afterwards
-pub record IsSameAsker (old new : Asker) : Type 0 where
+pub record IsSameAsker {D : Type 0} (old new : Asker D) : Type 0 where
   pub core : new.core.ghost_name ≡ old.core.ghost_name
   pub conversation : new.conversation ≡ old.conversation
 
-abbrev pub asks_of : Asker → Call → Answer → Asker → Type 0
-asks_of old call answer new = IsSameAsker old new × asks old.conversation (core_of old) call answer (core_of new)
+-- what a crash leaves, where the disk gives back what was written
+abbrev pub IsJournaled : {D : Type 0} → Bool → (D → Life) → OnDisk D → OnDisk D → Type 0
+IsJournaled modelled life old new = IsTrue modelled → Journaled (shown_on life old) (shown_on life new)
+
+abbrev pub asks_of : {D : Type 0} → Bool → (D → Life) → Asker D → Call → Answer → Asker D → Type 0
+asks_of modelled life old call answer new =
+    IsSameAsker old new × asks old.conversation (core_of old) call answer (core_of new) × IsJournaled modelled life old.core.now new.core.now

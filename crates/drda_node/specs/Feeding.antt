@@ -9,7 +9,7 @@ use Rattle.conversation.specs.declared.front.Need.TheVariants.{Bytes, Local, Sho
 use Rattle.conversation.specs.Settings.{Settings}
 use Rattle.conversation.specs.Held.{Held}
 use Rattle.conversation.specs.Standing.{standing}
-use Rattle.core_steps.specs.Step.{CoreState}
+use Rattle.drda_node.specs.Asking.{AskedCore}
 use Rattle.drda_node.specs.declared.fed.Fed.{Fed}
 use Rattle.drda_node.specs.declared.fed.FedState.{FedState}
 use Rattle.drda_node.specs.declared.fed.FedState.TheVariants.{Open, Closed, Short, Later}
@@ -80,7 +80,7 @@ IsBetweenCommands held = held.session.is_closed ≡ false → IsUnfinished held.
 abbrev pub shown_held : Held → Conversation
 shown_held held = record { rest = held.rest; session = held.session; statements = held.statements }
 
-abbrev pub with_core : Held → CoreState → Attended
+abbrev pub with_core : Held → AskedCore → Attended
 with_core held core = record { rest = held.rest; standing = standing held core }
 
 -- no more bytes than unfinished ones want

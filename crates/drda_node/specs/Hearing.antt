@@ -1,21 +1,20 @@
 -- What a conversation answers to bytes, and what it makes of the core that it asks.
 use Rattle.std.specs.Prelude.{◌≡◌, ◌⊎◌, ℕ, true, false, List, [], ◌++◌, Some, slice_get, slice_set}
-use Rattle.core_steps.specs.Step.{CoreState}
 use Rattle.conversation.specs.Settings.{Settings}
 use Rattle.conversation.specs.Standing.{Standing}
 use Rattle.conversation.specs.Steps.{Converses}
-use Rattle.drda_node.specs.Asking.{asks}
-use Rattle.drda_node.specs.Machine.{Conversation, Machine}
+use Rattle.drda_node.specs.Asking.{AskedCore, asks}
+use Rattle.drda_node.specs.Machine.{Conversation, Machine, asked_in}
 
 -- the bytes after the last completed command of a conversation, and how it stands with the core
 pub record Attended : Type 0 where
   pub rest : List ℕ
-  pub standing : Standing CoreState
+  pub standing : Standing AskedCore
 
 abbrev pub attended : Machine → Conversation → Attended
 attended machine conversation = record {
   rest = conversation.rest;
-  standing = record { session = conversation.session; statements = conversation.statements; asked = machine.core };
+  standing = record { session = conversation.session; statements = conversation.statements; asked = asked_in machine };
 }
 
 abbrev pub conversation_of : Attended → Conversation
@@ -23,7 +22,7 @@ conversation_of a = record { rest = a.rest; session = a.standing.session; statem
 
 -- the conversation stands at the place then, with the core as it leaves it; all other conversations stay
 abbrev pub attended_at : Machine → ℕ → Attended → Machine
-attended_at machine place after = record machine { row = slice_set machine.row place (Some (conversation_of after)); core = after.standing.asked }
+attended_at machine place after = record machine { row = slice_set machine.row place (Some (conversation_of after)); core = after.standing.asked.state; has_failed = after.standing.asked.has_failed }
 
 -- An open conversation does each command that is whole with these bytes, in order, and keeps the rest. A
 -- fault of the framing is answered and closes it, and so does a command that is answered by AGNPRMRM.

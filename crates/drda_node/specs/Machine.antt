@@ -1,12 +1,11 @@
 -- The machine that a node is: what it was started with, a row of places, each free or with one
--- conversation, and the core that all of them ask.
+-- conversation, and the core that all of them ask, with whether the device below it has failed.
 use Rattle.std.specs.Prelude.{◌≡◌, ℕ, List, [], Option, Some, None, Bool, slice_get, slice_set, is_some, replicate}
 use Rattle.std.specs.List.{list_all}
-use Rattle.core_calls.specs.Call as call
-use Rattle.core_steps.specs.Step.{CoreState, step_state}
+use Rattle.core_steps.specs.Step.{CoreState}
+use Rattle.drda_node.specs.Asking.{AskedCore, left_by}
 use Rattle.exchanges.specs.Statements.{fresh as no_statements}
 use Rattle.exchanges.specs.declared.statements.Statements.{Statements}
-use Rattle.rdb_core.specs.State.{empty}
 use Rattle.conversation.specs.declared.session.Session.{Session}
 use Rattle.conversation.specs.Settings.{Settings}
 use Rattle.conversation.specs.Exchange.{fresh}
@@ -22,10 +21,11 @@ pub record Machine : Type 0 where
   pub settings : Settings
   pub row : List (Option Conversation)
   pub core : CoreState
+  pub has_failed : Bool
 
--- no conversation is open, and the core has no tables
-abbrev pub at_start : Settings → Machine
-at_start settings = record { settings = settings; row = replicate 64 None; core = empty }
+-- no conversation is open
+abbrev pub at_start : Settings → AskedCore → Machine
+at_start settings asked = record { settings = settings; row = replicate 64 None; core = asked.state; has_failed = asked.has_failed }
 
 -- a conversation of which nothing has come
 abbrev pub beginning : Conversation
@@ -38,10 +38,14 @@ with_place machine place now = record machine { row = slice_set machine.row plac
 abbrev pub opened : Machine → ℕ → Machine
 opened machine place = with_place machine place (Some beginning)
 
+-- its core, as those who ask it know it
+abbrev pub asked_in : Machine → AskedCore
+asked_in machine = record { state = machine.core; has_failed = machine.has_failed }
+
 -- A conversation that is lost leaves its place free, and the core ends what was its alone. A command that
 -- had not come whole is not asked.
 abbrev pub lost : Machine → ℕ → Machine
-lost machine place = record machine { row = slice_set machine.row place None; core = step_state machine.core place call.lost }
+lost machine place = record machine { row = slice_set machine.row place None; core = (left_by (asked_in machine) place).state }
 
 abbrev pub IsOpen : Machine → ℕ → Type 0
 IsOpen machine place = (conversation : Conversation) × (slice_get machine.row place ≡ Some (Some conversation))

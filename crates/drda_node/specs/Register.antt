@@ -1,6 +1,6 @@
 -- Which conversation is meant: a place, and the number that was given to the one that stands there.
 use Rattle.std.specs.Prelude.{◌≡◌, ℕ, ◌+◌, List, map, Option, Some, None, slice_get, slice_set, if◌then◌else◌}
-use Rattle.rdb_core.specs.State.{state_of}
+use Rattle.durable_images.specs.Journaled.{OnDisk}
 use Rattle.drda_node.specs.declared.node.Node.{Node}
 use Rattle.drda_node.specs.declared.place.Place.{Place}
 use Rattle.drda_node.specs.declared.node.ConversationId.{ConversationId}
@@ -10,9 +10,18 @@ use Rattle.drda_node.specs.Feeding.{shown_held}
 abbrev pub shown : Place → Option Conversation
 shown place = if place.is_open then Some (shown_held place.front) else None
 
+-- the core that its conversations ask
+abbrev pub core_in : {D : Type 0} {d : _} → Node D d → OnDisk D
+core_in node = node.core
+
 -- the machine that a node is
-abbrev pub machine : Node → Machine
-machine node = record { settings = node.settings; row = map shown node.places.items; core = state_of node.core }
+abbrev pub machine : {D : Type 0} {d : _} → Node D d → Machine
+machine node = record {
+  settings = node.settings;
+  row = map shown node.places.items;
+  core = (core_in node).state;
+  has_failed = (core_in node).is_failed;
+}
 
 -- the number that was last given at each place, and how many numbers were given
 pub record Register : Type 0 where
@@ -22,7 +31,7 @@ pub record Register : Type 0 where
 abbrev pub number_of : Place → ℕ
 number_of place = place.number
 
-abbrev pub register : Node → Register
+abbrev pub register : {D : Type 0} {d : _} → Node D d → Register
 register node = record { numbers = map number_of node.places.items; given = node.next_number }
 
 abbrev pub place_of : ConversationId → ℕ

@@ -6,12 +6,15 @@ ghost use Rattle.drda_node.specs.Hearing.{Attended, HearsAt};
 ghost use Rattle.drda_node.specs.Records.{StartsUnsized, opens, sends, loses, checkpoints, record_text};
 ghost use Rattle.drda_node.specs.Reading.{event_of, size_of};
 ghost use Rattle.drda_node.specs.Happening.{Happens, refusal, closing};
-ghost use Rattle.drda_node.specs.Register.{machine};
+ghost use Rattle.drda_node.specs.Asking.{IsJournaled};
+ghost use Rattle.drda_node.specs.Register.{core_in, machine};
 
 use crate::event::{Head, push_record};
 use crate::fed::FedState;
 use crate::node::{Done, Node};
+use drda_disk::Disk;
 use dss_frames::stays_read;
+use durable_images::laws::calls_go_on;
 use std::alloc::AllocError;
 
 /// Kinds of records that go out.
@@ -45,14 +48,15 @@ fn refuse(text: &mut Vec<u8>, number: u8, reason: u8) -> Result<(), AllocError>
 
 /// Does an event, its bytes to the front of `bytes`, and writes the records that answer it in place of
 /// what the text was. For want of memory nothing is said of the text.
-pub(crate) fn answer(
-    node: &mut Node,
+pub(crate) fn answer<D: Disk>(
+    node: &mut Node<D>,
     head: Head,
     bytes: &[u8],
     text: &mut Vec<u8>,
 ) -> Result<(), AllocError>
     requires { size_of head ≤ length bytes.now }
-    ensures { OnOk result (Happens (machine node.old) (event_of head bytes.now) text.new.items (machine node.new)) }
+    ensures happens { OnOk result (Happens (machine node.old) (event_of head bytes.now) text.new.items (machine node.new)) }
+    ensures journaled { IsJournaled D.is_modelled D.life (core_in node.old) (core_in node.new) }
 {
     text.clear();
     match head {
@@ -66,10 +70,17 @@ pub(crate) fn answer(
     }
 }
 
-fn answer_open(node: &mut Node, number: u8, text: &mut Vec<u8>) -> Result<(), AllocError>
+fn answer_open<D: Disk>(
+    node: &mut Node<D>,
+    number: u8,
+    text: &mut Vec<u8>,
+) -> Result<(), AllocError>
     requires { text.old.items ≡ [] }
-    ensures { OnOk result (Happens (machine node.old) (opens number) text.new.items (machine node.new)) }
+    ensures happens { OnOk result (Happens (machine node.old) (opens number) text.new.items (machine node.new)) }
+    ensures journaled { IsJournaled D.is_modelled D.life (core_in node.old) (core_in node.new) }
 {
+    calls_go_on::<D>();
+    node.core.is_durable();
     let place = usize::from(number);
     if !node.is_free(place) {
         return refuse(text, number, CANNOT_OPEN);
@@ -80,15 +91,18 @@ fn answer_open(node: &mut Node, number: u8, text: &mut Vec<u8>) -> Result<(), Al
     }
 }
 
-fn answer_bytes(
-    node: &mut Node,
+fn answer_bytes<D: Disk>(
+    node: &mut Node<D>,
     number: u8,
     bytes: &[u8],
     text: &mut Vec<u8>,
 ) -> Result<(), AllocError>
     requires { text.old.items ≡ [] }
-    ensures { OnOk result (Happens (machine node.old) (sends number bytes.now) text.new.items (machine node.new)) }
+    ensures happens { OnOk result (Happens (machine node.old) (sends number bytes.now) text.new.items (machine node.new)) }
+    ensures journaled { IsJournaled D.is_modelled D.life (core_in node.old) (core_in node.new) }
 {
+    calls_go_on::<D>();
+    node.core.is_durable();
     let place = usize::from(number);
     if !node.has(place) {
         return refuse(text, number, NOT_OPEN);
@@ -119,10 +133,17 @@ fn set_size(text: &mut Vec<u8>, number: u8, size: u32)
     text[5] = d;
 }
 
-fn answer_lost(node: &mut Node, number: u8, text: &mut Vec<u8>) -> Result<(), AllocError>
+fn answer_lost<D: Disk>(
+    node: &mut Node<D>,
+    number: u8,
+    text: &mut Vec<u8>,
+) -> Result<(), AllocError>
     requires { text.old.items ≡ [] }
-    ensures { OnOk result (Happens (machine node.old) (loses number) text.new.items (machine node.new)) }
+    ensures happens { OnOk result (Happens (machine node.old) (loses number) text.new.items (machine node.new)) }
+    ensures journaled { IsJournaled D.is_modelled D.life (core_in node.old) (core_in node.new) }
 {
+    calls_go_on::<D>();
+    node.core.is_durable();
     let place = usize::from(number);
     if !node.has(place) {
         return refuse(text, number, NOT_OPEN);
@@ -133,19 +154,22 @@ fn answer_lost(node: &mut Node, number: u8, text: &mut Vec<u8>) -> Result<(), Al
 
 /// Gives a conversation all of these bytes, and appends its replies, those that say that a command
 /// found no memory among them. Says whether the conversation is closed then.
-fn feed_all(
-    node: &mut Node,
+fn feed_all<D: Disk>(
+    node: &mut Node<D>,
     place: usize,
     bytes: &[u8],
     replies: &mut Vec<u8>,
 ) -> Result<bool, AllocError>
     requires { IsOpen (machine node.old) place }
-    ensures { IfOk result (λ is_closed. (after : Attended) × (written : List ℕ)
+    ensures hears { IfOk result (λ is_closed. (after : Attended) × (written : List ℕ)
         × (replies.new.items ≡ replies.old.items ++ written)
         × HearsAt (machine node.old) place bytes.now written after (machine node.new)
         × (after.standing.session.is_closed ≡ is_closed)) }
+    ensures journaled { IsJournaled D.is_modelled D.life (core_in node.old) (core_in node.new) }
 {
     stays_read();
+    calls_go_on::<D>();
+    node.core.is_durable();
     let mut at = 0;
     'feeding: loop {
         let fed = node.feed_at(place, &bytes[at..], replies);

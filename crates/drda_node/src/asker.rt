@@ -1,20 +1,21 @@
 //! Who is asked.
 
 use core_calls::{Answer, CoreCall};
+use drda_disk::Disk;
+use durable_core::DurableCore;
 use exchanges::Ask;
-use rdb_core::Core;
 
 /// The core, asked for one conversation, which it knows by its place in the row.
 #[derive(Drop)]
-pub(crate) struct Asker<'a> {
-    pub(crate) core: &'a mut Core,
+pub(crate) struct Asker<'a, D: Disk> {
+    pub(crate) core: &'a mut DurableCore<D>,
     pub(crate) conversation: u64,
 }
 
-impl Ask for Asker<'_> {
+impl<D: Disk> Ask for Asker<'_, D> {
     ghost use Rattle.drda_node.specs.Asking.{asks_of};
 
-    ghost asks = { λ old call answer new. asks_of old call answer new };
+    ghost asks = { λ old call answer new. asks_of D.is_modelled D.life old call answer new };
 
     fn ask(&mut self, call: &CoreCall<'_, '_>) -> Answer {
         self.core.step(self.conversation, call)

@@ -1,4 +1,4 @@
-//! A node: up to 64 conversations side by side over one core, and their events from one stream of records.
+//! A node over a store on a disk: up to 64 conversations side by side over one core, and their events from one stream of records.
 #![tactic(auto)]
 
 mod answering;
@@ -9,6 +9,7 @@ mod feeding;
 mod node;
 mod place;
 mod reading;
+mod row;
 mod serving;
 mod writing;
 

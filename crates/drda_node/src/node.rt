@@ -6,13 +6,13 @@ ghost use Rattle.drda_node.specs.Sharing.{AllServe};
 use crate::asker::Asker;
 use crate::fed::Fed;
 use crate::place::Place;
+use crate::row::{PLACES, free_places};
 use conversation::Settings;
-use rdb_core::Core;
-use std::alloc::{AllocError, Global};
+use drda_disk::Disk;
+use durable_core::DurableCore;
+use durable_images::laws::calls_go_on;
+use std::alloc::Global;
 use thiserror::Error;
-
-/// How many conversations can be open at a time.
-const PLACES: usize = 64;
 
 /// Which conversation of a node. None is given twice.
 #[derive(Clone, Copy, Debug, PartialEq, Eq)]
@@ -42,37 +42,66 @@ pub enum Done {
 
 /// Up to 64 conversations, and the core that they ask.
 #[derive(Drop)]
-pub struct Node {
+pub struct Node<D: Disk> {
     alloc: Global,
     settings: Settings,
-    pub(crate) core: Core,
+    pub(crate) core: DurableCore<D>,
     pub(crate) places: Vec<Place>,
     pub(crate) next_number: u64,
     ghost sixty_four: { length places.items ≡ 64 },
     ghost alike: { AllServe settings places.items },
 }
 
-impl Node {
-    ghost use Rattle.std.specs.Prelude.{◌≡◌, ◌<◌, ◌+◌, ◌↔◌, IfOk, OnErr, IsTrue, ◌≢◌, ◌^◌, Err, true, false, length, slice_get, Some, None};
+impl<D: Disk> Node<D> {
+    ghost use Rattle.std.specs.Prelude.{◌≡◌, ◌<◌, ◌+◌, ◌↔◌, IfOk, IfErr, OnErr, IsTrue, ◌≢◌, ◌^◌, Err, true, false, length, slice_get, Some, None};
+    ghost use Rattle.drda_node.specs.Asking.{IsJournaled, asked_of};
     ghost use Rattle.drda_node.specs.Machine.{at_start, is_full, lost, IsOpen, opened};
     ghost use Rattle.drda_node.specs.Feeding.{Feeds};
-    ghost use Rattle.drda_node.specs.Register.{machine, register, place_of, Names, Opens};
+    ghost use Rattle.drda_node.specs.Register.{core_in, machine, register, place_of, Names, Opens};
 
-    /// A node with no conversation, over a core without tables.
-    pub fn start(alloc: Global, settings: Settings) -> Result<Node, AllocError>
-        ensures { IfOk result (λ n. machine n ≡ at_start settings) }
+    /// A node with no conversation, over this core. Out of memory, the core is handed back.
+    pub fn start(
+        alloc: Global,
+        settings: Settings,
+        core: DurableCore<D>,
+    ) -> Result<Node<D>, DurableCore<D>>
+        ensures machine { IfOk result (λ n. machine n ≡ at_start settings (asked_of core)) }
+        ensures core { IfOk result (λ n. core_in n ≡ core) }
+        ensures back { IfErr result (λ back. back ≡ core) }
     {
-        let mut places = Vec::new(alloc);
-        for _ in 0..PLACES {
-            places.push(Place::new(alloc, &settings)?)?;
+        match free_places(alloc, &settings) {
+            Ok(places) => {
+                Ok(Node {
+                    alloc,
+                    settings,
+                    core,
+                    places,
+                    next_number: 0,
+                })
+            }
+            Err(_) => Err(core),
         }
-        Ok(Node {
-            alloc,
-            settings,
-            core: Core::start(alloc),
-            places,
-            next_number: 0,
-        })
+    }
+
+    /// The core.
+    pub fn core(&self) -> &DurableCore<D>
+        ensures { result.now ≡ core_in self.now }
+    {
+        &self.core
+    }
+
+    /// The core, as the last call left it. What the conversations had left unfinished is in it still.
+    pub fn into_core(self) -> DurableCore<D>
+        ensures { result ≡ core_in self }
+    {
+        let Node {
+            alloc: _,
+            settings: _,
+            core,
+            places: _,
+            next_number: _,
+        } = self;
+        core
     }
 
     /// Opens a conversation. TooMany exactly where 64 are open, else NoMemory exactly where no number
@@ -84,7 +113,10 @@ impl Node {
         ensures too_many { (result ≡ Err OpenError.TooMany) ↔ (is_full (machine self.old) ≡ true) }
         ensures no_memory { (result ≡ Err OpenError.NoMemory) ↔ ((is_full (machine self.old) ≡ false) × ((register self.old).given + 1 ≡ 2 ^ 64)) }
         ensures places { length (machine self.old).row ≡ 64 }
+        ensures journaled { IsJournaled D.is_modelled D.life (core_in self.old) (core_in self.new) }
     {
+        calls_go_on::<D>();
+        self.core.is_durable();
         for place in 0..PLACES {
             if self.is_free(place) {
                 return self.open_at(place);
@@ -102,7 +134,10 @@ impl Node {
         ensures none_given { OnErr result (register self.new ≡ register self.old) }
         ensures not_full { result ≢ Err OpenError.TooMany }
         ensures no_memory { (result ≡ Err OpenError.NoMemory) ↔ ((register self.old).given + 1 ≡ 2 ^ 64) }
+        ensures journaled { IsJournaled D.is_modelled D.life (core_in self.old) (core_in self.new) }
     {
+        calls_go_on::<D>();
+        self.core.is_durable();
         let number = self.next_number;
         let Some(next_number) = number.checked_add(1) else {
             return Err(OpenError::NoMemory);
@@ -134,11 +169,14 @@ impl Node {
         place < self.places.len() && !self.places[place].is_open
     }
 
-    /// Gives a conversation bytes, and appends its replies to `out`.
+    /// Gives a conversation bytes, and appends its replies to `out`. A crash at any moment of it, inside of
+    /// a device call too, leaves a disk that opens to the tables and the units in doubt after the first of
+    /// the records that its commands made.
     pub fn feed(&mut self, id: ConversationId, piece: &[u8], out: &mut Vec<u8>) -> Fed
         requires { Names (machine self.old) (register self.old) id }
         ensures feeds { Feeds (machine self.old) (place_of id) piece.now out.old.items result (machine self.new) out.new.items }
         ensures register { register self.new ≡ register self.old }
+        ensures journaled { IsJournaled D.is_modelled D.life (core_in self.old) (core_in self.new) }
     {
         self.feed_at(id.place, piece, out)
     }
@@ -148,6 +186,7 @@ impl Node {
         requires { IsOpen (machine self.old) place }
         ensures feeds { Feeds (machine self.old) place piece.now out.old.items result (machine self.new) out.new.items }
         ensures register { register self.new ≡ register self.old }
+        ensures journaled { IsJournaled D.is_modelled D.life (core_in self.old) (core_in self.new) }
     {
         let mut asker = Asker {
             core: &mut self.core,
@@ -158,11 +197,13 @@ impl Node {
 
     /// Takes a conversation away: its place is free, what it had not sent whole is dropped, and its
     /// memory is given back. Its unit of work ends without its changes, and so does each branch that it
-    /// was the last to start or join, and that is not prepared. Takes no memory.
+    /// was the last to start or join, and that is not prepared; once the device has failed the core does
+    /// nothing more, and only the place is free. Takes no memory.
     pub fn lost(&mut self, id: ConversationId)
         requires { Names (machine self.old) (register self.old) id }
         ensures machine { machine self.new ≡ lost (machine self.old) (place_of id) }
         ensures register { register self.new ≡ register self.old }
+        ensures journaled { IsJournaled D.is_modelled D.life (core_in self.old) (core_in self.new) }
     {
         self.lose_at(id.place);
     }
@@ -172,16 +213,31 @@ impl Node {
         requires { IsOpen (machine self.old) place }
         ensures machine { machine self.new ≡ lost (machine self.old) place }
         ensures register { register self.new ≡ register self.old }
+        ensures journaled { IsJournaled D.is_modelled D.life (core_in self.old) (core_in self.new) }
     {
         self.places[place].close(self.alloc);
-        let _ = self.core.lose(place as u64);
+        end_units(&mut self.core, place as u64);
     }
 
     /// Checkpoints the store. There is none yet, so nothing changes.
     pub fn checkpoint(&mut self) -> Done
         ensures machine { machine self.new ≡ machine self.old }
         ensures register { register self.new ≡ register self.old }
+        ensures journaled { IsJournaled D.is_modelled D.life (core_in self.old) (core_in self.new) }
     {
+        calls_go_on::<D>();
+        self.core.is_durable();
         Done::Done
     }
+}
+
+ghost use Rattle.drda_node.specs.Asking.{IsJournaled, asked_of, left_by};
+
+// Ends what was a conversation's alone. What the core answers says nothing that is not known.
+#[tactic(auto, using(crate::proofs::Cores::core_loses))]
+fn end_units<D: Disk>(core: &mut DurableCore<D>, conversation: u64)
+    ensures left { asked_of core.new ≡ left_by (asked_of core.old) conversation }
+    ensures journaled { IsJournaled D.is_modelled D.life core.old core.new }
+{
+    let _ = core.lose(conversation);
 }

@@ -6,6 +6,7 @@ use crate::asker::Asker;
 use crate::fed::Fed;
 use crate::feeding::converse;
 use conversation::{Front, Settings};
+use drda_disk::Disk;
 use dss_frames::stays_read;
 use std::alloc::{AllocError, Global};
 
@@ -20,7 +21,7 @@ pub struct Place {
 
 impl Place {
     ghost use Rattle.std.specs.Prelude.{◌≡◌, IfOk, true};
-    ghost use Rattle.drda_node.specs.Asking.{IsSameAsker, core_of};
+    ghost use Rattle.drda_node.specs.Asking.{IsJournaled, IsSameAsker, core_of};
     ghost use Rattle.drda_node.specs.Feeding.{Takes, with_core};
     ghost use Rattle.drda_node.specs.Register.{shown};
     ghost use Rattle.drda_node.specs.Machine.{beginning};
@@ -62,9 +63,15 @@ impl Place {
     }
 
     /// Gives the conversation bytes.
-    pub(crate) fn feed(&mut self, asker: &mut Asker<'_>, piece: &[u8], out: &mut Vec<u8>) -> Fed
+    pub(crate) fn feed<D: Disk>(
+        &mut self,
+        asker: &mut Asker<'_, D>,
+        piece: &[u8],
+        out: &mut Vec<u8>,
+    ) -> Fed
         requires { self.old.is_open ≡ true }
         ensures takes { Takes self.old.front.settings asker.old.conversation (with_core self.old.front (core_of asker.old)) piece.now out.old.items result (with_core self.new.front (core_of asker.new)) out.new.items }
+        ensures journaled { IsJournaled D.is_modelled D.life asker.old.core.now asker.new.core.now }
         ensures same_asker { IsSameAsker asker.old asker.new }
         ensures open { self.new.is_open ≡ true }
         ensures number { self.new.number ≡ self.old.number }

@@ -1,7 +1,8 @@
 //! Serving a stream of events.
 
 ghost use Rattle.std.specs.Prelude.{IfSome};
-ghost use Rattle.drda_node.specs.Register.{machine};
+ghost use Rattle.drda_node.specs.Asking.{IsJournaled};
+ghost use Rattle.drda_node.specs.Register.{core_in, machine};
 ghost use Rattle.drda_node.specs.Serving.{Runs};
 
 use crate::answering::answer;
@@ -9,6 +10,8 @@ use crate::event::LARGEST;
 use crate::node::Node;
 use crate::reading::{Incoming, read_event};
 use crate::writing::write_whole;
+use drda_disk::Disk;
+use durable_images::laws::calls_go_on;
 use std::alloc::{AllocError, Global};
 use std::io::{Read, Write};
 
@@ -31,16 +34,21 @@ pub enum RunEnd {
 ///
 /// What is written is what the machine answers: on Ended to exactly the events of the input, and
 /// nothing stands behind them; on BadEvent to exactly the events in front of what is no event; on
-/// ReadFault and NoMemory to some events in front; on WriteFault a front of such answers.
-pub fn run<R: Read, W: Write>(
+/// ReadFault and NoMemory to some events in front; on WriteFault a front of such answers. A crash at any
+/// moment leaves a disk that opens to the tables and the units in doubt after the first of the records
+/// that the events made due.
+pub fn run<D: Disk, R: Read, W: Write>(
     alloc: Global,
-    node: &mut Node,
+    node: &mut Node<D>,
     reader: &mut R,
     writer: &mut W,
 ) -> RunEnd
-    ensures { IfSome (R.remaining reader.old) (λ input.
+    ensures runs { IfSome (R.remaining reader.old) (λ input.
         Runs (machine node.old) input (W.contents writer.old) result (W.contents writer.new) (machine node.new)) }
+    ensures journaled { IsJournaled D.is_modelled D.life (core_in node.old) (core_in node.new) }
 {
+    calls_go_on::<D>();
+    node.core.is_durable();
     let Ok(mut buffer) = room_for_bytes(alloc) else {
         return RunEnd::NoMemory;
     };

@@ -25,7 +25,7 @@ use Rattle.durable_units.specs.Sound.{IsSound}
 use Rattle.durable_units.specs.declared.prepared.PreparedUnit.{PreparedUnit}
 use Rattle.durable_steps.specs.Part.{doubt_branches, doubt_units, opened}
 use Rattle.durable_steps.proofs.Doubts.{xids_count}
-use Rattle.recorded_core.specs.Restored.{RestoresUnit, with_in_doubt}
+use Rattle.rdb_core.specs.Restored.{RestoresUnit, with_in_doubt}
 use Rattle.xa_manager.specs.declared.table.RestoreError.{RestoreError}
 use Rattle.xa_manager.specs.declared.table.RestoreError.TheVariants as error
 use Rattle.std.specs.Prelude.{Result, Err}

@@ -27,8 +27,8 @@ use Rattle.disk_recorder.specs.declared.recorder.DiskRecorder.{DiskRecorder}
 use Rattle.durable_images.specs.Opens.{Holds}
 use Rattle.durable_images.specs.Laws.{RecordsStay}
 use Rattle.durable_images.specs.Journaled.{IsDurable, IsUnchanged, IsUntouched, Journaled, Made, OnDisk, OneCallIsMade, shown_on}
-use Rattle.recorded_core.specs.Recorded as told
-use Rattle.recorded_core.specs.Steps as core
+use Rattle.rdb_core.specs.Recorded as told
+use Rattle.rdb_core.specs.Steps as core
 use Rattle.durable_core.specs.Recorded.{IsOnDisk, IsRecorded, core_on}
 use Rattle.durable_core.specs.Steps.{IsClosed, RoomAfter, Steps}
 

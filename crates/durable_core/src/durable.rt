@@ -13,7 +13,7 @@ use drda_disk::Disk;
 use durable_images::laws::{calls_make_records, records_stay};
 use durable_steps::laws::steps_are_recorded;
 use durable_units::laws::doubts_hold_their_decisions;
-use recorded_core::Core;
+use rdb_core::Core;
 use std::alloc::AllocError;
 use std::marker::Model;
 use xa_manager::Xids;
@@ -38,7 +38,7 @@ impl<D: Disk> Model for DurableCore<D> {
 
     ghost Value = { OnDisk D };
 
-    ghost use Rattle.recorded_core.specs.State.{recorder_of, state_of};
+    ghost use Rattle.rdb_core.specs.State.{recorder_of, state_of};
     ghost use Rattle.durable_core.specs.Recorded.{IsRecorded, core_on};
 
     ghost view = { λ c. core_on (string_bytes c.name) (state_of c.core) (recorder_of c.core) };

@@ -19,7 +19,7 @@ use drda_disk::Disk;
 use durable_images::laws::{images_open_there, images_open_to_one_state};
 use durable_steps::laws::openings_are_kept;
 use durable_units::laws::{records_lead_one_way, records_lead_to_sound_states};
-use recorded_core::Core;
+use rdb_core::Core;
 use std::alloc::{AllocError, Global};
 use unit_journal::a_region_has_one_reading;
 

@@ -4,10 +4,10 @@ ghost use Rattle.std.specs.Prelude.{◌≡◌, OnOk, []};
 ghost use Rattle.durable_units.specs.Replay.{doubts_in};
 ghost use Rattle.durable_units.specs.Sound.{IsSound};
 ghost use Rattle.durable_steps.specs.Part.{opened};
-ghost use Rattle.recorded_core.specs.State.{recorder_of, state_of};
+ghost use Rattle.rdb_core.specs.State.{recorder_of, state_of};
 
 use durable_units::PreparedUnit;
-use recorded_core::Core;
+use rdb_core::Core;
 use recording::Recorder;
 use std::alloc::AllocError;
 use xa_manager::RestoreError;

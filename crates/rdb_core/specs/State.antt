@@ -4,8 +4,12 @@ use Rattle.core_steps.specs.Step.{CoreState}
 use Rattle.rdb_core.specs.declared.engine.Core.{Core}
 use Rattle.rdb_core.specs.Base.{base_of}
 
-abbrev pub state_of : Core → CoreState
+abbrev pub state_of : {R : Type 0} → Core R → CoreState
 state_of core = record { base = base_of core.store core.units; branches = core.branches }
+
+-- who records what becomes of its units
+abbrev pub recorder_of : {R : Type 0} → Core R → R
+recorder_of core = core.recorder
 
 -- no tables, no units, no branches
 abbrev pub empty : CoreState

@@ -1,4 +1,4 @@
--- A call takes the core one step; out of memory, the core stays as it is.
+-- A call takes the core one step, and makes the record that is due; else the core stays as it is.
 use Rattle.std.specs.Prelude.{◌≡◌, ◌⊎◌, ℕ, Bool, true, false, List, [], ◌∷◌, Option, Some, None}
 use Rattle.tables.specs.Change.{Change}
 use Rattle.xa_calls.specs.declared.request.Request.{Request}
@@ -6,28 +6,38 @@ use Rattle.xa_calls.specs.declared.request.Request.TheVariants as request
 use Rattle.xa_manager.specs.declared.due.Action.{Action}
 use Rattle.xa_manager.specs.declared.due.Action.TheVariants as action
 use Rattle.xa_manager.specs.declared.due.Outcome.TheVariants as decided
+use Rattle.unit_records.specs.Records.{UnitRecord}
+use Rattle.recording.specs.Due.{record_due}
+use Rattle.recording.specs.declared.record_error.RecordError.{RecordError}
 use Rattle.core_calls.specs.Call as call
 use Rattle.core_calls.specs.Call.{Call}
-use Rattle.core_calls.specs.Answer.{Answer, answer_of}
-use Rattle.core_calls.specs.declared.answer.Answer.{Answer as CodeAnswer}
-use Rattle.core_calls.specs.declared.answer.Answer.TheVariants as code
+use Rattle.core_calls.specs.Answer.{Answer}
 use Rattle.core_steps.specs.Units.{Held, Owner, global, has_any, local, set_unit, unit_of, without}
 use Rattle.core_calls.specs.declared.sql_fault.SqlFault.{SqlFault}
 use Rattle.core_steps.specs.Asked.{Clashes, Done, Outcome, TooMany, Unfit, describing, querying, running, unfit}
 use Rattle.core_steps.specs.Step.{CoreState, answer, due_in, step_state}
+use Rattle.rdb_core.specs.Recorded.{IsRecorded, Refuses, refusal_answer}
 
 -- the answer and the state behind it are those of the step
 pub record IsTaken (old : CoreState) (conversation : ℕ) (k : Call) (told : Answer) (new : CoreState) : Type 0 where
   pub answer_is : told ≡ answer old.branches old.base conversation k
   pub state : new ≡ step_state old conversation k
 
--- out of memory: the core is as it was
-pub record IsKept (old : CoreState) (told : CodeAnswer) (new : CoreState) : Type 0 where
-  pub answer_is : told ≡ code.NoMemory
-  pub state : new ≡ old
+-- the step is taken, and the record that it makes due is made first
+pub record Takes {R : Type 0} (records : R → UnitRecord → R → Type 0) (old : CoreState) (conversation : ℕ) (k : Call) (told : Answer) (new : CoreState) (before after : R) : Type 0 where
+  pub taken : IsTaken old conversation k told new
+  pub recorded : IsRecorded records (record_due old conversation k) before after
 
-abbrev pub Steps : CoreState → ℕ → Call → CodeAnswer → CoreState → Type 0
-Steps old conversation k told new = IsTaken old conversation k (answer_of told) new ⊎ IsKept old told new
+-- out of memory, or where the record that is due is refused: the core is as it was
+pub record IsKept {R : Type 0} (fails : R → UnitRecord → RecordError → R → Type 0) (old : CoreState) (conversation : ℕ) (k : Call) (told : Answer) (new : CoreState) (before after : R) : Type 0 where
+  pub fault : RecordError
+  pub answer_is : told ≡ refusal_answer fault
+  pub state : new ≡ old
+  pub cause : Refuses fails (record_due old conversation k) fault before after
+
+abbrev pub Steps : {R : Type 0} → (R → UnitRecord → R → Type 0) → (R → UnitRecord → RecordError → R → Type 0) → CoreState → ℕ → Call → Answer → CoreState → R → R → Type 0
+Steps records fails old conversation k told new before after =
+    Takes records old conversation k told new before after ⊎ IsKept fails old conversation k told new before after
 
 -- what is due may want memory: a branch begins, or changes are committed
 abbrev pub wants_memory : Action → List Change → Bool

@@ -1,41 +1,113 @@
 //! How units end.
 
-ghost use Rattle.std.specs.Prelude.{◌≡◌, true, OnErr, OnOk, if◌then◌else◌};
+ghost use Rattle.std.specs.Prelude.{◌≡◌, IfErr, None, OnErr, OnOk, Some, if◌then◌else◌, map};
+ghost use Rattle.tables.specs.ChangeView.{change_of};
+ghost use Rattle.table_store.specs.TableStore.{IsReserved, store_in};
+ghost use Rattle.unit_records.specs.Records.{UnitRecord, decided};
+ghost use Rattle.recording.specs.Due.{action_due, commit_due};
 ghost use Rattle.xa_manager.specs.Branch.{is_last_joined_by};
-ghost use Rattle.core_steps.specs.Units.{global, has_any, unit_of, without};
-ghost use Rattle.core_steps.specs.Events.{Commit, bare, bare_run};
+ghost use Rattle.core_steps.specs.Units.{global, unit_of, without};
+ghost use Rattle.core_steps.specs.Events.{Commit, Leave, bare, bare_run};
 ghost use Rattle.core_steps.specs.Step.{action_events, lost_xids};
 ghost use Rattle.unit_table.specs.Owner.{plain_owner};
 ghost use Rattle.rdb_core.specs.Base.{base_of};
-ghost use Rattle.rdb_core.specs.Steps.{left_units, wants_memory};
+ghost use Rattle.rdb_core.specs.Recorded.{IsRecorded, Refuses};
+ghost use Rattle.rdb_core.specs.Steps.{left_units};
 
+use recording::{RecordError, Recorder, Saying};
 use std::alloc::{AllocError, Global};
 use table_store::TableStore;
+use tables::Change;
 use unit_table::{Owner, Units};
 use xa_calls::Xid;
 use xa_manager::{Action, Branch, Outcome};
 
-/// The changes of an owner's unit are made, and it ends with its claims. Memory is taken, and so may
-/// be refused, only where it has changes; all stays then, and no room is held.
-pub(crate) fn commit_unit(
+/// An owner's unit is committed: its changes are recorded and then made, and it ends with its claims.
+/// Memory is taken, and a record is made, only where it has changes. On an error all units and tables
+/// stay, and no room is held.
+pub(crate) fn commit_unit<R: Recorder>(
     store: &mut TableStore,
     units: &mut Units,
+    recorder: &mut R,
     alloc: Global,
     owner: &Owner,
-) -> Result<(), AllocError>
+) -> Result<(), RecordError>
+    requires allowed { (r : UnitRecord) → commit_due (unit_of (plain_owner owner.now) units.old).changes ≡ Some r → R.allows recorder.old r }
     ensures done { OnOk result (base_of store.new units.new ≡ bare (base_of store.old units.old) (Commit (plain_owner owner.now))) }
+    ensures recorded { OnOk result (IsRecorded R.records (commit_due (unit_of (plain_owner owner.now) units.old).changes) recorder.old recorder.new) }
     ensures kept { OnErr result (base_of store.new units.new ≡ base_of store.old units.old) }
-    ensures cause { OnErr result (has_any (unit_of (plain_owner owner.now) units.old).changes ≡ true) }
+    ensures refused { IfErr result (λ error. Refuses R.fails (commit_due (unit_of (plain_owner owner.now) units.old).changes) error recorder.old recorder.new) }
+    ensures cause { OnErr result (commit_due (unit_of (plain_owner owner.now) units.old).changes ≡ None → ⊥) }
 {
     if !units.has_changes(owner) {
         let _none = units.end(owner);
         return Ok(());
     }
-    match store.reserve(alloc, units.changes(owner)) {
-        Ok(()) => {
-            store.apply_reserved(units.end(owner).into_vec());
-            Ok(())
-        }
+    match make_room(store, alloc, units.changes(owner)) {
+        Ok(()) => {}
+        Err(AllocError) => return Err(RecordError::NoMemory),
+    }
+    let recorded = recorder.record(Saying::Commit {
+        changes: units.changes(owner),
+    });
+    finish(store, units, owner, recorded)
+}
+
+// The unit of a branch in doubt is committed: that is recorded, then its changes are made, and it ends
+// with its claims. On an error all units and tables stay, and no room is held.
+fn commit_decided<R: Recorder>(
+    store: &mut TableStore,
+    units: &mut Units,
+    recorder: &mut R,
+    alloc: Global,
+    xid: &Xid,
+) -> Result<(), RecordError>
+    requires allowed { R.allows recorder.old (decided xid.now Outcome.Commit) }
+    ensures done { OnOk result (base_of store.new units.new ≡ bare (base_of store.old units.old) (Commit (global xid.now))) }
+    ensures recorded { OnOk result (R.records recorder.old (decided xid.now Outcome.Commit) recorder.new) }
+    ensures kept { OnErr result (base_of store.new units.new ≡ base_of store.old units.old) }
+    ensures refused { IfErr result (λ error. Refuses R.fails (Some (decided xid.now Outcome.Commit)) error recorder.old recorder.new) }
+{
+    let owner = Owner::Global(*xid);
+    match make_room(store, alloc, units.changes(&owner)) {
+        Ok(()) => {}
+        Err(AllocError) => return Err(RecordError::NoMemory),
+    }
+    let recorded = recorder.record(Saying::Decide {
+        xid,
+        outcome: Outcome::Commit,
+    });
+    finish(store, units, &owner, recorded)
+}
+
+// The unit of a branch in doubt is rolled back: that is recorded, then it ends. On an error all units
+// stay.
+fn roll_back_decided<R: Recorder>(
+    units: &mut Units,
+    recorder: &mut R,
+    xid: &Xid,
+) -> Result<(), RecordError>
+    requires allowed { R.allows recorder.old (decided xid.now Outcome.RollBack) }
+    ensures done { OnOk result (units.new ≡ without (global xid.now) units.old) }
+    ensures recorded { OnOk result (R.records recorder.old (decided xid.now Outcome.RollBack) recorder.new) }
+    ensures kept { OnErr result (units.new ≡ units.old) }
+    ensures refused { IfErr result (λ error. Refuses R.fails (Some (decided xid.now Outcome.RollBack)) error recorder.old recorder.new) }
+{
+    recorder.record(Saying::Decide {
+        xid,
+        outcome: Outcome::RollBack,
+    })?;
+    let _changes = units.end(&Owner::Global(*xid));
+    Ok(())
+}
+
+// Makes room for changes; out of memory, no room is held. The tables stay.
+fn make_room(store: &mut TableStore, alloc: Global, changes: &[Change]) -> Result<(), AllocError>
+    ensures tables { store_in store.new ≡ store_in store.old }
+    ensures room { OnOk result (IsReserved (map change_of changes.now) store.new) }
+{
+    match store.reserve(alloc, changes) {
+        Ok(()) => Ok(()),
         Err(AllocError) => {
             store.release();
             Err(AllocError)
@@ -43,26 +115,62 @@ pub(crate) fn commit_unit(
     }
 }
 
-/// What is due of an XID's branch is done to its unit. Memory may be refused only where changes are
-/// committed; all stays then.
-pub(crate) fn do_due(
+// The changes of an owner's unit, for which there is room, are made where they were recorded, and it
+// ends with its claims. Where they were not, the room is given up.
+fn finish(
     store: &mut TableStore,
     units: &mut Units,
+    owner: &Owner,
+    recorded: Result<(), RecordError>,
+) -> Result<(), RecordError>
+    requires room { IsReserved (unit_of (plain_owner owner.now) units.old).changes store.old }
+    ensures same { result ≡ recorded }
+    ensures done { OnOk recorded (base_of store.new units.new ≡ bare (base_of store.old units.old) (Commit (plain_owner owner.now))) }
+    ensures kept { OnErr recorded (base_of store.new units.new ≡ base_of store.old units.old) }
+{
+    match recorded {
+        Ok(()) => {
+            store.apply_reserved(units.end(owner).into_vec());
+            Ok(())
+        }
+        Err(error) => {
+            store.release();
+            Err(error)
+        }
+    }
+}
+
+/// What is due of an XID's branch is recorded, and then done to its unit. On an error all units and
+/// tables stay; there is none where no record is due.
+pub(crate) fn do_due<R: Recorder>(
+    store: &mut TableStore,
+    units: &mut Units,
+    recorder: &mut R,
     alloc: Global,
     xid: &Xid,
     action: Action,
-) -> Result<(), AllocError>
+) -> Result<(), RecordError>
+    requires allowed { (r : UnitRecord) → action_due xid.now (unit_of (global xid.now) units.old) action ≡ Some r → R.allows recorder.old r }
     ensures done { OnOk result (base_of store.new units.new ≡ bare_run (action_events xid.now action) (base_of store.old units.old)) }
+    ensures recorded { OnOk result (IsRecorded R.records (action_due xid.now (unit_of (global xid.now) units.old) action) recorder.old recorder.new) }
     ensures kept { OnErr result (base_of store.new units.new ≡ base_of store.old units.old) }
-    ensures cause { OnErr result (wants_memory action (unit_of (global xid.now) units.old).changes ≡ true) }
+    ensures refused { IfErr result (λ error. Refuses R.fails (action_due xid.now (unit_of (global xid.now) units.old) action) error recorder.old recorder.new) }
+    ensures cause { OnErr result (action_due xid.now (unit_of (global xid.now) units.old) action ≡ None → ⊥) }
 {
     let owner = Owner::Global(*xid);
     match action {
-        Action::Nothing | Action::Start | Action::Join | Action::End(_) | Action::Prepare => Ok(()),
-        Action::Forget | Action::CommitOnePhase | Action::Decide(Outcome::Commit) => {
-            commit_unit(store, units, alloc, &owner)
+        Action::Nothing | Action::Start | Action::Join | Action::End(_) => Ok(()),
+        Action::Prepare => recorder.record(Saying::Prepare {
+            xid,
+            changes: units.changes(&owner),
+            claims: units.claims(&owner),
+        }),
+        Action::Forget | Action::CommitOnePhase => {
+            commit_unit(store, units, recorder, alloc, &owner)
         }
-        Action::Decide(Outcome::RollBack) | Action::RollBack => {
+        Action::Decide(Outcome::Commit) => commit_decided(store, units, recorder, alloc, xid),
+        Action::Decide(Outcome::RollBack) => roll_back_decided(units, recorder, xid),
+        Action::RollBack => {
             let _changes = units.end(&owner);
             Ok(())
         }

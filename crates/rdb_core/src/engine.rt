@@ -1,17 +1,21 @@
 //! The core and its calls.
 
-ghost use Rattle.std.specs.Prelude.{◌≡◌, ℕ, Some, false};
+ghost use Rattle.std.specs.Prelude.{◌≡◌, ℕ, None, Some, false};
 ghost use Rattle.std.specs.Result.{result_ok};
+ghost use Rattle.unit_records.specs.Records.{UnitRecord};
+ghost use Rattle.recording.specs.Due.{record_due};
 ghost use Rattle.core_calls.specs.Answer.{answer_of};
 ghost use Rattle.core_calls.specs.Call.{commit, lost, roll_back, xa};
 ghost use Rattle.core_steps.specs.Step.{owner_of};
 ghost use Rattle.core_steps.specs.Units.{has_any, local, unit_of};
 ghost use Rattle.unit_table.specs.Owner.{plain_owner};
-ghost use Rattle.rdb_core.specs.State.{empty, state_of};
-ghost use Rattle.rdb_core.specs.Steps.{IsTaken, Steps, may_want_memory};
+ghost use Rattle.rdb_core.specs.State.{empty, recorder_of, state_of};
+ghost use Rattle.rdb_core.specs.Steps.{Steps, Takes, may_want_memory};
 
 use crate::ending::{commit_unit, do_due, end_lost};
+use crate::refusing::refused;
 use core_calls::Answer;
+use recording::Recorder;
 use std::alloc::{AllocError, Global};
 use table_store::TableStore;
 use unit_table::{Owner, Units};
@@ -20,25 +24,43 @@ use xa_manager::{Work, XaTable};
 
 /// The committed tables, the units of work of conversations and of branches, and the XA branches.
 /// Contracts see its state by `state_of`, and each call is a step of that state.
+/// What is committed, prepared or decided is recorded before it is made.
 #[derive(Drop)]
-pub struct Core {
+pub struct Core<R: Recorder> {
     pub(crate) alloc: Global,
     pub(crate) store: TableStore,
     pub(crate) units: Units,
-    branches: XaTable,
+    pub(crate) branches: XaTable,
+    pub(crate) recorder: R,
 }
 
-impl Core {
+impl<R: Recorder> Core<R> {
     /// A core without tables. Takes no memory.
-    pub fn start(alloc: Global) -> Core
-        ensures { state_of result ≡ empty }
+    pub fn start(alloc: Global, recorder: R) -> Core<R>
+        ensures state { state_of result ≡ empty }
+        ensures recorder { recorder_of result ≡ recorder }
     {
         Core {
             alloc,
             store: TableStore::new(alloc),
             units: Units::new(alloc),
             branches: XaTable::new(alloc),
+            recorder,
         }
+    }
+
+    /// Who records.
+    pub fn recorder(&self) -> &R
+        ensures { result.now ≡ recorder_of self.now }
+    {
+        &self.recorder
+    }
+
+    /// Ends the core; who records is handed out.
+    pub fn into_recorder(self) -> R
+        ensures { result ≡ recorder_of self }
+    {
+        self.recorder
     }
 
     /// Whose unit the statements of a conversation work in: that of the branch that it is joined to, else
@@ -52,28 +74,35 @@ impl Core {
         }
     }
 
-    /// The conversation's local unit is committed (DDM RDBCMM). Inside of a global unit it answers
-    /// `InGlobal` and does nothing. Memory may be refused only where the unit has changes; the core is then
-    /// as before.
+    /// The conversation's local unit is committed (DDM RDBCMM): its changes are recorded, and then made.
+    /// Inside of a global unit it answers `InGlobal` and does nothing. Memory or the record may be refused
+    /// only where the unit has changes; the core is then as before.
     pub fn commit(&mut self, conversation: u64) -> Answer
-        ensures step { Steps (state_of self.old) conversation commit result (state_of self.new) }
-        ensures sure { has_any (unit_of (local conversation) (state_of self.old).base.units).changes ≡ false → IsTaken (state_of self.old) conversation commit (answer_of result) (state_of self.new) }
+        requires allowed { (r : UnitRecord) → record_due (state_of self.old) conversation commit ≡ Some r → R.allows (recorder_of self.old) r }
+        ensures step { Steps R.records R.fails (state_of self.old) conversation commit (answer_of result) (state_of self.new) (recorder_of self.old) (recorder_of self.new) }
+        ensures sure { has_any (unit_of (local conversation) (state_of self.old).base.units).changes ≡ false → Takes R.records (state_of self.old) conversation commit (answer_of result) (state_of self.new) (recorder_of self.old) (recorder_of self.new) }
     {
         match self.branches.joined(conversation) {
             Some(_) => return Answer::InGlobal,
             None => {}
         }
         let owner = Owner::Local(conversation);
-        match commit_unit(&mut self.store, &mut self.units, self.alloc, &owner) {
+        match commit_unit(
+            &mut self.store,
+            &mut self.units,
+            &mut self.recorder,
+            self.alloc,
+            &owner,
+        ) {
             Ok(()) => Answer::Done,
-            Err(AllocError) => Answer::NoMemory,
+            Err(error) => refused(error),
         }
     }
 
     /// The conversation's local unit is rolled back (DDM RDBRLLBCK). Inside of a global unit it answers
     /// `InGlobal` and does nothing. Takes no memory.
     pub fn roll_back(&mut self, conversation: u64) -> Answer
-        ensures { IsTaken (state_of self.old) conversation roll_back (answer_of result) (state_of self.new) }
+        ensures { Takes R.records (state_of self.old) conversation roll_back (answer_of result) (state_of self.new) (recorder_of self.old) (recorder_of self.new) }
     {
         match self.branches.joined(conversation) {
             Some(_) => return Answer::InGlobal,
@@ -86,7 +115,7 @@ impl Core {
     /// The conversation is lost: its local unit ends, and so does each branch that it was the last to
     /// start or join, and that is not prepared. Takes no memory.
     pub fn lose(&mut self, conversation: u64) -> Answer
-        ensures { IsTaken (state_of self.old) conversation lost (answer_of result) (state_of self.new) }
+        ensures { Takes R.records (state_of self.old) conversation lost (answer_of result) (state_of self.new) (recorder_of self.old) (recorder_of self.new) }
     {
         let _changes = self.units.end(&Owner::Local(conversation));
         end_lost(&mut self.units, self.branches.branches(), conversation);
@@ -94,11 +123,13 @@ impl Core {
         Answer::Done
     }
 
-    /// An XA call (C193 chapter 6). Memory may be refused only where a branch begins, where changes are
-    /// committed and at `xa_recover`; the core is then as before.
+    /// An XA call (C193 chapter 6). What is prepared, decided or committed is recorded first. Memory may be
+    /// refused only where a branch begins, where changes are committed, at `xa_recover` and where a record
+    /// is made; the core is then as before.
     pub fn xa(&mut self, conversation: u64, request: &Result<Request, InvalidRequest>) -> Answer
-        ensures step { Steps (state_of self.old) conversation (xa (result_ok request.now)) result (state_of self.new) }
-        ensures sure { may_want_memory (state_of self.old) conversation (result_ok request.now) ≡ false → IsTaken (state_of self.old) conversation (xa (result_ok request.now)) (answer_of result) (state_of self.new) }
+        requires allowed { (r : UnitRecord) → record_due (state_of self.old) conversation (xa (result_ok request.now)) ≡ Some r → R.allows (recorder_of self.old) r }
+        ensures step { Steps R.records R.fails (state_of self.old) conversation (xa (result_ok request.now)) (answer_of result) (state_of self.new) (recorder_of self.old) (recorder_of self.new) }
+        ensures sure { may_want_memory (state_of self.old) conversation (result_ok request.now) ≡ false → record_due (state_of self.old) conversation (xa (result_ok request.now)) ≡ None → Takes R.records (state_of self.old) conversation (xa (result_ok request.now)) (answer_of result) (state_of self.new) (recorder_of self.old) (recorder_of self.new) }
     {
         match request {
             Err(InvalidRequest) => Answer::Xa(XaCode::Invalid),
@@ -107,11 +138,12 @@ impl Core {
     }
 }
 
-impl Core {
+impl<R: Recorder> Core<R> {
     // A call that there is.
     fn request(&mut self, conversation: u64, request: &Request) -> Answer
-        ensures step { Steps (state_of self.old) conversation (xa (Some request.now)) result (state_of self.new) }
-        ensures sure { may_want_memory (state_of self.old) conversation (Some request.now) ≡ false → IsTaken (state_of self.old) conversation (xa (Some request.now)) (answer_of result) (state_of self.new) }
+        requires allowed { (r : UnitRecord) → record_due (state_of self.old) conversation (xa (Some request.now)) ≡ Some r → R.allows (recorder_of self.old) r }
+        ensures step { Steps R.records R.fails (state_of self.old) conversation (xa (Some request.now)) (answer_of result) (state_of self.new) (recorder_of self.old) (recorder_of self.new) }
+        ensures sure { may_want_memory (state_of self.old) conversation (Some request.now) ≡ false → record_due (state_of self.old) conversation (xa (Some request.now)) ≡ None → Takes R.records (state_of self.old) conversation (xa (Some request.now)) (answer_of result) (state_of self.new) (recorder_of self.old) (recorder_of self.new) }
     {
         match request {
             Request::Recover => self.recover(),
@@ -121,7 +153,7 @@ impl Core {
 
     // The XIDs in doubt.
     fn recover(&mut self) -> Answer
-        ensures { (conversation : ℕ) → Steps (state_of self.old) conversation (xa (Some Request.Recover)) result (state_of self.new) }
+        ensures { (conversation : ℕ) → Steps R.records R.fails (state_of self.old) conversation (xa (Some Request.Recover)) (answer_of result) (state_of self.new) (recorder_of self.old) (recorder_of self.new) }
     {
         match self.branches.recover(self.alloc) {
             Ok(xids) => Answer::InDoubt(xids),
@@ -129,11 +161,13 @@ impl Core {
         }
     }
 
-    // What is asked of a branch. What is due of it is done to its unit first, then to the branch: only a
-    // branch that begins takes memory, and then no unit has changed.
+    // What is asked of a branch. What is due of it is recorded and done to its unit first, then to the
+    // branch: only a branch that begins takes memory there, and then no unit has changed and nothing is
+    // recorded.
     fn branch_call(&mut self, conversation: u64, verb: Verb, xid: &Xid) -> Answer
-        ensures step { Steps (state_of self.old) conversation (xa (Some (Request.Branch verb xid.now))) result (state_of self.new) }
-        ensures sure { may_want_memory (state_of self.old) conversation (Some (Request.Branch verb xid.now)) ≡ false → IsTaken (state_of self.old) conversation (xa (Some (Request.Branch verb xid.now))) (answer_of result) (state_of self.new) }
+        requires allowed { (r : UnitRecord) → record_due (state_of self.old) conversation (xa (Some (Request.Branch verb xid.now))) ≡ Some r → R.allows (recorder_of self.old) r }
+        ensures step { Steps R.records R.fails (state_of self.old) conversation (xa (Some (Request.Branch verb xid.now))) (answer_of result) (state_of self.new) (recorder_of self.old) (recorder_of self.new) }
+        ensures sure { may_want_memory (state_of self.old) conversation (Some (Request.Branch verb xid.now)) ≡ false → record_due (state_of self.old) conversation (xa (Some (Request.Branch verb xid.now))) ≡ None → Takes R.records (state_of self.old) conversation (xa (Some (Request.Branch verb xid.now))) (answer_of result) (state_of self.new) (recorder_of self.old) (recorder_of self.new) }
     {
         let work = Work {
             is_local: self.units.has_work(&Owner::Local(conversation)),
@@ -143,12 +177,13 @@ impl Core {
         match do_due(
             &mut self.store,
             &mut self.units,
+            &mut self.recorder,
             self.alloc,
             xid,
             due.action,
         ) {
             Ok(()) => {}
-            Err(AllocError) => return Answer::NoMemory,
+            Err(error) => return refused(error),
         }
         match self.branches.settle(conversation, xid, due) {
             Ok(()) => Answer::Xa(due.code),

@@ -4,7 +4,9 @@
 mod asking;
 mod ending;
 mod engine;
+mod opening;
 mod question;
+mod refusing;
 mod reply;
 mod step;
 

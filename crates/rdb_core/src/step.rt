@@ -1,29 +1,35 @@
 //! The core's one step.
 
-ghost use Rattle.std.specs.Prelude.{◌≡◌, false, map};
+ghost use Rattle.std.specs.Prelude.{◌≡◌, None, Some, false, map};
 ghost use Rattle.row_values.specs.Value.{value_of};
+ghost use Rattle.unit_records.specs.Records.{UnitRecord};
+ghost use Rattle.recording.specs.Due.{record_due};
 ghost use Rattle.core_calls.specs.Answer.{answer_of};
 ghost use Rattle.core_calls.specs.Call.{call_of, describe, query, run};
 ghost use Rattle.core_steps.specs.Asked.{unfit};
 ghost use Rattle.rdb_core.specs.Question.{call_asking, question_of};
-ghost use Rattle.rdb_core.specs.State.{state_of};
-ghost use Rattle.rdb_core.specs.Steps.{IsTaken, Steps, is_fit, may_want_any};
+ghost use Rattle.rdb_core.specs.State.{recorder_of, state_of};
+ghost use Rattle.rdb_core.specs.Steps.{Steps, Takes, is_fit, may_want_any};
 
 use crate::asking::ask_unit;
 use crate::engine::Core;
 use crate::question::{Question, unfit};
 use core_calls::{Answer, CoreCall, Refusal, Side};
+use recording::Recorder;
 use row_values::Value;
 use sql_text::Statement;
 use std::alloc::AllocError;
 
-impl Core {
-    /// What a conversation asks is answered, and the core takes one step. Out of memory it answers
-    /// `NoMemory` and is as before. A rollback and the loss of a conversation take no memory, nor do a
-    /// commit of a unit without changes and a statement that is refused before it claims anything.
+impl<R: Recorder> Core<R> {
+    /// What a conversation asks is answered, and the core takes one step. What is committed, prepared or
+    /// decided is recorded first; where that is refused the answer says why, and the core is as before.
+    /// Out of memory it answers `NoMemory` and is as before. A rollback and the loss of a conversation
+    /// take no memory, nor do a commit of a unit without changes and a statement that is refused before
+    /// it claims anything; nothing is recorded of them.
     pub fn step(&mut self, conversation: u64, call: &CoreCall<'_, '_>) -> Answer
-        ensures step { Steps (state_of self.old) conversation (call_of call.now) result (state_of self.new) }
-        ensures sure { may_want_any (state_of self.old) conversation (call_of call.now) ≡ false → IsTaken (state_of self.old) conversation (call_of call.now) (answer_of result) (state_of self.new) }
+        requires allowed { (r : UnitRecord) → record_due (state_of self.old) conversation (call_of call.now) ≡ Some r → R.allows (recorder_of self.old) r }
+        ensures step { Steps R.records R.fails (state_of self.old) conversation (call_of call.now) (answer_of result) (state_of self.new) (recorder_of self.old) (recorder_of self.new) }
+        ensures sure { may_want_any (state_of self.old) conversation (call_of call.now) ≡ false → record_due (state_of self.old) conversation (call_of call.now) ≡ None → Takes R.records (state_of self.old) conversation (call_of call.now) (answer_of result) (state_of self.new) (recorder_of self.old) (recorder_of self.new) }
     {
         match call {
             CoreCall::Run {
@@ -52,8 +58,8 @@ impl Core {
         statement: &'a Statement<'t>,
         parameters: &'a [Value<'t>],
     ) -> Answer
-        ensures step { Steps (state_of self.old) conversation (run statement.now (map value_of parameters.now)) result (state_of self.new) }
-        ensures sure { may_want_any (state_of self.old) conversation (run statement.now (map value_of parameters.now)) ≡ false → IsTaken (state_of self.old) conversation (run statement.now (map value_of parameters.now)) (answer_of result) (state_of self.new) }
+        ensures step { Steps R.records R.fails (state_of self.old) conversation (run statement.now (map value_of parameters.now)) (answer_of result) (state_of self.new) (recorder_of self.old) (recorder_of self.new) }
+        ensures sure { may_want_any (state_of self.old) conversation (run statement.now (map value_of parameters.now)) ≡ false → Takes R.records (state_of self.old) conversation (run statement.now (map value_of parameters.now)) (answer_of result) (state_of self.new) (recorder_of self.old) (recorder_of self.new) }
     {
         self.ask(
             conversation,
@@ -73,8 +79,8 @@ impl Core {
         statement: &'a Statement<'t>,
         parameters: &'a [Value<'t>],
     ) -> Answer
-        ensures step { Steps (state_of self.old) conversation (query statement.now (map value_of parameters.now)) result (state_of self.new) }
-        ensures sure { may_want_any (state_of self.old) conversation (query statement.now (map value_of parameters.now)) ≡ false → IsTaken (state_of self.old) conversation (query statement.now (map value_of parameters.now)) (answer_of result) (state_of self.new) }
+        ensures step { Steps R.records R.fails (state_of self.old) conversation (query statement.now (map value_of parameters.now)) (answer_of result) (state_of self.new) (recorder_of self.old) (recorder_of self.new) }
+        ensures sure { may_want_any (state_of self.old) conversation (query statement.now (map value_of parameters.now)) ≡ false → Takes R.records (state_of self.old) conversation (query statement.now (map value_of parameters.now)) (answer_of result) (state_of self.new) (recorder_of self.old) (recorder_of self.new) }
     {
         self.ask(
             conversation,
@@ -88,16 +94,16 @@ impl Core {
     /// One side of a statement is described over the view of the unit that the conversation works in
     /// (DDM DSCSQLSTT). A CREATE TABLE is not. Where its table is there nothing is claimed.
     pub fn describe(&mut self, conversation: u64, statement: &Statement<'_>, side: Side) -> Answer
-        ensures step { Steps (state_of self.old) conversation (describe statement.now side) result (state_of self.new) }
-        ensures sure { may_want_any (state_of self.old) conversation (describe statement.now side) ≡ false → IsTaken (state_of self.old) conversation (describe statement.now side) (answer_of result) (state_of self.new) }
+        ensures step { Steps R.records R.fails (state_of self.old) conversation (describe statement.now side) (answer_of result) (state_of self.new) (recorder_of self.old) (recorder_of self.new) }
+        ensures sure { may_want_any (state_of self.old) conversation (describe statement.now side) ≡ false → Takes R.records (state_of self.old) conversation (describe statement.now side) (answer_of result) (state_of self.new) (recorder_of self.old) (recorder_of self.new) }
     {
         self.ask(conversation, Question::Describing { statement, side })
     }
 
     // A question of the unit that a conversation works in.
     fn ask(&mut self, conversation: u64, question: Question<'_, '_>) -> Answer
-        ensures step { Steps (state_of self.old) conversation (call_asking (question_of question.entry)) result (state_of self.new) }
-        ensures sure { is_fit (unfit (question_of question.entry)) ≡ false → IsTaken (state_of self.old) conversation (call_asking (question_of question.entry)) (answer_of result) (state_of self.new) }
+        ensures step { Steps R.records R.fails (state_of self.old) conversation (call_asking (question_of question.entry)) (answer_of result) (state_of self.new) (recorder_of self.old) (recorder_of self.new) }
+        ensures sure { is_fit (unfit (question_of question.entry)) ≡ false → Takes R.records (state_of self.old) conversation (call_asking (question_of question.entry)) (answer_of result) (state_of self.new) (recorder_of self.old) (recorder_of self.new) }
     {
         match unfit(question) {
             Some(fault) => return Answer::Refused(Refusal::Unfit(fault)),

@@ -3,6 +3,7 @@
 use crate::fixtures::{ask, numbered};
 use core_calls::Answer;
 use rdb_core::Core;
+use recording::NoRecords;
 use std::test::Fail;
 use xa_calls::{Ending, InvalidRequest, Request, Verb};
 
@@ -36,7 +37,7 @@ fn answers_each_cell(rt: HostRuntime) -> Result<(), Fail> {
     let xid = numbered(1)?;
     for (verb, codes) in CELLS {
         for (calls, code) in STATES.into_iter().zip(codes) {
-            let mut core = Core::start(rt.alloc());
+            let mut core = Core::start(rt.alloc(), NoRecords);
             for (conversation, before) in calls {
                 assert_eq!(rt; ask(&mut core, *conversation, *before, xid), Some(0));
             }
@@ -52,7 +53,7 @@ fn answers_each_cell(rt: HostRuntime) -> Result<(), Fail> {
 
 #[test]
 fn refuses_what_is_no_call(rt: HostRuntime) -> Result<(), Fail> {
-    let mut core = Core::start(rt.alloc());
+    let mut core = Core::start(rt.alloc(), NoRecords);
     match core.xa(1, &Err(InvalidRequest)) {
         Answer::Xa(code) => assert_eq!(rt; code.number(), -5),
         _ => return Err("no code")?,

@@ -3,13 +3,14 @@
 use crate::fixtures::{ask, numbered};
 use core_calls::Answer;
 use rdb_core::Core;
+use recording::NoRecords;
 use std::test::Fail;
 use xa_calls::{Ending, Verb};
 
 // A local unit is committed and rolled back; inside of a branch neither is done.
 #[test]
 fn ends_local_units(rt: HostRuntime) -> Result<(), Fail> {
-    let mut core = Core::start(rt.alloc());
+    let mut core = Core::start(rt.alloc(), NoRecords);
     assert!(rt; matches!(core.commit(1), Answer::Done));
     assert!(rt; matches!(core.roll_back(1), Answer::Done));
     assert_eq!(rt; ask(&mut core, 1, Verb::Start, numbered(1)?), Some(0));
@@ -24,7 +25,7 @@ fn ends_local_units(rt: HostRuntime) -> Result<(), Fail> {
 fn loses_what_was_joined_last(rt: HostRuntime) -> Result<(), Fail> {
     let xid = numbered(1)?;
     let other = numbered(2)?;
-    let mut core = Core::start(rt.alloc());
+    let mut core = Core::start(rt.alloc(), NoRecords);
     for (conversation, verb) in [
         (1, Verb::Start),
         (1, Verb::End(Ending::Kept)),

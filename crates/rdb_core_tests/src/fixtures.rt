@@ -2,6 +2,7 @@
 
 use core_calls::Answer;
 use rdb_core::Core;
+use recording::NoRecords;
 use xa_calls::{BadXid, Request, Verb, Xid};
 
 // The XID of format 7 whose global part is the number, without a branch part.
@@ -10,7 +11,7 @@ pub fn numbered(number: u8) -> Result<Xid, BadXid> {
 }
 
 // The code that a conversation is answered which asks this of a branch.
-pub fn ask(core: &mut Core, conversation: u64, verb: Verb, xid: Xid) -> Option<i32> {
+pub fn ask(core: &mut Core<NoRecords>, conversation: u64, verb: Verb, xid: Xid) -> Option<i32> {
     match core.xa(conversation, &Ok(Request::Branch(verb, xid))) {
         Answer::Xa(code) => Some(code.number()),
         _ => None,

@@ -7,3 +7,5 @@ mod answers;
 mod ends;
 #[cfg(test)]
 mod fixtures;
+#[cfg(test)]
+mod refusals;

@@ -4,8 +4,8 @@ use Rattle.drda_node.specs.Happening.{refusal}
 use Rattle.drda_node.proofs.Refusing.{ok_so, no_bytes_taken}
 use Rattle.drda_node.proofs.answering.answer_bytes.Goals as goal
 
-pub returns-then-not-has : goal.returns-then-not-has
-returns-then-not-has c =
+pub returns-then-not-has-clause-happens : goal.returns-then-not-has-clause-happens
+returns-then-not-has-clause-happens g c =
     let m = machine c.args.node.now in
     ok_so c.refuse.result
     (λ said. no_bytes_taken (slice_get m.row c.args.number) m c.args.number c.args.bytes.now c.refuse.new.text.items

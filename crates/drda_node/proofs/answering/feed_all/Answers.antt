@@ -1,17 +1,18 @@
 use Rattle.std.proofs.Common.{◌≡◌, ◌≤◌, ◌+◌, ◌-◌, ◌++◌, ℕ, List, [], length, take, drop, ap, sym, subst, ◌∙◌, append-nil, inr, arith}
 use Rattle.std.proofs.lemmas.List.{take_rest, length-drop}
 use Rattle.drda_node.specs.declared.fed.FedState.{FedState}
-use Rattle.drda_node.specs.Register.{machine}
+use Rattle.drda_node.specs.Register.{core_in, machine}
+use Rattle.drda_node.proofs.Journal.{more}
 use Rattle.drda_node.specs.Feeding.{Feeds, LeftAs, bytes_behind}
 use Rattle.drda_node.proofs.Heard.{Heard, heard_more, heard_all, heard_closed, said_behind, still_there}
 use Rattle.drda_node.proofs.answering.feed_all.Goals as goal
 
 pub feed_at-fed-requires : goal.feed_at-fed-requires
-feed_at-fed-requires c =
+feed_at-fed-requires g c =
     still_there (machine c.args.node.now) c.args.place c.args.bytes.now c.feeding.at c.args.replies.now.items (machine c.feeding.node) c.feeding.replies.items c.requires c.feeding.invariant.heard
 
-pub returns-in-Open : goal.returns-in-Open
-returns-in-Open c =
+pub returns-in-Open-clause-hears : goal.returns-in-Open-clause-hears
+returns-in-Open-clause-hears g c =
     let bytes = c.args.bytes.now in
     let at = c.feeding.at in
     let fed = c.feed_at-fed.result in
@@ -35,8 +36,8 @@ returns-in-Open c =
       subst (λ (s : FedState). LeftAs s fed.taken f.after) c.in-Open.is f.takes.state,
     )
 
-pub returns-in-Closed : goal.returns-in-Closed
-returns-in-Closed c =
+pub returns-in-Closed-clause-hears : goal.returns-in-Closed-clause-hears
+returns-in-Closed-clause-hears g c =
     let bytes = c.args.bytes.now in
     let at = c.feeding.at in
     let fed = c.feed_at-fed.result in
@@ -59,7 +60,7 @@ returns-in-Closed c =
     )
 
 pub feeding-preserved : goal.feeding-preserved
-feeding-preserved c =
+feeding-preserved g c =
     let bytes = c.args.bytes.now in
     let at = c.feeding.at in
     let fed = c.feed_at-fed.result in
@@ -77,5 +78,18 @@ feeding-preserved c =
     let within = f.takes.within in
     record {
       within = omega (arith, within, rest, c.feeding.invariant.within);
+      journaled = more g.D.Disk.is_modelled g.D.Disk.life c.calls_go_on.ensures (core_in c.args.node.now) (core_in c.feeding.node) (core_in c.feed_at-fed.new.self) c.feeding.invariant.journaled c.feed_at-fed.ensures.journaled;
       heard = inr (f.after, said_behind first new place (take (at + fed.taken) bytes) out _ out' _ f.after all c.in_ok-extend_from_slice-in-Short.ensures.items);
     }
+
+pub returns-in-Open-clause-journaled : goal.returns-in-Open-clause-journaled
+returns-in-Open-clause-journaled g c = more g.D.Disk.is_modelled g.D.Disk.life c.calls_go_on.ensures (core_in c.args.node.now) (core_in c.feeding.node) (core_in c.feed_at-fed.new.self) c.feeding.invariant.journaled c.feed_at-fed.ensures.journaled
+
+pub returns-in-Closed-clause-journaled : goal.returns-in-Closed-clause-journaled
+returns-in-Closed-clause-journaled g c = more g.D.Disk.is_modelled g.D.Disk.life c.calls_go_on.ensures (core_in c.args.node.now) (core_in c.feeding.node) (core_in c.feed_at-fed.new.self) c.feeding.invariant.journaled c.feed_at-fed.ensures.journaled
+
+pub returns-in_err-extend_from_slice-in-Short-clause-journaled : goal.returns-in_err-extend_from_slice-in-Short-clause-journaled
+returns-in_err-extend_from_slice-in-Short-clause-journaled g c = more g.D.Disk.is_modelled g.D.Disk.life c.calls_go_on.ensures (core_in c.args.node.now) (core_in c.feeding.node) (core_in c.feed_at-fed.new.self) c.feeding.invariant.journaled c.feed_at-fed.ensures.journaled
+
+pub returns-in-Later-clause-journaled : goal.returns-in-Later-clause-journaled
+returns-in-Later-clause-journaled g c = more g.D.Disk.is_modelled g.D.Disk.life c.calls_go_on.ensures (core_in c.args.node.now) (core_in c.feeding.node) (core_in c.feed_at-fed.new.self) c.feeding.invariant.journaled c.feed_at-fed.ensures.journaled

@@ -6,6 +6,7 @@ use Rattle.drda_node.specs.Asking.{core_of}
 use Rattle.drda_node.specs.Feeding.{Takes, with_core}
 use Rattle.conversation.specs.Settings.{Settings}
 use Rattle.drda_node.proofs.Askers.{same_self, same_then}
+use Rattle.drda_node.proofs.Journal.{more, none}
 use Rattle.drda_node.proofs.Pieces.{IsUnderWay, starts, stays_closed, stops, ends_so, goes_on}
 use Rattle.drda_node.proofs.Stepping.{within_piece}
 use Rattle.drda_node.proofs.feeding.converse.Goals as goal
@@ -14,18 +15,19 @@ below : (a b : ℕ) → a ≤ b → (a ≡ b → ⊥) → a < b
 below a b le apart = omega (arith, le, apart)
 
 pub returns-then-is_closed-clause-takes : goal.returns-then-is_closed-clause-takes
-returns-then-is_closed-clause-takes c = stays_closed c.args.asker.now.conversation c.args.front.now (core_of c.args.asker.now) c.args.piece.now c.args.out.now.items c.requires (sym c.is_closed.ensures ∙ c.if-is_closed.true)
+returns-then-is_closed-clause-takes g c = stays_closed c.args.asker.now.conversation c.args.front.now (core_of c.args.asker.now) c.args.piece.now c.args.out.now.items c.requires (sym c.is_closed.ensures ∙ c.if-is_closed.true)
 
 pub pieces-init : goal.pieces-init
-pieces-init c = record {
+pieces-init g c = record {
   settled = c.requires;
   settings = refl;
   same_asker = same_self c.args.asker.now;
+  journaled = none g.D.Disk.is_modelled g.D.Disk.life c.calls_go_on.ensures c.args.asker.now.core.now c.is_durable.ensures;
   under_way = starts c.args.asker.now.conversation c.args.front.now (core_of c.args.asker.now) c.args.piece.now c.args.out.now.items c.requires (sym c.is_closed.ensures ∙ c.if-is_closed.false);
 }
 
 pub returns-in_default-clause-takes : goal.returns-in_default-clause-takes
-returns-in_default-clause-takes c =
+returns-in_default-clause-takes g c =
     let settings = c.args.front.now.settings in
     let place = c.args.asker.now.conversation in
     let old = with_core c.args.front.now (core_of c.args.asker.now) in
@@ -34,19 +36,19 @@ returns-in_default-clause-takes c =
     (stops settings place old c.args.piece.now c.args.out.now.items c.pieces.taken between c.pieces.out.items c.pieces.invariant.under_way)
 
 pub hand_on-fed-requires-clause-one_command : goal.hand_on-fed-requires-clause-one_command
-hand_on-fed-requires-clause-one_command c = λ more command rest unfinished few taken.
+hand_on-fed-requires-clause-one_command g c = λ more command rest unfinished few taken.
     let size = c.pieces.taken + c.min-size.result - c.pieces.taken in
     let of_take : length (take size (drop c.pieces.taken c.args.piece.now)) ≡ min size (length (drop c.pieces.taken c.args.piece.now)) = length-take size (drop c.pieces.taken c.args.piece.now) in
     c.wanted.ensures.one_command more command rest unfinished (omega (arith, few, of_take, c.min-size.ensures)) taken
 
 pub hand_on-fed-requires-clause-wanted : goal.hand_on-fed-requires-clause-wanted
-hand_on-fed-requires-clause-wanted c = λ unfinished.
+hand_on-fed-requires-clause-wanted g c = λ unfinished.
     let size = c.pieces.taken + c.min-size.result - c.pieces.taken in
     let of_take : length (take size (drop c.pieces.taken c.args.piece.now)) ≡ min size (length (drop c.pieces.taken c.args.piece.now)) = length-take size (drop c.pieces.taken c.args.piece.now) in
     (c.wanted.result, c.wanted.ensures.exact unfinished, omega (arith, of_take, c.min-size.ensures))
 
 pub returns-then-taken-piece-clause-takes : goal.returns-then-taken-piece-clause-takes
-returns-then-taken-piece-clause-takes c =
+returns-then-taken-piece-clause-takes g c =
     let old = with_core c.args.front.now (core_of c.args.asker.now) in
     let between = with_core c.pieces.front (core_of c.pieces.asker) in
     let new = with_core c.hand_on-fed.new.front (core_of c.hand_on-fed.new.asker) in
@@ -66,7 +68,7 @@ returns-then-taken-piece-clause-takes c =
     (ends_so settings place c.stays_read.ensures.fault old between new piece out out1 out2 c.pieces.taken c.wanted.result size fed under_way size_is c.wanted.ensures.some takes (λ e. c.if-taken-piece.true))
 
 pub pieces-preserved : goal.pieces-preserved
-pieces-preserved c =
+pieces-preserved g c =
     let old = with_core c.args.front.now (core_of c.args.asker.now) in
     let between = with_core c.pieces.front (core_of c.pieces.asker) in
     let new = with_core c.hand_on-fed.new.front (core_of c.hand_on-fed.new.asker) in
@@ -85,12 +87,13 @@ pieces-preserved c =
       settled = c.hand_on-fed.ensures.settled;
       settings = c.hand_on-fed.ensures.settings ∙ c.pieces.invariant.settings;
       same_asker = same_then c.args.asker.now c.pieces.asker c.hand_on-fed.new.asker c.pieces.invariant.same_asker c.hand_on-fed.ensures.same_asker;
+      journaled = more g.D.Disk.is_modelled g.D.Disk.life c.calls_go_on.ensures c.args.asker.now.core.now c.pieces.asker.core.now c.hand_on-fed.new.asker.core.now c.pieces.invariant.journaled c.hand_on-fed.ensures.journaled;
       under_way = goes_on settings place c.stays_read.ensures.fault old between new piece out out1 out2 c.pieces.taken size fed under_way takes c.in-Open.is
           (below (c.pieces.taken + fed.taken) (length piece) (within_piece piece c.pieces.taken size fed.taken c.pieces.invariant.under_way.within takes.within) c.if-taken-piece.false);
     }
 
 pub returns-in_default-state : goal.returns-in_default-state
-returns-in_default-state c =
+returns-in_default-state g c =
     let old = with_core c.args.front.now (core_of c.args.asker.now) in
     let between = with_core c.pieces.front (core_of c.pieces.asker) in
     let new = with_core c.hand_on-fed.new.front (core_of c.hand_on-fed.new.asker) in
@@ -110,5 +113,12 @@ returns-in_default-state c =
       settled = c.hand_on-fed.ensures.settled;
       settings = c.hand_on-fed.ensures.settings ∙ c.pieces.invariant.settings;
       same_asker = same_then c.args.asker.now c.pieces.asker c.hand_on-fed.new.asker c.pieces.invariant.same_asker c.hand_on-fed.ensures.same_asker;
+      journaled = more g.D.Disk.is_modelled g.D.Disk.life c.calls_go_on.ensures c.args.asker.now.core.now c.pieces.asker.core.now c.hand_on-fed.new.asker.core.now c.pieces.invariant.journaled c.hand_on-fed.ensures.journaled;
       takes = ends_so settings place c.stays_read.ensures.fault old between new piece out out1 out2 c.pieces.taken c.wanted.result size fed under_way size_is c.wanted.ensures.some takes (λ e. absurd (c.in_default-state.not-Open e));
     }
+
+pub returns-then-is_closed-clause-journaled : goal.returns-then-is_closed-clause-journaled
+returns-then-is_closed-clause-journaled g c = none g.D.Disk.is_modelled g.D.Disk.life c.calls_go_on.ensures c.args.asker.now.core.now c.is_durable.ensures
+
+pub returns-then-taken-piece-clause-journaled : goal.returns-then-taken-piece-clause-journaled
+returns-then-taken-piece-clause-journaled g c = more g.D.Disk.is_modelled g.D.Disk.life c.calls_go_on.ensures c.args.asker.now.core.now c.pieces.asker.core.now c.hand_on-fed.new.asker.core.now c.pieces.invariant.journaled c.hand_on-fed.ensures.journaled

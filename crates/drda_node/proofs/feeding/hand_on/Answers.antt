@@ -3,6 +3,7 @@ use Rattle.drda_node.specs.declared.fed.FedState.{FedState}
 use Rattle.drda_node.specs.Asking.{core_of}
 use Rattle.drda_node.specs.Feeding.{Takes, with_core}
 use Rattle.drda_node.proofs.Askers.{over}
+use Rattle.drda_node.proofs.Journal.{at_most_one}
 use Rattle.drda_node.proofs.Stepping.{handed, moved}
 use Rattle.drda_node.proofs.feeding.hand_on.Goals as goal
 
@@ -10,26 +11,26 @@ fewer : (a b : ℕ) → a ≤ b → (a == b) ≡ false → a < b
 fewer a b le apart = grind (arith, le, apart)
 
 pub returns-clause-settled : goal.returns-clause-settled
-returns-clause-settled c =
-    let (asked, same) = over c.next-need.result c.feed-taken.new.self c.next-need.new.self c.args.asker.now c.next-need.new.asker c.args.out.now.items c.next-need.new.out.items c.next-need.ensures in
+returns-clause-settled g c =
+    let (asked, (same, once)) = over g.D.Disk.is_modelled g.D.Disk.life c.next-need.result c.feed-taken.new.self c.next-need.new.self c.args.asker.now c.next-need.new.asker c.args.out.now.items c.next-need.new.out.items c.next-need.ensures in
     let step = handed c.stays_read.ensures.nothing c.args.asker.now.conversation c.args.front.now c.feed-taken.new.self (core_of c.args.asker.now) c.args.part.now c.args.out.now.items c.feed-taken.result c.next-need.result c.next-need.new.self
     (core_of c.next-need.new.asker) c.next-need.new.out.items c.requires.settled c.requires.one_command c.feed-taken.ensures.taken c.feed-taken.ensures.within c.feed-taken.ensures.closed asked in
     step.settled
 
 pub returns-clause-settings : goal.returns-clause-settings
-returns-clause-settings c =
-    let (asked, same) = over c.next-need.result c.feed-taken.new.self c.next-need.new.self c.args.asker.now c.next-need.new.asker c.args.out.now.items c.next-need.new.out.items c.next-need.ensures in
+returns-clause-settings g c =
+    let (asked, (same, once)) = over g.D.Disk.is_modelled g.D.Disk.life c.next-need.result c.feed-taken.new.self c.next-need.new.self c.args.asker.now c.next-need.new.asker c.args.out.now.items c.next-need.new.out.items c.next-need.ensures in
     let step = handed c.stays_read.ensures.nothing c.args.asker.now.conversation c.args.front.now c.feed-taken.new.self (core_of c.args.asker.now) c.args.part.now c.args.out.now.items c.feed-taken.result c.next-need.result c.next-need.new.self
     (core_of c.next-need.new.asker) c.next-need.new.out.items c.requires.settled c.requires.one_command c.feed-taken.ensures.taken c.feed-taken.ensures.within c.feed-taken.ensures.closed asked in
     step.settings
 
 pub returns-clause-same_asker : goal.returns-clause-same_asker
-returns-clause-same_asker c =
-    let (asked, same) = over c.next-need.result c.feed-taken.new.self c.next-need.new.self c.args.asker.now c.next-need.new.asker c.args.out.now.items c.next-need.new.out.items c.next-need.ensures in
+returns-clause-same_asker g c =
+    let (asked, (same, once)) = over g.D.Disk.is_modelled g.D.Disk.life c.next-need.result c.feed-taken.new.self c.next-need.new.self c.args.asker.now c.next-need.new.asker c.args.out.now.items c.next-need.new.out.items c.next-need.ensures in
     same
 
 pub returns-clause-takes : goal.returns-clause-takes
-returns-clause-takes c =
+returns-clause-takes g c =
     let old = c.args.front.now in
     let new = c.next-need.new.self in
     let core = core_of c.args.asker.now in
@@ -39,9 +40,14 @@ returns-clause-takes c =
     let out = c.args.out.now.items in
     let out' = c.next-need.new.out.items in
     let count = c.feed-taken.result in
-    let (asked, same) = over c.next-need.result c.feed-taken.new.self new c.args.asker.now c.next-need.new.asker out out' c.next-need.ensures in
+    let (asked, (same, once)) = over g.D.Disk.is_modelled g.D.Disk.life c.next-need.result c.feed-taken.new.self new c.args.asker.now c.next-need.new.asker out out' c.next-need.ensures in
     let step = handed c.stays_read.ensures.nothing place old c.feed-taken.new.self core part out count c.next-need.result new core' out'
     c.requires.settled c.requires.one_command c.feed-taken.ensures.taken c.feed-taken.ensures.within c.feed-taken.ensures.closed asked in
     subst (λ (s : FedState). Takes old.settings place (with_core old core) part out (record { taken = count; state = s }) (with_core new core') out') (sym c.state_of.ensures)
     (moved place c.next-need.result (count == length part) old core part out count new core' out' c.feed-taken.ensures.within (λ e. search rules) (fewer count (length part) c.feed-taken.ensures.within) c.feed-taken.ensures.closed c.requires.settled
     c.requires.wanted step)
+
+pub returns-clause-journaled : goal.returns-clause-journaled
+returns-clause-journaled g c =
+    let (asked, (same, once)) = over g.D.Disk.is_modelled g.D.Disk.life c.next-need.result c.feed-taken.new.self c.next-need.new.self c.args.asker.now c.next-need.new.asker c.args.out.now.items c.next-need.new.out.items c.next-need.ensures in
+    at_most_one g.D.Disk.is_modelled g.D.Disk.life c.calls_go_on.ensures c.args.asker.now c.next-need.new.asker c.is_durable.ensures once

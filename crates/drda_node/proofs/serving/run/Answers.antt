@@ -1,14 +1,15 @@
 use Rattle.std.proofs.Common.{◌≡◌, ℕ, List, length, take, drop, ap, subst, ◌∙◌, arith}
 use Rattle.std.specs.Io.KnownBytes.{Appends}
-use Rattle.drda_node.specs.Register.{machine}
+use Rattle.drda_node.specs.Register.{core_in, machine}
+use Rattle.drda_node.proofs.Journal.{more, none}
 use Rattle.drda_node.specs.Reading.{event_of}
 use Rattle.drda_node.specs.Happening.{Happens}
 use Rattle.drda_node.proofs.Written.{take_front}
 use Rattle.drda_node.proofs.Runs.{starts, one_more, is_bad, read_fault, no_memory, write_fault}
 use Rattle.drda_node.proofs.serving.run.Goals as goal
 
-pub returns-in_default : goal.returns-in_default
-returns-in_default g c =
+pub returns-in_default-clause-runs : goal.returns-in_default-clause-runs
+returns-in_default-clause-runs g c =
     let r = g.R.Read.remaining c.args.reader.now in
     let w = g.W.Write.contents c.args.writer.now in
     let m = machine c.args.node.now in
@@ -25,13 +26,13 @@ answer-requires g c =
     let all : length c.deref.result.now ≡ length buffer = ap length (c.deref.ensures.value ∙ back) in
     omega (arith, all, full, c.in-Event.ensures.within)
 
-pub returns-in_default-answer : goal.returns-in_default-answer
-returns-in_default-answer g c =
+pub returns-in_default-answer-clause-runs : goal.returns-in_default-answer-clause-runs
+returns-in_default-answer-clause-runs g c =
     no_memory (g.R.Read.remaining c.args.reader.now) (g.R.Read.remaining c.events.reader) (g.W.Write.contents c.args.writer.now) (g.W.Write.contents c.events.writer) (machine c.args.node.now) (machine c.events.node) (machine c.answer.new.node)
     c.events.invariant.so_far
 
-pub returns-in_default-write_whole : goal.returns-in_default-write_whole
-returns-in_default-write_whole g c =
+pub returns-in_default-write_whole-clause-runs : goal.returns-in_default-write_whole-clause-runs
+returns-in_default-write_whole-clause-runs g c =
     let buffer = c.read_event.new.buffer in
     let behind = drop (length c.read_event.new.buffer) c.events.buffer.items in
     let lent : length c.deref_mut.result.now ≡ 65536 = ap length c.deref_mut.ensures.value ∙ c.events.invariant.room in
@@ -50,15 +51,15 @@ returns-in_default-write_whole g c =
     let last = machine c.answer.new.node in
     let text = c.answer.new.text.items in
     let event = event_of c.in-Event.head buffer in
-    let happens = subst (λ (z : List ℕ). Happens between (event_of c.in-Event.head z) text last) same c.in-Ok-answer.ensures in
+    let happens = subst (λ (z : List ℕ). Happens between (event_of c.in-Event.head z) text last) same c.in-Ok-answer.ensures.happens in
     let wrote = subst (λ (z : List ℕ). (count : ℕ) × Appends w1 w2 (take count z)) c.deref-in-Event.ensures.value c.in_default-write_whole.ensures.err in
     write_fault r r1 r2 w w1 w2 first between last event text c.events.invariant.so_far c.in-Event.ensures.reads happens wrote
 
-pub returns-in-Bad : goal.returns-in-Bad
-returns-in-Bad g c = is_bad (g.R.Read.remaining c.args.reader.now) (g.R.Read.remaining c.events.reader) (g.W.Write.contents c.args.writer.now) (g.W.Write.contents c.events.writer) (machine c.args.node.now) (machine c.events.node) c.events.invariant.so_far c.in-Bad.ensures.reads
+pub returns-in-Bad-clause-runs : goal.returns-in-Bad-clause-runs
+returns-in-Bad-clause-runs g c = is_bad (g.R.Read.remaining c.args.reader.now) (g.R.Read.remaining c.events.reader) (g.W.Write.contents c.args.writer.now) (g.W.Write.contents c.events.writer) (machine c.args.node.now) (machine c.events.node) c.events.invariant.so_far c.in-Bad.ensures.reads
 
-pub returns-in-Fault : goal.returns-in-Fault
-returns-in-Fault g c = read_fault (g.R.Read.remaining c.args.reader.now) (g.R.Read.remaining c.events.reader) (g.W.Write.contents c.args.writer.now) (g.W.Write.contents c.events.writer) (machine c.args.node.now) (machine c.events.node) c.events.invariant.so_far
+pub returns-in-Fault-clause-runs : goal.returns-in-Fault-clause-runs
+returns-in-Fault-clause-runs g c = read_fault (g.R.Read.remaining c.args.reader.now) (g.R.Read.remaining c.events.reader) (g.W.Write.contents c.args.writer.now) (g.W.Write.contents c.events.writer) (machine c.args.node.now) (machine c.events.node) c.events.invariant.so_far
 
 pub events-preserved : goal.events-preserved
 events-preserved g c =
@@ -80,12 +81,29 @@ events-preserved g c =
     let last = machine c.answer.new.node in
     let text = c.answer.new.text.items in
     let event = event_of c.in-Event.head buffer in
-    let happens = subst (λ (z : List ℕ). Happens between (event_of c.in-Event.head z) text last) same c.in-Ok-answer.ensures in
+    let happens = subst (λ (z : List ℕ). Happens between (event_of c.in-Event.head z) text last) same c.in-Ok-answer.ensures.happens in
     let wrote = subst (λ (z : List ℕ). Appends w1 w2 z) c.deref-in-Event.ensures.value c.in-Ok-write_whole.ensures.ok in
     record {
       room = ap length back ∙ full;
+      journaled = more g.D.Disk.is_modelled g.D.Disk.life c.calls_go_on.ensures (core_in c.args.node.now) (core_in c.events.node) (core_in c.answer.new.node) c.events.invariant.journaled c.answer.ensures.journaled;
       so_far = one_more r r1 r2 w w1 w2 first between last event text c.events.invariant.so_far c.in-Event.ensures.reads happens wrote;
     }
 
-pub returns : goal.returns
-returns g c = read_fault (g.R.Read.remaining c.args.reader.now) (g.R.Read.remaining c.events.reader) (g.W.Write.contents c.args.writer.now) (g.W.Write.contents c.events.writer) (machine c.args.node.now) (machine c.events.node) c.events.invariant.so_far
+pub returns-clause-runs : goal.returns-clause-runs
+returns-clause-runs g c = read_fault (g.R.Read.remaining c.args.reader.now) (g.R.Read.remaining c.events.reader) (g.W.Write.contents c.args.writer.now) (g.W.Write.contents c.events.writer) (machine c.args.node.now) (machine c.events.node) c.events.invariant.so_far
+
+pub returns-in_default-clause-journaled : goal.returns-in_default-clause-journaled
+returns-in_default-clause-journaled g c = none g.D.Disk.is_modelled g.D.Disk.life c.calls_go_on.ensures (core_in c.args.node.now) c.is_durable.ensures
+
+pub returns-in_default-answer-clause-journaled : goal.returns-in_default-answer-clause-journaled
+returns-in_default-answer-clause-journaled g c = more g.D.Disk.is_modelled g.D.Disk.life c.calls_go_on.ensures (core_in c.args.node.now) (core_in c.events.node) (core_in c.answer.new.node) c.events.invariant.journaled c.answer.ensures.journaled
+
+pub returns-in_default-write_whole-clause-journaled : goal.returns-in_default-write_whole-clause-journaled
+returns-in_default-write_whole-clause-journaled g c = more g.D.Disk.is_modelled g.D.Disk.life c.calls_go_on.ensures (core_in c.args.node.now) (core_in c.events.node) (core_in c.answer.new.node) c.events.invariant.journaled c.answer.ensures.journaled
+
+pub events-init : goal.events-init
+events-init g c = record {
+  room = c.in-Ok.ensures;
+  journaled = none g.D.Disk.is_modelled g.D.Disk.life c.calls_go_on.ensures (core_in c.args.node.now) c.is_durable.ensures;
+  so_far = starts (g.R.Read.remaining c.args.reader.now) (g.W.Write.contents c.args.writer.now) (machine c.args.node.now);
+}

@@ -5,7 +5,7 @@ use Rattle.drda_node.proofs.Rows.{view_at, shows_open, open_shows, get_view, bel
 use Rattle.drda_node.proofs.node.Node.has.Goals as goal
 
 pub returns-then-place-len : goal.returns-then-place-len
-returns-then-place-len c =
+returns-then-place-len g c =
     let items = c.args.self.now.places.items in
     let place = c.index.result.now in
     let below : c.args.place < length items = search rules in (
@@ -14,7 +14,7 @@ returns-then-place-len c =
     )
 
 pub returns-else-place-len : goal.returns-else-place-len
-returns-else-place-len c =
+returns-else-place-len g c =
     let items = c.args.self.now.places.items in
     let past : length items ≤ c.args.place = search rules in (
       λ is. absurd (let below : c.args.place < length items = search (rules, is) in omega arith),

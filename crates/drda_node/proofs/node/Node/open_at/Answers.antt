@@ -5,7 +5,7 @@ use Rattle.drda_node.proofs.Rows.{view_set, same_machine}
 use Rattle.drda_node.proofs.node.Node.open_at.Goals as goal
 
 pub returns-clause-opened : goal.returns-clause-opened
-returns-clause-opened c =
+returns-clause-opened g c =
     let items = c.args.self.now.places.items in
     record {
       free = c.requires;

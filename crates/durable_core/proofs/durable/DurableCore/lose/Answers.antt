@@ -1,7 +1,7 @@
 use Rattle.std.proofs.Common.{rules, ◌≡◌, IsTrue, Bool, true, false, string_bytes, List, ℕ, inl, inr, refl, sym, ◌∙◌, subst}
 use Rattle.core_calls.specs.Answer.{answer_of}
 use Rattle.core_calls.specs.Call.{call_of, lost}
-use Rattle.recorded_core.specs.State.{recorder_of, state_of}
+use Rattle.rdb_core.specs.State.{recorder_of, state_of}
 use Rattle.disk_recorder.specs.Recording.{has_failed}
 use Rattle.durable_images.specs.Journaled.{IsDurable, Journaled, OnDisk, shown_on}
 use Rattle.durable_core.specs.Recorded.{core_on}

@@ -9,7 +9,7 @@ use Rattle.rdb_core.proofs.Lost.{as_events}
 use Rattle.rdb_core.proofs.engine.Core.lose.Goals as goal
 
 pub returns : goal.returns
-returns c =
+returns g c =
     let n = c.args.conversation in
     let old = c.args.self.now in
     let s = store_in old.store in
@@ -19,4 +19,4 @@ returns c =
     ∙ ap (λ (bs : List Branch). left_units (lost_xids bs n) c.end-changes.new.self) c.branches.ensures.all
     ∙ ap (λ (us : List Held). left_units xs us) c.end-changes.ensures.ended in
     let base = ap (λ (us : List Held). let b : Base = record { store = s; units = us } in b) units ∙ sym (as_events xs s (without (local n) old.units)) in
-    record { answer_is = refl; state = λ j. record { base = base j; branches = c.lost.ensures j } }
+    record { taken = record { answer_is = refl; state = λ j. record { base = base j; branches = c.lost.ensures j } }; recorded = refl }

@@ -1,0 +1,27 @@
+-- What calls leave on the disk, one after another.
+use Rattle.std.proofs.Common.{◌≡◌, Bool, false, sym, ap, subst, inl, inr}
+use Rattle.std.specs.Prelude.{IsTrue}
+use Rattle.drda_disk.specs.Disk.{Life}
+use Rattle.durable_images.specs.Journaled.{CallsGoOn, IsDurable, OnDisk, shown_on}
+use Rattle.drda_node.specs.declared.asker.Asker.{Asker}
+use Rattle.drda_node.specs.Asking.{IsJournaled}
+use Rattle.drda_node.proofs.Askers.{IsAskedOnce}
+
+module _ {D : Type 0} (modelled : Bool) (life : D → Life) (go_on : CallsGoOn life) where
+  -- no call
+  pub none : (s : OnDisk D) → (IsTrue modelled → s.is_failed ≡ false → IsDurable (shown_on life s)) → IsJournaled modelled life s s
+  none s durable honest = go_on.none s (durable honest)
+
+  -- some calls, and some more
+  pub more : (a b c : OnDisk D) → IsJournaled modelled life a b → IsJournaled modelled life b c → IsJournaled modelled life a c
+  more a b c p q honest = go_on.both a b c (p honest) (q honest)
+
+  -- none, and what is the same behind them
+  pub none_to : (a b : OnDisk D) → b ≡ a → (IsTrue modelled → a.is_failed ≡ false → IsDurable (shown_on life a)) → IsJournaled modelled life a b
+  none_to a b same durable = subst (λ (s : OnDisk D). IsJournaled modelled life a s) (sym same) (none a durable)
+
+-- none or one
+pub at_most_one : {D : Type 0} (modelled : Bool) (life : D → Life) → CallsGoOn life → (old new : Asker D)
+    → (IsTrue modelled → old.core.now.is_failed ≡ false → IsDurable (shown_on life old.core.now)) → IsAskedOnce modelled life old new → IsJournaled modelled life old.core.now new.core.now
+at_most_one {D} modelled life go_on old new durable (inl same) = none_to modelled life go_on old.core.now new.core.now (ap (λ (a : Asker D). a.core.now) same) durable
+at_most_one modelled life go_on old new durable (inr journaled) = journaled

@@ -1,0 +1,70 @@
+//! What the core is where a store is opened.
+
+ghost use Rattle.std.specs.Prelude.{◌≡◌, IfOk, OnErr, OnOk, [], false};
+ghost use Rattle.table_store.specs.TableStore.{store_in};
+ghost use Rattle.xa_manager.specs.Branch.{in_doubt_xids};
+ghost use Rattle.core_steps.specs.Units.{global, has_work, unit_of};
+ghost use Rattle.rdb_core.specs.Restored.{RestoresUnit, with_in_doubt};
+ghost use Rattle.rdb_core.specs.State.{recorder_of, state_of};
+
+use crate::engine::Core;
+use recording::Recorder;
+use std::alloc::{AllocError, Global};
+use table_store::TableStore;
+use unit_changes::UnitChanges;
+use unit_locks::Claim;
+use unit_table::{Owner, Units};
+use xa_calls::Xid;
+use xa_manager::{RestoreError, XaTable, Xids};
+
+impl<R: Recorder> Core<R> {
+    /// A core with these committed tables, without units and branches. Takes no memory.
+    pub fn restored(alloc: Global, recorder: R, store: TableStore) -> Core<R>
+        ensures state { state_of result ≡ record { base = record { store = store_in store; units = [] }; branches = [] } }
+        ensures recorder { recorder_of result ≡ recorder }
+    {
+        Core {
+            alloc,
+            store,
+            units: Units::new(alloc),
+            branches: XaTable::new(alloc),
+            recorder,
+        }
+    }
+
+    /// A branch that was found in doubt is prepared again, with the unit that it had: these changes,
+    /// and of these claims each once. On an error nothing changes. `Known` and `Full` come only where it
+    /// is so, and memory may be refused.
+    pub fn restore(
+        &mut self,
+        xid: Xid,
+        changes: UnitChanges,
+        claims: Vec<Claim>,
+    ) -> Result<(), RestoreError>
+        requires idle { has_work (unit_of (global xid) (state_of self.old).base.units) ≡ false }
+        ensures ok { OnOk result (state_of self.new ≡ with_in_doubt (state_of self.old) xid changes claims.items) }
+        ensures err { OnErr result (state_of self.new ≡ state_of self.old) }
+        ensures exact { RestoresUnit result (state_of self.old).branches xid }
+        ensures recorder { recorder_of self.new ≡ recorder_of self.old }
+    {
+        self.units.are_listed();
+        match self.units.restore(xid, changes, claims) {
+            Ok(()) => {}
+            Err(AllocError) => return Err(RestoreError::NoMemory),
+        }
+        match self.branches.restore(&xid) {
+            Ok(()) => Ok(()),
+            Err(error) => {
+                let _changes = self.units.end(&Owner::Global(xid));
+                Err(error)
+            }
+        }
+    }
+
+    /// The XIDs that are in doubt, by rising bytes.
+    pub fn in_doubt(&self) -> Result<Xids, AllocError>
+        ensures { IfOk result (λ xids. xids ≡ in_doubt_xids (state_of self.now).branches) }
+    {
+        self.branches.recover(self.alloc)
+    }
+}

@@ -1,0 +1,59 @@
+//! Records that are refused.
+
+use core_calls::Answer;
+use rdb_core::Core;
+use recording::{RecordError, Recorder, Saying};
+use sql_text::{SqlError, Statement, parse};
+use std::alloc::Global;
+use std::test::Fail;
+
+// Makes so many records, and refuses those that follow.
+#[derive(Drop)]
+struct Few {
+    left: u32,
+}
+
+impl Recorder for Few {
+    ghost allows = { λ _ _. Unit {0} };
+
+    ghost records = { λ _ _ _. Unit {0} };
+
+    ghost fails = { λ _ _ _ _. Unit {0} };
+
+    fn record(&mut self, _saying: Saying<'_>) -> Result<(), RecordError> {
+        if self.left == 0 {
+            return Err(RecordError::Full { need: 9, room: 8 });
+        }
+        self.left -= 1;
+        Ok(())
+    }
+}
+
+fn run(alloc: Global, core: &mut Core<Few>, text: &str) -> Result<Answer, SqlError> {
+    let statement: Statement<'_> = parse(alloc, text)?;
+    Ok(core.run(1, &statement, &[]))
+}
+
+// A commit whose record is refused changes nothing: the unit still has its change, which no committed
+// table shows once it is rolled back.
+#[test]
+fn keeps_the_unit_where_its_record_is_refused(rt: HostRuntime) -> Result<(), Fail> {
+    let mut core = Core::start(rt.alloc(), Few { left: 1 });
+    let created = run(
+        rt.alloc(),
+        &mut core,
+        "CREATE TABLE T (K INTEGER NOT NULL, PRIMARY KEY (K))",
+    )?;
+    assert!(rt; matches!(created, Answer::Count(0)));
+    assert!(rt; matches!(core.commit(1), Answer::Done));
+    for _ in 0..2 {
+        let inserted = run(rt.alloc(), &mut core, "INSERT INTO T VALUES (1)")?;
+        assert!(rt; matches!(inserted, Answer::Count(1)));
+        assert!(rt; matches!(core.commit(1), Answer::Full { need: 9, room: 8 }));
+        let again = run(rt.alloc(), &mut core, "INSERT INTO T VALUES (1)")?;
+        assert!(rt; matches!(again, Answer::Refused(_)));
+        assert!(rt; matches!(core.roll_back(1), Answer::Done));
+    }
+    assert_eq!(rt; core.into_recorder().left, 0);
+    Ok(())
+}

@@ -1,4 +1,0 @@
-use Rattle.recorded_core.proofs.engine.Core.request.Goals as goal
-
-pub returns-in-Recover-clause-step : goal.returns-in-Recover-clause-step
-returns-in-Recover-clause-step g c = rw c.in-Recover.is (c.recover.ensures c.args.conversation)
