@@ -17,6 +17,10 @@ zeros n = replicate n 0
 abbrev pub is_name : List ℕ → Bool
 is_name name = is_name_len (length name) && are_printable name
 
+-- a store of so many bytes and of this name can be made
+abbrev pub is_store_of : ℕ → List ℕ → Bool
+is_store_of size name = is_store_size size && is_name name
+
 -- a head behind its mark
 abbrev pub head_bytes : ℕ → List ℕ → List ℕ
 head_bytes size name = to_be_bytes w32 1 ++ (to_be_bytes w64 size ++ length name ∷ name)

@@ -2,7 +2,7 @@
 ghost use Rattle.std.specs.Prelude.{◌≡◌, ◌+◌, ◌≤◌, IsTrue, false, length, OnOk};
 ghost use Rattle.drda_disk.specs.Disk.{Only, LeavesOnly, overlaid, CountsFault};
 ghost use Rattle.half_store.specs.Active.{is_marked};
-ghost use Rattle.half_store.specs.Fresh.{is_name, IsFresh, IsNoneOrFresh, IsUnmarked, AnswersFormat, OnRefusedToFormat, CountsFormat};
+ghost use Rattle.half_store.specs.Fresh.{is_name, is_store_of, IsFresh, IsNoneOrFresh, IsUnmarked, AnswersFormat, OnRefusedToFormat, CountsFormat};
 
 use crate::FormatError;
 use crate::fresh::{blank_page, fresh_front};
@@ -17,6 +17,14 @@ fn is_name(name: &str) -> bool
     ensures short { IsTrue result → length name.now ≤ 18 }
 {
     1 <= name.len() && name.len() <= LONGEST_NAME && are_printable(name.as_bytes())
+}
+
+/// Whether a store of so many bytes and of this name can be made: it has 2 MiB to 1 GiB, and the name
+/// 1 to 18 printable characters without blanks.
+pub fn is_store(size: usize, name: &str) -> bool
+    ensures { result ≡ is_store_of size name.now }
+{
+    is_store_size(size) && is_name(name)
 }
 
 /// Writes all of a fresh store but its mark, and syncs: these bytes behind the mark, and the header

@@ -16,7 +16,7 @@ mod switching;
 pub use active::Active;
 pub use begin::begin_image;
 pub use errors::{BeginError, FormatError, Full, OpenError, PageError, SwitchError};
-pub use formatting::format;
+pub use formatting::{format, is_store};
 pub use header::Header;
 pub use image::ImageWriter;
 pub use layout::Half;
