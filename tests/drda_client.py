@@ -1,6 +1,8 @@
-"""A client of DRDA as small as these scripts need: it opens the database RDB as ana over a socket, runs statements, and
-reads the answers. Commands are built as in tests/sql_request."""
-import socket, struct
+"""A client of DRDA as small as these scripts need, and the program that it is for: it opens the database SHOP as ana over
+a socket, runs statements, and reads the answers. Commands are built as in tests/sql_request."""
+import os, re, socket, struct, subprocess
+
+HERE = os.path.dirname(os.path.realpath(__file__))
 
 EXCSAT, ACCSEC, SECCHK, ACCRDB = 0x1041, 0x106D, 0x106E, 0x2001
 EXCSQLIMM, PRPSQLSTT, OPNQRY, RDBCMM, SYNCCTL = 0x200A, 0x200D, 0x200C, 0x200E, 0x1055
@@ -38,6 +40,28 @@ def objects(data):
     return found
 
 
+class Program:
+    """The program drdad: `run` is how it is run, up to its arguments; by default `rt run --`, in crates/drdad."""
+
+    def __init__(self, run):
+        self.run = run or ["rt", "run", "--"]
+        self.folder = os.path.join(HERE, "..", "crates", "drdad")
+
+    def done(self, *words, **options):
+        options = {"text": True, **({} if "input" in options else {"stdin": subprocess.DEVNULL}), **options}
+        return subprocess.run([*self.run, *words], cwd=self.folder, capture_output=True, **options)
+
+    def serve(self, store, *words):
+        """A server over a store, in a session of its own, and its port."""
+        command = [*self.run, "serve", store, "--port", "0", "--user", "ana:pw", *words]
+        process = subprocess.Popen(command, cwd=self.folder, stdout=subprocess.PIPE, text=True, stdin=subprocess.DEVNULL, start_new_session=True)
+        for line in process.stdout:
+            found = re.fullmatch(r"listening (\d+)\n", line)
+            if found:
+                return process, int(found[1])
+        raise RuntimeError("no port was told")
+
+
 class Client:
     def __init__(self, port, rdb=b"SHOP", user=b"ana", password=b"pw"):
         self.rdb = rdb
@@ -45,10 +69,11 @@ class Client:
         self.socket = socket.create_connection(("127.0.0.1", port), timeout=60)
         self.socket.setsockopt(socket.IPPROTO_TCP, socket.TCP_NODELAY, 1)
         self.held = b""
-        self.ask(levels_of(), 1)
-        self.ask(ddm(ACCSEC, ddm(SECMEC, b"\0\3")), 1)
-        self.ask(ddm(SECCHK, ddm(SECMEC, b"\0\3") + ddm(USRID, user) + ddm(PASSWORD, password)), 1)
-        answer = self.ask(ddm(ACCRDB, ddm(RDBNAM, rdb.ljust(18)) + ddm(TYPDEFNAM, b"QTDSQLASC")), 1)
+        self.exchanges = []
+        self.ask(levels_of())
+        self.ask(ddm(ACCSEC, ddm(SECMEC, b"\0\3")))
+        self.ask(ddm(SECCHK, ddm(SECMEC, b"\0\3") + ddm(USRID, user) + ddm(PASSWORD, password)))
+        answer = self.ask(ddm(ACCRDB, ddm(RDBNAM, rdb.ljust(18)) + ddm(TYPDEFNAM, b"QTDSQLASC")))
         assert any(code == 0x2201 for code, _ in answer), answer
 
     def read(self, count):
@@ -60,20 +85,25 @@ class Client:
         taken, self.held = self.held[:count], self.held[count:]
         return taken
 
-    def ask(self, command, chained_text=None):
-        """Sends a command and gives the objects of the DSSs that answer it."""
+    def ask(self, command, text=None):
+        """Sends a command, with the text of a statement behind it where there is one, and gives the objects of the DSSs
+        that answer it. What went out and came in is kept in `exchanges`."""
         self.correlator += 1
-        if isinstance(chained_text, str):
-            text = b"\0" + struct.pack(">I", len(chained_text)) + chained_text.encode() + b"\xff"
-            sent = dss(0x51, self.correlator, command) + dss(0x03, self.correlator, ddm(SQLSTT, text))
-        else:
+        if text is None:
             sent = dss(0x01, self.correlator, command)
+        else:
+            sqlstt = b"\0" + struct.pack(">I", len(text)) + text.encode() + b"\xff"
+            sent = dss(0x51, self.correlator, command) + dss(0x03, self.correlator, ddm(SQLSTT, sqlstt))
         self.socket.sendall(sent)
-        found = []
+        answered, found = b"", []
         while True:
-            length, _, form, _ = struct.unpack(">HBBH", self.read(6))
-            found += objects(self.read(length - 6))
+            head = self.read(6)
+            length, _, form, _ = struct.unpack(">HBBH", head)
+            body = self.read(length - 6)
+            answered += head + body
+            found += objects(body)
             if not form & 0x40:
+                self.exchanges.append((sent, answered))
                 return found
 
     def execute(self, text):
