@@ -31,13 +31,13 @@ there Q (y ∷ zs) ws z all = there Q zs ws z all.1
 
 -- the last element of its kind
 one_last : (P : Entry → Type 0) (xs ys zs ws : List Entry) (x z : Entry) → xs ++ (x ∷ ys) ≡ zs ++ (z ∷ ws) → P x → AllByRecursion (λ e. P e → ⊥) ys → P z → AllByRecursion (λ e. P e → ⊥) ws → xs ≡ zs
-one_last P [] ys [] ws x z same here none other no = refl
-one_last P [] ys (y ∷ zs) ws x z same here none other no =
+one_last P [] ys [] ws x z same here none other more = refl
+one_last P [] ys (y ∷ zs) ws x z same here none other more =
     absurd (there (λ e. P e → ⊥) zs ws z (subst (λ (l : List Entry). AllByRecursion (λ e. P e → ⊥) l) (tail_is x y ys (zs ++ (z ∷ ws)) same) none) other)
-one_last P (v ∷ xs) ys [] ws x z same here none other no =
-    absurd (there (λ e. P e → ⊥) xs ys x (subst (λ (l : List Entry). AllByRecursion (λ e. P e → ⊥) l) (sym (tail_is v z (xs ++ (x ∷ ys)) ws same)) no) here)
-one_last P (v ∷ xs) ys (y ∷ zs) ws x z same here none other no =
-    ap (λ (l : List Entry). v ∷ l) (one_last P xs ys zs ws x z (tail_is v y (xs ++ (x ∷ ys)) (zs ++ (z ∷ ws)) same) here none other no)
+one_last P (v ∷ xs) ys [] ws x z same here none other more =
+    absurd (there (λ e. P e → ⊥) xs ys x (subst (λ (l : List Entry). AllByRecursion (λ e. P e → ⊥) l) (sym (tail_is v z (xs ++ (x ∷ ys)) ws same)) more) here)
+one_last P (v ∷ xs) ys (y ∷ zs) ws x z same here none other more =
+    ap (λ (l : List Entry). v ∷ l) (one_last P xs ys zs ws x z (tail_is v y (xs ++ (x ∷ ys)) (zs ++ (z ∷ ws)) same) here none other more)
     ∙ ap (λ (e : Entry). e ∷ zs) (head_is v y (xs ++ (x ∷ ys)) (zs ++ (z ∷ ws)) same)
 
 -- ---- entries
@@ -59,17 +59,17 @@ module _ (states : OneState) where
 
   -- the first one without a place
   one_stop : (c s t : Durable) (xs ys zs ws : List Entry) (x z : Entry) → xs ++ (x ∷ ys) ≡ zs ++ (z ∷ ws) → Leads c xs s → HasNoPlace s x → Leads c zs t → HasNoPlace t z → xs ≡ zs
-  one_stop c s t [] ys [] ws x z same a no b none = refl
-  one_stop c s t [] ys (y ∷ zs) ws x z same a no b none =
+  one_stop c s t [] ys [] ws x z same a stop b none = refl
+  one_stop c s t [] ys (y ∷ zs) ws x z same a stop b none =
       let first : x ≡ y = head_is x y ys (zs ++ (z ∷ ws)) same in
-      absurd (no_way c b.0 s [] [] x (b.0, subst (λ (e : Entry). LeadsOn c e b.0) (sym first) b.1, refl) a no)
-  one_stop c s t (v ∷ xs) ys [] ws x z same a no b none =
+      absurd (no_way c b.0 s [] [] x (b.0, subst (λ (e : Entry). LeadsOn c e b.0) (sym first) b.1, refl) a stop)
+  one_stop c s t (v ∷ xs) ys [] ws x z same a stop b none =
       let first : v ≡ z = head_is v z (xs ++ (x ∷ ys)) ws same in
       absurd (no_way c a.0 t [] [] z (a.0, subst (λ (e : Entry). LeadsOn c e a.0) first a.1, refl) b none)
-  one_stop c s t (v ∷ xs) ys (y ∷ zs) ws x z same a no b none =
+  one_stop c s t (v ∷ xs) ys (y ∷ zs) ws x z same a stop b none =
       let first : v ≡ y = head_is v y (xs ++ (x ∷ ys)) (zs ++ (z ∷ ws)) same in
       let state : a.0 ≡ b.0 = one_step c a.0 b.0 y (subst (λ (e : Entry). LeadsOn c e a.0) first a.1) b.1 in
-      ap (λ (l : List Entry). v ∷ l) (one_stop a.0 s t xs ys zs ws x z (tail_is v y (xs ++ (x ∷ ys)) (zs ++ (z ∷ ws)) same) a.2 no (subst (λ (g : Durable). Leads g zs t) (sym state) b.2) none)
+      ap (λ (l : List Entry). v ∷ l) (one_stop a.0 s t xs ys zs ws x z (tail_is v y (xs ++ (x ∷ ys)) (zs ++ (z ∷ ws)) same) a.2 stop (subst (λ (g : Durable). Leads g zs t) (sym state) b.2) none)
       ∙ ap (λ (e : Entry). e ∷ zs) first
 
 -- ---- journals

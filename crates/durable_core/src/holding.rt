@@ -1,6 +1,6 @@
 //! The bytes that a journal holds back for the decisions of units in doubt.
 
-ghost use Rattle.std.specs.Prelude.{◌≡◌, ◌+◌, ◌<◌, ◌≤◌, ◌×◌, OnOk};
+ghost use Rattle.std.specs.Prelude.{◌≡◌, ◌+◌, ◌<◌, ◌≤◌, OnOk};
 ghost use Rattle.unit_journal.specs.Journal.{held_of, next_of, region_of, room_of};
 ghost use Rattle.durable_units.specs.Laws.{held_for};
 ghost use Rattle.durable_units.specs.Replay.{doubts_in};

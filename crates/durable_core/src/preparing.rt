@@ -6,7 +6,7 @@ ghost use Rattle.unit_journal.specs.Record.{entry_of};
 ghost use Rattle.durable_units.specs.Durable.{doubt_of};
 ghost use Rattle.durable_units.specs.Replay.{doubts_in};
 ghost use Rattle.durable_core.specs.Damage.{PreparesOne};
-ghost use Rattle.durable_core.specs.Prepares.{TellsLast};
+ghost use Rattle.durable_core.specs.Prepares.{IsPrepare, TellsLast};
 
 use durable_units::PreparedUnit;
 use std::alloc::{AllocError, Global};
@@ -25,9 +25,9 @@ pub(crate) fn last_prepare(
 {
     let mut last = 0;
     let mut left = records;
-    while let [record, rest @ ..] = left {
-        if prepares_one(alloc, record, units)? {
-            last = record.at;
+    while let [entry, rest @ ..] = left {
+        if prepares_one(alloc, entry, units)? {
+            last = entry.at;
         }
         left = rest;
     }
@@ -37,15 +37,27 @@ pub(crate) fn last_prepare(
 // Whether a record prepared one of the units.
 fn prepares_one(
     alloc: Global,
-    record: &Record,
+    entry: &Record,
     units: &[PreparedUnit],
 ) -> Result<bool, AllocError>
-    ensures { IfOk result (λ prepares. IsTrue prepares ↔ PreparesOne (doubts_in units.now) (entry_of record.now)) }
+    ensures { IfOk result (λ prepares. IsTrue prepares ↔ PreparesOne (doubts_in units.now) (entry_of entry.now)) }
 {
     records_have_one_reading();
-    match UnitRecord::read(alloc, record.kind, record.body.as_slice()) {
-        Ok(UnitRecord::Prepare { xid, .. }) => Ok(is_in_doubt(units, &xid)),
-        Ok(_) => Ok(false),
+    let said = UnitRecord::read(alloc, entry.kind, entry.body.as_slice());
+    is_prepare(units, &said)
+}
+
+// Whether what was read of a record prepared one of the units.
+fn is_prepare(
+    units: &[PreparedUnit],
+    said: &Result<UnitRecord, ReadError>,
+) -> Result<bool, AllocError>
+    ensures { IfOk result (IsPrepare (doubts_in units.now) said.now) }
+{
+    match said {
+        Ok(UnitRecord::Prepare { xid, .. }) => Ok(is_in_doubt(units, xid)),
+        Ok(UnitRecord::Commit { .. }) => Ok(false),
+        Ok(UnitRecord::Decide { .. }) => Ok(false),
         Err(ReadError::Damaged) => Ok(false),
         Err(ReadError::NoMemory) => Err(AllocError),
     }
