@@ -35,11 +35,7 @@ pub(crate) fn last_prepare(
 }
 
 // Whether a record prepared one of the units.
-fn prepares_one(
-    alloc: Global,
-    entry: &Record,
-    units: &[PreparedUnit],
-) -> Result<bool, AllocError>
+fn prepares_one(alloc: Global, entry: &Record, units: &[PreparedUnit]) -> Result<bool, AllocError>
     ensures { IfOk result (λ prepares. IsTrue prepares ↔ PreparesOne (doubts_in units.now) (entry_of entry.now)) }
 {
     records_have_one_reading();

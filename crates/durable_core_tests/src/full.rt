@@ -142,11 +142,7 @@ fn a_decision_has_its_room(rt: HostRuntime) -> Result<(), Fail> {
 #[test]
 fn a_decision_without_room_is_damage(rt: HostRuntime) -> Result<(), Fail> {
     let mut disk = without_room(rt.alloc())?.into_disk();
-    put(
-        &mut disk,
-        1_048_554,
-        &[0xA5, 1, 0, 0, 0, 4, 0, 0, 0, 0, 0],
-    )?;
+    put(&mut disk, 1_048_554, &[0xA5, 1, 0, 0, 0, 4, 0, 0, 0, 0, 0])?;
     assert_eq!(rt;
         shown_on(rt.alloc(), disk),
         Err(OpenError::Damaged { at: 16_412 })

@@ -67,7 +67,7 @@ returns-in_err-hold_all-clause-tells g c is =
     let leads = subst (λ (rs : List Record). Leads fresh (entries_of rs) d) c.as_slice.ensures.value c.in_ok-read_units.ensures.leads in
     let same : doubts_in c.as_slice-3.result.now ≡ d.doubts = ap (λ (us : List PreparedUnit). doubts_in us) c.as_slice-3.ensures.value ∙ c.into_parts-store.ensures.units in
     let tells = subst (λ (ds : Doubts). TellsDamage c.hold_all.result (λ at. (room_of journal < held_for ds) × TellsLast ds records at)) same
-        (subst (λ (rs : List Record). TellsDamage c.hold_all.result (λ at. (room_of journal < held_for (doubts_in c.as_slice-3.result.now)) × TellsLast (doubts_in c.as_slice-3.result.now) rs at)) c.as_slice-2.ensures.value c.hold_all.ensures.tells) in
+    (subst (λ (rs : List Record). TellsDamage c.hold_all.result (λ at. (room_of journal < held_for (doubts_in c.as_slice-3.result.now)) × TellsLast (doubts_in c.as_slice-3.result.now) rs at)) c.as_slice-2.ensures.value c.hold_all.ensures.tells) in
     handed_on image c.hold_all.result c.in_err-hold_all.field-0.0 c.from_residual-in_err-hold_all.result (search rules) (search rules)
     (told image (λ at. (room_of journal < held_for d.doubts) × TellsLast d.doubts records at)
     (λ at there. no_room image (string_bytes c.in_ok-name.name) region (c.in_ok-name.ensures.head is) records
