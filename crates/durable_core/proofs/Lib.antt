@@ -4,3 +4,6 @@ pub mod Heads
 pub mod Opened
 pub mod Parts
 pub mod Answered
+pub mod Damaged
+pub mod Prepared
+pub mod Telling

@@ -23,7 +23,7 @@ pub passed_on : {T F : Type 0} (r : Result T OpenError) (e : OpenError) (last : 
 passed_on {T} {F} r e last is last_is plain = subst (λ (x : Result F OpenError). IsPlain x) (sym last_is) (subst (λ (x : Result T OpenError). IsPlain x) is plain)
 
 -- the region of a store without pages is what is left behind its pages
-behind : (size : ℕ) (store : Store) (region : Region) → IsJournal size store region → IsBehindPages size store region
+pub behind : (size : ℕ) (store : Store) (region : Region) → IsJournal size store region → IsBehindPages size store region
 behind size store region j = record { begins = omega (arith, j.begins, ap (λ (n : ℕ). 8192 * (1 + n)) j.no_pages); ends = j.ends }
 
 module _ (image : List ℕ) (name : List ℕ) (d : Durable) (opens : OpensTo name d image) where

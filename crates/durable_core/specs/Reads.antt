@@ -4,6 +4,7 @@ use Rattle.drda_disk.specs.Region.{end_of}
 use Rattle.drda_disk.specs.declared.region.Region.{Region}
 use Rattle.half_store.specs.Active.{Store, active_of, not_a_store}
 use Rattle.durable_images.specs.Opens.{IsJournal}
+use Rattle.durable_core.specs.Damage.{IsDamagedAt}
 use Rattle.durable_core.specs.declared.errors.OpenError.{OpenError}
 use Rattle.durable_core.specs.declared.errors.OpenError.TheVariants.{Damaged, DeviceFailed, NoMemory, NotAStore}
 
@@ -21,10 +22,10 @@ CountsError (Damaged at) old new = new ≡ old
 CountsError DeviceFailed old new = new ≡ old + 1
 CountsError NoMemory old new = new ≡ old
 
--- an image is no store where that is told
+-- an image is no store, or it is damaged at an offset, where that is told
 abbrev pub TellsNoStore : OpenError → List ℕ → Type 0
 TellsNoStore NotAStore image = active_of image ≡ Err not_a_store
-TellsNoStore (Damaged at) image = Unit {0}
+TellsNoStore (Damaged at) image = IsDamagedAt image at
 TellsNoStore DeviceFailed image = Unit {0}
 TellsNoStore NoMemory image = Unit {0}
 
@@ -36,6 +37,14 @@ IsPlain (Err e) = IsExcused e
 abbrev pub TellsStore : {T : Type 0} → Result T OpenError → List ℕ → Type 0
 TellsStore (Ok x) image = Unit {0}
 TellsStore (Err e) image = TellsNoStore e image
+
+-- that it is no store is not told, and damage only where it is
+abbrev pub TellsDamage : {T : Type 0} → Result T OpenError → (ℕ → Type 0) → Type 0
+TellsDamage (Ok x) IsThere = Unit {0}
+TellsDamage (Err NotAStore) IsThere = ⊥
+TellsDamage (Err (Damaged at)) IsThere = IsThere at
+TellsDamage (Err DeviceFailed) IsThere = Unit {0}
+TellsDamage (Err NoMemory) IsThere = Unit {0}
 
 abbrev pub Counts : {T : Type 0} → Result T OpenError → ℕ → ℕ → Type 0
 Counts (Ok x) old new = new ≡ old

@@ -76,7 +76,8 @@ impl<D: Disk> DurableCore<D> {
         doubts_hold_their_decisions();
         records_stay();
         calls_make_records::<D>();
-        if self.core.recorder().is_failed() {
+        let recorder = self.core.recorder();
+        if recorder.is_failed() {
             return Answer::Closed;
         }
         self.core.lose(conversation)

@@ -5,7 +5,8 @@ ghost use Rattle.drda_disk.specs.Disk.{Stays};
 ghost use Rattle.half_store.specs.Active.{Store, active_of};
 ghost use Rattle.half_store.specs.Layout.{half_len, offset_of};
 ghost use Rattle.half_store.specs.Opened.{IsBehindPages, store_of};
-ghost use Rattle.durable_core.specs.Reads.{Counts, IsHead, IsInside, IsPlain, TellsStore};
+ghost use Rattle.durable_core.specs.Damage.{HasPages};
+ghost use Rattle.durable_core.specs.Reads.{Counts, IsHead, IsInside, IsPlain, TellsDamage, TellsStore};
 
 use crate::errors::OpenError;
 use drda_disk::{Disk, Region};
@@ -43,7 +44,7 @@ fn without_pages(active: Active) -> Result<(String, Region), OpenError>
     ensures region { IfOk result (λ head. head.1 ≡ active.region) }
     ensures none { IfOk result (λ head. active.pages ≡ 0) }
     ensures opens { active.pages ≡ 0 → IsPlain result }
-    ensures tells { (image : _) → TellsStore result image }
+    ensures tells { (image : _) → active_of image ≡ Ok (store_of active) → IsBehindPages (half_len (length image)) active → TellsDamage result (HasPages image) }
     ensures cause { (n : _) → Counts result n n }
 {
     if active.pages != 0 {

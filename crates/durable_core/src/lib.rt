@@ -5,7 +5,9 @@ mod durable;
 mod errors;
 mod head;
 mod holding;
+pub mod laws;
 mod opening;
+mod preparing;
 mod reading;
 mod restoring;
 

@@ -61,7 +61,7 @@ fn read_store<D: Disk>(alloc: Global, disk: &mut D) -> Result<Found, OpenError>
     let (name, region) = read_head(alloc, disk)?;
     let (mut journal, records) = read_journal(alloc, disk, region)?;
     let (store, units) = read_units(alloc, records.as_slice())?.into_parts();
-    hold_all(&mut journal, units.as_slice())?;
+    hold_all(alloc, &mut journal, records.as_slice(), units.as_slice())?;
     Ok(Found {
         name,
         journal,

@@ -5,11 +5,11 @@ ghost use Rattle.drda_disk.specs.Disk.{Stays};
 ghost use Rattle.unit_journal.specs.Journal.{held_of, region_of};
 ghost use Rattle.unit_journal.specs.Opened.{IsOpened};
 ghost use Rattle.unit_journal.specs.Record.{Entry, entries_of};
-ghost use Rattle.unit_journal.specs.Stands.{Stands};
+ghost use Rattle.unit_journal.specs.Stands.{IsDamagedAt, Stands};
 ghost use Rattle.durable_units.specs.Durable.{Durable, fresh};
-ghost use Rattle.durable_units.specs.Journal.{Leads};
+ghost use Rattle.durable_units.specs.Journal.{Leads, StopsAt};
 ghost use Rattle.durable_units.specs.Replay.{durable_of};
-ghost use Rattle.durable_core.specs.Reads.{Counts, IsInside, IsPlain, TellsStore};
+ghost use Rattle.durable_core.specs.Reads.{Counts, IsInside, IsPlain, TellsDamage};
 
 use crate::errors::OpenError;
 use drda_disk::{Disk, Region};
@@ -38,7 +38,7 @@ pub(crate) fn read_journal<D: Disk>(
     ensures stand { IsTrue D.is_modelled → IfOk result (λ found. Stands region (entries_of found.1.items) (D.life disk.old).seen) }
     ensures region { IfOk result (λ found. (region_of found.0 ≡ region) × (held_of found.0 ≡ 0)) }
     ensures opens { (es : List Entry) → IsTrue D.is_modelled → Stands region es (D.life disk.old).seen → IsPlain result }
-    ensures tells { (image : List ℕ) → TellsStore result image }
+    ensures tells { IsTrue D.is_modelled → TellsDamage result (λ at. IsDamagedAt region at (D.life disk.old).seen) }
     ensures stays { Stays (D.life disk.old) (D.life disk.new) }
     ensures cause { Counts result (D.life disk.old).faults (D.life disk.new).faults }
 {
@@ -54,7 +54,7 @@ pub(crate) fn read_journal<D: Disk>(
 pub(crate) fn read_units(alloc: Global, records: &[Record]) -> Result<Replay, OpenError>
     ensures leads { IfOk result (λ r. Leads fresh (entries_of records.now) (durable_of r)) }
     ensures opens { (d : Durable) → Leads fresh (entries_of records.now) d → IsPlain result }
-    ensures tells { (image : List ℕ) → TellsStore result image }
+    ensures tells { TellsDamage result (StopsAt fresh records.now) }
     ensures cause { (n : ℕ) → Counts result n n }
 {
     match replay(alloc, records) {

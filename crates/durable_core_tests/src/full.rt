@@ -1,9 +1,9 @@
 //! A journal without room.
 
 use crate::asking::{Ask, Call, Told, ask_all, ask_one, run};
-use crate::stores::{fresh, opened};
+use crate::stores::{fresh, opened, put, shown_on};
 use drda_disk::{Disk, MemDisk};
-use durable_core::DurableCore;
+use durable_core::{DurableCore, OpenError};
 use row_values::Value;
 use std::alloc::{AllocError, Global};
 use std::test::Fail;
@@ -116,26 +116,36 @@ const NO_ROOM: [Call; 4] = [
     (3, Ask::Query("SELECT K FROM B WHERE K = 0"), Told::Rows(1)),
 ];
 
-// One commit takes all the room that is left: 515 rows of 2,003 bytes, one of 534, and 10 bytes.
+// A core with a branch in doubt, one of whose commits took all the room that was left: 515 rows of 2,003
+// bytes, one of 534, and 10 bytes.
+fn without_room(alloc: Global) -> Result<DurableCore<MemDisk>, Fail> {
+    let mut core = with_table(alloc)?;
+    ask_all(alloc, &mut core, &PREPARE);
+    put_rows(alloc, &mut core, (1, 516), 1_990);
+    put_rows(alloc, &mut core, (516, 517), 521);
+    ask_one(alloc, &mut core, 1, Ask::Commit);
+    Ok(core)
+}
+
 #[test]
 fn a_decision_has_its_room(rt: HostRuntime) -> Result<(), Fail> {
-    let mut core = with_table(rt.alloc())?;
-    assert_eq!(rt; ask_all(rt.alloc(), &mut core, &PREPARE), 4);
-    assert_eq!(rt; core.room(), 1_032_089);
-    assert_eq!(rt;
-        put_rows(rt.alloc(), &mut core, (1, 516), 1_990),
-        Some(true)
-    );
-    assert_eq!(rt;
-        put_rows(rt.alloc(), &mut core, (516, 517), 521),
-        Some(true)
-    );
-    assert_eq!(rt;
-        ask_one(rt.alloc(), &mut core, 1, Ask::Commit),
-        Some(Told::Done)
-    );
+    let mut core = without_room(rt.alloc())?;
     assert_eq!(rt; core.room(), 0);
     core = opened(rt.alloc(), core.into_disk())?;
+    assert_eq!(rt; core.room(), 0);
     assert_eq!(rt; ask_all(rt.alloc(), &mut core, &NO_ROOM), 4);
+    Ok(())
+}
+
+// Behind the last record, in the room that is held for the decision, one more that commits nothing. The branch
+// was prepared by the second record.
+#[test]
+fn a_decision_without_room_is_damage(rt: HostRuntime) -> Result<(), Fail> {
+    let mut disk = without_room(rt.alloc())?.into_disk();
+    put(&mut disk, 1_048_554, &[0xA5, 1, 0, 0, 0, 4, 0, 0, 0, 0, 0])?;
+    assert_eq!(rt;
+        shown_on(rt.alloc(), disk),
+        Err(OpenError::Damaged { at: 16_412 })
+    );
     Ok(())
 }

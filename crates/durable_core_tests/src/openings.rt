@@ -1,18 +1,10 @@
 //! Disks that are not opened.
 
-use crate::stores::{TWO_MIB, fresh};
-use drda_disk::{Disk, DiskFault, FuseDisk, MemDisk};
+use crate::stores::{TWO_MIB, fresh, put};
+use drda_disk::{Disk, FuseDisk, MemDisk};
 use durable_core::{OpenError, open};
 use std::alloc::Global;
 use std::test::Fail;
-
-// A range that does not lie on the disk is a fault here.
-fn put<D: Disk>(disk: &mut D, at: usize, bytes: &[u8]) -> Result<(), DiskFault> {
-    if at > disk.size() || bytes.len() > disk.size() - at {
-        return Err(DiskFault);
-    }
-    disk.write_at(at, bytes)
-}
 
 // The error, and the size of the disk that is handed back.
 fn refused<D: Disk + Drop>(alloc: Global, disk: D) -> Option<(OpenError, usize)> {
@@ -45,9 +37,13 @@ fn other_disks_are_no_stores(rt: HostRuntime) -> Result<(), Fail> {
     Ok(())
 }
 
-// Bytes that are put into a fresh store, and where it is damaged then: a number of pages; a record of an
-// unknown kind; one that goes on behind the journal's end; and one that puts a row into no table.
-const DAMAGES: [(usize, &'static [u8], usize); 4] = [
+// Bytes that are put into a fresh store, and where it is damaged then: another layout; no open half; a number
+// of pages; a record of an unknown kind; one that goes on behind the journal's end; one that puts a row into no
+// table; a decision without a body behind a commit of nothing; and a record of an unknown kind behind one that
+// has no place.
+const DAMAGES: [(usize, &'static [u8], usize); 8] = [
+    (8, &[0, 0, 0, 2], 8),
+    (8_192, &[0], 8_192),
     (8_201, &[0, 0, 0, 1], 8_201),
     (16_384, &[0xA5, 9, 0, 0, 0, 0], 16_384),
     (16_384, &[0xA5, 1, 0, 16, 0, 0], 16_384),
@@ -58,6 +54,12 @@ const DAMAGES: [(usize, &'static [u8], usize); 4] = [
         ],
         16_384,
     ),
+    (
+        16_384,
+        &[0xA5, 1, 0, 0, 0, 4, 0, 0, 0, 0, 0xA5, 3, 0, 0, 0, 0, 0],
+        16_394,
+    ),
+    (16_384, &[0xA5, 3, 0, 0, 0, 0, 0xA5, 9, 0, 0, 0, 0], 16_390),
 ];
 
 #[test]

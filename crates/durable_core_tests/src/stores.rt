@@ -2,7 +2,7 @@
 
 use crate::asking::{Ask, Told, ask_one};
 use core_calls::{Refusal, SqlFault};
-use drda_disk::{Disk, FuseDisk, MemDisk};
+use drda_disk::{Disk, DiskFault, FuseDisk, MemDisk};
 use durable_core::{DurableCore, OpenError, open};
 use half_store::format;
 use std::alloc::Global;
@@ -16,6 +16,14 @@ pub fn fresh(alloc: Global) -> Result<MemDisk, Fail> {
     let mut disk = MemDisk::new(alloc, TWO_MIB)?;
     format(alloc, &mut disk, "SHOP")?;
     Ok(disk)
+}
+
+/// Writes bytes to a disk. A range that does not lie on it is a fault here.
+pub fn put<D: Disk>(disk: &mut D, at: usize, bytes: &[u8]) -> Result<(), DiskFault> {
+    if at > disk.size() || bytes.len() > disk.size() - at {
+        return Err(DiskFault);
+    }
+    disk.write_at(at, bytes)
 }
 
 /// Its core, over a fuse of so many calls. None where it is not opened.

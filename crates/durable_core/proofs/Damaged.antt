@@ -1,0 +1,179 @@
+-- A damaged image does not open, and is damaged at one offset.
+use Rattle.std.proofs.Common.{◌≡◌, ◌⊎◌, inl, inr, ℕ, ◌+◌, ◌*◌, ◌<◌, List, [], ◌∷◌, ◌++◌, length, Option, Some, None, Result, Ok, Err, refl, sym, ◌∙◌, ap, subst, arith}
+use Rattle.std.specs.List.{AllByRecursion}
+use Rattle.drda_disk.specs.Region.{end_of}
+use Rattle.drda_disk.specs.declared.region.Region.{Region}
+use Rattle.half_store.specs.Active.{Store, Refusal, active_of, damaged}
+use Rattle.half_store.specs.Layout.{half_len, offset_of}
+use Rattle.unit_journal.specs.Laws.{OneReading}
+use Rattle.unit_journal.specs.Record.{Entry, laid}
+use Rattle.unit_journal.specs.Stands.{DamagedFrom, Stands, StandsFrom}
+use Rattle.durable_units.specs.Durable.{Durable, fresh, next}
+use Rattle.durable_units.specs.Journal.{HasNoPlace, Leads, LeadsOn, OneState}
+use Rattle.durable_units.specs.Laws.{held_for}
+use Rattle.durable_images.specs.Laws.{IsThere, OpensThere}
+use Rattle.durable_images.specs.Opens.{IsJournal, OpensTo}
+use Rattle.durable_images.proofs.Reading.{one_store}
+use Rattle.durable_core.specs.Damage.{DamageOpensNot, HasJournal, HasPages, IsBadJournal, IsDamagedAt, OneDamage, PreparesOne}
+use Rattle.durable_core.proofs.Parts.{behind}
+
+-- ---- lists
+
+head_is : (x y : Entry) (xs ys : List Entry) → x ∷ xs ≡ y ∷ ys → x ≡ y
+head_is x y xs ys same = cc
+
+tail_is : (x y : Entry) (xs ys : List Entry) → x ∷ xs ≡ y ∷ ys → xs ≡ ys
+tail_is x y xs ys same = cc
+
+there : (Q : Entry → Type 0) (zs ws : List Entry) (z : Entry) → AllByRecursion Q (zs ++ (z ∷ ws)) → Q z
+there Q [] ws z all = all.0
+there Q (y ∷ zs) ws z all = there Q zs ws z all.1
+
+-- the last element of its kind
+one_last : (P : Entry → Type 0) (xs ys zs ws : List Entry) (x z : Entry) → xs ++ (x ∷ ys) ≡ zs ++ (z ∷ ws) → P x → AllByRecursion (λ e. P e → ⊥) ys → P z → AllByRecursion (λ e. P e → ⊥) ws → xs ≡ zs
+one_last P [] ys [] ws x z same here none other more = refl
+one_last P [] ys (y ∷ zs) ws x z same here none other more =
+    absurd (there (λ e. P e → ⊥) zs ws z (subst (λ (l : List Entry). AllByRecursion (λ e. P e → ⊥) l) (tail_is x y ys (zs ++ (z ∷ ws)) same) none) other)
+one_last P (v ∷ xs) ys [] ws x z same here none other more =
+    absurd (there (λ e. P e → ⊥) xs ys x (subst (λ (l : List Entry). AllByRecursion (λ e. P e → ⊥) l) (sym (tail_is v z (xs ++ (x ∷ ys)) ws same)) more) here)
+one_last P (v ∷ xs) ys (y ∷ zs) ws x z same here none other more =
+    ap (λ (l : List Entry). v ∷ l) (one_last P xs ys zs ws x z (tail_is v y (xs ++ (x ∷ ys)) (zs ++ (z ∷ ws)) same) here none other more)
+    ∙ ap (λ (e : Entry). e ∷ zs) (head_is v y (xs ++ (x ∷ ys)) (zs ++ (z ∷ ws)) same)
+
+-- ---- entries
+
+module _ (states : OneState) where
+  one_step : (c g h : Durable) (e : Entry) → LeadsOn c e g → LeadsOn c e h → g ≡ h
+  one_step c g h e a b = states c g h (e ∷ []) (g, a, refl) (h, b, refl)
+
+  -- entries that lead on have their places
+  no_way : (c d state : Durable) (before behind : List Entry) (here : Entry) → Leads c (before ++ (here ∷ behind)) d → Leads c before state → HasNoPlace state here → ⊥
+  no_way c d state [] behind here whole front none =
+      let no : next state whole.1.said ≡ None = none whole.1.said whole.1.is in
+      let some : next state whole.1.said ≡ Some whole.0 = subst (λ (g : Durable). next g whole.1.said ≡ Some whole.0) front whole.1.step in
+      let clash : None ≡ Some whole.0 = sym no ∙ some in
+      absurd cc
+  no_way c d state (x ∷ before) behind here whole front none =
+      let same : front.0 ≡ whole.0 = one_step c front.0 whole.0 x front.1 whole.1 in
+      no_way whole.0 d state before behind here whole.2 (subst (λ (g : Durable). Leads g before state) same front.2) none
+
+  -- the first one without a place
+  one_stop : (c s t : Durable) (xs ys zs ws : List Entry) (x z : Entry) → xs ++ (x ∷ ys) ≡ zs ++ (z ∷ ws) → Leads c xs s → HasNoPlace s x → Leads c zs t → HasNoPlace t z → xs ≡ zs
+  one_stop c s t [] ys [] ws x z same a stop b none = refl
+  one_stop c s t [] ys (y ∷ zs) ws x z same a stop b none =
+      let first : x ≡ y = head_is x y ys (zs ++ (z ∷ ws)) same in
+      absurd (no_way c b.0 s [] [] x (b.0, subst (λ (e : Entry). LeadsOn c e b.0) (sym first) b.1, refl) a stop)
+  one_stop c s t (v ∷ xs) ys [] ws x z same a stop b none =
+      let first : v ≡ z = head_is v z (xs ++ (x ∷ ys)) ws same in
+      absurd (no_way c a.0 t [] [] z (a.0, subst (λ (e : Entry). LeadsOn c e a.0) first a.1, refl) b none)
+  one_stop c s t (v ∷ xs) ys (y ∷ zs) ws x z same a stop b none =
+      let first : v ≡ y = head_is v y (xs ++ (x ∷ ys)) (zs ++ (z ∷ ws)) same in
+      let state : a.0 ≡ b.0 = one_step c a.0 b.0 y (subst (λ (e : Entry). LeadsOn c e a.0) first a.1) b.1 in
+      ap (λ (l : List Entry). v ∷ l) (one_stop a.0 s t xs ys zs ws x z (tail_is v y (xs ++ (x ∷ ys)) (zs ++ (z ∷ ws)) same) a.2 stop (subst (λ (g : Durable). Leads g zs t) (sym state) b.2) none)
+      ∙ ap (λ (e : Entry). e ∷ zs) first
+
+-- ---- journals
+
+-- two regions at one place
+module _ (a b : Region) (image : List ℕ) (at : a.at ≡ b.at) (end : end_of a ≡ end_of b) where
+  moved_stands : (es : List Entry) → Stands a es image → Stands b es image
+  moved_stands es stands = subst (λ (n : ℕ). StandsFrom b.at n es image) end (subst (λ (n : ℕ). StandsFrom n (end_of a) es image) at stands)
+
+  moved : (x : ℕ) → IsBadJournal a image x → IsBadJournal b image x
+  moved x (inl p) = inl (subst (λ (n : ℕ). DamagedFrom b.at n x image) end (subst (λ (n : ℕ). DamagedFrom n (end_of a) x image) at p))
+  moved x (inr (inl p)) =
+      inr (inl (record {
+        before = p.before;
+        here = p.here;
+        behind = p.behind;
+        stands = moved_stands (p.before ++ (p.here ∷ p.behind)) p.stands;
+        state = p.state;
+        leads = p.leads;
+        no_place = p.no_place;
+        place = p.place ∙ ap (λ (n : ℕ). n + length (laid p.before)) at;
+      }))
+  moved x (inr (inr p)) =
+      inr (inr (record {
+        before = p.before;
+        here = p.here;
+        behind = p.behind;
+        stands = moved_stands (p.before ++ (p.here ∷ p.behind)) p.stands;
+        state = p.state;
+        leads = p.leads;
+        short = omega (arith, p.short, at, end);
+        prepares = p.prepares;
+        none_behind = p.none_behind;
+        place = p.place ∙ ap (λ (n : ℕ). n + length (laid p.before)) at;
+      }))
+
+module _ (readings : OneReading) (states : OneState) where
+  module _ (region : Region) (image : List ℕ) where
+    one_bad : (a b : ℕ) → IsBadJournal region image a → IsBadJournal region image b → a ≡ b
+    one_bad a b (inl p) (inl q) = readings.damage region image a b p q
+    one_bad a b (inl p) (inr (inl q)) = absurd (readings.whole region image (q.before ++ (q.here ∷ q.behind)) a q.stands p)
+    one_bad a b (inl p) (inr (inr q)) = absurd (readings.whole region image (q.before ++ (q.here ∷ q.behind)) a q.stands p)
+    one_bad a b (inr (inl p)) (inl q) = absurd (readings.whole region image (p.before ++ (p.here ∷ p.behind)) b p.stands q)
+    one_bad a b (inr (inr p)) (inl q) = absurd (readings.whole region image (p.before ++ (p.here ∷ p.behind)) b p.stands q)
+    one_bad a b (inr (inl p)) (inr (inl q)) =
+        let whole : p.before ++ (p.here ∷ p.behind) ≡ q.before ++ (q.here ∷ q.behind) = readings.records region image (p.before ++ (p.here ∷ p.behind)) (q.before ++ (q.here ∷ q.behind)) p.stands q.stands in
+        p.place ∙ ap (λ (l : List Entry). region.at + length (laid l)) (one_stop states fresh p.state q.state p.before p.behind q.before q.behind p.here q.here whole p.leads p.no_place q.leads q.no_place) ∙ sym q.place
+    one_bad a b (inr (inl p)) (inr (inr q)) =
+        let whole : q.before ++ (q.here ∷ q.behind) ≡ p.before ++ (p.here ∷ p.behind) = readings.records region image (q.before ++ (q.here ∷ q.behind)) (p.before ++ (p.here ∷ p.behind)) q.stands p.stands in
+        absurd (no_way states fresh q.state p.state p.before p.behind p.here (subst (λ (l : List Entry). Leads fresh l q.state) whole q.leads) p.leads p.no_place)
+    one_bad a b (inr (inr p)) (inr (inl q)) =
+        let whole : p.before ++ (p.here ∷ p.behind) ≡ q.before ++ (q.here ∷ q.behind) = readings.records region image (p.before ++ (p.here ∷ p.behind)) (q.before ++ (q.here ∷ q.behind)) p.stands q.stands in
+        absurd (no_way states fresh p.state q.state q.before q.behind q.here (subst (λ (l : List Entry). Leads fresh l p.state) whole p.leads) q.leads q.no_place)
+    one_bad a b (inr (inr p)) (inr (inr q)) =
+        let whole : p.before ++ (p.here ∷ p.behind) ≡ q.before ++ (q.here ∷ q.behind) = readings.records region image (p.before ++ (p.here ∷ p.behind)) (q.before ++ (q.here ∷ q.behind)) p.stands q.stands in
+        let state : p.state ≡ q.state = states fresh p.state q.state (q.before ++ (q.here ∷ q.behind)) (subst (λ (l : List Entry). Leads fresh l p.state) whole p.leads) q.leads in
+        let prepares : PreparesOne q.state.doubts p.here = subst (λ (s : Durable). PreparesOne s.doubts p.here) state p.prepares in
+        let none : AllByRecursion (λ e. PreparesOne q.state.doubts e → ⊥) p.behind = subst (λ (s : Durable). AllByRecursion (λ e. PreparesOne s.doubts e → ⊥) p.behind) state p.none_behind in
+        p.place ∙ ap (λ (l : List Entry). region.at + length (laid l)) (one_last (λ e. PreparesOne q.state.doubts e) p.before p.behind q.before q.behind p.here q.here whole prepares none q.prepares q.none_behind) ∙ sym q.place
+
+  -- ---- images
+
+  no_store : (image : List ℕ) (at : ℕ) (store : Store) → active_of image ≡ Err (damaged at) → active_of image ≡ Ok store → ⊥
+  no_store image at store bad active = let clash : Err (damaged at) ≡ Ok store = sym bad ∙ active in absurd cc
+
+  same_damage : (a b : ℕ) (r : Result Store Refusal) → r ≡ Err (damaged a) → r ≡ Err (damaged b) → a ≡ b
+  same_damage a b r p q = let same : Err (damaged a) ≡ Err (damaged b) = sym p ∙ q in cc
+
+  no_pages : (image : List ℕ) (at : ℕ) → HasPages image at → (store : Store) → active_of image ≡ Ok store → store.header.pages ≡ 0 → ⊥
+  no_pages image at p store active none =
+      let same : p.store.header.pages ≡ store.header.pages = ap (λ (s : Store). s.header.pages) (one_store p.store store (active_of image) p.active active) in
+      omega (arith, p.some, same, none)
+
+  pub one_damage : OneDamage
+  one_damage image a b (inl p) (inl q) = same_damage a b (active_of image) p q
+  one_damage image a b (inl p) (inr (inl q)) = absurd (no_store image a q.store p q.active)
+  one_damage image a b (inl p) (inr (inr q)) = absurd (no_store image a q.1.store p q.1.active)
+  one_damage image a b (inr (inl p)) (inl q) = absurd (no_store image b p.store q p.active)
+  one_damage image a b (inr (inr p)) (inl q) = absurd (no_store image b p.1.store q p.1.active)
+  one_damage image a b (inr (inl p)) (inr (inl q)) =
+      p.place ∙ ap (λ (s : Store). offset_of (half_len (length image)) s.half + 9) (one_store p.store q.store (active_of image) p.active q.active) ∙ sym q.place
+  one_damage image a b (inr (inl p)) (inr (inr q)) = absurd (no_pages image a p q.1.store q.1.active q.1.journal.no_pages)
+  one_damage image a b (inr (inr p)) (inr (inl q)) = absurd (no_pages image b q p.1.store p.1.active p.1.journal.no_pages)
+  one_damage image a b (inr (inr p)) (inr (inr q)) =
+      let same : p.1.store ≡ q.1.store = one_store p.1.store q.1.store (active_of image) p.1.active q.1.active in
+      let at : p.0.at ≡ q.0.at = p.1.journal.begins ∙ ap (λ (s : Store). offset_of (half_len (length image)) s.half + 8192) same ∙ sym q.1.journal.begins in
+      let end : end_of p.0 ≡ end_of q.0 = p.1.journal.ends ∙ ap (λ (s : Store). offset_of (half_len (length image)) s.half + half_len (length image)) same ∙ sym q.1.journal.ends in
+      one_bad q.0 image a b (moved p.0 q.0 image at end a p.2) q.2
+
+  -- what stands in a journal that opens is not damaged
+  bad_opens_not : (name : List ℕ) (d : Durable) (image : List ℕ) (store : Store) (region : Region) (at : ℕ) → IsThere name d image store region → IsBadJournal region image at → ⊥
+  bad_opens_not name d image store region at is (inl p) = readings.whole region image is.es at is.holds.stands p
+  bad_opens_not name d image store region at is (inr (inl p)) =
+      let same : is.es ≡ p.before ++ (p.here ∷ p.behind) = readings.records region image is.es (p.before ++ (p.here ∷ p.behind)) is.holds.stands p.stands in
+      no_way states fresh d p.state p.before p.behind p.here (subst (λ (l : List Entry). Leads fresh l d) same is.holds.leads) p.leads p.no_place
+  bad_opens_not name d image store region at is (inr (inr p)) =
+      let same : is.es ≡ p.before ++ (p.here ∷ p.behind) = readings.records region image is.es (p.before ++ (p.here ∷ p.behind)) is.holds.stands p.stands in
+      let state : d ≡ p.state = states fresh d p.state (p.before ++ (p.here ∷ p.behind)) (subst (λ (l : List Entry). Leads fresh l d) same is.holds.leads) p.leads in
+      let long : length (laid is.es) ≡ length (laid (p.before ++ (p.here ∷ p.behind))) = ap (λ (l : List Entry). length (laid l)) same in
+      let held : held_for d.doubts ≡ held_for p.state.doubts = ap (λ (s : Durable). held_for s.doubts) state in
+      omega (arith, p.short, is.holds.room, long, held)
+
+  pub damage_opens_not : OpensThere → DamageOpensNot
+  damage_opens_not there_is name d image at opens (inl p) = no_store image at opens.2.store p opens.2.active
+  damage_opens_not there_is name d image at opens (inr (inl p)) = no_pages image at p opens.2.store opens.2.active opens.2.journal.no_pages
+  damage_opens_not there_is name d image at opens (inr (inr p)) =
+      bad_opens_not name d image p.1.store p.0 at (there_is name d image p.1.store p.0 opens p.1.active (behind (length image) p.1.store p.0 p.1.journal)) p.2

@@ -1,0 +1,84 @@
+-- When an image of a store is damaged, and at which offset.
+use Rattle.std.specs.Prelude.{◌≡◌, ◌⊎◌, ℕ, ◌+◌, ◌<◌, true, List, ◌∷◌, ◌++◌, length, is_some, Ok, Err}
+use Rattle.std.specs.List.{AllByRecursion}
+use Rattle.drda_disk.specs.declared.region.Region.{Region}
+use Rattle.tables.specs.Change.{Change}
+use Rattle.unit_locks.specs.Claim.{Claim}
+use Rattle.half_store.specs.Active.{Store, active_of, damaged}
+use Rattle.half_store.specs.Layout.{half_len, offset_of}
+use Rattle.unit_journal.specs.Record.{Entry, laid}
+use Rattle.unit_journal.specs.Stands.{IsDamagedAt as HasNoRecord, Stands}
+use Rattle.unit_records.specs.Records.{IsRecord, prepared}
+use Rattle.durable_units.specs.Durable.{Doubts, Durable, doubt_of, fresh}
+use Rattle.durable_units.specs.Journal.{HasNoPlace, Leads}
+use Rattle.durable_units.specs.Laws.{held_for}
+use Rattle.durable_images.specs.Opens.{IsJournal, OpensTo}
+
+-- the head is damaged there, or the header page of a half
+abbrev pub IsBadHead : List ℕ → ℕ → Type 0
+IsBadHead image at = active_of image ≡ Err (damaged at)
+
+-- the active half has pages, of which there are none yet; their number stands there, in the half's header
+pub record HasPages (image : List ℕ) (at : ℕ) : Type 0 where
+  pub store : Store
+  pub active : active_of image ≡ Ok store
+  pub some : 0 < store.header.pages
+  pub place : at ≡ offset_of (half_len (length image)) store.half + 9
+
+-- the image is a store without pages, whose journal lies in this region
+pub record HasJournal (image : List ℕ) (region : Region) : Type 0 where
+  pub store : Store
+  pub active : active_of image ≡ Ok store
+  pub journal : IsJournal (length image) store region
+
+-- the region reads as records, the first of which lead to a state; there the next one has no place, or it says
+-- nothing, and its gate is at this offset
+pub record IsMisplaced (region : Region) (image : List ℕ) (at : ℕ) : Type 0 where
+  pub before : List Entry
+  pub here : Entry
+  pub behind : List Entry
+  pub stands : Stands region (before ++ here ∷ behind) image
+  pub state : Durable
+  pub leads : Leads fresh before state
+  pub no_place : HasNoPlace state here
+  pub place : at ≡ region.at + length (laid before)
+
+-- an entry prepared the branch of one of the units in doubt
+pub record PreparesOne (doubts : Doubts) (e : Entry) : Type 0 where
+  pub xid : List ℕ
+  pub changes : List Change
+  pub claims : List Claim
+  pub is : IsRecord e.kind e.body (prepared xid changes claims)
+  pub in_doubt : is_some (doubt_of doubts xid) ≡ true
+
+-- The region reads as records that lead to a state, and behind them the decisions of its units in doubt have no
+-- room. The gate of the last record that prepared one of these is at this offset.
+pub record HasNoRoom (region : Region) (image : List ℕ) (at : ℕ) : Type 0 where
+  pub before : List Entry
+  pub here : Entry
+  pub behind : List Entry
+  pub stands : Stands region (before ++ here ∷ behind) image
+  pub state : Durable
+  pub leads : Leads fresh (before ++ here ∷ behind) state
+  pub short : region.length < length (laid (before ++ here ∷ behind)) + 1 + held_for state.doubts
+  pub prepares : PreparesOne state.doubts here
+  pub none_behind : AllByRecursion (λ e. PreparesOne state.doubts e → ⊥) behind
+  pub place : at ≡ region.at + length (laid before)
+
+-- an open gate of the journal has no record behind it; or one of its records has no place; or the decisions have no room
+abbrev pub IsBadJournal : Region → List ℕ → ℕ → Type 0
+IsBadJournal region image at = HasNoRecord region at image ⊎ (IsMisplaced region image at ⊎ HasNoRoom region image at)
+
+-- a store is damaged at this offset: in its head, by pages, or in its journal
+abbrev pub IsDamagedAt : List ℕ → ℕ → Type 0
+IsDamagedAt image at = IsBadHead image at ⊎ (HasPages image at ⊎ ((region : Region) × HasJournal image region × IsBadJournal region image at))
+
+-- ---- laws
+
+-- what is damaged does not open
+abbrev pub DamageOpensNot : Type 0
+DamageOpensNot = (name : List ℕ) (d : Durable) (image : List ℕ) (at : ℕ) → OpensTo name d image → IsDamagedAt image at → ⊥
+
+-- and is damaged at one offset
+abbrev pub OneDamage : Type 0
+OneDamage = (image : List ℕ) (a b : ℕ) → IsDamagedAt image a → IsDamagedAt image b → a ≡ b

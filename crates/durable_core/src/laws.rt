@@ -1,0 +1,24 @@
+//! Laws of damage. The functions do nothing: their contracts are the laws.
+
+ghost use Rattle.durable_core.specs.Damage.{DamageOpensNot, OneDamage};
+
+use durable_images::laws::images_open_there;
+use durable_units::laws::records_lead_one_way;
+use unit_journal::a_region_has_one_reading;
+
+/// A damaged image opens to nothing.
+pub fn damage_does_not_open()
+    ensures { DamageOpensNot }
+{
+    images_open_there();
+    a_region_has_one_reading();
+    records_lead_one_way();
+}
+
+/// An image is damaged at one offset at most.
+pub fn damage_is_at_one_offset()
+    ensures { OneDamage }
+{
+    a_region_has_one_reading();
+    records_lead_one_way();
+}

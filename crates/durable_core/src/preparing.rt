@@ -1,0 +1,73 @@
+//! The records that prepared the units in doubt.
+
+ghost use Rattle.std.specs.Prelude.{◌≡◌, ◌↔◌, IfOk, IsTrue, bytes_eq, is_some};
+ghost use Rattle.std.specs.List.{list_any};
+ghost use Rattle.unit_journal.specs.Record.{entry_of};
+ghost use Rattle.durable_units.specs.Durable.{doubt_of};
+ghost use Rattle.durable_units.specs.Replay.{doubts_in};
+ghost use Rattle.durable_core.specs.Damage.{PreparesOne};
+ghost use Rattle.durable_core.specs.Prepares.{IsPrepare, TellsLast};
+
+use durable_units::PreparedUnit;
+use std::alloc::{AllocError, Global};
+use unit_journal::Record;
+use unit_records::laws::records_have_one_reading;
+use unit_records::{ReadError, UnitRecord};
+use xa_calls::Xid;
+
+/// The offset of the last record that prepared one of the units, or 0 where none did.
+pub(crate) fn last_prepare(
+    alloc: Global,
+    records: &[Record],
+    units: &[PreparedUnit],
+) -> Result<usize, AllocError>
+    ensures { IfOk result (TellsLast (doubts_in units.now) records.now) }
+{
+    let mut last = 0;
+    let mut left = records;
+    while let [entry, rest @ ..] = left {
+        if prepares_one(alloc, entry, units)? {
+            last = entry.at;
+        }
+        left = rest;
+    }
+    Ok(last)
+}
+
+// Whether a record prepared one of the units.
+fn prepares_one(alloc: Global, entry: &Record, units: &[PreparedUnit]) -> Result<bool, AllocError>
+    ensures { IfOk result (λ prepares. IsTrue prepares ↔ PreparesOne (doubts_in units.now) (entry_of entry.now)) }
+{
+    records_have_one_reading();
+    let said = UnitRecord::read(alloc, entry.kind, entry.body.as_slice());
+    is_prepare(units, &said)
+}
+
+// Whether what was read of a record prepared one of the units.
+fn is_prepare(
+    units: &[PreparedUnit],
+    said: &Result<UnitRecord, ReadError>,
+) -> Result<bool, AllocError>
+    ensures { IfOk result (IsPrepare (doubts_in units.now) said.now) }
+{
+    match said {
+        Ok(UnitRecord::Prepare { xid, .. }) => Ok(is_in_doubt(units, xid)),
+        Ok(UnitRecord::Commit { .. }) => Ok(false),
+        Ok(UnitRecord::Decide { .. }) => Ok(false),
+        Err(ReadError::Damaged) => Ok(false),
+        Err(ReadError::NoMemory) => Err(AllocError),
+    }
+}
+
+// Whether an XID is one of a unit.
+fn is_in_doubt(units: &[PreparedUnit], xid: &Xid) -> bool
+    ensures { result ≡ is_some (doubt_of (doubts_in units.now) xid.now) }
+{
+    has(units, xid)
+}
+
+fn has(units: &[PreparedUnit], xid: &Xid) -> bool
+    ensures { result ≡ list_any (λ u. bytes_eq xid.now u.xid) units.now }
+{
+    units.iter().any(|unit| *xid == unit.xid)
+}
