@@ -8,6 +8,7 @@ ghost use Rattle.stream_service.specs.Serving.{Converses, Serves};
 use crate::feeding::{Heard, feed_all};
 use drda_disk::Disk;
 use drda_node::{ConversationId, Node, write_whole};
+use dss_frames::stays_read;
 use durable_images::laws::calls_go_on;
 use std::alloc::{AllocError, Global};
 use std::io::{Read, Write};
@@ -76,8 +77,10 @@ fn converse<D: Disk, R: Read, W: Write>(
     requires { Names (machine node.old) (register node.old) id }
     ensures converses { IfSome (R.remaining reader.old) (λ input. Converses (machine node.old) (place_of id) input (W.contents writer.old) result (W.contents writer.new) (machine node.new)) }
     ensures named { Names (machine node.new) (register node.new) id }
+    ensures device { (result ≡ Served.DeviceFailed) → (machine node.new).has_failed ≡ true }
     ensures journaled { IsJournaled D.is_modelled D.life (core_in node.old) (core_in node.new) }
 {
+    stays_read();
     calls_go_on::<D>();
     node.core().is_durable();
     let Ok(mut buffer) = room_for_a_piece(alloc) else {
