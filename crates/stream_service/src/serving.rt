@@ -60,7 +60,8 @@ pub fn serve_one<D: Disk, R: Read, W: Write>(
         }
         Err(_) => Served::NoMemory,
     };
-    if node.core().is_failed() {
+    let core = node.core();
+    if core.is_failed() {
         return Served::DeviceFailed;
     }
     served
