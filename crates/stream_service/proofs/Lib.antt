@@ -1,2 +1,2 @@
-pub mod Feeding
-pub mod Talking
+pub mod Pieces
+pub mod Streams

@@ -1,5 +1,5 @@
 -- What a conversation heard of a piece, and what it is answered.
-use Rattle.std.specs.Prelude.{◌≡◌, ℕ, true, false, List, ◌++◌}
+use Rattle.std.specs.Prelude.{◌≡◌, ℕ, List, ◌++◌}
 use Rattle.drda_node.specs.Machine.{Machine}
 use Rattle.drda_node.specs.Hearing.{Attended, HearsAt}
 use Rattle.stream_service.specs.declared.feeding.Heard.{Heard}

@@ -1,11 +1,15 @@
 -- What serving a stream comes to: what stood in the input, what the writer held before and holds now, and the
 -- machine before and now.
-use Rattle.std.specs.Prelude.{◌≡◌, ◌⊎◌, ℕ, List, [], ◌++◌, Option, Some, None, slice_get, take}
+use Rattle.std.specs.Prelude.{◌≡◌, ◌⊎◌, ℕ, Bool, if◌then◌else◌, List, [], ◌++◌, Option, Some, None, slice_get, take}
 use Rattle.std.specs.Io.KnownBytes.{Appends}
 use Rattle.drda_node.specs.Machine.{Machine, lost, opened}
 use Rattle.stream_service.specs.Pieces.{Answered}
 use Rattle.stream_service.specs.declared.serving.Served.{Served}
 use Rattle.stream_service.specs.declared.serving.Served.TheVariants.{Done, ReadFault, WriteFault, NoMemory, DeviceFailed}
+
+-- a core that has failed is told before anything else
+abbrev pub unless_failed : Bool → Served → Served
+unless_failed has_failed served = if has_failed then DeviceFailed else served
 
 -- nothing has come yet, or the conversation heard these bytes and was answered so
 abbrev pub Heard : Machine → ℕ → List ℕ → List ℕ → Machine → Type 0

@@ -3,7 +3,7 @@
 ghost use Rattle.std.specs.Prelude.{◌≡◌, ◌↔◌, true, IfSome};
 ghost use Rattle.drda_node.specs.Asking.{IsJournaled};
 ghost use Rattle.drda_node.specs.Register.{Names, core_in, machine, place_of, register};
-ghost use Rattle.stream_service.specs.Serving.{Converses, Serves};
+ghost use Rattle.stream_service.specs.Serving.{Converses, Serves, unless_failed};
 
 use crate::feeding::{Heard, feed_all};
 use drda_disk::Disk;
@@ -52,14 +52,18 @@ pub fn serve_one<D: Disk, R: Read, W: Write>(
 {
     calls_go_on::<D>();
     node.core().is_durable();
-    let served = match node.open_conversation() {
-        Ok(id) => {
-            let served = converse(alloc, node, id, reader, writer);
-            node.lost(id);
-            served
-        }
-        Err(_) => Served::NoMemory,
+    let Ok(id) = node.open_conversation() else {
+        return unless_failed(node, Served::NoMemory);
     };
+    let served = converse(alloc, node, id, reader, writer);
+    node.lost(id);
+    unless_failed(node, served)
+}
+
+// This, unless the core has failed.
+fn unless_failed<D: Disk>(node: &Node<D>, served: Served) -> Served
+    ensures { result ≡ unless_failed (machine node.now).has_failed served }
+{
     let core = node.core();
     if core.is_failed() {
         return Served::DeviceFailed;

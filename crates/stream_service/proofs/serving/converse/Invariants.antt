@@ -1,7 +1,7 @@
 use Rattle.std.proofs.Common.{◌≡◌, length}
 use Rattle.drda_node.specs.Asking.{IsJournaled}
 use Rattle.drda_node.specs.Register.{Names, core_in, machine, place_of, register}
-use Rattle.stream_service.proofs.Talking.{SoFar}
+use Rattle.stream_service.proofs.Streams.{SoFar}
 use Rattle.stream_service.proofs.serving.converse.Given as goal
 
 abbrev pub invariant-talking : goal.invariant-talking

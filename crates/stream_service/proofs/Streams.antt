@@ -1,20 +1,23 @@
 -- How far a stream was served, one piece further on, and at its end.
-use Rattle.std.proofs.Common.{◌≡◌, ◌⊎◌, ℕ, ◌+◌, true, List, [], ◌++◌, length, take, drop, take-append-drop, Option, Some, None, slice_get, refl, sym, ap, subst, ◌∙◌, append_assoc, append-nil, inl, inr}
+use Rattle.std.proofs.Common.{◌≡◌, ◌↔◌, ℕ, zero, suc, ◌+◌, Bool, true, false, List, [], ◌∷◌, ◌++◌, map, length, take, drop, take-append-drop, Option, Some, None, slice_get, refl, sym, ap, subst, ◌∙◌, append_assoc, append-nil, inl, inr}
 use Rattle.std.specs.Prelude.{IfSome, MatchOption}
-use Rattle.std.specs.Io.KnownBytes.{Appends, Consumes, IsAtEnd, Keeps}
+use Rattle.std.specs.Io.KnownBytes.{Appends, Consumes, IsAtEnd}
 use Rattle.std.proofs.KnownBytes.{Appends-nil, Appends-trans}
 use Rattle.std.proofs.Math.Seq.{take-append-add, take-append_seam, take-length}
 use Rattle.std.proofs.lemmas.List.{set-set}
 use Rattle.dss_frames.specs.declared.fault.FrameFault.{FrameFault}
 use Rattle.dss_frames.specs.Fault.{FaultAt}
-use Rattle.drda_node.specs.Machine.{Conversation, Machine}
-use Rattle.drda_node.specs.Hearing.{Attended, Hears, HearsAt, attended, attended_at, conversation_of}
+use Rattle.drda_node.specs.Machine.{Conversation, Machine, beginning, lost, opened}
+use Rattle.drda_node.specs.declared.node.ConversationId.{ConversationId}
+use Rattle.drda_node.specs.declared.place.Place.{Place}
+use Rattle.drda_node.specs.Register.{Names, Opens, Register, number_of, shown}
+use Rattle.drda_node.specs.Hearing.{Attended, Hears, attended, attended_at, conversation_of}
 use Rattle.drda_node.proofs.Conversing.{hears_then}
 use Rattle.drda_node.proofs.Rows.{get_set, one_value}
 use Rattle.stream_service.specs.Pieces.{Answered, HearsAll, HearsFront, HearsLast, HearsPiece}
 use Rattle.stream_service.specs.declared.feeding.Heard.{Heard as HeardState}
 use Rattle.stream_service.specs.declared.feeding.Heard.TheVariants as piece_is
-use Rattle.stream_service.specs.Serving.{AnswersAll, AnswersFront, BreaksOff, Converses, Heard}
+use Rattle.stream_service.specs.Serving.{BreaksOff, Converses, HasServed, Heard, Serves, unless_failed}
 use Rattle.stream_service.specs.declared.serving.Served.{Served}
 use Rattle.stream_service.specs.declared.serving.Served.TheVariants.{Done, ReadFault, WriteFault, NoMemory, DeviceFailed}
 
@@ -36,13 +39,13 @@ module _ (fault_more : (bytes more : List ℕ) (fault : FrameFault) → FaultAt 
       let f = b.hears in
       let between = a.after in
       let now : slice_get mid.row place ≡ Some (Some (conversation_of between)) =
-          subst (λ (m : Machine). slice_get m.row place ≡ Some (Some (conversation_of between))) (sym h.row) (get_set old.row place (Some h.before) (Some (conversation_of between)) h.was) in
+      subst (λ (m : Machine). slice_get m.row place ≡ Some (Some (conversation_of between))) (sym h.row) (get_set old.row place (Some h.before) (Some (conversation_of between)) h.was) in
       let both : Some f.before ≡ Some (conversation_of between) = one_value (slice_get mid.row place) (Some f.before) (Some (conversation_of between)) f.was now in
       let same : f.before ≡ conversation_of between = cc both in
       let here : Hears old.settings place (attended (attended_at old place between) f.before) q y b.after =
-          subst (λ (m : Machine). Hears m.settings place (attended m f.before) q y b.after) h.row f.hears in
+      subst (λ (m : Machine). Hears m.settings place (attended m f.before) q y b.after) h.row f.hears in
       let next : Hears old.settings place between q y b.after =
-          subst (λ (c : Conversation). Hears old.settings place (attended (attended_at old place between) c) q y b.after) same here in
+      subst (λ (c : Conversation). Hears old.settings place (attended (attended_at old place between) c) q y b.after) same here in
       record {
         after = b.after;
         hears = record {
@@ -200,3 +203,61 @@ device ReadFault old now place input w0 w c = record {
 device WriteFault old now place input w0 w c = c
 device NoMemory old now place input w0 w c = c
 device DeviceFailed old now place input w0 w c = c
+
+-- ---- a conversation that was opened, served and lost
+
+number_there : (places : List Place) (i : ℕ) (x : Option Conversation) → slice_get (map shown places) i ≡ Some x → (n : ℕ) × (slice_get (map number_of places) i ≡ Some n)
+number_there [] i x is = absurd (cc is)
+number_there (p ∷ ps) zero x is = (number_of p, refl)
+number_there (p ∷ ps) (suc i) x is = number_there ps i x is
+
+-- what was opened is named
+pub named : (places : List Place) (old new : Machine) (before after : Register) (id : ConversationId) → old.row ≡ map shown places → before.numbers ≡ map number_of places → Opens old before id new after → Names new after id
+named places old new before after id rows numbers o =
+    let free : slice_get (map shown places) id.place ≡ Some None = subst (λ (r : List (Option Conversation)). slice_get r id.place ≡ Some None) rows o.free in
+    let had = number_there places id.place None free in
+    let at : slice_get before.numbers id.place ≡ Some had.0 = subst (λ (ns : List ℕ). slice_get ns id.place ≡ Some had.0) (sym numbers) had.1 in
+    record {
+      is_there = (beginning, subst (λ (m : Machine). slice_get m.row id.place ≡ Some (Some beginning)) (sym o.row) (get_set old.row id.place None (Some beginning) o.free));
+      number = subst (λ (ns : List ℕ). slice_get ns id.place ≡ Some id.number) (sym o.numbers) (get_set before.numbers id.place had.0 id.number at);
+    }
+
+has_served : (old mid last new : Machine) (place : ℕ) (input : List ℕ) (w0 w : Option (List ℕ)) (served : Served) → slice_get old.row place ≡ Some None → mid ≡ opened old place → new ≡ lost last place
+    → Converses mid place input w0 served w last → HasServed old input w0 served w new
+has_served old mid last new place input w0 w served free was then c = record {
+  place = place;
+  free = free;
+  last = last;
+  converses = subst (λ (m : Machine). Converses m place input w0 served w last) was c;
+  lost_then = then;
+}
+
+as_told : (served : Served) (old new : Machine) (input : List ℕ) (w0 w : Option (List ℕ)) → HasServed old input w0 served w new → Serves old input w0 served w new
+as_told Done old new input w0 w h = h
+as_told ReadFault old new input w0 w h = h
+as_told WriteFault old new input w0 w h = h
+as_told NoMemory old new input w0 w h = inr h
+as_told DeviceFailed old new input w0 w h = inr h
+
+serves_input : (failed : Bool) (served : Served) (old mid last new : Machine) (place : ℕ) (input : List ℕ) (w0 w : Option (List ℕ)) → slice_get old.row place ≡ Some None → mid ≡ opened old place → new ≡ lost last place
+    → Converses mid place input w0 served w last → Serves old input w0 (unless_failed failed served) w new
+serves_input true served old mid last new place input w0 w free was then c = inr (has_served old mid last new place input w0 w DeviceFailed free was then (device served mid last place input w0 w c))
+serves_input false served old mid last new place input w0 w free was then c = as_told served old new input w0 w (has_served old mid last new place input w0 w served free was then c)
+
+pub serves : (failed : Bool) (served : Served) (old mid last new : Machine) (place : ℕ) (r0 w0 w : Option (List ℕ)) → slice_get old.row place ≡ Some None → mid ≡ opened old place → new ≡ lost last place
+    → IfSome r0 (λ input. Converses mid place input w0 served w last) → IfSome r0 (λ input. Serves old input w0 (unless_failed failed served) w new)
+serves failed served old mid last new place None w0 w free was then c = tt
+serves failed served old mid last new place (Some input) w0 w free was then c = serves_input failed served old mid last new place input w0 w free was then c
+
+no_place : (failed : Bool) (old new : Machine) (input : List ℕ) (w : Option (List ℕ)) → new ≡ old → Serves old input w (unless_failed failed NoMemory) w new
+no_place true old new input w same = inl (record { same = same; silent = refl })
+no_place false old new input w same = inl (record { same = same; silent = refl })
+
+pub finds_no_place : (failed : Bool) (old new : Machine) (r0 w : Option (List ℕ)) → new ≡ old → IfSome r0 (λ input. Serves old input w (unless_failed failed NoMemory) w new)
+finds_no_place failed old new None w same = tt
+finds_no_place failed old new (Some input) w same = no_place failed old new input w same
+
+-- a device that has failed is told, and no other
+pub told : (failed : Bool) (served : Served) → (served ≡ DeviceFailed → failed ≡ true) → (unless_failed failed served ≡ DeviceFailed) ↔ (failed ≡ true)
+told true served only = ((λ is. refl), (λ is. refl))
+told false served only = (only, (λ is. absurd (cc is)))

@@ -1,5 +1,5 @@
 -- What was heard of a piece, by how feeding it ends.
-use Rattle.std.proofs.Common.{◌≡◌, ◌≤◌, ◌+◌, ℕ, true, List, [], ◌++◌, length, take, drop, Some, slice_get, refl, sym, ap, subst, ◌∙◌, append_assoc, append-nil, take-append-drop, inr}
+use Rattle.std.proofs.Common.{◌≡◌, ◌≤◌, ℕ, true, List, [], ◌++◌, length, take, drop, Some, slice_get, refl, sym, ap, subst, ◌∙◌, append_assoc, append-nil, take-append-drop, inr}
 use Rattle.dss_frames.specs.declared.fault.FrameFault.{FrameFault}
 use Rattle.dss_frames.specs.Fault.{FaultAt}
 use Rattle.drda_node.specs.declared.node.ConversationId.{ConversationId}
@@ -43,7 +43,7 @@ module _ (fault_more : (bytes more : List ℕ) (fault : FrameFault) → FaultAt 
     replies = (h.told.replies ++ []) ++ [];
     answered = λ behind.
         let there : take count piece ++ (drop count piece ++ behind) ≡ piece ++ behind =
-            sym (append_assoc (take count piece) (drop count piece) behind) ∙ ap (λ (z : List ℕ). z ++ behind) (take-append-drop count piece) in
+        sym (append_assoc (take count piece) (drop count piece) behind) ∙ ap (λ (z : List ℕ). z ++ behind) (take-append-drop count piece) in
         record {
           after = after;
           hears = record {
