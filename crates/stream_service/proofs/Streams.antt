@@ -1,0 +1,263 @@
+-- How far a stream was served, one piece further on, and at its end.
+use Rattle.std.proofs.Common.{◌≡◌, ◌↔◌, ℕ, zero, suc, ◌+◌, Bool, true, false, List, [], ◌∷◌, ◌++◌, map, length, take, drop, take-append-drop, Option, Some, None, slice_get, refl, sym, ap, subst, ◌∙◌, append_assoc, append-nil, inl, inr}
+use Rattle.std.specs.Prelude.{IfSome, MatchOption}
+use Rattle.std.specs.Io.KnownBytes.{Appends, Consumes, IsAtEnd}
+use Rattle.std.proofs.KnownBytes.{Appends-nil, Appends-trans}
+use Rattle.std.proofs.Math.Seq.{take-append-add, take-append_seam, take-length}
+use Rattle.std.proofs.lemmas.List.{set-set}
+use Rattle.dss_frames.specs.declared.fault.FrameFault.{FrameFault}
+use Rattle.dss_frames.specs.Fault.{FaultAt}
+use Rattle.drda_node.specs.Machine.{Conversation, Machine, beginning, lost, opened}
+use Rattle.drda_node.specs.declared.node.ConversationId.{ConversationId}
+use Rattle.drda_node.specs.declared.place.Place.{Place}
+use Rattle.drda_node.specs.Register.{Names, Opens, Register, number_of, shown}
+use Rattle.drda_node.specs.Hearing.{Attended, Hears, attended, attended_at, conversation_of}
+use Rattle.drda_node.proofs.Conversing.{hears_then}
+use Rattle.drda_node.proofs.Rows.{get_set, one_value}
+use Rattle.stream_service.specs.Pieces.{Answered, HearsAll, HearsFront, HearsLast, HearsPiece}
+use Rattle.stream_service.specs.declared.feeding.Heard.{Heard as HeardState}
+use Rattle.stream_service.specs.declared.feeding.Heard.TheVariants as piece_is
+use Rattle.stream_service.specs.Serving.{BreaksOff, Converses, HasServed, Heard, Serves, unless_failed}
+use Rattle.stream_service.specs.declared.serving.Served.{Served}
+use Rattle.stream_service.specs.declared.serving.Served.TheVariants.{Done, ReadFault, WriteFault, NoMemory, DeviceFailed}
+
+cut_in_front : (count : ℕ) (xs ys : List ℕ) → take (length (take count xs)) (xs ++ ys) ≡ take count xs
+cut_in_front count xs ys =
+    let split : xs ++ ys ≡ take count xs ++ (drop count xs ++ ys) = ap (λ (z : List ℕ). z ++ ys) (sym (take-append-drop count xs)) ∙ append_assoc (take count xs) (drop count xs) ys in
+    ap (λ (z : List ℕ). take (length (take count xs)) z) split ∙ take-append_seam (take count xs) (drop count xs ++ ys)
+
+-- ---- what is heard, and then more
+
+set_again : (machine : Machine) (place : ℕ) (x y : Attended) → attended_at (attended_at machine place x) place y ≡ attended_at machine place y
+set_again machine place x y =
+    ap (λ (row : List (Option Conversation)). let m : Machine = record { settings = machine.settings; row = row; core = y.standing.asked.state; has_failed = y.standing.asked.has_failed } in m) (set-set machine.row place (Some (conversation_of x)) (Some (conversation_of y)))
+
+module _ (fault_more : (bytes more : List ℕ) (fault : FrameFault) → FaultAt bytes fault → FaultAt (bytes ++ more) fault) where
+  answered_then : (old mid new : Machine) (place : ℕ) (p q x y : List ℕ) → Answered old place p x mid → Answered mid place q y new → Answered old place (p ++ q) (x ++ y) new
+  answered_then old mid new place p q x y a b =
+      let h = a.hears in
+      let f = b.hears in
+      let between = a.after in
+      let now : slice_get mid.row place ≡ Some (Some (conversation_of between)) =
+      subst (λ (m : Machine). slice_get m.row place ≡ Some (Some (conversation_of between))) (sym h.row) (get_set old.row place (Some h.before) (Some (conversation_of between)) h.was) in
+      let both : Some f.before ≡ Some (conversation_of between) = one_value (slice_get mid.row place) (Some f.before) (Some (conversation_of between)) f.was now in
+      let same : f.before ≡ conversation_of between = cc both in
+      let here : Hears old.settings place (attended (attended_at old place between) f.before) q y b.after =
+      subst (λ (m : Machine). Hears m.settings place (attended m f.before) q y b.after) h.row f.hears in
+      let next : Hears old.settings place between q y b.after =
+      subst (λ (c : Conversation). Hears old.settings place (attended (attended_at old place between) c) q y b.after) same here in
+      record {
+        after = b.after;
+        hears = record {
+          before = h.before;
+          was = h.was;
+          hears = hears_then old.settings place fault_more (attended old h.before) between b.after p q x y h.hears next;
+          row = f.row ∙ ap (λ (m : Machine). attended_at m place b.after) h.row ∙ set_again old place between b.after;
+        };
+      }
+
+  pub heard_then : (old mid new : Machine) (place : ℕ) (p q x y : List ℕ) → Heard old place p x mid → Answered mid place q y new → Heard old place (p ++ q) (x ++ y) new
+  heard_then old mid new place p q x y (inl (none, silent, same)) b =
+      let here : Answered old place q y new = subst (λ (m : Machine). Answered m place q y new) same b in
+      inr (subst (λ (z : List ℕ). Answered old place (p ++ q) (z ++ y) new) (sym silent) (subst (λ (z : List ℕ). Answered old place (z ++ q) y new) (sym none) here))
+  heard_then old mid new place p q x y (inr a) b = inr (answered_then old mid new place p q x y a b)
+
+-- ---- a piece in any state
+
+pub in_front : (state : HeardState) (old new : Machine) (place : ℕ) (piece out out' : List ℕ) → HearsPiece old place piece out state new out' → HearsFront old place piece out new out'
+in_front piece_is.Open old new place piece out out' h = record {
+  heard = piece;
+  rest = [];
+  replies = h.replies;
+  behind = [];
+  front = sym (append-nil piece);
+  answered = subst (λ (z : List ℕ). Answered old place piece z new) (sym (append-nil h.replies)) h.answered;
+  appended = h.appended;
+}
+in_front piece_is.Closed old new place piece out out' h = record {
+  heard = piece;
+  rest = [];
+  replies = h.replies;
+  behind = [];
+  front = sym (append-nil piece);
+  answered = subst (λ (z : List ℕ). Answered old place piece z new) (sym (append-nil h.replies)) (subst (λ (z : List ℕ). Answered old place z h.replies new) (append-nil piece) (h.answered []));
+  appended = h.appended;
+}
+in_front piece_is.NoMemory old new place piece out out' h = h
+
+-- ---- so far
+
+-- a front of the input was heard, its answers are written, and the rest is still to be read
+pub record Talked (old : Machine) (place : ℕ) (input : List ℕ) (before : Option (List ℕ)) (left : List ℕ) (now : Option (List ℕ)) (new : Machine) : Type 0 where
+  pub front : List ℕ
+  pub replies : List ℕ
+  pub input_is : input ≡ front ++ left
+  pub heard : Heard old place front replies new
+  pub written : Appends before now replies
+
+abbrev pub SoFar : Machine → ℕ → Option (List ℕ) → Option (List ℕ) → Option (List ℕ) → Option (List ℕ) → Machine → Type 0
+SoFar old place r0 r w0 w now = IfSome r0 (λ input. MatchOption r ⊥ (λ left. Talked old place input w0 left w now))
+
+pub starts : (r w : Option (List ℕ)) (old : Machine) (place : ℕ) → SoFar old place r r w w old
+starts None w old place = tt
+starts (Some input) w old place = record { front = []; replies = []; input_is = refl; heard = inl (refl, refl, refl); written = Appends-nil w }
+
+module _ (fault_more : (bytes more : List ℕ) (fault : FrameFault) → FaultAt bytes fault → FaultAt (bytes ++ more) fault) where
+  -- a piece was heard whole, and its answers written
+  talked_more : (old mid new : Machine) (place : ℕ) (input left piece left' out' : List ℕ) (w0 w w' : Option (List ℕ)) → Talked old place input w0 left w mid → left ≡ piece ++ left' → HearsAll mid place piece [] new out' → Appends w w' out'
+      → Talked old place input w0 left' w' new
+  talked_more old mid new place input left piece left' out' w0 w w' t took h wrote = record {
+    front = t.front ++ piece;
+    replies = t.replies ++ h.replies;
+    input_is = t.input_is ∙ ap (λ (z : List ℕ). t.front ++ z) took ∙ sym (append_assoc t.front piece left');
+    heard = heard_then fault_more old mid new place t.front piece t.replies h.replies t.heard h.answered;
+    written = Appends-trans w0 w w' t.replies h.replies t.written (subst (λ (z : List ℕ). Appends w w' z) h.appended wrote);
+  }
+
+  pub goes_on : (old mid new : Machine) (place : ℕ) (piece out' : List ℕ) (r0 r r' w0 w w' : Option (List ℕ)) → SoFar old place r0 r w0 w mid → Consumes r r' piece → HearsAll mid place piece [] new out' → Appends w w' out'
+      → SoFar old place r0 r' w0 w' new
+  goes_on old mid new place piece out' None r r' w0 w w' s took h wrote = tt
+  goes_on old mid new place piece out' (Some input) None r' w0 w w' s took h wrote = absurd s
+  goes_on old mid new place piece out' (Some input) (Some left) None w0 w w' s took h wrote = absurd took
+  goes_on old mid new place piece out' (Some input) (Some left) (Some left') w0 w w' s took h wrote = talked_more old mid new place input left piece left' out' w0 w w' s took h wrote
+
+  -- the conversation was closed: it was answered whatever stands behind
+  pub closes : (old mid new : Machine) (place : ℕ) (piece out' : List ℕ) (r0 r r' w0 w w' : Option (List ℕ)) → SoFar old place r0 r w0 w mid → Consumes r r' piece → HearsLast mid place piece [] new out' → Appends w w' out'
+      → IfSome r0 (λ input. Converses old place input w0 Done w' new)
+  closes old mid new place piece out' None r r' w0 w w' s took h wrote = tt
+  closes old mid new place piece out' (Some input) None r' w0 w w' s took h wrote = absurd s
+  closes old mid new place piece out' (Some input) (Some left) None w0 w w' s took h wrote = absurd took
+  closes old mid new place piece out' (Some input) (Some left) (Some left') w0 w w' s took h wrote = record {
+    replies = s.replies ++ h.replies;
+    heard = subst (λ (z : List ℕ). Heard old place z (s.replies ++ h.replies) new) (sym (s.input_is ∙ ap (λ (z : List ℕ). s.front ++ z) took))
+        (heard_then fault_more old mid new place s.front (piece ++ left') s.replies h.replies s.heard (h.answered left'));
+    written = Appends-trans w0 w w' s.replies h.replies s.written (subst (λ (z : List ℕ). Appends w w' z) h.appended wrote);
+  }
+
+  -- of the answers to a front of the input a front is written
+  broken : (old mid new : Machine) (place : ℕ) (input left piece left' out' : List ℕ) (w0 w w' : Option (List ℕ)) (count : ℕ) → Talked old place input w0 left w mid → left ≡ piece ++ left' → HearsFront mid place piece [] new out'
+      → Appends w w' (take count out') → BreaksOff old place input w0 w' new
+  broken old mid new place input left piece left' out' w0 w w' count t took h wrote =
+      let wrote_replies : Appends w w' (take count h.replies) = subst (λ (z : List ℕ). Appends w w' (take count z)) h.appended wrote in
+      let cut : take count h.replies ≡ take (length (take count h.replies)) (h.replies ++ h.behind) = sym (cut_in_front count h.replies h.behind) in
+      let wrote_cut : Appends w w' (take (length (take count h.replies)) (h.replies ++ h.behind)) = subst (λ (z : List ℕ). Appends w w' z) cut wrote_replies in
+      record {
+        front = t.front ++ h.heard;
+        rest = h.rest ++ left';
+        replies = t.replies ++ (h.replies ++ h.behind);
+        count = length t.replies + length (take count h.replies);
+        input_is = t.input_is ∙ ap (λ (z : List ℕ). t.front ++ z) (took ∙ ap (λ (z : List ℕ). z ++ left') h.front ∙ append_assoc h.heard h.rest left') ∙ sym (append_assoc t.front h.heard (h.rest ++ left'));
+        heard = heard_then fault_more old mid new place t.front h.heard t.replies (h.replies ++ h.behind) t.heard h.answered;
+        written = subst (λ (z : List ℕ). Appends w0 w' z) (sym (take-append-add t.replies (h.replies ++ h.behind) (length (take count h.replies))))
+            (Appends-trans w0 w w' t.replies (take (length (take count h.replies)) (h.replies ++ h.behind)) t.written wrote_cut);
+      }
+
+  pub breaks_off : (old mid new : Machine) (place : ℕ) (piece out' : List ℕ) (r0 r r' w0 w w' : Option (List ℕ)) → SoFar old place r0 r w0 w mid → Consumes r r' piece → HearsFront mid place piece [] new out'
+      → (count : ℕ) × Appends w w' (take count out') → IfSome r0 (λ input. BreaksOff old place input w0 w' new)
+  breaks_off old mid new place piece out' None r r' w0 w w' s took h wrote = tt
+  breaks_off old mid new place piece out' (Some input) None r' w0 w w' s took h wrote = absurd s
+  breaks_off old mid new place piece out' (Some input) (Some left) None w0 w w' s took h wrote = absurd took
+  breaks_off old mid new place piece out' (Some input) (Some left) (Some left') w0 w w' s took h (count, wrote) = broken old mid new place input left piece left' out' w0 w w' count s took h wrote
+
+-- ---- at the end of the input, at a fault, or with nothing done
+
+pub ends : (old now : Machine) (place : ℕ) (r0 r r' w0 w : Option (List ℕ)) → SoFar old place r0 r w0 w now → Consumes r r' [] → IsAtEnd r' → IfSome r0 (λ input. Converses old place input w0 Done w now)
+ends old now place None r r' w0 w s took nothing = tt
+ends old now place (Some input) None r' w0 w s took nothing = absurd s
+ends old now place (Some input) (Some left) None w0 w s took nothing = absurd took
+ends old now place (Some input) (Some left) (Some left') w0 w s took nothing = record {
+  replies = s.replies;
+  heard = subst (λ (z : List ℕ). Heard old place z s.replies now) (sym (s.input_is ∙ ap (λ (z : List ℕ). s.front ++ z) (took ∙ nothing) ∙ append-nil s.front)) s.heard;
+  written = s.written;
+}
+
+pub read_fault : (old now : Machine) (place : ℕ) (r0 r w0 w : Option (List ℕ)) → SoFar old place r0 r w0 w now → IfSome r0 (λ input. Converses old place input w0 ReadFault w now)
+read_fault old now place None r w0 w s = tt
+read_fault old now place (Some input) None w0 w s = absurd s
+read_fault old now place (Some input) (Some left) w0 w s = record { front = s.front; rest = left; replies = s.replies; input_is = s.input_is; heard = s.heard; written = s.written }
+
+pub none_done : (old : Machine) (place : ℕ) (r0 w0 : Option (List ℕ)) → IfSome r0 (λ input. Converses old place input w0 NoMemory w0 old)
+none_done old place None w0 = tt
+none_done old place (Some input) w0 = record { front = []; rest = input; replies = []; count = 0; input_is = refl; heard = inl (refl, refl, refl); written = Appends-nil w0 }
+
+-- a device that has failed says less
+pub device : (served : Served) (old now : Machine) (place : ℕ) (input : List ℕ) (w0 w : Option (List ℕ)) → Converses old place input w0 served w now → BreaksOff old place input w0 w now
+device Done old now place input w0 w c = record {
+  front = input;
+  rest = [];
+  replies = c.replies;
+  count = length c.replies;
+  input_is = sym (append-nil input);
+  heard = c.heard;
+  written = subst (λ (z : List ℕ). Appends w0 w z) (sym (take-length c.replies)) c.written;
+}
+device ReadFault old now place input w0 w c = record {
+  front = c.front;
+  rest = c.rest;
+  replies = c.replies;
+  count = length c.replies;
+  input_is = c.input_is;
+  heard = c.heard;
+  written = subst (λ (z : List ℕ). Appends w0 w z) (sym (take-length c.replies)) c.written;
+}
+device WriteFault old now place input w0 w c = c
+device NoMemory old now place input w0 w c = c
+device DeviceFailed old now place input w0 w c = c
+
+-- ---- a conversation that was opened, served and lost
+
+number_there : (places : List Place) (i : ℕ) (x : Option Conversation) → slice_get (map shown places) i ≡ Some x → (n : ℕ) × (slice_get (map number_of places) i ≡ Some n)
+number_there [] i x is = absurd (cc is)
+number_there (p ∷ ps) zero x is = (number_of p, refl)
+number_there (p ∷ ps) (suc i) x is = number_there ps i x is
+
+-- what was opened is named
+pub named : (places : List Place) (old new : Machine) (before after : Register) (id : ConversationId) → old.row ≡ map shown places → before.numbers ≡ map number_of places → Opens old before id new after → Names new after id
+named places old new before after id rows numbers o =
+    let free : slice_get (map shown places) id.place ≡ Some None = subst (λ (r : List (Option Conversation)). slice_get r id.place ≡ Some None) rows o.free in
+    let had = number_there places id.place None free in
+    let at : slice_get before.numbers id.place ≡ Some had.0 = subst (λ (ns : List ℕ). slice_get ns id.place ≡ Some had.0) (sym numbers) had.1 in
+    record {
+      is_there = (beginning, subst (λ (m : Machine). slice_get m.row id.place ≡ Some (Some beginning)) (sym o.row) (get_set old.row id.place None (Some beginning) o.free));
+      number = subst (λ (ns : List ℕ). slice_get ns id.place ≡ Some id.number) (sym o.numbers) (get_set before.numbers id.place had.0 id.number at);
+    }
+
+has_served : (old mid last new : Machine) (place : ℕ) (input : List ℕ) (w0 w : Option (List ℕ)) (served : Served) → slice_get old.row place ≡ Some None → mid ≡ opened old place → new ≡ lost last place
+    → Converses mid place input w0 served w last → HasServed old input w0 served w new
+has_served old mid last new place input w0 w served free was then c = record {
+  place = place;
+  free = free;
+  last = last;
+  converses = subst (λ (m : Machine). Converses m place input w0 served w last) was c;
+  lost_then = then;
+}
+
+as_told : (served : Served) (old new : Machine) (input : List ℕ) (w0 w : Option (List ℕ)) → HasServed old input w0 served w new → Serves old input w0 served w new
+as_told Done old new input w0 w h = h
+as_told ReadFault old new input w0 w h = h
+as_told WriteFault old new input w0 w h = h
+as_told NoMemory old new input w0 w h = inr h
+as_told DeviceFailed old new input w0 w h = inr h
+
+serves_input : (failed : Bool) (served : Served) (old mid last new : Machine) (place : ℕ) (input : List ℕ) (w0 w : Option (List ℕ)) → slice_get old.row place ≡ Some None → mid ≡ opened old place → new ≡ lost last place
+    → Converses mid place input w0 served w last → Serves old input w0 (unless_failed failed served) w new
+serves_input true served old mid last new place input w0 w free was then c = inr (has_served old mid last new place input w0 w DeviceFailed free was then (device served mid last place input w0 w c))
+serves_input false served old mid last new place input w0 w free was then c = as_told served old new input w0 w (has_served old mid last new place input w0 w served free was then c)
+
+pub serves : (failed : Bool) (served : Served) (old mid last new : Machine) (place : ℕ) (r0 w0 w : Option (List ℕ)) → slice_get old.row place ≡ Some None → mid ≡ opened old place → new ≡ lost last place
+    → IfSome r0 (λ input. Converses mid place input w0 served w last) → IfSome r0 (λ input. Serves old input w0 (unless_failed failed served) w new)
+serves failed served old mid last new place None w0 w free was then c = tt
+serves failed served old mid last new place (Some input) w0 w free was then c = serves_input failed served old mid last new place input w0 w free was then c
+
+no_place : (failed : Bool) (old new : Machine) (input : List ℕ) (w : Option (List ℕ)) → new ≡ old → Serves old input w (unless_failed failed NoMemory) w new
+no_place true old new input w same = inl (record { same = same; silent = refl })
+no_place false old new input w same = inl (record { same = same; silent = refl })
+
+pub finds_no_place : (failed : Bool) (old new : Machine) (r0 w : Option (List ℕ)) → new ≡ old → IfSome r0 (λ input. Serves old input w (unless_failed failed NoMemory) w new)
+finds_no_place failed old new None w same = tt
+finds_no_place failed old new (Some input) w same = no_place failed old new input w same
+
+-- a device that has failed is told, and no other
+pub told : (failed : Bool) (served : Served) → (served ≡ DeviceFailed → failed ≡ true) → (unless_failed failed served ≡ DeviceFailed) ↔ (failed ≡ true)
+told true served only = ((λ is. refl), (λ is. refl))
+told false served only = (only, (λ is. absurd (cc is)))
