@@ -1,3 +1,3 @@
 pub mod Endings
-pub mod CommandLine
+pub mod Doubts
 pub mod Program
