@@ -1,5 +1,5 @@
 -- What the program does with its words and its streams.
-use Rattle.std.specs.Prelude.{◌≡◌, ◌≢◌, ◌⊎◌, ℕ, Bool, true, false, List, [], ◌∷◌, ◌++◌, take, codes, Option, Some, None, IfSome, Result, Ok, Err}
+use Rattle.std.specs.Prelude.{◌≡◌, ◌≢◌, ◌⊎◌, ℕ, Bool, true, false, List, [], ◌∷◌, ◌++◌, take, codes, Option, Some, None, IfErr, IfSome, Result, Ok, Err}
 use Rattle.std.specs.Fmt.{decimal}
 use Rattle.std.specs.Io.KnownBytes.{Appends}
 use Rattle.conversation.specs.Settings.{Settings, is_rdb_name}
@@ -13,6 +13,7 @@ use Rattle.drda_node.specs.declared.serving.RunEnd.{RunEnd}
 use Rattle.command_line.specs.Job.{Job, Login, init, pipe, serve, in_doubt}
 use Rattle.drda_program.specs.Doubts.{doubt_text}
 use Rattle.drda_program.specs.Endings.{line_of, result_for, status_of}
+use Rattle.drda_program.specs.Stores.{IsOfRun, IsOfStore}
 use Rattle.drda_program.specs.declared.fault.Fault.{Fault}
 use Rattle.drda_program.specs.declared.fault.Fault.TheVariants.{BadArguments, BadEvent, Damaged, Device, NoMemory, NotAStore}
 
@@ -40,11 +41,15 @@ pub record HasAnswered (settings : Settings) (input before : Option (List ℕ)) 
   pub reported : outcome ≡ result_for end is_flushed
   pub has_run : IfSome input (λ bytes. HasRun settings bytes before end now)
 
--- the name is none of a database; or the run did not begin; or it ended
+-- the run did not begin, or it ended
+abbrev pub Pipes : Settings → Option (List ℕ) → Option (List ℕ) → Result (Unit {0}) Fault → Option (List ℕ) → Type 0
+Pipes settings input before outcome now = IsNotBegun outcome before now ⊎ HasAnswered settings input before outcome now
+
+-- a name that no database has is refused
 abbrev pub PipesInMemory : List ℕ → Login → Option (List ℕ) → Option (List ℕ) → Result (Unit {0}) Fault → Option (List ℕ) → Type 0
 PipesInMemory rdb login input before outcome now =
     ((is_rdb_name rdb ≡ false) × (outcome ≡ Err BadArguments) × (now ≡ before))
-    ⊎ (IsNotBegun outcome before now ⊎ HasAnswered (settings_of login rdb) input before outcome now)
+    ⊎ ((is_rdb_name rdb ≡ true) × Pipes (settings_of login rdb) input before outcome now)
 
 -- ---- the other jobs
 
@@ -58,22 +63,25 @@ Makes size rdb before (Err NotAStore) now = ⊥
 Makes size rdb before (Err (Damaged at)) now = ⊥
 Makes size rdb before (Err BadEvent) now = ⊥
 
--- XIDs are listed, and nothing else is said
+-- XIDs are listed, and nothing else is said; nothing at all where there is no store or no memory
 abbrev pub Lists : Option (List ℕ) → Result (Unit {0}) Fault → Option (List ℕ) → Type 0
 Lists before (Ok done) now = (xids : List (List ℕ)) × Appends before now (doubt_text xids)
 Lists before (Err BadArguments) now = ⊥
+Lists before (Err Device) now = Unit {0}
+Lists before (Err NotAStore) now = now ≡ before
+Lists before (Err (Damaged at)) now = now ≡ before
 Lists before (Err BadEvent) now = ⊥
-Lists before (Err fault) now = Unit {0}
+Lists before (Err NoMemory) now = now ≡ before
 
 -- ---- what words ask for
 
--- Of a store in a file nothing is known here: what `open`, `run` and `serve_one` say of a disk is said there.
+-- Of a store in a file only the faults are known here: what `open`, `run` and `serve_one` say of a disk is said there.
 abbrev pub Does : Option Job → Option (List ℕ) → Option (List ℕ) → Result (Unit {0}) Fault → Option (List ℕ) → Type 0
 Does None input before outcome now = (outcome ≡ Err BadArguments) × (now ≡ before)
 Does (Some (init path size rdb)) input before outcome now = Makes size rdb before outcome now
 Does (Some (pipe None rdb login)) input before outcome now = PipesInMemory rdb login input before outcome now
-Does (Some (pipe (Some path) rdb login)) input before outcome now = Unit {0}
-Does (Some (serve path port login count)) input before outcome now = outcome ≢ Err BadEvent
+Does (Some (pipe (Some path) rdb login)) input before outcome now = IfErr outcome IsOfRun
+Does (Some (serve path port login count)) input before outcome now = IfErr outcome IsOfStore
 Does (Some (in_doubt path)) input before outcome now = Lists before outcome now
 
 -- The words, the input and the output: the job was done so, or memory was refused before it was known. Standard

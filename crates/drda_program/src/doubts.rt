@@ -1,25 +1,18 @@
 //! The units in doubt of a store, as text.
 
-ghost use Rattle.std.specs.Prelude.{◌≡◌, ◌++◌, IfOk, List, ℕ, OnOk, string_bytes};
-ghost use Rattle.xa_manager.specs.Branch.{in_doubt_xids};
+ghost use Rattle.std.specs.Prelude.{◌≡◌, ◌<◌, ◌∷◌, ◌++◌, IfOk, OnOk, string_bytes};
 ghost use Rattle.drda_program.specs.Doubts.{digit, doubt_line, doubt_text, part_text};
 
-use drda_disk::Disk;
-use durable_core::DurableCore;
 use std::alloc::{AllocError, Global};
 use std::fmt::Write;
 use xa_calls::Xid;
 
-/// A line for each unit in doubt, ascending by the bytes of its XID.
-pub(crate) fn doubt_lines<D: Disk>(
-    alloc: Global,
-    core: &DurableCore<D>,
-) -> Result<String, AllocError>
-    ensures { IfOk result (λ text. string_bytes text ≡ doubt_text (in_doubt_xids core.now.state.branches)) }
+/// A line for each XID.
+pub(crate) fn doubt_text(alloc: Global, xids: &[Xid]) -> Result<String, AllocError>
+    ensures { IfOk result (λ text. string_bytes text ≡ doubt_text xids.now) }
 {
-    let xids = core.in_doubt()?;
     let mut text = String::new(alloc);
-    for xid in xids.as_slice() {
+    for xid in xids {
         push_line(&mut text, xid)?;
     }
     Ok(text)

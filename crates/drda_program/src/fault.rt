@@ -60,7 +60,7 @@ impl Fault {
 }
 
 fn say_damaged<E: Write>(alloc: Global, at: usize, err: &mut E)
-    ensures { (count : ℕ) × Appends (E.contents err.old) (E.contents err.new) (take count (line_for (Damaged at))) }
+    ensures { (count : ℕ) × Appends (E.contents err.old) (E.contents err.new) (take count (line_for (Fault.Damaged at))) }
 {
     let mut line = String::new(alloc);
     match writeln!(line, "drdad: damaged at {at}") {

@@ -8,6 +8,7 @@ mod listening;
 mod program;
 mod records;
 mod stores;
+mod streams;
 
 pub use fault::Fault;
 pub use files::{StoreFiles, SystemFiles};

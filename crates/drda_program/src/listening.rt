@@ -1,6 +1,10 @@
 //! Conversations over sockets.
 
+ghost use Rattle.std.specs.Prelude.{IfErr};
+ghost use Rattle.drda_program.specs.Stores.{IsOfDevice};
+
 use crate::fault::Fault;
+use crate::streams::flush;
 use drda_disk::Disk;
 use drda_node::Node;
 use std::alloc::Global;
@@ -18,7 +22,9 @@ pub(crate) fn listen<D: Disk, N: Net, W: Write>(
     port: u16,
     count: Option<u64>,
     out: &mut W,
-) -> Result<(), Fault> {
+) -> Result<(), Fault>
+    ensures { IfErr result IsOfDevice }
+{
     let address = SocketAddr::V4(SocketAddrV4::new(Ipv4Addr::new(127, 0, 0, 1), port));
     let Ok(listener) = net.bind(address) else {
         return Err(Fault::Device);
@@ -41,7 +47,9 @@ fn converse<D: Disk, S: Read + Write + OpenStream>(
     alloc: Global,
     node: &mut Node<D>,
     stream: S,
-) -> Result<(), Fault> {
+) -> Result<(), Fault>
+    ensures { IfErr result IsOfDevice }
+{
     let _ = stream.set_nodelay(true);
     let mut reader = stream;
     let Ok(mut writer) = reader.try_clone() else {
@@ -54,13 +62,12 @@ fn converse<D: Disk, S: Read + Write + OpenStream>(
     }
 }
 
-fn say_port<W: Write>(port: u16, out: &mut W) -> Result<(), Fault> {
+// Says the port that it listens on.
+fn say_port<W: Write>(port: u16, out: &mut W) -> Result<(), Fault>
+    ensures { IfErr result IsOfDevice }
+{
     match writeln!(out, "listening {port}") {
-        Ok(()) => {}
-        Err(_) => return Err(Fault::Device),
-    }
-    match out.flush() {
-        Ok(()) => Ok(()),
+        Ok(()) => flush(out),
         Err(_) => Err(Fault::Device),
     }
 }

@@ -1,15 +1,16 @@
 //! The program.
 
-ghost use Rattle.std.specs.Prelude.{map};
+ghost use Rattle.std.specs.Prelude.{◌≡◌, ◌≢◌, ◌×◌, ◌⊎◌, Err, None, Some, map, string_bytes};
 ghost use Rattle.command_line.specs.Job.{plain_job, said};
 ghost use Rattle.drda_program.specs.Program.{Does, Exits, Lists, Makes};
 
-use crate::doubts::doubt_lines;
+use crate::doubts::doubt_text;
 use crate::fault::Fault;
 use crate::files::StoreFiles;
 use crate::listening::listen;
 use crate::records::{answer_in_memory, answer_records, node_over};
 use crate::stores::{make_file, open_file};
+use crate::streams::flush;
 use command_line::{Job, job_of};
 use drda_node::write_whole;
 use std::alloc::Global;
@@ -43,11 +44,7 @@ pub fn run_words<S: AsStr, F: StoreFiles, N: Net, R: Read, W: Write, E: Write>(
     ensures { Exits (said (map S.text words.now)) (R.remaining reader.old) (W.contents out.old) result (W.contents out.new) (E.contents err.old) (E.contents err.new) }
 {
     let mut text = String::new(alloc);
-    let result = match job_of(alloc, words, &mut text) {
-        Ok(job) => do_job(alloc, job, files, net, reader, out),
-        Err(bad) => Err(Fault::from(bad)),
-    };
-    match result {
+    match try_words(alloc, words, files, net, reader, out, &mut text) {
         Ok(()) => 0,
         Err(fault) => {
             let _ = write_whole(err, text.as_bytes());
@@ -55,6 +52,23 @@ pub fn run_words<S: AsStr, F: StoreFiles, N: Net, R: Read, W: Write, E: Write>(
             fault.status()
         }
     }
+}
+
+// Does what the words say. What the parser of words has to say of a mistake is appended to `text`.
+fn try_words<S: AsStr, F: StoreFiles, N: Net, R: Read, W: Write>(
+    alloc: Global,
+    words: &[S],
+    files: &mut F,
+    net: &N,
+    reader: &mut R,
+    out: &mut W,
+    text: &mut String,
+) -> Result<(), Fault>
+    ensures does { ((result ≡ Err Fault.NoMemory) × (W.contents out.new ≡ W.contents out.old)) ⊎ Does (said (map S.text words.now)) (R.remaining reader.old) (W.contents out.old) result (W.contents out.new) }
+    ensures quiet { said (map S.text words.now) ≢ None → string_bytes text.new ≡ string_bytes text.old }
+{
+    let job = job_of(alloc, words, text)?;
+    do_job(alloc, job, files, net, reader, out)
 }
 
 fn do_job<F: StoreFiles, N: Net, R: Read, W: Write>(
@@ -65,7 +79,7 @@ fn do_job<F: StoreFiles, N: Net, R: Read, W: Write>(
     reader: &mut R,
     out: &mut W,
 ) -> Result<(), Fault>
-    ensures { Does (Some (plain_job job)) (R.remaining reader.old) (W.contents out.old) result (W.contents out.new) }
+    ensures { Does (Some (plain_job job.entry)) (R.remaining reader.old) (W.contents out.old) result (W.contents out.new) }
 {
     match job {
         Job::Init { path, size, rdb } => init(alloc, files, path, size, rdb, out),
@@ -120,16 +134,10 @@ fn list_doubts<F: StoreFiles, W: Write>(
     ensures { Lists (W.contents out.old) result (W.contents out.new) }
 {
     let core = open_file(alloc, files, path)?;
-    let text = doubt_lines(alloc, &core)?;
+    let xids = core.in_doubt()?;
+    let text = doubt_text(alloc, xids.as_slice())?;
     match write_whole(out, text.as_bytes()) {
         Ok(()) => flush(out),
-        Err(_) => Err(Fault::Device),
-    }
-}
-
-fn flush<W: Write>(out: &mut W) -> Result<(), Fault> {
-    match out.flush() {
-        Ok(()) => Ok(()),
         Err(_) => Err(Fault::Device),
     }
 }

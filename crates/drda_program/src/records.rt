@@ -1,14 +1,16 @@
 //! Event records on two streams.
 
-ghost use Rattle.std.specs.Prelude.{◌≡◌, IfOk, List, ℕ};
+ghost use Rattle.std.specs.Prelude.{◌≡◌, IfErr, IfOk, List, ℕ, true};
+ghost use Rattle.conversation.specs.Settings.{is_rdb_name};
 ghost use Rattle.durable_units.specs.Durable.{fresh as fresh_store};
 ghost use Rattle.durable_core.specs.Opening.{IsOpenedTo};
-ghost use Rattle.conversation.specs.Settings.{is_rdb_name};
+ghost use Rattle.drda_node.specs.Asking.{asked_of};
 ghost use Rattle.drda_node.specs.Machine.{at_start};
 ghost use Rattle.drda_node.specs.Register.{machine};
 ghost use Rattle.command_line.specs.Job.{plain_login};
 ghost use Rattle.drda_program.specs.Endings.{result_for};
-ghost use Rattle.drda_program.specs.Program.{PipesInMemory, new_core, settings_of};
+ghost use Rattle.drda_program.specs.Program.{Pipes, PipesInMemory, settings_of};
+ghost use Rattle.drda_program.specs.Stores.{IsOfRun, RefusesName};
 
 use crate::fault::Fault;
 use crate::stores::fresh;
@@ -27,8 +29,8 @@ pub(crate) fn node_over<D: Disk + Drop>(
     core: DurableCore<D>,
     login: Login<'_>,
 ) -> Result<Node<D>, Fault>
-    ensures { (name : List ℕ) → IsOpenedTo name fresh_store core → IfOk result (λ n. machine n ≡ at_start (settings_of (plain_login login) name) new_core) }
-    ensures { (result ≡ Err Fault.NotAStore) → is_rdb_name core.name ≡ false }
+    ensures machine { IfOk result (λ n. machine n ≡ at_start (settings_of (plain_login login.entry) core.name) (asked_of core)) }
+    ensures refused { IfErr result (RefusesName core.name) }
 {
     let settings = match Settings::new(alloc, login.user, login.password, core.name()) {
         Ok(settings) => settings,
@@ -63,7 +65,10 @@ pub(crate) fn answer_records<D: Disk + Drop, R: Read, W: Write>(
     login: Login<'_>,
     reader: &mut R,
     out: &mut W,
-) -> Result<(), Fault> {
+) -> Result<(), Fault>
+    ensures fresh { (name : List ℕ) → IsOpenedTo name fresh_store core → is_rdb_name name ≡ true → Pipes (settings_of (plain_login login.entry) name) (R.remaining reader.old) (W.contents out.old) result (W.contents out.new) }
+    ensures cause { IfErr result IsOfRun }
+{
     let mut node = node_over(alloc, core, login)?;
     let end = run(alloc, &mut node, reader, out);
     let is_flushed = out.flush().is_ok();
@@ -78,7 +83,7 @@ pub(crate) fn answer_in_memory<R: Read, W: Write>(
     reader: &mut R,
     out: &mut W,
 ) -> Result<(), Fault>
-    ensures { PipesInMemory rdb.now (plain_login login) (R.remaining reader.old) (W.contents out.old) result (W.contents out.new) }
+    ensures { PipesInMemory rdb.now (plain_login login.entry) (R.remaining reader.old) (W.contents out.old) result (W.contents out.new) }
 {
     let core = fresh(alloc, rdb)?;
     answer_records(alloc, core, login, reader, out)

@@ -1,11 +1,12 @@
 //! Stores, made and opened.
 
-ghost use Rattle.std.specs.Prelude.{◌≡◌, ◌≢◌, IfErr, IfOk, IsTrue, List, ℕ, OnErr, OnOk};
+ghost use Rattle.std.specs.Prelude.{IfErr, IsTrue, List, ℕ, OnOk};
 ghost use Rattle.drda_disk.specs.Disk.{Only};
-ghost use Rattle.half_store.specs.Fresh.{IsFresh, is_name};
+ghost use Rattle.half_store.specs.Fresh.{IsFresh};
 ghost use Rattle.durable_units.specs.Durable.{fresh as fresh_store};
 ghost use Rattle.durable_images.specs.Opens.{OpensTo};
-ghost use Rattle.durable_core.specs.Opening.{IsOpenedTo};
+ghost use Rattle.durable_core.specs.Reads.{IsExcused};
+ghost use Rattle.drda_program.specs.Stores.{BeginsFresh, FindsFresh, IsOfDevice, IsOfStore, MakesFile, MakesNamed};
 
 use crate::fault::Fault;
 use crate::files::StoreFiles;
@@ -22,7 +23,7 @@ const MEMORY_SIZE: usize = 2_097_152;
 /// device: it was made with another one.
 fn make<D: Disk>(alloc: Global, disk: &mut D, rdb: &str) -> Result<(), Fault>
     ensures made { OnOk result (IsTrue D.is_modelled → Only (D.life disk.new) × IsFresh rdb.now (D.life disk.new).seen) }
-    ensures name { (result ≡ Err Fault.BadArguments) → is_name rdb.now ≡ false }
+    ensures named { MakesNamed rdb.now result }
 {
     match format(alloc, disk, rdb) {
         Ok(()) => Ok(()),
@@ -40,20 +41,22 @@ pub(crate) fn make_file<F: StoreFiles>(
     path: &str,
     size: u64,
     rdb: &str,
-) -> Result<(), Fault> {
-    let size = size as usize;
-    if !is_store(size, rdb) {
+) -> Result<(), Fault>
+    ensures { MakesFile size rdb.now result }
+{
+    if !is_store(size as usize, rdb) {
         return Err(Fault::BadArguments);
     }
-    match files.create(path, size) {
+    match files.create(path, size as usize) {
         Ok(mut disk) => make(alloc, &mut disk, rdb),
         Err(_) => Err(Fault::Device),
     }
 }
 
 /// The core over the store that a disk is.
-pub(crate) fn open_disk<D: Disk + Drop>(alloc: Global, disk: D) -> Result<DurableCore<D>, Fault>
-    ensures opens { (name : List ℕ) → IsTrue D.is_modelled → OpensTo name fresh_store (D.life disk).seen → IfOk result (IsOpenedTo name fresh_store) }
+fn open_disk<D: Disk + Drop>(alloc: Global, disk: D) -> Result<DurableCore<D>, Fault>
+    ensures opens { (name : List ℕ) → IsTrue D.is_modelled → OpensTo name fresh_store (D.life disk).seen → FindsFresh name result }
+    ensures cause { IfErr result IsOfStore }
 {
     match durable_core::open(alloc, disk) {
         Ok(core) => Ok(core),
@@ -61,7 +64,11 @@ pub(crate) fn open_disk<D: Disk + Drop>(alloc: Global, disk: D) -> Result<Durabl
     }
 }
 
-fn fault_of(error: OpenError) -> Fault {
+// What is reported of it.
+fn fault_of(error: OpenError) -> Fault
+    ensures excused { IsExcused error → IsOfDevice result }
+    ensures cause { IsOfStore result }
+{
     match error {
         OpenError::NotAStore => Fault::NotAStore,
         OpenError::Damaged { at } => Fault::Damaged { at },
@@ -75,17 +82,22 @@ pub(crate) fn open_file<F: StoreFiles>(
     alloc: Global,
     files: &mut F,
     path: &str,
-) -> Result<DurableCore<F::Disk>, Fault> {
+) -> Result<DurableCore<F::Disk>, Fault>
+    ensures { IfErr result IsOfStore }
+{
     match files.open(path) {
         Ok(disk) => open_disk(alloc, disk),
         Err(_) => Err(Fault::Device),
     }
 }
 
-/// The core over a store in memory that is just made.
+/// The core over a store in memory that is just made. A name that no store has is refused first.
 pub(crate) fn fresh(alloc: Global, rdb: &str) -> Result<DurableCore<MemDisk>, Fault>
-    ensures opened { IfOk result (IsOpenedTo rdb.now fresh_store) }
+    ensures { BeginsFresh rdb.now result }
 {
+    if !is_store(MEMORY_SIZE, rdb) {
+        return Err(Fault::BadArguments);
+    }
     fresh_stores_open();
     let mut disk = MemDisk::new(alloc, MEMORY_SIZE)?;
     make(alloc, &mut disk, rdb)?;
