@@ -34,7 +34,7 @@ pub no_job : (said : Option Job) (input before : Option (List ℕ)) (bad : BadWo
 no_job said input before words.NoJob is = inr (subst (λ (s : Option Job). Does s input before (Err BadArguments) before) (sym is) (refl, refl))
 no_job said input before words.NoMemory is = inl (refl, refl)
 
-pub no_text : {M : Type 0} (said : Option Job) (text text' : List ℕ) (bad : BadWords) → Says said (Err bad) → Tells {M} (Err bad) text text' → said ≢ None → text' ≡ text
+pub no_text : {M : Type 0} (said : Option Job) (text text' : List ℕ) (bad : BadWords) → Says said (Err bad) → Tells {M = M} (Err bad) text text' → said ≢ None → text' ≡ text
 no_text said text text' words.NoJob is tells some = absurd (some is)
 no_text said text text' words.NoMemory is tells some = tells
 

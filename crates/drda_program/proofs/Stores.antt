@@ -76,7 +76,7 @@ not_listed before BadEvent is = absurd is
 not_listed before NoMemory is = refl
 
 -- the name was good, so it is the device or memory
-pub not_begun : {D : Type 0} (name : List ℕ) (fault : Fault) → is_name name ≡ true → MakesNamed name (Err fault) → BeginsFresh {D} name (Err fault)
+pub not_begun : {D : Type 0} (name : List ℕ) (fault : Fault) → is_name name ≡ true → MakesNamed name (Err fault) → BeginsFresh {D = D} name (Err fault)
 not_begun name BadArguments is named = named
 not_begun name Device is named = is
 not_begun name NotAStore is named = absurd named
@@ -111,7 +111,7 @@ refused_at_start settings name input before NoMemory is refused = inl (inl refl,
 as_rdb_name : (name : List ℕ) (b : Bool) → is_name name ≡ b → is_rdb_name name ≡ b
 as_rdb_name name b is = sym (names_alike name) ∙ is
 
-pub not_piped : {D : Type 0} (rdb : List ℕ) (login : Login) (input before : Option (List ℕ)) (fault : Fault) → BeginsFresh {D} rdb (Err fault) → PipesInMemory rdb login input before (Err fault) before
+pub not_piped : {D : Type 0} (rdb : List ℕ) (login : Login) (input before : Option (List ℕ)) (fault : Fault) → BeginsFresh {D = D} rdb (Err fault) → PipesInMemory rdb login input before (Err fault) before
 not_piped rdb login input before BadArguments is = inl (as_rdb_name rdb false is, refl, refl)
 not_piped rdb login input before Device is = inr (as_rdb_name rdb true is, inl (inr refl, refl))
 not_piped rdb login input before NotAStore is = absurd is

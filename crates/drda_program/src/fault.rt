@@ -47,16 +47,22 @@ impl Fault {
     pub fn say<E: Write>(self, alloc: Global, err: &mut E)
         ensures { (count : ℕ) × Appends (E.contents err.old) (E.contents err.new) (take count (line_for self)) }
     {
-        let line: &[u8] = match self {
-            Fault::BadArguments => b"drdad: bad arguments\n",
-            Fault::Device => b"drdad: file or device fault\n",
-            Fault::NotAStore => b"drdad: not a store\n",
-            Fault::Damaged { at } => return say_damaged(alloc, at, err),
-            Fault::BadEvent => b"drdad: bad event\n",
-            Fault::NoMemory => b"drdad: no memory\n",
-        };
-        let _ = write_whole(err, line);
+        match self {
+            Fault::BadArguments => say_line(b"drdad: bad arguments\n", err),
+            Fault::Device => say_line(b"drdad: file or device fault\n", err),
+            Fault::NotAStore => say_line(b"drdad: not a store\n", err),
+            Fault::Damaged { at } => say_damaged(alloc, at, err),
+            Fault::BadEvent => say_line(b"drdad: bad event\n", err),
+            Fault::NoMemory => say_line(b"drdad: no memory\n", err),
+        }
     }
+}
+
+// Writes a line, or a front of it where writing fails.
+fn say_line<E: Write>(line: &[u8], err: &mut E)
+    ensures { (count : ℕ) × Appends (E.contents err.old) (E.contents err.new) (take count line.now) }
+{
+    let _ = write_whole(err, line);
 }
 
 fn say_damaged<E: Write>(alloc: Global, at: usize, err: &mut E)
@@ -64,9 +70,7 @@ fn say_damaged<E: Write>(alloc: Global, at: usize, err: &mut E)
 {
     let mut line = String::new(alloc);
     match writeln!(line, "drdad: damaged at {at}") {
-        Ok(()) => {
-            let _ = write_whole(err, line.as_bytes());
-        }
+        Ok(()) => say_line(line.as_bytes(), err),
         Err(_) => {}
     }
 }

@@ -1,6 +1,6 @@
 //! The program.
 
-ghost use Rattle.std.specs.Prelude.{◌≡◌, ◌≢◌, ◌×◌, ◌⊎◌, Err, None, Some, map, string_bytes};
+ghost use Rattle.std.specs.Prelude.{◌≡◌, ◌≢◌, ◌⊎◌, Err, None, Some, map, string_bytes};
 ghost use Rattle.command_line.specs.Job.{plain_job, said};
 ghost use Rattle.drda_program.specs.Program.{Does, Exits, Lists, Makes};
 
