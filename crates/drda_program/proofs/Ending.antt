@@ -34,9 +34,9 @@ pub no_job : (said : Option Job) (input before : Option (List ℕ)) (bad : BadWo
 no_job said input before words.NoJob is = inr (subst (λ (s : Option Job). Does s input before (Err BadArguments) before) (sym is) (refl, refl))
 no_job said input before words.NoMemory is = inl (refl, refl)
 
-pub no_text : {M : Type 0} (said : Option Job) (text text' : List ℕ) (bad : BadWords) → Says said (Err bad) → Tells {M = M} (Err bad) text text' → said ≢ None → text' ≡ text
-no_text said text text' words.NoJob is tells some = absurd (some is)
-no_text said text text' words.NoMemory is tells some = tells
+pub no_text : (M : Type 0) (said : Option Job) (text text' : List ℕ) (bad : BadWords) → Says said (Err bad) → Tells {M = M} (Err bad) text text' → said ≢ None → text' ≡ text
+no_text M said text text' words.NoJob is tells some = absurd (some is)
+no_text M said text text' words.NoMemory is tells some = tells
 
 pub has_done : (said : Option Job) (job : Job) (input before now : Option (List ℕ)) (outcome : Result (Unit {0}) Fault) → said ≡ Some job → Does (Some job) input before outcome now → Tried said input before outcome now
 has_done said job input before now outcome is does = inr (subst (λ (s : Option Job). Does s input before outcome now) (sym is) does)

@@ -17,7 +17,7 @@ part_text bytes = if length bytes == 0 then 45 ∷ [] else flat_map digits_of by
 
 -- the format number, the global part and the branch part, separated by blanks
 abbrev pub parts_line : ℕ → List ℕ → List ℕ → List ℕ
-parts_line format global branch = decimal format ++ 32 ∷ part_text global ++ 32 ∷ part_text branch ++ 10 ∷ []
+parts_line format global branch = decimal format ++ ((32 ∷ part_text global) ++ ((32 ∷ part_text branch) ++ 10 ∷ []))
 
 abbrev pub doubt_line : List ℕ → List ℕ
 doubt_line xid = parts_line (parts_of xid).format (parts_of xid).global (parts_of xid).branch

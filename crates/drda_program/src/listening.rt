@@ -43,7 +43,7 @@ pub(crate) fn listen<D: Disk, N: Net, W: Write>(
 }
 
 // Serves one stream, whose replies are sent at once.
-fn converse<D: Disk, S: Read + Write + OpenStream>(
+fn converse<D: Disk, S: Read + Write + OpenStream + Drop>(
     alloc: Global,
     node: &mut Node<D>,
     stream: S,

@@ -5,6 +5,7 @@ use Rattle.drda_program.proofs.Lines.{line_is}
 use Rattle.drda_program.proofs.doubts.push_parts.Goals as goal
 
 pub returns : goal.returns
+unfolding lib.Utf8.encode
 returns c =
     let global = part_text c.args.global.now in
     let branch = part_text c.args.branch.now in
