@@ -69,7 +69,10 @@ pub(crate) fn answer_records<D: Disk + Drop, R: Read, W: Write>(
     ensures fresh { (name : List ℕ) → IsOpenedTo name fresh_store core → is_rdb_name name ≡ true → Pipes (settings_of (plain_login login.entry) name) (R.remaining reader.old) (W.contents out.old) result (W.contents out.new) }
     ensures cause { IfErr result IsOfRun }
 {
-    let mut node = node_over(alloc, core, login)?;
+    let mut node = match node_over(alloc, core, login) {
+        Ok(node) => node,
+        Err(fault) => return Err(fault),
+    };
     let end = run(alloc, &mut node, reader, out);
     let is_flushed = out.flush().is_ok();
     result_of(end, is_flushed)
@@ -85,6 +88,8 @@ pub(crate) fn answer_in_memory<R: Read, W: Write>(
 ) -> Result<(), Fault>
     ensures { PipesInMemory rdb.now (plain_login login.entry) (R.remaining reader.old) (W.contents out.old) result (W.contents out.new) }
 {
-    let core = fresh(alloc, rdb)?;
-    answer_records(alloc, core, login, reader, out)
+    match fresh(alloc, rdb) {
+        Ok(core) => answer_records(alloc, core, login, reader, out),
+        Err(fault) => Err(fault),
+    }
 }

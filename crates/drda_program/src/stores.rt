@@ -100,6 +100,8 @@ pub(crate) fn fresh(alloc: Global, rdb: &str) -> Result<DurableCore<MemDisk>, Fa
     }
     fresh_stores_open();
     let mut disk = MemDisk::new(alloc, MEMORY_SIZE)?;
-    make(alloc, &mut disk, rdb)?;
-    open_disk(alloc, disk)
+    match make(alloc, &mut disk, rdb) {
+        Ok(()) => open_disk(alloc, disk),
+        Err(fault) => Err(fault),
+    }
 }
