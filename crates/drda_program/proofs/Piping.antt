@@ -51,5 +51,6 @@ as_asked s f = record { state = s; has_failed = f }
 
 -- what is started over it
 pub starts_fresh : {D : Type 0} (name : List ℕ) (login : Login) (core : OnDisk D) → IsOpenedTo name fresh core → at_start (settings_of login core.name) (asked_of core) ≡ at_start (settings_of login name) new_core
+unfolding as_asked
 starts_fresh name login core is =
     ap₂ (λ (n : List ℕ) (a : AskedCore). at_start (settings_of login n) a) is.named (ap₂ (λ (s : CoreState) (f : Bool). as_asked s f) is.state is.going)

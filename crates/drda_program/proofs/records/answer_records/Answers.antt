@@ -28,4 +28,4 @@ returns-in-Err-clause-fresh g c name opened is =
     refused_at_start (settings_of (plain_login c.args.login) name) name _ _ c.in-Err.fault is (subst (λ (n : List ℕ). RefusesName n c.in-Err.fault) opened.named c.in-Err.ensures.refused)
 
 pub returns-in-Err-clause-cause : goal.returns-in-Err-clause-cause
-returns-in-Err-clause-cause g c = store_of_run c.in-Err.fault (refused_of_store _ c.in-Err.fault c.in-Err.ensures.refused)
+returns-in-Err-clause-cause g c = store_of_run c.in-Err.fault (refused_of_store c.args.core.name c.in-Err.fault c.in-Err.ensures.refused)
