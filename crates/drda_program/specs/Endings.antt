@@ -1,16 +1,12 @@
 -- How the program ends, and what it reports of that.
-use Rattle.std.specs.Prelude.{ℕ, Bool, true, false, List, [], codes, Result, Ok, Err}
+use Rattle.std.specs.Prelude.{ℕ, Bool, true, false, codes, List, [], ◌∷◌, ◌++◌, Result, Ok, Err}
+use Rattle.std.specs.Fmt.{decimal}
 use Rattle.drda_node.specs.declared.serving.RunEnd.{RunEnd}
 use Rattle.drda_node.specs.declared.serving.RunEnd.TheVariants as ends
+use Rattle.command_line.specs.declared.words.BadWords.{BadWords}
+use Rattle.command_line.specs.declared.words.BadWords.TheVariants as words
 use Rattle.drda_program.specs.declared.fault.Fault.{Fault}
-use Rattle.drda_program.specs.declared.fault.Fault.TheVariants.{BadArguments, Device, BadEvent, NoMemory}
-
--- The words say no settings; or memory was refused before the first event was read; or a run ended, and
--- behind it the last flush of the output succeeded or failed.
-pub data Ending : Type 0 where
-  no_settings : Ending
-  no_memory : Ending
-  ran : RunEnd → Bool → Ending
+use Rattle.drda_program.specs.declared.fault.Fault.TheVariants.{BadArguments, Device, NotAStore, Damaged, BadEvent, NoMemory}
 
 -- what is reported of a run by its end, and by whether the last flush succeeded: a flush that fails is
 -- reported however the run had ended
@@ -22,15 +18,12 @@ result_for ends.ReadFault true = Err Device
 result_for ends.WriteFault true = Err Device
 result_for ends.NoMemory true = Err NoMemory
 
-abbrev pub result_of : Ending → Result (Unit {0}) Fault
-result_of no_settings = Err BadArguments
-result_of no_memory = Err NoMemory
-result_of (ran end flushed) = result_for end flushed
-
 -- the exit status
 abbrev pub status_for : Fault → ℕ
 status_for BadArguments = 1
 status_for Device = 2
+status_for NotAStore = 3
+status_for (Damaged at) = 3
 status_for BadEvent = 4
 status_for NoMemory = 5
 
@@ -42,9 +35,16 @@ status_of (Err fault) = status_for fault
 abbrev pub line_for : Fault → List ℕ
 line_for BadArguments = codes "drdad: bad arguments\n"
 line_for Device = codes "drdad: file or device fault\n"
+line_for NotAStore = codes "drdad: not a store\n"
+line_for (Damaged at) = codes "drdad: damaged at " ++ decimal at ++ 10 ∷ []
 line_for BadEvent = codes "drdad: bad event\n"
 line_for NoMemory = codes "drdad: no memory\n"
 
 abbrev pub line_of : Result (Unit {0}) Fault → List ℕ
 line_of (Ok done) = []
 line_of (Err fault) = line_for fault
+
+-- words that ask for nothing are a mistake
+abbrev pub fault_of_words : BadWords → Fault
+fault_of_words words.NoJob = BadArguments
+fault_of_words words.NoMemory = NoMemory

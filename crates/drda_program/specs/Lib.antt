@@ -1,3 +1,4 @@
 pub mod Endings
-pub mod CommandLine
+pub mod Doubts
+pub mod Stores
 pub mod Program

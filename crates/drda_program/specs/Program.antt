@@ -1,60 +1,97 @@
--- What the program does with its words and its input.
-use Rattle.std.specs.Prelude.{◌≡◌, ℕ, List, [], ◌++◌, take, Option, Some, None, Result}
+-- What the program does with its words and its streams.
+use Rattle.std.specs.Prelude.{◌≡◌, ◌≢◌, ◌⊎◌, ℕ, Bool, true, false, List, [], ◌∷◌, ◌++◌, take, codes, Option, Some, None, IfErr, IfSome, Result, Ok, Err}
+use Rattle.std.specs.Fmt.{decimal}
 use Rattle.std.specs.Io.KnownBytes.{Appends}
-use Rattle.conversation.specs.Settings.{Settings}
+use Rattle.conversation.specs.Settings.{Settings, is_rdb_name}
+use Rattle.half_store.specs.Fresh.{is_store_of}
+use Rattle.durable_units.specs.Durable.{fresh}
+use Rattle.durable_steps.specs.Part.{opened}
+use Rattle.drda_node.specs.Asking.{AskedCore}
 use Rattle.drda_node.specs.Machine.{Machine, at_start}
 use Rattle.drda_node.specs.Serving.{Runs}
 use Rattle.drda_node.specs.declared.serving.RunEnd.{RunEnd}
-use Rattle.drda_program.specs.Endings.{Ending, no_settings, no_memory, ran, result_of, status_of, line_of}
+use Rattle.command_line.specs.Job.{Job, Login, init, pipe, serve, in_doubt}
+use Rattle.drda_program.specs.Doubts.{doubt_text}
+use Rattle.drda_program.specs.Endings.{line_of, result_for, status_of}
+use Rattle.drda_program.specs.Stores.{IsOfRun, IsOfStore}
 use Rattle.drda_program.specs.declared.fault.Fault.{Fault}
+use Rattle.drda_program.specs.declared.fault.Fault.TheVariants.{BadArguments, BadEvent, Damaged, Device, NoMemory, NotAStore}
 
--- a machine that is started with what the words say has run over the input and ended so
-abbrev pub Ran : Option Settings → List ℕ → Option (List ℕ) → RunEnd → Option (List ℕ) → Type 0
-Ran said input before end now = (settings : Settings) × (last : Machine) × (said ≡ Some settings) × Runs (at_start settings) input before end now last
+-- ---- event records over a store in memory
 
--- By how the program ends: what the words said, what stood in the input, and what the output held before
--- and holds now. Nothing is written where the words say no settings, or where nothing was read.
-abbrev pub EndsSo : Option Settings → List ℕ → Option (List ℕ) → Ending → Option (List ℕ) → Type 0
-EndsSo said input before no_settings now = (said ≡ None) × (now ≡ before)
-EndsSo said input before no_memory now = now ≡ before
-EndsSo said input before (ran end flushed) now = Ran said input before end now
+abbrev pub settings_of : Login → List ℕ → Settings
+settings_of login rdb = record { user = login.user; password = login.password; rdb = rdb }
 
--- memory was refused, or a run ended
-abbrev pub IsServed : Ending → Type 0
-IsServed no_settings = ⊥
-IsServed no_memory = Unit {0}
-IsServed (ran end flushed) = Unit {0}
+-- over a store that was just made
+abbrev pub new_core : AskedCore
+new_core = record { state = opened fresh; has_failed = false }
 
--- The parser of the command line has a text of its own only where the words say no settings.
-abbrev pub SaysBefore : Ending → List ℕ → Type 0
-SaysBefore no_settings text = Unit {0}
-SaysBefore no_memory text = text ≡ []
-SaysBefore (ran end flushed) text = text ≡ []
+-- a machine that is started with these settings over a fresh store has run over the input and ended so
+abbrev pub HasRun : Settings → List ℕ → Option (List ℕ) → RunEnd → Option (List ℕ) → Type 0
+HasRun settings input before end now = (last : Machine) × Runs (at_start settings new_core) input before end now last
 
--- a machine with these settings: what is reported of its run, or that it found no memory
-pub record Serves (settings : Settings) (input : List ℕ) (before : Option (List ℕ)) (result : Result (Unit {0}) Fault) (now : Option (List ℕ)) : Type 0 where
-  pub ending : Ending
-  pub is_served : IsServed ending
-  pub ends_so : EndsSo (Some settings) input before ending now
-  pub reported : result ≡ result_of ending
+-- memory was refused, or the memory disk failed for want of it, before the first event: nothing is written
+abbrev pub IsNotBegun : Result (Unit {0}) Fault → Option (List ℕ) → Option (List ℕ) → Type 0
+IsNotBegun outcome before now = ((outcome ≡ Err NoMemory) ⊎ (outcome ≡ Err Device)) × (now ≡ before)
 
--- The words, the input and the output, with what is said on standard error before the line of the
--- program: an ending, and what is reported of it.
-pub record Does (said : Option Settings) (input : List ℕ) (before : Option (List ℕ)) (result : Result (Unit {0}) Fault) (now err err' : Option (List ℕ)) : Type 0 where
-  pub ending : Ending
-  pub ends_so : EndsSo said input before ending now
-  pub reported : result ≡ result_of ending
+-- the run and its last flush, by what stands in the input
+pub record HasAnswered (settings : Settings) (input before : Option (List ℕ)) (outcome : Result (Unit {0}) Fault) (now : Option (List ℕ)) : Type 0 where
+  pub end : RunEnd
+  pub is_flushed : Bool
+  pub reported : outcome ≡ result_for end is_flushed
+  pub has_run : IfSome input (λ bytes. HasRun settings bytes before end now)
+
+-- the run did not begin, or it ended
+abbrev pub Pipes : Settings → Option (List ℕ) → Option (List ℕ) → Result (Unit {0}) Fault → Option (List ℕ) → Type 0
+Pipes settings input before outcome now = IsNotBegun outcome before now ⊎ HasAnswered settings input before outcome now
+
+-- a name that no database has is refused
+abbrev pub PipesInMemory : List ℕ → Login → Option (List ℕ) → Option (List ℕ) → Result (Unit {0}) Fault → Option (List ℕ) → Type 0
+PipesInMemory rdb login input before outcome now =
+    ((is_rdb_name rdb ≡ false) × (outcome ≡ Err BadArguments) × (now ≡ before))
+    ⊎ ((is_rdb_name rdb ≡ true) × Pipes (settings_of login rdb) input before outcome now)
+
+-- ---- the other jobs
+
+-- a store is made and its size is said; a size or a name that no store has is refused before any file is made
+abbrev pub Makes : ℕ → List ℕ → Option (List ℕ) → Result (Unit {0}) Fault → Option (List ℕ) → Type 0
+Makes size rdb before (Ok done) now = (is_store_of size rdb ≡ true) × Appends before now (codes "formatted " ++ decimal size ++ 10 ∷ [])
+Makes size rdb before (Err BadArguments) now = (is_store_of size rdb ≡ false) × (now ≡ before)
+Makes size rdb before (Err Device) now = is_store_of size rdb ≡ true
+Makes size rdb before (Err NoMemory) now = (is_store_of size rdb ≡ true) × (now ≡ before)
+Makes size rdb before (Err NotAStore) now = ⊥
+Makes size rdb before (Err (Damaged at)) now = ⊥
+Makes size rdb before (Err BadEvent) now = ⊥
+
+-- XIDs are listed, and nothing else is said; nothing at all where there is no store or no memory
+abbrev pub Lists : Option (List ℕ) → Result (Unit {0}) Fault → Option (List ℕ) → Type 0
+Lists before (Ok done) now = (xids : List (List ℕ)) × Appends before now (doubt_text xids)
+Lists before (Err BadArguments) now = ⊥
+Lists before (Err Device) now = Unit {0}
+Lists before (Err NotAStore) now = now ≡ before
+Lists before (Err (Damaged at)) now = now ≡ before
+Lists before (Err BadEvent) now = ⊥
+Lists before (Err NoMemory) now = now ≡ before
+
+-- ---- what words ask for
+
+-- Of a store in a file only the faults are known here: what `open`, `run` and `serve_one` say of a disk is said there.
+abbrev pub Does : Option Job → Option (List ℕ) → Option (List ℕ) → Result (Unit {0}) Fault → Option (List ℕ) → Type 0
+Does None input before outcome now = (outcome ≡ Err BadArguments) × (now ≡ before)
+Does (Some (init path size rdb)) input before outcome now = Makes size rdb before outcome now
+Does (Some (pipe None rdb login)) input before outcome now = PipesInMemory rdb login input before outcome now
+Does (Some (pipe (Some path) rdb login)) input before outcome now = IfErr outcome IsOfRun
+Does (Some (serve path port login count)) input before outcome now = IfErr outcome IsOfStore
+Does (Some (in_doubt path)) input before outcome now = Lists before outcome now
+
+-- The words, the input and the output: the job was done so, or memory was refused before it was known. Standard
+-- error holds the text of the parser of words, if it has one, which is only where the words ask for nothing, and
+-- behind it the line of what is reported, or as much of each as could be written.
+pub record Exits (said : Option Job) (input before : Option (List ℕ)) (status : ℕ) (now err err' : Option (List ℕ)) : Type 0 where
+  pub outcome : Result (Unit {0}) Fault
+  pub does : ((outcome ≡ Err NoMemory) × (now ≡ before)) ⊎ Does said input before outcome now
+  pub status_is : status ≡ status_of outcome
   pub parser : List ℕ
-  pub parser_only : SaysBefore ending parser
-  pub says : Appends err err' parser
-
--- The same by the exit status. Standard error holds the text of the parser, if it has one, and behind it the
--- line of what is reported, or as much of it as could be written.
-pub record Exits (said : Option Settings) (input : List ℕ) (before : Option (List ℕ)) (status : ℕ) (now err err' : Option (List ℕ)) : Type 0 where
-  pub ending : Ending
-  pub ends_so : EndsSo said input before ending now
-  pub status_is : status ≡ status_of (result_of ending)
-  pub parser : List ℕ
-  pub parser_only : SaysBefore ending parser
+  pub parser_only : said ≢ None → parser ≡ []
   pub count : ℕ
-  pub says : Appends err err' (parser ++ take count (line_of (result_of ending)))
+  pub says : Appends err err' (parser ++ take count (line_of outcome))

@@ -1,17 +1,26 @@
 //! Why the program ends without success.
 
-ghost use Rattle.std.specs.Prelude.{◌≡◌};
+ghost use Rattle.std.specs.Prelude.{◌≡◌, ℕ, take};
+ghost use Rattle.std.specs.Io.KnownBytes.{Appends};
 ghost use Rattle.drda_program.specs.Endings.{line_for, status_for};
 
-use std::alloc::AllocError;
+use command_line::BadWords;
+use drda_node::write_whole;
+use std::alloc::{AllocError, Global};
+use std::fmt::Write as _;
+use std::io::Write;
 
 /// Why the program ends without success.
 #[derive(Clone, Copy, Debug, PartialEq, Eq)]
 pub enum Fault {
     /// The command line is none that the program takes.
     BadArguments,
-    /// Reading or writing failed.
+    /// Reading or writing failed, or a file or a port can't be had.
     Device,
+    /// A file is no store.
+    NotAStore,
+    /// A store is damaged at this offset.
+    Damaged { at: usize },
     /// What came is no event.
     BadEvent,
     /// Memory was refused.
@@ -26,31 +35,65 @@ impl Fault {
         match self {
             Fault::BadArguments => 1,
             Fault::Device => 2,
+            Fault::NotAStore => 3,
+            Fault::Damaged { at: _ } => 3,
             Fault::BadEvent => 4,
             Fault::NoMemory => 5,
         }
     }
 
-    /// The line on standard error.
-    pub fn line(self) -> &'static [u8]
-        ensures { result.now ≡ line_for self }
+    /// Writes the line that reports it, or a front of it where writing fails. The line that tells an
+    /// offset is not written where there is no memory for it.
+    pub fn say<E: Write>(self, alloc: Global, err: &mut E)
+        ensures { (count : ℕ) × Appends (E.contents err.old) (E.contents err.new) (take count (line_for self)) }
     {
         match self {
-            Fault::BadArguments => b"drdad: bad arguments\n",
-            Fault::Device => b"drdad: file or device fault\n",
-            Fault::BadEvent => b"drdad: bad event\n",
-            Fault::NoMemory => b"drdad: no memory\n",
+            Fault::BadArguments => say_line(b"drdad: bad arguments\n", err),
+            Fault::Device => say_line(b"drdad: file or device fault\n", err),
+            Fault::NotAStore => say_line(b"drdad: not a store\n", err),
+            Fault::Damaged { at } => say_damaged(alloc, at, err),
+            Fault::BadEvent => say_line(b"drdad: bad event\n", err),
+            Fault::NoMemory => say_line(b"drdad: no memory\n", err),
         }
     }
 }
 
+// Writes a line, or a front of it where writing fails.
+fn say_line<E: Write>(line: &[u8], err: &mut E)
+    ensures { (count : ℕ) × Appends (E.contents err.old) (E.contents err.new) (take count line.now) }
+{
+    let _ = write_whole(err, line);
+}
+
+fn say_damaged<E: Write>(alloc: Global, at: usize, err: &mut E)
+    ensures { (count : ℕ) × Appends (E.contents err.old) (E.contents err.new) (take count (line_for (Fault.Damaged at))) }
+{
+    let mut line = String::new(alloc);
+    match writeln!(line, "drdad: damaged at {at}") {
+        Ok(()) => say_line(line.as_bytes(), err),
+        Err(_) => {}
+    }
+}
+
 impl From<AllocError> for Fault {
-    ghost use Rattle.std.specs.Prelude.{◌≡◌};
     ghost use Rattle.drda_program.specs.declared.fault.Fault.TheVariants.{NoMemory};
 
     ghost from_gives = { λ _ fault. fault ≡ NoMemory };
 
-    fn from(_error: AllocError) -> Fault {
+    fn from(_: AllocError) -> Fault {
         Fault::NoMemory
+    }
+}
+
+impl From<BadWords> for Fault {
+    ghost use Rattle.drda_program.specs.Endings.{fault_of_words};
+
+    ghost from_gives = { λ words fault. fault ≡ fault_of_words words };
+
+    fn from(words: BadWords) -> Fault {
+        match words {
+            BadWords::NoJob => Fault::BadArguments,
+            BadWords::NoMemory => Fault::NoMemory,
+        }
     }
 }

@@ -1,10 +1,15 @@
-//! The program `drdad` over words and streams that are handed in.
+//! The program `drdad` over words, files, a network and streams that are handed in.
 #![tactic(auto)]
 
-mod command_line;
+mod doubts;
 mod fault;
+mod files;
+mod listening;
 mod program;
+mod records;
+mod stores;
+mod streams;
 
-pub use command_line::settings_of;
 pub use fault::Fault;
+pub use files::{StoreFiles, SystemFiles};
 pub use program::run_words;

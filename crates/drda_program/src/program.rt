@@ -1,86 +1,143 @@
-//! The program over streams that are handed in.
+//! The program.
 
-ghost use Rattle.std.specs.Prelude.{◌≡◌, IfSome, Some, map};
-ghost use Rattle.drda_program.specs.CommandLine.{said};
-ghost use Rattle.drda_program.specs.Program.{Does, Exits, Serves};
-ghost use Rattle.drda_program.specs.Endings.{result_for};
+ghost use Rattle.std.specs.Prelude.{◌≡◌, ◌≢◌, ◌⊎◌, Err, None, Some, map, string_bytes};
+ghost use Rattle.command_line.specs.Job.{plain_job, said};
+ghost use Rattle.drda_program.specs.Program.{Does, Exits, Lists, Makes};
 
-use crate::command_line::settings_of;
+use crate::doubts::doubt_text;
 use crate::fault::Fault;
-use conversation::Settings;
-use drda_node::{Node, RunEnd, run, write_whole};
+use crate::files::StoreFiles;
+use crate::listening::listen;
+use crate::records::{answer_in_memory, answer_records, node_over};
+use crate::stores::{make_file, open_file};
+use crate::streams::flush;
+use command_line::{Job, job_of};
+use drda_node::write_whole;
 use std::alloc::Global;
 use std::convert::AsStr;
 use std::io::{Read, Write};
-
-// What is reported of a run, by its end and by whether the last flush succeeded.
-fn result_of(end: RunEnd, is_flushed: bool) -> Result<(), Fault>
-    ensures { result ≡ result_for end is_flushed }
-{
-    if !is_flushed {
-        return Err(Fault::Device);
-    }
-    match end {
-        RunEnd::Ended => Ok(()),
-        RunEnd::BadEvent => Err(Fault::BadEvent),
-        RunEnd::ReadFault | RunEnd::WriteFault => Err(Fault::Device),
-        RunEnd::NoMemory => Err(Fault::NoMemory),
-    }
-}
-
-// Runs a node with these settings.
-fn serve<R: Read, W: Write>(
-    alloc: Global,
-    settings: Settings,
-    reader: &mut R,
-    out: &mut W,
-) -> Result<(), Fault>
-    ensures { IfSome (R.remaining reader.old) (λ input. Serves settings input (W.contents out.old) result (W.contents out.new)) }
-{
-    let mut node = Node::start(alloc, settings)?;
-    let end = run(alloc, &mut node, reader, out);
-    let is_flushed = out.flush().is_ok();
-    result_of(end, is_flushed)
-}
-
-fn try_words<S: AsStr, R: Read, W: Write, E: Write>(
-    alloc: Global,
-    words: &[S],
-    reader: &mut R,
-    out: &mut W,
-    err: &mut E,
-) -> Result<(), Fault>
-    ensures { IfSome (R.remaining reader.old) (λ input.
-        Does (said (map S.text words.now)) input (W.contents out.old) result (W.contents out.new) (E.contents err.old) (E.contents err.new)) }
-{
-    let settings = settings_of(alloc, words, err)?;
-    serve(alloc, settings, reader, out)
-}
+use std::net::Net;
 
 /// Does what the words say, the program's name first, and answers the exit status; a fault's line goes
 /// to `err`, behind the text of the command-line parser where that has one, and nothing else does.
-/// Faults come in this order: arguments, then those of the run.
+/// Faults are found in this order: arguments, file, store, run.
 ///
-/// Where the words say a user, a password and a database (`said`), a machine that is started with them
-/// answers the events of the input. The status is 0 only where all of the input was events and all are
-/// answered; 1 only where the words say nothing, and then nothing is written; 2 where a stream failed,
-/// the last flush of `out` included, however the run had ended; 4 only where something else stands
-/// behind the events that are answered; 5 where memory was refused.
-pub fn run_words<S: AsStr, R: Read, W: Write, E: Write>(
+/// - `init PATH --size N --rdb NAME` makes a store in a new file, and says its size.
+/// - `pipe [PATH] [--rdb NAME] --user U:P` answers event records from `reader` to `out`, over the store
+///   of the path, or over one in memory that is just made and has this name.
+/// - `serve PATH --port N --user U:P [--count N]` says its port and serves conversations over sockets,
+///   one after the other.
+/// - `indoubt PATH` lists the units in doubt of a store.
+///
+/// The status is 0 where the job was done; 1 where the words ask for none, or for a store of a size or
+/// name that none has; 2 where a file, a port or a stream failed, the last flush included; 3 where a file
+/// is no store or a damaged one; 4 where what came is no event; 5 where memory was refused.
+pub fn run_words<S: AsStr, F: StoreFiles, N: Net, R: Read, W: Write, E: Write>(
     alloc: Global,
     words: &[S],
+    files: &mut F,
+    net: &N,
     reader: &mut R,
     out: &mut W,
     err: &mut E,
 ) -> u8
-    ensures { IfSome (R.remaining reader.old) (λ input.
-        Exits (said (map S.text words.now)) input (W.contents out.old) result (W.contents out.new) (E.contents err.old) (E.contents err.new)) }
+    ensures { Exits (said (map S.text words.now)) (R.remaining reader.old) (W.contents out.old) result (W.contents out.new) (E.contents err.old) (E.contents err.new) }
 {
-    match try_words(alloc, words, reader, out, err) {
+    let mut text = String::new(alloc);
+    match try_words(alloc, words, files, net, reader, out, &mut text) {
         Ok(()) => 0,
         Err(fault) => {
-            let _ = write_whole(err, fault.line());
+            let _ = write_whole(err, text.as_bytes());
+            fault.say(alloc, err);
             fault.status()
         }
+    }
+}
+
+// Does what the words say. What the parser of words has to say of a mistake is appended to `text`.
+fn try_words<S: AsStr, F: StoreFiles, N: Net, R: Read, W: Write>(
+    alloc: Global,
+    words: &[S],
+    files: &mut F,
+    net: &N,
+    reader: &mut R,
+    out: &mut W,
+    text: &mut String,
+) -> Result<(), Fault>
+    ensures does { ((result ≡ Err Fault.NoMemory) × (W.contents out.new ≡ W.contents out.old)) ⊎ Does (said (map S.text words.now)) (R.remaining reader.old) (W.contents out.old) result (W.contents out.new) }
+    ensures quiet { said (map S.text words.now) ≢ None → string_bytes text.new ≡ string_bytes text.old }
+{
+    let job = job_of(alloc, words, text)?;
+    do_job(alloc, job, files, net, reader, out)
+}
+
+fn do_job<F: StoreFiles, N: Net, R: Read, W: Write>(
+    alloc: Global,
+    job: Job<'_>,
+    files: &mut F,
+    net: &N,
+    reader: &mut R,
+    out: &mut W,
+) -> Result<(), Fault>
+    ensures { Does (Some (plain_job job.entry)) (R.remaining reader.old) (W.contents out.old) result (W.contents out.new) }
+{
+    match job {
+        Job::Init { path, size, rdb } => init(alloc, files, path, size, rdb, out),
+        Job::Pipe {
+            path: None,
+            rdb,
+            login,
+        } => answer_in_memory(alloc, rdb, login, reader, out),
+        Job::Pipe {
+            path: Some(path),
+            rdb: _,
+            login,
+        } => answer_records(alloc, open_file(alloc, files, path)?, login, reader, out),
+        Job::Serve {
+            path,
+            port,
+            login,
+            count,
+        } => {
+            let mut node = node_over(alloc, open_file(alloc, files, path)?, login)?;
+            listen(alloc, &mut node, net, port, count, out)
+        }
+        Job::InDoubt { path } => list_doubts(alloc, files, path, out),
+    }
+}
+
+// Makes a store and says its size.
+fn init<F: StoreFiles, W: Write>(
+    alloc: Global,
+    files: &mut F,
+    path: &str,
+    size: u64,
+    rdb: &str,
+    out: &mut W,
+) -> Result<(), Fault>
+    ensures { Makes size rdb.now (W.contents out.old) result (W.contents out.new) }
+{
+    make_file(alloc, files, path, size, rdb)?;
+    match writeln!(out, "formatted {size}") {
+        Ok(()) => flush(out),
+        Err(_) => Err(Fault::Device),
+    }
+}
+
+// Lists the units in doubt.
+fn list_doubts<F: StoreFiles, W: Write>(
+    alloc: Global,
+    files: &mut F,
+    path: &str,
+    out: &mut W,
+) -> Result<(), Fault>
+    ensures { Lists (W.contents out.old) result (W.contents out.new) }
+{
+    let core = open_file(alloc, files, path)?;
+    let xids = core.in_doubt()?;
+    let text = doubt_text(alloc, xids.as_slice())?;
+    match write_whole(out, text.as_bytes()) {
+        Ok(()) => flush(out),
+        Err(_) => Err(Fault::Device),
     }
 }

@@ -1,8 +1,7 @@
 //! `drdad`: a DRDA application server.
 #![tactic(auto)]
 
-use drda_node::write_whole;
-use drda_program::{Fault, run_words};
+use drda_program::{Fault, SystemFiles, run_words};
 use std::io::BufReader;
 use std::process::ExitCode;
 
@@ -15,7 +14,7 @@ fn main(rt: HostRuntime) -> ExitCode {
         Ok(status) => ExitCode::from(status),
         Err(_) => {
             let fault = Fault::NoMemory;
-            let _ = write_whole(&mut rt.stderr(), fault.line());
+            fault.say(rt.alloc(), &mut rt.stderr());
             ExitCode::from(fault.status())
         }
     }
@@ -28,6 +27,8 @@ fn serve(rt: &HostRuntime) -> anyhow::Result<u8> {
     Ok(run_words(
         alloc,
         words.as_slice(),
+        &mut SystemFiles::new(rt),
+        rt,
         &mut reader,
         &mut rt.stdout(),
         &mut rt.stderr(),

@@ -1,0 +1,107 @@
+//! Stores, made and opened.
+
+ghost use Rattle.std.specs.Prelude.{IfErr, IsTrue, List, ℕ, OnOk};
+ghost use Rattle.drda_disk.specs.Disk.{Only};
+ghost use Rattle.half_store.specs.Fresh.{IsFresh};
+ghost use Rattle.durable_units.specs.Durable.{fresh as fresh_store};
+ghost use Rattle.durable_images.specs.Opens.{OpensTo};
+ghost use Rattle.durable_core.specs.Reads.{IsExcused};
+ghost use Rattle.drda_program.specs.Stores.{BeginsFresh, FindsFresh, IsOfDevice, IsOfStore, MakesFile, MakesNamed};
+
+use crate::fault::Fault;
+use crate::files::StoreFiles;
+use drda_disk::{Disk, MemDisk};
+use durable_core::{DurableCore, OpenError};
+use durable_images::laws::fresh_stores_open;
+use half_store::{FormatError, format, is_store};
+use std::alloc::Global;
+
+/// The bytes of a store in memory.
+const MEMORY_SIZE: usize = 2_097_152;
+
+/// Makes a store of this name on a disk. A disk that has no store's size is reported as a fault of the
+/// device: it was made with another one.
+fn make<D: Disk>(alloc: Global, disk: &mut D, rdb: &str) -> Result<(), Fault>
+    ensures made { OnOk result (IsTrue D.is_modelled → Only (D.life disk.new) × IsFresh rdb.now (D.life disk.new).seen) }
+    ensures named { MakesNamed rdb.now result }
+{
+    match format(alloc, disk, rdb) {
+        Ok(()) => Ok(()),
+        Err(FormatError::BadName) => Err(Fault::BadArguments),
+        Err(FormatError::BadSize) | Err(FormatError::DeviceFailed) => Err(Fault::Device),
+        Err(FormatError::NoMemory) => Err(Fault::NoMemory),
+    }
+}
+
+/// Makes a file of so many bytes, and a store of this name in it. A size or a name that no store has
+/// is refused before any file is made.
+pub(crate) fn make_file<F: StoreFiles>(
+    alloc: Global,
+    files: &mut F,
+    path: &str,
+    size: u64,
+    rdb: &str,
+) -> Result<(), Fault>
+    ensures { MakesFile size rdb.now result }
+{
+    if !is_store(size as usize, rdb) {
+        return Err(Fault::BadArguments);
+    }
+    match files.create(path, size as usize) {
+        Ok(mut disk) => make(alloc, &mut disk, rdb),
+        Err(_) => Err(Fault::Device),
+    }
+}
+
+/// The core over the store that a disk is.
+fn open_disk<D: Disk + Drop>(alloc: Global, disk: D) -> Result<DurableCore<D>, Fault>
+    ensures opens { (name : List ℕ) → IsTrue D.is_modelled → OpensTo name fresh_store (D.life disk).seen → FindsFresh name result }
+    ensures cause { IfErr result IsOfStore }
+{
+    match durable_core::open(alloc, disk) {
+        Ok(core) => Ok(core),
+        Err(refused) => Err(fault_of(refused.error)),
+    }
+}
+
+// What is reported of it.
+fn fault_of(error: OpenError) -> Fault
+    ensures excused { IsExcused error → IsOfDevice result }
+    ensures cause { IsOfStore result }
+{
+    match error {
+        OpenError::NotAStore => Fault::NotAStore,
+        OpenError::Damaged { at } => Fault::Damaged { at },
+        OpenError::DeviceFailed => Fault::Device,
+        OpenError::NoMemory => Fault::NoMemory,
+    }
+}
+
+/// The core over the store of a file.
+pub(crate) fn open_file<F: StoreFiles>(
+    alloc: Global,
+    files: &mut F,
+    path: &str,
+) -> Result<DurableCore<F::Disk>, Fault>
+    ensures { IfErr result IsOfStore }
+{
+    match files.open(path) {
+        Ok(disk) => open_disk(alloc, disk),
+        Err(_) => Err(Fault::Device),
+    }
+}
+
+/// The core over a store in memory that is just made. A name that no store has is refused first.
+pub(crate) fn fresh(alloc: Global, rdb: &str) -> Result<DurableCore<MemDisk>, Fault>
+    ensures { BeginsFresh rdb.now result }
+{
+    if !is_store(MEMORY_SIZE, rdb) {
+        return Err(Fault::BadArguments);
+    }
+    fresh_stores_open();
+    let mut disk = MemDisk::new(alloc, MEMORY_SIZE)?;
+    match make(alloc, &mut disk, rdb) {
+        Ok(()) => open_disk(alloc, disk),
+        Err(fault) => Err(fault),
+    }
+}
