@@ -1,0 +1,4 @@
+mod Rising
+mod Standing
+mod Whole
+mod Judged

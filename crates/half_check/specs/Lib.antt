@@ -1,0 +1,4 @@
+pub mod Breaking
+pub mod Whole
+pub mod Judging
+pub mod Errors

@@ -1,0 +1,13 @@
+//! Checking the pages of a store: whether they are what its tables ask for, or which is the first
+//! that is not.
+#![tactic(auto)]
+
+mod errors;
+mod laws;
+mod page;
+mod rows;
+mod table;
+
+pub use errors::CheckError;
+pub use laws::{one_first_bad, one_whole, whole_is_not_bad, whole_is_stored};
+pub use table::check_table;
