@@ -2,3 +2,4 @@ mod Rising
 mod Standing
 mod Whole
 mod Judged
+mod Listed

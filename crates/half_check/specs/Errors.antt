@@ -2,6 +2,8 @@
 use Rattle.std.specs.Prelude.{◌≡◌, ◌+◌, ℕ, Result, Ok, Err}
 use Rattle.row_pages.specs.declared.kept.PageFault.{PageFault}
 use Rattle.row_pages.specs.declared.kept.PageFault.TheVariants as fault
+use Rattle.table_image.specs.declared.reading.CatalogueError.{CatalogueError}
+use Rattle.table_image.specs.declared.reading.CatalogueError.TheVariants as catalogue
 use Rattle.half_check.specs.declared.errors.CheckError.{CheckError}
 use Rattle.half_check.specs.declared.errors.CheckError.TheVariants.{NoMemory, DeviceFailed, Damaged}
 
@@ -17,3 +19,9 @@ CountsCheck (Ok x) old new = new ≡ old
 CountsCheck (Err NoMemory) old new = new ≡ old
 CountsCheck (Err (Damaged here)) old new = new ≡ old
 CountsCheck (Err DeviceFailed) old new = new ≡ old + 1
+
+-- a fault of a catalogue's reader
+abbrev pub catalogue_error : CatalogueError → CheckError
+catalogue_error catalogue.NoMemory = NoMemory
+catalogue_error catalogue.DeviceFailed = DeviceFailed
+catalogue_error (catalogue.Damaged at) = Damaged at

@@ -1,5 +1,5 @@
 -- Judging a table's pages one by one.
-use Rattle.std.specs.Prelude.{◌≡◌, ℕ, Bool, true, false, ◌&&◌, List, [], ◌∷◌, Option, Some, None, Result, Ok, Err}
+use Rattle.std.specs.Prelude.{◌≡◌, ℕ, Bool, true, false, ◌&&◌, List, [], ◌∷◌, ◌++◌, map, Option, Some, None, Result, Ok, Err}
 use Rattle.std.specs.Global.{Vec}
 use Rattle.std.specs.Ordering.{match_ordering}
 use Rattle.ordered_rows.specs.Slots.{by_bytes}
@@ -9,6 +9,9 @@ use Rattle.row_pages.specs.Page.{IsPage, Page}
 use Rattle.row_pages.specs.Laying.{HasSome}
 use Rattle.row_pages.specs.declared.page.PageKind.TheVariants as kind
 use Rattle.table_map.specs.Keyed.{copied, first_key}
+use Rattle.table_image.specs.Catalogue.{Entry, IsEntryPage, entry_of}
+use Rattle.table_image.specs.declared.entry.StoredTable.{StoredTable}
+use Rattle.half_check.specs.Listed.{are_listed}
 use Rattle.half_check.specs.declared.errors.CheckError.{CheckError}
 use Rattle.half_check.specs.declared.errors.CheckError.TheVariants.{NoMemory, DeviceFailed, Damaged}
 
@@ -45,3 +48,13 @@ JudgesBytes schema key_of at bytes old (Ok key) new = (rows : List (List ℕ)) �
 JudgesBytes schema key_of at bytes old (Err (Damaged here)) new = (here ≡ at) × ((rows : List (List ℕ)) → IsPage (record { kind = kind.Rows; rows = rows }) bytes → GoesOn schema key_of (copied old) rows → ⊥)
 JudgesBytes schema key_of at bytes old (Err NoMemory) new = Unit {0}
 JudgesBytes schema key_of at bytes old (Err DeviceFailed) new = Unit {0}
+
+-- ---- the pages of a catalogue
+
+-- what is told of the bytes at an offset, whose tables come behind others: with them they are those of a catalogue, or
+-- the bytes are no page of tables with which they would be
+abbrev pub JudgesEntries : {T : Type 0} → List ℕ → ℕ → ℕ → List StoredTable → Result T CheckError → List StoredTable → Type 0
+JudgesEntries bytes at last old (Ok x) new = (entries : List Entry) × IsEntryPage bytes entries × (map entry_of new ≡ map entry_of old ++ entries) × (are_listed last (map entry_of new) ≡ true)
+JudgesEntries bytes at last old (Err (Damaged here)) new = (here ≡ at) × ((entries : List Entry) → IsEntryPage bytes entries → are_listed last (map entry_of old ++ entries) ≡ true → ⊥)
+JudgesEntries bytes at last old (Err NoMemory) new = Unit {0}
+JudgesEntries bytes at last old (Err DeviceFailed) new = Unit {0}

@@ -1,4 +1,5 @@
 //! Laws of whole and of damaged pages.
+ghost use Rattle.half_check.specs.Listed.{ListedIsNotBad};
 ghost use Rattle.half_check.specs.Whole.{OneFirstBad, OneWhole, WholeIsNotBad, WholeIsStored};
 
 use row_pages::one_page;
@@ -28,3 +29,10 @@ pub fn one_whole()
 pub fn whole_is_stored()
     ensures { WholeIsStored }
 {}
+
+/// The pages of a catalogue have no first bad one.
+pub fn listed_is_not_bad()
+    ensures { ListedIsNotBad }
+{
+    one_page();
+}

@@ -4,10 +4,12 @@
 
 mod errors;
 mod laws;
+mod listing;
 mod page;
 mod rows;
 mod table;
 
 pub use errors::CheckError;
-pub use laws::{one_first_bad, one_whole, whole_is_not_bad, whole_is_stored};
+pub use laws::{listed_is_not_bad, one_first_bad, one_whole, whole_is_not_bad, whole_is_stored};
+pub use listing::check_catalogue;
 pub use table::check_table;
