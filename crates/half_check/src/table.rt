@@ -1,5 +1,5 @@
 //! All pages of a table.
-ghost use Rattle.std.specs.Prelude.{◌≡◌, ◌+◌, ◌*◌, ◌^◌, ◌≤◌, ◌++◌, ◌∷◌, [], ℕ, List, IsTrue, IfErr, OnOk, length};
+ghost use Rattle.std.specs.Prelude.{◌≡◌, ◌+◌, ◌*◌, ◌^◌, ◌≤◌, ◌++◌, ◌∷◌, [], ℕ, List, IsTrue, IfErr, IfOk, OnOk, length};
 ghost use Rattle.drda_disk.specs.Disk.{Stays};
 ghost use Rattle.row_pages.specs.Keeping.{AreRead};
 ghost use Rattle.half_check.specs.Errors.{CountsCheck};
@@ -43,6 +43,8 @@ pub fn check_table<K: RowKeys, D: Disk>(
 ) -> Result<TablePages, CheckError>
     requires small { at + 8192 * count ≤ 2 ^ 40 }
     requires inside { at + 8192 * count ≤ length (D.life disk.old).seen }
+    ensures at { IfOk result (λ pages. pages.at ≡ at) }
+    ensures count { IfOk result (λ pages. length pages.keys ≡ count) }
     ensures told { IsTrue D.is_modelled → AreRead cache.old (D.life disk.old).seen → ChecksTable schema.now (K.key_of keys.now) (D.life disk.old).seen at count result }
     ensures kept { IsTrue D.is_modelled → AreRead cache.old (D.life disk.old).seen → AreRead cache.new (D.life disk.new).seen }
     ensures stays { Stays (D.life disk.old) (D.life disk.new) }

@@ -31,8 +31,8 @@ fn page_of(alloc: Global, kind: PageKind, tables: &[Table]) -> Result<Vec<u8>, A
 fn disk_with(alloc: Global, pages: &[(PageKind, &[Table])]) -> Result<MemDisk, Fail> {
     let mut disk = MemDisk::new(alloc, DISK_BYTES)?;
     let mut at = TABLE_AT;
-    for (kind, tables) in pages {
-        put(&mut disk, at, &page_of(alloc, *kind, tables)?);
+    for page in pages {
+        put(&mut disk, at, &page_of(alloc, page.0, page.1)?);
         at = at.saturating_add(8_192);
     }
     Ok(disk)
@@ -53,29 +53,64 @@ fn checked<D: Disk>(alloc: Global, disk: &mut D, count: usize) -> Result<usize, 
 const TABLE: [(&[(PageKind, &[Table])], usize, Result<usize, usize>); 19] = [
     (&[], 0, Ok(0)),
     (&[(Catalogue, &[(b'A', 0, 2), (b'B', 2, 3)])], 1, Ok(2)),
-    (&[(Catalogue, &[(b'A', 0, 2)]), (Catalogue, &[(b'B', 2, 3)])], 2, Ok(2)),
-    (&[(Catalogue, &[(b'A', 0, 2), (b'B', 0, 0), (b'C', 2, 3)])], 1, Ok(3)),
+    (
+        &[(Catalogue, &[(b'A', 0, 2)]), (Catalogue, &[(b'B', 2, 3)])],
+        2,
+        Ok(2),
+    ),
+    (
+        &[(Catalogue, &[(b'A', 0, 2), (b'B', 0, 0), (b'C', 2, 3)])],
+        1,
+        Ok(3),
+    ),
     (&[(Catalogue, &[(b'A', 0, 2)])], 1, Ok(1)),
     // A table twice, in one page and in two.
     (&[(Catalogue, &[(b'A', 0, 2), (b'A', 2, 3)])], 1, Err(0)),
-    (&[(Catalogue, &[(b'A', 0, 2)]), (Catalogue, &[(b'A', 2, 3)])], 2, Err(1)),
+    (
+        &[(Catalogue, &[(b'A', 0, 2)]), (Catalogue, &[(b'A', 2, 3)])],
+        2,
+        Err(1),
+    ),
     // Names that fall.
     (&[(Catalogue, &[(b'B', 0, 2), (b'A', 2, 3)])], 1, Err(0)),
-    (&[(Catalogue, &[(b'C', 0, 1)]), (Catalogue, &[(b'D', 1, 1), (b'B', 2, 1)])], 2, Err(1)),
+    (
+        &[
+            (Catalogue, &[(b'C', 0, 1)]),
+            (Catalogue, &[(b'D', 1, 1), (b'B', 2, 1)]),
+        ],
+        2,
+        Err(1),
+    ),
     // A gap, pages of two tables, a first page that is not the first, pages past the last.
     (&[(Catalogue, &[(b'A', 0, 2), (b'B', 3, 2)])], 1, Err(0)),
-    (&[(Catalogue, &[(b'A', 0, 2)]), (Catalogue, &[(b'B', 1, 3)])], 2, Err(1)),
+    (
+        &[(Catalogue, &[(b'A', 0, 2)]), (Catalogue, &[(b'B', 1, 3)])],
+        2,
+        Err(1),
+    ),
     (&[(Catalogue, &[(b'A', 1, 2)])], 1, Err(0)),
     (&[(Catalogue, &[(b'A', 0, 2), (b'B', 2, 4)])], 1, Err(0)),
     // A table without pages has 0 as its first one.
     (&[(Catalogue, &[(b'A', 0, 2), (b'B', 2, 0)])], 1, Err(0)),
     // No name, a page of rows, a page that is missing, and the first of two faults.
     (&[(Catalogue, &[(b'a', 0, 2)])], 1, Err(0)),
-    (&[(Catalogue, &[(b'A', 0, 2)]), (Rows, &[(b'B', 2, 3)])], 2, Err(1)),
+    (
+        &[(Catalogue, &[(b'A', 0, 2)]), (Rows, &[(b'B', 2, 3)])],
+        2,
+        Err(1),
+    ),
     (&[(Catalogue, &[(b'A', 0, 2)])], 2, Err(1)),
     (&[(Catalogue, &[(b'A', 0, 9)]), (Rows, &[])], 2, Err(0)),
     // A page without tables.
-    (&[(Catalogue, &[(b'A', 0, 2)]), (Catalogue, &[]), (Catalogue, &[(b'B', 2, 1)])], 3, Ok(2)),
+    (
+        &[
+            (Catalogue, &[(b'A', 0, 2)]),
+            (Catalogue, &[]),
+            (Catalogue, &[(b'B', 2, 1)]),
+        ],
+        3,
+        Ok(2),
+    ),
 ];
 
 #[test]

@@ -9,10 +9,15 @@ const PAGES: [Rows; 2] = [(OfRows, &[&[0, 0, 1, 255]]), (OfRows, &[&[0, 0, 1, 25
 
 /// Which call of the device fails, and what is told: each page takes one, and behind the first bad
 /// page there is none.
-const TABLE: [(usize, Result<usize, CheckError>); 3] = [
+const TABLE: [(u64, Result<usize, CheckError>); 3] = [
     (0, Err(CheckError::DeviceFailed)),
     (1, Err(CheckError::DeviceFailed)),
-    (2, Err(CheckError::Damaged { at: TABLE_AT + 8_192 })),
+    (
+        2,
+        Err(CheckError::Damaged {
+            at: TABLE_AT + 8_192,
+        }),
+    ),
 ];
 
 #[test]

@@ -5,16 +5,23 @@ use row_pages::PageKind::{Catalogue, Rows as OfRows};
 use std::test::Fail;
 
 const ONE: &[u8] = &[0, 0, 1, 255];
+
 const TWO: &[u8] = &[0, 0, 2, 0, 0, 1, 9];
+
 const THREE: &[u8] = &[0, 0, 3, 255];
+
 const FOUR: &[u8] = &[0, 0, 4, 0, 0, 0];
+
 const FIVE: &[u8] = &[0, 1, 0, 255];
 
 /// A row without its second column, one with a byte more, one whose key is NULL, and one whose second
 /// column has another mark than 00 and FF.
 const SHORT: &[u8] = &[0, 0, 2];
+
 const LONG: &[u8] = &[0, 0, 2, 255, 0];
+
 const NO_KEY: &[u8] = &[255, 255];
+
 const NO_MARK: &[u8] = &[0, 0, 2, 7];
 
 fn damaged(page: usize) -> Result<usize, CheckError> {
@@ -28,7 +35,15 @@ fn damaged(page: usize) -> Result<usize, CheckError> {
 const TABLE: [(&[Rows], usize, Result<usize, usize>); 22] = [
     (&[], 0, Ok(0)),
     (&[(OfRows, &[ONE])], 1, Ok(1)),
-    (&[(OfRows, &[ONE, TWO]), (OfRows, &[THREE]), (OfRows, &[FOUR, FIVE])], 3, Ok(5)),
+    (
+        &[
+            (OfRows, &[ONE, TWO]),
+            (OfRows, &[THREE]),
+            (OfRows, &[FOUR, FIVE]),
+        ],
+        3,
+        Ok(5),
+    ),
     // The pages behind the table's are not looked at.
     (&[(OfRows, &[ONE, TWO]), (OfRows, &[ONE])], 1, Ok(2)),
     (&[(OfRows, &[TWO, ONE])], 1, Err(0)),
@@ -36,7 +51,15 @@ const TABLE: [(&[Rows], usize, Result<usize, usize>); 22] = [
     (&[(OfRows, &[ONE, FIVE, FOUR])], 1, Err(0)),
     (&[(OfRows, &[ONE, THREE]), (OfRows, &[TWO])], 2, Err(1)),
     (&[(OfRows, &[ONE, TWO]), (OfRows, &[TWO])], 2, Err(1)),
-    (&[(OfRows, &[ONE]), (OfRows, &[FIVE, FOUR]), (OfRows, &[THREE])], 3, Err(1)),
+    (
+        &[
+            (OfRows, &[ONE]),
+            (OfRows, &[FIVE, FOUR]),
+            (OfRows, &[THREE]),
+        ],
+        3,
+        Err(1),
+    ),
     (&[(OfRows, &[ONE]), (OfRows, &[SHORT])], 2, Err(1)),
     (&[(OfRows, &[ONE]), (OfRows, &[LONG])], 2, Err(1)),
     (&[(OfRows, &[ONE]), (OfRows, &[NO_MARK])], 2, Err(1)),

@@ -3,7 +3,7 @@ ghost use Rattle.std.specs.Prelude.{◌≡◌, ◌≤◌, length, take};
 
 use drda_disk::{Disk, MemDisk};
 use half_check::{CheckError, check_table};
-use row_pages::{PageBuilder, PageCache, PageFault, PageKind};
+use row_pages::{PageBuilder, PageCache, PageKind};
 use row_values::{Column, Kind, Schema};
 use std::alloc::{AllocError, Global};
 use std::cmp::Ordering;
@@ -31,21 +31,34 @@ impl RowKeys for FirstColumn {
     }
 }
 
-fn column(alloc: Global, name: &str, kind: Kind, is_nullable: bool) -> Result<Column, Fail> {
+fn column(alloc: Global, name: &str, kind: Kind, length: u16) -> Result<Column, AllocError> {
     Ok(Column {
         name: String::from_str(alloc, name)?,
         kind,
-        is_nullable,
-        length: if is_nullable { 2_000 } else { 0 },
+        is_nullable: length > 0,
+        length,
     })
 }
 
-/// The schema of the table.
-pub fn schema(alloc: Global) -> Result<Schema, Fail> {
+fn push_column(columns: &mut Vec<Column>, column: Column) -> Result<(), AllocError> {
+    match columns.push(column) {
+        Ok(()) => Ok(()),
+        Err(_) => Err(AllocError),
+    }
+}
+
+fn columns(alloc: Global) -> Result<Vec<Column>, AllocError> {
     let mut columns = Vec::new(alloc);
-    columns.push(column(alloc, "A", Kind::SmallInt, false)?)?;
-    columns.push(column(alloc, "B", Kind::VarBinary, true)?)?;
-    Ok(Schema::new(columns, [0u8].to_vec(alloc)?)?)
+    push_column(&mut columns, column(alloc, "A", Kind::SmallInt, 0)?)?;
+    push_column(&mut columns, column(alloc, "B", Kind::VarBinary, 2_000)?)?;
+    Ok(columns)
+}
+
+/// The schema of the table.
+fn schema(alloc: Global) -> Result<Schema, CheckError> {
+    let columns = columns(alloc).map_err(|_| CheckError::NoMemory)?;
+    let key = [0u8].to_vec(alloc).map_err(|_| CheckError::NoMemory)?;
+    Schema::new(columns, key).map_err(|_| CheckError::NoMemory)
 }
 
 /// Where the table's pages lie.
@@ -87,33 +100,22 @@ pub fn disk_with(alloc: Global, pages: &[Rows]) -> Result<MemDisk, Fail> {
 /// How many rows the table has by its map, once so many pages of it are found whole.
 pub fn checked<D: Disk>(alloc: Global, disk: &mut D, count: usize) -> Result<usize, CheckError> {
     let mut cache = PageCache::new(alloc, 2).map_err(|_| CheckError::NoMemory)?;
-    let schema = schema(alloc).map_err(|_| CheckError::NoMemory)?;
+    let schema = schema(alloc)?;
     if disk.size() < DISK_BYTES || count > 4 {
         return Err(CheckError::DeviceFailed);
     }
-    let pages = check_table(alloc, &FirstColumn, &schema, &mut cache, disk, TABLE_AT, count)?;
-    rows_of(alloc, &mut cache, disk, TableMap::new(alloc, pages))
-}
-
-/// How many rows a table has by its map.
-fn rows_of<D: Disk>(
-    alloc: Global,
-    cache: &mut PageCache,
-    disk: &mut D,
-    table: TableMap,
-) -> Result<usize, CheckError> {
-    let Ok(count) = scanned(alloc, cache, disk, &table) else {
-        return Err(CheckError::DeviceFailed);
-    };
-    Ok(count)
-}
-
-fn scanned<D: Disk>(
-    alloc: Global,
-    cache: &mut PageCache,
-    disk: &mut D,
-    table: &TableMap,
-) -> Result<usize, PageFault> {
-    let rows = table.scan(alloc, &FirstColumn, cache, disk)?;
-    Ok(rows.len())
+    let pages = check_table(
+        alloc,
+        &FirstColumn,
+        &schema,
+        &mut cache,
+        disk,
+        TABLE_AT,
+        count,
+    )?;
+    let table = TableMap::new(alloc, pages);
+    match table.scan(alloc, &FirstColumn, &mut cache, disk) {
+        Ok(rows) => Ok(rows.len()),
+        Err(_) => Err(CheckError::DeviceFailed),
+    }
 }

@@ -1,6 +1,7 @@
 use Rattle.std.proofs.Common.{rules, ◌≡◌, ◌+◌, ◌*◌, ◌∙◌, ◌∷◌, ◌++◌, [], ℕ, List, Ok, Err, length, length-append, map, sym, ap, subst, arith}
 use Rattle.std.specs.Global.{Vec}
-use Rattle.std.proofs.lemmas.List.{map-append}
+use Rattle.std.proofs.lemmas.List.{length-map, map-append}
+use Rattle.table_map.specs.Stored.{Places}
 use Rattle.drda_words.specs.Place.{part}
 use Rattle.drda_disk.proofs.Moments.{Stays-trans}
 use Rattle.table_map.specs.Keyed.{copied}
@@ -46,3 +47,6 @@ pub returns-clause-told : goal.returns-clause-told
 returns-clause-told g c honest read =
     let inv = c.loop-page.invariant in
     all_judged c.args.schema.now (g.K.RowKeys.key_of c.args.keys.now) (g.D.Disk.life c.args.disk.now).seen c.args.at c.loop-page.page c.args.count (map (λ (k : Vec ℕ). k.items) c.loop-page.first_keys.items) _ c.new.result (omega (arith, c.loop-page-test.false, c.loop-page.auto.page-end)) (inv.judged honest read) c.new.ensures
+
+pub returns-clause-count : goal.returns-clause-count
+returns-clause-count g c = ap (λ (p : Places). length p.keys) c.new.ensures ∙ simp length-map (omega (arith, c.loop-page.invariant.many, c.loop-page-test.false, c.loop-page.auto.page-end))
