@@ -1,0 +1,5 @@
+mod Rising
+mod Standing
+mod Whole
+mod Judged
+mod Listed

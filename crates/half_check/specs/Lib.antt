@@ -1,0 +1,5 @@
+pub mod Breaking
+pub mod Whole
+pub mod Listed
+pub mod Judging
+pub mod Errors

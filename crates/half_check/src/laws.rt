@@ -1,0 +1,38 @@
+//! Laws of whole and of damaged pages.
+ghost use Rattle.half_check.specs.Listed.{ListedIsNotBad};
+ghost use Rattle.half_check.specs.Whole.{OneFirstBad, OneWhole, WholeIsNotBad, WholeIsStored};
+
+use row_pages::one_page;
+
+/// Pages that are whole have no first bad one.
+pub fn whole_is_not_bad()
+    ensures { WholeIsNotBad }
+{
+    one_page();
+}
+
+/// Pages have one first bad one at most.
+pub fn one_first_bad()
+    ensures { OneFirstBad }
+{
+    one_page();
+}
+
+/// Pages are whole with one list of rows at most.
+pub fn one_whole()
+    ensures { OneWhole }
+{
+    one_page();
+}
+
+/// Pages that are whole are a table's, as its map asks for them.
+pub fn whole_is_stored()
+    ensures { WholeIsStored }
+{}
+
+/// The pages of a catalogue have no first bad one.
+pub fn listed_is_not_bad()
+    ensures { ListedIsNotBad }
+{
+    one_page();
+}

@@ -1,0 +1,13 @@
+//! Tests of half_check.
+#![tactic(auto)]
+
+#[cfg(test)]
+mod catalogues;
+#[cfg(test)]
+mod changed;
+#[cfg(test)]
+mod faults;
+#[cfg(test)]
+mod pages;
+#[cfg(test)]
+mod tables;
