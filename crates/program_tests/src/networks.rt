@@ -1,8 +1,8 @@
 //! Networks that are made up.
 
-use std::fd::{AsRawFd, RawFd};
 use std::io::{self, ErrorKind, Read, Write};
 use std::net::{Ipv4Addr, Net, OpenListener, OpenStream, SocketAddr, SocketAddrV4};
+use std::os::fd::{AsRawFd, RawFd};
 
 /// A network whose ports are taken, or one of the port 4711 alone, whose callers have nothing to say and
 /// of which each or none is let in.

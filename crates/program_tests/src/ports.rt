@@ -4,23 +4,26 @@ use crate::networks::Network;
 use crate::programs::run_on;
 use std::test::Fail;
 
-const SERVE: [&[&str]; 2] = [
-    &["drdad", "serve", "store", "--port", "0", "--user", "ana:pw", "--count", "2"],
-    &["drdad", "serve", "store", "--port", "4711", "--user", "ana:pw", "--count", "0"],
+const TWICE: &[&str] = &[
+    "drdad", "serve", "store", "--port", "0", "--user", "ana:pw", "--count", "2",
+];
+
+const NEVER: &[&str] = &[
+    "drdad", "serve", "store", "--port", "4711", "--user", "ana:pw", "--count", "0",
 ];
 
 // The network, the status, and what is written and said.
 const LISTENERS: [(Network, &[&str], u8, &[u8], &[u8]); 4] = [
-    (Network::LetsIn, SERVE[0], 0, b"listening 4711\n", b""),
-    (Network::Shut, SERVE[1], 0, b"listening 4711\n", b""),
+    (Network::LetsIn, TWICE, 0, b"listening 4711\n", b""),
+    (Network::Shut, NEVER, 0, b"listening 4711\n", b""),
     (
         Network::Shut,
-        SERVE[0],
+        TWICE,
         2,
         b"listening 4711\n",
         b"drdad: file or device fault\n",
     ),
-    (Network::Taken, SERVE[0], 2, b"", b"drdad: file or device fault\n"),
+    (Network::Taken, TWICE, 2, b"", b"drdad: file or device fault\n"),
 ];
 
 #[test]

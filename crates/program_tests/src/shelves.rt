@@ -71,6 +71,9 @@ fn in_doubt(alloc: Global) -> Option<MemDisk> {
     let mut node = node_of(alloc)?;
     let id = node.open_conversation().ok()?;
     let bytes = bytes_of(alloc, &DOUBTFUL).ok()?;
+    if !node.is_open(id) {
+        return None;
+    }
     let _ = node.feed(id, &bytes, &mut Vec::new(alloc));
     Some(node.into_core().into_disk())
 }
