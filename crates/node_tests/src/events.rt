@@ -187,31 +187,31 @@ fn answers_with_the_last_byte(rt: HostRuntime) -> Result<(), Fail> {
 }
 
 const CUTS: [Cut; 5] = [
-        (BARE_EXCSAT, BARE_EXCSATRD, 10, false),
-        (
-            "000A D001 0001 0003 1041",
-            "0015 D002 0001 000F 124C 0006 1149 0008 0005 114A 07",
-            10,
-            false,
-        ),
-        (
-            "000F D001 0001 0009 1041 0006 115E C1",
-            "0015 D002 0001 000F 124C 0006 1149 0008 0005 114A 08",
-            15,
-            false,
-        ),
-        (
-            "0012 D001 0001 000C 1041 0004 1404 0004 1404",
-            "0015 D002 0001 000F 124C 0006 1149 0008 0005 114A 12",
-            18,
-            false,
-        ),
-        (
-            "000A D101 0001 0004 1041",
-            "0015 D002 0001 000F 124C 0006 1149 0008 0005 114A 03",
-            6,
-            true,
-        ),
+    (BARE_EXCSAT, BARE_EXCSATRD, 10, false),
+    (
+        "000A D001 0001 0003 1041",
+        "0015 D002 0001 000F 124C 0006 1149 0008 0005 114A 07",
+        10,
+        false,
+    ),
+    (
+        "000F D001 0001 0009 1041 0006 115E C1",
+        "0015 D002 0001 000F 124C 0006 1149 0008 0005 114A 08",
+        15,
+        false,
+    ),
+    (
+        "0012 D001 0001 000C 1041 0004 1404 0004 1404",
+        "0015 D002 0001 000F 124C 0006 1149 0008 0005 114A 12",
+        18,
+        false,
+    ),
+    (
+        "000A D101 0001 0004 1041",
+        "0015 D002 0001 000F 124C 0006 1149 0008 0005 114A 03",
+        6,
+        true,
+    ),
 ];
 
 // What is no event.
@@ -238,14 +238,11 @@ fn stops_at_bytes_of_no_event(rt: HostRuntime) -> Result<(), Fail> {
     Ok(())
 }
 
-fn stops_at(
-    alloc: Global,
-    node: &mut Node<MemDisk>,
-    number: usize,
-    stray: &str,
-) -> Option<bool> {
+fn stops_at(alloc: Global, node: &mut Node<MemDisk>, number: usize, stray: &str) -> Option<bool> {
     let (mut input, answers) = records_of(alloc, u8::try_from(number).ok()?)?;
-    input.extend_from_slice(&bytes_of(alloc, &[stray]).ok()?).ok()?;
+    input
+        .extend_from_slice(&bytes_of(alloc, &[stray]).ok()?)
+        .ok()?;
     let mut reader = input.as_slice();
     Some(ends_so(alloc, node, &mut reader, RunEnd::BadEvent, &answers))
 }
@@ -381,7 +378,15 @@ fn tells_of_a_reader_that_fails(rt: HostRuntime) -> Result<(), Fail> {
     let mut node = node_of(rt.alloc()).ok_or("memory")?;
     let (input, answers) = records_of(rt.alloc(), 0).ok_or("memory")?;
     let mut reader = Failing { bytes: &input };
-    assert!(rt; ends_so(rt.alloc(), &mut node, &mut reader, RunEnd::ReadFault, &answers));
+    assert!(rt;
+        ends_so(
+            rt.alloc(),
+            &mut node,
+            &mut reader,
+            RunEnd::ReadFault,
+            &answers
+        )
+    );
     Ok(())
 }
 

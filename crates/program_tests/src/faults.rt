@@ -16,44 +16,125 @@ const DAMAGED: &[u8] = b"drdad: damaged at 16384\n";
 // it has no text of its own.
 const FAULTS: [(&[&str], u8, &[u8]); 22] = [
     (&["drdad", "pipe", "--user", "ana"], 1, REFUSED),
-    (&["drdad", "pipe", "--user", "ana:pw", "--rdb", ""], 1, REFUSED),
-    (&["drdad", "pipe", "--user", "ana:pw", "--rdb", "A DATABASE"], 1, REFUSED),
     (
-        &["drdad", "pipe", "--user", "ana:pw", "--rdb", "NINETEEN_CHARACTERS"],
-        1,
-        REFUSED,
-    ),
-    (&["drdad", "init", "new", "--size", "2097151", "--rdb", "SHOP"], 1, REFUSED),
-    (&["drdad", "init", "new", "--size", "1073741825", "--rdb", "SHOP"], 1, REFUSED),
-    (
-        &["drdad", "init", "new", "--size", "18446744073709551616", "--rdb", "SHOP"],
-        1,
-        REFUSED,
-    ),
-    (&["drdad", "init", "new", "--size", "2 MiB", "--rdb", "SHOP"], 1, REFUSED),
-    (
-        &["drdad", "init", "new", "--size", "2097152", "--rdb", "NINETEEN_CHARACTERS"],
+        &["drdad", "pipe", "--user", "ana:pw", "--rdb", ""],
         1,
         REFUSED,
     ),
     (
-        &["drdad", "serve", "store", "--port", "65536", "--user", "ana:pw"],
+        &["drdad", "pipe", "--user", "ana:pw", "--rdb", "A DATABASE"],
+        1,
+        REFUSED,
+    ),
+    (
+        &[
+            "drdad",
+            "pipe",
+            "--user",
+            "ana:pw",
+            "--rdb",
+            "NINETEEN_CHARACTERS",
+        ],
+        1,
+        REFUSED,
+    ),
+    (
+        &["drdad", "init", "new", "--size", "2097151", "--rdb", "SHOP"],
+        1,
+        REFUSED,
+    ),
+    (
+        &[
+            "drdad",
+            "init",
+            "new",
+            "--size",
+            "1073741825",
+            "--rdb",
+            "SHOP",
+        ],
+        1,
+        REFUSED,
+    ),
+    (
+        &[
+            "drdad",
+            "init",
+            "new",
+            "--size",
+            "18446744073709551616",
+            "--rdb",
+            "SHOP",
+        ],
+        1,
+        REFUSED,
+    ),
+    (
+        &["drdad", "init", "new", "--size", "2 MiB", "--rdb", "SHOP"],
+        1,
+        REFUSED,
+    ),
+    (
+        &[
+            "drdad",
+            "init",
+            "new",
+            "--size",
+            "2097152",
+            "--rdb",
+            "NINETEEN_CHARACTERS",
+        ],
+        1,
+        REFUSED,
+    ),
+    (
+        &[
+            "drdad", "serve", "store", "--port", "65536", "--user", "ana:pw",
+        ],
         1,
         REFUSED,
     ),
     // Arguments before the file.
     (&["drdad", "pipe", "none", "--user", "ana"], 1, REFUSED),
-    (&["drdad", "init", "taken", "--size", "1", "--rdb", "SHOP"], 1, REFUSED),
-    (&["drdad", "init", "taken", "--size", "2097152", "--rdb", "SHOP"], 2, DEVICE),
+    (
+        &["drdad", "init", "taken", "--size", "1", "--rdb", "SHOP"],
+        1,
+        REFUSED,
+    ),
+    (
+        &[
+            "drdad", "init", "taken", "--size", "2097152", "--rdb", "SHOP",
+        ],
+        2,
+        DEVICE,
+    ),
     (&["drdad", "pipe", "none", "--user", "ana:pw"], 2, DEVICE),
-    (&["drdad", "serve", "none", "--port", "1", "--user", "ana:pw"], 2, DEVICE),
+    (
+        &["drdad", "serve", "none", "--port", "1", "--user", "ana:pw"],
+        2,
+        DEVICE,
+    ),
     (&["drdad", "indoubt", "none"], 2, DEVICE),
     (&["drdad", "pipe", "zeros", "--user", "ana:pw"], 3, NO_STORE),
     (&["drdad", "indoubt", "zeros"], 3, NO_STORE),
     // The store before the port, which can't be had.
-    (&["drdad", "serve", "zeros", "--port", "1", "--user", "ana:pw"], 3, NO_STORE),
-    (&["drdad", "pipe", "damaged", "--user", "ana:pw"], 3, DAMAGED),
-    (&["drdad", "serve", "damaged", "--port", "1", "--user", "ana:pw"], 3, DAMAGED),
+    (
+        &["drdad", "serve", "zeros", "--port", "1", "--user", "ana:pw"],
+        3,
+        NO_STORE,
+    ),
+    (
+        &["drdad", "pipe", "damaged", "--user", "ana:pw"],
+        3,
+        DAMAGED,
+    ),
+    (
+        &[
+            "drdad", "serve", "damaged", "--port", "1", "--user", "ana:pw",
+        ],
+        3,
+        DAMAGED,
+    ),
     (&["drdad", "indoubt", "damaged"], 3, DAMAGED),
 ];
 
@@ -62,7 +143,11 @@ fn faults_are_told_in_their_order(rt: HostRuntime) -> Result<(), Fail> {
     for (words, status, said) in FAULTS {
         let end = run_over(rt.alloc(), words, &[]);
         assert_eq!(rt; (end.status, end.made), (status, 0), "{words:?}");
-        assert_eq!(rt; (end.out.as_slice(), end.err.as_slice()), (b"".as_slice(), said), "{words:?}");
+        assert_eq!(rt;
+            (end.out.as_slice(), end.err.as_slice()),
+            (b"".as_slice(), said),
+            "{words:?}"
+        );
     }
     Ok(())
 }

@@ -28,12 +28,21 @@ const OPEN: &str = "01 00 00000000";
 const PIPES: [&[&str]; 4] = [
     &["drdad", "pipe", "--user", "ana:pw", "--rdb", "SHOP"],
     &["drdad", "pipe", "store", "--user", "ana:pw"],
-    &["drdad", "pipe", "store", "--rdb", "OTHER", "--user", "ana:pw"],
+    &[
+        "drdad", "pipe", "store", "--rdb", "OTHER", "--user", "ana:pw",
+    ],
     &["drdad", "pipe", "doubt", "--user", "ana:pw"],
 ];
 
 // A conversation that opens the database SHOP, and behind it nothing or what is no event.
-const CONNECTS: [&str; 6] = [OPEN, "02 00 0000008E", EXCSAT_ALONE, ACCSEC, SECCHK_ALONE, ACCRDB];
+const CONNECTS: [&str; 6] = [
+    OPEN,
+    "02 00 0000008E",
+    EXCSAT_ALONE,
+    ACCSEC,
+    SECCHK_ALONE,
+    ACCRDB,
+];
 
 const CONNECTED: [&str; 6] = [
     OPEN,
@@ -78,7 +87,15 @@ const TEXTS: [(&[&str], &[u8], u32); 4] = [
         1,
     ),
     (
-        &["drdad", "init", "new", "--rdb", "EIGHTEEN_CHARACTER", "--size", "2100001"],
+        &[
+            "drdad",
+            "init",
+            "new",
+            "--rdb",
+            "EIGHTEEN_CHARACTER",
+            "--size",
+            "2100001",
+        ],
         b"formatted 2100001\n",
         1,
     ),
@@ -96,7 +113,11 @@ fn texts_are_written(rt: HostRuntime) -> Result<(), Fail> {
             made,
         } = run_over(rt.alloc(), words, &[]);
         assert_eq!(rt; (status, made), (0, count), "{words:?}");
-        assert_eq!(rt; (out.as_slice(), err.as_slice()), (text, b"".as_slice()), "{words:?}");
+        assert_eq!(rt;
+            (out.as_slice(), err.as_slice()),
+            (text, b"".as_slice()),
+            "{words:?}"
+        );
     }
     Ok(())
 }

@@ -8,9 +8,9 @@ mod jobs;
 #[cfg(test)]
 mod networks;
 #[cfg(test)]
-mod programs;
-#[cfg(test)]
 mod ports;
+#[cfg(test)]
+mod programs;
 #[cfg(test)]
 mod shelves;
 #[cfg(test)]

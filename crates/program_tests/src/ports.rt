@@ -23,7 +23,13 @@ const LISTENERS: [(Network, &[&str], u8, &[u8], &[u8]); 4] = [
         b"listening 4711\n",
         b"drdad: file or device fault\n",
     ),
-    (Network::Taken, TWICE, 2, b"", b"drdad: file or device fault\n"),
+    (
+        Network::Taken,
+        TWICE,
+        2,
+        b"",
+        b"drdad: file or device fault\n",
+    ),
 ];
 
 #[test]
@@ -31,7 +37,11 @@ fn listens_and_serves(rt: HostRuntime) -> Result<(), Fail> {
     for (net, words, status, out, said) in LISTENERS {
         let end = run_on(rt.alloc(), words, net, &[]);
         assert_eq!(rt; end.status, status, "{net:?} {words:?}");
-        assert_eq!(rt; (end.out.as_slice(), end.err.as_slice()), (out, said), "{net:?} {words:?}");
+        assert_eq!(rt;
+            (end.out.as_slice(), end.err.as_slice()),
+            (out, said),
+            "{net:?} {words:?}"
+        );
     }
     Ok(())
 }

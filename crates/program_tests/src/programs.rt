@@ -21,7 +21,15 @@ pub fn run_on(alloc: Global, words: &[&str], net: Network, input: &[u8]) -> Fini
     let mut reader = input;
     let mut out = Vec::new(alloc);
     let mut err = Vec::new(alloc);
-    let status = run_words(alloc, words, &mut files, &net, &mut reader, &mut out, &mut err);
+    let status = run_words(
+        alloc,
+        words,
+        &mut files,
+        &net,
+        &mut reader,
+        &mut out,
+        &mut err,
+    );
     Finished {
         status,
         out,
@@ -44,6 +52,14 @@ pub fn run_streams<R: Read, W: Write>(
 ) -> (u8, Vec<u8>) {
     let mut files = Shelf { alloc, made: 0 };
     let mut err = Vec::new(alloc);
-    let status = run_words(alloc, words, &mut files, &Network::Taken, reader, out, &mut err);
+    let status = run_words(
+        alloc,
+        words,
+        &mut files,
+        &Network::Taken,
+        reader,
+        out,
+        &mut err,
+    );
     (status, err)
 }

@@ -90,10 +90,16 @@ fn tells_of_a_flush_that_fails(rt: HostRuntime) -> Result<(), Fail> {
         let mut out = Unflushed {
             taken: Vec::new(rt.alloc()),
         };
-        assert!(rt; tells_of_fault(rt.alloc(), words, &mut reader, &mut out), "{words:?}");
+        assert!(rt;
+            tells_of_fault(rt.alloc(), words, &mut reader, &mut out),
+            "{words:?}"
+        );
         assert_eq!(rt; out.taken.as_slice(), written, "{words:?}");
         let mut reader = input;
-        assert!(rt; tells_of_fault(rt.alloc(), words, &mut reader, &mut Broken), "{words:?}");
+        assert!(rt;
+            tells_of_fault(rt.alloc(), words, &mut reader, &mut Broken),
+            "{words:?}"
+        );
     }
     Ok(())
 }
