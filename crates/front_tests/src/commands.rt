@@ -1,12 +1,11 @@
 //! Conversations, each answered whole, cut at every place, byte by byte and in other pieces.
 
-use crate::hexadecimal::bytes_of;
-use crate::texts::*;
 use conversation::{Front, Need, Settings, SettingsError};
 use core_calls::{Answer, CoreCall};
 use exchanges::Ask;
 use std::alloc::Global;
 use std::test::Fail;
+use test_bytes::*;
 
 // Who does all that is asked, and has nothing to tell.
 #[derive(Drop)]

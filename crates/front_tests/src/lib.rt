@@ -1,19 +1,7 @@
-//! Tests of conversation, drda_node and drda_program.
+//! Tests of conversation: conversations in pieces, and the order of refusals.
 #![tactic(auto)]
 
 #[cfg(test)]
 mod commands;
 #[cfg(test)]
-mod events;
-#[cfg(test)]
-mod hexadecimal;
-#[cfg(test)]
-mod program;
-#[cfg(test)]
 mod refusals;
-#[cfg(test)]
-mod sql;
-#[cfg(test)]
-mod texts;
-#[cfg(test)]
-mod vectors;

@@ -1,10 +1,9 @@
 //! What a command is refused for, by its stage and by what comes first.
 
 use crate::commands::answer_in_pieces;
-use crate::hexadecimal::bytes_of;
-use crate::texts::*;
 use std::alloc::Global;
 use std::test::Fail;
+use test_bytes::*;
 
 const WHOLE: usize = 1_000_000;
 

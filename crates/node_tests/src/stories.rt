@@ -1,10 +1,11 @@
 //! Statements of conversations side by side, over one core.
 
-use crate::hexadecimal::bytes_of;
-use crate::program::{Finished, run_over};
-use crate::texts::*;
+use crate::endings::ends_so;
+use drda_node::RunEnd;
 use std::alloc::Global;
 use std::test::Fail;
+use test_bytes::*;
+use test_nodes::node_of;
 
 /// What a conversation does. All its commands have the correlator 6.
 #[derive(Clone, Copy)]
@@ -151,9 +152,9 @@ fn is_told(alloc: Global, story: &[Step]) -> Option<bool> {
         push_event(alloc, &mut input, *number, *act)?;
         push_answer(alloc, &mut wanted, *number, *act, replies)?;
     }
-    let words = ["drdad", "pipe", "--rdb", "SHOP", "--user", "ana:pw"];
-    let Finished { status, out, err } = run_over(alloc, &words, &input);
-    Some(status == 0 && err.is_empty() && out.as_slice() == wanted.as_slice())
+    let mut node = node_of(alloc)?;
+    let mut reader = input.as_slice();
+    Some(ends_so(alloc, &mut node, &mut reader, RunEnd::Ended, &wanted))
 }
 
 #[test]

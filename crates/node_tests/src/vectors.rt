@@ -1,9 +1,11 @@
 //! The conversations of tests/vectors, event records in and out, as `tests/vectors_table` writes them.
 
-use crate::hexadecimal::bytes_of;
-use crate::program::{Finished, run_over};
+use crate::endings::ends_so;
+use drda_node::RunEnd;
 use std::alloc::Global;
 use std::test::Fail;
+use test_bytes::bytes_of;
+use test_nodes::node_of;
 
 /// A conversation by its file's name.
 struct Vector {
@@ -12,13 +14,13 @@ struct Vector {
     answers: &'static [&'static str],
 }
 
-// Whether the program answers the records by these, and ends with status 0 and no text.
+// Whether a fresh node answers the records by these, and ends with the last of them.
 fn is_answered(alloc: Global, vector: &Vector) -> Option<bool> {
     let input = bytes_of(alloc, vector.records).ok()?;
     let wanted = bytes_of(alloc, vector.answers).ok()?;
-    let words = ["drdad", "pipe", "--rdb", "SHOP", "--user", "ana:pw"];
-    let Finished { status, out, err } = run_over(alloc, &words, &input);
-    Some(status == 0 && err.is_empty() && out.as_slice() == wanted.as_slice())
+    let mut node = node_of(alloc)?;
+    let mut reader = input.as_slice();
+    Some(ends_so(alloc, &mut node, &mut reader, RunEnd::Ended, &wanted))
 }
 
 #[test]

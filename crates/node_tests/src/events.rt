@@ -1,41 +1,41 @@
 //! Streams of event records, and what answers them.
 
-use crate::hexadecimal::bytes_of;
-use crate::texts::{BARE_EXCSAT, BARE_EXCSATRD};
-use conversation::Settings;
+use crate::endings::ends_so;
+use drda_disk::MemDisk;
 use drda_node::*;
 use std::alloc::Global;
 use std::io::{self, ErrorKind, Read, Write};
 use std::test::Fail;
+use test_bytes::{BARE_EXCSAT, BARE_EXCSATRD, bytes_of};
+use test_nodes::node_of;
 
-fn node_of(alloc: Global) -> Option<Node> {
-    let settings = Settings::new(alloc, "ana", "pw", "SHOP").ok()?;
-    Node::start(alloc, settings).ok()
-}
-
-// Whether a fresh node ends so over a reader, and has written just this then.
-fn ends_so<R: Read>(alloc: Global, reader: &mut R, end: RunEnd, answers: &[u8]) -> Option<bool> {
-    let mut node = node_of(alloc)?;
-    let mut written = Vec::new(alloc);
-    let ended = run(alloc, &mut node, reader, &mut written);
-    Some(ended == end && written.as_slice() == answers)
-}
-
-fn is_served(alloc: Global, input: &[&str], end: RunEnd, answers: &[&str]) -> Option<bool> {
-    let input = bytes_of(alloc, input).ok()?;
-    let answers = bytes_of(alloc, answers).ok()?;
+// Whether these records are answered so, and then that the conversation is lost.
+fn is_served(
+    alloc: Global,
+    node: &mut Node<MemDisk>,
+    input: &[&str],
+    answers: &[&str],
+) -> Option<bool> {
+    let mut input = bytes_of(alloc, input).ok()?;
+    let mut answers = bytes_of(alloc, answers).ok()?;
+    for records in [&mut input, &mut answers] {
+        records.extend_from_slice(&LOST).ok()?;
+    }
     let mut reader = input.as_slice();
-    ends_so(alloc, &mut reader, end, &answers)
+    Some(ends_so(alloc, node, &mut reader, RunEnd::Ended, &answers))
 }
 
 #[test]
 fn answers_streams_of_events(rt: HostRuntime) -> Result<(), Fail> {
+    let mut node = node_of(rt.alloc()).ok_or("memory")?;
     for (input, answers) in STREAMS {
-        let served = is_served(rt.alloc(), input, RunEnd::Ended, answers);
+        let served = is_served(rt.alloc(), &mut node, input, answers);
         assert_eq!(rt; served, Some(true), "{input:?}");
     }
     Ok(())
 }
+
+const LOST: [u8; 6] = [3, 0, 0, 0, 0, 0];
 
 const OPEN: &str = "01 00 00000000";
 
@@ -113,120 +113,153 @@ const STREAMS: [(&[&str], &[&str]); 9] = [
             "0200 00000015 0015 D002 0001 000F 124C 0006 1149 0008 0005 114A 18 0500 00000000",
         ],
     ),
-    (&[], &[]),
+    (&[OPEN], &[OPEN]),
     // Events of numbers that can't be opened or are not open; a checkpoint of any number.
     (
         &[
+            OPEN,
             "0140 00000000 0205 00000001 09 0305 00000000 0105 00000000 0105 00000000 03FF 00000000",
             "04C8 00000000 0305 00000000 0205 00000000 0105 00000000",
         ],
         &[
+            OPEN,
             "0640 00000001 01 0605 00000001 02 0605 00000001 02 0105 00000000 0605 00000001 01",
             "06FF 00000001 02 04C8 00000001 00 0305 00000000 0605 00000001 02 0105 00000000",
         ],
     ),
 ];
 
+// Conversation 7 opens, these bytes come in one record, and it is lost.
+fn push_input(records: &mut Vec<u8>, bytes: &[u8]) -> Option<()> {
+    let size = u8::try_from(bytes.len()).ok()?;
+    records
+        .extend_from_slice(&[1, 7, 0, 0, 0, 0, 2, 7, 0, 0, 0, size])
+        .ok()?;
+    records.extend_from_slice(bytes).ok()?;
+    records.extend_from_slice(&[3, 7, 0, 0, 0, 0]).ok()
+}
+
+fn push_answers(records: &mut Vec<u8>, reply: &[u8], is_closed: bool) -> Option<()> {
+    let size = u8::try_from(reply.len()).ok()?;
+    records
+        .extend_from_slice(&[1, 7, 0, 0, 0, 0, 2, 7, 0, 0, 0, size])
+        .ok()?;
+    records.extend_from_slice(reply).ok()?;
+    if is_closed {
+        records.extend_from_slice(&[5, 7, 0, 0, 0, 0]).ok()?;
+    }
+    records.extend_from_slice(&[3, 7, 0, 0, 0, 0]).ok()
+}
+
 // Whether a front of a command is answered by nothing, and by the reply from so many bytes on.
 fn is_answered_at(
     alloc: Global,
-    command: &str,
-    reply: &str,
-    enough: usize,
-    is_closed: bool,
+    node: &mut Node<MemDisk>,
+    (command, reply, enough, is_closed): Cut,
 ) -> Option<bool> {
     let command = bytes_of(alloc, &[command]).ok()?;
     let reply = bytes_of(alloc, &[reply]).ok()?;
+    let mut input = Vec::new(alloc);
+    let mut answers = Vec::new(alloc);
     for size in 0..=command.len() {
-        let reply = if size >= enough {
-            reply.as_slice()
+        push_input(&mut input, &command[..size])?;
+        if size >= enough {
+            push_answers(&mut answers, &reply, is_closed)?;
         } else {
-            &[]
-        };
-        let answers = answers_of(alloc, reply, is_closed && size >= enough)?;
-        let input = input_of(alloc, &command[..size])?;
-        let mut reader = input.as_slice();
-        if !ends_so(alloc, &mut reader, RunEnd::Ended, &answers)? {
-            return Some(false);
+            push_answers(&mut answers, &[], false)?;
         }
     }
-    Some(true)
+    let mut reader = input.as_slice();
+    Some(ends_so(alloc, node, &mut reader, RunEnd::Ended, &answers))
 }
 
-// Conversation 7 opens, and these bytes come in one record.
-fn input_of(alloc: Global, bytes: &[u8]) -> Option<Vec<u8>> {
-    let size = u8::try_from(bytes.len()).ok()?;
-    let mut input = Vec::from_slice(alloc, &[1, 7, 0, 0, 0, 0, 2, 7, 0, 0, 0, size]).ok()?;
-    input.extend_from_slice(bytes).ok()?;
-    Some(input)
-}
-
-fn answers_of(alloc: Global, reply: &[u8], is_closed: bool) -> Option<Vec<u8>> {
-    let mut answers = input_of(alloc, reply)?;
-    if is_closed {
-        answers.extend_from_slice(&[5, 7, 0, 0, 0, 0]).ok()?;
-    }
-    Some(answers)
-}
+/// A command, its reply, how many bytes are enough for it, and whether the conversation is closed then.
+type Cut = (&'static str, &'static str, usize, bool);
 
 #[test]
 fn answers_with_the_last_byte(rt: HostRuntime) -> Result<(), Fail> {
-    for (command, reply, enough, is_closed) in [
-        (BARE_EXCSAT, BARE_EXCSATRD, 10, false),
-        (
-            "000A D001 0001 0003 1041",
-            "0015 D002 0001 000F 124C 0006 1149 0008 0005 114A 07",
-            10,
-            false,
-        ),
-        (
-            "000F D001 0001 0009 1041 0006 115E C1",
-            "0015 D002 0001 000F 124C 0006 1149 0008 0005 114A 08",
-            15,
-            false,
-        ),
-        (
-            "0012 D001 0001 000C 1041 0004 1404 0004 1404",
-            "0015 D002 0001 000F 124C 0006 1149 0008 0005 114A 12",
-            18,
-            false,
-        ),
-        (
-            "000A D101 0001 0004 1041",
-            "0015 D002 0001 000F 124C 0006 1149 0008 0005 114A 03",
-            6,
-            true,
-        ),
-    ] {
-        let answered = is_answered_at(rt.alloc(), command, reply, enough, is_closed);
-        assert_eq!(rt; answered, Some(true), "{command}");
+    let mut node = node_of(rt.alloc()).ok_or("memory")?;
+    for cut in CUTS {
+        let answered = is_answered_at(rt.alloc(), &mut node, cut);
+        assert_eq!(rt; answered, Some(true), "{}", cut.0);
     }
     Ok(())
 }
 
+const CUTS: [Cut; 5] = [
+    (BARE_EXCSAT, BARE_EXCSATRD, 10, false),
+    (
+        "000A D001 0001 0003 1041",
+        "0015 D002 0001 000F 124C 0006 1149 0008 0005 114A 07",
+        10,
+        false,
+    ),
+    (
+        "000F D001 0001 0009 1041 0006 115E C1",
+        "0015 D002 0001 000F 124C 0006 1149 0008 0005 114A 08",
+        15,
+        false,
+    ),
+    (
+        "0012 D001 0001 000C 1041 0004 1404 0004 1404",
+        "0015 D002 0001 000F 124C 0006 1149 0008 0005 114A 12",
+        18,
+        false,
+    ),
+    (
+        "000A D101 0001 0004 1041",
+        "0015 D002 0001 000F 124C 0006 1149 0008 0005 114A 03",
+        6,
+        true,
+    ),
+];
+
+// What is no event.
+const STRAYS: [&str; 9] = [
+    "0000 00000000",
+    "0500 00000000",
+    "0100 00000001 00",
+    "0300 00000001",
+    "0400 01000000",
+    "0200 00010001",
+    "0200 00000002 07",
+    "0100 000000",
+    "01",
+];
+
+// A conversation of its own for each of them.
 #[test]
 fn stops_at_bytes_of_no_event(rt: HostRuntime) -> Result<(), Fail> {
-    for end in [
-        "0000 00000000",
-        "0500 00000000",
-        "0100 00000001 00",
-        "0300 00000001",
-        "0400 01000000",
-        "0200 00010001",
-        "0200 00000002 07",
-        "0100 000000",
-        "01",
-    ] {
-        let input = [OPEN, "02 00 0000000A", BARE_EXCSAT, end];
-        let answers = [OPEN, "02 00 00000031", BARE_EXCSATRD];
-        let stopped = is_served(rt.alloc(), &input, RunEnd::BadEvent, &answers);
-        assert_eq!(rt; stopped, Some(true), "{end}");
+    let mut node = node_of(rt.alloc()).ok_or("memory")?;
+    for (number, stray) in STRAYS.iter().enumerate() {
+        let stopped = stops_at(rt.alloc(), &mut node, number, stray);
+        assert_eq!(rt; stopped, Some(true), "{stray}");
     }
     Ok(())
+}
+
+fn stops_at(alloc: Global, node: &mut Node<MemDisk>, number: usize, stray: &str) -> Option<bool> {
+    let (mut input, answers) = records_of(alloc, u8::try_from(number).ok()?)?;
+    input
+        .extend_from_slice(&bytes_of(alloc, &[stray]).ok()?)
+        .ok()?;
+    let mut reader = input.as_slice();
+    Some(ends_so(alloc, node, &mut reader, RunEnd::BadEvent, &answers))
+}
+
+// A conversation of this number opens and sends EXCSAT; and what answers this.
+fn records_of(alloc: Global, number: u8) -> Option<(Vec<u8>, Vec<u8>)> {
+    let mut input = bytes_of(alloc, &[OPEN, "02 00 0000000A", BARE_EXCSAT]).ok()?;
+    let mut answers = bytes_of(alloc, &[OPEN, "02 00 00000031", BARE_EXCSATRD]).ok()?;
+    for records in [&mut input, &mut answers] {
+        *records.get_mut(1)? = number;
+        *records.get_mut(7)? = number;
+    }
+    Some((input, answers))
 }
 
 // 63 conversations more, each with a name of its own.
-fn open_others(node: &mut Node, first: ConversationId) -> Option<bool> {
+fn open_others(node: &mut Node<MemDisk>, first: ConversationId) -> Option<bool> {
     for _ in 1..64 {
         let id = node.open_conversation().ok()?;
         if id == first || !node.is_open(id) || !node.is_open(first) {
@@ -251,20 +284,20 @@ fn opens_sixty_four_conversations(rt: HostRuntime) -> Result<(), Fail> {
     Ok(())
 }
 
-// What became of these bytes of a new conversation, and what they were answered.
-fn fed_with(alloc: Global, bytes: &[u8]) -> Option<(Fed, Vec<u8>)> {
-    let mut node = node_of(alloc)?;
+// What became of these bytes of a new conversation.
+fn fed_with(alloc: Global, node: &mut Node<MemDisk>, text: &str) -> Option<Fed> {
+    let bytes = bytes_of(alloc, &[text]).ok()?;
     let id = node.open_conversation().ok()?;
     let mut out = Vec::new(alloc);
     if !node.is_open(id) {
         return None;
     }
-    let fed = node.feed(id, bytes, &mut out);
-    Some((fed, out))
+    Some(node.feed(id, &bytes, &mut out))
 }
 
 #[test]
 fn takes_bytes_up_to_a_faulty_header(rt: HostRuntime) -> Result<(), Fail> {
+    let mut node = node_of(rt.alloc()).ok_or("memory")?;
     for (text, taken, state) in [
         (BARE_EXCSAT, 10, FedState::Open),
         ("000A D001 0001 0004", 8, FedState::Open),
@@ -277,9 +310,8 @@ fn takes_bytes_up_to_a_faulty_header(rt: HostRuntime) -> Result<(), Fail> {
         ),
         ("800A D001 0001 0004 1041 0002 0004", 12, FedState::Closed),
     ] {
-        let bytes = bytes_of(rt.alloc(), &[text])?;
-        let (fed, _) = fed_with(rt.alloc(), &bytes).ok_or("memory")?;
-        assert_eq!(rt; fed, Fed { taken, state }, "{text}");
+        let fed = fed_with(rt.alloc(), &mut node, text);
+        assert_eq!(rt; fed, Some(Fed { taken, state }), "{text}");
     }
     Ok(())
 }
@@ -299,6 +331,7 @@ impl Read for OneByOne<'_> {
 
 #[test]
 fn reads_byte_by_byte(rt: HostRuntime) -> Result<(), Fail> {
+    let mut node = node_of(rt.alloc()).ok_or("memory")?;
     // One record of 4,000 bytes: 400 times EXCSAT.
     let mut input = bytes_of(rt.alloc(), &[OPEN, "02 00 00000FA0"])?;
     let mut answers = bytes_of(rt.alloc(), &[OPEN, "02 00 00004C90"])?;
@@ -307,13 +340,13 @@ fn reads_byte_by_byte(rt: HostRuntime) -> Result<(), Fail> {
         answers.extend_from_slice(&bytes_of(rt.alloc(), &[BARE_EXCSATRD])?)?;
     }
     let mut reader = OneByOne { bytes: &input };
-    let served = ends_so(rt.alloc(), &mut reader, RunEnd::Ended, &answers);
-    assert_eq!(rt; served, Some(true));
+    assert!(rt; ends_so(rt.alloc(), &mut node, &mut reader, RunEnd::Ended, &answers));
     Ok(())
 }
 
 #[test]
 fn serves_thousands_of_events(rt: HostRuntime) -> Result<(), Fail> {
+    let mut node = node_of(rt.alloc()).ok_or("memory")?;
     let mut input = Vec::new(rt.alloc());
     let mut answers = Vec::new(rt.alloc());
     for _ in 0..4000 {
@@ -321,8 +354,7 @@ fn serves_thousands_of_events(rt: HostRuntime) -> Result<(), Fail> {
         answers.extend_from_slice(&[4, 9, 0, 0, 0, 1, 0])?;
     }
     let mut reader = input.as_slice();
-    let served = ends_so(rt.alloc(), &mut reader, RunEnd::Ended, &answers);
-    assert_eq!(rt; served, Some(true));
+    assert!(rt; ends_so(rt.alloc(), &mut node, &mut reader, RunEnd::Ended, &answers));
     Ok(())
 }
 
@@ -343,11 +375,18 @@ impl Read for Failing<'_> {
 
 #[test]
 fn tells_of_a_reader_that_fails(rt: HostRuntime) -> Result<(), Fail> {
-    let input = bytes_of(rt.alloc(), &[OPEN, "02 00 0000000A", BARE_EXCSAT])?;
-    let answers = bytes_of(rt.alloc(), &[OPEN, "02 00 00000031", BARE_EXCSATRD])?;
+    let mut node = node_of(rt.alloc()).ok_or("memory")?;
+    let (input, answers) = records_of(rt.alloc(), 0).ok_or("memory")?;
     let mut reader = Failing { bytes: &input };
-    let served = ends_so(rt.alloc(), &mut reader, RunEnd::ReadFault, &answers);
-    assert_eq!(rt; served, Some(true));
+    assert!(rt;
+        ends_so(
+            rt.alloc(),
+            &mut node,
+            &mut reader,
+            RunEnd::ReadFault,
+            &answers
+        )
+    );
     Ok(())
 }
 
@@ -373,23 +412,25 @@ impl Write for Full {
     }
 }
 
-fn fails_behind(alloc: Global, input: &[u8], answers: &[u8]) -> Option<bool> {
-    let mut node = node_of(alloc)?;
-    let mut reader = input;
+// Whether it fails behind so many bytes.
+fn fails_behind(alloc: Global, node: &mut Node<MemDisk>, room: u8) -> Option<bool> {
+    let (input, answers) = records_of(alloc, room)?;
+    let room = usize::from(room);
+    let mut reader = input.as_slice();
     let mut writer = Full {
         taken: Vec::new(alloc),
-        room: answers.len(),
+        room,
     };
-    let end = run(alloc, &mut node, &mut reader, &mut writer);
-    Some(end == RunEnd::WriteFault && writer.taken.as_slice() == answers)
+    let end = run(alloc, node, &mut reader, &mut writer);
+    Some(end == RunEnd::WriteFault && Some(writer.taken.as_slice()) == answers.get(..room))
 }
 
+// A conversation of its own for each count of bytes that are written: the answers have 61.
 #[test]
 fn tells_of_a_writer_that_fails(rt: HostRuntime) -> Result<(), Fail> {
-    let input = bytes_of(rt.alloc(), &[OPEN, "02 00 0000000A", BARE_EXCSAT])?;
-    let answers = bytes_of(rt.alloc(), &[OPEN, "02 00 00000031", BARE_EXCSATRD])?;
-    for room in 0..answers.len() {
-        let failed = fails_behind(rt.alloc(), &input, &answers[..room]);
+    let mut node = node_of(rt.alloc()).ok_or("memory")?;
+    for room in 0..61 {
+        let failed = fails_behind(rt.alloc(), &mut node, room);
         assert_eq!(rt; failed, Some(true), "{room}");
     }
     Ok(())

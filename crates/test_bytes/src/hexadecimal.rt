@@ -57,14 +57,20 @@ fn push_word(bytes: &mut Vec<u8>, word: &str) -> Result<(), AllocError> {
     push_repeated(bytes, last, count_in(count.as_bytes()))
 }
 
-/// The bytes of these texts, one after the other: pairs of hexadecimal digits, and XX*N for the byte
-/// XX, N times, before a blank or the end.
-pub fn bytes_of(alloc: Global, texts: &[&str]) -> Result<Vec<u8>, AllocError> {
-    let mut bytes = Vec::new(alloc);
+/// Appends the bytes of these texts, one after the other: pairs of hexadecimal digits, and XX*N for the
+/// byte XX, N times, before a blank or the end. Where memory is refused, some bytes may be appended.
+pub fn push_texts(bytes: &mut Vec<u8>, texts: &[&str]) -> Result<(), AllocError> {
     for text in texts {
         for word in text.split_ascii_whitespace() {
-            push_word(&mut bytes, word)?;
+            push_word(bytes, word)?;
         }
     }
+    Ok(())
+}
+
+/// The bytes of these texts, as `push_texts` appends them.
+pub fn bytes_of(alloc: Global, texts: &[&str]) -> Result<Vec<u8>, AllocError> {
+    let mut bytes = Vec::new(alloc);
+    push_texts(&mut bytes, texts)?;
     Ok(bytes)
 }

@@ -1,0 +1,11 @@
+//! Tests of drda_node: events and conversations side by side, over a store on a disk in memory.
+#![tactic(auto)]
+
+#[cfg(test)]
+mod endings;
+#[cfg(test)]
+mod events;
+#[cfg(test)]
+mod stories;
+#[cfg(test)]
+mod vectors;

@@ -1,0 +1,123 @@
+//! Jobs that are done.
+
+use crate::programs::{Finished, run_over};
+use std::alloc::Global;
+use std::test::Fail;
+use test_bytes::*;
+
+// Whether the program over these words and event records ends with this status and these answers, and
+// says this.
+fn is_finished(
+    alloc: Global,
+    words: &[&str],
+    (input, answers): (&[&str], &[&str]),
+    (status, said): (u8, &[u8]),
+) -> Option<bool> {
+    let input = bytes_of(alloc, input).ok()?;
+    let answers = bytes_of(alloc, answers).ok()?;
+    let end = run_over(alloc, words, &input);
+    Some(
+        end.status == status
+            && end.out.as_slice() == answers.as_slice()
+            && end.err.as_slice() == said,
+    )
+}
+
+const OPEN: &str = "01 00 00000000";
+
+const PIPES: [&[&str]; 4] = [
+    &["drdad", "pipe", "--user", "ana:pw", "--rdb", "SHOP"],
+    &["drdad", "pipe", "store", "--user", "ana:pw"],
+    &[
+        "drdad", "pipe", "store", "--rdb", "OTHER", "--user", "ana:pw",
+    ],
+    &["drdad", "pipe", "doubt", "--user", "ana:pw"],
+];
+
+// A conversation that opens the database SHOP, and behind it nothing or what is no event.
+const CONNECTS: [&str; 6] = [
+    OPEN,
+    "02 00 0000008E",
+    EXCSAT_ALONE,
+    ACCSEC,
+    SECCHK_ALONE,
+    ACCRDB,
+];
+
+const CONNECTED: [&str; 6] = [
+    OPEN,
+    "02 00 000000A3",
+    EXCSATRD_ALONE,
+    ACCSECRD,
+    SECCHKRM_ALONE,
+    ACCRDBRM,
+];
+
+const ENDS: [(&str, u8, &[u8]); 2] = [("", 0, b""), ("09", 4, b"drdad: bad event\n")];
+
+#[test]
+fn pipes_events(rt: HostRuntime) -> Result<(), Fail> {
+    let [open, head, a, b, c, d] = CONNECTS;
+    for words in PIPES {
+        for (behind, status, said) in ENDS {
+            let input = [open, head, a, b, c, d, behind];
+            let done = is_finished(rt.alloc(), words, (&input, &CONNECTED), (status, said));
+            assert_eq!(rt; done, Some(true), "{words:?} {behind}");
+        }
+    }
+    Ok(())
+}
+
+// The password has a colon; the database is the one of the default name.
+#[test]
+fn splits_at_the_first_colon(rt: HostRuntime) -> Result<(), Fail> {
+    let words = ["drdad", "pipe", "--user", "ana:p:w"];
+    let input = [OPEN, "02 00 0000000A", BARE_EXCSAT];
+    let answers = [OPEN, "02 00 00000031", BARE_EXCSATRD];
+    let done = is_finished(rt.alloc(), &words, (&input, &answers), (0, b""));
+    assert_eq!(rt; done, Some(true));
+    Ok(())
+}
+
+// Jobs that write a text, and how many files they make.
+const TEXTS: [(&[&str], &[u8], u32); 4] = [
+    (
+        &["drdad", "init", "new", "--size", "2097152", "--rdb", "SHOP"],
+        b"formatted 2097152\n",
+        1,
+    ),
+    (
+        &[
+            "drdad",
+            "init",
+            "new",
+            "--rdb",
+            "EIGHTEEN_CHARACTER",
+            "--size",
+            "2100001",
+        ],
+        b"formatted 2100001\n",
+        1,
+    ),
+    (&["drdad", "indoubt", "store"], b"", 0),
+    (&["drdad", "indoubt", "doubt"], b"1 47 42\n", 0),
+];
+
+#[test]
+fn texts_are_written(rt: HostRuntime) -> Result<(), Fail> {
+    for (words, text, count) in TEXTS {
+        let Finished {
+            status,
+            out,
+            err,
+            made,
+        } = run_over(rt.alloc(), words, &[]);
+        assert_eq!(rt; (status, made), (0, count), "{words:?}");
+        assert_eq!(rt;
+            (out.as_slice(), err.as_slice()),
+            (text, b"".as_slice()),
+            "{words:?}"
+        );
+    }
+    Ok(())
+}

@@ -1,0 +1,79 @@
+//! Files in memory.
+
+use drda_disk::{Disk, FileFault, MemDisk};
+use drda_program::StoreFiles;
+use std::alloc::Global;
+use test_bytes::{ACCRDB, ACCSEC, EXCSAT_ALONE, RDBCMM, SECCHK_ALONE, bytes_of};
+use test_nodes::{fresh_store, node_of};
+
+const TWO_MIB: usize = 2_097_152;
+
+/// Files by their names: `store` is a fresh store SHOP, `doubt` one with a unit in doubt, `zeros` none at
+/// all, and `damaged` one whose journal begins with a record of an unknown kind. The one that can be made
+/// is `new`.
+#[derive(Drop)]
+pub struct Shelf {
+    pub alloc: Global,
+    /// How many files were made.
+    pub made: u32,
+}
+
+impl StoreFiles for Shelf {
+    type Disk = MemDisk;
+
+    fn create(&mut self, path: &str, size: usize) -> Result<MemDisk, FileFault> {
+        if path != "new" {
+            return Err(FileFault::InUse);
+        }
+        self.made = self.made.wrapping_add(1);
+        MemDisk::new(self.alloc, size).ok().ok_or(FileFault::InUse)
+    }
+
+    fn open(&mut self, path: &str) -> Result<MemDisk, FileFault> {
+        let disk = match path {
+            "store" => fresh_store(self.alloc),
+            "doubt" => in_doubt(self.alloc),
+            "zeros" => MemDisk::new(self.alloc, TWO_MIB).ok(),
+            "damaged" => damaged(self.alloc),
+            _ => None,
+        };
+        disk.ok_or(FileFault::InUse)
+    }
+}
+
+fn damaged(alloc: Global) -> Option<MemDisk> {
+    let mut disk = fresh_store(alloc)?;
+    if disk.size() < 16_390 {
+        return None;
+    }
+    disk.write_at(16_384, &[0xA5, 9, 0, 0, 0, 0]).ok()?;
+    Some(disk)
+}
+
+// A table, and a branch of the format 1 with the global part 47 and the branch part 42 that inserts a row
+// and is prepared.
+const DOUBTFUL: [&str; 10] = [
+    EXCSAT_ALONE,
+    ACCSEC,
+    SECCHK_ALONE,
+    ACCRDB,
+    "000A D051 0006 0004 200A 0044 D003 0006 003E 2414 00 00000034
+    435245415445205441424C45205420284B20494E5445474552204E4F54204E554C4C2C205052494D415259204B455920284B2929 FF",
+    RDBCMM,
+    "0021 D001 0010 001B 1055 0005 1187 09 0012 1801 00000001 00000001 00000001 4742",
+    "000A D051 0006 0004 200A 0028 D003 0006 0022 2414 00 00000018
+    494E5345525420494E544F20542056414C55455320283129 FF",
+    "0029 D001 0010 0023 1055 0005 1187 0B 0012 1801 00000001 00000001 00000001 4742 0008 1903 04000000",
+    "0021 D001 0010 001B 1055 0005 1187 01 0012 1801 00000001 00000001 00000001 4742",
+];
+
+fn in_doubt(alloc: Global) -> Option<MemDisk> {
+    let mut node = node_of(alloc)?;
+    let id = node.open_conversation().ok()?;
+    let bytes = bytes_of(alloc, &DOUBTFUL).ok()?;
+    if !node.is_open(id) {
+        return None;
+    }
+    let _ = node.feed(id, &bytes, &mut Vec::new(alloc));
+    Some(node.into_core().into_disk())
+}

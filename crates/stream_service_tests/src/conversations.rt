@@ -1,0 +1,98 @@
+//! Conversations that are heard whole, one after the other.
+
+use crate::sentences::*;
+use crate::streams::OneByOne;
+use drda_disk::MemDisk;
+use drda_node::Node;
+use std::alloc::Global;
+use std::test::Fail;
+use stream_service::{Served, serve_one};
+use test_bytes::*;
+use test_nodes::node_of;
+
+const CONNECT: [&str; 4] = [EXCSAT_ALONE, ACCSEC, SECCHK_ALONE, ACCRDB];
+
+const CONNECTED: [&str; 4] = [EXCSATRD_ALONE, ACCSECRD, SECCHKRM_ALONE, ACCRDBRM];
+
+// Whether a conversation that opens the database and sends these bytes is done with these answers. They
+// come as many at a time as there are, or byte by byte.
+fn is_done(
+    alloc: Global,
+    node: &mut Node<MemDisk>,
+    is_slow: bool,
+    (requests, replies): (&[&str], &[&str]),
+) -> Option<bool> {
+    let mut input = bytes_of(alloc, &CONNECT).ok()?;
+    let mut wanted = bytes_of(alloc, &CONNECTED).ok()?;
+    push_texts(&mut input, requests).ok()?;
+    push_texts(&mut wanted, replies).ok()?;
+    let mut out = Vec::new(alloc);
+    let served = if is_slow {
+        let mut reader = OneByOne {
+            bytes: &input,
+            fails: false,
+        };
+        serve_one(alloc, node, &mut reader, &mut out)
+    } else {
+        let mut reader = input.as_slice();
+        serve_one(alloc, node, &mut reader, &mut out)
+    };
+    Some(served == Served::Done && out.as_slice() == wanted.as_slice())
+}
+
+// Conversations over one node, in this order.
+const TALKS: [(&[&str], &[&str]); 7] = [
+    (&[], &[]),
+    (&[CREATE, RDBCMM], &[CREATED, COMMITTED]),
+    // A unit of work that is left open is gone with its conversation.
+    (&[INSERT], &[FIRST_INSERTED]),
+    (&[INSERT], &[FIRST_INSERTED]),
+    (&[PREPARE, QUERY, RDBCMM], &[PREPARED, NO_ROW, COMMITTED]),
+    (
+        &[INSERT, RDBCMM, PREPARE, QUERY],
+        &[FIRST_INSERTED, COMMITTED, PREPARED, ONE_ROW],
+    ),
+    // Nothing is heard behind a fault of the framing, and half a command at the end is not done.
+    (
+        &["000A D101 0006 0004 200E", INSERT],
+        &["0015 D002 0006 000F 124C 0006 1149 0008 0005 114A 03"],
+    ),
+];
+
+#[test]
+fn conversations_follow_each_other(rt: HostRuntime) -> Result<(), Fail> {
+    for is_slow in [false, true] {
+        let mut node = node_of(rt.alloc()).ok_or("memory")?;
+        for talk in TALKS {
+            let done = is_done(rt.alloc(), &mut node, is_slow, talk);
+            assert_eq!(rt; done, Some(true), "{:?}", talk.0);
+        }
+    }
+    Ok(())
+}
+
+// Whether the insert is cut here, the replies are those to the commands before it, and it is not done.
+fn is_cut(alloc: Global, node: &mut Node<MemDisk>, count: usize) -> Option<bool> {
+    let mut input = bytes_of(alloc, &CONNECT).ok()?;
+    let insert = bytes_of(alloc, &[INSERT]).ok()?;
+    input.extend_from_slice(insert.get(..count)?).ok()?;
+    let wanted = bytes_of(alloc, &CONNECTED).ok()?;
+    let mut reader = input.as_slice();
+    let mut out = Vec::new(alloc);
+    let served = serve_one(alloc, node, &mut reader, &mut out);
+    Some(served == Served::Done && out.as_slice() == wanted.as_slice())
+}
+
+#[test]
+fn half_a_command_is_not_done(rt: HostRuntime) -> Result<(), Fail> {
+    let mut node = node_of(rt.alloc()).ok_or("memory")?;
+    let made = is_done(rt.alloc(), &mut node, false, TALKS[1]);
+    assert_eq!(rt; made, Some(true));
+    for count in 0..55 {
+        let cut = is_cut(rt.alloc(), &mut node, count);
+        assert_eq!(rt; cut, Some(true), "{count}");
+    }
+    let inserted = is_done(rt.alloc(), &mut node, false, TALKS[2]);
+    assert_eq!(rt; inserted, Some(true));
+    Ok(())
+}

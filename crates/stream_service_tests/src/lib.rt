@@ -1,0 +1,11 @@
+//! Tests of stream_service: conversations over streams that are whole, in bytes, and broken.
+#![tactic(auto)]
+
+#[cfg(test)]
+mod conversations;
+#[cfg(test)]
+mod faults;
+#[cfg(test)]
+mod sentences;
+#[cfg(test)]
+mod streams;

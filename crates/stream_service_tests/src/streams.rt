@@ -1,0 +1,42 @@
+//! Streams that give little at a time, and that fail.
+
+use std::io::{self, ErrorKind, Read, Write};
+
+/// A stream that gives a byte at a time, and behind them its end or a fault.
+#[derive(Drop)]
+pub struct OneByOne<'a> {
+    pub bytes: &'a [u8],
+    pub fails: bool,
+}
+
+impl Read for OneByOne<'_> {
+    fn read(&mut self, buffer: &mut [u8]) -> io::Result<usize> {
+        if self.fails && self.bytes.is_empty() {
+            return Err(io::Error::from(ErrorKind::Other));
+        }
+        let size = buffer.len().min(1);
+        self.bytes.read(&mut buffer[..size])
+    }
+}
+
+/// A stream that takes so many bytes, one at a time, and then fails.
+#[derive(Drop)]
+pub struct Full {
+    pub taken: Vec<u8>,
+    pub room: usize,
+}
+
+impl Write for Full {
+    fn write(&mut self, bytes: &[u8]) -> io::Result<usize> {
+        if self.taken.len() >= self.room {
+            return Err(io::Error::from(ErrorKind::Other));
+        }
+        let count = bytes.len().min(1);
+        self.taken.extend_from_slice(&bytes[..count])?;
+        Ok(count)
+    }
+
+    fn flush(&mut self) -> io::Result<()> {
+        Ok(())
+    }
+}
