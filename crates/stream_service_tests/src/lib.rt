@@ -8,4 +8,6 @@ mod faults;
 #[cfg(test)]
 mod sentences;
 #[cfg(test)]
+mod sockets;
+#[cfg(test)]
 mod streams;

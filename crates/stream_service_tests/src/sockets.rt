@@ -1,0 +1,65 @@
+//! A conversation over a socket, both of whose ends are in this process.
+
+use crate::sentences::*;
+use drda_disk::MemDisk;
+use drda_node::Node;
+use std::alloc::Global;
+use std::io::{Read, Write};
+use std::net::{Ipv4Addr, Net, OpenListener, OpenStream, Shutdown, SocketAddr, SocketAddrV4};
+use std::test::Fail;
+use stream_service::{Served, serve_one};
+use test_bytes::*;
+use test_nodes::node_of;
+
+const REQUESTS: [&str; 6] = [
+    EXCSAT_ALONE,
+    ACCSEC,
+    SECCHK_ALONE,
+    ACCRDB,
+    CREATE,
+    RDBCMM,
+];
+
+const REPLIES: [&str; 6] = [
+    EXCSATRD_ALONE,
+    ACCSECRD,
+    SECCHKRM_ALONE,
+    ACCRDBRM,
+    CREATED,
+    COMMITTED,
+];
+
+// Serves the one who waits.
+fn serve<L: OpenListener>(alloc: Global, node: &mut Node<MemDisk>, listener: &L) -> Option<Served>
+where
+    L::Stream: Read + Write + OpenStream,
+{
+    let (mut reader, _) = listener.accept().ok()?;
+    let mut writer = reader.try_clone().ok()?;
+    Some(serve_one(alloc, node, &mut reader, &mut writer))
+}
+
+// What a client is answered that sends this, and then no more.
+fn answers_to<N: Net>(alloc: Global, net: &N, request: &[u8]) -> Option<Vec<u8>> {
+    let address = SocketAddr::V4(SocketAddrV4::new(Ipv4Addr::new(127, 0, 0, 1), 0));
+    let listener = net.bind(address).ok()?;
+    let mut client = net.connect(listener.local_addr().ok()?).ok()?;
+    client.write_all(request).ok()?;
+    client.shutdown(Shutdown::Write).ok()?;
+    let mut node = node_of(alloc)?;
+    if serve(alloc, &mut node, &listener)? != Served::Done {
+        return None;
+    }
+    let mut answers = Vec::new(alloc);
+    client.read_to_end(&mut answers).ok()?;
+    Some(answers)
+}
+
+#[test]
+fn a_conversation_over_a_socket_is_answered(rt: HostRuntime) -> Result<(), Fail> {
+    let request = bytes_of(rt.alloc(), &REQUESTS)?;
+    let wanted = bytes_of(rt.alloc(), &REPLIES)?;
+    let answers = answers_to(rt.alloc(), &rt, &request);
+    assert_eq!(rt; answers.as_deref() == Some(wanted.as_slice()), true);
+    Ok(())
+}
