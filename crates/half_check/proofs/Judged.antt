@@ -1,7 +1,6 @@
 -- A page more that was judged.
-use Rattle.std.proofs.Common.{◌≡◌, ℕ, suc, ◌+◌, ◌*◌, ◌<◌, true, List, [], ◌∷◌, ◌++◌, length, length-append, Option, Some, None, Result, Ok, Err, map, refl, sym, ap, subst, ◌∙◌, arith}
+use Rattle.std.proofs.Common.{◌≡◌, ℕ, ◌+◌, ◌*◌, ◌<◌, List, [], ◌∷◌, ◌++◌, length, length-append, Option, None, Result, Ok, Err, map, refl, sym, ap, subst, ◌∙◌, arith}
 use Rattle.std.specs.Global.{Vec}
-use Rattle.std.proofs.lemmas.List.{map-append}
 use Rattle.drda_words.specs.Place.{part}
 use Rattle.row_values.specs.Schema.{Schema}
 use Rattle.row_pages.specs.Page.{IsPage, Page}
@@ -10,12 +9,11 @@ use Rattle.row_pages.specs.Laying.{HasSome, rows_over}
 use Rattle.row_pages.specs.Keeping.{TellsDamage}
 use Rattle.row_pages.specs.declared.kept.PageFault.{PageFault}
 use Rattle.row_pages.specs.declared.kept.PageFault.TheVariants as fault
-use Rattle.row_pages.specs.declared.page.PageKind.TheVariants as kind
 use Rattle.table_map.specs.Keyed.{copied, first_key, first_keys}
 use Rattle.table_map.specs.Stored.{Places}
 use Rattle.half_check.specs.Errors.{error_at}
 use Rattle.half_check.specs.Judging.{GoesOn, JudgesBytes, JudgesPage, go_on, last_key}
-use Rattle.half_check.specs.Whole.{AreWhole, ChecksTable, IsFirstBad, IsWhole}
+use Rattle.half_check.specs.Whole.{ChecksTable, IsFirstBad}
 use Rattle.half_check.specs.declared.errors.CheckError.{CheckError}
 use Rattle.half_check.specs.declared.errors.CheckError.TheVariants.{NoMemory, DeviceFailed, Damaged}
 use Rattle.half_check.proofs.Rising.{joined, last_joined, parted}

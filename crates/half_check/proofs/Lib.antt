@@ -3,3 +3,4 @@ mod Standing
 mod Whole
 mod Judged
 mod Listed
+mod Written

@@ -1,10 +1,10 @@
 -- The pages of a catalogue, and pages that are none.
-use Rattle.std.proofs.Common.{◌≡◌, ℕ, zero, suc, ◌+◌, ◌*◌, ◌<◌, Bool, true, false, ◌&&◌, ◌==◌, nat_le, List, [], ◌∷◌, ◌++◌, length, length-append, Option, Some, Result, Ok, Err, map, refl, sym, ap, subst, ◌∙◌, arith, append_assoc, append-nil, inl, inr}
+use Rattle.std.proofs.Common.{◌≡◌, ℕ, ◌+◌, ◌*◌, ◌<◌, Bool, true, false, ◌&&◌, ◌==◌, nat_le, List, [], ◌∷◌, ◌++◌, length, length-append, Option, Result, Ok, Err, map, refl, sym, ap, subst, ◌∙◌, arith, append_assoc, append-nil, inl, inr}
 use Rattle.std.specs.Prelude.{unwrap_or}
 use Rattle.std.specs.Global.{Vec}
 use Rattle.std.proofs.lemmas.Bool.{and_from, and_parts}
 use Rattle.drda_words.specs.Place.{part}
-use Rattle.row_pages.specs.Page.{IsPage, Page}
+use Rattle.row_pages.specs.Page.{Page}
 use Rattle.row_pages.specs.Parsing.{OnePage}
 use Rattle.row_pages.specs.declared.page.PageKind.TheVariants as kind
 use Rattle.table_image.specs.Catalogue.{Entry, HasEntries, IsDamagedAt, IsEntryPage, entries_in, entry_of}

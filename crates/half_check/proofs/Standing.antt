@@ -1,10 +1,10 @@
 -- Pages that stand one behind another.
-use Rattle.std.proofs.Common.{◌≡◌, ℕ, zero, suc, ◌+◌, ◌*◌, ◌<◌, List, [], ◌∷◌, ◌++◌, length, refl, sym, ap, subst, ◌∙◌, arith, append_assoc, append-nil}
+use Rattle.std.proofs.Common.{◌≡◌, ℕ, ◌+◌, ◌*◌, ◌<◌, List, [], ◌∷◌, ◌++◌, length, refl, sym, ap, subst, ◌∙◌, arith, append_assoc, append-nil}
 use Rattle.std.specs.List.{AllByRecursion}
 use Rattle.drda_words.specs.Place.{part}
 use Rattle.row_pages.specs.Page.{IsPage, Page}
 use Rattle.row_pages.specs.Parsing.{OnePage}
-use Rattle.row_pages.specs.Laying.{HasSome, rows_over}
+use Rattle.row_pages.specs.Laying.{rows_over}
 use Rattle.row_pages.specs.declared.page.PageKind.TheVariants as kind
 use Rattle.table_map.specs.Keyed.{first_key, first_keys}
 use Rattle.table_map.specs.Stored.{AreAt}

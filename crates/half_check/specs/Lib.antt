@@ -3,3 +3,4 @@ pub mod Whole
 pub mod Listed
 pub mod Judging
 pub mod Errors
+pub mod Written

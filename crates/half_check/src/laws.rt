@@ -1,8 +1,10 @@
 //! Laws of whole and of damaged pages.
 ghost use Rattle.half_check.specs.Listed.{ListedIsNotBad};
+ghost use Rattle.half_check.specs.Written.{WrittenIsListed, WrittenIsWhole};
 ghost use Rattle.half_check.specs.Whole.{OneFirstBad, OneWhole, WholeIsNotBad, WholeIsStored};
 
-use row_pages::one_page;
+use row_pages::{one_laying, one_page};
+use table_image::catalogues_are_read;
 
 /// Pages that are whole have no first bad one.
 pub fn whole_is_not_bad()
@@ -35,4 +37,19 @@ pub fn listed_is_not_bad()
     ensures { ListedIsNotBad }
 {
     one_page();
+}
+
+/// A table that was written is whole, where its rows are rows of the schema.
+pub fn written_is_whole()
+    ensures { WrittenIsWhole }
+{
+    one_laying();
+}
+
+/// A catalogue that was written is whole, where the names of its tables rise and their pages lie one
+/// behind another.
+pub fn written_is_listed()
+    ensures { WrittenIsListed }
+{
+    catalogues_are_read();
 }

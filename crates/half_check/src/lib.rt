@@ -10,6 +10,9 @@ mod rows;
 mod table;
 
 pub use errors::CheckError;
-pub use laws::{listed_is_not_bad, one_first_bad, one_whole, whole_is_not_bad, whole_is_stored};
+pub use laws::{
+    listed_is_not_bad, one_first_bad, one_whole, whole_is_not_bad, whole_is_stored,
+    written_is_listed, written_is_whole,
+};
 pub use listing::check_catalogue;
 pub use table::check_table;

@@ -4,7 +4,7 @@ use half_check::CheckError;
 use row_pages::PageKind::Rows as OfRows;
 use std::test::Fail;
 
-/// Three pages; the second one has 19 bytes before its zeros.
+/// Three pages; the second one has 18 bytes in front of its zeros.
 const PAGES: [Rows; 3] = [
     (OfRows, &[&[0, 0, 1, 255], &[0, 0, 2, 255]]),
     (OfRows, &[&[0, 0, 3, 0, 0, 1, 9], &[0, 0, 5, 255]]),

@@ -1,4 +1,4 @@
-use Rattle.std.proofs.Common.{rules, ◌≡◌, ◌+◌, ◌*◌, ◌∙◌, ℕ, List, Ok, Err, subst, arith}
+use Rattle.std.proofs.Common.{rules, ◌+◌, ◌*◌, ◌∙◌, ℕ, List, Ok, Err, subst, arith}
 use Rattle.drda_words.specs.Place.{part}
 use Rattle.drda_disk.proofs.Moments.{Stays-trans}
 use Rattle.half_check.specs.Judging.{JudgesEntries}

@@ -1,4 +1,4 @@
-use Rattle.std.proofs.Common.{rules, ◌≡◌, ◌+◌, ◌*◌, ◌∙◌, ◌∷◌, ◌++◌, [], ℕ, List, Ok, Err, length, length-append, map, sym, ap, subst, arith}
+use Rattle.std.proofs.Common.{rules, ◌+◌, ◌*◌, ◌∙◌, ◌∷◌, [], ℕ, List, Ok, Err, length, length-append, map, sym, ap, subst, arith}
 use Rattle.std.specs.Global.{Vec}
 use Rattle.std.proofs.lemmas.List.{length-map, map-append}
 use Rattle.table_map.specs.Stored.{Places}

@@ -1,4 +1,4 @@
-use Rattle.std.proofs.Common.{◌≡◌, ℕ, length, map}
+use Rattle.std.proofs.Common.{◌≡◌, length, map}
 use Rattle.std.specs.Prelude.{IsTrue}
 use Rattle.drda_disk.specs.Disk.{Stays}
 use Rattle.row_pages.specs.Keeping.{AreRead}
