@@ -5,9 +5,8 @@ use Rattle.std.proofs.Math.Seq.{take-nil}
 use Rattle.std.proofs.KnownBytes.{Appends-nil, Appends-trans}
 use Rattle.drda_node.specs.declared.serving.RunEnd.{RunEnd}
 use Rattle.drda_node.specs.declared.serving.RunEnd.TheVariants as ends
-use Rattle.command_line.specs.Job.{Job, plain_job}
+use Rattle.command_line.specs.Job.{Job}
 use Rattle.command_line.specs.Reading.{Says, Tells}
-use Rattle.command_line.specs.declared.job.Job.{Job as CodeJob}
 use Rattle.command_line.specs.declared.words.BadWords.{BadWords}
 use Rattle.command_line.specs.declared.words.BadWords.TheVariants as words
 use Rattle.drda_program.specs.Endings.{fault_of_words, line_for, result_for, status_for}
@@ -46,7 +45,6 @@ has_done said job input before now outcome is does = inr (subst (λ (s : Option 
 pub front_of : {E : Type 0} (r : Result (Unit {0}) E) (w w' : Option (List ℕ)) (line : List ℕ) → OnOk r (Appends w w' line) → OnErr r ((count : ℕ) × Appends w w' (take count line)) → (count : ℕ) × Appends w w' (take count line)
 front_of (Ok done) w w' line ok err = (length line, subst (λ (z : List ℕ). Appends w w' z) (sym (take_all (length line) line (le_refl (length line)))) ok)
 front_of (Err e) w w' line ok err = err
-
 
 pub succeeds : (said : Option Job) (input before now err : Option (List ℕ)) → Tried said input before (Ok tt) now → Exits said input before 0 now err err
 succeeds said input before now err does = record {

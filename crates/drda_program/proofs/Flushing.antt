@@ -1,5 +1,5 @@
 -- A flush keeps what was written before.
-use Rattle.std.proofs.Common.{◌≡◌, ◌∙◌, refl, sym, subst, true, ℕ, List, [], ◌∷◌, ◌++◌, take, codes, Option, Some, None, IfErr, IfSome, Result, Ok, Err}
+use Rattle.std.proofs.Common.{◌≡◌, ◌∙◌, sym, subst, true, ℕ, List, [], ◌∷◌, ◌++◌, take, codes, Option, Some, None, IfErr, IfSome, Result, Ok, Err}
 use Rattle.std.specs.Fmt.{decimal}
 use Rattle.std.specs.Io.KnownBytes.{Appends, Keeps}
 use Rattle.conversation.specs.Settings.{Settings}

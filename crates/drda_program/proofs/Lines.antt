@@ -1,5 +1,5 @@
 -- A line of several parts.
-use Rattle.std.proofs.Common.{◌≡◌, ◌∙◌, refl, sym, ap, ap₂, ℕ, List, [], ◌∷◌, ◌++◌, append_assoc}
+use Rattle.std.proofs.Common.{◌≡◌, ◌∙◌, ap, ap₂, ℕ, List, [], ◌∷◌, ◌++◌, append_assoc}
 use Rattle.xa_calls.specs.Xid.{parts_of}
 use Rattle.drda_program.specs.Doubts.{doubt_line, parts_line}
 

@@ -1,5 +1,5 @@
 -- A name that a store may have is one that a database may have.
-use Rattle.std.proofs.Common.{◌≡◌, ◌∙◌, refl, sym, ap, ℕ, Bool, true, false, ◌&&◌, nat_le, List, length}
+use Rattle.std.proofs.Common.{◌≡◌, refl, ℕ, Bool, true, false, ◌&&◌, nat_le, List, length}
 use Rattle.std.specs.List.{list_all}
 use Rattle.conversation.specs.Settings.{is_printable, is_rdb_name}
 use Rattle.half_store.specs.Fresh.{is_name, is_store_of}

@@ -1,4 +1,4 @@
-use Rattle.std.proofs.Common.{◌≡◌, ◌∙◌, sym, subst, inr, List, ℕ, IfErr, Result}
+use Rattle.std.proofs.Common.{◌∙◌, sym, subst, inr, List, ℕ, IfErr, Result}
 use Rattle.command_line.specs.Job.{plain_login}
 use Rattle.drda_program.specs.Program.{settings_of}
 use Rattle.drda_program.specs.Stores.{IsOfRun, RefusesName}
