@@ -18,9 +18,8 @@ fn is_served(
 ) -> Option<bool> {
     let mut input = bytes_of(alloc, input).ok()?;
     let mut answers = bytes_of(alloc, answers).ok()?;
-    for records in [&mut input, &mut answers] {
-        records.extend_from_slice(&LOST).ok()?;
-    }
+    input.extend_from_slice(&LOST).ok()?;
+    answers.extend_from_slice(&LOST).ok()?;
     let mut reader = input.as_slice();
     Some(ends_so(alloc, node, &mut reader, RunEnd::Ended, &answers))
 }
@@ -251,11 +250,16 @@ fn stops_at(alloc: Global, node: &mut Node<MemDisk>, number: usize, stray: &str)
 fn records_of(alloc: Global, number: u8) -> Option<(Vec<u8>, Vec<u8>)> {
     let mut input = bytes_of(alloc, &[OPEN, "02 00 0000000A", BARE_EXCSAT]).ok()?;
     let mut answers = bytes_of(alloc, &[OPEN, "02 00 00000031", BARE_EXCSATRD]).ok()?;
-    for records in [&mut input, &mut answers] {
-        *records.get_mut(1)? = number;
-        *records.get_mut(7)? = number;
-    }
+    set_number(&mut input, number)?;
+    set_number(&mut answers, number)?;
     Some((input, answers))
+}
+
+// The number in the heads of the first two records, of which the first brings no bytes.
+fn set_number(records: &mut Vec<u8>, number: u8) -> Option<()> {
+    *records.get_mut(1)? = number;
+    *records.get_mut(7)? = number;
+    Some(())
 }
 
 // 63 conversations more, each with a name of its own.
