@@ -87,14 +87,7 @@ const UNFIT: [Call; 8] = [
     ),
 ];
 
-const SCRIPTS: [&'static [Call]; 6] = [
-    &COMMITTED,
-    &ROLLED_BACK,
-    &CREATED,
-    &KEPT,
-    &DROPPED,
-    &UNFIT,
-];
+const SCRIPTS: [&'static [Call]; 6] = [&COMMITTED, &ROLLED_BACK, &CREATED, &KEPT, &DROPPED, &UNFIT];
 
 #[test]
 fn units_stand_apart(rt: HostRuntime) {

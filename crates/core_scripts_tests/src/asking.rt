@@ -74,12 +74,12 @@ fn statement<'a>(alloc: Global, text: &'a str) -> Result<Statement<'a>, SqlError
 }
 
 /// Runs a statement with these values for its markers. None without memory.
-pub fn run(
+pub fn run<'t>(
     alloc: Global,
     core: &mut Core<NoRecords>,
     conversation: u64,
-    text: &str,
-    parameters: &[Value<'_>],
+    text: &'t str,
+    parameters: &[Value<'t>],
 ) -> Option<Told> {
     let statement = statement(alloc, text).ok()?;
     let call = CoreCall::Run {
@@ -89,12 +89,7 @@ pub fn run(
     Some(step(core, conversation, &call))
 }
 
-fn query(
-    alloc: Global,
-    core: &mut Core<NoRecords>,
-    conversation: u64,
-    text: &str,
-) -> Option<Told> {
+fn query(alloc: Global, core: &mut Core<NoRecords>, conversation: u64, text: &str) -> Option<Told> {
     let statement = statement(alloc, text).ok()?;
     let call = CoreCall::Query {
         statement: &statement,
@@ -110,14 +105,9 @@ fn numbered(number: [u8; 2]) -> Result<Xid, BadXid> {
 }
 
 /// What is told of the branch of this number.
-pub fn xa(
-    core: &mut Core<NoRecords>,
-    conversation: u64,
-    verb: Verb,
-    number: u16,
-) -> Option<Told> {
+pub fn xa(core: &mut Core<NoRecords>, conversation: u64, verb: Verb, number: u16) -> Option<Told> {
     let request = Request::Branch(verb, numbered(number.to_be_bytes()).ok()?);
-    Some(step(core, conversation, &CoreCall::Xa(Ok(request))))
+    Some(plain(core.xa(conversation, &Ok(request))))
 }
 
 fn given(count: usize) -> &'static [Value<'static>] {
@@ -140,10 +130,10 @@ pub fn ask_one(
         Ask::Query(text) => query(alloc, core, conversation, text),
         Ask::RunWith(text, count) => run(alloc, core, conversation, text, given(count)),
         Ask::Xa(verb, number) => xa(core, conversation, verb, u16::from(number)),
-        Ask::Recover => Some(step(core, conversation, &CoreCall::Xa(Ok(Request::Recover)))),
-        Ask::Commit => Some(step(core, conversation, &CoreCall::Commit)),
-        Ask::RollBack => Some(step(core, conversation, &CoreCall::Rollback)),
-        Ask::Lost => Some(step(core, conversation, &CoreCall::Lost)),
+        Ask::Recover => Some(plain(core.xa(conversation, &Ok(Request::Recover)))),
+        Ask::Commit => Some(plain(core.commit(conversation))),
+        Ask::RollBack => Some(plain(core.roll_back(conversation))),
+        Ask::Lost => Some(plain(core.lose(conversation))),
     }
 }
 

@@ -83,17 +83,9 @@ const FREE: [Call; 0] = [];
 
 const JOINED: [Call; 1] = [(1, Ask::Xa(Verb::Start, 6), Told::Code(0))];
 
-const CLAIMING: [Call; 1] = [(
-    1,
-    Ask::Query("SELECT * FROM T WHERE K = 1"),
-    Told::Rows(1),
-)];
+const CLAIMING: [Call; 1] = [(1, Ask::Query("SELECT * FROM T WHERE K = 1"), Told::Rows(1))];
 
-const CHANGING: [Call; 1] = [(
-    1,
-    Ask::Run("DELETE FROM T WHERE K = 1"),
-    Told::Count(1),
-)];
+const CHANGING: [Call; 1] = [(1, Ask::Run("DELETE FROM T WHERE K = 1"), Told::Count(1))];
 
 type Row = (Verb, [i32; 9]);
 
@@ -181,14 +173,26 @@ const WITH_WORK: [Narrow; 9] = [
 #[test]
 fn answers_who_is_joined_elsewhere(rt: HostRuntime) {
     for (verb, wanted) in WHILE_JOINED {
-        assert_eq!(rt; codes(rt.alloc(), &OTHERS, &JOINED, verb), wanted, "{verb:?}");
+        assert_eq!(rt;
+            codes(rt.alloc(), &OTHERS, &JOINED, verb),
+            wanted,
+            "{verb:?}"
+        );
     }
 }
 
 #[test]
 fn answers_who_has_local_work(rt: HostRuntime) {
     for (verb, wanted) in WITH_WORK {
-        assert_eq!(rt; codes(rt.alloc(), &OTHERS, &CLAIMING, verb), wanted, "{verb:?}");
-        assert_eq!(rt; codes(rt.alloc(), &OTHERS, &CHANGING, verb), wanted, "{verb:?}");
+        assert_eq!(rt;
+            codes(rt.alloc(), &OTHERS, &CLAIMING, verb),
+            wanted,
+            "{verb:?}"
+        );
+        assert_eq!(rt;
+            codes(rt.alloc(), &OTHERS, &CHANGING, verb),
+            wanted,
+            "{verb:?}"
+        );
     }
 }

@@ -78,7 +78,10 @@ fn limits_branches_in_doubt(rt: HostRuntime) {
     assert!(rt; prepares(rt.alloc(), &mut core, 256));
     assert!(rt; puts(rt.alloc(), &mut core, 256));
     assert_eq!(rt; xa(&mut core, 1, Verb::Prepare, 256), Some(Told::Code(-3)));
-    assert_eq!(rt; ask_one(rt.alloc(), &mut core, 2, Ask::Recover), Some(Told::InDoubt(256)));
+    assert_eq!(rt;
+        ask_one(rt.alloc(), &mut core, 2, Ask::Recover),
+        Some(Told::InDoubt(256))
+    );
     assert_eq!(rt; xa(&mut core, 2, Verb::Commit, 7), Some(Told::Code(0)));
     assert_eq!(rt; xa(&mut core, 1, Verb::Prepare, 256), Some(Told::Code(0)));
 }
@@ -98,14 +101,23 @@ fn put_bytes(alloc: Global, core: &mut Core<NoRecords>, key: i64, bytes: &[u8]) 
 fn limits_bytes_of_changes(rt: HostRuntime) {
     let mut core = Core::start(rt.alloc(), NoRecords);
     let text = "CREATE TABLE B (K INT, V VARBINARY(2000), PRIMARY KEY (K))";
-    assert_eq!(rt; run(rt.alloc(), &mut core, 1, text, &[]), Some(Told::Count(0)));
-    assert_eq!(rt; ask_one(rt.alloc(), &mut core, 1, Ask::Commit), Some(Told::Done));
+    assert_eq!(rt;
+        run(rt.alloc(), &mut core, 1, text, &[]),
+        Some(Told::Count(0))
+    );
+    assert_eq!(rt;
+        ask_one(rt.alloc(), &mut core, 1, Ask::Commit),
+        Some(Told::Done)
+    );
     for key in 0..520 {
         let told = put_bytes(rt.alloc(), &mut core, key, &BYTES);
         assert_eq!(rt; told, Some(Told::Count(1)), "row {key}");
     }
     assert_eq!(rt; put_bytes(rt.alloc(), &mut core, 520, &BYTES), Some(LIMIT));
-    assert_eq!(rt; put_bytes(rt.alloc(), &mut core, 520, &LONG), Some(Told::Count(1)));
+    assert_eq!(rt;
+        put_bytes(rt.alloc(), &mut core, 520, &LONG),
+        Some(Told::Count(1))
+    );
     let removed = Ask::Run("DELETE FROM B WHERE K = 1");
     assert_eq!(rt; ask_one(rt.alloc(), &mut core, 1, removed), Some(LIMIT));
 }

@@ -3,7 +3,7 @@
 use crate::calls::Verb;
 
 /// Where a branch stands, with the conversation that was the last to start or join it.
-#[derive(Clone, Copy, PartialEq, Eq, Debug)]
+#[derive(Clone, Copy, PartialEq)]
 pub enum State {
     Active(usize),
     Idle(usize),
@@ -13,7 +13,7 @@ pub enum State {
 }
 
 /// What becomes of the branch and its unit.
-#[derive(Clone, Copy, PartialEq, Eq, Debug)]
+#[derive(Clone, Copy, PartialEq)]
 pub enum Effect {
     Stays,
     Becomes(State),

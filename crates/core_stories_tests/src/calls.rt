@@ -3,7 +3,7 @@
 use crate::statements::Statement;
 
 /// What an XA call asks of a branch.
-#[derive(Clone, Copy, PartialEq, Eq, Debug)]
+#[derive(Clone, Copy, PartialEq)]
 pub enum Verb {
     Start,
     Join,
@@ -24,7 +24,7 @@ pub type Spelled = (u8, Option<&'static [u8]>, Option<Verb>);
 /// of their bytes.
 pub type Branch = (Option<&'static [u8]>, Option<usize>);
 
-#[derive(Clone, Copy, Debug)]
+#[derive(Clone, Copy)]
 pub enum Call {
     Run(Statement),
     Query(Statement),

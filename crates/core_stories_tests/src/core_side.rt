@@ -1,6 +1,6 @@
 //! What the core tells, as plain data.
 
-use crate::calls::{Branch, Call, GOOD, Spelled};
+use crate::calls::{Branch, Call, Spelled};
 use crate::spelling::{marker_values, spelled};
 use crate::statements::Statement as Asked;
 use crate::told::{Cell, Doubts, NO_ROWS, Told};
@@ -10,7 +10,6 @@ use recording::NoRecords;
 use row_values::{RowRef, Value};
 use sql_text::{SqlError, Statement, parse};
 use std::alloc::Global;
-use std::test::Fail;
 use tables::RowList;
 use xa_calls::{Request, Xid};
 
@@ -67,14 +66,14 @@ fn refused(refusal: Refusal) -> Told {
     Told::Refused(is_kept, refusal.fault().code(), *refusal.fault().state())
 }
 
-// The place of an XID among the good ones.
+// The place of an XID among the good ones: their global parts differ.
 fn branch_of(xid: &Xid) -> u8 {
-    for ((text, _), branch) in GOOD.iter().zip([0, 1, 2]) {
-        if *text == Some(xid.as_bytes()) {
-            return branch;
-        }
+    match xid.global() {
+        [0x42] => 0,
+        [0x41, 0x41] => 1,
+        [0x41] => 2,
+        _ => 8,
     }
-    8
 }
 
 fn doubts(xids: &[Xid]) -> Told {
@@ -119,8 +118,16 @@ enum How {
     Describe(Side),
 }
 
-fn call_of<'a, 't>(how: How, statement: &'a Statement<'t>, parameters: &'a [Value<'t>]) -> CoreCall<'a, 't> {
-    match how {
+fn ask_text<'t>(
+    alloc: Global,
+    core: &mut Core<NoRecords>,
+    conversation: u64,
+    how: How,
+    text: &'t str,
+    parameters: &[Value<'t>],
+) -> Option<Told> {
+    let statement = &parsed(alloc, text).ok()?;
+    let call = match how {
         How::Run => CoreCall::Run {
             statement,
             parameters,
@@ -130,7 +137,8 @@ fn call_of<'a, 't>(how: How, statement: &'a Statement<'t>, parameters: &'a [Valu
             parameters,
         },
         How::Describe(side) => CoreCall::Describe { statement, side },
-    }
+    };
+    Some(step(core, conversation, &call))
 }
 
 fn ask(
@@ -139,38 +147,45 @@ fn ask(
     conversation: u64,
     how: How,
     asked: &Asked,
-) -> Result<Told, Fail> {
-    let text = spelled(alloc, asked)?;
-    let statement = parsed(alloc, &text)?;
+) -> Option<Told> {
+    let text = spelled(alloc, asked).ok()?;
     let values = marker_values(asked);
-    let given = match values.get(..asked.bound_count()) {
-        Some(given) => given,
-        None => &[],
-    };
-    let call = call_of(how, &statement, given);
-    Ok(step(core, conversation, &call))
+    let given = values.get(..asked.bound_count())?;
+    ask_text(alloc, core, conversation, how, &text, given)
 }
 
 fn xa(core: &mut Core<NoRecords>, conversation: u64, spelled: &Spelled, branch: &Branch) -> Told {
     let request = Request::read(spelled.0, spelled.1, branch.0);
-    step(core, conversation, &CoreCall::Xa(request))
+    plain(core.xa(conversation, &request))
 }
 
-/// What a conversation is told.
+/// What a conversation is told. None without memory.
 pub fn ask_core(
     alloc: Global,
     core: &mut Core<NoRecords>,
     conversation: u64,
     call: &Call,
-) -> Result<Told, Fail> {
+) -> Option<Told> {
     match call {
         Call::Run(asked) => ask(alloc, core, conversation, How::Run, asked),
         Call::Query(asked) => ask(alloc, core, conversation, How::Query, asked),
-        Call::Columns(asked) => ask(alloc, core, conversation, How::Describe(Side::Output), asked),
-        Call::Parameters(asked) => ask(alloc, core, conversation, How::Describe(Side::Input), asked),
-        Call::Commit => Ok(step(core, conversation, &CoreCall::Commit)),
-        Call::RollBack => Ok(step(core, conversation, &CoreCall::Rollback)),
-        Call::Xa(spelled, branch) => Ok(xa(core, conversation, spelled, branch)),
-        Call::Lost => Ok(step(core, conversation, &CoreCall::Lost)),
+        Call::Columns(asked) => ask(
+            alloc,
+            core,
+            conversation,
+            How::Describe(Side::Output),
+            asked,
+        ),
+        Call::Parameters(asked) => ask(
+            alloc,
+            core,
+            conversation,
+            How::Describe(Side::Input),
+            asked,
+        ),
+        Call::Commit => Some(plain(core.commit(conversation))),
+        Call::RollBack => Some(plain(core.roll_back(conversation))),
+        Call::Xa(spelled, branch) => Some(xa(core, conversation, spelled, branch)),
+        Call::Lost => Some(plain(core.lose(conversation))),
     }
 }

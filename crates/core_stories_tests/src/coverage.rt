@@ -1,8 +1,7 @@
 //! That the random lists come to every kind of answer: by the plain program alone.
 
-use crate::calls::Call;
 use crate::machine::Machine;
-use crate::random::{CREATE, call, conversation};
+use crate::random::nth_call;
 use crate::told::{
     CLAIMED, KEY_EXISTS, NO_COLUMN, NO_TABLE, NOT_PREPARED, NULL_GIVEN, OUT_OF_RANGE, SYNTAX,
     TABLE_EXISTS, Told, WRONG_CLASS, WRONG_PARAMETERS,
@@ -47,11 +46,8 @@ fn hear(counts: &mut Counts, told: Told) {
 
 fn hear_list(counts: &mut Counts, seed: &mut u32, calls: u32) {
     let mut machine = Machine::new();
-    machine.step(0, &Call::Run(CREATE));
-    machine.step(0, &Call::Commit);
-    for _ in 0..calls {
-        let conversation = conversation(seed);
-        let call = call(seed);
+    for at in 0..calls {
+        let (conversation, call) = nth_call(at, seed);
         hear(counts, machine.step(conversation, &call));
     }
 }

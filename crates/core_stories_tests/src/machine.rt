@@ -122,7 +122,12 @@ impl Machine {
         self.kept(owner, &claims, &answer_to(statement, table))
     }
 
-    fn describe(&mut self, conversation: usize, statement: &Statement, of_parameters: bool) -> Told {
+    fn describe(
+        &mut self,
+        conversation: usize,
+        statement: &Statement,
+        of_parameters: bool,
+    ) -> Told {
         if statement.kind == Kind::Create {
             return NOT_PREPARED;
         }

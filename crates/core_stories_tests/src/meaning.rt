@@ -3,7 +3,9 @@
 use crate::statements::{
     Column, Columns, Comparison, Filter, Form, Given, Kind, Literal, Statement, Sum, Test,
 };
-use crate::tables::{Changes, Claims, Edits, KEYS, NAMES, NO_EDITS, Row, Table, WHOLE, key_place, part};
+use crate::tables::{
+    Changes, Claims, Edits, KEYS, NAMES, NO_EDITS, Row, Table, WHOLE, key_place, part,
+};
 use crate::told::{
     Cell, KEY_EXISTS, NO_COLUMN, NO_ROWS, NO_TABLE, NULL_GIVEN, OUT_OF_RANGE, SYNTAX, Shown,
     TABLE_EXISTS, Told, WRONG_CLASS,

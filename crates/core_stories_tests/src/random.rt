@@ -221,8 +221,7 @@ fn described(seed: &mut u32) -> Call {
     }
 }
 
-/// A call.
-pub fn call(seed: &mut u32) -> Call {
+fn call(seed: &mut u32) -> Call {
     match next(seed) % 32 {
         0 | 1 | 2 => Call::Commit,
         3 | 4 => Call::RollBack,
@@ -233,13 +232,21 @@ pub fn call(seed: &mut u32) -> Call {
     }
 }
 
-/// Which of three conversations asks.
-pub fn conversation(seed: &mut u32) -> usize {
+// Which of three conversations asks.
+fn conversation(seed: &mut u32) -> usize {
     (next(seed) % 3) as usize
 }
 
-/// The statement that creates the first table.
-pub const CREATE: Statement = Statement {
+/// Who makes the call of this number in a list, and which: the first two create a table.
+pub fn nth_call(number: u32, seed: &mut u32) -> (usize, Call) {
+    match number {
+        0 => (0, Call::Run(CREATE)),
+        1 => (0, Call::Commit),
+        _ => (conversation(seed), call(seed)),
+    }
+}
+
+const CREATE: Statement = Statement {
     kind: Kind::Create,
     table: 0,
     columns: Columns::All,

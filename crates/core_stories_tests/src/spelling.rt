@@ -1,6 +1,8 @@
 //! The texts of statements, and the values of their markers.
 
-use crate::statements::{Column, Columns, Comparison, Filter, Form, Given, Kind, Literal, Statement, Sum, Test};
+use crate::statements::{
+    Column, Columns, Comparison, Filter, Form, Given, Kind, Literal, Statement, Sum, Test,
+};
 use row_values::Value;
 use std::alloc::{AllocError, Global};
 
@@ -93,7 +95,15 @@ fn head_parts(statement: &Statement) -> [&'static str; 7] {
         Kind::Update => {
             let target = column_text(statement.target);
             let sum = sum_text(statement.sum);
-            ["UPDATE ", table, " SET ", target, " = ", sum, statement.value.text]
+            [
+                "UPDATE ",
+                table,
+                " SET ",
+                target,
+                " = ",
+                sum,
+                statement.value.text,
+            ]
         }
         Kind::Delete => ["DELETE FROM ", table, "", "", "", "", ""],
         Kind::Select => {
@@ -127,7 +137,7 @@ pub fn spelled(alloc: Global, statement: &Statement) -> Result<String, AllocErro
     Ok(text)
 }
 
-fn value_of(given: Given) -> Value<'static> {
+fn value_of<'t>(given: Given) -> Value<'t> {
     match given {
         Given::Null => Value::Null,
         Given::Number(number) => Value::Number(number),
@@ -135,7 +145,7 @@ fn value_of(given: Given) -> Value<'static> {
     }
 }
 
-fn marker_value(literal: Option<Literal>) -> Option<Value<'static>> {
+fn marker_value<'t>(literal: Option<Literal>) -> Option<Value<'t>> {
     match literal {
         Some(literal) if literal.is_marker() => Some(value_of(literal.value)),
         _ => None,
@@ -143,7 +153,7 @@ fn marker_value(literal: Option<Literal>) -> Option<Value<'static>> {
 }
 
 /// The values of its markers in their order, and others behind them.
-pub fn marker_values(statement: &Statement) -> [Value<'static>; 4] {
+pub fn marker_values<'t>(statement: &Statement) -> [Value<'t>; 4] {
     let mut values = [Value::Number(0); 4];
     let mut at: usize = 0;
     for literal in statement.literals() {

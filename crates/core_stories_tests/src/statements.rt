@@ -1,7 +1,7 @@
 //! Statements as plain data: their text and what they mean both follow from it.
 
 /// A column of each table: `K INTEGER NOT NULL`, the key, or `N SMALLINT`; or a name that no column has.
-#[derive(Clone, Copy, PartialEq, Eq, Debug)]
+#[derive(Clone, Copy, PartialEq)]
 pub enum Column {
     Key,
     Number,
@@ -9,7 +9,7 @@ pub enum Column {
 }
 
 /// What a literal or a marker stands for. The only text is `a`.
-#[derive(Clone, Copy, PartialEq, Eq, Debug)]
+#[derive(Clone, Copy, PartialEq)]
 pub enum Given {
     Null,
     Number(i64),
@@ -17,7 +17,7 @@ pub enum Given {
 }
 
 /// A literal as it is spelled, or `?`, and its value.
-#[derive(Clone, Copy, Debug)]
+#[derive(Clone, Copy)]
 pub struct Literal {
     pub text: &'static str,
     pub value: Given,
@@ -29,7 +29,7 @@ impl Literal {
     }
 }
 
-#[derive(Clone, Copy, PartialEq, Eq, Debug)]
+#[derive(Clone, Copy, PartialEq)]
 pub enum Comparison {
     Equal,
     NotEqual,
@@ -40,7 +40,7 @@ pub enum Comparison {
 }
 
 /// A column compared with a literal.
-#[derive(Clone, Copy, Debug)]
+#[derive(Clone, Copy)]
 pub struct Test {
     pub column: Column,
     pub comparison: Comparison,
@@ -48,7 +48,7 @@ pub struct Test {
 }
 
 /// How a WHERE is made of its two tests.
-#[derive(Clone, Copy, PartialEq, Eq, Debug)]
+#[derive(Clone, Copy, PartialEq)]
 pub enum Form {
     /// No WHERE.
     Absent,
@@ -61,7 +61,7 @@ pub enum Form {
     Or,
 }
 
-#[derive(Clone, Copy, Debug)]
+#[derive(Clone, Copy)]
 pub struct Filter {
     pub form: Form,
     pub first: Test,
@@ -69,7 +69,7 @@ pub struct Filter {
 }
 
 /// The columns that a SELECT asks for or an INSERT gives.
-#[derive(Clone, Copy, PartialEq, Eq, Debug)]
+#[derive(Clone, Copy, PartialEq)]
 pub enum Columns {
     /// No names: all of them.
     All,
@@ -82,7 +82,7 @@ pub enum Columns {
 }
 
 /// What stands before the literal of an assignment.
-#[derive(Clone, Copy, PartialEq, Eq, Debug)]
+#[derive(Clone, Copy, PartialEq)]
 pub enum Sum {
     /// Nothing.
     Alone,
@@ -94,7 +94,7 @@ pub enum Sum {
     KeyPlus,
 }
 
-#[derive(Clone, Copy, PartialEq, Eq, Debug)]
+#[derive(Clone, Copy, PartialEq)]
 pub enum Kind {
     Create,
     Insert,
@@ -104,7 +104,7 @@ pub enum Kind {
 }
 
 /// How many values are given for the markers.
-#[derive(Clone, Copy, PartialEq, Eq, Debug)]
+#[derive(Clone, Copy, PartialEq)]
 pub enum Bound {
     /// One for each.
     Right,
@@ -115,7 +115,7 @@ pub enum Bound {
 }
 
 /// A statement. What its kind has no place for is not looked at.
-#[derive(Clone, Copy, Debug)]
+#[derive(Clone, Copy)]
 pub struct Statement {
     pub kind: Kind,
     pub table: usize,

@@ -3,16 +3,15 @@
 use crate::calls::Call;
 use crate::core_side::ask_core;
 use crate::machine::Machine;
-use crate::random::{CREATE, call, conversation};
+use crate::random::nth_call;
 use rdb_core::Core;
 use recording::NoRecords;
 use std::alloc::Global;
-use std::test::Fail;
 
 /// How many lists are tried.
-const LISTS: u32 = 50;
+const LISTS: u32 = 2_000;
 
-/// How many calls a list has behind those that create a table.
+/// How many calls a list has.
 const CALLS: u32 = 40;
 
 // The core, and the plain program beside it.
@@ -24,42 +23,36 @@ struct Both {
 
 impl Both {
     // Whether both tell the same.
-    fn agree(&mut self, alloc: Global, conversation: usize, call: &Call) -> Result<bool, Fail> {
-        let number = conversation as u64;
-        let told = ask_core(alloc, &mut self.core, number, call)?;
-        Ok(told == self.machine.step(conversation, call))
+    fn agree(&mut self, alloc: Global, conversation: usize, call: &Call) -> bool {
+        let told = ask_core(alloc, &mut self.core, conversation as u64, call);
+        told == Some(self.machine.step(conversation, call))
     }
 }
 
-// Both, with the first table.
-fn opened(alloc: Global) -> Result<Both, Fail> {
-    let mut both = Both {
+// Both, without tables.
+fn opened(alloc: Global) -> Both {
+    Both {
         core: Core::start(alloc, NoRecords),
         machine: Machine::new(),
-    };
-    both.agree(alloc, 0, &Call::Run(CREATE))?;
-    both.agree(alloc, 0, &Call::Commit)?;
-    Ok(both)
+    }
 }
 
-// The first call of the next list that both answer differently.
-fn differs(alloc: Global, seed: &mut u32) -> Result<Option<u32>, Fail> {
-    let mut both = opened(alloc)?;
+// The first call of the next list that both answer differently; 0 and 1 create a table.
+fn difference(alloc: Global, seed: &mut u32) -> Option<u32> {
+    let mut both = opened(alloc);
     for at in 0..CALLS {
-        let conversation = conversation(seed);
-        let call = call(seed);
-        if !both.agree(alloc, conversation, &call)? {
-            return Ok(Some(at));
+        let (conversation, call) = nth_call(at, seed);
+        if !both.agree(alloc, conversation, &call) {
+            return Some(at);
         }
     }
-    Ok(None)
+    None
 }
 
 #[test]
-fn both_tell_the_same(rt: HostRuntime) -> Result<(), Fail> {
+fn both_tell_the_same(rt: HostRuntime) {
     let mut seed = 1;
     for list in 0..LISTS {
-        assert_eq!(rt; differs(rt.alloc(), &mut seed)?, None, "list {list}");
+        assert_eq!(rt; difference(rt.alloc(), &mut seed), None, "list {list}");
     }
-    Ok(())
 }

@@ -7,7 +7,7 @@ pub const TABLES: usize = 2;
 pub const KEYS: [i64; 5] = [-1, 0, 1, 2, 40_000];
 
 /// A row: its key is told by its place.
-#[derive(Clone, Copy, PartialEq, Eq)]
+#[derive(Clone, Copy)]
 pub struct Row {
     pub number: Option<i64>,
 }

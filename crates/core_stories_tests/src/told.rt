@@ -1,7 +1,7 @@
 //! What is told, as plain data.
 
 /// A column of a row that is shown.
-#[derive(Clone, Copy, PartialEq, Eq, Debug)]
+#[derive(Clone, Copy, PartialEq, Debug)]
 pub enum Cell {
     /// The row has no such column, or there is no such row.
     Nothing,
@@ -19,7 +19,7 @@ pub const NO_ROWS: Shown = [[Cell::Nothing; 2]; 5];
 /// Branches in their order, and 9 behind them.
 pub type Doubts = [u8; 3];
 
-#[derive(Clone, Copy, PartialEq, Eq, Debug)]
+#[derive(Clone, Copy, PartialEq, Debug)]
 pub enum Told {
     Count(u32),
     Rows(Shown),
@@ -39,15 +39,24 @@ pub enum Told {
 
 // Before anything is claimed.
 pub const NOT_PREPARED: Told = Told::Refused(false, -518, *b"07003");
+
 pub const WRONG_PARAMETERS: Told = Told::Refused(false, -313, *b"07001");
+
 pub const CLAIMED: Told = Told::Refused(false, -913, *b"57033");
 
 // By what the statement means.
 pub const NO_TABLE: Told = Told::Refused(true, -204, *b"42704");
+
 pub const NO_COLUMN: Told = Told::Refused(true, -206, *b"42703");
+
 pub const SYNTAX: Told = Told::Refused(true, -104, *b"42601");
+
 pub const WRONG_CLASS: Told = Told::Refused(true, -401, *b"42818");
+
 pub const NULL_GIVEN: Told = Told::Refused(true, -407, *b"23502");
+
 pub const OUT_OF_RANGE: Told = Told::Refused(true, -413, *b"22003");
+
 pub const TABLE_EXISTS: Told = Told::Refused(true, -601, *b"42710");
+
 pub const KEY_EXISTS: Told = Told::Refused(true, -803, *b"23505");
