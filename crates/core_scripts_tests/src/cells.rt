@@ -16,7 +16,7 @@ const READ: Ask = Ask::Query("SELECT * FROM T");
 
 // Branch 5 is not known; active, of 1 and of 2; idle with a change, of 1 and of 2; idle without one; to
 // be rolled back, of 1 and of 2; prepared.
-const UNKNOWN: [Call; 0] = [];
+const UNKNOWN: [Call; 1] = [(9, Ask::Commit, Told::Done)];
 
 const ACTIVE: [Call; 2] = [
     (1, Ask::Xa(Verb::Start, 5), Told::Code(0)),
@@ -79,7 +79,7 @@ const STATES: [&'static [Call]; 9] = [
 
 // Conversation 1 before it asks: it does nothing; it is joined to another branch; it has work of its
 // own, a claim or a change.
-const FREE: [Call; 0] = [];
+const FREE: [Call; 1] = [(9, Ask::Commit, Told::Done)];
 
 const JOINED: [Call; 1] = [(1, Ask::Xa(Verb::Start, 6), Told::Code(0))];
 

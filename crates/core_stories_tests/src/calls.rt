@@ -38,7 +38,16 @@ pub enum Call {
     Lost,
 }
 
-pub const SPELLED: [Spelled; 24] = [
+/// What is to come often stands more than once.
+pub const SPELLED: [Spelled; 32] = [
+    (0x09, None, Some(Verb::Start)),
+    (0x09, None, Some(Verb::Start)),
+    (0x09, Some(&[0x00, 0x20, 0, 0]), Some(Verb::Join)),
+    (0x0B, Some(&[0x04, 0x00, 0, 0]), Some(Verb::End)),
+    (0x0B, Some(&[0x02, 0x00, 0, 0]), Some(Verb::End)),
+    (0x01, None, Some(Verb::Prepare)),
+    (0x01, None, Some(Verb::Prepare)),
+    (0x0C, None, Some(Verb::Recover)),
     (0x09, None, Some(Verb::Start)),
     (0x09, Some(&[0, 0, 0, 0]), Some(Verb::Start)),
     (0x09, Some(&[0x00, 0x20, 0, 0]), Some(Verb::Join)),

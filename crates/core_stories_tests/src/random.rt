@@ -197,7 +197,7 @@ fn branch(seed: &mut u32) -> Branch {
 }
 
 fn xa(seed: &mut u32) -> Call {
-    let at = (next(seed) % 24) as usize;
+    let at = (next(seed) % 32) as usize;
     Call::Xa(SPELLED[at], branch(seed))
 }
 
