@@ -57,7 +57,7 @@ fn lists_come_to_each_answer(rt: HostRuntime) {
     let mut counts = [0; 24];
     let mut seed = 1;
     for _ in 0..2_000 {
-        hear_list(&mut counts, &mut seed, 40);
+        hear_list(&mut counts, &mut seed, 80);
     }
     for (count, wanted) in counts.iter().zip(WANTED) {
         assert!(rt; *count > 0, "{wanted:?}");

@@ -186,19 +186,20 @@ fn statement(seed: &mut u32) -> Statement {
     }
 }
 
-fn branch(seed: &mut u32) -> Branch {
-    let good = (next(seed) % 3) as usize;
+// Mostly the branch whose place is that of the conversation.
+fn branch(seed: &mut u32, conversation: u32) -> Branch {
+    let other = next(seed);
     let odd = (next(seed) % 5) as usize;
-    if next(seed) % 16 == 0 {
-        ODD[odd]
-    } else {
-        GOOD[good]
+    match next(seed) % 16 {
+        0 => ODD[odd],
+        1 | 2 | 3 => GOOD[(other % 3) as usize],
+        _ => GOOD[(conversation % 3) as usize],
     }
 }
 
-fn xa(seed: &mut u32) -> Call {
+fn xa(seed: &mut u32, conversation: u32) -> Call {
     let at = (next(seed) % 32) as usize;
-    Call::Xa(SPELLED[at], branch(seed))
+    Call::Xa(SPELLED[at], branch(seed, conversation))
 }
 
 // A statement asked as its kind wants it, but for one of sixteen.
@@ -221,20 +222,15 @@ fn described(seed: &mut u32) -> Call {
     }
 }
 
-fn call(seed: &mut u32) -> Call {
+fn call(seed: &mut u32, conversation: u32) -> Call {
     match next(seed) % 32 {
         0 | 1 | 2 => Call::Commit,
         3 | 4 => Call::RollBack,
         5 => Call::Lost,
         6 | 7 => described(seed),
-        8 | 9 | 10 | 11 | 12 | 13 | 14 | 15 | 16 => xa(seed),
+        8 | 9 | 10 | 11 | 12 | 13 | 14 | 15 | 16 | 17 | 18 | 19 => xa(seed, conversation),
         _ => asked(seed),
     }
-}
-
-// Which of three conversations asks.
-fn conversation(seed: &mut u32) -> usize {
-    (next(seed) % 3) as usize
 }
 
 /// Who makes the call of this number in a list, and which: the first two create a table.
@@ -242,7 +238,10 @@ pub fn nth_call(number: u32, seed: &mut u32) -> (usize, Call) {
     match number {
         0 => (0, Call::Run(CREATE)),
         1 => (0, Call::Commit),
-        _ => (conversation(seed), call(seed)),
+        _ => {
+            let conversation = next(seed) % 3;
+            (conversation as usize, call(seed, conversation))
+        }
     }
 }
 

@@ -12,7 +12,7 @@ use std::alloc::Global;
 const LISTS: u32 = 2_000;
 
 /// How many calls a list has.
-const CALLS: u32 = 40;
+const CALLS: u32 = 80;
 
 // The core, and the plain program beside it.
 #[derive(Drop)]
