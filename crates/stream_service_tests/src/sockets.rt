@@ -11,14 +11,7 @@ use stream_service::{Served, serve_one};
 use test_bytes::*;
 use test_nodes::node_of;
 
-const REQUESTS: [&str; 6] = [
-    EXCSAT_ALONE,
-    ACCSEC,
-    SECCHK_ALONE,
-    ACCRDB,
-    CREATE,
-    RDBCMM,
-];
+const REQUESTS: [&str; 6] = [EXCSAT_ALONE, ACCSEC, SECCHK_ALONE, ACCRDB, CREATE, RDBCMM];
 
 const REPLIES: [&str; 6] = [
     EXCSATRD_ALONE,
