@@ -1,7 +1,7 @@
 //! A plain program beside the core: both are asked random lists of calls of three conversations, and
 //! each answer has to be the same, code, state, count and rows.
 //!
-//! The plain program (`tables`, `meaning`, `branches`, `machine`) is the obvious server over small
+//! The plain program (`plain_tables`, `meaning`, `branches`, `machine`) is the obvious server over small
 //! arrays, written from the definitions: two tables of one schema, what each unit has changed and
 //! claims, and three branches.
 //!
@@ -26,6 +26,8 @@ mod machine;
 #[cfg(test)]
 mod meaning;
 #[cfg(test)]
+mod plain_tables;
+#[cfg(test)]
 mod random;
 #[cfg(test)]
 mod spelling;
@@ -33,7 +35,5 @@ mod spelling;
 mod statements;
 #[cfg(test)]
 mod stories;
-#[cfg(test)]
-mod tables;
 #[cfg(test)]
 mod told;

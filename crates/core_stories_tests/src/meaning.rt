@@ -3,7 +3,7 @@
 use crate::statements::{
     Column, Columns, Comparison, Filter, Form, Given, Kind, Literal, Statement, Sum, Test,
 };
-use crate::tables::{
+use crate::plain_tables::{
     Changes, Claims, Edits, KEYS, NAMES, NO_EDITS, Row, Table, WHOLE, key_place, part,
 };
 use crate::told::{
