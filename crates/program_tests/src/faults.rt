@@ -138,16 +138,17 @@ const FAULTS: [(&[&str], u8, &[u8]); 22] = [
     (&["drdad", "indoubt", "damaged"], 3, DAMAGED),
 ];
 
+// Whether the words end so, with just this line on standard error, and no file is made.
+fn is_told(alloc: Global, words: &[&str], status: u8, said: &[u8]) -> bool {
+    let end = run_over(alloc, words, &[]);
+    end.status == status && end.made == 0 && end.out.is_empty() && end.err.as_slice() == said
+}
+
 #[test]
 fn faults_are_told_in_their_order(rt: HostRuntime) -> Result<(), Fail> {
     for (words, status, said) in FAULTS {
-        let end = run_over(rt.alloc(), words, &[]);
-        assert_eq!(rt; (end.status, end.made), (status, 0), "{words:?}");
-        assert_eq!(rt;
-            (end.out.as_slice(), end.err.as_slice()),
-            (b"".as_slice(), said),
-            "{words:?}"
-        );
+        let told = is_told(rt.alloc(), words, status, said);
+        assert_eq!(rt; told, true, "{words:?}");
     }
     Ok(())
 }
