@@ -3,8 +3,8 @@
 use crate::branches::{Effect, Facts, State, due, goes_with};
 use crate::calls::{Branch, Call, Spelled, Verb};
 use crate::meaning::{Answer, answer_to, claims_of, described_claims, description};
-use crate::statements::{Kind, Statement};
 use crate::plain_tables::{Changes, Claims, Store, Table};
+use crate::statements::{Kind, Statement};
 use crate::told::{CLAIMED, Doubts, NOT_PREPARED, Told, WRONG_PARAMETERS};
 
 /// How many branches there may be.

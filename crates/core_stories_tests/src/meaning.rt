@@ -1,10 +1,10 @@
 //! What a statement claims, is answered and changes, by the table that its unit sees.
 
-use crate::statements::{
-    Column, Columns, Comparison, Filter, Form, Given, Kind, Literal, Statement, Sum, Test,
-};
 use crate::plain_tables::{
     Changes, Claims, Edits, KEYS, NAMES, NO_EDITS, Row, Table, WHOLE, key_place, part,
+};
+use crate::statements::{
+    Column, Columns, Comparison, Filter, Form, Given, Kind, Literal, Statement, Sum, Test,
 };
 use crate::told::{
     Cell, KEY_EXISTS, NO_COLUMN, NO_ROWS, NO_TABLE, NULL_GIVEN, OUT_OF_RANGE, SYNTAX, Shown,
