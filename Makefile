@@ -3,7 +3,7 @@ SHELL := bash
 .SHELLFLAGS := -eu -o pipefail -c
 .PHONY: run try test vectors
 
-# A first look, in a minute: two conversations as event records, request and reply by name.
+# A first look, in two minutes: two conversations as event records, request and reply by name.
 try: | out
 	@echo 'built without proof (rt try): a first look; make run proves first'
 	@tests/sql_request > out/request.bin
