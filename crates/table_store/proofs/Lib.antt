@@ -3,3 +3,4 @@ pub mod Shown
 pub mod NamedTables
 pub mod TreeSteps
 pub mod Reserving
+pub mod Copying

@@ -2,3 +2,4 @@ pub mod Stored
 pub mod TableMap
 pub mod Steps
 pub mod TableStore
+pub mod Plain

@@ -2,6 +2,7 @@
 //! before a change, so that the change itself can't fail.
 #![tactic(auto)]
 
+mod plain;
 mod steps;
 mod store;
 mod stored_table;

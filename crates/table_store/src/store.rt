@@ -1,6 +1,6 @@
 //! The committed tables.
 
-ghost use Rattle.std.specs.Prelude.{◌≡◌, [], OnOk, map};
+ghost use Rattle.std.specs.Prelude.{◌≡◌, [], IfOk, OnOk, map};
 ghost use Rattle.tables.specs.Applied.{apply_all};
 ghost use Rattle.tables.specs.ChangeView.{change_of};
 
@@ -8,7 +8,7 @@ use crate::steps::{Step, apply_all, release_all, reserve_all};
 use crate::table_map::TableMap;
 use crate::view::StoreView;
 use std::alloc::{AllocError, Global};
-use tables::Change;
+use tables::{Change, PlainView};
 
 /// The committed tables, with rows in the order of their keys. Room for changes is made first; the
 /// changes themselves then take no memory and can't fail.
@@ -37,6 +37,14 @@ impl TableStore {
         ensures { result.store.now ≡ self.now }
     {
         StoreView { store: self }
+    }
+
+    /// The tables as plain lists, copied: each table by its name, in the order of the names' bytes, with its
+    /// schema and its rows in the order of their keys. Room that is reserved is not told. Memory may be refused.
+    pub fn plain(&self, alloc: Global) -> Result<PlainView, AllocError>
+        ensures { IfOk result (λ view. view ≡ store_in self.now) }
+    {
+        self.tables.plain(alloc)
     }
 
     /// Makes room for all of these changes, made in their order: the one call here that takes memory

@@ -9,12 +9,13 @@ ghost use Rattle.tables.specs.View.{is_store};
 ghost use Rattle.table_store.specs.Stored.{form_in, table_in};
 ghost use Rattle.table_store.specs.TableMap.{Grows, IsReady, is_ordered, schema_after, schema_at, store_of, tables_in};
 
+use crate::plain::copied_tables;
 use crate::stored_table::StoredTable;
 use crate::tree::{create, find, form_of, hold_ready, keep_created, put, release, remove, reserve};
 use std::alloc::{AllocError, Global};
 use std::collections::BTreeMap;
 use std::marker::Model;
-use tables::{Action, Change};
+use tables::{Action, Change, PlainView};
 
 /// Tables by their names, those that are created and those that are held ready.
 #[derive(Debug, Drop)]
@@ -56,6 +57,13 @@ impl TableMap {
         ensures good { is_store (store_of self.now) ≡ true }
     {
         count_in(&self.tables)
+    }
+
+    /// A copy of the tables that are created.
+    pub fn plain(&self, alloc: Global) -> Result<PlainView, AllocError>
+        ensures { IfOk result (λ view. view ≡ store_of self.now) }
+    {
+        copied_tables(&self.tables, alloc)
     }
 
     /// Makes room for a change, and gives the form of its key. Whether or not there is memory, the

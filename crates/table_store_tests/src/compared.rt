@@ -98,3 +98,26 @@ fn the_plain_tables_show_the_same(rt: HostRuntime) -> Result<(), Fail> {
     assert_eq!(rt; store.view().tables()?, 3);
     Ok(())
 }
+
+// Whether a copy of the tables shows the same, and no other table.
+fn is_copied(store: &mut TableStore, alloc: Global) -> Result<bool, Fail> {
+    let mut copy = store.plain(alloc)?;
+    for name in NAMES {
+        if !agree(store, &mut copy, alloc, name)? {
+            return Ok(false);
+        }
+    }
+    Ok(store.view().tables()? == copy.tables()?)
+}
+
+#[test]
+fn copies_show_the_same(rt: HostRuntime) -> Result<(), Fail> {
+    let alloc = rt.alloc();
+    let mut store = TableStore::new(alloc);
+    assert!(rt; is_copied(&mut store, alloc)?);
+    for i in 0..CHANGES {
+        commit_one(&mut store, alloc, change_at(alloc, i)?)?;
+    }
+    assert!(rt; is_copied(&mut store, alloc)?);
+    Ok(())
+}

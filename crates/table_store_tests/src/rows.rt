@@ -5,7 +5,7 @@ use row_values::{Kind, Schema, Value};
 use std::alloc::Global;
 use std::test::Fail;
 use table_store::TableStore;
-use tables::TableView;
+use tables::{Change, TableView};
 
 // `N BIGINT NOT NULL PRIMARY KEY, V BIGINT NOT NULL`.
 fn numbers(alloc: Global) -> Result<Schema, Fail> {
@@ -22,6 +22,20 @@ fn number_row(alloc: Global, n: i64, v: i64) -> Result<Vec<u8>, Fail> {
         &numbers(alloc)?,
         &[Value::Number(n), Value::Number(v)],
     )
+}
+
+// The creation of a table of numbers.
+fn create_numbers(alloc: Global, name: &str) -> Result<Change, Fail> {
+    create(alloc, name, numbers(alloc)?)
+}
+
+// The change that puts this row into `T`.
+fn put_number(alloc: Global, n: i64, v: i64) -> Result<Change, Fail> {
+    put(alloc, "T", number_row(alloc, n, v)?)
+}
+
+fn number_key(alloc: Global, n: i64) -> Result<Vec<u8>, Fail> {
+    key(alloc, &numbers(alloc)?, &[Value::Number(n)])
 }
 
 const ORDERS: [[&str; 3]; 4] = [
@@ -42,7 +56,7 @@ fn tables_created_in_any_order_are_found(rt: HostRuntime) -> Result<(), Fail> {
         let mut store = TableStore::new(alloc);
         for name in names {
             assert!(rt; !is_known(&mut store, alloc, name)?);
-            commit_one(&mut store, alloc, create(alloc, name, numbers(alloc)?)?)?;
+            commit_one(&mut store, alloc, create_numbers(alloc, name)?)?;
             assert!(rt; is_known(&mut store, alloc, name)?);
         }
         assert_eq!(rt; store.view().tables()?, 3);
@@ -57,17 +71,25 @@ fn has_order(
     places: &[u8],
     rows: &[&[Value<'_>]],
 ) -> Result<bool, Fail> {
+    let schema = schema(alloc, columns, places)?;
     let mut store = TableStore::new(alloc);
-    commit_one(
-        &mut store,
-        alloc,
-        create(alloc, "T", schema(alloc, columns, places)?)?,
-    )?;
+    commit_one(&mut store, alloc, create(alloc, "T", schema.copy(alloc)?)?)?;
+    put_backwards(&mut store, alloc, &schema, rows)?;
+    stands_as(&mut store, alloc, &schema, rows)
+}
+
+// Puts rows into `T`, from the last one to the first.
+fn put_backwards(
+    store: &mut TableStore,
+    alloc: Global,
+    schema: &Schema,
+    rows: &[&[Value<'_>]],
+) -> Result<(), Fail> {
     for values in rows.iter().rev() {
-        let bytes = row(alloc, &schema(alloc, columns, places)?, values)?;
-        commit_one(&mut store, alloc, put(alloc, "T", bytes)?)?;
+        let bytes = row(alloc, schema, values)?;
+        commit_one(store, alloc, put(alloc, "T", bytes)?)?;
     }
-    stands_as(&mut store, alloc, &schema(alloc, columns, places)?, rows)
+    Ok(())
 }
 
 // Whether the rows of `T` are these, in this order.
@@ -172,22 +194,26 @@ fn keys_of_four_columns_stand_in_order(rt: HostRuntime) -> Result<(), Fail> {
 fn two_rows(alloc: Global) -> Result<TableStore, Fail> {
     let mut store = TableStore::new(alloc);
     let mut changes = Vec::new(alloc);
-    changes.push(put(alloc, "T", number_row(alloc, 7, 70)?)?)?;
-    changes.push(create(alloc, "T", numbers(alloc)?)?)?;
-    for (n, v) in [(2, 20), (1, 10)] {
-        changes.push(put(alloc, "T", number_row(alloc, n, v)?)?)?;
-    }
+    push_rows(&mut changes, alloc, &[(7, 70)])?;
+    changes.push(create_numbers(alloc, "T")?)?;
+    push_rows(&mut changes, alloc, &[(2, 20), (1, 10)])?;
     commit(&mut store, alloc, changes)?;
     Ok(store)
 }
 
+// Adds the changes that put these rows into `T`.
+fn push_rows(changes: &mut Vec<Change>, alloc: Global, rows: &[(i64, i64)]) -> Result<(), Fail> {
+    for (n, v) in rows {
+        changes.push(put_number(alloc, *n, *v)?)?;
+    }
+    Ok(())
+}
+
 // Whether `T` has this row of a number, or none where none is given.
 fn has(store: &mut TableStore, alloc: Global, n: i64, v: Option<i64>) -> Result<bool, Fail> {
-    let found = store.view().get(
-        alloc,
-        "T",
-        key(alloc, &numbers(alloc)?, &[Value::Number(n)])?.as_slice(),
-    )?;
+    let found = store
+        .view()
+        .get(alloc, "T", number_key(alloc, n)?.as_slice())?;
     match (found, v) {
         (Some(found), Some(v)) => Ok(found == number_row(alloc, n, v)?),
         (None, None) => Ok(true),
@@ -211,11 +237,7 @@ fn a_list_creates_a_table_and_fills_it(rt: HostRuntime) -> Result<(), Fail> {
 fn a_row_takes_the_place_of_the_one_of_its_key(rt: HostRuntime) -> Result<(), Fail> {
     let alloc = rt.alloc();
     let mut store = two_rows(alloc)?;
-    commit_one(
-        &mut store,
-        alloc,
-        put(alloc, "T", number_row(alloc, 2, 21)?)?,
-    )?;
+    commit_one(&mut store, alloc, put_number(alloc, 2, 21)?)?;
     for (n, v) in [(1, Some(10)), (2, Some(21))] {
         assert!(rt; has(&mut store, alloc, n, v)?);
     }
@@ -227,7 +249,7 @@ fn a_row_takes_the_place_of_the_one_of_its_key(rt: HostRuntime) -> Result<(), Fa
 fn a_row_is_taken_out(rt: HostRuntime) -> Result<(), Fail> {
     let alloc = rt.alloc();
     let mut store = two_rows(alloc)?;
-    let first = key(alloc, &numbers(alloc)?, &[Value::Number(1)])?;
+    let first = number_key(alloc, 1)?;
     commit_one(&mut store, alloc, remove(alloc, "T", first)?)?;
     for (n, v) in [(1, None), (2, Some(20))] {
         assert!(rt; has(&mut store, alloc, n, v)?);
@@ -238,10 +260,16 @@ fn a_row_is_taken_out(rt: HostRuntime) -> Result<(), Fail> {
 // Makes room for a row and for a table.
 fn reserve_more(store: &mut TableStore, alloc: Global) -> Result<(), Fail> {
     let mut changes = Vec::new(alloc);
-    changes.push(put(alloc, "T", number_row(alloc, 3, 30)?)?)?;
-    changes.push(create(alloc, "U", numbers(alloc)?)?)?;
+    push_rows(&mut changes, alloc, &[(3, 30)])?;
+    changes.push(create_numbers(alloc, "U")?)?;
     store.reserve(alloc, changes.as_slice())?;
     Ok(())
+}
+
+// How many tables there are, and how many rows are in `T`.
+fn counts(store: &mut TableStore, alloc: Global) -> Result<(usize, usize), Fail> {
+    let mut view = store.view();
+    Ok((view.tables()?, view.scan(alloc, "T")?.len()))
 }
 
 #[test]
@@ -252,7 +280,6 @@ fn room_that_is_given_up_leaves_the_tables(rt: HostRuntime) -> Result<(), Fail> 
     assert!(rt; has(&mut store, alloc, 3, None)?);
     assert!(rt; !is_known(&mut store, alloc, "U")?);
     store.release();
-    assert_eq!(rt; store.view().tables()?, 1);
-    assert_eq!(rt; store.view().scan(alloc, "T")?.len(), 2);
+    assert!(rt; counts(&mut store, alloc)? == (1, 2));
     Ok(())
 }

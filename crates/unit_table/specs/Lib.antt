@@ -1,3 +1,4 @@
 pub mod Owner
 pub mod Table
 pub mod Keeping
+pub mod Plain

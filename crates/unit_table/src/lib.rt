@@ -8,9 +8,11 @@ mod entry;
 mod keep_error;
 mod owner;
 mod place;
+mod plain;
 mod row;
 mod units;
 
 pub use keep_error::KeepError;
 pub use owner::Owner;
+pub use plain::PlainUnit;
 pub use units::Units;

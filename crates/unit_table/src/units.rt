@@ -1,12 +1,13 @@
 //! The units of work.
 
-ghost use Rattle.std.specs.Prelude.{◌≡◌, OnErr, OnOk, [], false, map, option_map, unwrap_or};
+ghost use Rattle.std.specs.Prelude.{◌≡◌, IfOk, OnErr, OnOk, [], false, map, option_map, unwrap_or};
 ghost use Rattle.tables.specs.ChangeView.{change_of};
 ghost use Rattle.unit_locks.specs.Claims.{all_added, claims_of};
 ghost use Rattle.core_steps.specs.Laws.{AreListed};
 ghost use Rattle.core_steps.specs.Units.{clashes, global, has_any, has_work, left_of, others, set_unit, unit_of, without};
 ghost use Rattle.unit_table.specs.Keeping.{Keeps};
 ghost use Rattle.unit_table.specs.Owner.{plain_owner};
+ghost use Rattle.unit_table.specs.Plain.{held_of};
 
 use crate::changes::first;
 use crate::clashing::clash_with_others;
@@ -14,6 +15,7 @@ use crate::entry::Entry;
 use crate::keep_error::KeepError;
 use crate::owner::Owner;
 use crate::place::place;
+use crate::plain::{PlainUnit, copied_units};
 use crate::row;
 use row_values::Schema;
 use std::alloc::{AllocError, Global};
@@ -120,6 +122,14 @@ impl Units {
         ensures { AreListed self.now }
     {
         let _entries = &self.entries;
+    }
+
+    /// Copies of the units that have work, in the order of their owners: local ones by their conversations,
+    /// then those of branches by the bytes of their XIDs. Memory may be refused.
+    pub fn plain(&self) -> Result<Vec<PlainUnit>, AllocError>
+        ensures { IfOk result (λ units. map held_of units.items ≡ self.now) }
+    {
+        copied_units(self.alloc, self.entries.as_slice(), &self.claims)
     }
 
     /// Whether a claim of these clashes with one of another unit.

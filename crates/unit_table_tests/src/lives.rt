@@ -80,3 +80,20 @@ fn restores_units_in_doubt(rt: HostRuntime) -> Result<(), Fail> {
     assert!(rt; units.claims(&Owner::Local(1)).is_empty());
     Ok(())
 }
+
+// Local units come first, then those of branches; each has its claims in their order.
+#[test]
+fn copies_units_in_order(rt: HostRuntime) -> Result<(), Fail> {
+    let schema = schema(rt.alloc())?;
+    let mut units = Units::new(rt.alloc());
+    for (owner, count) in [(global(1)?, 1), (Owner::Local(7), 2), (Owner::Local(3), 3)] {
+        let claims = many_claims(rt.alloc(), count)?;
+        units.keep(&owner, claims, Some(&schema), one_change(rt.alloc())?)?;
+    }
+    let copies = units.plain()?;
+    let shown = copies
+        .iter()
+        .map(|unit| (unit.changes.len(), unit.claims.len()));
+    assert!(rt; shown.eq([(1, 3), (1, 2), (1, 1)]));
+    Ok(())
+}
