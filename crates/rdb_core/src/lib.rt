@@ -5,6 +5,7 @@ mod asking;
 mod ending;
 mod engine;
 mod opening;
+mod plain;
 mod question;
 mod refusing;
 mod reply;
