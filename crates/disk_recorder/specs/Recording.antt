@@ -22,6 +22,10 @@ disk_of r = r.disk
 abbrev pub has_failed : {D : Type 0} → DiskRecorder D → Bool
 has_failed r = r.is_failed
 
+-- the records that it made, or began where the device failed, in their order
+abbrev pub made_of : {D : Type 0} → DiskRecorder D → List Entry
+made_of r = r.made.entries
+
 module _ {D : Type 0} (modelled : Bool) (life : D → Life) where
   abbrev pub life_of : DiskRecorder D → Life
   life_of r = life (disk_of r)
@@ -47,6 +51,7 @@ module _ {D : Type 0} (modelled : Bool) (life : D → Life) where
     pub held : held_of (journal_of new) + released said ≡ held_of (journal_of old) + held said
     pub faults : (life_of new).faults ≡ (life_of old).faults
     pub going : has_failed new ≡ false
+    pub made : made_of new ≡ made_of old ++ entry_of said ∷ []
 
   -- the record and what it holds back are longer than the room and what it releases; what is needed stops at 2^64 - 1
   pub record HasNoRoom (old : DiskRecorder D) (said : UnitRecord) (need room : ℕ) : Type 0 where
@@ -63,6 +68,7 @@ module _ {D : Type 0} (modelled : Bool) (life : D → Life) where
     pub journal : journal_of new ≡ journal_of old
     pub faults : (life_of new).faults ≡ (life_of old).faults + 1
     pub failed : has_failed new ≡ true
+    pub made : made_of new ≡ made_of old ++ entry_of said ∷ []
 
   abbrev pub Fails : DiskRecorder D → UnitRecord → RecordError → DiskRecorder D → Type 0
   Fails old said NoMemory new = new ≡ old

@@ -2,6 +2,7 @@
 #![tactic(auto)]
 
 mod bodies;
+mod made;
 mod recorder;
 
 pub use recorder::DiskRecorder;

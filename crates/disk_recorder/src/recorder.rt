@@ -1,12 +1,14 @@
 //! Who records in a journal.
 
-ghost use Rattle.std.specs.Prelude.{◌≡◌, ◌+◌, ◌<◌, ◌≤◌, ◌^◌, false, IfErr, OnOk, length, map};
+ghost use Rattle.std.specs.Prelude.{◌≡◌, ◌+◌, ◌<◌, ◌≤◌, ◌^◌, false, [], IfErr, OnOk, length, map};
 ghost use Rattle.drda_disk.specs.Region.{end_of};
 ghost use Rattle.tables.specs.ChangeView.{change_of};
 ghost use Rattle.unit_journal.specs.Journal.{held_of, region_of, room_of};
 ghost use Rattle.unit_records.specs.Records.{UnitRecord, committed, decided, prepared};
+ghost use Rattle.disk_recorder.specs.Kinds.{kind_for};
 
 use crate::bodies::{commit_body, decide_body, prepare_body};
+use crate::made::MadeRecords;
 use drda_disk::{Disk, Region};
 use recording::{RecordError, Recorder, Saying};
 use std::alloc::Global;
@@ -26,23 +28,26 @@ pub struct DiskRecorder<D> {
     disk: D,
     journal: Journal,
     is_failed: bool,
+    made: MadeRecords,
 }
 
 impl<D: Disk> DiskRecorder<D> {
     ghost use Rattle.disk_recorder.specs.Bodies.{Says};
-    ghost use Rattle.disk_recorder.specs.Recording.{Allows, Fails, Records, disk_of, has_failed, journal_of};
+    ghost use Rattle.disk_recorder.specs.Recording.{Allows, Fails, Records, disk_of, has_failed, journal_of, made_of};
 
     /// Records in this journal of this disk, whose device has not failed.
     pub fn new(alloc: Global, disk: D, journal: Journal) -> DiskRecorder<D>
         ensures disk { disk_of result ≡ disk }
         ensures journal { journal_of result ≡ journal }
         ensures going { has_failed result ≡ false }
+        ensures made { made_of result ≡ [] }
     {
         DiskRecorder {
             alloc,
             disk,
             journal,
             is_failed: false,
+            made: MadeRecords::none(),
         }
     }
 
@@ -153,7 +158,10 @@ impl<D: Disk> DiskRecorder<D> {
             .journal
             .append(self.alloc, &mut self.disk, kind, body, hold, release)
         {
-            Ok(()) => Ok(()),
+            Ok(()) => {
+                self.made.note(&[number_of(kind)], body);
+                Ok(())
+            }
             Err(AppendError::NoMemory) => Err(RecordError::NoMemory),
             Err(AppendError::Full(full)) => Err(RecordError::Full {
                 need: full.need as u64,
@@ -161,9 +169,21 @@ impl<D: Disk> DiskRecorder<D> {
             }),
             Err(AppendError::DeviceFailed) => {
                 self.is_failed = true;
+                self.made.note(&[number_of(kind)], body);
                 Err(RecordError::DeviceFailed)
             }
         }
+    }
+}
+
+// The number that a kind is noted by.
+fn number_of(kind: Kind) -> u8
+    ensures { kind_for result ≡ kind }
+{
+    match kind {
+        Kind::Commit => 1,
+        Kind::Prepare => 2,
+        Kind::Decide => 3,
     }
 }
 

@@ -8,7 +8,7 @@ use Rattle.exchanges.specs.Doing.{Doing, asking, finished}
 use Rattle.exchanges.specs.Done.{WasDone}
 use Rattle.conversation.specs.declared.front.Need.{Need}
 use Rattle.conversation.specs.declared.front.Need.TheVariants.{Bytes, Local, Short, Closed}
-use Rattle.conversation.specs.Settings.{Settings}
+use Rattle.access_exchange.specs.Settings.{Settings}
 use Rattle.conversation.specs.Held.{Held}
 use Rattle.conversation.specs.Standing.{Standing}
 use Rattle.conversation.specs.Done.{Exchanges, IsExcused}

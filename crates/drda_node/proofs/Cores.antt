@@ -1,5 +1,5 @@
 -- Calls of the core over its disk, as those who ask it see them.
-use Rattle.std.proofs.Common.{◌≡◌, ℕ, Bool, true, false, sym, ap, ◌∙◌, inl, inr}
+use Rattle.std.proofs.Common.{◌≡◌, ℕ, Bool, true, false, List, [], ◌++◌, sym, ap, ◌∙◌, inl, inr, append-nil}
 use Rattle.std.specs.Prelude.{if◌then◌else◌}
 use Rattle.drda_disk.specs.Disk.{Life}
 use Rattle.core_calls.specs.Call.{Call}
@@ -12,11 +12,11 @@ use Rattle.drda_node.specs.Asking.{AskedCore, asked_of, asks, left_by}
 
 module _ {D : Type 0} (life : D → Life) where
   same_core : (old new : OnDisk D) → IsUnchanged (shown_on life old) (shown_on life new) → asked_of new ≡ asked_of old
-  same_core old new e = λ i. record { state = e.state i; has_failed = e.is_failed i }
+  same_core old new e = λ i. record { state = e.state i; has_failed = e.is_failed i; made = e.made i }
 
   -- a call is asked
   pub core_asks : (old new : OnDisk D) (place : ℕ) (call : Call) (answer : Answer) → Steps (shown_on life old) place call answer (shown_on life new) → asks place (asked_of old) call answer (asked_of new)
-  core_asks old new place call answer (inl t) = inl (record { going = t.going; answer_is = t.answer_is; state = t.state; still = t.still })
+  core_asks old new place call answer (inl t) = inl (record { going = t.going; answer_is = t.answer_is; state = t.state; still = t.still; made = t.made })
   core_asks old new place call answer (inr (inl t)) = inr (inl (record { going = t.going; answer_is = t.answer_is; same = same_core old new t.same }))
   core_asks old new place call answer (inr (inr (inl t))) = inr (inr (inl (record {
     going = t.going;
@@ -34,23 +34,26 @@ module _ {D : Type 0} (life : D → Life) where
     answer_is = t.answer_is;
     state = t.state;
     failed = t.failed;
+    made = t.made;
   }))))
   core_asks old new place call answer (inr (inr (inr (inr t)))) = inr (inr (inr (inr (record { failed = t.failed; answer_is = t.answer_is; same = same_core old new t.same }))))
 
   -- ---- what a loss leaves
 
-  left_going : (old : OnDisk D) (place : ℕ) (new : AskedCore) → old.is_failed ≡ false → new.state ≡ step_state old.state place call.lost → new.has_failed ≡ false → new ≡ left_by (asked_of old) place
-  left_going old place new going state still = λ i. record {
+  left_going : (old : OnDisk D) (place : ℕ) (new : AskedCore) → old.is_failed ≡ false → new.state ≡ step_state old.state place call.lost → new.has_failed ≡ false → new.made ≡ old.made ++ [] → new ≡ left_by (asked_of old) place
+  left_going old place new going state still made = λ i. record {
     state = (state ∙ ap (λ (b : Bool). if b then old.state else step_state old.state place call.lost) (sym going)) i;
     has_failed = (still ∙ sym going) i;
+    made = (made ∙ append-nil old.made) i;
   }
 
   left_failed : (old : OnDisk D) (place : ℕ) (new : AskedCore) → old.is_failed ≡ true → new ≡ asked_of old → new ≡ left_by (asked_of old) place
   left_failed old place new failed same = λ i. record {
     state = (ap (λ (c : AskedCore). c.state) same ∙ ap (λ (b : Bool). if b then old.state else step_state old.state place call.lost) (sym failed)) i;
     has_failed = (ap (λ (c : AskedCore). c.has_failed) same) i;
+    made = (ap (λ (c : AskedCore). c.made) same) i;
   }
 
   pub core_loses : (old new : OnDisk D) (place : ℕ) (answer : Answer) → Loses (shown_on life old) place answer (shown_on life new) → asked_of new ≡ left_by (asked_of old) place
-  core_loses old new place answer (inl t) = left_going old place (asked_of new) t.going t.state t.still
+  core_loses old new place answer (inl t) = left_going old place (asked_of new) t.going t.state t.still t.made
   core_loses old new place answer (inr t) = left_failed old place (asked_of new) t.failed (same_core old new t.same)

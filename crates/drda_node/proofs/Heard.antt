@@ -14,7 +14,7 @@ use Rattle.drda_node.proofs.Rows.{get_set, one_value}
 
 set_again : (machine : Machine) (place : ℕ) (x y : Attended) → attended_at (attended_at machine place x) place y ≡ attended_at machine place y
 set_again machine place x y =
-    ap (λ (row : List (Option Conversation)). let m : Machine = record { settings = machine.settings; row = row; core = y.standing.asked.state; has_failed = y.standing.asked.has_failed } in m) (set-set machine.row place (Some (conversation_of x)) (Some (conversation_of y)))
+    ap (λ (row : List (Option Conversation)). let m : Machine = record { settings = machine.settings; row = row; core = y.standing.asked.state; has_failed = y.standing.asked.has_failed; made = y.standing.asked.made } in m) (set-set machine.row place (Some (conversation_of x)) (Some (conversation_of y)))
 
 pub record Heard (old : Machine) (place : ℕ) (bytes out behind : List ℕ) (after : Attended) (new : Machine) (out' : List ℕ) : Type 0 where
   pub before : Conversation

@@ -5,7 +5,7 @@ use Rattle.drda_node.specs.declared.place.Place.{Place}
 use Rattle.std.specs.List.{list_all}
 use Rattle.drda_node.specs.Machine.{Conversation, Machine}
 use Rattle.drda_node.specs.Asking.{AskedCore}
-use Rattle.conversation.specs.Settings.{Settings}
+use Rattle.access_exchange.specs.Settings.{Settings}
 use Rattle.drda_node.specs.Feeding.{shown_held}
 use Rattle.drda_node.specs.Register.{shown, Register}
 
@@ -87,9 +87,9 @@ not_full (Some c ∷ row) (suc place) free full = not_full row place free full
 
 -- a machine whose row and core are these
 pub same_machine : (settings : Settings) (rows row : List (Option Conversation)) (cores core : AskedCore) → rows ≡ row → cores ≡ core
-    → (let m : Machine = record { settings = settings; row = rows; core = cores.state; has_failed = cores.has_failed } in m)
-    ≡ record { settings = settings; row = row; core = core.state; has_failed = core.has_failed }
-same_machine settings rows row cores core e f = λ i. record { settings = settings; row = e i; core = (f i).state; has_failed = (f i).has_failed }
+    → (let m : Machine = record { settings = settings; row = rows; core = cores.state; has_failed = cores.has_failed; made = cores.made } in m)
+    ≡ record { settings = settings; row = row; core = core.state; has_failed = core.has_failed; made = core.made }
+same_machine settings rows row cores core e f = λ i. record { settings = settings; row = e i; core = (f i).state; has_failed = (f i).has_failed; made = (f i).made }
 
 pub same_numbers : (numbers before : List ℕ) (given : ℕ) → numbers ≡ before → (let r : Register = record { numbers = numbers; given = given } in r) ≡ record { numbers = before; given = given }
 same_numbers numbers before given e = ap (λ (ns : List ℕ). let r : Register = record { numbers = ns; given = given } in r) e

@@ -1,8 +1,9 @@
 -- Who is asked: the core, for one conversation, which it knows by its place in the row. What a conversation
 -- leaves unfinished goes with it when it is lost, so that another one may have its place.
-use Rattle.std.specs.Prelude.{◌≡◌, ◌⊎◌, ℕ, ◌+◌, ◌-◌, ◌^◌, ◌<◌, min, Bool, true, false, IsTrue, Some, if◌then◌else◌}
+use Rattle.std.specs.Prelude.{◌≡◌, ◌⊎◌, ℕ, ◌+◌, ◌-◌, ◌^◌, ◌<◌, min, Bool, true, false, IsTrue, List, [], ◌∷◌, ◌++◌, Some, if◌then◌else◌}
 use Rattle.drda_disk.specs.Disk.{Life}
-use Rattle.unit_records.specs.Records.{UnitRecord}
+use Rattle.unit_journal.specs.Record.{Entry}
+use Rattle.unit_records.specs.Records.{UnitRecord, entry_of}
 use Rattle.unit_records.specs.Room.{held, released, taken}
 use Rattle.core_calls.specs.Call as call
 use Rattle.core_calls.specs.Call.{Call}
@@ -10,12 +11,15 @@ use Rattle.core_calls.specs.Answer.{Answer, closed, device_failed, full, no_memo
 use Rattle.core_steps.specs.Step.{CoreState, answer as answer_to, step_state}
 use Rattle.recording.specs.Due.{record_due}
 use Rattle.durable_images.specs.Journaled.{Journaled, OnDisk, shown_on}
+use Rattle.durable_core.specs.Steps.{due_entries}
 use Rattle.drda_node.specs.declared.asker.Asker.{Asker}
 
--- what a core is to those who ask it: its state, and whether the device has failed
+-- what a core is to those who ask it: its state, whether the device has failed, and the records that were due of its
+-- calls so far, in their order; the last may be of a call in which the device failed
 pub record AskedCore : Type 0 where
   pub state : CoreState
   pub has_failed : Bool
+  pub made : List Entry
 
 -- the answer and the state behind it are those of the step
 pub record IsTaken (old : AskedCore) (place : ℕ) (call : Call) (answer : Answer) (new : AskedCore) : Type 0 where
@@ -23,6 +27,7 @@ pub record IsTaken (old : AskedCore) (place : ℕ) (call : Call) (answer : Answe
   pub answer_is : answer ≡ answer_to old.state.branches old.state.base place call
   pub state : new.state ≡ step_state old.state place call
   pub still : new.has_failed ≡ false
+  pub made : new.made ≡ old.made ++ due_entries (record_due old.state place call)
 
 -- ---- excuses: the call is not done
 
@@ -50,6 +55,7 @@ pub record FailsHere (old : AskedCore) (place : ℕ) (call : Call) (answer : Ans
   pub answer_is : answer ≡ device_failed
   pub state : new.state ≡ old.state
   pub failed : new.has_failed ≡ true
+  pub made : new.made ≡ old.made ++ entry_of record_is ∷ []
 
 -- it had failed before
 pub record IsClosed (old : AskedCore) (answer : Answer) (new : AskedCore) : Type 0 where
@@ -65,14 +71,15 @@ IsExcused old place call answer new =
 abbrev pub asks : ℕ → AskedCore → Call → Answer → AskedCore → Type 0
 asks place old call answer new = IsTaken old place call answer new ⊎ IsExcused old place call answer new
 
--- what is left of the core where a conversation is lost: its units end; once the device has failed nothing is done
+-- what is left of the core where a conversation is lost: its units end, and no record is due of that; once the device
+-- has failed nothing is done
 abbrev pub left_by : AskedCore → ℕ → AskedCore
-left_by old place = record { state = if old.has_failed then old.state else step_state old.state place call.lost; has_failed = old.has_failed }
+left_by old place = record { state = if old.has_failed then old.state else step_state old.state place call.lost; has_failed = old.has_failed; made = old.made }
 
 -- ---- in code
 
 abbrev pub asked_of : {D : Type 0} → OnDisk D → AskedCore
-asked_of s = record { state = s.state; has_failed = s.is_failed }
+asked_of s = record { state = s.state; has_failed = s.is_failed; made = s.made }
 
 abbrev pub core_of : {D : Type 0} → Asker D → AskedCore
 core_of asker = asked_of asker.core.now

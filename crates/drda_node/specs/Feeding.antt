@@ -6,7 +6,7 @@ use Rattle.dss_frames.specs.Lending.{IsWanted}
 use Rattle.dss_frames.specs.Reading.{unfinished, Reads}
 use Rattle.conversation.specs.declared.front.Need.{Need}
 use Rattle.conversation.specs.declared.front.Need.TheVariants.{Bytes, Local, Short as short, Closed as closed}
-use Rattle.conversation.specs.Settings.{Settings}
+use Rattle.access_exchange.specs.Settings.{Settings}
 use Rattle.conversation.specs.Held.{Held}
 use Rattle.conversation.specs.Standing.{standing}
 use Rattle.drda_node.specs.Asking.{AskedCore}

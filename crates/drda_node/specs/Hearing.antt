@@ -1,6 +1,6 @@
 -- What a conversation answers to bytes, and what it makes of the core that it asks.
 use Rattle.std.specs.Prelude.{◌≡◌, ◌⊎◌, ℕ, true, false, List, [], ◌++◌, Some, slice_get, slice_set}
-use Rattle.conversation.specs.Settings.{Settings}
+use Rattle.access_exchange.specs.Settings.{Settings}
 use Rattle.conversation.specs.Standing.{Standing}
 use Rattle.conversation.specs.Steps.{Converses}
 use Rattle.drda_node.specs.Asking.{AskedCore, asks}
@@ -22,7 +22,7 @@ conversation_of a = record { rest = a.rest; session = a.standing.session; statem
 
 -- the conversation stands at the place then, with the core as it leaves it; all other conversations stay
 abbrev pub attended_at : Machine → ℕ → Attended → Machine
-attended_at machine place after = record machine { row = slice_set machine.row place (Some (conversation_of after)); core = after.standing.asked.state; has_failed = after.standing.asked.has_failed }
+attended_at machine place after = record machine { row = slice_set machine.row place (Some (conversation_of after)); core = after.standing.asked.state; has_failed = after.standing.asked.has_failed; made = after.standing.asked.made }
 
 -- An open conversation does each command that is whole with these bytes, in order, and keeps the rest. A
 -- fault of the framing is answered and closes it, and so does a command that is answered by AGNPRMRM.

@@ -1,14 +1,16 @@
 -- The machine that a node is: what it was started with, a row of places, each free or with one
--- conversation, and the core that all of them ask, with whether the device below it has failed.
+-- conversation, and the core that all of them ask, with whether the device below it has failed, and the records that
+-- were due of its calls so far.
 use Rattle.std.specs.Prelude.{◌≡◌, ℕ, List, [], Option, Some, None, Bool, slice_get, slice_set, is_some, replicate}
 use Rattle.std.specs.List.{list_all}
+use Rattle.unit_journal.specs.Record.{Entry}
 use Rattle.core_steps.specs.Step.{CoreState}
 use Rattle.drda_node.specs.Asking.{AskedCore, left_by}
 use Rattle.exchanges.specs.Statements.{fresh as no_statements}
 use Rattle.exchanges.specs.declared.statements.Statements.{Statements}
-use Rattle.conversation.specs.declared.session.Session.{Session}
-use Rattle.conversation.specs.Settings.{Settings}
-use Rattle.conversation.specs.Exchange.{fresh}
+use Rattle.access_exchange.specs.declared.session.Session.{Session}
+use Rattle.access_exchange.specs.Settings.{Settings}
+use Rattle.access_exchange.specs.Session.{fresh}
 
 -- what is left of a conversation between two events: the bytes that came after its last completed
 -- command, what is remembered of it, and what is kept for its statements
@@ -22,10 +24,11 @@ pub record Machine : Type 0 where
   pub row : List (Option Conversation)
   pub core : CoreState
   pub has_failed : Bool
+  pub made : List Entry
 
 -- no conversation is open
 abbrev pub at_start : Settings → AskedCore → Machine
-at_start settings asked = record { settings = settings; row = replicate 64 None; core = asked.state; has_failed = asked.has_failed }
+at_start settings asked = record { settings = settings; row = replicate 64 None; core = asked.state; has_failed = asked.has_failed; made = asked.made }
 
 -- a conversation of which nothing has come
 abbrev pub beginning : Conversation
@@ -40,7 +43,7 @@ opened machine place = with_place machine place (Some beginning)
 
 -- its core, as those who ask it know it
 abbrev pub asked_in : Machine → AskedCore
-asked_in machine = record { state = machine.core; has_failed = machine.has_failed }
+asked_in machine = record { state = machine.core; has_failed = machine.has_failed; made = machine.made }
 
 -- A conversation that is lost leaves its place free, and the core ends what was its alone. A command that
 -- had not come whole is not asked.

@@ -21,6 +21,7 @@ machine node = record {
   row = map shown node.places.items;
   core = (core_in node).state;
   has_failed = (core_in node).is_failed;
+  made = (core_in node).made;
 }
 
 -- the number that was last given at each place, and how many numbers were given

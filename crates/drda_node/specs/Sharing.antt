@@ -1,7 +1,7 @@
 -- All places of a node serve alike.
 use Rattle.std.specs.Prelude.{◌≡◌, List}
 use Rattle.std.specs.List.{All}
-use Rattle.conversation.specs.Settings.{Settings}
+use Rattle.access_exchange.specs.Settings.{Settings}
 use Rattle.drda_node.specs.declared.place.Place.{Place}
 
 abbrev pub ServesWith : Settings → Place → Type 0

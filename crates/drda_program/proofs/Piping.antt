@@ -1,7 +1,7 @@
 -- Event records over a store that is just made.
 use Rattle.std.proofs.Common.{◌≡◌, ◌∙◌, refl, sym, ap₂, inl, inr, ℕ, Bool, true, false, List, Option, Result, Ok, Err}
 use Rattle.core_steps.specs.Step.{CoreState}
-use Rattle.conversation.specs.Settings.{Settings, is_rdb_name}
+use Rattle.access_exchange.specs.Settings.{Settings, is_rdb_name}
 use Rattle.half_store.specs.Fresh.{is_name}
 use Rattle.durable_units.specs.Durable.{fresh}
 use Rattle.durable_images.specs.Journaled.{OnDisk}
@@ -46,11 +46,8 @@ piped rdb login input before now outcome core begun pipes =
     let is = as_rdb_name rdb true begun.0 in
     inr (is, pipes rdb begun.1 is)
 
-as_asked : CoreState → Bool → AskedCore
-as_asked s f = record { state = s; has_failed = f }
-
 -- what is started over it
 pub starts_fresh : {D : Type 0} (name : List ℕ) (login : Login) (core : OnDisk D) → IsOpenedTo name fresh core → at_start (settings_of login core.name) (asked_of core) ≡ at_start (settings_of login name) new_core
-unfolding as_asked
 starts_fresh name login core is =
-    ap₂ (λ (n : List ℕ) (a : AskedCore). at_start (settings_of login n) a) is.named (ap₂ (λ (s : CoreState) (f : Bool). as_asked s f) is.state is.going)
+    let opened_fresh : asked_of core ≡ new_core = λ i. record { state = is.state i; has_failed = is.going i; made = is.made i } in
+    ap₂ (λ (n : List ℕ) (a : AskedCore). at_start (settings_of login n) a) is.named opened_fresh

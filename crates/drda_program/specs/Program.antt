@@ -2,7 +2,7 @@
 use Rattle.std.specs.Prelude.{◌≡◌, ◌≢◌, ◌⊎◌, ℕ, Bool, true, false, List, [], ◌∷◌, ◌++◌, take, codes, Option, Some, None, IfErr, IfSome, Result, Ok, Err}
 use Rattle.std.specs.Fmt.{decimal}
 use Rattle.std.specs.Io.KnownBytes.{Appends}
-use Rattle.conversation.specs.Settings.{Settings, is_rdb_name}
+use Rattle.access_exchange.specs.Settings.{Settings, is_rdb_name}
 use Rattle.half_store.specs.Fresh.{is_store_of}
 use Rattle.durable_units.specs.Durable.{fresh}
 use Rattle.durable_steps.specs.Part.{opened}
@@ -24,7 +24,7 @@ settings_of login rdb = record { user = login.user; password = login.password; r
 
 -- over a store that was just made
 abbrev pub new_core : AskedCore
-new_core = record { state = opened fresh; has_failed = false }
+new_core = record { state = opened fresh; has_failed = false; made = [] }
 
 -- a machine that is started with these settings over a fresh store has run over the input and ended so
 abbrev pub HasRun : Settings → List ℕ → Option (List ℕ) → RunEnd → Option (List ℕ) → Type 0

@@ -1,6 +1,6 @@
 -- What making and opening stores reports.
 use Rattle.std.specs.Prelude.{◌≡◌, ℕ, true, false, List, Result, Ok, Err}
-use Rattle.conversation.specs.Settings.{is_rdb_name}
+use Rattle.access_exchange.specs.Settings.{is_rdb_name}
 use Rattle.half_store.specs.Fresh.{is_name, is_store_of}
 use Rattle.durable_units.specs.Durable.{fresh}
 use Rattle.durable_images.specs.Journaled.{OnDisk}

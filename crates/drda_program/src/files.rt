@@ -23,6 +23,7 @@ pub struct SystemFiles<'a, R> {
 }
 
 impl<'a, R: Files<File = File>> SystemFiles<'a, R> {
+    /// The files that a program has by this handle.
     pub fn new(rt: &'a R) -> SystemFiles<'a, R> {
         SystemFiles { rt }
     }

@@ -1,7 +1,7 @@
 //! Event records on two streams.
 
 ghost use Rattle.std.specs.Prelude.{◌≡◌, IfErr, IfOk, List, ℕ, true};
-ghost use Rattle.conversation.specs.Settings.{is_rdb_name};
+ghost use Rattle.access_exchange.specs.Settings.{is_rdb_name};
 ghost use Rattle.durable_units.specs.Durable.{fresh as fresh_store};
 ghost use Rattle.durable_core.specs.Opening.{IsOpenedTo};
 ghost use Rattle.drda_node.specs.Asking.{asked_of};

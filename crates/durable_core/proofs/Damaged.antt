@@ -1,5 +1,5 @@
 -- A damaged image does not open, and is damaged at one offset.
-use Rattle.std.proofs.Common.{◌≡◌, ◌⊎◌, inl, inr, ℕ, ◌+◌, ◌*◌, ◌<◌, List, [], ◌∷◌, ◌++◌, length, Option, Some, None, Result, Ok, Err, refl, sym, ◌∙◌, ap, subst, arith}
+use Rattle.std.proofs.Common.{◌≡◌, inl, inr, ℕ, ◌+◌, List, [], ◌∷◌, ◌++◌, length, Some, None, Result, Ok, Err, refl, sym, ◌∙◌, ap, subst, arith}
 use Rattle.std.specs.List.{AllByRecursion}
 use Rattle.drda_disk.specs.Region.{end_of}
 use Rattle.drda_disk.specs.declared.region.Region.{Region}
@@ -12,9 +12,8 @@ use Rattle.durable_units.specs.Durable.{Durable, fresh, next}
 use Rattle.durable_units.specs.Journal.{HasNoPlace, Leads, LeadsOn, OneState}
 use Rattle.durable_units.specs.Laws.{held_for}
 use Rattle.durable_images.specs.Laws.{IsThere, OpensThere}
-use Rattle.durable_images.specs.Opens.{IsJournal, OpensTo}
 use Rattle.durable_images.proofs.Reading.{one_store}
-use Rattle.durable_core.specs.Damage.{DamageOpensNot, HasJournal, HasPages, IsBadJournal, IsDamagedAt, OneDamage, PreparesOne}
+use Rattle.durable_core.specs.Damage.{DamageOpensNot, HasPages, IsBadJournal, OneDamage, PreparesOne}
 use Rattle.durable_core.proofs.Parts.{behind}
 
 -- ---- lists

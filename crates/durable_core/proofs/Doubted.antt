@@ -1,5 +1,5 @@
 -- Units in doubt that are restored from the last one on.
-use Rattle.std.proofs.Common.{◌≡◌, ◌⊎◌, inl, inr, ℕ, ◌+◌, ◌<◌, ◌≤◌, Bool, true, false, cond, List, [], ◌∷◌, ◌++◌, length, Option, Some, None, IsSome, refl, sym, ◌∙◌, ap, subst, arith, length-append}
+use Rattle.std.proofs.Common.{◌≡◌, ◌⊎◌, inl, inr, ℕ, ◌<◌, ◌≤◌, Bool, true, false, cond, List, [], ◌∷◌, ◌++◌, length, Option, Some, None, IsSome, refl, sym, ◌∙◌, ap, subst, arith, length-append}
 use Rattle.std.specs.List.{list_all}
 use Rattle.std.specs.Map.{keys_of}
 use Rattle.std.specs.Ordering.{is_lt, nat_cmp}
@@ -10,16 +10,14 @@ use Rattle.drda_words.specs.Order.{precedes, rises}
 use Rattle.drda_words.proofs.Precedes.{precedes_another, precedes_other}
 use Rattle.row_values.proofs.ValueLaws.{first_true, second_true}
 use Rattle.tables.specs.Tables.{Store}
-use Rattle.tables.specs.Change.{Change}
-use Rattle.unit_locks.specs.Claim.{Claim}
 use Rattle.xa_manager.specs.declared.branch.Branch.{Branch}
 use Rattle.xa_manager.specs.declared.branch.BranchState.{BranchState}
 use Rattle.xa_manager.specs.declared.branch.BranchState.TheVariants.{Prepared}
 use Rattle.xa_manager.specs.Branch.{in_doubt_count, in_doubt_xids, state_of, with_branch}
-use Rattle.core_steps.specs.Units.{Held, Work, global, has_work, idle, set_unit, unit_of}
+use Rattle.core_steps.specs.Units.{Work, global, has_work, idle, unit_of}
 use Rattle.core_steps.specs.Step.{CoreState}
 use Rattle.core_steps.proofs.Owners.{unit_of_other}
-use Rattle.durable_units.specs.Durable.{Doubts, Durable}
+use Rattle.durable_units.specs.Durable.{Doubts}
 use Rattle.durable_units.specs.Replay.{doubt_in, doubts_in}
 use Rattle.durable_units.specs.Sound.{IsSound}
 use Rattle.durable_units.specs.declared.prepared.PreparedUnit.{PreparedUnit}

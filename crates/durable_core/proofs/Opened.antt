@@ -1,5 +1,5 @@
 -- A core over what was read of a store.
-use Rattle.std.proofs.Common.{◌≡◌, ℕ, ◌≤◌, Bool, false, IsTrue, List, length, refl, sym, ◌∙◌, ap, subst}
+use Rattle.std.proofs.Common.{◌≡◌, ◌≤◌, Bool, IsTrue, length, sym, ◌∙◌, ap, subst}
 use Rattle.drda_disk.specs.Disk.{Life}
 use Rattle.drda_disk.specs.Region.{end_of}
 use Rattle.unit_journal.specs.Journal.{IsSettled, held_of, region_of}
@@ -10,7 +10,7 @@ use Rattle.core_steps.specs.Step.{CoreState}
 use Rattle.durable_steps.specs.Kept.{IsKept}
 use Rattle.durable_steps.specs.Laws.{OpeningsAreKept}
 use Rattle.durable_steps.specs.Part.{durable_part, opened}
-use Rattle.disk_recorder.specs.Recording.{disk_of, has_failed, journal_of}
+use Rattle.disk_recorder.specs.Recording.{disk_of, journal_of}
 use Rattle.disk_recorder.specs.declared.recorder.DiskRecorder.{DiskRecorder}
 use Rattle.durable_images.specs.Opens.{Holds}
 use Rattle.durable_core.specs.Recorded.{IsOnDisk, IsRecorded}

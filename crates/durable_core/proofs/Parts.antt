@@ -1,10 +1,9 @@
 -- The parts of a store that were read: they stand there, and what opens is not refused.
-use Rattle.std.proofs.Common.{◌≡◌, ℕ, ◌+◌, ◌-◌, ◌*◌, ◌≤◌, Bool, IsTrue, List, length, Result, Ok, Err, refl, sym, ◌∙◌, ap, subst, arith}
+use Rattle.std.proofs.Common.{◌≡◌, ℕ, ◌+◌, ◌*◌, ◌≤◌, Bool, List, length, Result, Ok, Err, sym, ◌∙◌, ap, subst, arith}
 use Rattle.drda_disk.specs.Disk.{Life}
-use Rattle.drda_disk.specs.Region.{end_of}
 use Rattle.drda_disk.specs.declared.region.Region.{Region}
 use Rattle.half_store.specs.Active.{Store, active_of}
-use Rattle.unit_journal.specs.Journal.{IsSettled, held_of, next_of, region_of, room_of}
+use Rattle.unit_journal.specs.Journal.{held_of, next_of, region_of, room_of}
 use Rattle.unit_journal.specs.declared.journal.Journal.{Journal}
 use Rattle.unit_journal.specs.Laws.{OneReading}
 use Rattle.unit_journal.specs.Record.{Entry, laid}

@@ -1,5 +1,5 @@
 -- The records that prepared the units in doubt: each unit has one, and the last of them all is found.
-use Rattle.std.proofs.Common.{◌≡◌, ◌⊎◌, inl, inr, ℕ, ◌+◌, ◌<◌, Bool, true, false, cond, List, [], ◌∷◌, ◌++◌, length, map, Option, Some, None, Result, Ok, Err, refl, sym, ◌∙◌, ap, subst, arith}
+use Rattle.std.proofs.Common.{◌≡◌, ℕ, ◌<◌, Bool, true, false, cond, List, [], ◌∷◌, length, map, Some, Result, Ok, Err, refl, sym, ◌∙◌, ap, subst, arith}
 use Rattle.std.specs.Prelude.{◌↔◌, IfOk, IsTrue, bytes_eq, is_some, ◌&&◌}
 use Rattle.std.specs.List.{All, AllByRecursion}
 use Rattle.std.specs.Map.{keys_of, lookup}
@@ -24,7 +24,7 @@ use Rattle.unit_records.specs.Read.{Reads}
 use Rattle.unit_records.specs.Records.{IsRecord, UnitRecord, committed, decided, prepared}
 use Rattle.unit_records.specs.declared.record.UnitRecord.{UnitRecord as CodeRecord}
 use Rattle.unit_records.specs.declared.record.UnitRecord.TheVariants.{Commit, Decide, Prepare}
-use Rattle.durable_units.specs.Durable.{Doubts, Durable, decide, doubt_of, fresh, have_places, is_claimed, is_free, next, with_doubt, without_doubt}
+use Rattle.durable_units.specs.Durable.{Doubts, Durable, decide, doubt_of, fresh, have_places, is_claimed, is_free, next, without_doubt}
 use Rattle.durable_units.specs.Journal.{Leads}
 use Rattle.durable_units.specs.Laws.{held_for}
 use Rattle.durable_units.proofs.Holding.{if_some}

@@ -1,13 +1,13 @@
 -- What a call of the core makes of it and of who records: it stays recorded, and each answer is one of `Steps`.
-use Rattle.std.proofs.Common.{◌≡◌, ◌⊎◌, inl, inr, ⊎_elim, ℕ, ◌+◌, ◌-◌, ◌≤◌, ◌^◌, min, Bool, true, false, IsTrue, List, [], ◌∷◌, ◌++◌, length, Option, Some, None, refl, sym, ◌∙◌, ap, subst, arith}
+use Rattle.std.proofs.Common.{◌≡◌, inl, inr, ℕ, ◌+◌, ◌-◌, ◌≤◌, ◌^◌, min, Bool, true, false, IsTrue, List, [], ◌∷◌, ◌++◌, length, Option, Some, None, refl, sym, ◌∙◌, ap, subst, arith, append-nil}
 use Rattle.std.proofs.lemmas.Bool.{false≢true}
 use Rattle.drda_disk.specs.Disk.{Life}
 use Rattle.drda_disk.specs.Region.{end_of}
 use Rattle.drda_disk.specs.declared.region.Region.{Region}
 use Rattle.drda_disk.proofs.Moments.{Stays-refl}
-use Rattle.unit_journal.specs.Journal.{IsSettled, held_of, region_of, room_of}
+use Rattle.unit_journal.specs.Journal.{held_of, region_of, room_of}
 use Rattle.unit_journal.specs.declared.journal.Journal.{Journal}
-use Rattle.unit_journal.specs.Record.{Entry, laid}
+use Rattle.unit_journal.specs.Record.{laid}
 use Rattle.unit_journal.specs.Stands.{Stands}
 use Rattle.unit_records.specs.Records.{UnitRecord, entry_of}
 use Rattle.unit_records.specs.Room.{held, released, taken}
@@ -22,15 +22,15 @@ use Rattle.recording.specs.declared.record_error.RecordError.TheVariants as erro
 use Rattle.durable_steps.specs.Part.{durable_part}
 use Rattle.durable_steps.specs.Kept.{IsKept}
 use Rattle.durable_steps.specs.Laws.{DecisionsAreOfDoubts, RecordsLead, SilentStepsStay, StepsKeep}
-use Rattle.disk_recorder.specs.Recording.{Allows, Fails, IsLeftOpen, Records, disk_of, has_failed, journal_of}
+use Rattle.disk_recorder.specs.Recording.{Allows, Fails, IsLeftOpen, Records, disk_of, has_failed, journal_of, made_of}
 use Rattle.disk_recorder.specs.declared.recorder.DiskRecorder.{DiskRecorder}
 use Rattle.durable_images.specs.Opens.{Holds}
 use Rattle.durable_images.specs.Laws.{RecordsStay}
-use Rattle.durable_images.specs.Journaled.{IsDurable, IsUnchanged, IsUntouched, Journaled, Made, OnDisk, OneCallIsMade, shown_on}
+use Rattle.durable_images.specs.Journaled.{IsDurable, IsUnchanged, IsUntouched, Journaled, OneCallIsMade, shown_on}
 use Rattle.rdb_core.specs.Recorded as told
 use Rattle.rdb_core.specs.Steps as core
 use Rattle.durable_core.specs.Recorded.{IsOnDisk, IsRecorded, core_on}
-use Rattle.durable_core.specs.Steps.{IsClosed, RoomAfter, Steps}
+use Rattle.durable_core.specs.Steps.{IsClosed, RoomAfter, Steps, due_entries}
 
 -- the laws that it rests on
 pub record Laws {D : Type 0} (life : D → Life) : Type 0 where
@@ -57,7 +57,7 @@ module _ {D : Type 0} (modelled : Bool) (life : D → Life) (name : List ℕ) wh
   untouched r = record { stays = Stays-refl (life (disk_of r)); moment = refl; faults = refl }
 
   unchanged : (s : CoreState) (r : DiskRecorder D) → IsUnchanged (shown_on life (core_on name s r)) (shown_on life (core_on name s r))
-  unchanged s r = record { name = refl; state = refl; disk = untouched r; room = refl; is_failed = refl }
+  unchanged s r = record { name = refl; state = refl; disk = untouched r; room = refl; is_failed = refl; made = refl }
 
   -- the core is durable until the device fails
   pub durable_from : OneCallIsMade life → (s : CoreState) (r : DiskRecorder D) → IsRecorded modelled life name s r → IsTrue modelled → has_failed r ≡ false → IsDurable (shown_on life (core_on name s r))
@@ -89,7 +89,7 @@ module _ {D : Type 0} (modelled : Bool) (life : D → Life) (name : List ℕ) wh
 
       silent_journaled : (new : CoreState) → durable_part new ≡ durable_part s → IsTrue modelled → Journaled (shown_on life (core_on name s r)) (shown_on life (core_on name new r))
       silent_journaled new same modelled_disk = (
-        λ still. ([], laws.calls_made.silent (core_on name s r) (core_on name new r) (durable modelled_disk going) (Stays-refl (life (disk_of r))) refl same),
+        λ still. ([], laws.calls_made.silent (core_on name s r) (core_on name new r) (durable modelled_disk going) (Stays-refl (life (disk_of r))) refl same refl),
         λ is_failed. absurd (false≢true (sym going ∙ is_failed)),
       )
 
@@ -119,6 +119,7 @@ module _ {D : Type 0} (modelled : Bool) (life : D → Life) (name : List ℕ) wh
               room = subst (λ (o : Option UnitRecord). RoomAfter o (room_of (journal_of r)) (room_of (journal_of r))) (sym none) refl;
               faults = refl;
               still = going;
+              made = sym (append-nil (made_of r)) ∙ ap (λ (o : Option UnitRecord). made_of r ++ due_entries o) (sym none);
             });
             journaled = silent_journaled (step_state s conversation k) same;
           }
@@ -169,7 +170,7 @@ module _ {D : Type 0} (modelled : Bool) (life : D → Life) (name : List ℕ) wh
                 λ still. (
                   said ∷ [],
                   laws.calls_made.recorded (core_on name s r) (core_on name (step_state s conversation k) after) (region_of (journal_of r)) there.entries said
-                      (durable_part (step_state s conversation k)) there.holds made.good leads (fit there less) (made.moments there.entries there.settled) refl (λ more. refl),
+                      (durable_part (step_state s conversation k)) there.holds made.good leads (fit there less) (made.moments there.entries there.settled) refl (λ more. refl) made.made,
                 ),
                 λ is_failed. absurd (false≢true (sym going ∙ is_failed)),
               )
@@ -189,6 +190,7 @@ module _ {D : Type 0} (modelled : Bool) (life : D → Life) (name : List ℕ) wh
               room = subst (λ (o : Option UnitRecord). RoomAfter o (room_of (journal_of r)) (room_of (journal_of after))) (sym due) made.room;
               faults = made.faults;
               still = made.going;
+              made = made.made ∙ ap (λ (o : Option UnitRecord). made_of r ++ due_entries o) (sym due);
             });
             journaled = record_journaled;
           }
@@ -203,7 +205,7 @@ module _ {D : Type 0} (modelled : Bool) (life : D → Life) (name : List ℕ) wh
                   said ∷ [],
                   laws.calls_made.recorded (core_on name s r) (core_on name s after) (region_of (journal_of r)) there.entries said
                       (durable_part (step_state s conversation k)) there.holds left.good leads (fit there left.fits) (left.moments there.entries there.settled) refl
-                      (λ more. absurd (false≢true (sym more ∙ left.failed))),
+                      (λ more. absurd (false≢true (sym more ∙ left.failed))) left.made,
                 ),
                 λ is_failed. absurd (false≢true (sym going ∙ is_failed)),
               )
@@ -226,6 +228,7 @@ module _ {D : Type 0} (modelled : Bool) (life : D → Life) (name : List ℕ) wh
               room = ap (λ (j : Journal). room_of j) left.journal;
               faults = left.faults;
               failed = left.failed;
+              made = left.made;
             }))));
             journaled = left_journaled;
           }

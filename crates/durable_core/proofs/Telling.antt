@@ -1,13 +1,12 @@
 -- What is told of a store that is not opened.
-use Rattle.std.proofs.Common.{◌≡◌, ◌⊎◌, inl, inr, ℕ, ◌+◌, ◌-◌, ◌*◌, ◌^◌, ◌<◌, List, [], ◌∷◌, ◌++◌, length, Result, Ok, Err, refl, sym, ◌∙◌, ap, subst, arith}
+use Rattle.std.proofs.Common.{◌≡◌, inl, inr, ℕ, ◌+◌, ◌-◌, ◌*◌, ◌^◌, ◌<◌, List, [], ◌∷◌, ◌++◌, length, Result, Ok, Err, sym, ◌∙◌, ap, subst, arith}
 use Rattle.std.specs.Prelude.{min}
 use Rattle.std.specs.List.{AllByRecursion}
 use Rattle.std.proofs.lemmas.List.{map-append}
-use Rattle.drda_disk.specs.Region.{end_of}
 use Rattle.drda_disk.specs.declared.region.Region.{Region}
 use Rattle.half_store.specs.Active.{active_of}
 use Rattle.half_store.specs.Layout.{half_len, offset_of}
-use Rattle.half_store.specs.Opened.{IsBehindPages, store_of}
+use Rattle.half_store.specs.Opened.{store_of}
 use Rattle.half_store.specs.declared.active.Active.{Active}
 use Rattle.unit_journal.specs.Journal.{held_of, next_of, region_of, room_of}
 use Rattle.unit_journal.specs.Opened.{ArePlaced}
@@ -19,8 +18,8 @@ use Rattle.unit_journal.proofs.Spelling.{length-laid-cons}
 use Rattle.durable_units.specs.Durable.{Doubts, Durable, fresh}
 use Rattle.durable_units.specs.Journal.{Leads, StopsAt}
 use Rattle.durable_units.specs.Laws.{held_for}
-use Rattle.durable_core.specs.Damage.{HasJournal, HasNoRoom, HasPages, IsBadJournal, IsDamagedAt, IsMisplaced, PreparesOne}
-use Rattle.durable_core.specs.Prepares.{IsLastPrepare, NonePrepares, TellsLast}
+use Rattle.durable_core.specs.Damage.{HasJournal, HasNoRoom, HasPages, IsDamagedAt, IsMisplaced, PreparesOne}
+use Rattle.durable_core.specs.Prepares.{NonePrepares, TellsLast}
 use Rattle.durable_core.specs.Reads.{IsHead, TellsDamage, TellsStore}
 use Rattle.durable_core.specs.declared.errors.OpenError.{OpenError}
 use Rattle.durable_core.specs.declared.errors.OpenError.TheVariants.{Damaged, DeviceFailed, NoMemory, NotAStore}

@@ -1,8 +1,11 @@
 -- What opening a store answers.
-use Rattle.std.specs.Prelude.{◌≡◌, ℕ, false, List, Result, Ok, Err}
+use Rattle.std.specs.Prelude.{◌≡◌, ℕ, ◌+◌, false, List, [], length, Result, Ok, Err}
+use Rattle.drda_disk.specs.declared.region.Region.{Region}
+use Rattle.unit_journal.specs.Record.{Entry, laid}
 use Rattle.durable_units.specs.Durable.{Durable}
+use Rattle.durable_units.specs.Laws.{held_for}
 use Rattle.durable_steps.specs.Part.{opened}
-use Rattle.durable_images.specs.Opens.{OpensTo}
+use Rattle.durable_images.specs.Opens.{Holds}
 use Rattle.durable_images.specs.Journaled.{OnDisk}
 use Rattle.durable_core.specs.Reads.{CountsError, IsExcused, TellsNoStore}
 use Rattle.durable_core.specs.declared.errors.Refused.{Refused}
@@ -17,17 +20,22 @@ pub record IsOpenedTo {D : Type 0} (name : List ℕ) (d : Durable) (core : OnDis
   pub named : core.name ≡ name
   pub state : core.state ≡ opened d
   pub going : core.is_failed ≡ false
+  pub made : core.made ≡ []
 
 -- just this is opened, or memory or the device is told
 abbrev pub Finds : {D : Type 0} → List ℕ → Durable → Result (OnDisk D) (Refused D) → Type 0
 Finds name d (Ok core) = IsOpenedTo name d core
 Finds name d (Err refused) = IsExcused refused.error
 
--- what is opened stood there
+-- What is opened stood there. Its room is what the records leave of the journal behind the next gate, less the bytes
+-- that are held back for the decisions of the units in doubt.
 pub record StoodThere {D : Type 0} (image : List ℕ) (core : OnDisk D) : Type 0 where
   pub durable : Durable
-  pub stood : OpensTo core.name durable image
+  pub region : Region
+  pub entries : List Entry
+  pub stood : Holds core.name region entries durable image
   pub is : IsOpenedTo core.name durable core
+  pub room : core.room + (length (laid entries) + 1 + held_for durable.doubts) ≡ region.length
 
 -- the device has failed once more exactly where that is told
 abbrev pub CountsOpen : {D : Type 0} → Result (OnDisk D) (Refused D) → ℕ → ℕ → Type 0

@@ -8,14 +8,14 @@ use Rattle.durable_units.specs.Laws.{held_for}
 use Rattle.core_steps.specs.Step.{CoreState}
 use Rattle.durable_steps.specs.Kept.{IsKept}
 use Rattle.durable_steps.specs.Part.{durable_part}
-use Rattle.disk_recorder.specs.Recording.{disk_of, has_failed, journal_of}
+use Rattle.disk_recorder.specs.Recording.{disk_of, has_failed, journal_of, made_of}
 use Rattle.disk_recorder.specs.declared.recorder.DiskRecorder.{DiskRecorder}
 use Rattle.durable_images.specs.Opens.{Holds}
 use Rattle.durable_images.specs.Journaled.{OnDisk}
 
 -- what is seen of a core, by its name, its state and who records
 abbrev pub core_on : {D : Type 0} → List ℕ → CoreState → DiskRecorder D → OnDisk D
-core_on name state r = record { name = name; state = state; disk = disk_of r; room = room_of (journal_of r); is_failed = has_failed r }
+core_on name state r = record { name = name; state = state; disk = disk_of r; room = room_of (journal_of r); is_failed = has_failed r; made = made_of r }
 
 module _ {D : Type 0} (modelled : Bool) (life : D → Life) where
   -- the records on the disk, which are there to stay, lead to what is durable of the core

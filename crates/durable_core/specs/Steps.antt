@@ -1,6 +1,7 @@
 -- What a call makes of a core whose units are recorded on a disk.
-use Rattle.std.specs.Prelude.{◌≡◌, ◌⊎◌, ℕ, ◌+◌, ◌-◌, ◌^◌, ◌<◌, min, true, false, Option, Some, None}
-use Rattle.unit_records.specs.Records.{UnitRecord}
+use Rattle.std.specs.Prelude.{◌≡◌, ◌⊎◌, ℕ, ◌+◌, ◌-◌, ◌^◌, ◌<◌, min, true, false, List, [], ◌∷◌, ◌++◌, Option, Some, None}
+use Rattle.unit_journal.specs.Record.{Entry}
+use Rattle.unit_records.specs.Records.{UnitRecord, entry_of}
 use Rattle.unit_records.specs.Room.{held, released, taken}
 use Rattle.core_calls.specs.Call.{Call, lost}
 use Rattle.core_calls.specs.Answer.{Answer, closed, device_failed, full, no_memory}
@@ -13,6 +14,11 @@ abbrev pub RoomAfter : Option UnitRecord → ℕ → ℕ → Type 0
 RoomAfter None old new = new ≡ old
 RoomAfter (Some r) old new = new + (taken r + held r) ≡ old + released r
 
+-- the record that is due, as the journal has it
+abbrev pub due_entries : Option UnitRecord → List Entry
+due_entries None = []
+due_entries (Some r) = entry_of r ∷ []
+
 -- the answer and the state behind it are those of the step
 pub record IsTaken (old : Shown) (conversation : ℕ) (k : Call) (told : Answer) (new : Shown) : Type 0 where
   pub going : old.is_failed ≡ false
@@ -21,6 +27,7 @@ pub record IsTaken (old : Shown) (conversation : ℕ) (k : Call) (told : Answer)
   pub room : RoomAfter (record_due old.state conversation k) old.room new.room
   pub faults : new.disk.faults ≡ old.disk.faults
   pub still : new.is_failed ≡ false
+  pub made : new.made ≡ old.made ++ due_entries (record_due old.state conversation k)
 
 -- ---- excuses: all else stays
 
@@ -50,6 +57,7 @@ pub record FailsHere (old : Shown) (conversation : ℕ) (k : Call) (told : Answe
   pub room : new.room ≡ old.room
   pub faults : new.disk.faults ≡ old.disk.faults + 1
   pub failed : new.is_failed ≡ true
+  pub made : new.made ≡ old.made ++ entry_of record_is ∷ []
 
 -- the device failed before: nothing is done
 pub record IsClosed (old : Shown) (told : Answer) (new : Shown) : Type 0 where

@@ -13,6 +13,7 @@ use drda_disk::Disk;
 use durable_images::laws::{calls_make_records, records_stay};
 use durable_steps::laws::steps_are_recorded;
 use durable_units::laws::doubts_hold_their_decisions;
+use plain_state::PlainState;
 use rdb_core::Core;
 use std::alloc::AllocError;
 use std::marker::Model;
@@ -109,6 +110,15 @@ impl<D: Disk> DurableCore<D> {
         ensures { IfOk result (λ xids. xids ≡ in_doubt_xids self.now.state.branches) }
     {
         self.core.in_doubt()
+    }
+
+    /// A copy of the whole state as plain lists: the committed tables, the units that have work, and the
+    /// branches. It is read from memory, so it is told while the device has failed, too, as it stood before
+    /// the call that failed. Memory may be refused; nothing changes in any case.
+    pub fn plain(&self) -> Result<PlainState, AllocError>
+        ensures { IfOk result (λ plain. plain ≡ self.now.state) }
+    {
+        self.core.plain()
     }
 
     /// The disk, as the last call left it.

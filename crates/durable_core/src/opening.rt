@@ -2,6 +2,7 @@
 
 ghost use Rattle.std.specs.Prelude.{◌≡◌, IfErr, IfOk, IsTrue, List, ℕ, length};
 ghost use Rattle.drda_disk.specs.Disk.{Stays};
+ghost use Rattle.unit_journal.specs.Journal.{room_of};
 ghost use Rattle.durable_units.specs.Durable.{Durable};
 ghost use Rattle.durable_images.specs.Opens.{OpensTo};
 ghost use Rattle.durable_core.specs.Found.{IsFound, durable_in, name_in};
@@ -74,6 +75,7 @@ fn read_store<D: Disk>(alloc: Global, disk: &mut D) -> Result<Found, OpenError>
 fn begin<D: Disk>(alloc: Global, disk: D, found: Found) -> Result<DurableCore<D>, Refused<D>>
     requires { IsFound D.is_modelled (D.life disk) found }
     ensures ok { IfOk result (IsOpenedTo (name_in found) (durable_in found)) }
+    ensures room { IfOk result (λ core. core.room ≡ room_of found.journal) }
     ensures err { IfErr result (λ refused. refused.error ≡ OpenError.NoMemory) }
     ensures disk { disk_in result ≡ disk }
 {

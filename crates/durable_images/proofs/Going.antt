@@ -1,11 +1,13 @@
 -- Calls one after another.
-use Rattle.std.proofs.Common.{◌≡◌, ℕ, ◌+◌, min, Bool, true, false, List, [], ◌++◌, length, take, drop, Some, refl, sym, ◌∙◌, ap, subst, arith, take-add}
+use Rattle.std.proofs.Common.{◌≡◌, ℕ, ◌+◌, min, Bool, true, false, List, [], ◌∷◌, ◌++◌, length, take, drop, Some, refl, sym, ◌∙◌, ap, subst, arith, take-add, map, append_assoc, append-nil}
+use Rattle.std.specs.List.{AllByRecursion}
 use Rattle.std.specs.Option.{option_and_then}
 use Rattle.std.proofs.lemmas.Bool.{false≢true}
-use Rattle.std.proofs.lemmas.List.{take_at, drop_at, take-append-le, take_min}
+use Rattle.std.proofs.lemmas.List.{take_at, drop_at, take-append-le, take_min, map-append}
 use Rattle.drda_disk.specs.Disk.{Life}
 use Rattle.drda_disk.proofs.Moments.{and_stays, and_then, no_call, Stays-refl, Stays-trans}
-use Rattle.unit_records.specs.Records.{UnitRecord}
+use Rattle.unit_journal.specs.Record.{Entry}
+use Rattle.unit_records.specs.Records.{IsGood, UnitRecord, entry_of}
 use Rattle.durable_units.specs.Durable.{Durable, replayed_from}
 use Rattle.durable_units.specs.Laws.{GoesOn}
 use Rattle.durable_steps.specs.Part.{durable_part}
@@ -23,6 +25,14 @@ front_both : (rs ss : List UnitRecord) (n : ℕ) → take (length rs + n) (rs ++
 front_both rs ss n =
     take-add (length rs) n (rs ++ ss) ∙ ap (λ (l : List UnitRecord). l ++ take n (drop (length rs) (rs ++ ss))) (take_at rs ss (length rs) refl)
     ∙ ap (λ (l : List UnitRecord). rs ++ take n l) (drop_at rs ss (length rs) refl)
+
+good_both : (rs ss : List UnitRecord) → AllByRecursion IsGood rs → AllByRecursion IsGood ss → AllByRecursion IsGood (rs ++ ss)
+good_both [] ss first second = second
+good_both (r ∷ rs) ss (good, first) second = (good, good_both rs ss first second)
+
+noted_both : (a b c : List Entry) (rs ss : List UnitRecord) → b ≡ a ++ map entry_of rs → c ≡ b ++ map entry_of ss → c ≡ a ++ map entry_of (rs ++ ss)
+noted_both a b c rs ss first second =
+    second ∙ ap (λ (l : List Entry). l ++ map entry_of ss) first ∙ append_assoc a (map entry_of rs) (map entry_of ss) ∙ ap (λ (l : List Entry). a ++ l) (sym (map-append entry_of rs ss))
 
 module _ (goes_on : GoesOn) where
   led_on : (d e : Durable) (rs ss : List UnitRecord) → replayed_from d rs ≡ Some e → replayed_from d (rs ++ ss) ≡ replayed_from e ss
@@ -49,6 +59,8 @@ module _ (goes_on : GoesOn) where
         moments = and_then a.disk b.disk c.disk _ _ _ first.moments second.moments (λ i. opens_first a.name (durable_part a.state) rs ss i)
             (λ i. opens_both a.name b.name (durable_part a.state) (durable_part b.state) rs ss i first.name led);
         state = λ still. led_on (durable_part a.state) (durable_part b.state) rs ss led ∙ second.state still;
+        good = good_both rs ss first.good second.good;
+        made = noted_both a.made b.made c.made rs ss first.made second.made;
       }
 
 -- ---- no device call
@@ -57,7 +69,7 @@ pub untouched : (a : Life) → IsUntouched a a
 untouched a = record { stays = Stays-refl a; moment = refl; faults = refl }
 
 pub unchanged : (s : Shown) → IsUnchanged s s
-unchanged s = record { name = refl; state = refl; disk = untouched s.disk; room = refl; is_failed = refl }
+unchanged s = record { name = refl; state = refl; disk = untouched s.disk; room = refl; is_failed = refl; made = refl }
 
 untouched_both : (a b c : Life) → IsUntouched a b → IsUntouched b c → IsUntouched a c
 untouched_both a b c first second = record { stays = Stays-trans a b c first.stays second.stays; moment = second.moment ∙ first.moment; faults = second.faults ∙ first.faults }
@@ -67,22 +79,26 @@ made_failed a b c rs first stays = record {
   name = stays.name ∙ first.name;
   moments = and_stays a.disk b.disk c.disk (OpensAfterSome a.name (durable_part a.state) rs) first.moments stays.disk.stays;
   state = λ still. absurd (false≢true (sym still ∙ stays.failed));
+  good = first.good;
+  made = stays.made ∙ first.made;
 }
 
 failed_both : (a b c : Shown) → StaysFailed a b → StaysFailed b c → StaysFailed a c
-failed_both a b c first second = record { failed = second.failed; name = second.name ∙ first.name; state = second.state ∙ first.state; disk = untouched_both a.disk b.disk c.disk first.disk second.disk }
+failed_both a b c first second = record { failed = second.failed; name = second.name ∙ first.name; state = second.state ∙ first.state; disk = untouched_both a.disk b.disk c.disk first.disk second.disk; made = second.made ∙ first.made }
 
 made_none : (s : Shown) → IsDurable s → Made [] s s
 made_none s durable = record {
   name = refl;
   moments = no_call s.disk _ (λ c now. record { count = 0; state = durable_part s.state; leads = refl; opens = subst (λ (l : List ℕ). OpensTo s.name (durable_part s.state) l) (sym (durable.only c now)) durable.opens });
   state = λ still. refl;
+  good = tt;
+  made = sym (append-nil s.made);
 }
 
 -- ---- calls
 
 pub goes_none : (s : Shown) → (s.is_failed ≡ false → IsDurable s) → Journaled s s
-goes_none s durable = (λ going. ([], made_none s (durable going)), λ failed. record { failed = failed; name = refl; state = refl; disk = untouched s.disk })
+goes_none s durable = (λ going. ([], made_none s (durable going)), λ failed. record { failed = failed; name = refl; state = refl; disk = untouched s.disk; made = refl })
 
 module _ (goes_on : GoesOn) where
   from_going : (a b c : Shown) (failed : Bool) → b.is_failed ≡ failed → ((rs : List UnitRecord) × Made rs a b) → Journaled b c → (rs : List UnitRecord) × Made rs a c

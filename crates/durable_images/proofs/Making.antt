@@ -1,5 +1,5 @@
 -- What one call makes of a core and its disk.
-use Rattle.std.proofs.Common.{◌≡◌, ⊎_elim, ℕ, ◌+◌, ◌≤◌, false, List, [], ◌∷◌, ◌++◌, length, Some, refl, sym, ◌∙◌, ap, subst}
+use Rattle.std.proofs.Common.{◌≡◌, ⊎_elim, ℕ, ◌+◌, ◌≤◌, false, List, [], ◌∷◌, ◌++◌, length, Some, refl, sym, ◌∙◌, ap, subst, append-nil}
 use Rattle.std.specs.Option.{option_and_then}
 use Rattle.drda_disk.specs.Disk.{Life, LeavesOnly, Now, Stays}
 use Rattle.drda_disk.specs.declared.region.Region.{Region}
@@ -31,24 +31,28 @@ module _ (written : WrittenIsRead) where
       → Holds old.name region es (durable_part old.state) old.disk.seen → IsGood r → next (durable_part old.state) r ≡ Some e
       → length (laid es) + taken r + 1 + held_for e.doubts ≤ region.length
       → LeavesOnly old.disk new.disk (IsBeforeOrAfter region old.disk.seen es (entry_of r))
-      → new.name ≡ old.name → (new.is_failed ≡ false → durable_part new.state ≡ e) → Made (r ∷ []) old new
-  made_one old new region es r e was good step room run name state = record {
+      → new.name ≡ old.name → (new.is_failed ≡ false → durable_part new.state ≡ e) → new.made ≡ old.made ++ entry_of r ∷ [] → Made (r ∷ []) old new
+  made_one old new region es r e was good step room run name state made = record {
     name = name;
     moments = weaker old.disk new.disk _ _ run (λ c found.
         ⊎_elim (λ before. opens_here old.name (durable_part old.state) (r ∷ []) c (region, es, before)) (λ after. opens_behind old.name (durable_part old.state) e r c step (region, es ++ entry_of r ∷ [], after))
         (records_open written old.name region es (durable_part old.state) e r old.disk.seen c was good step room found));
     state = λ still. one_step (durable_part old.state) e r step ∙ ap Some (sym (state still));
+    good = (good, tt);
+    made = made;
   }
 
 -- what is durable of a core is what each image opens to
 only_opens : (s : Shown) → IsDurable s → (c : List ℕ) → Now s.disk c → OpensTo s.name (durable_part s.state) c
 only_opens s durable c now = subst (λ (l : List ℕ). OpensTo s.name (durable_part s.state) l) (sym (durable.only c now)) durable.opens
 
-made_silent : (old new : Shown) → IsDurable old → Stays old.disk new.disk → new.name ≡ old.name → durable_part new.state ≡ durable_part old.state → Made [] old new
-made_silent old new durable stays name same = record {
+made_silent : (old new : Shown) → IsDurable old → Stays old.disk new.disk → new.name ≡ old.name → durable_part new.state ≡ durable_part old.state → new.made ≡ old.made → Made [] old new
+made_silent old new durable stays name same made = record {
   name = name;
   moments = stays_leaves old.disk new.disk _ stays (λ c now. opens_here old.name (durable_part old.state) [] c (only_opens old durable c now));
   state = λ still. ap Some (sym same);
+  good = tt;
+  made = made ∙ sym (append-nil old.made);
 }
 
 pub one_call_is_made : WrittenIsRead → {D : Type 0} (life : D → Life) → OneCallIsMade life
@@ -56,7 +60,7 @@ one_call_is_made written {D} life = record {
   durable = λ s region es only holds. record { only = only; opens = (region, es, holds) };
   recorded = λ old new. made_one written (shown_on life old) (shown_on life new);
   silent = λ old new. made_silent (shown_on life old) (shown_on life new);
-  failed = λ old new failed same. subst (λ (n : OnDisk D). StaysFailed (shown_on life old) (shown_on life n)) (sym same) (record { failed = failed; name = refl; state = refl; disk = untouched (life old.disk) });
+  failed = λ old new failed same. subst (λ (n : OnDisk D). StaysFailed (shown_on life old) (shown_on life n)) (sym same) (record { failed = failed; name = refl; state = refl; disk = untouched (life old.disk); made = refl });
   unchanged = λ old new same. subst (λ (n : OnDisk D). IsUnchanged (shown_on life old) (shown_on life n)) (sym same) (unchanged (shown_on life old));
   read_only = λ old new stays only. stays_leaves (life old) (life new) _ stays only;
 }

@@ -1,6 +1,7 @@
 -- What calls leave on the disk: at any moment, the tables and units in doubt after the first of the records
 -- that they made.
-use Rattle.std.specs.Prelude.{◌≡◌, ℕ, ◌+◌, ◌≤◌, Bool, true, false, List, [], ◌∷◌, length, take, Some}
+use Rattle.std.specs.Prelude.{◌≡◌, ℕ, ◌+◌, ◌≤◌, Bool, true, false, List, [], ◌∷◌, ◌++◌, length, take, Some, map}
+use Rattle.std.specs.List.{AllByRecursion}
 use Rattle.drda_disk.specs.Disk.{LeavesOnly, Life, Only, Stays}
 use Rattle.drda_disk.specs.declared.region.Region.{Region}
 use Rattle.unit_journal.specs.Record.{Entry, laid}
@@ -22,6 +23,8 @@ pub record Shown : Type 1 where
   pub room : ℕ
   -- the device has failed: the core does nothing more
   pub is_failed : Bool
+  -- the records that were due of its calls, in their order; the last may be of a call in which the device failed
+  pub made : List Entry
 
 -- an image opens to what the first of these records lead to, from d on
 pub record OpensAfterSome (name : List ℕ) (d : Durable) (records : List UnitRecord) (image : List ℕ) : Type 0 where
@@ -35,12 +38,14 @@ pub record IsDurable (s : Shown) : Type 0 where
   pub only : Only s.disk
   pub opens : OpensTo s.name (durable_part s.state) s.disk.seen
 
--- Calls made these records. A crash at any moment leaves an image that opens to what the first of them lead
+-- These records were due of the calls. A crash at any moment leaves an image that opens to what the first of them lead
 -- to. What is durable of the core is what all of them lead to, unless the device failed.
 pub record Made (records : List UnitRecord) (old new : Shown) : Type 0 where
   pub name : new.name ≡ old.name
   pub moments : LeavesOnly old.disk new.disk (OpensAfterSome old.name (durable_part old.state) records)
   pub state : new.is_failed ≡ false → replayed_from (durable_part old.state) records ≡ Some (durable_part new.state)
+  pub good : AllByRecursion IsGood records
+  pub made : new.made ≡ old.made ++ map entry_of records
 
 -- no device call was made
 pub record IsUntouched (old new : Life) : Type 0 where
@@ -55,6 +60,7 @@ pub record IsUnchanged (old new : Shown) : Type 0 where
   pub disk : IsUntouched old.disk new.disk
   pub room : new.room ≡ old.room
   pub is_failed : new.is_failed ≡ old.is_failed
+  pub made : new.made ≡ old.made
 
 -- a core that has failed makes no device call
 pub record StaysFailed (old new : Shown) : Type 0 where
@@ -62,6 +68,7 @@ pub record StaysFailed (old new : Shown) : Type 0 where
   pub name : new.name ≡ old.name
   pub state : new.state ≡ old.state
   pub disk : IsUntouched old.disk new.disk
+  pub made : new.made ≡ old.made
 
 abbrev pub Journaled : Shown → Shown → Type 0
 Journaled old new = (old.is_failed ≡ false → (records : List UnitRecord) × Made records old new) × (old.is_failed ≡ true → StaysFailed old new)
@@ -74,10 +81,11 @@ pub record OnDisk (D : Type 0) : Type 0 where
   pub disk : D
   pub room : ℕ
   pub is_failed : Bool
+  pub made : List Entry
 
 module _ {D : Type 0} (life : D → Life) where
   abbrev pub shown_on : OnDisk D → Shown
-  shown_on s = record { name = s.name; state = s.state; disk = life s.disk; room = s.room; is_failed = s.is_failed }
+  shown_on s = record { name = s.name; state = s.state; disk = life s.disk; room = s.room; is_failed = s.is_failed; made = s.made }
 
   -- calls one after another
   pub record CallsGoOn : Type 0 where
@@ -93,11 +101,11 @@ module _ {D : Type 0} (life : D → Life) where
         → Holds old.name region es (durable_part old.state) (life old.disk).seen → IsGood r → next (durable_part old.state) r ≡ Some e
         → length (laid es) + taken r + 1 + held_for e.doubts ≤ region.length
         → LeavesOnly (life old.disk) (life new.disk) (IsBeforeOrAfter region (life old.disk).seen es (entry_of r))
-        → new.name ≡ old.name → (new.is_failed ≡ false → durable_part new.state ≡ e)
+        → new.name ≡ old.name → (new.is_failed ≡ false → durable_part new.state ≡ e) → new.made ≡ old.made ++ entry_of r ∷ []
         → Made (r ∷ []) (shown_on old) (shown_on new)
     -- a call that makes none
     pub silent : (old new : OnDisk D) → IsDurable (shown_on old) → Stays (life old.disk) (life new.disk)
-        → new.name ≡ old.name → durable_part new.state ≡ durable_part old.state
+        → new.name ≡ old.name → durable_part new.state ≡ durable_part old.state → new.made ≡ old.made
         → Made [] (shown_on old) (shown_on new)
     -- a call that changes nothing, of a core that has failed or of any
     pub failed : (old new : OnDisk D) → old.is_failed ≡ true → new ≡ old → StaysFailed (shown_on old) (shown_on new)

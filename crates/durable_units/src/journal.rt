@@ -58,5 +58,5 @@ fn read_and_step(state: &mut Replay, alloc: Global, entry: &Record) -> Result<()
         Ok(said) => said,
         Err(error) => return Err(error),
     };
-    state.step(alloc, entry.at, said)
+    state.step(alloc, said)
 }

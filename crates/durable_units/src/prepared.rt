@@ -19,9 +19,6 @@ pub struct PreparedUnit {
     pub xid: Xid,
     pub changes: UnitChanges,
     pub claims: Vec<Claim>,
-    /// The offset of the disk at which the gate of its prepare's record stands, as `Replay::step` was
-    /// told. Contracts do not see it.
-    pub at: usize,
 }
 
 /// Where the unit of an XID stands, if it is in doubt.

@@ -42,13 +42,12 @@ impl Replay {
         }
     }
 
-    /// Makes the next record good, whose gate is at this offset of the disk. `Damaged` exactly where
-    /// it has no place among those before it: a change of a commit or of a prepare is of no table, or
-    /// of another form than its table's, or creates a table that is there or the 1,001st; a prepare
-    /// creates a table and does not claim all names; its XID is in doubt already, or 256 are; the XID
-    /// of a decision is not in doubt. A claim that a prepare repeats counts once. After an error the
-    /// replay is not used again.
-    pub fn step(&mut self, alloc: Global, at: usize, said: UnitRecord) -> Result<(), ReadError>
+    /// Makes the next record good. `Damaged` exactly where it has no place among those before it: a
+    /// change of a commit or of a prepare is of no table, or of another form than its table's, or
+    /// creates a table that is there or the 1,001st; a prepare creates a table and does not claim all
+    /// names; its XID is in doubt already, or 256 are; the XID of a decision is not in doubt. A claim
+    /// that a prepare repeats counts once. After an error the replay is not used again.
+    pub fn step(&mut self, alloc: Global, said: UnitRecord) -> Result<(), ReadError>
         ensures { Steps result (next (durable_of self.old) (record_of said)) (durable_of self.new) }
     {
         match said {
@@ -57,7 +56,7 @@ impl Replay {
                 xid,
                 changes,
                 claims,
-            } => self.prepare(alloc, at, xid, changes, claims),
+            } => self.prepare(alloc, xid, changes, claims),
             UnitRecord::Decide { xid, outcome } => self.decide(alloc, &xid, outcome),
         }
     }
@@ -85,7 +84,6 @@ impl Replay {
     fn prepare(
         &mut self,
         alloc: Global,
-        at: usize,
         xid: Xid,
         changes: Vec<Change>,
         claims: Vec<Claim>,
@@ -108,7 +106,6 @@ impl Replay {
                 xid,
                 changes,
                 claims,
-                at,
             },
         )?;
         Ok(())

@@ -30,7 +30,7 @@ cut_in_front count xs ys =
 
 set_again : (machine : Machine) (place : ℕ) (x y : Attended) → attended_at (attended_at machine place x) place y ≡ attended_at machine place y
 set_again machine place x y =
-    ap (λ (row : List (Option Conversation)). let m : Machine = record { settings = machine.settings; row = row; core = y.standing.asked.state; has_failed = y.standing.asked.has_failed } in m) (set-set machine.row place (Some (conversation_of x)) (Some (conversation_of y)))
+    ap (λ (row : List (Option Conversation)). let m : Machine = record { settings = machine.settings; row = row; core = y.standing.asked.state; has_failed = y.standing.asked.has_failed; made = y.standing.asked.made } in m) (set-set machine.row place (Some (conversation_of x)) (Some (conversation_of y)))
 
 module _ (fault_more : (bytes more : List ℕ) (fault : FrameFault) → FaultAt bytes fault → FaultAt (bytes ++ more) fault) where
   answered_then : (old mid new : Machine) (place : ℕ) (p q x y : List ℕ) → Answered old place p x mid → Answered mid place q y new → Answered old place (p ++ q) (x ++ y) new

@@ -1,4 +1,4 @@
-use Rattle.std.proofs.Common.{◌≡◌, ℕ, IsTrue, List, length, ap, sym, subst}
+use Rattle.std.proofs.Common.{ℕ, IsTrue, List, length, subst}
 use Rattle.half_store.specs.Layout.{is_store_size}
 use Rattle.durable_core.proofs.Heads.{inside_ok}
 use Rattle.durable_core.proofs.head.read_head.Goals as goal

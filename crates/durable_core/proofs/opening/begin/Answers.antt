@@ -1,5 +1,4 @@
-use Rattle.std.proofs.Common.{◌≡◌, List, ◌∙◌, ap}
-use Rattle.tables.specs.Tables.{Store}
+use Rattle.std.proofs.Common.{◌≡◌, ◌∙◌, ap}
 use Rattle.durable_units.specs.Replay.{doubts_in}
 use Rattle.core_steps.specs.Step.{CoreState}
 use Rattle.durable_steps.specs.Part.{opened}

@@ -1,17 +1,15 @@
-use Rattle.std.proofs.Common.{rules, ◌≡◌, ◌<◌, ℕ, List, Result, Ok, Err, string_bytes, refl, sym, ◌∙◌, ap, subst}
+use Rattle.std.proofs.Common.{rules, ◌≡◌, ◌<◌, ℕ, List, string_bytes, sym, ◌∙◌, ap, subst}
 use Rattle.unit_journal.specs.Journal.{room_of}
-use Rattle.unit_journal.specs.Record.{Entry, entries_of}
+use Rattle.unit_journal.specs.Record.{entries_of}
 use Rattle.unit_journal.specs.declared.record.Record.{Record}
 use Rattle.unit_journal.specs.Stands.{IsDamagedAt as HasNoRecord, Stands}
-use Rattle.durable_units.specs.Durable.{Doubts, Durable, fresh}
+use Rattle.durable_units.specs.Durable.{Doubts, fresh}
 use Rattle.durable_units.specs.Journal.{Leads, StopsAt}
 use Rattle.durable_units.specs.Laws.{held_for}
 use Rattle.durable_units.specs.Replay.{doubts_in, durable_of}
 use Rattle.durable_units.specs.declared.prepared.PreparedUnit.{PreparedUnit}
 use Rattle.durable_core.specs.Prepares.{TellsLast}
 use Rattle.durable_core.specs.Reads.{TellsDamage}
-use Rattle.durable_core.specs.declared.errors.OpenError.{OpenError}
-use Rattle.durable_core.specs.declared.reading.Found.{Found}
 use Rattle.durable_core.proofs.Parts.{held_plain, journal_plain, passed_on, units_plain}
 use Rattle.durable_core.proofs.Telling.{handed_on, is_short, misplaced, no_record, no_room, told}
 use Rattle.durable_core.proofs.opening.read_store.Goals as goal

@@ -1,9 +1,6 @@
-use Rattle.std.proofs.Common.{refl, ◌∙◌, sym, ap, subst}
-use Rattle.std.specs.Prelude.{Result, Err}
-use Rattle.xa_manager.specs.declared.table.RestoreError.{RestoreError}
+use Rattle.std.proofs.Common.{◌∙◌}
 use Rattle.durable_units.specs.Replay.{doubts_in}
 use Rattle.rdb_core.specs.State.{state_of}
-use Rattle.rdb_core.specs.Restored.{RestoresUnit}
 use Rattle.durable_core.proofs.Doubted.{goes_on, is_idle, not_known, told_known}
 use Rattle.durable_core.proofs.restoring.restore_all.Goals as goal
 

@@ -1,11 +1,6 @@
-use Rattle.std.proofs.Common.{rules, ◌≡◌, IsTrue, Bool, true, false, string_bytes, List, ℕ, inl, inr, refl, sym, ◌∙◌, subst}
-use Rattle.core_calls.specs.Answer.{answer_of}
-use Rattle.core_calls.specs.Call.{call_of, lost}
+use Rattle.std.proofs.Common.{◌≡◌, IsTrue, false, string_bytes, subst}
 use Rattle.rdb_core.specs.State.{recorder_of, state_of}
-use Rattle.disk_recorder.specs.Recording.{has_failed}
-use Rattle.durable_images.specs.Journaled.{IsDurable, Journaled, OnDisk, shown_on}
-use Rattle.durable_core.specs.Recorded.{core_on}
-use Rattle.durable_core.specs.Steps.{Loses, Steps}
+use Rattle.durable_images.specs.Journaled.{IsDurable, OnDisk, shown_on}
 use Rattle.durable_core.proofs.Stepping.{durable_from}
 use Rattle.durable_core.proofs.durable.DurableCore.is_durable.Goals as goal
 

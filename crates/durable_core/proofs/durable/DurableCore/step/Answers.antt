@@ -1,12 +1,12 @@
-use Rattle.std.proofs.Common.{rules, ◌≡◌, IsTrue, Bool, true, false, string_bytes, List, ℕ, inl, inr, refl, sym, ◌∙◌, subst}
+use Rattle.std.proofs.Common.{rules, ◌≡◌, IsTrue, false, string_bytes, subst}
 use Rattle.core_calls.specs.Answer.{answer_of}
-use Rattle.core_calls.specs.Call.{call_of, lost}
+use Rattle.core_calls.specs.Call.{call_of}
 use Rattle.rdb_core.specs.State.{recorder_of, state_of}
 use Rattle.disk_recorder.specs.Recording.{has_failed}
 use Rattle.durable_images.specs.Journaled.{Journaled, OnDisk, shown_on}
 use Rattle.durable_core.specs.Recorded.{core_on}
-use Rattle.durable_core.specs.Steps.{Loses, Steps}
-use Rattle.durable_core.proofs.Stepping.{IsDone, Laws, allowed, any_step, taken_step}
+use Rattle.durable_core.specs.Steps.{Steps}
+use Rattle.durable_core.proofs.Stepping.{allowed, any_step}
 use Rattle.durable_core.proofs.durable.DurableCore.step.Goals as goal
 
 pub step-requires : goal.step-requires
