@@ -11,15 +11,16 @@ use Rattle.drda_commands.specs.declared.stage.Stage.TheVariants.{Fresh, Known, A
 use Rattle.drda_commands.specs.declared.table.Command.{Command}
 use Rattle.drda_commands.specs.declared.table.Command.TheVariants.{Excsat, Accsec, Secchk, Accrdb, Excsqlimm, Prpsqlstt, Dscsqlstt, Excsqlstt, Opnqry, Cntqry, Clsqry, Rdbcmm, Rdbrllbck, Syncctl}
 use Rattle.drda_commands.specs.Given.{Given, contents_of}
-use Rattle.drda_commands.specs.Judge.{Accepted, ◌>>=◌, command_object, is_known, is_due, is_served, is_whole, none_twice, none_missing, none_bad, judged}
+use Rattle.drda_commands.specs.Judge.{Accepted, ◌>>=◌, command_object, is_known, is_due, is_whole, none_twice, none_missing, none_bad, judged}
 use Rattle.drda_commands.specs.Tables.{command_for, items_for}
 use Rattle.exchanges.specs.Done.{WasDone}
-use Rattle.conversation.specs.declared.session.Session.{Session}
+use Rattle.access_exchange.specs.declared.session.Session.{Session}
 use Rattle.conversation.specs.declared.chain.Link.{Link}
 use Rattle.conversation.specs.Done.{Exchanges, IsExcused, IsFollowed}
-use Rattle.conversation.specs.Exchange.{Answer, Plan, access_done, at_once, at_once_or, plan, plan_for, refused, database_plan}
+use Rattle.access_exchange.specs.Access.{Answer, access_done, refused}
+use Rattle.conversation.specs.Exchange.{Plan, at_once, at_once_or, plan, plan_for, database_plan}
 use Rattle.conversation.specs.Laws.{AsksOnlyWhenOpened, verdict}
-use Rattle.conversation.specs.Settings.{Settings}
+use Rattle.access_exchange.specs.Settings.{Settings}
 use Rattle.conversation.specs.Standing.{Standing}
 
 -- ---- what is accepted was due
@@ -32,15 +33,14 @@ abbrev command_in : Result Accepted Refusal → Command
 command_in (Ok accepted) = accepted.command
 command_in (Err refusal) = Excsat
 
-pub accepted_due : (unserved : List ℕ) (stage : Stage) (unicode : Bool) (contents : List ℕ) (objects : List (List ℕ)) (accepted : Accepted)
-    → judged unserved stage unicode contents objects ≡ Ok accepted → is_due accepted.command stage ≡ Ok tt
-accepted_due unserved stage unicode contents objects accepted e =
+pub accepted_due : (stage : Stage) (unicode : Bool) (contents : List ℕ) (objects : List (List ℕ)) (accepted : Accepted)
+    → judged stage unicode contents objects ≡ Ok accepted → is_due accepted.command stage ≡ Ok tt
+accepted_due stage unicode contents objects accepted e =
     let (o, e1, i1) = bind_ok (command_object contents) _ accepted e in
     let (command, e2, i2) = bind_ok (is_known o.code (command_for o.code)) _ accepted e1 in
     let (due, e3, i3) = bind_ok (is_due command stage) _ accepted e2 in
     let given : Given = record { parameters = o.value; objects = objects } in
-    let (served, e4, i4) = bind_ok (is_served unserved command) _ accepted e3 in
-    let (whole, e5, i5) = bind_ok (is_whole command given) _ accepted e4 in
+    let (whole, e5, i5) = bind_ok (is_whole command given) _ accepted e3 in
     let (single, e6, i6) = bind_ok (none_twice (items_for command) given) _ accepted e5 in
     let (present, e7, i7) = bind_ok (none_missing (items_for command) given) _ accepted e6 in
     let (fit, e8, i8) = bind_ok (none_bad unicode (items_for command) given) _ accepted e7 in
@@ -100,7 +100,7 @@ module _ {A : Type 0} (asks : A → Call → core.Answer → A → Type 0) where
       → IsFollowed asks (plan_for settings s.session s.statements request objects) link s bytes next → (s.session.stage ≡ Opened) ⊎ Unasked s next
   by_verdict settings s next request objects link bytes (Ok accepted) is f =
       accepted_asks settings s next accepted (plan_for settings s.session s.statements request objects) link bytes (ap (plan settings s.session s.statements) is)
-      (at_once_or_opened settings s.session accepted.command accepted.given (accepted_due [] s.session.stage s.session.agreed.unicode request.contents (contents_of objects) accepted is)) f
+      (at_once_or_opened settings s.session accepted.command accepted.given (accepted_due s.session.stage s.session.agreed.unicode request.contents (contents_of objects) accepted is)) f
   by_verdict settings s next request objects link bytes (Err refusal) is f =
       inr (followed_at_once (plan_for settings s.session s.statements request objects) (refused settings s.session refusal) link s next bytes (ap (plan settings s.session s.statements) is) f)
 

@@ -14,12 +14,13 @@ use Rattle.drda_commands.specs.declared.table.Command.TheVariants.{Excsat, Accse
 use Rattle.drda_commands.specs.declared.table.ItemKind.TheVariants.{Parameter}
 use Rattle.drda_commands.specs.Given.{Given, contents_of, found_at}
 use Rattle.drda_commands.specs.Judge.{Accepted, is_due}
-use Rattle.conversation.specs.declared.session.Session.{Session}
+use Rattle.access_exchange.specs.declared.session.Session.{Session}
 use Rattle.conversation.specs.Done.{Does, DoesAll, Exchanges, IsExcused, IsFollowed}
-use Rattle.conversation.specs.Exchange.{Answer, Plan, access_done, asked_for, at_once, at_once_or, bytes_of, check_code, is_ours, known_from, link_of, mechanism_for, plan, plan_for, refused, database_plan}
+use Rattle.access_exchange.specs.Access.{Answer, access_done, asked_for, bytes_of, check_code, is_ours, known_from, mechanism_for, refused}
+use Rattle.conversation.specs.Exchange.{Plan, at_once, at_once_or, link_of, plan, plan_for, database_plan}
 use Rattle.conversation.specs.Laws.{OpenedBehindACheck, ChecksTheUser, HasCheckedTheUser, verdict}
-use Rattle.conversation.specs.Replies.{manager_missing, secchkrm, rdb_not_found}
-use Rattle.conversation.specs.Settings.{Settings}
+use Rattle.access_exchange.specs.Replies.{manager_missing, secchkrm, rdb_not_found}
+use Rattle.access_exchange.specs.Settings.{Settings}
 use Rattle.conversation.specs.Standing.{Standing, beginning}
 use Rattle.conversation.proofs.Asking.{accepted_due}
 use Rattle.conversation.proofs.Single.{at_once_sent, at_once_session, one_format}
@@ -124,7 +125,7 @@ module _ {A : Type 0} (asks : A → Call → core.Answer → A → Type 0) where
     by_verdict : (v : Result Accepted Refusal) → verdict s.session request objects ≡ v → IsFollowed asks p (link_of request objects) s bytes next → ChecksTheUser s.session (request ∷ objects) bytes
     by_verdict (Ok accepted) is f =
         by_found accepted is (access_done settings s.session accepted.command accepted.given) refl
-        (done_unchecked settings s.session accepted.command accepted.given (accepted_due [] s.session.stage s.session.agreed.unicode request.contents (contents_of objects) accepted is) off) f
+        (done_unchecked settings s.session accepted.command accepted.given (accepted_due s.session.stage s.session.agreed.unicode request.contents (contents_of objects) accepted is) off) f
     by_verdict (Err refusal) is f =
         let at : p ≡ at_once s.statements (refused settings s.session refusal) = ap (plan settings s.session s.statements) is in
         stays f (ap (λ (q : Plan). q.session.stage) at)

@@ -46,12 +46,13 @@ use Rattle.sections.specs.Blocks.{ends_behind}
 use Rattle.sections.specs.declared.fault.OpenFault.{OpenFault}
 use Rattle.sections.specs.declared.fault.OpenFault.TheVariants as unopened
 use Rattle.conversation.specs.declared.chain.Link.{Link}
-use Rattle.conversation.specs.declared.session.Session.{Session}
+use Rattle.access_exchange.specs.declared.session.Session.{Session}
 use Rattle.conversation.specs.Done.{Exchanges, IsExcused, IsFollowed}
-use Rattle.conversation.specs.Exchange.{Answer, Plan, access_done, asked_for, at_once, at_once_or, breaks, bytes_of, chain_bits, check_code, closes, excused, is_ours, link_of, mechanism_for, plan, plan_for, refused, sent, database_plan, worst}
+use Rattle.access_exchange.specs.Access.{Answer, access_done, asked_for, bytes_of, check_code, is_ours, mechanism_for, refused}
+use Rattle.conversation.specs.Exchange.{Plan, at_once, at_once_or, breaks, chain_bits, closes, excused, link_of, plan, plan_for, sent, database_plan, worst}
 use Rattle.conversation.specs.Laws.{OnlyFailureCloses, verdict}
-use Rattle.conversation.specs.Replies.{manager_missing, accrdbrm, rdb_not_found, refusal_reply}
-use Rattle.conversation.specs.Settings.{Settings}
+use Rattle.access_exchange.specs.Replies.{manager_missing, accrdbrm, rdb_not_found, refusal_reply}
+use Rattle.access_exchange.specs.Settings.{Settings}
 use Rattle.conversation.specs.Standing.{Standing}
 use Rattle.conversation.proofs.Single.{at_once_session, one_format, one_sent}
 

@@ -1,4 +1,3 @@
-mod Entries
 mod Names
 mod Sending
 mod Chains

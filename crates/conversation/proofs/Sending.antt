@@ -10,10 +10,11 @@ use Rattle.drda_commands.specs.Judge.{Accepted}
 use Rattle.drda_commands.specs.Views.{accepted_of}
 use Rattle.exchanges.specs.declared.statements.Statements.{Statements}
 use Rattle.conversation.specs.declared.chain.Link.{Link}
-use Rattle.conversation.specs.declared.session.Session.{Session}
-use Rattle.conversation.specs.Exchange.{Answer, Plan, at_once, at_once_or, link_of, access_done, plan, plan_for, refused, sent, database_plan}
+use Rattle.access_exchange.specs.declared.session.Session.{Session}
+use Rattle.access_exchange.specs.Access.{Answer, access_done, refused}
+use Rattle.conversation.specs.Exchange.{Plan, at_once, at_once_or, link_of, plan, plan_for, sent, database_plan}
 use Rattle.conversation.specs.Done.{Exchanges}
-use Rattle.conversation.specs.Settings.{Settings}
+use Rattle.access_exchange.specs.Settings.{Settings}
 use Rattle.conversation.specs.Standing.{Standing}
 use Rattle.conversation.specs.Views.{Appends, verdict_of}
 

@@ -6,9 +6,10 @@ use Rattle.dss_frames.specs.Writing.{written}
 use Rattle.exchanges.specs.Done.{WasDone}
 use Rattle.exchanges.specs.Reply.{Reply}
 use Rattle.conversation.specs.declared.chain.Link.{Link}
-use Rattle.conversation.specs.declared.session.Session.{Session}
+use Rattle.access_exchange.specs.declared.session.Session.{Session}
 use Rattle.conversation.specs.Done.{IsFollowed}
-use Rattle.conversation.specs.Exchange.{Answer, Plan, at_once, behind, chain_bits, sent, worst}
+use Rattle.access_exchange.specs.Access.{Answer}
+use Rattle.conversation.specs.Exchange.{Plan, at_once, behind, chain_bits, sent, worst}
 use Rattle.conversation.specs.Standing.{Standing}
 
 abbrev pub one_format : Link → Session → Reply → ℕ

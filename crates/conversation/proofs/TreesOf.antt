@@ -2,7 +2,8 @@
 use Rattle.std.proofs.Common.{◌==◌, ◌≡◌, ◌⊎◌, ℕ, Bool, true, false, List, [], ◌∷◌, ◌++◌, Option, Some, None, Ok, Err, Result, refl, sym, ap, ◌∙◌, inl, inr, if◌then◌else◌, append_assoc, append-nil}
 use Rattle.std.specs.Prelude.{codes}
 use Rattle.std.specs.Int.{w16, to_be_bytes}
-use Rattle.ddm_objects.specs.declared.code_point.TheConstants.{EXTNAM, SRVCLSNM, SRVNAM, SRVRLSLV, MGRLVLLS, SVRCOD, SYNERRCD, CODPNT, RDBNAM, SECMEC, SECCHKCD, CCSIDSBC, CCSIDMBC, PRDID, TYPDEFNAM, TYPDEFOVR, EXCSATRD, ACCSECRD, SECCHKRM, ACCRDBRM, SYNTAXRM, PRCCNVRM, RDBACCRM, RDBNACRM, RDBNFNRM, CMDNSPRM, VALNSPRM, RSCLMTRM, MGRDEPRM}
+use Rattle.ddm_objects.specs.declared.code_point.TheConstants.{EXTNAM, SRVCLSNM, SRVNAM, SRVRLSLV, MGRLVLLS, SVRCOD, RDBNAM, SECMEC, SECCHKCD, CCSIDSBC, CCSIDMBC, PRDID, TYPDEFNAM, TYPDEFOVR, EXCSATRD, ACCSECRD, SECCHKRM, ACCRDBRM, RDBACCRM, RDBNACRM, RDBNFNRM, RSCLMTRM}
+use Rattle.ddm_objects.specs.Objects.{Obj}
 use Rattle.ddm_objects.specs.Writing.{spelled, Trees, NoTrees, Scalar, Container, text_of}
 use Rattle.dss_frames.specs.Dss.{Dss}
 use Rattle.dss_frames.specs.declared.fault.FrameFault.{FrameFault}
@@ -10,27 +11,31 @@ use Rattle.dss_frames.specs.Fault.{synerrcd}
 use Rattle.dss_frames.specs.Writing.{written}
 use Rattle.drda_commands.specs.declared.refusal.Refusal.{Refusal}
 use Rattle.drda_commands.specs.declared.refusal.Refusal.TheVariants.{Syntax, OutOfTurn, RdbAccessed, RdbNotAccessed, CommandNotSupported, ValueNotSupported}
-use Rattle.conversation.specs.declared.reply.TheConstants.{SERVER_NAME, SERVER_CLASS, RELEASE_LEVEL}
+use Rattle.access_exchange.specs.declared.reply.TheConstants.{SERVER_NAME, SERVER_CLASS, RELEASE_LEVEL}
 use Rattle.drda_commands.specs.declared.stage.Mechanism.{Mechanism}
-use Rattle.conversation.specs.declared.session.Session.{Session}
+use Rattle.access_exchange.specs.declared.session.Session.{Session}
 use Rattle.drda_commands.specs.declared.stage.Stage.TheVariants.{Opened}
 use Rattle.drda_commands.specs.declared.table.Command.{Command}
 use Rattle.drda_commands.specs.declared.table.Command.TheVariants.{Excsat, Accsec, Secchk, Accrdb, Syncctl}
 use Rattle.drda_commands.specs.declared.table.ItemKind.TheVariants.{Parameter}
 use Rattle.conversation.specs.Done.{Exchanges, IsExcused, IsFollowed}
-use Rattle.conversation.specs.Exchange.{Answer, Plan, access_done, asked_for, at_once, at_once_or, bytes_of, check_code, excused, is_ours, link_of, mechanism_for, plan, plan_for, refused, database_plan}
+use Rattle.access_exchange.specs.Access.{Answer, access_done, asked_for, bytes_of, check_code, is_ours, mechanism_for, refused}
+use Rattle.conversation.specs.Exchange.{Plan, at_once, at_once_or, excused, link_of, plan, plan_for, database_plan}
 use Rattle.drda_commands.specs.Given.{Given, Occurs, value_of, found_at}
 use Rattle.drda_commands.specs.Judge.{Accepted}
 use Rattle.conversation.specs.Laws.{RepliesAreTrees, IsOneTree, asks_nothing, is_access, verdict}
-use Rattle.conversation.specs.Levels.{levels_for}
+use Rattle.access_exchange.specs.Levels.{levels_for}
 use Rattle.drda_names.specs.Names.{in_encoding, padded_in}
 use Rattle.drda_commands.specs.Refusals.{synerrcd_for}
-use Rattle.conversation.specs.Replies.{manager_missing, message, refusal_reply, rdb_not_found, no_memory_reply, excsatrd, accsecrd, accsecrd_refused, mechanism_code, check_severity, accrdbrm, fault_bytes}
-use Rattle.conversation.specs.Settings.{Settings}
+use Rattle.access_exchange.specs.Replies.{manager_missing, refusal_reply, rdb_error, rdb_not_found, excsatrd, accsecrd, accsecrd_refused, mechanism_code, check_severity, accrdbrm}
+use Rattle.conversation.specs.Replies.{fault_bytes}
+use Rattle.access_exchange.specs.Settings.{Settings}
 use Rattle.conversation.specs.Standing.{Standing}
 use Rattle.core_calls.specs.Call.{Call}
 use Rattle.core_calls.specs.Answer as core
-use Rattle.exchanges.specs.Reply.{Reply}
+use Rattle.sqlam_replies.specs.declared.message.ReplyMessage.TheVariants as says
+use Rattle.sqlam_replies.specs.Message.{Message, error, info, message_of, objects, scalar}
+use Rattle.exchanges.specs.Reply.{Reply, message, resource_limit}
 use Rattle.conversation.proofs.Single.{at_once_sent, one_format, one_sent}
 
 -- the reply's text is one object, with trees in it
@@ -53,23 +58,29 @@ five a b c d e = three ((a ++ b) ++ c) d e ∙ append_assoc (a ++ b) c (d ++ (e 
 
 -- ---- the replies
 
-message_tree : (code severity : ℕ) (parameters : List ℕ) (trees : Trees) → parameters ≡ text_of trees → IsTree (message code severity parameters)
-message_tree code severity parameters trees e =
-    (code, Scalar SVRCOD (to_be_bytes w16 severity) trees, ap (λ (z : List ℕ). spelled code (spelled SVRCOD (to_be_bytes w16 severity) ++ z)) e)
+abbrev trees_in : List Obj → Trees
+trees_in [] = NoTrees
+trees_in (o ∷ os) = Scalar o.code o.value (trees_in os)
 
-message_one : (code severity parameter : ℕ) (value : List ℕ) → IsTree (message code severity (spelled parameter value))
-message_one code severity parameter value = message_tree code severity (spelled parameter value) (one parameter value) (sym (append-nil (spelled parameter value)))
+objects_are_trees : (os : List Obj) → objects os ≡ text_of (trees_in os)
+objects_are_trees [] = refl
+objects_are_trees (o ∷ os) = ap (λ (z : List ℕ). spelled o.code o.value ++ z) (objects_are_trees os)
+
+message_tree : (m : Message) → IsTree (message m)
+message_tree m =
+    let severity : List ℕ = to_be_bytes w16 m.severity in
+    (m.code, Scalar SVRCOD severity (trees_in m.parameters), ap (λ (z : List ℕ). spelled m.code (spelled SVRCOD severity ++ z)) (objects_are_trees m.parameters))
+
+rdb_error_tree : (code : ℕ) (name : List ℕ) → IsTree (rdb_error code name)
+rdb_error_tree code name = message_tree (record { code = code; severity = error; parameters = scalar RDBNAM name ∷ [] })
 
 refusal_tree : (settings : Settings) (unicode : Bool) (refusal : Refusal) → IsTree (refusal_reply settings unicode refusal)
-refusal_tree settings unicode (Syntax error) = message_one SYNTAXRM 8 SYNERRCD (synerrcd_for error ∷ [])
-refusal_tree settings unicode OutOfTurn = message_tree PRCCNVRM 8 [] NoTrees refl
-refusal_tree settings unicode RdbAccessed = message_one RDBACCRM 8 RDBNAM (padded_in unicode settings.rdb)
-refusal_tree settings unicode RdbNotAccessed = message_one RDBNACRM 8 RDBNAM (padded_in unicode settings.rdb)
-refusal_tree settings unicode (CommandNotSupported code) = message_one CMDNSPRM 8 CODPNT (to_be_bytes w16 code)
-refusal_tree settings unicode (ValueNotSupported code) = message_one VALNSPRM 8 CODPNT (to_be_bytes w16 code)
-
-not_found_tree : (name : List ℕ) → IsTree (rdb_not_found name)
-not_found_tree name = message_one RDBNFNRM 8 RDBNAM name
+refusal_tree settings unicode (Syntax fault) = message_tree (message_of (says.Syntax (synerrcd_for fault)))
+refusal_tree settings unicode OutOfTurn = message_tree (message_of says.OutOfTurn)
+refusal_tree settings unicode RdbAccessed = rdb_error_tree RDBACCRM (padded_in unicode settings.rdb)
+refusal_tree settings unicode RdbNotAccessed = rdb_error_tree RDBNACRM (padded_in unicode settings.rdb)
+refusal_tree settings unicode (CommandNotSupported code) = message_tree (message_of (says.CommandNotSupported code))
+refusal_tree settings unicode (ValueNotSupported code) = message_tree (message_of (says.ValueNotSupported code))
 
 excsatrd_tree : (asked : Option (List ℕ)) → IsTree (excsatrd asked)
 excsatrd_tree None = (
@@ -94,15 +105,12 @@ accsecrd_refused_tree = (
 )
 
 accrdbrm_tree : (unicode : Bool) → IsTree (accrdbrm unicode)
-accrdbrm_tree unicode =
-    let product : List ℕ = spelled PRDID (in_encoding unicode (codes "RDA01000")) in
-    let definition : List ℕ = spelled TYPDEFNAM (in_encoding unicode (codes "QTDSQLASC")) in
-    let single : List ℕ = spelled CCSIDSBC (to_be_bytes w16 1208) in
-    let mixed : List ℕ = spelled CCSIDMBC (to_be_bytes w16 1208) in
-    message_tree ACCRDBRM 0 ((product ++ definition) ++ spelled TYPDEFOVR (single ++ mixed))
-    (Scalar PRDID (in_encoding unicode (codes "RDA01000")) (Scalar TYPDEFNAM (in_encoding unicode (codes "QTDSQLASC"))
-    (Container TYPDEFOVR (Scalar CCSIDSBC (to_be_bytes w16 1208) (one CCSIDMBC (to_be_bytes w16 1208))) NoTrees)))
-    (ap (λ (z : List ℕ). (product ++ definition) ++ spelled TYPDEFOVR z) (two single mixed) ∙ three product definition (spelled TYPDEFOVR (single ++ (mixed ++ []))))
+accrdbrm_tree unicode = (
+  ACCRDBRM,
+  Scalar SVRCOD (to_be_bytes w16 info) (Scalar PRDID (in_encoding unicode (codes "RDA01000")) (Scalar TYPDEFNAM (in_encoding unicode (codes "QTDSQLASC"))
+      (Container TYPDEFOVR (Scalar CCSIDSBC (to_be_bytes w16 1208) (one CCSIDMBC (to_be_bytes w16 1208))) NoTrees))),
+  refl,
+)
 
 -- ---- the answers to commands
 
@@ -120,7 +128,7 @@ HasTree command None = is_access command ≡ false
 HasTree command (Some a) = IsTree a.reply
 
 missing_tree : (session : Session) (b : Bool) → HasTree Syncctl (if b then Some (record { session = session; reply = manager_missing }) else None)
-missing_tree session true = message_tree MGRDEPRM 8 [] NoTrees refl
+missing_tree session true = message_tree (message_of says.ManagerDependency)
 missing_tree session false = refl
 
 done_tree : (settings : Settings) (session : Session) (command : Command) (given : Given) → HasTree command (access_done settings session command given)
@@ -129,14 +137,14 @@ done_tree settings session Accsec given =
     let rdbnam : Occurs = found_at Parameter RDBNAM given in
     let asked : Option Mechanism = mechanism_for (bytes_of (found_at Parameter SECMEC given)) in
     either_tree (is_ours settings session.agreed.unicode rdbnam) (asked_for session asked) (record { session = session; reply = rdb_not_found (bytes_of rdbnam) })
-    (asked_tree session asked) (not_found_tree (bytes_of rdbnam))
+    (asked_tree session asked) (rdb_error_tree RDBNFNRM (bytes_of rdbnam))
 done_tree settings session Secchk given =
     let code : ℕ = check_code settings session (found_at Parameter SECMEC given) (found_at Parameter 0x11A0 given) (found_at Parameter 0x11A1 given) in
-    message_one SECCHKRM (check_severity code) SECCHKCD (code ∷ [])
+    message_tree (record { code = SECCHKRM; severity = check_severity code; parameters = scalar SECCHKCD (code ∷ []) ∷ [] })
 done_tree settings session Accrdb given =
     let rdbnam : Occurs = found_at Parameter RDBNAM given in
     either_tree (is_ours settings session.agreed.unicode rdbnam) (record { session = record session { stage = Opened }; reply = accrdbrm session.agreed.unicode })
-    (record { session = session; reply = rdb_not_found (bytes_of rdbnam) }) (accrdbrm_tree session.agreed.unicode) (not_found_tree (bytes_of rdbnam))
+    (record { session = session; reply = rdb_not_found (bytes_of rdbnam) }) (accrdbrm_tree session.agreed.unicode) (rdb_error_tree RDBNFNRM (bytes_of rdbnam))
 done_tree settings session Syncctl given = missing_tree session (session.agreed.xa == 0)
 done_tree settings session command given = refl
 
@@ -155,9 +163,9 @@ abbrev IsSent : List ℕ → Type 0
 IsSent bytes = (bytes ≡ []) ⊎ IsOneTree bytes
 
 excused_tree : (session : Session) (request : Dss) (objects : List Dss) (bytes : List ℕ) → bytes ≡ (excused session (request ∷ objects)).bytes → IsSent bytes
-excused_tree session request objects bytes is =
-    inr (one_tree (one_format (link_of request objects) session no_memory_reply) request.correlator no_memory_reply bytes (message_tree RSCLMTRM 8 [] NoTrees refl)
-    (is ∙ one_sent (link_of request objects) session no_memory_reply))
+excused_tree session request objects bytes sent_is =
+    inr (one_tree (one_format (link_of request objects) session resource_limit) request.correlator resource_limit bytes (message_tree (record { code = RSCLMTRM; severity = error; parameters = [] }))
+    (sent_is ∙ one_sent (link_of request objects) session resource_limit))
 
 module _ {A : Type 0} (asks : A → Call → core.Answer → A → Type 0) where
   module _ (settings : Settings) (s next : Standing A) (request : Dss) (objects : List Dss) (bytes : List ℕ) where
@@ -192,4 +200,5 @@ module _ {A : Type 0} (asks : A → Call → core.Answer → A → Type 0) where
 
 pub faults_are_trees : (fault : FrameFault) → IsOneTree (fault_bytes fault)
 faults_are_trees fault =
-    one_tree 2 fault.correlator (message SYNTAXRM 8 (spelled SYNERRCD (synerrcd fault.code ∷ []))) (fault_bytes fault) (message_one SYNTAXRM 8 SYNERRCD (synerrcd fault.code ∷ [])) refl
+    let told : Message = message_of (says.Syntax (synerrcd fault.code)) in
+    one_tree 2 fault.correlator (message told) (fault_bytes fault) (message_tree told) refl

@@ -8,7 +8,7 @@ use Rattle.exchanges.specs.Done.{WasDone}
 use Rattle.exchanges.specs.Reply.{Reply}
 use Rattle.conversation.specs.declared.chain.Link.{Link}
 use Rattle.conversation.specs.Exchange.{Plan, excused, goes_on, link_of, passed_over, plan_for, sent}
-use Rattle.conversation.specs.Settings.{Settings}
+use Rattle.access_exchange.specs.Settings.{Settings}
 use Rattle.conversation.specs.Standing.{Standing}
 
 -- it belongs to a broken chain: nothing is done, asked or sent

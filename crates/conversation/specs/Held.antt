@@ -3,9 +3,9 @@
 use Rattle.std.specs.Prelude.{ℕ, List, []}
 use Rattle.exchanges.specs.declared.statements.Statements.{Statements}
 use Rattle.exchanges.specs.Statements.{fresh as no_statements}
-use Rattle.conversation.specs.declared.session.Session.{Session}
-use Rattle.conversation.specs.Exchange.{fresh}
-use Rattle.conversation.specs.Settings.{Settings}
+use Rattle.access_exchange.specs.declared.session.Session.{Session}
+use Rattle.access_exchange.specs.Session.{fresh}
+use Rattle.access_exchange.specs.Settings.{Settings}
 
 pub record Held : Type 0 where
   pub settings : Settings

@@ -12,16 +12,16 @@ use Rattle.drda_commands.specs.declared.table.Command.TheVariants.{Excsat, Accse
 use Rattle.drda_commands.specs.Given.{contents_of}
 use Rattle.drda_commands.specs.Judge.{Accepted, judged}
 use Rattle.exchanges.specs.Reply.{agent_failed}
-use Rattle.conversation.specs.declared.session.Session.{Session}
-use Rattle.conversation.specs.Replies.{secchkrm}
-use Rattle.conversation.specs.Settings.{Settings}
+use Rattle.access_exchange.specs.declared.session.Session.{Session}
+use Rattle.access_exchange.specs.Replies.{secchkrm}
+use Rattle.access_exchange.specs.Settings.{Settings}
 use Rattle.conversation.specs.Exchange.{goes_on}
 use Rattle.conversation.specs.Standing.{Standing, beginning}
 use Rattle.conversation.specs.Done.{Does, DoesAll}
 
 -- what becomes of the command in this request DSS and these object DSSs, when it comes
 abbrev pub verdict : Session → Dss → List Dss → Result Accepted Refusal
-verdict session request objects = judged [] session.stage session.agreed.unicode request.contents (contents_of objects)
+verdict session request objects = judged session.stage session.agreed.unicode request.contents (contents_of objects)
 
 -- each of these commands says that another one of its chain follows
 abbrev pub AllGoOn : List (List Dss) → Type 0

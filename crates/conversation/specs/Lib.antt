@@ -1,5 +1,3 @@
-pub mod Settings
-pub mod Levels
 pub mod Replies
 pub mod Exchange
 pub mod Closing

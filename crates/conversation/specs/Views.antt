@@ -7,20 +7,14 @@ use Rattle.drda_commands.specs.declared.judging.Accepted as rust_accepted
 use Rattle.drda_commands.specs.declared.refusal.Refusal.{Refusal}
 use Rattle.drda_commands.specs.Judge.{Accepted}
 use Rattle.drda_commands.specs.Views.{accepted_of}
-use Rattle.exchanges.specs.Kind.{dss_type_of}
-use Rattle.conversation.specs.declared.answer.Answer as rust_answer
 use Rattle.conversation.specs.declared.chain.Link.{Link}
 use Rattle.conversation.specs.declared.exchange.Exchanged.{Exchanged}
 use Rattle.conversation.specs.declared.exchange.Exchanged.TheVariants.{Done, Short}
 use Rattle.conversation.specs.declared.state.State.{State}
-use Rattle.conversation.specs.Exchange.{Answer, Plan}
+use Rattle.conversation.specs.Exchange.{Plan}
 use Rattle.conversation.specs.Done.{Exchanges, IsExcused, IsFollowed}
-use Rattle.conversation.specs.Settings.{Settings}
+use Rattle.access_exchange.specs.Settings.{Settings}
 use Rattle.conversation.specs.Standing.{Standing}
-
--- an answer with its text
-abbrev pub answer_of : rust_answer.Answer → List ℕ → Answer
-answer_of answer text = record { session = answer.session; reply = record { dss_type = dss_type_of answer.kind; severity = answer.severity; text = text } }
 
 -- what the judge says
 abbrev pub verdict_of : Result rust_accepted.Accepted Refusal → Result Accepted Refusal

@@ -7,7 +7,7 @@ ghost use Rattle.exchanges.specs.Kind.{dss_type_of};
 ghost use Rattle.exchanges.specs.Sizes.{written_lengths};
 ghost use Rattle.conversation.specs.Exchange as spec;
 
-use crate::session::Session;
+use access_exchange::Session;
 use dss_frames::{Dss, Format, Group, write_dss, written_dss_is_read};
 use exchanges::{Reply, ReplyKind};
 

@@ -6,15 +6,15 @@ ghost use Rattle.dss_frames.specs.Writing.{written};
 ghost use Rattle.drda_commands.specs.Needs.{Needs};
 ghost use Rattle.drda_commands.specs.Views.{given_of};
 ghost use Rattle.drda_names.specs.Names.{padded_in};
+ghost use Rattle.exchanges.specs.Reply.{resource_limit};
+ghost use Rattle.access_exchange.specs.Access as answers;
+ghost use Rattle.access_exchange.specs.Views.{answer_of};
 ghost use Rattle.conversation.specs.Exchange as spec;
-ghost use Rattle.conversation.specs.Replies.{no_memory_reply};
-ghost use Rattle.conversation.specs.Views.{answer_of, standing_of, verdict_of, Appends, Turns};
+ghost use Rattle.conversation.specs.Views.{standing_of, verdict_of, Appends, Turns};
 
-use crate::answer::{Answer, access, refused};
 use crate::chain::{Link, append_replies, behind, format_before, link_of, worst};
-use crate::session::Session;
-use crate::settings::Settings;
 use crate::state::State;
+use access_exchange::{Answer, Settings, answered_at_once, refused};
 use database_commands::{do_command as do_on_database, most_length};
 use drda_commands::{Accepted, Refusal, judge};
 use drda_names::push_padded;
@@ -33,7 +33,7 @@ pub(crate) enum Exchanged {
 
 // RSCLMTRM of severity ERROR, as a whole DSS; it takes no memory.
 fn no_memory(format: Format, correlator: u16) -> [u8; 16]
-    ensures { result ≡ written format.byte correlator no_memory_reply.text }
+    ensures { result ≡ written format.byte correlator resource_limit.text }
 {
     let [high, low] = correlator.to_be_bytes();
     [
@@ -134,8 +134,8 @@ fn refuse(
     link: Link,
     out: &mut Vec<u8>,
 ) -> Result<(), AllocError>
-    ensures session { OnOk result (state.new.session ≡ (spec.sent link state.old.session ((spec.refused settings.now state.old.session refusal).reply ∷ [])).session) }
-    ensures bytes { OnOk result (out.new.items ≡ out.old.items ++ (spec.sent link state.old.session ((spec.refused settings.now state.old.session refusal).reply ∷ [])).bytes) }
+    ensures session { OnOk result (state.new.session ≡ (spec.sent link state.old.session ((answers.refused settings.now state.old.session refusal).reply ∷ [])).session) }
+    ensures bytes { OnOk result (out.new.items ≡ out.old.items ++ (spec.sent link state.old.session ((answers.refused settings.now state.old.session refusal).reply ∷ [])).bytes) }
     ensures statements { state.new.statements ≡ state.old.statements }
     ensures err_session { OnErr result (state.new.session ≡ state.old.session) }
     ensures err_out { OnErr result (out.new.items ≡ out.old.items) }
@@ -163,7 +163,7 @@ fn answer<A: Ask>(
         Ok(accepted) => accepted,
         Err(refusal) => return refuse(settings, state, refusal, link, out),
     };
-    match access(settings, state.session, accepted, &mut state.text)? {
+    match answered_at_once(settings, state.session, accepted, &mut state.text)? {
         Some(answer) => send_one(state, answer, link, out),
         None => run(alloc, settings, state, accepted, link, asker, out),
     }
@@ -191,7 +191,7 @@ pub(crate) fn do_command<A: Ask>(
         return Exchanged::Done;
     }
     let unicode = session.agreed.unicode;
-    let verdict = judge(&[], session.stage, unicode, request.contents, objects);
+    let verdict = judge(session.stage, unicode, request.contents, objects);
     match answer(alloc, settings, state, verdict, link, asker, out) {
         Ok(()) => Exchanged::Done,
         Err(AllocError) => {

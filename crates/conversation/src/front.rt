@@ -1,9 +1,8 @@
 //! One conversation.
 
 use crate::exchange::{Exchanged, do_command};
-use crate::session::{Session, fresh_session};
-use crate::settings::Settings;
 use crate::state::State;
+use access_exchange::{Session, Settings, fresh_session};
 use dss_frames::{Format, FrameFault, Segments, write_dss};
 use exchanges::{Ask, Statements};
 use std::alloc::{AllocError, Global};
@@ -139,7 +138,7 @@ impl Front {
 
 ghost use Rattle.std.specs.Prelude.{◌≡◌, ◌≤◌, ◌+◌, ◌++◌, if◌then◌else◌, vec_len, vec_capacity};
 ghost use Rattle.conversation.specs.Replies.{fault_bytes};
-ghost use Rattle.conversation.specs.Exchange.{fresh};
+ghost use Rattle.access_exchange.specs.Session.{fresh};
 ghost use Rattle.conversation.specs.Steps as steps;
 ghost use Rattle.exchanges.specs.Statements as statements;
 

@@ -3,19 +3,12 @@
 //! sockets, threads or the disk.
 #![tactic(auto)]
 
-mod access;
-mod answer;
 mod chain;
 mod exchange;
 mod front;
 pub mod laws;
-mod levels;
-mod reply;
-mod session;
-mod settings;
 mod state;
 
+pub use access_exchange::{Agreed, Session, Settings, SettingsError};
 pub use drda_commands::{Mechanism, Stage};
 pub use front::{Front, Need};
-pub use session::{Agreed, Session};
-pub use settings::{Settings, SettingsError};

@@ -1,6 +1,6 @@
 //! What the commands of a conversation work on.
 
-use crate::session::Session;
+use access_exchange::Session;
 use exchanges::{Reply, Statements};
 
 /// What is remembered of a conversation, and room for its replies.

@@ -18,7 +18,7 @@ use Rattle.drda_commands.specs.declared.table.Item.{Item}
 use Rattle.drda_commands.specs.declared.table.Form.{Form}
 use Rattle.drda_commands.specs.declared.table.Form.TheVariants.{ManagerLevels, AnyBytes, Bytes, BlockSize, Boolean, SqldaType, SyncType, DefinitionName, DefinitionOverrides, StatementTexts, DescribedData}
 use Rattle.drda_names.specs.Names.{is_name}
-use Rattle.drda_commands.specs.Tables.{command_for, code_for, items_for}
+use Rattle.drda_commands.specs.Tables.{command_for, items_for}
 use Rattle.drda_commands.specs.Texts.{text_in}
 use Rattle.drda_commands.specs.Values.{number4}
 use Rattle.xa_calls.specs.Numbers.{sync_type_of}
@@ -59,11 +59,6 @@ is_due Accrdb Opened = Err RdbAccessed
 is_due Accrdb stage = Err OutOfTurn
 is_due command Opened = Ok tt
 is_due command stage = Err RdbNotAccessed
-
--- a command may be known and not be served
-abbrev pub is_served : List ℕ → Command → Result (Unit {0}) Refusal
-is_served unserved command =
-    if list_any (λ code. code == code_for command) unserved then Err (CommandNotSupported (code_for command)) else Ok tt
 
 -- ---- faults of objects, and too many of them
 
@@ -193,14 +188,13 @@ pub record Accepted : Type 0 where
   pub command : Command
   pub given : Given
 
--- the command in a request DSS with these contents, and object DSSs with those; where some commands are not
--- served, at a stage, and whether names may come in UTF-8
-abbrev pub judged : List ℕ → Stage → Bool → List ℕ → List (List ℕ) → Result Accepted Refusal
-judged unserved stage unicode contents objects = do
+-- the command in a request DSS with these contents, and object DSSs with those; at a stage, and whether names may
+-- come in UTF-8
+abbrev pub judged : Stage → Bool → List ℕ → List (List ℕ) → Result Accepted Refusal
+judged stage unicode contents objects = do
   o ← command_object contents
   command ← is_known o.code (command_for o.code)
   due ← is_due command stage
-  served ← is_served unserved command
   whole ← is_whole command (record { parameters = o.value; objects = objects })
   single ← none_twice (items_for command) (record { parameters = o.value; objects = objects })
   present ← none_missing (items_for command) (record { parameters = o.value; objects = objects })

@@ -62,15 +62,6 @@ fn check_due(command: Command, stage: Stage) -> Result<(), Refusal>
     }
 }
 
-fn check_served(unserved: &[u16], command: Command) -> Result<(), Refusal>
-    ensures { result ≡ spec.is_served unserved.now command }
-{
-    if unserved.contains(&command.code()) {
-        return Err(Refusal::CommandNotSupported(command.code()));
-    }
-    Ok(())
-}
-
 fn check_whole(command: Command, given: Given<'_>) -> Result<(), Refusal>
     ensures { result ≡ spec.is_whole command (given_of given.entry) }
 {
@@ -262,20 +253,17 @@ fn check_values(unicode: bool, items: &[Item], given: &Given<'_>) -> Result<(), 
 }
 
 /// The command in a request DSS with these contents and these object DSSs behind it, or what it is
-/// refused for; `unserved` are the code points of the commands that the caller does not serve, and
-/// `unicode` says whether names may come in UTF-8. The first refusal in this order counts: no command
-/// object, its faults, bytes behind it; an unknown command; one that does not come at this stage; one
-/// that is not served; faults of objects, and of the texts of a statement, by place, and more than
+/// refused for; `unicode` says whether names may come in UTF-8. The first refusal in this order counts: no command
+/// object, its faults, bytes behind it; an unknown command; one that does not come at this stage; faults of objects, and of the texts of a statement, by place, and more than
 /// eight data objects; a parameter or data object twice, a required one missing, a value that is not
 /// supported.
 pub fn judge<'a>(
-    unserved: &[u16],
     stage: Stage,
     unicode: bool,
     contents: &'a [u8],
     objects: Group<'a>,
 ) -> Result<Accepted<'a>, Refusal>
-    ensures verdict { Answers accepted_of Some result (spec.judged unserved.now stage unicode contents.now (contents_of (command_of objects.entry))) }
+    ensures verdict { Answers accepted_of Some result (spec.judged stage unicode contents.now (contents_of (command_of objects.entry))) }
 
     // What a command requires has come.
     ensures brings { IfOk result (λ a. Needs a.command (given_of a.given)) }
@@ -285,7 +273,6 @@ pub fn judge<'a>(
         return Err(Refusal::CommandNotSupported(object.code));
     };
     check_due(command, stage)?;
-    check_served(unserved, command)?;
     let given = Given {
         parameters: object.value,
         objects,

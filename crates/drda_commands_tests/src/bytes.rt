@@ -30,7 +30,7 @@ fn commands_are_judged(rt: HostRuntime) -> Result<(), Fail> {
         (SELECT, (0, PRPSQLSTT)),
         (START, (0, SYNCCTL)),
     ] {
-        let verdict = verdict_of(rt.alloc(), &[], Stage::Opened, bytes);
+        let verdict = verdict_of(rt.alloc(), Stage::Opened, bytes);
         assert_eq!(rt; verdict, Some(want), "{bytes:?}");
     }
     Ok(())
@@ -59,7 +59,7 @@ fn brought(alloc: Global, bytes: &[u8]) -> Option<String> {
     let _ = segments.feed(bytes);
     if let Ok(Some(group)) = segments.next()
         && let Some((request, objects)) = group.split_first()
-        && let Ok(accepted) = judge(&[], Stage::Opened, false, request.contents, objects)
+        && let Ok(accepted) = judge(Stage::Opened, false, request.contents, objects)
     {
         return written_down(alloc, &accepted).ok();
     }

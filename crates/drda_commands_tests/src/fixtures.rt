@@ -64,19 +64,19 @@ pub fn command(
 }
 
 /// How the command is judged that these bytes are, with names in code page 500.
-pub fn verdict_of(alloc: Global, unserved: &[u16], stage: Stage, bytes: &[u8]) -> Option<Verdict> {
+pub fn verdict_of(alloc: Global, stage: Stage, bytes: &[u8]) -> Option<Verdict> {
     let mut segments = Segments::new(alloc);
     let _ = segments.feed(bytes);
     if let Ok(Some(group)) = segments.next()
         && let Some((request, objects)) = group.split_first()
     {
-        return Some(told(judge(unserved, stage, false, request.contents, objects)));
+        return Some(told(judge(stage, false, request.contents, objects)));
     }
     None
 }
 
-/// How a command with these items is judged where the database is open and all is served.
+/// How a command with these items is judged where the database is open.
 pub fn judged(alloc: Global, code: u16, parameters: &[Part], objects: &[Part]) -> Option<Verdict> {
     let bytes = command(alloc, code, parameters, objects).ok()?;
-    verdict_of(alloc, &[], Stage::Opened, &bytes)
+    verdict_of(alloc, Stage::Opened, &bytes)
 }

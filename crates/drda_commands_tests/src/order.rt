@@ -145,22 +145,21 @@ fn the_earlier_refusal_counts(rt: HostRuntime) -> Result<(), Fail> {
     Ok(())
 }
 
-// How a malformed EXCSQLIMM is judged at a stage, where these commands are not served.
-fn at_stage(alloc: Global, unserved: &[u16], stage: Stage) -> Option<Verdict> {
+// How a malformed EXCSQLIMM is judged at a stage.
+fn at_stage(alloc: Global, stage: Stage) -> Option<Verdict> {
     let bytes = command(alloc, EXCSQLIMM, &[], &[MALFORMED]).ok()?;
-    verdict_of(alloc, unserved, stage, &bytes)
+    verdict_of(alloc, stage, &bytes)
 }
 
-// The stage before that a command is not served, and that before its faults.
+// The stage comes before the faults of objects.
 #[test]
-fn unserved_commands_are_refused_at_their_stage(rt: HostRuntime) -> Result<(), Fail> {
-    for (unserved, stage, want) in [
-        (&[EXCSQLIMM], Stage::Checked, (RDBNACRM, 0)),
-        (&[EXCSQLIMM], Stage::Opened, (CMDNSPRM, EXCSQLIMM)),
-        (&[PRPSQLSTT], Stage::Opened, (SYNTAXRM, 0x0B)),
+fn the_stage_is_judged_before_the_objects(rt: HostRuntime) -> Result<(), Fail> {
+    for (stage, want) in [
+        (Stage::Checked, (RDBNACRM, 0)),
+        (Stage::Opened, (SYNTAXRM, 0x0B)),
     ] {
-        let verdict = at_stage(rt.alloc(), unserved, stage);
-        assert_eq!(rt; verdict, Some(want), "{unserved:?}");
+        let verdict = at_stage(rt.alloc(), stage);
+        assert_eq!(rt; verdict, Some(want));
     }
     Ok(())
 }
@@ -173,7 +172,7 @@ const COMMANDS: [u16; 10] = [
 fn the_database_is_needed_before_the_items(rt: HostRuntime) -> Result<(), Fail> {
     for code in COMMANDS {
         let bytes = command(rt.alloc(), code, &[SHORT_SECTION, SHORT_SECTION], &[])?;
-        let verdict = verdict_of(rt.alloc(), &[], Stage::Checked, &bytes);
+        let verdict = verdict_of(rt.alloc(), Stage::Checked, &bytes);
         assert_eq!(rt; verdict, Some((RDBNACRM, 0)), "{code}");
     }
     Ok(())

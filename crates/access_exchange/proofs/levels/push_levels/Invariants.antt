@@ -1,6 +1,6 @@
 use Rattle.std.proofs.Common.{◌≡◌, ◌++◌, length}
-use Rattle.conversation.specs.Levels.{levels_for}
-use Rattle.conversation.proofs.levels.push_levels.Given as goal
+use Rattle.access_exchange.specs.Levels.{levels_for}
+use Rattle.access_exchange.proofs.levels.push_levels.Given as goal
 
 abbrev pub invariant-entries : goal.invariant-entries
 invariant-entries l = l.out.items ++ levels_for l.left ≡ l.initial.out.items ++ levels_for l.asked

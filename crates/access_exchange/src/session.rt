@@ -1,7 +1,7 @@
 //! What is remembered of one conversation.
 
 ghost use Rattle.std.specs.Prelude.{◌≡◌};
-ghost use Rattle.conversation.specs.Exchange.{fresh};
+ghost use Rattle.access_exchange.specs.Session.{fresh};
 
 use crate::levels::none_agreed;
 use drda_commands::Stage;
@@ -18,7 +18,9 @@ pub struct Agreed {
 /// The state of one conversation between its commands.
 #[derive(Clone, Copy)]
 pub struct Session {
+    /// How far it has come.
     pub stage: Stage,
+    /// What was agreed on with EXCSAT.
     pub agreed: Agreed,
     /// The chain under way is broken: its other commands are read, and not done.
     pub is_broken: bool,
@@ -26,8 +28,9 @@ pub struct Session {
     pub is_closed: bool,
 }
 
-/// Of which nothing has come.
-pub(crate) fn fresh_session() -> Session
+/// What is remembered of a conversation of which nothing has come: it is fresh, nothing is agreed on, and it
+/// is neither broken nor closed.
+pub fn fresh_session() -> Session
     ensures { result ≡ fresh }
 {
     Session {

@@ -17,7 +17,7 @@ pub enum SettingsError {
 
 impl From<AllocError> for SettingsError {
     ghost use Rattle.std.specs.Prelude.{◌≡◌};
-    ghost use Rattle.conversation.specs.declared.settings.SettingsError.TheVariants.{NoMemory};
+    ghost use Rattle.access_exchange.specs.declared.settings.SettingsError.TheVariants.{NoMemory};
 
     ghost from_gives = { λ _ error. error ≡ NoMemory };
 
@@ -36,8 +36,8 @@ pub struct Settings {
 
 impl Model for Settings {
     ghost use Rattle.std.specs.Prelude.{string_bytes, IsTrue};
-    ghost use Rattle.conversation.specs.Settings as model;
-    ghost use Rattle.conversation.specs.Settings.{is_rdb_name};
+    ghost use Rattle.access_exchange.specs.Settings as model;
+    ghost use Rattle.access_exchange.specs.Settings.{is_rdb_name};
 
     ghost Value = { model.Settings };
 
@@ -60,11 +60,11 @@ fn is_rdb_name(name: &str) -> bool
 
 ghost use Rattle.std.specs.Prelude.{◌≡◌, ◌≤◌, length};
 ghost use Rattle.std.specs.List.{list_all};
-ghost use Rattle.conversation.specs.Settings.{is_printable, is_rdb_name};
+ghost use Rattle.access_exchange.specs.Settings.{is_printable, is_rdb_name};
 
 impl Settings {
     ghost use Rattle.std.specs.Prelude.{◌↔◌, IfOk, false, Err};
-    ghost use Rattle.conversation.specs.declared.settings.SettingsError.TheVariants.{BadName};
+    ghost use Rattle.access_exchange.specs.declared.settings.SettingsError.TheVariants.{BadName};
 
     /// Settings with copies of these texts. BadName exactly where `rdb` is not 1 to 18 printable ASCII
     /// characters without blanks.
@@ -123,15 +123,15 @@ impl Settings {
     }
 
     /// The database's name: 1 to 18 printable ASCII characters without blanks.
-    pub(crate) fn rdb(&self) -> &[u8]
+    pub fn rdb(&self) -> &[u8]
         ensures name { result.now ≡ self.now.rdb }
         ensures short { length result.now ≤ 18 }
     {
         self.rdb.as_bytes()
     }
 
-    /// A copy.
-    pub(crate) fn copied(&self, alloc: Global) -> Result<Settings, AllocError>
+    /// A copy, or AllocError where memory is refused.
+    pub fn copied(&self, alloc: Global) -> Result<Settings, AllocError>
         ensures { IfOk result (λ s. s ≡ self.now) }
     {
         Ok(Settings {

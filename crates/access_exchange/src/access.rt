@@ -1,10 +1,10 @@
 //! Access to the database: ACCSEC, SECCHK and ACCRDB.
 
 ghost use Rattle.std.specs.Prelude.{◌≡◌, IfOk};
-ghost use Rattle.conversation.specs.Exchange as spec;
-ghost use Rattle.conversation.specs.Replies.{rdb_not_found};
+ghost use Rattle.access_exchange.specs.Access as spec;
+ghost use Rattle.access_exchange.specs.Replies.{rdb_not_found};
 ghost use Rattle.drda_commands.specs.Views.{occurs_of};
-ghost use Rattle.conversation.specs.Views.{answer_of};
+ghost use Rattle.access_exchange.specs.Views.{answer_of};
 
 use crate::answer::Answer;
 use crate::reply::{

@@ -1,19 +1,20 @@
 //! The texts of replies.
 
-ghost use Rattle.std.specs.Prelude.{◌≡◌, ◌∷◌, ◌++◌, [], OnOk, map, codes, Some};
+ghost use Rattle.std.specs.Prelude.{◌≡◌, ◌++◌, [], OnOk, map, codes, Some};
 ghost use Rattle.std.specs.Option.{option_copied};
 ghost use Rattle.ddm_objects.specs.Writing.{spelled};
 ghost use Rattle.ebcdic_500.specs.CodePage.{byte_for};
-ghost use Rattle.conversation.specs.Replies.{message, refusal_reply, rdb_part, manager_missing, rdb_not_found, levels_part, excsatrd, accsecrd, accsecrd_refused, secchkrm, check_severity, ccsids, accrdbrm};
-ghost use Rattle.conversation.specs.Replies as spec;
-ghost use Rattle.drda_names.specs.Names.{in_encoding};
-ghost use Rattle.ddm_objects.specs.declared.code_point.TheConstants.{EXTNAM, SRVCLSNM, SRVNAM, SRVRLSLV, TYPDEFOVR};
+ghost use Rattle.access_exchange.specs.Replies.{refusal_reply, rdb_error, manager_missing, rdb_not_found, levels_part, excsatrd, accsecrd, accsecrd_refused, secchkrm, check_severity, ccsids, accrdbrm};
+ghost use Rattle.access_exchange.specs.Replies as spec;
+ghost use Rattle.drda_names.specs.Names.{in_encoding, padded_in};
+ghost use Rattle.ddm_objects.specs.declared.code_point.TheConstants.{EXTNAM, RDBNAM, SRVCLSNM, SRVNAM, SRVRLSLV, TYPDEFOVR};
 
 use crate::levels::push_levels;
 use crate::settings::Settings;
 use ddm_objects::{close, code_point, open, put};
 use drda_commands::{Mechanism, Refusal};
 use drda_names::{push_name, push_padded};
+use sqlam_replies::{ReplyMessage, reply_message};
 use std::alloc::AllocError;
 
 /// EXTNAM and SRVNAM: `drdad`, in code page 500.
@@ -33,39 +34,15 @@ pub fn names_in_code_page_500()
     ensures release_level { map byte_for (codes "RDA01000") ≡ map Some RELEASE_LEVEL }
 {}
 
-// A reply message of severity ERROR with one parameter.
-fn write_error(
-    text: &mut Vec<u8>,
-    code: u16,
-    parameter: u16,
-    value: &[u8],
-) -> Result<(), AllocError>
-    requires { text.old.items ≡ [] }
-    ensures { OnOk result (text.new.items ≡ (message code 8 (spelled parameter value.now)).text) }
-{
-    let container = open(text, code)?;
-    put(text, code_point::SVRCOD, &[0, 8])?;
-    put(text, parameter, value)?;
-    close(text, container)
-}
-
-fn write_bare_error(text: &mut Vec<u8>, code: u16) -> Result<(), AllocError>
-    requires { text.old.items ≡ [] }
-    ensures { OnOk result (text.new.items ≡ (message code 8 []).text) }
-{
-    let container = open(text, code)?;
-    put(text, code_point::SVRCOD, &[0, 8])?;
-    close(text, container)
-}
-
 fn write_rdb(text: &mut Vec<u8>, settings: &Settings, unicode: bool) -> Result<(), AllocError>
-    ensures { OnOk result (text.new.items ≡ text.old.items ++ rdb_part settings.now unicode) }
+    ensures { OnOk result (text.new.items ≡ text.old.items ++ spelled RDBNAM (padded_in unicode settings.now.rdb)) }
 {
     let container = open(text, code_point::RDBNAM)?;
     push_padded(text, unicode, settings.rdb())?;
     close(text, container)
 }
 
+// The name is encoded where it stands in the message, which takes no buffer for it.
 fn write_rdb_error(
     text: &mut Vec<u8>,
     code: u16,
@@ -73,7 +50,7 @@ fn write_rdb_error(
     unicode: bool,
 ) -> Result<(), AllocError>
     requires { text.old.items ≡ [] }
-    ensures { OnOk result (text.new.items ≡ (message code 8 (rdb_part settings.now unicode)).text) }
+    ensures { OnOk result (text.new.items ≡ (rdb_error code (padded_in unicode settings.now.rdb)).text) }
 {
     let container = open(text, code)?;
     put(text, code_point::SVRCOD, &[0, 8])?;
@@ -92,32 +69,15 @@ pub(crate) fn write_refusal(
 {
     text.clear();
     match refusal {
-        Refusal::Syntax(error) => {
-            write_error(
-                text,
-                code_point::SYNTAXRM,
-                code_point::SYNERRCD,
-                &[error.synerrcd()],
-            )
-        }
-        Refusal::OutOfTurn => write_bare_error(text, code_point::PRCCNVRM),
+        Refusal::Syntax(fault) => reply_message(text, ReplyMessage::Syntax(fault.synerrcd())),
+        Refusal::OutOfTurn => reply_message(text, ReplyMessage::OutOfTurn),
         Refusal::RdbAccessed => write_rdb_error(text, code_point::RDBACCRM, settings, unicode),
         Refusal::RdbNotAccessed => write_rdb_error(text, code_point::RDBNACRM, settings, unicode),
         Refusal::CommandNotSupported(code) => {
-            write_error(
-                text,
-                code_point::CMDNSPRM,
-                code_point::CODPNT,
-                &code.to_be_bytes(),
-            )
+            reply_message(text, ReplyMessage::CommandNotSupported(code))
         }
         Refusal::ValueNotSupported(code) => {
-            write_error(
-                text,
-                code_point::VALNSPRM,
-                code_point::CODPNT,
-                &code.to_be_bytes(),
-            )
+            reply_message(text, ReplyMessage::ValueNotSupported(code))
         }
     }
 }
@@ -127,7 +87,7 @@ pub(crate) fn write_manager_missing(text: &mut Vec<u8>) -> Result<(), AllocError
     ensures { OnOk result (text.new.items ≡ manager_missing.text) }
 {
     text.clear();
-    write_bare_error(text, code_point::MGRDEPRM)
+    reply_message(text, ReplyMessage::ManagerDependency)
 }
 
 /// Writes RDBNFNRM, with the name as it came, in place of what the text was.
@@ -135,7 +95,7 @@ pub(crate) fn write_rdb_not_found(text: &mut Vec<u8>, name: &[u8]) -> Result<(),
     ensures { OnOk result (text.new.items ≡ (rdb_not_found name.now).text) }
 {
     text.clear();
-    write_error(text, code_point::RDBNFNRM, code_point::RDBNAM, name)
+    reply_message(text, ReplyMessage::RdbNotFound(name))
 }
 
 fn write_levels(text: &mut Vec<u8>, asked: Option<&[u8]>) -> Result<(), AllocError>

@@ -1,6 +1,6 @@
 use Rattle.std.proofs.Common.{◌≡◌, length}
-use Rattle.conversation.specs.Levels.{agreed_after, nothing_agreed}
-use Rattle.conversation.proofs.levels.agreed_by.Given as goal
+use Rattle.access_exchange.specs.Levels.{agreed_after, nothing_agreed}
+use Rattle.access_exchange.proofs.levels.agreed_by.Given as goal
 
 abbrev pub invariant-entries : goal.invariant-entries
 invariant-entries l = agreed_after l.agreed l.left ≡ agreed_after nothing_agreed l.asked

@@ -1,8 +1,8 @@
 use Rattle.std.proofs.Common.{rules, ◌≡◌, ◌++◌, ℕ, List, Result, Ok, Err, OnOk, refl, sym, ap, ◌∙◌, append_assoc}
 use Rattle.ddm_objects.specs.declared.code_point.TheConstants.{SRVCLSNM, SRVNAM, SRVRLSLV}
 use Rattle.ddm_objects.specs.Writing.{spelled}
-use Rattle.conversation.specs.declared.reply.TheConstants.{SERVER_NAME, SERVER_CLASS, RELEASE_LEVEL, SERVER_NAMES}
-use Rattle.conversation.proofs.reply.write_server_names.Goals as goal
+use Rattle.access_exchange.specs.declared.reply.TheConstants.{SERVER_NAME, SERVER_CLASS, RELEASE_LEVEL, SERVER_NAMES}
+use Rattle.access_exchange.proofs.reply.write_server_names.Goals as goal
 
 joined : SERVER_NAMES ≡ spelled SRVCLSNM SERVER_CLASS ++ (spelled SRVNAM SERVER_NAME ++ spelled SRVRLSLV RELEASE_LEVEL)
 unfolding spelled

@@ -3,7 +3,7 @@
 use Rattle.std.specs.Prelude.{ℕ, ◌==◌, min, false, List, [], ◌∷◌, ◌++◌, if◌then◌else◌}
 use Rattle.std.specs.Int.{w16, to_be_bytes, from_be_bytes}
 use Rattle.ddm_objects.specs.declared.code_point.TheConstants.{AGENT, SQLAM, RDB, SECMGR, CMNTCPIP, XAMGR, UNICODEMGR}
-use Rattle.conversation.specs.declared.session.Agreed.{Agreed}
+use Rattle.access_exchange.specs.declared.session.Agreed.{Agreed}
 
 abbrev pub word : ℕ → ℕ → ℕ
 word high low = from_be_bytes w16 (high ∷ low ∷ [])

@@ -3,8 +3,8 @@
 ghost use Rattle.std.specs.Prelude.{◌≡◌, IfOk};
 ghost use Rattle.std.specs.Option.{option_copied, option_map};
 ghost use Rattle.drda_commands.specs.Views.{given_of};
-ghost use Rattle.conversation.specs.Exchange as spec;
-ghost use Rattle.conversation.specs.Views.{answer_of};
+ghost use Rattle.access_exchange.specs.Access as spec;
+ghost use Rattle.access_exchange.specs.Views.{answer_of};
 
 use crate::access::{accrdb, accsec, check_code, checked};
 use crate::levels::agreed_by;
@@ -16,11 +16,14 @@ use drda_commands::{Accepted, Command, ItemKind, Refusal, Stage};
 use exchanges::ReplyKind;
 use std::alloc::AllocError;
 
-/// A reply whose text stands elsewhere: what is remembered then, the kind of its DSS, its severity.
+/// A reply whose text stands elsewhere, and what is remembered then.
 #[derive(Clone, Copy)]
-pub(crate) struct Answer {
+pub struct Answer {
+    /// What is remembered then, but for the command's chain.
     pub session: Session,
+    /// The kind of its DSS.
     pub kind: ReplyKind,
+    /// Its severity: 0 INFO, 8 ERROR.
     pub severity: u16,
 }
 
@@ -73,8 +76,12 @@ fn unless_agreed(session: Session, text: &mut Vec<u8>) -> Result<Option<Answer>,
 }
 
 /// What is answered without the database, with the text of the answer in place of what `text` was: the
-/// commands that open it, and a SYNCCTL without an agreement on XAMGR. None of any other command.
-pub(crate) fn access(
+/// commands that open it, and a SYNCCTL without an agreement on XAMGR (MGRDEPRM). None of any other command.
+///
+/// EXCSAT agrees on levels. ACCSEC agrees on a mechanism, or lists those that there are. SECCHK has checked the
+/// user exactly where its code is 00. ACCRDB opens the database. A name of another database is RDBNFNRM, and
+/// leaves what is remembered. AllocError where memory is refused; what `text` then holds is not said.
+pub fn answered_at_once(
     settings: &Settings,
     session: Session,
     accepted: Accepted<'_>,
@@ -109,8 +116,9 @@ pub(crate) fn access(
     }
 }
 
-/// The answer to a refused command, with its text in place of what `text` was.
-pub(crate) fn refused(
+/// The answer to a refused command, its message of severity ERROR, with its text in place of what `text` was.
+/// It leaves what is remembered. AllocError where memory is refused; what `text` then holds is not said.
+pub fn refused(
     settings: &Settings,
     session: Session,
     refusal: Refusal,

@@ -1,8 +1,8 @@
 use Rattle.std.proofs.Common.{◌≡◌, ◌-◌, List, ℕ, length, take, drop, ap, ◌∙◌}
-use Rattle.conversation.specs.declared.session.Agreed.{Agreed}
-use Rattle.conversation.specs.Levels.{word, level_for, agreed_on, agreed_after}
-use Rattle.conversation.proofs.Entries.{at, agreed_four}
-use Rattle.conversation.proofs.levels.agreed_with.Goals as goal
+use Rattle.access_exchange.specs.declared.session.Agreed.{Agreed}
+use Rattle.access_exchange.specs.Levels.{word, level_for, agreed_on, agreed_after}
+use Rattle.access_exchange.proofs.Entries.{at, agreed_four}
+use Rattle.access_exchange.proofs.levels.agreed_with.Goals as goal
 
 pub returns-clause-agreed : goal.returns-clause-agreed
 returns-clause-agreed c =

@@ -1,6 +1,6 @@
 use Rattle.std.proofs.Common.{rules}
 use Rattle.ddm_objects.specs.Writing.{spelled}
-use Rattle.conversation.proofs.reply.write_external_name.Goals as goal
+use Rattle.access_exchange.proofs.reply.write_external_name.Goals as goal
 
 pub returns : goal.returns
 unfolding spelled

@@ -1,7 +1,7 @@
 //! Manager levels.
 
 ghost use Rattle.std.specs.Prelude.{◌≡◌, ◌<◌, ◌++◌, OnOk, IfSome, MatchOption, length};
-ghost use Rattle.conversation.specs.Levels.{highest, level_for, levels_for, agreed_on, agreed_after, nothing_agreed};
+ghost use Rattle.access_exchange.specs.Levels.{highest, level_for, levels_for, agreed_on, agreed_after, nothing_agreed};
 
 use crate::session::Agreed;
 use ddm_objects::code_point;
