@@ -4,3 +4,5 @@ mod Whole
 mod Judged
 mod Listed
 mod Written
+mod Tables
+mod Halves

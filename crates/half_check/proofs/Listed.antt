@@ -16,6 +16,7 @@ use Rattle.table_image.specs.declared.reading.CatalogueError.{CatalogueError}
 use Rattle.table_image.specs.declared.reading.CatalogueError.TheVariants as catalogue
 use Rattle.half_check.specs.Errors.{catalogue_error}
 use Rattle.half_check.specs.Judging.{JudgesEntries}
+use Rattle.half_check.proofs.Whole.{by_length}
 use Rattle.half_check.specs.declared.errors.CheckError.{CheckError}
 use Rattle.half_check.specs.declared.errors.CheckError.TheVariants.{NoMemory, DeviceFailed, Damaged}
 
@@ -77,14 +78,35 @@ in_front law file at (p ∷ a) (q ∷ b) stand other fewer =
     let found = in_front law file (at + 8192) a b stand.1 other.1 (omega (arith, fewer)) in
     (found.0, found.1, ap (λ (x : List Entry). x ∷ b) (one_entries law (part file at 8192) q p other.0 stand.0) ∙ ap (λ (l : List (List Entry)). p ∷ l) found.2)
 
-pub listed_not_bad : OnePage → (file : List ℕ) (at count last here : ℕ) (pages : List (List Entry)) → IsListing file at count last pages → BreaksAt (AreListed file at last) at count here → ⊥
-listed_not_bad law file at count last here pages is bad =
-    let found = in_front law file at bad.front pages bad.right.stand is.listed.stand (omega (arith, bad.within, is.many)) in
-    let whole = subst (λ (l : List (List Entry)). AreListed file at last l) found.2 is.listed in
+-- with the first bad page more pages than those in front of it are no catalogue's
+listed_not_more : OnePage → (file : List ℕ) (at count last here : ℕ) (pages : List (List Entry)) → AreListed file at last pages → (bad : BreaksAt (AreListed file at last) at count here) → length bad.front < length pages → ⊥
+listed_not_more law file at count last here pages is bad more =
+    let found = in_front law file at bad.front pages bad.right.stand is.stand more in
+    let whole = subst (λ (l : List (List Entry)). AreListed file at last l) found.2 is in
     bad.bad found.0 (record {
       stand = stand_front file at (bad.front ++ found.0 ∷ []) found.1 whole.stand;
       listed = listed_front last (entries_over (bad.front ++ found.0 ∷ [])) (entries_over found.1) (ap (λ (es : List Entry). are_listed last es) (sym (entries_front (bad.front ++ found.0 ∷ []) found.1)) ∙ whole.listed);
     })
+
+pub listed_not_bad : OnePage → (file : List ℕ) (at count last here : ℕ) (pages : List (List Entry)) → IsListing file at count last pages → BreaksAt (AreListed file at last) at count here → ⊥
+listed_not_bad law file at count last here pages is bad = listed_not_more law file at count last here pages is.listed bad (omega (arith, bad.within, is.many))
+
+-- a catalogue has one first bad page at most
+pub listed_one_bad : OnePage → (file : List ℕ) (at count last here there : ℕ) → BreaksAt (AreListed file at last) at count here → BreaksAt (AreListed file at last) at count there → here ≡ there
+listed_one_bad law file at count last here there a b =
+    let same = by_length (length a.front) (length b.front) (listed_not_more law file at count last here b.front b.right a) (listed_not_more law file at count last there a.front a.right b) in
+    omega (arith, a.place, b.place, same)
+
+same_entries : OnePage → (file : List ℕ) (at : ℕ) (a b : List (List Entry)) → EntriesAt file at a → EntriesAt file at b → length a ≡ length b → a ≡ b
+same_entries law file at [] [] stand other many = refl
+same_entries law file at [] (q ∷ b) stand other many = absurd cc
+same_entries law file at (p ∷ a) [] stand other many = absurd cc
+same_entries law file at (p ∷ a) (q ∷ b) stand other many =
+    ap (λ (x : List Entry). x ∷ a) (one_entries law (part file at 8192) p q stand.0 other.0) ∙ ap (λ (l : List (List Entry)). q ∷ l) (same_entries law file (at + 8192) a b stand.1 other.1 (omega (arith, many)))
+
+-- so many pages are those of one catalogue at most
+pub one_listing : OnePage → (file : List ℕ) (at count last : ℕ) (a b : List (List Entry)) → IsListing file at count last a → IsListing file at count last b → a ≡ b
+one_listing law file at count last a b is other = same_entries law file at a b is.listed.stand other.listed.stand (is.many ∙ sym other.many)
 
 -- ---- page by page
 

@@ -16,6 +16,12 @@ pub record AreGood (schema : Schema) (key_of : List ℕ → List ℕ) (file : Li
   pub some : AllByRecursion HasSome pages
   pub rising : go_on schema key_of None (rows_over pages) ≡ true
 
+pub by_length : (m n : ℕ) → (m < n → ⊥) → (n < m → ⊥) → m ≡ n
+by_length zero zero low high = refl
+by_length zero (suc n) low high = absurd (low (omega arith))
+by_length (suc m) zero low high = absurd (high (omega arith))
+by_length (suc m) (suc n) low high = ap suc (by_length m n (λ less. low (omega (arith, less))) (λ less. high (omega (arith, less))))
+
 module _ (schema : Schema) (key_of : List ℕ → List ℕ) (file : List ℕ) (at : ℕ) where
   pub is_whole : (pages : List (List (List ℕ))) → AreGood schema key_of file at pages → AreWhole schema key_of file at pages
   is_whole pages good = record { stand = good.stand; some = good.some; fit = all_fit schema key_of None (rows_over pages) good.rising; order = in_order schema key_of None (rows_over pages) good.rising }
@@ -40,12 +46,6 @@ module _ (schema : Schema) (key_of : List ℕ → List ℕ) (file : List ℕ) (a
 
   pub never_bad : OnePage → (count here : ℕ) (pages : List (List (List ℕ))) → IsWhole schema key_of file at count pages → IsFirstBad schema key_of file at count here → ⊥
   never_bad law count here pages whole bad = not_more law count here pages whole.whole bad (omega (arith, bad.within, whole.many))
-
-  by_length : (m n : ℕ) → (m < n → ⊥) → (n < m → ⊥) → m ≡ n
-  by_length zero zero low high = refl
-  by_length zero (suc n) low high = absurd (low (omega arith))
-  by_length (suc m) zero low high = absurd (high (omega arith))
-  by_length (suc m) (suc n) low high = ap suc (by_length m n (λ less. low (omega (arith, less))) (λ less. high (omega (arith, less))))
 
   pub one_bad : OnePage → (count here there : ℕ) → IsFirstBad schema key_of file at count here → IsFirstBad schema key_of file at count there → here ≡ there
   one_bad law count here there a b =

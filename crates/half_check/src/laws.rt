@@ -1,6 +1,7 @@
 //! Laws of whole and of damaged pages.
+ghost use Rattle.half_check.specs.Half.{OneFirstBadOfHalf, OneWholeHalf, WholeHalfIsNotBad};
 ghost use Rattle.half_check.specs.Listed.{ListedIsNotBad};
-ghost use Rattle.half_check.specs.Written.{WrittenIsListed, WrittenIsWhole};
+ghost use Rattle.half_check.specs.Written.{WrittenHalfIsWhole, WrittenIsListed, WrittenIsWhole};
 ghost use Rattle.half_check.specs.Whole.{OneFirstBad, OneWhole, WholeIsNotBad, WholeIsStored};
 
 use row_pages::{one_laying, one_page};
@@ -51,5 +52,34 @@ pub fn written_is_whole()
 pub fn written_is_listed()
     ensures { WrittenIsListed }
 {
+    catalogues_are_read();
+}
+
+/// A half that is whole has no first bad page.
+pub fn whole_half_is_not_bad()
+    ensures { WholeHalfIsNotBad }
+{
+    one_page();
+}
+
+/// A half has one first bad page at most.
+pub fn one_first_bad_of_half()
+    ensures { OneFirstBadOfHalf }
+{
+    one_page();
+}
+
+/// A half is whole with one list of tables and rows at most.
+pub fn one_whole_half()
+    ensures { OneWholeHalf }
+{
+    one_page();
+}
+
+/// A half is whole into which tables were written one behind another, and behind them their catalogue.
+pub fn written_half_is_whole()
+    ensures { WrittenHalfIsWhole }
+{
+    one_laying();
     catalogues_are_read();
 }

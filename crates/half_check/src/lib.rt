@@ -3,6 +3,8 @@
 #![tactic(auto)]
 
 mod errors;
+mod half;
+mod keys;
 mod laws;
 mod listing;
 mod page;
@@ -10,8 +12,11 @@ mod rows;
 mod table;
 
 pub use errors::CheckError;
+pub use half::{CheckedTable, check_half};
+pub use keys::KeysBySchema;
 pub use laws::{
-    listed_is_not_bad, one_first_bad, one_whole, whole_is_not_bad, whole_is_stored,
+    listed_is_not_bad, one_first_bad, one_first_bad_of_half, one_whole, one_whole_half,
+    whole_half_is_not_bad, whole_is_not_bad, whole_is_stored, written_half_is_whole,
     written_is_listed, written_is_whole,
 };
 pub use listing::check_catalogue;

@@ -2,7 +2,7 @@
 ghost use Rattle.std.specs.Prelude.{◌≡◌, ◌≤◌, length, take};
 
 use drda_disk::{Disk, MemDisk};
-use half_check::{CheckError, check_table};
+use half_check::{CheckError, KeysBySchema, check_table};
 use row_pages::{PageBuilder, PageCache, PageKind};
 use row_values::{Column, Kind, Schema};
 use std::alloc::{AllocError, Global};
@@ -28,6 +28,14 @@ impl RowKeys for FirstColumn {
 
     fn compare(&self, _: Global, key: &[u8], row: &[u8]) -> Result<Ordering, AllocError> {
         Ok(key.cmp(first_column(row)))
+    }
+}
+
+impl KeysBySchema for FirstColumn {
+    ghost key_of = { λ _ _ row. take 3 row };
+
+    fn key(&self, alloc: Global, _: &Schema, row: &[u8]) -> Result<Vec<u8>, AllocError> {
+        first_column(row).to_vec(alloc)
     }
 }
 
