@@ -181,7 +181,7 @@ pub fn ask(
     let _ = segments.feed(&bytes);
     if let Ok(Some(group)) = segments.next()
         && let Some((request, objects)) = group.split_first()
-        && let Ok(accepted) = judge(&[], Stage::Opened, false, request.contents, objects)
+        && let Ok(accepted) = judge(Stage::Opened, false, request.contents, objects)
     {
         let room = most_length(&accepted, statements).saturating_add(written(replies));
         do_command(alloc, accepted, b"DRDADB", statements, asker, replies)?;

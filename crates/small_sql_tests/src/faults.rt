@@ -1,6 +1,6 @@
 //! Of two faults of a statement the earlier one counts.
 
-use crate::fixtures::{Asked, Case, ROOM, wrong};
+use crate::fixtures::{Asked, Case, ROOM, full_store, told, wrong};
 use std::test::Fail;
 
 /// No table of this name; the columns that are named, from left to right; the number of values; the first value
@@ -123,5 +123,22 @@ static OTHERS: [Case; 12] = [
 fn the_first_fault_of_other_statements_counts(rt: HostRuntime) -> Result<(), Fail> {
     let wrong = wrong(rt.alloc(), &OTHERS)?;
     assert!(rt; wrong.is_none(), "{wrong:?}");
+    Ok(())
+}
+
+/// Of a CREATE TABLE a table of this name, then the number of tables.
+static CREATIONS: [(&str, i64); 2] = [
+    ("CREATE TABLE t (A INT, PRIMARY KEY (A))", -601),
+    ("CREATE TABLE W (A INT, PRIMARY KEY (A))", -904),
+];
+
+#[test]
+fn a_taken_name_comes_before_the_limit_of_tables(rt: HostRuntime) -> Result<(), Fail> {
+    let alloc = rt.alloc();
+    let mut view = full_store(alloc)?;
+    for (text, expected) in &CREATIONS {
+        let found = told(alloc, &mut view, text, Asked::Run(ROOM))?;
+        assert!(rt; found == *expected, "{text}");
+    }
     Ok(())
 }

@@ -30,6 +30,9 @@ pub(crate) enum Asked {
 /// A statement, what is asked of it, and the number that is answered.
 pub(crate) type Case = (&'static str, Asked, i64);
 
+/// How many tables are in the store of the tests.
+const STORE_TABLES: usize = 2;
+
 // `T` with three rows, and `U` with none.
 static STORE: [&'static str; 5] = [
     "CREATE TABLE T (K INTEGER NOT NULL, N SMALLINT, V VARCHAR(3) NOT NULL, PRIMARY KEY (K))",
@@ -119,6 +122,16 @@ pub(crate) fn store(alloc: Global) -> Result<Watched, Fail> {
     }
     view.gets = 0;
     view.scans = 0;
+    Ok(view)
+}
+
+/// The store of the tests with as many tables as a store holds, 1,000.
+pub(crate) fn full_store(alloc: Global) -> Result<Watched, Fail> {
+    let mut view = store(alloc)?;
+    for i in STORE_TABLES..1_000 {
+        let text = format!(in alloc; "CREATE TABLE T{i} (A INT, PRIMARY KEY (A))")?;
+        let _number = told(alloc, &mut view, text.as_str(), Asked::Run(ROOM))?;
+    }
     Ok(view)
 }
 

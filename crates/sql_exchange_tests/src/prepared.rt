@@ -106,7 +106,7 @@ fn do_step(
     let _ = segments.feed(&bytes);
     if let Ok(Some(group)) = segments.next()
         && let Some((request, objects)) = group.split_first()
-        && let Ok(accepted) = judge(&[], Stage::Opened, false, request.contents, objects)
+        && let Ok(accepted) = judge(Stage::Opened, false, request.contents, objects)
     {
         do_command(
             alloc, accepted, b"DRDADB", false, statements, asker, replies,

@@ -41,7 +41,7 @@ fn run(
     let _ = segments.feed(&bytes);
     if let Ok(Some(group)) = segments.next()
         && let Some((request, objects)) = group.split_first()
-        && let Ok(accepted) = judge(&[], Stage::Opened, false, request.contents, objects)
+        && let Ok(accepted) = judge(Stage::Opened, false, request.contents, objects)
     {
         execute_immediate(alloc, accepted, b"DRDADB", statements, asker, replies)?;
         return Ok(true);

@@ -95,7 +95,7 @@ pub fn control(
     let _ = segments.feed(&bytes);
     if let Ok(Some(group)) = segments.next()
         && let Some((request, objects)) = group.split_first()
-        && let Ok(accepted) = judge(&[], Stage::Opened, false, request.contents, objects)
+        && let Ok(accepted) = judge(Stage::Opened, false, request.contents, objects)
     {
         do_command(alloc, accepted, statements, asker, replies)?;
         return Ok(true);
