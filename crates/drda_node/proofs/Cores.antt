@@ -17,7 +17,7 @@ module _ {D : Type 0} (life : D → Life) where
   -- a call is asked
   pub core_asks : (old new : OnDisk D) (place : ℕ) (call : Call) (answer : Answer) → Steps (shown_on life old) place call answer (shown_on life new) → asks place (asked_of old) call answer (asked_of new)
   core_asks old new place call answer (inl t) = inl (record { going = t.going; answer_is = t.answer_is; state = t.state; still = t.still; made = t.made })
-  core_asks old new place call answer (inr (inl t)) = inr (inl (record { going = t.going; answer_is = t.answer_is; same = same_core old new t.same }))
+  core_asks old new place call answer (inr (inl t)) = inr (inl (record { going = t.going; wanting = t.wanting; answer_is = t.answer_is; same = same_core old new t.same }))
   core_asks old new place call answer (inr (inr (inl t))) = inr (inr (inl (record {
     going = t.going;
     record_is = t.record_is;

@@ -11,7 +11,7 @@ use Rattle.core_calls.specs.Answer.{Answer, closed, device_failed, full, no_memo
 use Rattle.core_steps.specs.Step.{CoreState, answer as answer_to, step_state}
 use Rattle.recording.specs.Due.{record_due}
 use Rattle.durable_images.specs.Journaled.{Journaled, OnDisk, shown_on}
-use Rattle.durable_core.specs.Steps.{due_entries}
+use Rattle.durable_core.specs.Steps.{MayWantMemory, due_entries}
 use Rattle.drda_node.specs.declared.asker.Asker.{Asker}
 
 -- what a core is to those who ask it: its state, whether the device has failed, and the records that were due of its
@@ -31,9 +31,10 @@ pub record IsTaken (old : AskedCore) (place : ℕ) (call : Call) (answer : Answe
 
 -- ---- excuses: the call is not done
 
--- out of memory
-pub record FindsNoMemory (old : AskedCore) (answer : Answer) (new : AskedCore) : Type 0 where
+-- out of memory, of a call that may want some
+pub record FindsNoMemory (old : AskedCore) (place : ℕ) (call : Call) (answer : Answer) (new : AskedCore) : Type 0 where
   pub going : old.has_failed ≡ false
+  pub wanting : MayWantMemory old.state place call
   pub answer_is : answer ≡ no_memory
   pub same : new ≡ old
 
@@ -65,7 +66,7 @@ pub record IsClosed (old : AskedCore) (answer : Answer) (new : AskedCore) : Type
 
 abbrev pub IsExcused : AskedCore → ℕ → Call → Answer → AskedCore → Type 0
 IsExcused old place call answer new =
-    FindsNoMemory old answer new ⊎ (FindsNoRoom old place call answer new ⊎ (FailsHere old place call answer new ⊎ IsClosed old answer new))
+    FindsNoMemory old place call answer new ⊎ (FindsNoRoom old place call answer new ⊎ (FailsHere old place call answer new ⊎ IsClosed old answer new))
 
 -- the core takes the step of this conversation's call, and answers it
 abbrev pub asks : ℕ → AskedCore → Call → Answer → AskedCore → Type 0

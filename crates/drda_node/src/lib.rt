@@ -13,6 +13,9 @@ mod row;
 mod serving;
 mod writing;
 
+// What a node is started with.
+pub use conversation::{Settings, SettingsError};
+pub use durable_core::{DurableCore, open};
 pub use fed::{Fed, FedState};
 pub use node::{ConversationId, Done, Node, OpenError};
 pub use serving::{RunEnd, run};

@@ -1,5 +1,5 @@
 -- What a call of the core makes of it and of who records: it stays recorded, and each answer is one of `Steps`.
-use Rattle.std.proofs.Common.{◌≡◌, inl, inr, ℕ, ◌+◌, ◌-◌, ◌≤◌, ◌^◌, min, Bool, true, false, IsTrue, List, [], ◌∷◌, ◌++◌, length, Option, Some, None, refl, sym, ◌∙◌, ap, subst, arith, append-nil}
+use Rattle.std.proofs.Common.{◌≡◌, if◌then◌else◌, inl, inr, ℕ, ◌+◌, ◌-◌, ◌≤◌, ◌^◌, min, Bool, true, false, IsTrue, List, [], ◌∷◌, ◌++◌, length, Option, Some, None, refl, sym, ◌∙◌, ap, subst, arith, append-nil}
 use Rattle.std.proofs.lemmas.Bool.{false≢true}
 use Rattle.drda_disk.specs.Disk.{Life}
 use Rattle.drda_disk.specs.Region.{end_of}
@@ -26,11 +26,11 @@ use Rattle.disk_recorder.specs.Recording.{Allows, Fails, IsLeftOpen, Records, di
 use Rattle.disk_recorder.specs.declared.recorder.DiskRecorder.{DiskRecorder}
 use Rattle.durable_images.specs.Opens.{Holds}
 use Rattle.durable_images.specs.Laws.{RecordsStay}
-use Rattle.durable_images.specs.Journaled.{IsDurable, IsUnchanged, IsUntouched, Journaled, OneCallIsMade, shown_on}
+use Rattle.durable_images.specs.Journaled.{FaultsAfter, IsDurable, IsUnchanged, IsUntouched, Journaled, OneCallIsMade, shown_on}
 use Rattle.rdb_core.specs.Recorded as told
 use Rattle.rdb_core.specs.Steps as core
 use Rattle.durable_core.specs.Recorded.{IsOnDisk, IsRecorded, core_on}
-use Rattle.durable_core.specs.Steps.{IsClosed, RoomAfter, Steps, due_entries}
+use Rattle.durable_core.specs.Steps.{IsClosed, MayWantMemory, RoomAfter, Steps, due_entries}
 
 -- the laws that it rests on
 pub record Laws {D : Type 0} (life : D → Life) : Type 0 where
@@ -87,9 +87,12 @@ module _ {D : Type 0} (modelled : Bool) (life : D → Life) (name : List ℕ) wh
 
       -- ---- no record
 
+      no_fault : FaultsAfter (has_failed r) (life (disk_of r)).faults (life (disk_of r)).faults
+      no_fault = subst (λ (f : Bool). FaultsAfter f (life (disk_of r)).faults (life (disk_of r)).faults) (sym going) (omega arith)
+
       silent_journaled : (new : CoreState) → durable_part new ≡ durable_part s → IsTrue modelled → Journaled (shown_on life (core_on name s r)) (shown_on life (core_on name new r))
       silent_journaled new same modelled_disk = (
-        λ still. ([], laws.calls_made.silent (core_on name s r) (core_on name new r) (durable modelled_disk going) (Stays-refl (life (disk_of r))) refl same refl),
+        λ still. ([], laws.calls_made.silent (core_on name s r) (core_on name new r) (durable modelled_disk going) (Stays-refl (life (disk_of r))) refl same refl no_fault),
         λ is_failed. absurd (false≢true (sym going ∙ is_failed)),
       )
 
@@ -124,10 +127,10 @@ module _ {D : Type 0} (modelled : Bool) (life : D → Life) (name : List ℕ) wh
             journaled = silent_journaled (step_state s conversation k) same;
           }
 
-      out_of_memory : IsDone s r conversation k no_memory s r
-      out_of_memory = record {
+      out_of_memory : MayWantMemory s conversation k → IsDone s r conversation k no_memory s r
+      out_of_memory wanting = record {
         recorded = is;
-        steps = inr (inl (record { going = going; answer_is = refl; same = unchanged s r }));
+        steps = inr (inl (record { going = going; wanting = wanting; answer_is = refl; same = unchanged s r }));
         journaled = silent_journaled s refl;
       }
 
@@ -170,7 +173,8 @@ module _ {D : Type 0} (modelled : Bool) (life : D → Life) (name : List ℕ) wh
                 λ still. (
                   said ∷ [],
                   laws.calls_made.recorded (core_on name s r) (core_on name (step_state s conversation k) after) (region_of (journal_of r)) there.entries said
-                      (durable_part (step_state s conversation k)) there.holds made.good leads (fit there less) (made.moments there.entries there.settled) refl (λ more. refl) made.made,
+                      (durable_part (step_state s conversation k)) there.holds made.good leads (fit there less) (made.moments there.entries there.settled) refl (λ more. refl) made.made
+                      (subst (λ (f : Bool). FaultsAfter f (life (disk_of r)).faults (life (disk_of after)).faults) (sym made.going) (omega (arith, made.faults))),
                 ),
                 λ is_failed. absurd (false≢true (sym going ∙ is_failed)),
               )
@@ -205,7 +209,8 @@ module _ {D : Type 0} (modelled : Bool) (life : D → Life) (name : List ℕ) wh
                   said ∷ [],
                   laws.calls_made.recorded (core_on name s r) (core_on name s after) (region_of (journal_of r)) there.entries said
                       (durable_part (step_state s conversation k)) there.holds left.good leads (fit there left.fits) (left.moments there.entries there.settled) refl
-                      (λ more. absurd (false≢true (sym more ∙ left.failed))) left.made,
+                      (λ more. absurd (false≢true (sym more ∙ left.failed))) left.made
+                      (subst (λ (f : Bool). FaultsAfter f (life (disk_of r)).faults (life (disk_of after)).faults) (sym left.failed) left.faults),
                 ),
                 λ is_failed. absurd (false≢true (sym going ∙ is_failed)),
               )
@@ -233,9 +238,12 @@ module _ {D : Type 0} (modelled : Bool) (life : D → Life) (name : List ℕ) wh
             journaled = left_journaled;
           }
 
+        some_is_due : record_due s conversation k ≡ None → ⊥
+        some_is_due none = let both : Some said ≡ None = sym due ∙ none in absurd (cc both)
+
         -- a record that is refused
         refused_by : (fault : RecordError) (after : DiskRecorder D) → Fails modelled life r said fault after → IsDone s r conversation k (told.refusal_answer fault) s after
-        refused_by error.NoMemory after same = subst (λ (x : DiskRecorder D). IsDone s r conversation k no_memory s x) (sym same) out_of_memory
+        refused_by error.NoMemory after same = subst (λ (x : DiskRecorder D). IsDone s r conversation k no_memory s x) (sym same) (out_of_memory (inr some_is_due))
         refused_by (error.Full need room) after no_room =
             let at_need : told.refusal_answer (error.Full need room) ≡ told.refusal_answer (error.Full (min (taken said + held said - released said) (2 ^ 64 - 1)) (room_of (journal_of r)))
             = ap (λ (n : ℕ). told.refusal_answer (error.Full n room)) no_room.1.need_is ∙ ap (λ (n : ℕ). told.refusal_answer (error.Full (min (taken said + held said - released said) (2 ^ 64 - 1)) n)) no_room.1.room_is in
@@ -258,13 +266,23 @@ module _ {D : Type 0} (modelled : Bool) (life : D → Life) (name : List ℕ) wh
           subst (λ (a : Answer). IsDone s r conversation k a new after) (sym takes.taken.answer_is)
           (subst (λ (n : CoreState). IsDone s r conversation k (answer s.branches s.base conversation k) n after) (sym takes.taken.state) (taken_by (record_due s conversation k) refl after takes.recorded))
 
-      kept_by : (fault : RecordError) (after : DiskRecorder D) → told.Refuses (Fails modelled life) (record_due s conversation k) fault r after → IsDone s r conversation k (told.refusal_answer fault) s after
-      kept_by fault after (inl out) =
-          subst (λ (f : RecordError). IsDone s r conversation k (told.refusal_answer f) s after) (sym out.fault_is) (subst (λ (x : DiskRecorder D). IsDone s r conversation k no_memory s x) (sym out.recorder) out_of_memory)
-      kept_by fault after (inr refused) = refused_by refused.record_is refused.due_is fault after refused.failed
+      -- what the core is sure to do
+      module _ (said : Answer) (new : CoreState) (after : DiskRecorder D) (sure : core.may_want_any s conversation k ≡ false → record_due s conversation k ≡ None → core.Takes (Records modelled life) s conversation k said new r after) where
+        unless_sure : (wants : Bool) (o : Option UnitRecord) → core.may_want_any s conversation k ≡ wants → record_due s conversation k ≡ o
+            → (MayWantMemory s conversation k → IsDone s r conversation k said new after) → IsDone s r conversation k said new after
+        unless_sure true o wants due otherwise = otherwise (inl wants)
+        unless_sure false None wants due otherwise = taken_step said new after (sure wants due)
+        unless_sure false (Some record_is) wants due otherwise = otherwise (inr (some_is_due record_is due))
 
-      pub any_step : (said : Answer) (new : CoreState) (after : DiskRecorder D) → core.Steps (Records modelled life) (Fails modelled life) s conversation k said new r after → IsDone s r conversation k said new after
-      any_step said new after (inl takes) = taken_step said new after takes
-      any_step said new after (inr kept) =
-          subst (λ (a : Answer). IsDone s r conversation k a new after) (sym kept.answer_is)
-          (subst (λ (n : CoreState). IsDone s r conversation k (told.refusal_answer kept.fault) n after) (sym kept.state) (kept_by kept.fault after kept.cause))
+        kept_by : (fault : RecordError) → said ≡ told.refusal_answer fault → new ≡ s → told.Refuses (Fails modelled life) (record_due s conversation k) fault r after → IsDone s r conversation k said new after
+        kept_by fault answer_is same (inl out) = unless_sure (core.may_want_any s conversation k) (record_due s conversation k) refl refl (λ wanting.
+            subst (λ (a : Answer). IsDone s r conversation k a new after) (sym (answer_is ∙ ap (λ (f : RecordError). told.refusal_answer f) out.fault_is))
+            (subst (λ (n : CoreState). IsDone s r conversation k no_memory n after) (sym same)
+            (subst (λ (x : DiskRecorder D). IsDone s r conversation k no_memory s x) (sym out.recorder) (out_of_memory wanting))))
+        kept_by fault answer_is same (inr refused) =
+            subst (λ (a : Answer). IsDone s r conversation k a new after) (sym answer_is)
+            (subst (λ (n : CoreState). IsDone s r conversation k (told.refusal_answer fault) n after) (sym same) (refused_by refused.record_is refused.due_is fault after refused.failed))
+
+        pub any_step : core.Steps (Records modelled life) (Fails modelled life) s conversation k said new r after → IsDone s r conversation k said new after
+        any_step (inl takes) = taken_step said new after takes
+        any_step (inr kept) = kept_by kept.fault kept.answer_is kept.state kept.cause

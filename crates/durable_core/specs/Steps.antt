@@ -5,9 +5,10 @@ use Rattle.unit_records.specs.Records.{UnitRecord, entry_of}
 use Rattle.unit_records.specs.Room.{held, released, taken}
 use Rattle.core_calls.specs.Call.{Call, lost}
 use Rattle.core_calls.specs.Answer.{Answer, closed, device_failed, full, no_memory}
-use Rattle.core_steps.specs.Step.{answer, step_state}
+use Rattle.core_steps.specs.Step.{CoreState, answer, step_state}
 use Rattle.recording.specs.Due.{record_due}
 use Rattle.durable_images.specs.Journaled.{IsUnchanged, Shown}
+use Rattle.rdb_core.specs.Steps.{may_want_any}
 
 -- what a record makes of the room
 abbrev pub RoomAfter : Option UnitRecord → ℕ → ℕ → Type 0
@@ -31,9 +32,14 @@ pub record IsTaken (old : Shown) (conversation : ℕ) (k : Call) (told : Answer)
 
 -- ---- excuses: all else stays
 
+-- a call may want memory: by what it does, or since a record of it is due
+abbrev pub MayWantMemory : CoreState → ℕ → Call → Type 0
+MayWantMemory s conversation k = (may_want_any s conversation k ≡ true) ⊎ (record_due s conversation k ≡ None → ⊥)
+
 -- out of memory, before any device call
-pub record FindsNoMemory (old : Shown) (told : Answer) (new : Shown) : Type 0 where
+pub record FindsNoMemory (old : Shown) (conversation : ℕ) (k : Call) (told : Answer) (new : Shown) : Type 0 where
   pub going : old.is_failed ≡ false
+  pub wanting : MayWantMemory old.state conversation k
   pub answer_is : told ≡ no_memory
   pub same : IsUnchanged old new
 
@@ -67,7 +73,7 @@ pub record IsClosed (old : Shown) (told : Answer) (new : Shown) : Type 0 where
 
 abbrev pub IsExcused : Shown → ℕ → Call → Answer → Shown → Type 0
 IsExcused old conversation k told new =
-    FindsNoMemory old told new ⊎ (FindsNoRoom old conversation k told new ⊎ (FailsHere old conversation k told new ⊎ IsClosed old told new))
+    FindsNoMemory old conversation k told new ⊎ (FindsNoRoom old conversation k told new ⊎ (FailsHere old conversation k told new ⊎ IsClosed old told new))
 
 abbrev pub Steps : Shown → ℕ → Call → Answer → Shown → Type 0
 Steps old conversation k told new = IsTaken old conversation k told new ⊎ IsExcused old conversation k told new

@@ -1,5 +1,5 @@
 -- Calls one after another.
-use Rattle.std.proofs.Common.{◌≡◌, ℕ, ◌+◌, min, Bool, true, false, List, [], ◌∷◌, ◌++◌, length, take, drop, Some, refl, sym, ◌∙◌, ap, subst, arith, take-add, map, append_assoc, append-nil}
+use Rattle.std.proofs.Common.{◌≡◌, ℕ, ◌+◌, min, if◌then◌else◌, Bool, true, false, List, [], ◌∷◌, ◌++◌, length, take, drop, Some, refl, sym, ◌∙◌, ap, subst, arith, take-add, map, append_assoc, append-nil}
 use Rattle.std.specs.List.{AllByRecursion}
 use Rattle.std.specs.Option.{option_and_then}
 use Rattle.std.proofs.lemmas.Bool.{false≢true}
@@ -12,7 +12,7 @@ use Rattle.durable_units.specs.Durable.{Durable, replayed_from}
 use Rattle.durable_units.specs.Laws.{GoesOn}
 use Rattle.durable_steps.specs.Part.{durable_part}
 use Rattle.durable_images.specs.Opens.{OpensTo}
-use Rattle.durable_images.specs.Journaled.{CallsGoOn, IsDurable, IsUnchanged, IsUntouched, Journaled, Made, OpensAfterSome, Shown, StaysFailed, shown_on}
+use Rattle.durable_images.specs.Journaled.{CallsGoOn, IsDurable, FaultsAfter, IsUnchanged, IsUntouched, Journaled, Made, OpensAfterSome, Shown, StaysFailed, shown_on}
 
 -- ---- fronts of two lists
 
@@ -51,6 +51,10 @@ module _ (goes_on : GoesOn) where
 
   -- ---- two runs of calls
 
+  -- the first of them did not fail
+  faults_both : (a b c : ℕ) (failed : Bool) → FaultsAfter false a b → FaultsAfter failed b c → FaultsAfter failed a c
+  faults_both a b c failed first second = omega (arith, first, second)
+
   made_both : (a b c : Shown) (rs ss : List UnitRecord) → b.is_failed ≡ false → Made rs a b → Made ss b c → Made (rs ++ ss) a c
   made_both a b c rs ss going first second =
       let led : replayed_from (durable_part a.state) rs ≡ Some (durable_part b.state) = first.state going in
@@ -61,6 +65,7 @@ module _ (goes_on : GoesOn) where
         state = λ still. led_on (durable_part a.state) (durable_part b.state) rs ss led ∙ second.state still;
         good = good_both rs ss first.good second.good;
         made = noted_both a.made b.made c.made rs ss first.made second.made;
+        faults = faults_both a.disk.faults b.disk.faults c.disk.faults c.is_failed (subst (λ (f : Bool). FaultsAfter f a.disk.faults b.disk.faults) going first.faults) second.faults;
       }
 
 -- ---- no device call
@@ -74,35 +79,37 @@ unchanged s = record { name = refl; state = refl; disk = untouched s.disk; room 
 untouched_both : (a b c : Life) → IsUntouched a b → IsUntouched b c → IsUntouched a c
 untouched_both a b c first second = record { stays = Stays-trans a b c first.stays second.stays; moment = second.moment ∙ first.moment; faults = second.faults ∙ first.faults }
 
-made_failed : (a b c : Shown) (rs : List UnitRecord) → Made rs a b → StaysFailed b c → Made rs a c
-made_failed a b c rs first stays = record {
+made_failed : (a b c : Shown) (rs : List UnitRecord) → b.is_failed ≡ true → Made rs a b → StaysFailed b c → Made rs a c
+made_failed a b c rs failed first stays = record {
   name = stays.name ∙ first.name;
   moments = and_stays a.disk b.disk c.disk (OpensAfterSome a.name (durable_part a.state) rs) first.moments stays.disk.stays;
   state = λ still. absurd (false≢true (sym still ∙ stays.failed));
   good = first.good;
   made = stays.made ∙ first.made;
+  faults = stays.disk.faults ∙ first.faults ∙ ap (λ (f : Bool). a.disk.faults + (if f then 1 else 0)) (failed ∙ sym stays.failed);
 }
 
 failed_both : (a b c : Shown) → StaysFailed a b → StaysFailed b c → StaysFailed a c
 failed_both a b c first second = record { failed = second.failed; name = second.name ∙ first.name; state = second.state ∙ first.state; disk = untouched_both a.disk b.disk c.disk first.disk second.disk; made = second.made ∙ first.made }
 
-made_none : (s : Shown) → IsDurable s → Made [] s s
-made_none s durable = record {
+made_none : (s : Shown) → s.is_failed ≡ false → IsDurable s → Made [] s s
+made_none s going durable = record {
   name = refl;
   moments = no_call s.disk _ (λ c now. record { count = 0; state = durable_part s.state; leads = refl; opens = subst (λ (l : List ℕ). OpensTo s.name (durable_part s.state) l) (sym (durable.only c now)) durable.opens });
   state = λ still. refl;
   good = tt;
   made = sym (append-nil s.made);
+  faults = subst (λ (f : Bool). FaultsAfter f s.disk.faults s.disk.faults) (sym going) (omega arith);
 }
 
 -- ---- calls
 
 pub goes_none : (s : Shown) → (s.is_failed ≡ false → IsDurable s) → Journaled s s
-goes_none s durable = (λ going. ([], made_none s (durable going)), λ failed. record { failed = failed; name = refl; state = refl; disk = untouched s.disk; made = refl })
+goes_none s durable = (λ going. ([], made_none s going (durable going)), λ failed. record { failed = failed; name = refl; state = refl; disk = untouched s.disk; made = refl })
 
 module _ (goes_on : GoesOn) where
   from_going : (a b c : Shown) (failed : Bool) → b.is_failed ≡ failed → ((rs : List UnitRecord) × Made rs a b) → Journaled b c → (rs : List UnitRecord) × Made rs a c
-  from_going a b c true is (rs, first) second = (rs, made_failed a b c rs first (second.1 is))
+  from_going a b c true is (rs, first) second = (rs, made_failed a b c rs is first (second.1 is))
   from_going a b c false is (rs, first) second = let more = second.0 is in (rs ++ more.0, made_both goes_on a b c rs more.0 is first more.1)
 
   pub goes_both : (a b c : Shown) → Journaled a b → Journaled b c → Journaled a c

@@ -13,7 +13,7 @@ use Rattle.durable_units.specs.Durable.{Durable, next, replayed_from}
 use Rattle.durable_units.specs.Laws.{held_for}
 use Rattle.durable_steps.specs.Part.{durable_part}
 use Rattle.durable_images.specs.Opens.{Holds, OpensTo}
-use Rattle.durable_images.specs.Journaled.{IsDurable, IsUnchanged, Made, OnDisk, OneCallIsMade, OpensAfterSome, Shown, StaysFailed, shown_on}
+use Rattle.durable_images.specs.Journaled.{FaultsAfter, IsDurable, IsUnchanged, Made, OnDisk, OneCallIsMade, OpensAfterSome, Shown, StaysFailed, shown_on}
 use Rattle.durable_images.proofs.Adding.{records_open}
 use Rattle.durable_images.proofs.Going.{unchanged, untouched}
 
@@ -31,8 +31,8 @@ module _ (written : WrittenIsRead) where
       → Holds old.name region es (durable_part old.state) old.disk.seen → IsGood r → next (durable_part old.state) r ≡ Some e
       → length (laid es) + taken r + 1 + held_for e.doubts ≤ region.length
       → LeavesOnly old.disk new.disk (IsBeforeOrAfter region old.disk.seen es (entry_of r))
-      → new.name ≡ old.name → (new.is_failed ≡ false → durable_part new.state ≡ e) → new.made ≡ old.made ++ entry_of r ∷ [] → Made (r ∷ []) old new
-  made_one old new region es r e was good step room run name state made = record {
+      → new.name ≡ old.name → (new.is_failed ≡ false → durable_part new.state ≡ e) → new.made ≡ old.made ++ entry_of r ∷ [] → FaultsAfter new.is_failed old.disk.faults new.disk.faults → Made (r ∷ []) old new
+  made_one old new region es r e was good step room run name state made faults = record {
     name = name;
     moments = weaker old.disk new.disk _ _ run (λ c found.
         ⊎_elim (λ before. opens_here old.name (durable_part old.state) (r ∷ []) c (region, es, before)) (λ after. opens_behind old.name (durable_part old.state) e r c step (region, es ++ entry_of r ∷ [], after))
@@ -40,19 +40,21 @@ module _ (written : WrittenIsRead) where
     state = λ still. one_step (durable_part old.state) e r step ∙ ap Some (sym (state still));
     good = (good, tt);
     made = made;
+    faults = faults;
   }
 
 -- what is durable of a core is what each image opens to
 only_opens : (s : Shown) → IsDurable s → (c : List ℕ) → Now s.disk c → OpensTo s.name (durable_part s.state) c
 only_opens s durable c now = subst (λ (l : List ℕ). OpensTo s.name (durable_part s.state) l) (sym (durable.only c now)) durable.opens
 
-made_silent : (old new : Shown) → IsDurable old → Stays old.disk new.disk → new.name ≡ old.name → durable_part new.state ≡ durable_part old.state → new.made ≡ old.made → Made [] old new
-made_silent old new durable stays name same made = record {
+made_silent : (old new : Shown) → IsDurable old → Stays old.disk new.disk → new.name ≡ old.name → durable_part new.state ≡ durable_part old.state → new.made ≡ old.made → FaultsAfter new.is_failed old.disk.faults new.disk.faults → Made [] old new
+made_silent old new durable stays name same made faults = record {
   name = name;
   moments = stays_leaves old.disk new.disk _ stays (λ c now. opens_here old.name (durable_part old.state) [] c (only_opens old durable c now));
   state = λ still. ap Some (sym same);
   good = tt;
   made = made ∙ sym (append-nil old.made);
+  faults = faults;
 }
 
 pub one_call_is_made : WrittenIsRead → {D : Type 0} (life : D → Life) → OneCallIsMade life

@@ -1,6 +1,6 @@
 -- What calls leave on the disk: at any moment, the tables and units in doubt after the first of the records
 -- that they made.
-use Rattle.std.specs.Prelude.{◌≡◌, ℕ, ◌+◌, ◌≤◌, Bool, true, false, List, [], ◌∷◌, ◌++◌, length, take, Some, map}
+use Rattle.std.specs.Prelude.{◌≡◌, ℕ, ◌+◌, ◌≤◌, Bool, true, false, List, [], ◌∷◌, ◌++◌, length, take, Some, map, if◌then◌else◌}
 use Rattle.std.specs.List.{AllByRecursion}
 use Rattle.drda_disk.specs.Disk.{LeavesOnly, Life, Only, Stays}
 use Rattle.drda_disk.specs.declared.region.Region.{Region}
@@ -38,14 +38,21 @@ pub record IsDurable (s : Shown) : Type 0 where
   pub only : Only s.disk
   pub opens : OpensTo s.name (durable_part s.state) s.disk.seen
 
+-- the device calls that have failed, once calls that began before any had failed are done: one more where the core has
+-- failed, and else none
+abbrev pub FaultsAfter : Bool → ℕ → ℕ → Type 0
+FaultsAfter is_failed old new = new ≡ old + (if is_failed then 1 else 0)
+
 -- These records were due of the calls. A crash at any moment leaves an image that opens to what the first of them lead
--- to. What is durable of the core is what all of them lead to, unless the device failed.
+-- to. What is durable of the core is what all of them lead to, unless the device failed; the core fails with its device,
+-- and never without.
 pub record Made (records : List UnitRecord) (old new : Shown) : Type 0 where
   pub name : new.name ≡ old.name
   pub moments : LeavesOnly old.disk new.disk (OpensAfterSome old.name (durable_part old.state) records)
   pub state : new.is_failed ≡ false → replayed_from (durable_part old.state) records ≡ Some (durable_part new.state)
   pub good : AllByRecursion IsGood records
   pub made : new.made ≡ old.made ++ map entry_of records
+  pub faults : FaultsAfter new.is_failed old.disk.faults new.disk.faults
 
 -- no device call was made
 pub record IsUntouched (old new : Life) : Type 0 where
@@ -102,10 +109,12 @@ module _ {D : Type 0} (life : D → Life) where
         → length (laid es) + taken r + 1 + held_for e.doubts ≤ region.length
         → LeavesOnly (life old.disk) (life new.disk) (IsBeforeOrAfter region (life old.disk).seen es (entry_of r))
         → new.name ≡ old.name → (new.is_failed ≡ false → durable_part new.state ≡ e) → new.made ≡ old.made ++ entry_of r ∷ []
+        → FaultsAfter new.is_failed (life old.disk).faults (life new.disk).faults
         → Made (r ∷ []) (shown_on old) (shown_on new)
     -- a call that makes none
     pub silent : (old new : OnDisk D) → IsDurable (shown_on old) → Stays (life old.disk) (life new.disk)
         → new.name ≡ old.name → durable_part new.state ≡ durable_part old.state → new.made ≡ old.made
+        → FaultsAfter new.is_failed (life old.disk).faults (life new.disk).faults
         → Made [] (shown_on old) (shown_on new)
     -- a call that changes nothing, of a core that has failed or of any
     pub failed : (old new : OnDisk D) → old.is_failed ≡ true → new ≡ old → StaysFailed (shown_on old) (shown_on new)
