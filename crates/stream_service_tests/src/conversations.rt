@@ -3,12 +3,11 @@
 use crate::sentences::*;
 use crate::streams::OneByOne;
 use drda_disk::MemDisk;
-use drda_node::Node;
 use std::alloc::Global;
 use std::test::Fail;
 use stream_service::{Served, serve_one};
 use test_bytes::*;
-use test_nodes::node_of;
+use test_nodes::{Node, node_of};
 
 const CONNECT: [&str; 4] = [EXCSAT_ALONE, ACCSEC, SECCHK_ALONE, ACCRDB];
 

@@ -2,12 +2,11 @@
 
 use crate::streams::{Full, OneByOne};
 use drda_disk::MemDisk;
-use drda_node::Node;
 use std::alloc::Global;
 use std::test::Fail;
 use stream_service::{Served, serve_one};
 use test_bytes::{ACCSEC, ACCSECRD, EXCSAT_ALONE, EXCSATRD_ALONE, bytes_of};
-use test_nodes::node_of;
+use test_nodes::{Node, node_of};
 
 // A reader that fails behind so many bytes: what came whole is answered.
 fn fails_behind(alloc: Global, node: &mut Node<MemDisk>, count: usize) -> Option<bool> {

@@ -2,14 +2,13 @@
 
 use crate::sentences::*;
 use drda_disk::MemDisk;
-use drda_node::Node;
 use std::alloc::Global;
 use std::io::{Read, Write};
 use std::net::{Ipv4Addr, Net, OpenListener, OpenStream, Shutdown, SocketAddr, SocketAddrV4};
 use std::test::Fail;
 use stream_service::{Served, serve_one};
 use test_bytes::*;
-use test_nodes::node_of;
+use test_nodes::{Node, node_of};
 
 const REQUESTS: [&str; 6] = [EXCSAT_ALONE, ACCSEC, SECCHK_ALONE, ACCRDB, CREATE, RDBCMM];
 

@@ -3,4 +3,5 @@
 
 mod nodes;
 
+pub use drda_node::Node;
 pub use nodes::{fresh_store, node_of, node_over};

@@ -1,9 +1,7 @@
 //! A fresh store, and a node over one.
 
-use conversation::Settings;
-use drda_disk::MemDisk;
-use drda_node::Node;
-use durable_core::open;
+use drda_disk::{Disk, MemDisk};
+use drda_node::{Node, Settings, open};
 use half_store::format;
 use std::alloc::Global;
 
@@ -19,7 +17,7 @@ pub fn fresh_store(alloc: Global) -> Option<MemDisk> {
 
 /// A node for ana with the password pw, over the store of a disk, with the database SHOP. None where the
 /// disk is no store, and without memory.
-pub fn node_over(alloc: Global, disk: MemDisk) -> Option<Node<MemDisk>> {
+pub fn node_over<D: Disk + Drop>(alloc: Global, disk: D) -> Option<Node<D>> {
     let settings = Settings::new(alloc, "ana", "pw", "SHOP").ok()?;
     let core = match open(alloc, disk) {
         Ok(core) => core,
