@@ -11,6 +11,9 @@ use std::test::Fail;
 /// The least store.
 pub const TWO_MIB: usize = 2_097_152;
 
+/// A store of a size that people use.
+pub const SIXTY_FOUR_MIB: usize = 67_108_864;
+
 /// A disk of 2 MiB with a fresh store of the name SHOP.
 pub fn fresh(alloc: Global) -> Result<MemDisk, Fail> {
     let mut disk = MemDisk::new(alloc, TWO_MIB)?;

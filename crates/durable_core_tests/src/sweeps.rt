@@ -1,7 +1,7 @@
 //! Crashes at each device call of a script.
 
 use crate::asking::{Ask, Call, Told, ask_one};
-use crate::stores::{Shown, TWO_MIB, show};
+use crate::stores::{SIXTY_FOUR_MIB, Shown, TWO_MIB, show};
 use drda_disk::{Disk, FuseDisk, MemDisk};
 use durable_core::{DurableCore, open};
 use half_store::format;
@@ -123,29 +123,53 @@ fn leaves_one(alloc: Global, disk: MemDisk, calls: u64, pick: u64) -> Option<(bo
     Some((shown == last || next == Some(shown), core.into_disk()))
 }
 
-// The same of crashes of three kinds: without the writes since the last sync, with them, and one of
-// the six others, another for each record.
-fn leaves_only(alloc: Global, disk: MemDisk, calls: u64) -> Option<(bool, MemDisk)> {
+// The same of crashes of several kinds.
+fn leaves_only(alloc: Global, disk: MemDisk, calls: u64, picks: &[u64]) -> Option<(bool, MemDisk)> {
     let (mut only, mut disk) = (true, disk);
-    for pick in [0, 1, 2 + calls / 4 % 6] {
-        let (one, left) = leaves_one(alloc, disk, calls, pick)?;
+    for pick in picks {
+        let (one, left) = leaves_one(alloc, disk, calls, *pick)?;
         only = only && one;
         disk = left;
     }
     Some((only, disk))
 }
 
-#[test]
-fn a_crash_leaves_whole_units(rt: HostRuntime) -> Result<(), Fail> {
-    let disk = MemDisk::new(rt.alloc(), TWO_MIB)?;
-    let (last, next, whole) = stopped(rt.alloc(), disk, u64::MAX).ok_or("no memory")?;
-    assert_eq!(rt; (last, next), (ONE_LESS, None));
-    let calls = whole.calls();
+// Whether all crashes at the last so many device calls of the script, in a store of so many bytes, leave
+// one of the two.
+fn leaves_whole_units(alloc: Global, size: usize, calls: u64, picks: &[u64]) -> Option<bool> {
+    let disk = MemDisk::new(alloc, size).ok()?;
+    let (last, next, whole) = stopped(alloc, disk, u64::MAX)?;
+    let mut only = (last, next) == (ONE_LESS, None);
+    let end = whole.calls();
     let mut disk = whole.into_inner();
-    for k in 0..=calls {
-        let (only, left) = leaves_only(rt.alloc(), disk, k).ok_or("no memory, or damaged")?;
-        assert!(rt; only, "{k}");
+    for k in end.saturating_sub(calls)..=end {
+        let (one, left) = leaves_only(alloc, disk, k, picks)?;
+        only = only && one;
         disk = left;
     }
+    Some(only)
+}
+
+// Without the writes since the last sync, with them, and with parts of them by two masks.
+#[test]
+fn a_crash_leaves_whole_units(rt: HostRuntime) -> Result<(), Fail> {
+    let whole = leaves_whole_units(rt.alloc(), TWO_MIB, u64::MAX, &[0, 1, 2, 3]);
+    assert_eq!(rt; whole, Some(true));
+    Ok(())
+}
+
+// By four other masks.
+#[test]
+fn a_crash_inside_of_writes_leaves_whole_units(rt: HostRuntime) -> Result<(), Fail> {
+    let whole = leaves_whole_units(rt.alloc(), TWO_MIB, u64::MAX, &[4, 5, 6, 7]);
+    assert_eq!(rt; whole, Some(true));
+    Ok(())
+}
+
+// At the calls of the last record.
+#[test]
+fn a_crash_leaves_whole_units_of_a_large_store(rt: HostRuntime) -> Result<(), Fail> {
+    let whole = leaves_whole_units(rt.alloc(), SIXTY_FOUR_MIB, 4, &[0, 1, 2, 3, 4, 5, 6, 7]);
+    assert_eq!(rt; whole, Some(true));
     Ok(())
 }
