@@ -1,14 +1,14 @@
 //! How a node ends over a stream.
 
-use drda_disk::MemDisk;
+use drda_disk::Disk;
 use drda_node::{Node, RunEnd, run};
 use std::alloc::Global;
 use std::io::Read;
 
 /// Whether a node ends so over a reader, and has written just this then.
-pub fn ends_so<R: Read>(
+pub fn ends_so<D: Disk + Drop, R: Read>(
     alloc: Global,
-    node: &mut Node<MemDisk>,
+    node: &mut Node<D>,
     reader: &mut R,
     end: RunEnd,
     answers: &[u8],

@@ -6,6 +6,8 @@ mod endings;
 #[cfg(test)]
 mod events;
 #[cfg(test)]
+mod failures;
+#[cfg(test)]
 mod stories;
 #[cfg(test)]
 mod vectors;

@@ -1,7 +1,8 @@
 //! Statements of conversations side by side, over one core.
 
 use crate::endings::ends_so;
-use drda_node::RunEnd;
+use drda_disk::Disk;
+use drda_node::{Node, RunEnd};
 use std::alloc::Global;
 use std::test::Fail;
 use test_bytes::*;
@@ -9,7 +10,7 @@ use test_nodes::node_of;
 
 /// What a conversation does. All its commands have the correlator 6.
 #[derive(Clone, Copy)]
-enum Act {
+pub enum Act {
     /// It opens, and accesses the database SHOP.
     Opens,
     /// It has a statement run at once (EXCSQLIMM).
@@ -17,10 +18,12 @@ enum Act {
     Commits,
     RollsBack,
     IsLost,
+    /// Nothing: its last command closed it.
+    IsClosed,
 }
 
 /// A conversation's number, what it does, and the replies.
-type Step = (u8, Act, &'static str);
+pub type Step = (u8, Act, &'static str);
 
 const COMMIT: &str = "000A D001 0006 0004 200E";
 
@@ -28,7 +31,7 @@ const ROLLBACK: &str = "000A D001 0006 0004 200F";
 
 // The SQLCARDs: no row and one row changed (behind RDBUPDRM, where it is the unit's first change), and SQLCODE
 // -803 and -913.
-const CREATED: &str = "0026 D052 0006 0020 2218 0006 1149 0000 0016 2110 53484F50 20*14
+pub const CREATED: &str = "0026 D052 0006 0020 2218 0006 1149 0000 0016 2110 53484F50 20*14
     0047 D003 0006 0041 2408 00 00000000 3030303030 5244413031303030 00 00*8 00000000 00*12 20*11 0000 0000 0000 FF";
 
 const FIRST_ROW: &str = "0026 D052 0006 0020 2218 0006 1149 0000 0016 2110 53484F50 20*14
@@ -46,9 +49,9 @@ const CLASH: &str =
 const ROLLED_BACK: &str =
     "0015 D052 0006 000F 220C 0006 1149 0004 0005 2115 02 000B D003 0006 0005 2408 FF";
 
-const CREATE: &str = "CREATE TABLE T (K INTEGER NOT NULL, V VARCHAR(600), PRIMARY KEY (K))";
+pub const CREATE: &str = "CREATE TABLE T (K INTEGER NOT NULL, V VARCHAR(600), PRIMARY KEY (K))";
 
-const ONE: &str = "INSERT INTO T VALUES (1, 'a')";
+pub const ONE: &str = "INSERT INTO T VALUES (1, 'a')";
 
 const TWO: &str = "INSERT INTO T VALUES (2, 'b')";
 
@@ -122,6 +125,7 @@ fn push_event(alloc: Global, records: &mut Vec<u8>, number: u8, act: Act) -> Opt
         Act::Commits => bytes_of(alloc, &[COMMIT]).ok()?,
         Act::RollsBack => bytes_of(alloc, &[ROLLBACK]).ok()?,
         Act::IsLost => return push_record(records, 3, number, &[]),
+        Act::IsClosed => return Some(()),
     };
     push_record(records, 2, number, &bytes)
 }
@@ -140,27 +144,33 @@ fn push_answer(
             bytes_of(alloc, &accessed).ok()?
         }
         Act::IsLost => return push_record(records, 3, number, &[]),
+        Act::IsClosed => return push_record(records, 5, number, &[]),
         _ => bytes_of(alloc, &[replies]).ok()?,
     };
     push_record(records, 2, number, &bytes)
 }
 
-fn is_told(alloc: Global, story: &[Step]) -> Option<bool> {
+/// Whether a node answers a story as it is told.
+pub fn is_told<D: Disk + Drop>(alloc: Global, node: &mut Node<D>, story: &[Step]) -> Option<bool> {
     let mut input = Vec::new(alloc);
     let mut wanted = Vec::new(alloc);
     for (number, act, replies) in story {
         push_event(alloc, &mut input, *number, *act)?;
         push_answer(alloc, &mut wanted, *number, *act, replies)?;
     }
-    let mut node = node_of(alloc)?;
     let mut reader = input.as_slice();
-    Some(ends_so(alloc, &mut node, &mut reader, RunEnd::Ended, &wanted))
+    Some(ends_so(alloc, node, &mut reader, RunEnd::Ended, &wanted))
+}
+
+fn is_told_anew(alloc: Global, story: &[Step]) -> Option<bool> {
+    let mut node = node_of(alloc)?;
+    is_told(alloc, &mut node, story)
 }
 
 #[test]
 fn conversations_share_a_core(rt: HostRuntime) -> Result<(), Fail> {
     for (at, story) in STORIES.iter().enumerate() {
-        assert_eq!(rt; is_told(rt.alloc(), story), Some(true), "{at}");
+        assert_eq!(rt; is_told_anew(rt.alloc(), story), Some(true), "{at}");
     }
     Ok(())
 }
