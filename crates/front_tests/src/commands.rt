@@ -93,7 +93,25 @@ const WRONG_GOES_ON: &str =
 const ACCRDB_AGAIN: &str =
     "002D D001 0005 0027 2001 0016 2110 53484F50 20*14 000D 002F 51544453514C415343";
 
-const ANSWERED: [(&[&str], &[&str]); 24] = [
+// EXCSAT with UNICODEMGR 1208 alone, and with XAMGR 0 beside it; and their replies.
+const WITHOUT_XAMGR: &str = "0012 D041 0001 000C 1041 0008 1404 1C08 04B8";
+
+const WITHOUT_XAMGR_RD: &str = "0039 D043 0001 0033 1443 0009 115E 8499848184 0008 1404 1C08 04B8
+    0009 1147 C4D9C4C1C4 0009 116D 8499848184 000C 115A D9C4C1F0F1F0F0F0";
+
+const XAMGR_0: &str = "0016 D041 0001 0010 1041 000C 1404 1C01 0000 1C08 04B8";
+
+const XAMGR_0_RD: &str =
+    "003D D043 0001 0037 1443 0009 115E 8499848184 000C 1404 1C01 0000 1C08 04B8
+    0009 1147 C4D9C4C1C4 0009 116D 8499848184 000C 115A D9C4C1F0F1F0F0F0";
+
+// A start of the branch with the global part G and the branch part B, and MGRDEPRM.
+const START: &str =
+    "0021 D001 0005 001B 1055 0005 1187 09 0012 1801 00000001 00000001 00000001 47 42";
+
+const MGRDEPRM: &str = "0010 D002 0005 000A 1218 0006 1149 0008";
+
+const ANSWERED: [(&[&str], &[&str]); 26] = [
     (&[BARE_EXCSAT], &[BARE_EXCSATRD]),
     (&[EXCSAT, ACCSEC], &[EXCSATRD, ACCSECRD]),
     // Faults of objects, of the framing, and of the command object.
@@ -237,6 +255,22 @@ const ANSWERED: [(&[&str], &[&str]); 24] = [
             "0026 D002 0005 0020 2207 0006 1149 0008 0016 2110 53484F50 20*14",
             COMMITTED,
         ],
+    ),
+    // SYNCCTL where no level of XAMGR is agreed on.
+    (
+        &[WITHOUT_XAMGR, ACCSEC, SECCHK, ACCRDB, START, RDBCMM],
+        &[
+            WITHOUT_XAMGR_RD,
+            ACCSECRD,
+            SECCHKRM,
+            ACCRDBRM,
+            MGRDEPRM,
+            COMMITTED,
+        ],
+    ),
+    (
+        &[XAMGR_0, ACCSEC, SECCHK, ACCRDB, START],
+        &[XAMGR_0_RD, ACCSECRD, SECCHKRM, ACCRDBRM, MGRDEPRM],
     ),
 ];
 

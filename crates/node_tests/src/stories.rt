@@ -17,6 +17,8 @@ pub enum Act {
     Runs(&'static str),
     Commits,
     RollsBack,
+    /// It sends another command.
+    Sends(&'static str),
     IsLost,
     /// Nothing: its last command closed it.
     IsClosed,
@@ -49,13 +51,42 @@ const CLASH: &str =
 const ROLLED_BACK: &str =
     "0015 D052 0006 000F 220C 0006 1149 0004 0005 2115 02 000B D003 0006 0005 2408 FF";
 
+// PRPSQLSTT of DELETE FROM T, its null SQLCARD, and EXCSQLSTT of it: with one INTEGER, with a row of no values, and
+// without SQLDTA; SQLCODE -313.
+const PREPARE: &str = "004E D051 0006 0048 200D 0044 2113 40*64
+    001D D003 0006 0017 2414 00 0000000D 44454C4554452046524F4D2054 FF";
+
+const PREPARED: &str = "000B D003 0006 0005 2408 FF";
+
+const EXECUTE_WITH_ONE: &str = "004E D051 0006 0048 200B 0044 2113 40*64
+    0023 D003 0006 001D 2412 0010 0010 06 76 D0 02 0004 06 71 E4 D0 00 01 0009 147A 00 00000001";
+
+const EXECUTE_WITH_NO_VALUES: &str = "004E D051 0006 0048 200B 0044 2113 40*64
+    001C D003 0006 0016 2412 000D 0010 03 76 D0 06 71 E4 D0 00 01 0005 147A 00";
+
+const EXECUTE: &str = "004E D001 0006 0048 200B 0044 2113 40*64";
+
+const WRONG_VALUES: &str =
+    "0047 D003 0006 0041 2408 00 FFFFFEC7 3037303031 5244413031303030 00 00*8 00000000 00*12 20*11 0000 0000 0000 FF";
+
+// A start and an end of the branch with the global part G and the branch part B, SYNCCRD with 0, and CMDVLTRM.
+const START: &str =
+    "0021 D001 0006 001B 1055 0005 1187 09 0012 1801 00000001 00000001 00000001 47 42";
+
+const END: &str =
+    "0029 D001 0006 0023 1055 0005 1187 0B 0012 1801 00000001 00000001 00000001 47 42 0008 1903 04000000";
+
+const XA_OK: &str = "0012 D003 0006 000C 1248 0008 1904 00000000";
+
+const NOT_INSIDE: &str = "0026 D002 0006 0020 221D 0006 1149 0008 0016 2110 53484F50 20*14";
+
 pub const CREATE: &str = "CREATE TABLE T (K INTEGER NOT NULL, V VARCHAR(600), PRIMARY KEY (K))";
 
 pub const ONE: &str = "INSERT INTO T VALUES (1, 'a')";
 
 const TWO: &str = "INSERT INTO T VALUES (2, 'b')";
 
-const STORIES: [&[Step]; 3] = [
+const STORIES: [&[Step]; 5] = [
     // What is committed is there for another conversation.
     &[
         (0, Act::Opens, ""),
@@ -91,6 +122,27 @@ const STORIES: [&[Step]; 3] = [
         (5, Act::Runs(ONE), FIRST_ROW),
         (5, Act::Runs(ONE), DUPLICATE),
     ],
+    // Values for a statement without markers are refused, and it is not run; a row of no values is as none.
+    &[
+        (0, Act::Opens, ""),
+        (0, Act::Runs(CREATE), CREATED),
+        (0, Act::Runs(ONE), NEXT_ROW),
+        (0, Act::Sends(PREPARE), PREPARED),
+        (0, Act::Sends(EXECUTE_WITH_ONE), WRONG_VALUES),
+        (0, Act::Sends(EXECUTE_WITH_NO_VALUES), NEXT_ROW),
+        (0, Act::Runs(ONE), NEXT_ROW),
+        (0, Act::Sends(EXECUTE), NEXT_ROW),
+    ],
+    // Inside of a global unit a conversation ends no unit of its own; behind its end it does.
+    &[
+        (0, Act::Opens, ""),
+        (0, Act::Sends(START), XA_OK),
+        (0, Act::Commits, NOT_INSIDE),
+        (0, Act::RollsBack, NOT_INSIDE),
+        (0, Act::Sends(END), XA_OK),
+        (0, Act::Commits, COMMITTED),
+        (0, Act::RollsBack, ROLLED_BACK),
+    ],
 ];
 
 fn push_record(records: &mut Vec<u8>, kind: u8, number: u8, bytes: &[u8]) -> Option<()> {
@@ -124,6 +176,7 @@ fn push_event(alloc: Global, records: &mut Vec<u8>, number: u8, act: Act) -> Opt
         Act::Runs(text) => statement(alloc, text)?,
         Act::Commits => bytes_of(alloc, &[COMMIT]).ok()?,
         Act::RollsBack => bytes_of(alloc, &[ROLLBACK]).ok()?,
+        Act::Sends(command) => bytes_of(alloc, &[command]).ok()?,
         Act::IsLost => return push_record(records, 3, number, &[]),
         Act::IsClosed => return Some(()),
     };

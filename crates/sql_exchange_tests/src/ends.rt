@@ -9,7 +9,7 @@ use std::alloc::{AllocError, Global};
 use std::test::Fail;
 
 /// How a unit is ended, what the core answers, and what is replied.
-const ENDS: [(UnitEnd, Script, &[Told]); 5] = [
+const ENDS: [(UnitEnd, Script, &[Told]); 6] = [
     (
         UnitEnd::Committed,
         Script::Done,
@@ -21,6 +21,7 @@ const ENDS: [(UnitEnd, Script, &[Told]); 5] = [
         &[(ENDUOWRM, 0), (SQLCARD, 0)],
     ),
     (UnitEnd::Committed, Script::InGlobal, &[(CMDVLTRM, 0)]),
+    (UnitEnd::RolledBack, Script::InGlobal, &[(CMDVLTRM, 0)]),
     (UnitEnd::RolledBack, Script::NoMemory, &[(RSCLMTRM, 0)]),
     (UnitEnd::Committed, Script::Closed, &[(AGNPRMRM, 0)]),
 ];

@@ -20,6 +20,8 @@ enum Step {
     Execute,
     // With the data of FDODTA; FDODSC describes three INTEGERs.
     ExecuteWith(&'static [u8]),
+    // With an SQLDTA that holds nothing.
+    ExecuteWithNone,
 }
 
 /// Three INTEGERs.
@@ -42,7 +44,7 @@ fn code_of(step: Step) -> u16 {
     match step {
         Step::Prepare(_) | Step::PrepareDescribed(_) => code_point::PRPSQLSTT,
         Step::Describe => code_point::DSCSQLSTT,
-        Step::Execute | Step::ExecuteWith(_) => code_point::EXCSQLSTT,
+        Step::Execute | Step::ExecuteWith(_) | Step::ExecuteWithNone => code_point::EXCSQLSTT,
     }
 }
 
@@ -68,6 +70,13 @@ fn described_data(alloc: Global, row: &[u8]) -> Result<Vec<u8>, AllocError> {
     Ok(object)
 }
 
+// SQLDTA without a description and without a row.
+fn empty_data(alloc: Global) -> Result<Vec<u8>, AllocError> {
+    let mut object = Vec::new(alloc);
+    put(&mut object, code_point::SQLDTA, &[])?;
+    Ok(object)
+}
+
 // The data objects.
 fn objects(alloc: Global, step: Step) -> Result<Vec<u8>, AllocError> {
     match step {
@@ -76,6 +85,7 @@ fn objects(alloc: Global, step: Step) -> Result<Vec<u8>, AllocError> {
         }
         Step::Describe | Step::Execute => Ok(Vec::new(alloc)),
         Step::ExecuteWith(row) => described_data(alloc, row),
+        Step::ExecuteWithNone => empty_data(alloc),
     }
 }
 
@@ -138,7 +148,7 @@ fn are_done(
 
 /// Commands, what the core answers, what is replied, how often the core is asked, and the digits that it is
 /// given as parameters.
-const CASES: [(&[Step], Script, &[Told], u32, u64); 8] = [
+const CASES: [(&[Step], Script, &[Told], u32, u64); 10] = [
     (&[Step::Execute], Script::Count(1), &[(SQLCARD, -518)], 0, 0),
     (
         &[Step::Prepare(INSERT), Step::ExecuteWith(ROW)],
@@ -150,6 +160,21 @@ const CASES: [(&[Step], Script, &[Told], u32, u64); 8] = [
     (
         &[Step::Prepare(INSERT), Step::ExecuteWith(SHORT_ROW)],
         Script::Count(1),
+        &[(SQLCARD, 0), (SQLCARD, -313)],
+        0,
+        0,
+    ),
+    // Values for a statement without markers: the core is given them, and refuses them; without a row there are none.
+    (
+        &[Step::Prepare(CREATE), Step::ExecuteWith(ROW)],
+        Script::Refused(SqlFault::ParameterMismatch),
+        &[(SQLCARD, 0), (SQLCARD, -313)],
+        1,
+        123,
+    ),
+    (
+        &[Step::Prepare(CREATE), Step::ExecuteWithNone],
+        Script::Count(0),
         &[(SQLCARD, 0), (SQLCARD, -313)],
         0,
         0,
