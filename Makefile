@@ -25,6 +25,7 @@ out:
 test:
 	@rt ci
 
-# Conversations kept as event records, through the built program, and its statuses.
+# Conversations kept as event records, through the built program, and its statuses; then cut into other pieces.
 vectors:
 	@tests/run_vectors
+	@tests/cut_vectors crates/drdad/out/drdad
