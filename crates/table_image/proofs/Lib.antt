@@ -1,5 +1,6 @@
 mod Adding
 mod Filling
+mod Told
 mod Writing
 mod MergedRows
 mod EntryBytes

@@ -29,6 +29,7 @@ use Rattle.table_image.specs.Adding.{end_of_half}
 use Rattle.table_image.specs.Laying.{StandAt, has_none}
 use Rattle.table_image.specs.Stored.{HaveKeys, IsImageOf, LieApart}
 use Rattle.table_image.specs.Writing.{HasLaid}
+use Rattle.table_image.proofs.Told.{all_behind}
 use Rattle.table_image.specs.declared.merging.TableWriter.{TableWriter}
 
 -- these were given, and with those that are left they are all
@@ -137,6 +138,15 @@ module _ (modelled : Bool) (key_of : List ℕ → List ℕ) (table : Table) (cac
       told_all e result (held.rows ++ now ∷ without_keys goes.more) (without_keys (rows_of_table key_of table pages)) is_err from half
       (ap (λ (r : List ℕ). held.rows ++ r ∷ without_keys goes.more) is_row ∙ ap (λ (l : Rows). held.rows ++ without_keys l) (sym goes.same) ∙ so.same)
       (tells (without_keys goes.more))
+
+  -- where all rows are short, one that was given is
+  pub short_row : (now row : List ℕ) (next : RowCursor) → now ≡ row → ((left : Rows) → IsTrue modelled → AreRead cache first → IsLeft key_of file cursor left → GoesOn key_of file left row next)
+      → (pages : List (List (List ℕ))) → IsTrue modelled → AreRead cache first → IsStored key_of table.places pages first → LieApart table.places begun → AllByRecursion IsShort (without_keys (rows_of_table key_of table pages)) → IsShort now
+  short_row now row next is_row gives pages honest read is apart short =
+      let so = held.given pages honest read is apart in
+      let goes = gives so.left honest read so.is in
+      let all = subst (λ (l : List (List ℕ)). AllByRecursion IsShort l) (sym so.same) short in
+      subst (λ (b : List ℕ). IsShort b) (sym is_row) (subst (λ (l : Rows). AllByRecursion IsShort (without_keys l)) goes.same (all_behind IsShort held.rows (without_keys so.left) all)).0
 
   -- ---- at the end
 

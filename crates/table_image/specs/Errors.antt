@@ -29,3 +29,8 @@ CountsImage (Err DeviceFailed) old new = new ≡ old + 1
 abbrev pub TellsFull : {T : Type 0} → Result T ImageError → ℕ → ℕ → Type 0
 TellsFull (Err (Full full)) end pages_end = end < pages_end + 1
 TellsFull other end pages_end = Unit {0}
+
+-- damage is told only where this holds
+abbrev pub DamagedWhere : {T : Type 0} → Type 0 → Result T ImageError → Type 0
+DamagedWhere P (Err Damaged) = P
+DamagedWhere P other = Unit {0}

@@ -7,7 +7,7 @@ ghost use Rattle.std.specs.List.{AllByRecursion};
 ghost use Rattle.half_store.specs.Writing.{from_of, half_bytes_of, next_of};
 ghost use Rattle.table_image.specs.Adding.{AddsPages, end_of_half};
 ghost use Rattle.table_image.specs.Catalogue.{HaveNames, place_of, rows_of};
-ghost use Rattle.table_image.specs.Errors.{CountsImage, TellsFull};
+ghost use Rattle.table_image.specs.Errors.{CountsImage, DamagedWhere, TellsFull};
 ghost use Rattle.table_image.specs.Laying.{StandAt};
 
 use crate::entry::entry_row;
@@ -21,8 +21,8 @@ use std::alloc::Global;
 /// Writes the catalogue of these tables into pages behind those that the image has: a row for each, in
 /// their order. Their names are good ones.
 ///
-/// `Full` is told only where the half has no room for all of the pages and a gate behind them. After a
-/// fault some of the pages may have been written. At any moment the active half stays what it is.
+/// `Full` is told only where the half has no room for all of the pages and a gate behind them, and
+/// `Damaged` never. After a fault some of the pages may have been written. At any moment the active half stays what it is.
 pub fn write_catalogue<D: Disk>(
     alloc: Global,
     cache: &mut PageCache,
@@ -38,6 +38,7 @@ pub fn write_catalogue<D: Disk>(
     ensures short { OnOk result (AllByRecursion IsShort (rows_of (map place_of tables.now))) }
     ensures full { TellsFull result (end_of_half image.old) (next_of image.old + 8192 * length (laid (rows_of (map place_of tables.now)))) }
     ensures kept { IsTrue D.is_modelled → AreRead cache.old (D.life disk.old).seen → AreRead cache.new (D.life disk.new).seen }
+    ensures damaged { DamagedWhere ⊥ result }
     ensures cause { CountsImage result (D.life disk.old).faults (D.life disk.new).faults }
 {
     let mut rows = RowWriter::new(alloc, PageKind::Catalogue)?;

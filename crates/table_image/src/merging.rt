@@ -1,12 +1,13 @@
 //! Writing all rows of a table into an image.
 ghost use Rattle.std.specs.Prelude.{◌≡◌, ◌+◌, ◌*◌, ◌≤◌, ◌++◌, ◌∷◌, [], ℕ, List, true, IsTrue, OnOk, IfOk, length};
 ghost use Rattle.row_pages.specs.Keeping.{AreRead};
-ghost use Rattle.row_pages.specs.Laying.{laid};
+ghost use Rattle.row_pages.specs.Laying.{IsShort, laid};
+ghost use Rattle.std.specs.List.{AllByRecursion};
 ghost use Rattle.half_store.specs.Writing.{from_of, half_bytes_of, next_of};
 ghost use Rattle.table_map.specs.Stored.{IsStored};
 ghost use Rattle.table_map.specs.Table.{rows_of_table, without_keys};
 ghost use Rattle.table_image.specs.Adding.{AddsPages, end_of_half};
-ghost use Rattle.table_image.specs.Errors.{CountsImage, TellsFull};
+ghost use Rattle.table_image.specs.Errors.{CountsImage, DamagedWhere, TellsFull};
 ghost use Rattle.table_image.specs.Stored.{LieApart, HaveKeys, IsImageOf};
 
 use crate::ImageError;
@@ -70,6 +71,7 @@ impl TableWriter {
         ensures full { (start : ℕ) (rows rest : List (List ℕ)) → HasLaid D.is_modelled (K.key_of keys.now) (D.life disk.old).seen start image.old self.old rows
             → TellsFull result (end_of_half image.old) (start + 8192 * length (laid (rows ++ row.now ∷ rest))) }
         ensures kept { IsTrue D.is_modelled → AreRead cache.old (D.life disk.old).seen → AreRead cache.new (D.life disk.new).seen }
+        ensures damaged { DamagedWhere (IsShort row.now → ⊥) result }
         ensures cause { CountsImage result (D.life disk.old).faults (D.life disk.new).faults }
     {
         if row.len() > LONGEST_ROW_BYTES {
@@ -86,9 +88,9 @@ impl TableWriter {
 /// so that a page ends only where the next row does not fit. No rows take no page. Where the pages
 /// lie then is returned, with the key of each one's first row.
 ///
-/// `Full` is told only where the half has no room for all of the pages and a gate behind them, and
-/// `Damaged` where a page that is read is none or has no rows, or a row is too long for a page. After a
-/// fault some of the pages may have been written. At any moment the active half stays what it is.
+/// `Full` is told only where the half has no room for all of the pages and a gate behind them. Of a
+/// table whose pages stand there `Damaged` is told only where one of all rows is too long for a page;
+/// of another one where a page that is read is none or has no rows, too. After a fault some of the pages may have been written. At any moment the active half stays what it is.
 pub fn merge_into<K: RowKeys, D: Disk>(
     alloc: Global,
     keys: &K,
@@ -109,6 +111,9 @@ pub fn merge_into<K: RowKeys, D: Disk>(
         → LieApart table.now.places image.old
         → TellsFull result (end_of_half image.old) (next_of image.old + 8192 * length (laid (without_keys (rows_of_table (K.key_of keys.now) table.now pages)))) }
     ensures kept { IsTrue D.is_modelled → AreRead cache.old (D.life disk.old).seen → AreRead cache.new (D.life disk.new).seen }
+    ensures damaged { (pages : List (List (List ℕ))) → IsTrue D.is_modelled → AreRead cache.old (D.life disk.old).seen → IsStored (K.key_of keys.now) table.now.places pages (D.life disk.old).seen
+        → LieApart table.now.places image.old
+        → DamagedWhere (AllByRecursion IsShort (without_keys (rows_of_table (K.key_of keys.now) table.now pages)) → ⊥) result }
     ensures cause { CountsImage result (D.life disk.old).faults (D.life disk.new).faults }
 {
     one_laying();

@@ -4,7 +4,7 @@ ghost use Rattle.drda_words.specs.Place.{part};
 ghost use Rattle.row_pages.specs.Keeping.{AreRead};
 ghost use Rattle.half_store.specs.Writing.{from_of, half_bytes_of, next_of, pages_of};
 ghost use Rattle.table_image.specs.Adding.{AddsPages, end_of_half};
-ghost use Rattle.table_image.specs.Errors.{CountsImage, TellsFull};
+ghost use Rattle.table_image.specs.Errors.{CountsImage, DamagedWhere, TellsFull};
 
 use crate::ImageError;
 use drda_disk::Disk;
@@ -25,6 +25,7 @@ pub(crate) fn write_page<D: Disk>(
     ensures written { OnOk result (IsTrue D.is_modelled → part (D.life disk.new).seen (next_of image.old) 8192 ≡ bytes.now) }
     ensures pages { OnOk result (pages_of image.new ≡ pages_of image.old + 1) }
     ensures full { TellsFull result (end_of_half image.old) (next_of image.old + 8192) }
+    ensures damaged { DamagedWhere ⊥ result }
     ensures kept { (file : List ℕ) → AreRead cache.new file }
     ensures cause { CountsImage result (D.life disk.old).faults (D.life disk.new).faults }
 {

@@ -5,7 +5,7 @@ ghost use Rattle.row_pages.specs.Laying.{IsShort, laid};
 ghost use Rattle.half_store.specs.Writing.{from_of, half_bytes_of, next_of};
 ghost use Rattle.table_map.specs.Keyed.{first_keys};
 ghost use Rattle.table_image.specs.Adding.{AddsPages, end_of_half};
-ghost use Rattle.table_image.specs.Errors.{CountsImage, TellsFull};
+ghost use Rattle.table_image.specs.Errors.{CountsImage, DamagedWhere, TellsFull};
 
 use crate::ImageError;
 use crate::page::write_page;
@@ -56,6 +56,7 @@ impl RowWriter {
         ensures full { (start : ℕ) (rows rest : List (List ℕ)) → IsLaying D.is_modelled (D.life disk.old).seen start image.old self.old rows
             → TellsFull result (end_of_half image.old) (start + 8192 * length (laid (rows ++ row.now ∷ rest))) }
         ensures kept { IsTrue D.is_modelled → AreRead cache.old (D.life disk.old).seen → AreRead cache.new (D.life disk.new).seen }
+        ensures damaged { DamagedWhere ⊥ result }
         ensures cause { CountsImage result (D.life disk.old).faults (D.life disk.new).faults }
     {
         match self.page.lay(alloc, row)? {
@@ -88,6 +89,7 @@ impl RowWriter {
         ensures full { (start : ℕ) (rows : List (List ℕ)) → IsLaying D.is_modelled (D.life disk.old).seen start image.old self rows
             → TellsFull result (end_of_half image.old) (start + 8192 * length (laid rows)) }
         ensures kept { IsTrue D.is_modelled → AreRead cache.old (D.life disk.old).seen → AreRead cache.new (D.life disk.new).seen }
+        ensures damaged { DamagedWhere ⊥ result }
         ensures cause { CountsImage result (D.life disk.old).faults (D.life disk.new).faults }
     {
         if self.is_empty {

@@ -1,3 +1,4 @@
+pub mod Damaged
 mod Found
 mod Given
 mod Going

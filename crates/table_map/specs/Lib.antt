@@ -1,4 +1,5 @@
 pub mod Cursor
+pub mod Damage
 pub mod Keyed
 pub mod Places
 pub mod Stored

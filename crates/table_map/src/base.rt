@@ -3,7 +3,8 @@ ghost use Rattle.std.specs.Prelude.{◌≡◌, ◌+◌, ◌*◌, ◌^◌, ◌<�
 ghost use Rattle.drda_words.specs.Place.{part};
 ghost use Rattle.drda_disk.specs.Disk.{Stays};
 ghost use Rattle.row_pages.specs.Page.{IsPage};
-ghost use Rattle.row_pages.specs.Keeping.{AreRead, CountsPageFault};
+ghost use Rattle.row_pages.specs.Keeping.{AreRead, CountsPageFault, TellsDamage};
+ghost use Rattle.table_map.specs.Damage.{DamagedWhere, HasNoRows};
 ghost use Rattle.table_map.specs.Walk.{IsFirstRow, IsSettled, Settles, TakesRow};
 
 use drda_disk::Disk;
@@ -67,6 +68,8 @@ fn rows_at<D: Disk>(
     requires { at + 8192 ≤ length (D.life disk.old).seen }
     ensures rows { (rows : List (List ℕ)) → IsTrue D.is_modelled → AreRead cache.old (D.life disk.old).seen → IsPage (record { kind = PageKind.Rows; rows = rows }) (part (D.life disk.old).seen at 8192)
         → IfOk result (λ copies. map (λ r. r.items) copies.items ≡ rows) }
+    ensures none { IsTrue D.is_modelled → AreRead cache.old (D.life disk.old).seen → IfOk result (λ copies. map (λ r. r.items) copies.items ≡ [] → HasNoRows (part (D.life disk.old).seen at 8192)) }
+    ensures damaged { IsTrue D.is_modelled → TellsDamage (part (D.life disk.old).seen at 8192) result }
     ensures few { IfOk result (λ rows. length rows.items < 2 ^ 64) }
     ensures kept { IsTrue D.is_modelled → AreRead cache.old (D.life disk.old).seen → AreRead cache.new (D.life disk.new).seen }
     ensures stays { Stays (D.life disk.old) (D.life disk.new) }
@@ -101,6 +104,7 @@ impl RowsLeft {
     ) -> Result<(), PageFault>
         requires { self.old.at + 8192 * self.old.pages ≤ length (D.life disk.old).seen }
         ensures rows { IsTrue D.is_modelled → AreRead cache.old (D.life disk.old).seen → OnOk result (Settles (D.life disk.old).seen self.old self.new) }
+        ensures damaged { IsTrue D.is_modelled → AreRead cache.old (D.life disk.old).seen → DamagedWhere ((0 < self.old.pages) × HasNoRows (part (D.life disk.old).seen self.old.at 8192)) result }
         ensures settled { OnOk result (IsSettled self.new) }
         ensures end { self.new.at + 8192 * self.new.pages ≡ self.old.at + 8192 * self.old.pages }
         ensures forward { self.old.at ≤ self.new.at }

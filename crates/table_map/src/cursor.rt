@@ -4,6 +4,7 @@ ghost use Rattle.drda_disk.specs.Disk.{Stays};
 ghost use Rattle.row_pages.specs.Keeping.{AreRead, CountsPageFault};
 ghost use Rattle.key_map.specs.Merging.{Rows};
 ghost use Rattle.table_map.specs.Cursor.{Falls, FallsAt, GivesFirst, IsLeft, RowStep, SaysStep, Steps, turn_of};
+ghost use Rattle.table_map.specs.Damage.{DamagedWhere, HasNoRows, SomePage};
 ghost use Rattle.table_map.specs.Walk.{IsSettled};
 
 use crate::RowKeys;
@@ -105,8 +106,8 @@ impl<'a> RowCursor<'a> {
         }
     }
 
-    /// The next row, in new memory. After a fault no promise is made of the rows that are left. A page
-    /// without rows is damaged.
+    /// The next row, in new memory. After a fault no promise is made of the rows that are left.
+    /// `Damaged` is told only where one of the pages that are left is no page or has no rows.
     pub fn next<K: RowKeys, D: Disk>(
         &mut self,
         alloc: Global,
@@ -117,6 +118,7 @@ impl<'a> RowCursor<'a> {
         requires { self.old.base.at + 8192 * self.old.base.pages ≤ length (D.life disk.old).seen }
         ensures gives { (left : Rows) → IsTrue D.is_modelled → AreRead cache.old (D.life disk.old).seen → IsLeft (K.key_of keys.now) (D.life disk.old).seen self.old left
             → IfOk result (λ row. GivesFirst (K.key_of keys.now) (D.life disk.old).seen left row self.new) }
+        ensures damaged { IsTrue D.is_modelled → AreRead cache.old (D.life disk.old).seen → DamagedWhere (SomePage HasNoRows (D.life disk.old).seen self.old.base.at self.old.base.pages) result }
         ensures end { self.new.base.at + 8192 * self.new.base.pages ≡ self.old.base.at + 8192 * self.old.base.pages }
         ensures forward { self.old.base.at ≤ self.new.base.at }
         ensures fewer { IfOk result (λ row. FallsAt row self.old self.new) }

@@ -6,6 +6,7 @@ mod changes;
 mod cursor;
 mod finding;
 mod keys;
+mod laws;
 mod opening;
 mod pages;
 mod scan;
@@ -13,5 +14,6 @@ mod table;
 
 pub use cursor::RowCursor;
 pub use keys::RowKeys;
+pub use laws::stored_tables_are_whole;
 pub use pages::TablePages;
 pub use table::TableMap;

@@ -1,9 +1,11 @@
 //! Opening the pages of a table.
-ghost use Rattle.std.specs.Prelude.{◌≡◌, ◌+◌, ◌*◌, ◌^◌, ◌≤◌, ◌++◌, ◌∷◌, [], ℕ, List, IsTrue, OnOk, IfOk, length};
+ghost use Rattle.std.specs.Prelude.{◌≡◌, ◌+◌, ◌*◌, ◌^◌, ◌≤◌, ◌++◌, ◌∷◌, [], ℕ, List, IsTrue, OnOk, IfErr, IfOk, length};
 ghost use Rattle.drda_words.specs.Place.{part};
 ghost use Rattle.drda_disk.specs.Disk.{Stays};
 ghost use Rattle.row_pages.specs.Page.{IsPage};
 ghost use Rattle.row_pages.specs.Keeping.{AreRead, CountsPageFault};
+ghost use Rattle.row_pages.specs.declared.kept.PageFault.TheVariants.{NoMemory};
+ghost use Rattle.table_map.specs.Damage.{DamagedWhere, HasNoRows, SomePage};
 ghost use Rattle.table_map.specs.Keyed.{copied, first_key, first_keys, first_of};
 ghost use Rattle.table_map.specs.Stored.{AreAt};
 
@@ -38,6 +40,7 @@ fn first_key_at<K: RowKeys, D: Disk>(
     requires { at + 8192 ≤ length (D.life disk.old).seen }
     ensures key { (rows : List (List ℕ)) → IsTrue D.is_modelled → AreRead cache.old (D.life disk.old).seen → IsPage (record { kind = PageKind.Rows; rows = rows }) (part (D.life disk.old).seen at 8192)
         → IfOk result (λ key. key.items ≡ first_key (K.key_of keys.now) rows) }
+    ensures damaged { IsTrue D.is_modelled → AreRead cache.old (D.life disk.old).seen → DamagedWhere (HasNoRows (part (D.life disk.old).seen at 8192)) result }
     ensures kept { IsTrue D.is_modelled → AreRead cache.old (D.life disk.old).seen → AreRead cache.new (D.life disk.new).seen }
     ensures stays { Stays (D.life disk.old) (D.life disk.new) }
     ensures cause { CountsPageFault result (D.life disk.old).faults (D.life disk.new).faults }
@@ -53,6 +56,7 @@ fn first_key_at<K: RowKeys, D: Disk>(
 /// Puts bytes behind others.
 pub(crate) fn push_bytes(list: &mut Vec<Vec<u8>>, bytes: Vec<u8>) -> Result<(), PageFault>
     ensures items { OnOk result (list.new.items ≡ list.old.items ++ bytes ∷ []) }
+    ensures fault { IfErr result (λ fault. fault ≡ NoMemory) }
     ensures cause { (n : ℕ) → CountsPageFault result n n }
 {
     match list.push(bytes) {
@@ -63,7 +67,7 @@ pub(crate) fn push_bytes(list: &mut Vec<Vec<u8>>, bytes: Vec<u8>) -> Result<(), 
 
 impl TablePages {
     /// The pages of a table, so many from an offset on. Each page is looked at once, for the key of its
-    /// first row. A page without rows is damaged.
+    /// first row. `Damaged` is told only where one of them is no page or has no rows.
     pub fn open<K: RowKeys, D: Disk>(
         alloc: Global,
         keys: &K,
@@ -77,6 +81,7 @@ impl TablePages {
         ensures at { IfOk result (λ pages. pages.at ≡ at) }
         ensures keys { (pages : List (List (List ℕ))) → IsTrue D.is_modelled → AreRead cache.old (D.life disk.old).seen → AreAt (D.life disk.old).seen at pages → length pages ≡ count
             → IfOk result (λ opened. opened.keys ≡ first_keys (K.key_of keys.now) pages) }
+        ensures damaged { IsTrue D.is_modelled → AreRead cache.old (D.life disk.old).seen → DamagedWhere (SomePage HasNoRows (D.life disk.old).seen at count) result }
         ensures count { IfOk result (λ pages. length pages.keys ≡ count) }
         ensures kept { IsTrue D.is_modelled → AreRead cache.old (D.life disk.old).seen → AreRead cache.new (D.life disk.new).seen }
         ensures stays { Stays (D.life disk.old) (D.life disk.new) }

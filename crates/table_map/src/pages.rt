@@ -4,8 +4,9 @@ ghost use Rattle.drda_words.specs.Place.{part};
 ghost use Rattle.drda_disk.specs.Disk.{Stays};
 ghost use Rattle.row_pages.specs.Page.{IsPage};
 ghost use Rattle.row_pages.specs.Laying.{rows_over};
-ghost use Rattle.row_pages.specs.Keeping.{AreRead, CountsPageFault};
+ghost use Rattle.row_pages.specs.Keeping.{AreRead, CountsPageFault, TellsDamage};
 ghost use Rattle.key_map.specs.Merging.{row_at};
+ghost use Rattle.table_map.specs.Damage.{DamagedWhere, LacksPage};
 ghost use Rattle.table_map.specs.Keyed.{keyed_rows, copied};
 ghost use Rattle.table_map.specs.Stored.{IsStored};
 
@@ -62,6 +63,7 @@ fn row_in_page<K: RowKeys, D: Disk>(
     requires { at + 8192 ≤ length (D.life disk.old).seen }
     ensures found { (rows : List (List ℕ)) → IsTrue D.is_modelled → AreRead cache.old (D.life disk.old).seen → IsPage (record { kind = PageKind.Rows; rows = rows }) (part (D.life disk.old).seen at 8192)
         → IfOk result (λ row. copied row ≡ row_at key.now (keyed_rows (K.key_of keys.now) rows)) }
+    ensures damaged { IsTrue D.is_modelled → TellsDamage (part (D.life disk.old).seen at 8192) result }
     ensures kept { IsTrue D.is_modelled → AreRead cache.old (D.life disk.old).seen → AreRead cache.new (D.life disk.new).seen }
     ensures stays { Stays (D.life disk.old) (D.life disk.new) }
     ensures cause { CountsPageFault result (D.life disk.old).faults (D.life disk.new).faults }
@@ -91,7 +93,7 @@ impl TablePages {
     }
 
     /// The row of a key, in new memory. One page is looked at, at most: the one whose first key is the
-    /// last that the key does not come before.
+    /// last that the key does not come before. `Damaged` is told only where that is no page.
     pub fn row<K: RowKeys, D: Disk>(
         &self,
         alloc: Global,
@@ -103,6 +105,7 @@ impl TablePages {
         requires { self.now.at + 8192 * length self.now.keys ≤ length (D.life disk.old).seen }
         ensures found { (pages : List (List (List ℕ))) → IsTrue D.is_modelled → AreRead cache.old (D.life disk.old).seen → IsStored (K.key_of keys.now) self.now pages (D.life disk.old).seen
             → IfOk result (λ row. copied row ≡ row_at key.now (keyed_rows (K.key_of keys.now) (rows_over pages))) }
+        ensures damaged { IsTrue D.is_modelled → DamagedWhere (LacksPage key.now self.now (D.life disk.old).seen) result }
         ensures kept { IsTrue D.is_modelled → AreRead cache.old (D.life disk.old).seen → AreRead cache.new (D.life disk.new).seen }
         ensures stays { Stays (D.life disk.old) (D.life disk.new) }
         ensures cause { CountsPageFault result (D.life disk.old).faults (D.life disk.new).faults }

@@ -1,9 +1,11 @@
 //! All rows of a table.
 ghost use Rattle.std.specs.Prelude.{◌≡◌, ◌+◌, ◌*◌, ◌≤◌, ◌∷◌, ℕ, List, IsTrue, IfOk, OnOk, length, map};
 ghost use Rattle.drda_disk.specs.Disk.{Stays};
-ghost use Rattle.row_pages.specs.Laying.{counted, laid, pages_with};
+ghost use Rattle.std.specs.List.{AllByRecursion};
+ghost use Rattle.row_pages.specs.Laying.{IsShort, counted, laid, pages_with};
 ghost use Rattle.row_pages.specs.Keeping.{AreRead, CountsPageFault};
 ghost use Rattle.table_map.specs.Cursor.{IsLeft};
+ghost use Rattle.table_map.specs.Damage.{DamagedWhere, HasNoRows, SomePage};
 ghost use Rattle.table_map.specs.Stored.{IsStored};
 ghost use Rattle.table_map.specs.Table.{rows_of_table, without_keys};
 
@@ -20,6 +22,7 @@ const LONGEST_ROW_BYTES: usize = 8_187;
 /// Counts a row more. One that is too long for a page is damaged.
 fn count_row(count: &mut PageCount, row: &[u8]) -> Result<(), PageFault>
     ensures counts { OnOk result ((rows : List (List ℕ)) → pages_with count.new rows ≡ pages_with count.old (row.now ∷ rows)) }
+    ensures damaged { DamagedWhere (IsShort row.now → ⊥) result }
     ensures cause { (n : ℕ) → CountsPageFault result n n }
 {
     if row.len() > LONGEST_ROW_BYTES {
@@ -43,7 +46,8 @@ impl TableMap {
         }
     }
 
-    /// All rows in the order of their keys, in new memory. Each page is looked at once.
+    /// All rows in the order of their keys, in new memory. Each page is looked at once. `Damaged` is
+    /// told only where one of the table's pages is no page or has no rows.
     pub fn scan<K: RowKeys, D: Disk>(
         &self,
         alloc: Global,
@@ -54,6 +58,7 @@ impl TableMap {
         requires { self.now.places.at + 8192 * length self.now.places.keys ≤ length (D.life disk.old).seen }
         ensures rows { (pages : List (List (List ℕ))) → IsTrue D.is_modelled → AreRead cache.old (D.life disk.old).seen → IsStored (K.key_of keys.now) self.now.places pages (D.life disk.old).seen
             → IfOk result (λ rows. map (λ row. row.items) rows.items ≡ without_keys (rows_of_table (K.key_of keys.now) self.now pages)) }
+        ensures damaged { IsTrue D.is_modelled → AreRead cache.old (D.life disk.old).seen → DamagedWhere (SomePage HasNoRows (D.life disk.old).seen self.now.places.at (length self.now.places.keys)) result }
         ensures kept { IsTrue D.is_modelled → AreRead cache.old (D.life disk.old).seen → AreRead cache.new (D.life disk.new).seen }
         ensures stays { Stays (D.life disk.old) (D.life disk.new) }
         ensures cause { CountsPageFault result (D.life disk.old).faults (D.life disk.new).faults }
@@ -67,7 +72,8 @@ impl TableMap {
     }
 
     /// How many pages all rows take when they are laid anew, one behind another; nothing is written.
-    /// Each page is looked at once. A row that is too long for a page is damaged.
+    /// Each page is looked at once. Of a table whose pages stand there `Damaged` is told only where
+    /// one of all rows is too long for a page.
     pub fn page_count<K: RowKeys, D: Disk>(
         &self,
         alloc: Global,
@@ -78,6 +84,8 @@ impl TableMap {
         requires { self.now.places.at + 8192 * length self.now.places.keys ≤ length (D.life disk.old).seen }
         ensures count { (pages : List (List (List ℕ))) → IsTrue D.is_modelled → AreRead cache.old (D.life disk.old).seen → IsStored (K.key_of keys.now) self.now.places pages (D.life disk.old).seen
             → IfOk result (λ count. count ≡ counted (length (laid (without_keys (rows_of_table (K.key_of keys.now) self.now pages))))) }
+        ensures damaged { (pages : List (List (List ℕ))) → IsTrue D.is_modelled → AreRead cache.old (D.life disk.old).seen → IsStored (K.key_of keys.now) self.now.places pages (D.life disk.old).seen
+            → DamagedWhere (AllByRecursion IsShort (without_keys (rows_of_table (K.key_of keys.now) self.now pages)) → ⊥) result }
         ensures kept { IsTrue D.is_modelled → AreRead cache.old (D.life disk.old).seen → AreRead cache.new (D.life disk.new).seen }
         ensures stays { Stays (D.life disk.old) (D.life disk.new) }
         ensures cause { CountsPageFault result (D.life disk.old).faults (D.life disk.new).faults }

@@ -1,11 +1,13 @@
 //! A table's rows: those of its pages with the changes since.
-ghost use Rattle.std.specs.Prelude.{◌≡◌, ◌+◌, ◌*◌, ◌<◌, ◌≤◌, ℕ, List, [], IsTrue, Some, None, OnOk, IfOk, length};
+ghost use Rattle.std.specs.Prelude.{◌≡◌, ◌+◌, ◌*◌, ◌<◌, ◌≤◌, ℕ, List, [], IsTrue, Some, None, OnOk, IfErr, IfOk, length};
 ghost use Rattle.drda_disk.specs.Disk.{Stays};
 ghost use Rattle.row_pages.specs.Laying.{rows_over};
 ghost use Rattle.row_pages.specs.Keeping.{AreRead, CountsPageFault};
+ghost use Rattle.row_pages.specs.declared.kept.PageFault.TheVariants.{NoMemory};
 ghost use Rattle.ordered_rows.specs.Slots.{HasRoom};
 ghost use Rattle.key_map.specs.Merging.{InOrder, changed, row_at};
 ghost use Rattle.key_map.specs.Overlay.{changes_of};
+ghost use Rattle.table_map.specs.Damage.{DamagedWhere, LacksPage};
 ghost use Rattle.table_map.specs.Keyed.{copied, keyed_rows};
 ghost use Rattle.table_map.specs.Stored.{IsStored};
 ghost use Rattle.table_map.specs.Table.{rows_of_table};
@@ -36,6 +38,7 @@ impl Model for TableMap {
 /// A copy of a row.
 fn copy_of(alloc: Global, row: &[u8]) -> Result<Option<Vec<u8>>, PageFault>
     ensures row { IfOk result (λ copy. copied copy ≡ Some row.now) }
+    ensures fault { IfErr result (λ fault. fault ≡ NoMemory) }
     ensures cause { (n : ℕ) → CountsPageFault result n n }
 {
     match row.to_vec(alloc) {
@@ -57,7 +60,7 @@ impl TableMap {
     }
 
     /// The row of a key, in new memory. A key that was changed is looked up in the changes alone;
-    /// else one page is looked at, at most.
+    /// else one page is looked at, at most, and `Damaged` is told only where that is no page.
     pub fn get<K: RowKeys, D: Disk>(
         &self,
         alloc: Global,
@@ -69,6 +72,7 @@ impl TableMap {
         requires { self.now.places.at + 8192 * length self.now.places.keys ≤ length (D.life disk.old).seen }
         ensures found { (pages : List (List (List ℕ))) → IsTrue D.is_modelled → AreRead cache.old (D.life disk.old).seen → IsStored (K.key_of keys.now) self.now.places pages (D.life disk.old).seen
             → IfOk result (λ row. copied row ≡ row_at key.now (rows_of_table (K.key_of keys.now) self.now pages)) }
+        ensures damaged { IsTrue D.is_modelled → DamagedWhere ((row_at key.now (changes_of self.now.overlay) ≡ None) × LacksPage key.now self.now.places (D.life disk.old).seen) result }
         ensures kept { IsTrue D.is_modelled → AreRead cache.old (D.life disk.old).seen → AreRead cache.new (D.life disk.new).seen }
         ensures stays { Stays (D.life disk.old) (D.life disk.new) }
         ensures cause { CountsPageFault result (D.life disk.old).faults (D.life disk.new).faults }

@@ -1,12 +1,16 @@
-use Rattle.std.proofs.Common.{rules, ◌≡◌, [], ◌∙◌, length, map, sym, ap, subst, arith, refl}
+use Rattle.std.proofs.Common.{rules, ◌≡◌, inl, inr, ⊎_elim, ◌-◌, [], ◌∙◌, length, map, sym, ap, subst, arith, refl}
 use Rattle.std.proofs.lemmas.List.{length-map}
 use Rattle.row_pages.specs.Laying.{laid}
 use Rattle.half_store.specs.Writing.{next_of}
+use Rattle.table_map.specs.Damage.{HasNoRows}
 use Rattle.table_map.specs.Stored.{Places}
 use Rattle.table_map.specs.Table.{rows_of_table}
+use Rattle.table_map.proofs.Damaged.{of_left, stored_is_whole}
+use Rattle.table_image.specs.Adding.{end_of_half}
 use Rattle.table_image.specs.Stored.{IsImageOf}
 use Rattle.table_image.proofs.Adding.{and_more, no_page, reads, same_from}
-use Rattle.table_image.proofs.MergedRows.{all_given, begins, end_small, full_before, full_last, many_keys, one_more, same_file, stored}
+use Rattle.table_image.proofs.MergedRows.{all_given, begins, end_small, full_before, full_last, many_keys, one_more, same_file, short_row, stored}
+use Rattle.table_image.proofs.Told.{handed_on, page_stays, read_on}
 use Rattle.table_image.proofs.merging.merge_into.Goals as goal
 
 pub returns-in_err-writer-clause-adds : goal.returns-in_err-writer-clause-adds
@@ -141,3 +145,30 @@ returns-clause-rows g c pages honest read is apart own =
     subst (λ (p : Places). IsImageOf key_of (rows_of_table key_of c.args.table.now pages) p new) (sym (c.new-2.ensures ∙ ap (λ n. record { at = n; keys = map (λ key. key.items) c.loop-writer.writer.first_keys.items }) inv.at))
     (stored c.one_laying.ensures.laid c.changes_win.ensures.order key_of c.args.table.now pages first new (next_of c.args.image.now) c.loop-writer.writer.rows.page.kind (map (λ key. key.items) c.loop-writer.writer.first_keys.items) inv.merges.rows
     is own all there.kind (c.in_ok-finish.ensures.stand (next_of c.args.image.now) inv.merges.rows there.laying honest) there.keys there.laying.short)
+
+pub returns-in_err-row-clause-damaged : goal.returns-in_err-row-clause-damaged
+returns-in_err-row-clause-damaged g c pages honest read is apart =
+    let inv = c.loop-writer.invariant in
+    let key_of = g.K.RowKeys.key_of c.args.keys.now in
+    let places = c.args.table.now.places in
+    let first = (g.D.Disk.life c.args.disk.now).seen in
+    let file = (g.D.Disk.life c.loop-writer.disk).seen in
+    let base = c.loop-writer.cursor.base in
+    let w = c.args.image.now in
+    read_on _ _ c.in_err-row.field-0.0 c.next.result c.from_residual-in_err-row.result (search rules) (search rules)
+    (λ some short. stored_is_whole key_of places pages first is
+    (page_stays first file (next_of w) (end_of_half w - next_of w) places.at (length places.keys) inv.adds.others (⊎_elim (λ low. inl (omega (arith, low))) (λ high. inr (omega (arith, high, w.fits))) apart)
+    (of_left HasNoRows file places.at (length places.keys) base.at base.pages inv.end inv.forward some)))
+    (c.next.ensures.damaged honest (inv.kept honest read))
+
+pub returns-in_err-add-clause-damaged : goal.returns-in_err-add-clause-damaged
+returns-in_err-add-clause-damaged g c pages honest read is apart =
+    let inv = c.loop-writer.invariant in
+    let key_of = g.K.RowKeys.key_of c.args.keys.now in
+    let first = (g.D.Disk.life c.args.disk.now).seen in
+    let file = (g.D.Disk.life c.loop-writer.disk).seen in
+    handed_on _ _ c.in_err-add.field-0.0 c.add.result c.from_residual-in_err-add.result (search rules) (search rules)
+    (λ long short. long
+    (short_row g.D.Disk.is_modelled key_of c.args.table.now c.args.cache.now first c.args.image.now file c.loop-writer.image c.loop-writer.writer c.loop-writer.cursor inv.merges
+    c.deref.result.now c.in-Some.row.items c.next.new.self c.deref.ensures.value (λ left honest read is. rw c.in-Some.is at (c.in_ok-row.ensures.gives left honest (inv.kept honest read) is)) pages honest read is apart short))
+    c.add.ensures.damaged

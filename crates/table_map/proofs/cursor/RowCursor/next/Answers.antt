@@ -1,6 +1,8 @@
-use Rattle.std.proofs.Common.{ℕ, List, subst, arith, ◌∙◌}
+use Rattle.std.proofs.Common.{rules, ℕ, List, subst, arith, ◌∙◌}
 use Rattle.drda_disk.proofs.Moments.{Stays-trans}
+use Rattle.table_map.specs.Damage.{HasNoRows, SomePage}
 use Rattle.table_map.specs.Walk.{Settles}
+use Rattle.table_map.proofs.Damaged.{at_front, handed_on, of_left}
 use Rattle.table_map.proofs.Going.{settled_left}
 use Rattle.table_map.proofs.cursor.RowCursor.next.Goals as goal
 
@@ -37,3 +39,13 @@ loop-self-preserved g c =
           let now = settled_left (g.K.RowKeys.key_of c.args.keys.now) file c.loop-self.self left c.settle.new.self reads (inv.left left honest read held) in
           rw c.in-Ok-Skip.field-0-is at c.in-Ok-Skip.ensures.steps file left now;
     }
+
+pub returns-in_err-settle-clause-damaged : goal.returns-in_err-settle-clause-damaged
+returns-in_err-settle-clause-damaged g c honest read =
+    let inv = c.loop-self.invariant in
+    let file = (g.D.Disk.life c.args.disk.now).seen in
+    let old = c.args.self.now.base in
+    let base = c.loop-self.self.base in
+    handed_on _ _ c.in_err-settle.field-0.0 c.settle.result c.from_residual.result (search rules) (search rules)
+    (λ told. subst (λ (f : List ℕ). SomePage HasNoRows f old.at old.pages) inv.stays.same (of_left HasNoRows _ old.at old.pages base.at base.pages inv.end inv.forward (at_front HasNoRows _ base.at base.pages told.0 told.1)))
+    (c.settle.ensures.damaged honest (inv.kept honest read))

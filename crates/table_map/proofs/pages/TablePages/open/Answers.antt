@@ -6,7 +6,9 @@ use Rattle.drda_disk.proofs.Moments.{Stays-refl, Stays-trans}
 use Rattle.row_pages.specs.Page.{IsPage}
 use Rattle.row_pages.specs.Keeping.{CountsPageFault}
 use Rattle.row_pages.specs.declared.page.PageKind.TheVariants as kind
+use Rattle.table_map.specs.Damage.{HasNoRows}
 use Rattle.table_map.specs.Keyed.{first_keys}
+use Rattle.table_map.proofs.Damaged.{handed_on, no_memory}
 use Rattle.table_map.proofs.Found.{page_there}
 use Rattle.table_map.proofs.Opened.{one_more, many_first}
 use Rattle.table_map.proofs.pages.TablePages.open.Goals as goal
@@ -74,3 +76,13 @@ returns-clause-stays g c = c.loop-page.invariant.stays
 
 pub returns-clause-cause : goal.returns-clause-cause
 returns-clause-cause g c = c.loop-page.invariant.faults
+
+pub returns-in_err-key-clause-damaged : goal.returns-in_err-key-clause-damaged
+returns-in_err-key-clause-damaged g c honest read =
+    let inv = c.loop-page.invariant in
+    handed_on _ _ c.in_err-key.field-0.0 c.first_key_at.result c.from_residual.result (search rules) (search rules)
+    (λ none. record { number = c.loop-page.page; within = omega arith; is = subst (λ (f : List ℕ). HasNoRows (part f (c.args.at + 8192 * c.loop-page.page) 8192)) inv.stays.same none })
+    (c.first_key_at.ensures.damaged honest (inv.kept honest read))
+
+pub returns-in_err-push_bytes-clause-damaged : goal.returns-in_err-push_bytes-clause-damaged
+returns-in_err-push_bytes-clause-damaged g c honest read = no_memory _ c.in_err-push_bytes.field-0.0 c.from_residual-in_err-push_bytes.result (search rules) c.in_err-push_bytes.ensures.fault

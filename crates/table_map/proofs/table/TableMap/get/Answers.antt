@@ -3,9 +3,11 @@ use Rattle.std.specs.Prelude.{IfOk}
 use Rattle.row_pages.specs.Laying.{rows_over}
 use Rattle.key_map.specs.Merging.{row_at}
 use Rattle.key_map.specs.Overlay.{changes_of}
+use Rattle.table_map.specs.Damage.{LacksPage}
 use Rattle.table_map.specs.Keyed.{keyed_rows, copied}
 use Rattle.table_map.specs.Stored.{Places, IsStored}
 use Rattle.table_map.specs.Table.{Table}
+use Rattle.table_map.proofs.Damaged.{only_memory, where_too}
 use Rattle.table_map.proofs.Told.{told}
 use Rattle.table_map.proofs.table.TableMap.get.Goals as goal
 
@@ -31,3 +33,16 @@ returns-in-None-clause-found g c pages honest read is =
     subst (λ (o : Option (List ℕ)). IfOk c.row.result (λ row. copied row ≡ o))
     (told c.args.key.now base (changes_of c.args.self.now.overlay) None is.order (c.in-None.ensures ∙ ap (λ (t : Table). row_at c.args.key.now (changes_of t.overlay)) c.self.view_is))
     (c.row.ensures.found pages honest read stored)
+
+pub returns-in-Some-Some-clause-damaged : goal.returns-in-Some-Some-clause-damaged
+returns-in-Some-Some-clause-damaged g c honest = only_memory _ c.copy_of.result c.copy_of.ensures.fault
+
+pub returns-in-None-clause-damaged : goal.returns-in-None-clause-damaged
+returns-in-None-clause-damaged g c honest =
+    let file = (g.D.Disk.life c.args.disk.now).seen in
+    where_too _ _ c.row.result
+    (λ lacks. (
+      sym (c.in-None.ensures ∙ ap (λ (t : Table). row_at c.args.key.now (changes_of t.overlay)) c.self.view_is),
+      subst (λ (p : Places). LacksPage c.args.key.now p file) (ap (λ (t : Table). t.places) c.self.view_is) lacks,
+    ))
+    (c.row.ensures.damaged honest)

@@ -1,9 +1,32 @@
-use Rattle.std.proofs.Common.{◌≡◌, ℕ, List, [], ◌∷◌, sym, ap, ◌∙◌, subst}
-use Rattle.drda_disk.proofs.Moments.{Stays-trans}
-use Rattle.row_pages.specs.Laying.{pages_with}
+use Rattle.std.proofs.Common.{rules, arith, ◌≡◌, ℕ, List, [], ◌∷◌, length, refl, sym, ap, ◌∙◌, subst}
+use Rattle.std.specs.List.{AllByRecursion}
+use Rattle.drda_disk.proofs.Moments.{Stays-refl, Stays-trans}
+use Rattle.row_pages.specs.Laying.{IsShort, pages_with}
 use Rattle.table_map.specs.Cursor.{IsLeft, GoesOn}
-use Rattle.table_map.proofs.Given.{one_counted, all_counted}
+use Rattle.table_map.specs.Damage.{HasNoRows, SomePage}
+use Rattle.table_map.specs.Table.{rows_of_table, without_keys}
+use Rattle.table_map.proofs.Damaged.{handed_on, of_left, stored_is_whole}
+use Rattle.table_map.proofs.Given.{one_counted, one_short, all_counted}
 use Rattle.table_map.proofs.table.TableMap.page_count.Goals as goal
+
+pub loop-cursor-init : goal.loop-cursor-init
+loop-cursor-init g c =
+    let key_of = g.K.RowKeys.key_of c.args.keys.now in
+    let file = (g.D.Disk.life c.args.disk.now).seen in
+    record {
+      stays = Stays-refl _;
+      faults = refl;
+      kept = λ honest read. read;
+      end = c.rows-cursor.ensures.end;
+      forward = omega (arith, c.rows-cursor.ensures.begins);
+      rows = λ pages honest read is.
+          record {
+            left = rows_of_table key_of c.args.self.now pages;
+            is = c.rows-cursor.ensures.left key_of pages file is;
+            same = c.new-count.ensures _;
+            short = λ short. short;
+          };
+    }
 
 pub loop-cursor-preserved : goal.loop-cursor-preserved
 loop-cursor-preserved g c =
@@ -15,6 +38,7 @@ loop-cursor-preserved g c =
       faults = c.in_ok-row.ensures.cause ∙ inv.faults;
       kept = λ honest read. c.next.ensures.kept honest (inv.kept honest read);
       end = c.next.ensures.end ∙ inv.end;
+      forward = omega (arith, inv.forward, c.next.ensures.forward);
       rows = λ pages honest read is.
           let held = inv.rows pages honest read is in
           let there = subst (λ (f : List ℕ). IsLeft key_of f c.loop-cursor.cursor held.left) (sym inv.stays.same) held.is in
@@ -31,3 +55,26 @@ returns-clause-count g c pages honest read is =
     let there = subst (λ (f : List ℕ). IsLeft key_of f c.loop-cursor.cursor held.left) (sym inv.stays.same) held.is in
     let none : held.left ≡ [] = rw c.in_default.is at (c.in_ok-row.ensures.gives held.left honest (inv.kept honest read) there) in
     c.pages.ensures ∙ all_counted key_of file c.loop-cursor.cursor c.loop-cursor.count _ held none
+
+pub returns-in_err-row-clause-damaged : goal.returns-in_err-row-clause-damaged
+returns-in_err-row-clause-damaged g c pages honest read is =
+    let inv = c.loop-cursor.invariant in
+    let key_of = g.K.RowKeys.key_of c.args.keys.now in
+    let places = c.args.self.now.places in
+    let file = (g.D.Disk.life c.args.disk.now).seen in
+    let base = c.loop-cursor.cursor.base in
+    handed_on _ _ c.in_err-row.field-0.0 c.next.result c.from_residual.result (search rules) (search rules)
+    (λ some short. stored_is_whole key_of places pages file is (subst (λ (f : List ℕ). SomePage HasNoRows f places.at (length places.keys)) inv.stays.same (of_left HasNoRows _ places.at (length places.keys) base.at base.pages inv.end inv.forward some)))
+    (c.next.ensures.damaged honest (inv.kept honest read))
+
+pub returns-in_err-count_row-clause-damaged : goal.returns-in_err-count_row-clause-damaged
+returns-in_err-count_row-clause-damaged g c pages honest read is =
+    let inv = c.loop-cursor.invariant in
+    let key_of = g.K.RowKeys.key_of c.args.keys.now in
+    let file = (g.D.Disk.life c.args.disk.now).seen in
+    let held = inv.rows pages honest read is in
+    let there = subst (λ (f : List ℕ). IsLeft key_of f c.loop-cursor.cursor held.left) (sym inv.stays.same) held.is in
+    let goes = subst (λ (f : List ℕ). GoesOn key_of f held.left c.in-Some.row.items c.next.new.self) inv.stays.same (rw c.in-Some.is at (c.in_ok-row.ensures.gives held.left honest (inv.kept honest read) there)) in
+    handed_on _ _ c.in_err-count_row.field-0.0 c.count_row.result c.from_residual-in_err-count_row.result (search rules) (search rules)
+    (λ long short. long (subst (λ (b : List ℕ). IsShort b) (sym c.deref.ensures.value) (one_short key_of file c.loop-cursor.cursor c.next.new.self c.loop-cursor.count _ c.in-Some.row.items held goes short)))
+    c.count_row.ensures.damaged

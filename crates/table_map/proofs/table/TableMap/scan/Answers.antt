@@ -1,8 +1,10 @@
-use Rattle.std.proofs.Common.{◌≡◌, ℕ, List, [], ◌++◌, map, refl, sym, ap, ◌∙◌, subst}
+use Rattle.std.proofs.Common.{rules, arith, ◌≡◌, ℕ, List, [], ◌++◌, length, map, refl, sym, ap, ◌∙◌, subst}
 use Rattle.std.specs.Global.{Vec}
 use Rattle.drda_disk.proofs.Moments.{Stays-refl, Stays-trans}
 use Rattle.table_map.specs.Cursor.{IsLeft, GoesOn}
+use Rattle.table_map.specs.Damage.{HasNoRows, SomePage}
 use Rattle.table_map.specs.Table.{rows_of_table, without_keys}
+use Rattle.table_map.proofs.Damaged.{handed_on, no_memory, of_left}
 use Rattle.table_map.proofs.Given.{one_given, all_given}
 use Rattle.table_map.proofs.table.TableMap.scan.Goals as goal
 
@@ -15,6 +17,7 @@ loop-rows-init g c =
       faults = refl;
       kept = λ honest read. read;
       end = c.rows-cursor.ensures.end;
+      forward = omega (arith, c.rows-cursor.ensures.begins);
       rows = λ pages honest read is.
           record {
             left = rows_of_table key_of c.args.self.now pages;
@@ -33,6 +36,7 @@ loop-rows-preserved g c =
       faults = c.in_ok-row.ensures.cause ∙ inv.faults;
       kept = λ honest read. c.next.ensures.kept honest (inv.kept honest read);
       end = c.next.ensures.end ∙ inv.end;
+      forward = omega (arith, inv.forward, c.next.ensures.forward);
       rows = λ pages honest read is.
           let held = inv.rows pages honest read is in
           let there = subst (λ (f : List ℕ). IsLeft key_of f c.loop-rows.cursor held.left) (sym inv.stays.same) held.is in
@@ -49,3 +53,15 @@ returns-clause-rows g c pages honest read is =
     let there = subst (λ (f : List ℕ). IsLeft key_of f c.loop-rows.cursor held.left) (sym inv.stays.same) held.is in
     let none : held.left ≡ [] = rw c.in_default.is at (c.in_ok-row.ensures.gives held.left honest (inv.kept honest read) there) in
     all_given key_of file c.loop-rows.cursor (map (λ r. r.items) c.loop-rows.rows.items) _ held none
+
+pub returns-in_err-row-clause-damaged : goal.returns-in_err-row-clause-damaged
+returns-in_err-row-clause-damaged g c honest read =
+    let inv = c.loop-rows.invariant in
+    let places = c.args.self.now.places in
+    let base = c.loop-rows.cursor.base in
+    handed_on _ _ c.in_err-row.field-0.0 c.next.result c.from_residual.result (search rules) (search rules)
+    (λ some. subst (λ (f : List ℕ). SomePage HasNoRows f places.at (length places.keys)) inv.stays.same (of_left HasNoRows _ places.at (length places.keys) base.at base.pages inv.end inv.forward some))
+    (c.next.ensures.damaged honest (inv.kept honest read))
+
+pub returns-in_err-push_bytes-clause-damaged : goal.returns-in_err-push_bytes-clause-damaged
+returns-in_err-push_bytes-clause-damaged g c honest read = no_memory _ c.in_err-push_bytes.field-0.0 c.from_residual-in_err-push_bytes.result (search rules) c.in_err-push_bytes.ensures.fault

@@ -1,4 +1,4 @@
-use Rattle.std.proofs.Common.{◌≡◌, ℕ, List, ◌+◌, ◌*◌, length, map}
+use Rattle.std.proofs.Common.{◌≡◌, ◌≤◌, ℕ, List, ◌+◌, ◌*◌, length, map}
 use Rattle.std.specs.Prelude.{IsTrue}
 use Rattle.drda_disk.specs.Disk.{Stays}
 use Rattle.row_pages.specs.Keeping.{AreRead}
@@ -14,6 +14,7 @@ invariant-loop-rows g l = record {
   faults : (g.D.Disk.life l.disk).faults ≡ (g.D.Disk.life l.fn.disk).faults;
   kept : IsTrue g.D.Disk.is_modelled → AreRead l.fn.cache (g.D.Disk.life l.fn.disk).seen → AreRead l.cache (g.D.Disk.life l.disk).seen;
   end : l.cursor.base.at + 8192 * l.cursor.base.pages ≡ l.fn.self.places.at + 8192 * length l.fn.self.places.keys;
+  forward : l.fn.self.places.at ≤ l.cursor.base.at;
   rows : (pages : List (List (List ℕ))) → IsTrue g.D.Disk.is_modelled → AreRead l.fn.cache (g.D.Disk.life l.fn.disk).seen → IsStored (g.K.RowKeys.key_of l.keys) l.fn.self.places pages (g.D.Disk.life l.fn.disk).seen
       → IsGiven (g.K.RowKeys.key_of l.keys) (g.D.Disk.life l.fn.disk).seen l.cursor (map (λ r. r.items) l.rows.items) (without_keys (rows_of_table (g.K.RowKeys.key_of l.keys) l.fn.self pages));
 }
