@@ -25,7 +25,6 @@ out:
 test:
 	@rt ci
 
-# Conversations kept as event records, through the built program, and its statuses; then cut into other pieces.
+# Conversations kept as event records, through the built program, and its statuses.
 vectors:
 	@tests/run_vectors
-	@tests/cut_vectors crates/drdad/out/drdad
