@@ -62,6 +62,7 @@ impl<'a> Cursor<'a> {
 
     /// The next token, how many bytes there are from it on, and the place behind it; nothing at
     /// the text's end.
+    #[inline(always)]
     pub fn next(&self) -> Option<(Token<'a>, usize, Cursor<'a>)>
         ensures token { Next self.now result }
         ensures shorter { IfSome result (λ x. length x.2.1 < length self.now.1) }

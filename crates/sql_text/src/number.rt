@@ -1,6 +1,6 @@
 //! What digits count.
 
-ghost use Rattle.std.specs.Prelude.{◌≡◌, ◌≤◌, ◌<◌, ◌^◌, length, min, drop, nat_lt, nat_le, All, IsTrue};
+ghost use Rattle.std.specs.Prelude.{◌≡◌, ◌≤◌, ◌<◌, ◌^◌, length, min, drop, nat_lt, nat_le, All, true};
 ghost use Rattle.sql_text.specs.Number as spec;
 
 /// The number that digits write, or the limit where they write more.
@@ -15,11 +15,21 @@ fn number_within(limit: u64, digits: &[u8]) -> u64
     number
 }
 
+/// Whether the digits are too few to write more than BIGINT holds.
+fn are_few(digits: &[u8]) -> bool
+    ensures { result ≡ true → spec.number_of digits.now < 2 ^ 63 }
+{
+    digits.len() <= 17
+}
+
 /// Whether the number that digits write lies in BIGINT.
 #[tactic(auto, unfolding(crate::specs::Number::is_bigint))]
 pub(crate) fn is_bigint(digits: &[u8]) -> bool
     ensures { result ≡ spec.is_bigint digits.now }
 {
+    if are_few(digits) {
+        return true;
+    }
     number_within(1 << 63, digits) < 1 << 63
 }
 
@@ -37,7 +47,11 @@ fn behind_sign(spelled: &[u8]) -> &[u8]
 pub(crate) fn is_negative_bigint(spelled: &[u8]) -> bool
     ensures { result ≡ spec.is_negative_bigint spelled.now }
 {
-    number_within((1 << 63) + 1, behind_sign(spelled)) <= 1 << 63
+    let digits = behind_sign(spelled);
+    if are_few(digits) {
+        return true;
+    }
+    number_within((1 << 63) + 1, digits) <= 1 << 63
 }
 
 /// The length that digits write; 2,001 stands for each that is greater.
