@@ -1,6 +1,6 @@
 //! Calls of a core, and whether they are answered as they should be.
 
-use crate::calls::{Ask, Call, Row, Spelled, Told, XidData};
+use crate::calls::{Ask, Call, Row, Spelled, Told};
 use crate::shown::{are_xids, shows};
 use core_calls::{Answer, CoreCall, Side};
 use rdb_core::Core;
@@ -12,7 +12,7 @@ use tables::RowList;
 use xa_calls::Request;
 
 /// How a call was answered.
-#[derive(Clone, Copy, Debug, PartialEq, Eq)]
+#[derive(Clone, Copy, PartialEq)]
 pub enum Heard {
     Right,
     Wrong,
@@ -85,6 +85,37 @@ fn parsed<'a>(alloc: Global, text: &'a str) -> Result<Statement<'a>, SqlError> {
     parse(alloc, text)
 }
 
+// How a statement is asked.
+#[derive(Clone, Copy)]
+enum How {
+    Run,
+    Query,
+    Describe(Side),
+}
+
+fn ask_text<'t>(
+    alloc: Global,
+    core: &mut Core<NoRecords>,
+    conversation: u64,
+    how: How,
+    text: &'t str,
+    parameters: &[Value<'t>],
+) -> Option<Answer> {
+    let statement = &parsed(alloc, text).ok()?;
+    let call = match how {
+        How::Run => CoreCall::Run {
+            statement,
+            parameters,
+        },
+        How::Query => CoreCall::Query {
+            statement,
+            parameters,
+        },
+        How::Describe(side) => CoreCall::Describe { statement, side },
+    };
+    Some(core.step(conversation, &call))
+}
+
 /// A statement is run with these values for its markers.
 pub fn run<'a, 't>(
     core: &mut Core<NoRecords>,
@@ -113,47 +144,29 @@ pub fn query<'a, 't>(
     core.step(conversation, &call)
 }
 
-fn describe(
-    core: &mut Core<NoRecords>,
-    conversation: u64,
-    statement: &Statement<'_>,
-    side: Side,
-) -> Answer {
-    let call = CoreCall::Describe { statement, side };
-    core.step(conversation, &call)
-}
-
 /// An XA call, as a SYNCCTL spells it.
 pub fn xa(core: &mut Core<NoRecords>, conversation: u64, spelled: Spelled, xid: &[u8]) -> Answer {
     let data = if xid.is_empty() { None } else { Some(xid) };
-    let request = Request::read(spelled.0, spelled.1, data);
-    core.step(conversation, &CoreCall::Xa(request))
+    core.xa(conversation, &Request::read(spelled.0, spelled.1, data))
 }
 
 /// What a conversation is answered. None where the statement itself finds no memory: nothing is asked then.
-pub fn ask(
+fn ask(
     alloc: Global,
     core: &mut Core<NoRecords>,
     conversation: u64,
     asked: &Ask,
 ) -> Option<Answer> {
     match asked {
-        Ask::Run(text) => {
-            let statement = parsed(alloc, text).ok()?;
-            Some(run(core, conversation, &statement, &[]))
-        }
-        Ask::Query(text) => {
-            let statement = parsed(alloc, text).ok()?;
-            Some(query(core, conversation, &statement, &[]))
-        }
+        Ask::Run(text) => ask_text(alloc, core, conversation, How::Run, text, &[]),
+        Ask::Query(text) => ask_text(alloc, core, conversation, How::Query, text, &[]),
         Ask::Describe(side, text) => {
-            let statement = parsed(alloc, text).ok()?;
-            Some(describe(core, conversation, &statement, *side))
+            ask_text(alloc, core, conversation, How::Describe(*side), text, &[])
         }
-        Ask::Commit => Some(core.step(conversation, &CoreCall::Commit)),
-        Ask::RollBack => Some(core.step(conversation, &CoreCall::Rollback)),
+        Ask::Commit => Some(core.commit(conversation)),
+        Ask::RollBack => Some(core.roll_back(conversation)),
         Ask::Xa(spelled, xid) => Some(xa(core, conversation, *spelled, xid)),
-        Ask::Lost => Some(core.step(conversation, &CoreCall::Lost)),
+        Ask::Lost => Some(core.lose(conversation)),
         Ask::Look => None,
     }
 }
@@ -167,14 +180,23 @@ pub fn call(alloc: Global, core: &mut Core<NoRecords>, call: &Call) -> Option<He
     }
 }
 
-/// How many of the calls are answered as they should be, up to the first that is not.
-pub fn call_all(alloc: Global, core: &mut Core<NoRecords>, calls: &[Call]) -> usize {
-    let mut answered: usize = 0;
-    for one in calls {
+/// The place of the first call that is not answered as it should be.
+pub fn first_wrong(alloc: Global, core: &mut Core<NoRecords>, calls: &[Call]) -> Option<usize> {
+    for (place, one) in calls.iter().enumerate() {
         if call(alloc, core, one) != Some(Heard::Right) {
-            break;
+            return Some(place);
         }
-        answered = answered.saturating_add(1);
     }
-    answered
+    None
+}
+
+/// The part and the place in it of the first call that a fresh core does not answer as it should.
+pub fn first_wrong_of(alloc: Global, parts: &[&[Call]]) -> Option<(usize, usize)> {
+    let mut core = Core::start(alloc, NoRecords);
+    for (part, calls) in parts.iter().enumerate() {
+        if let Some(place) = first_wrong(alloc, &mut core, calls) {
+            return Some((part, place));
+        }
+    }
+    None
 }

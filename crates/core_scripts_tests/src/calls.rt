@@ -30,7 +30,7 @@ pub const FORGET: Spelled = (0x06, None);
 
 pub const RECOVER: Spelled = (0x0C, None);
 
-/// XID data; none at all are no bytes.
+/// XID data; no bytes stand for none at all.
 pub type XidData = &'static [u8];
 
 /// Format 1, global part 47, branch part 42 (hexadecimal).
@@ -39,11 +39,11 @@ pub const FIRST: XidData = &[0, 0, 0, 1, 0, 0, 0, 1, 0, 0, 0, 1, 0x47, 0x42];
 /// Format 2, global part 61, no branch part.
 pub const SECOND: XidData = &[0, 0, 0, 2, 0, 0, 0, 1, 0, 0, 0, 0, 0x61];
 
-/// The null XID's format, -1.
-pub const NULL: XidData = &[0xFF, 0xFF, 0xFF, 0xFF, 0, 0, 0, 1, 0, 0, 0, 1, 0x47, 0x42];
+/// Format -1, that of the null XID.
+pub const NULL: XidData = &[0xFF, 0xFF, 0xFF, 0xFF, 0, 0, 0, 1, 0, 0, 0, 0, 0x47];
 
 /// What is asked.
-#[derive(Clone, Copy, Debug)]
+#[derive(Clone, Copy)]
 pub enum Ask {
     Run(&'static str),
     Query(&'static str),
@@ -52,7 +52,7 @@ pub enum Ask {
     RollBack,
     Xa(Spelled, XidData),
     Lost,
-    /// The state, and the branches in doubt, are looked at. No conversation asks this.
+    /// The state is looked at. No conversation asks this.
     Look,
 }
 
@@ -60,14 +60,14 @@ pub enum Ask {
 pub type Row = (i64, &'static str);
 
 /// Whose a unit is.
-#[derive(Clone, Copy, Debug)]
+#[derive(Clone, Copy)]
 pub enum Whose {
     Local(u64),
     Global(XidData),
 }
 
 /// What the state shows.
-#[derive(Clone, Copy, Debug)]
+#[derive(Clone, Copy)]
 pub struct State {
     /// The committed rows of T.
     pub rows: &'static [Row],
@@ -77,7 +77,7 @@ pub struct State {
 }
 
 /// What is told.
-#[derive(Clone, Copy, Debug)]
+#[derive(Clone, Copy)]
 pub enum Told {
     Count(u32),
     Rows(&'static [Row]),
@@ -93,6 +93,15 @@ pub enum Told {
     InDoubt(&'static [XidData]),
     State(State),
 }
+
+/// XA_OK.
+pub const OK: Told = Told::Code(0);
+
+pub const NONE: Told = Told::Count(0);
+
+pub const ONE: Told = Told::Count(1);
+
+pub const NO_ROW: Told = Told::Rows(&[]);
 
 /// Another unit claims what the statement would read or write.
 pub const CLAIMED: Told = Told::Refused(-913, *b"57033");
@@ -116,3 +125,28 @@ pub type Call = (u64, Ask, Told);
 pub const CREATE: Ask = Ask::Run(
     "CREATE TABLE T (K INTEGER NOT NULL, V VARCHAR(600), PRIMARY KEY (K))",
 );
+
+/// A table besides.
+pub const CREATE_U: Ask = Ask::Run("CREATE TABLE U (A INTEGER, PRIMARY KEY (A))");
+
+pub const READ_ALL: Ask = Ask::Query("SELECT * FROM T");
+
+pub const READ_1: Ask = Ask::Query("SELECT * FROM T WHERE K = 1");
+
+pub const INSERT_1: Ask = Ask::Run("INSERT INTO T VALUES (1, 'a')");
+
+pub const INSERT_2: Ask = Ask::Run("INSERT INTO T VALUES (2, 'b')");
+
+pub const INSERT_3: Ask = Ask::Run("INSERT INTO T VALUES (3, 'c')");
+
+pub const UPDATE_1: Ask = Ask::Run("UPDATE T SET V = 'x' WHERE K = 1");
+
+pub const UPDATE_2: Ask = Ask::Run("UPDATE T SET V = 'x' WHERE K = 2");
+
+/// T has the keys 1 and 2.
+pub const TABLE: &'static [Call] = &[
+    (9, CREATE, NONE),
+    (9, INSERT_1, ONE),
+    (9, INSERT_2, ONE),
+    (9, Ask::Commit, Told::Done),
+];

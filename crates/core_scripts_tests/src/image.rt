@@ -1,4 +1,4 @@
-//! A core's whole state as bytes: two states are equal exactly where these are.
+//! A core's whole state as bytes.
 
 use rdb_core::Core;
 use recording::NoRecords;
@@ -7,8 +7,8 @@ use tables::{PlainView, TableView};
 use unit_table::{Owner, PlainUnit};
 use xa_manager::{Branch, BranchState};
 
-// The tables that the script has, and one that it has not.
-const TABLES: [&'static str; 3] = ["T", "U", "W"];
+// The tables of the script.
+const TABLES: [&'static str; 2] = ["T", "U"];
 
 fn put_number(out: &mut Vec<u8>, mark: u8, number: u64) -> Result<(), AllocError> {
     out.push(mark)?;

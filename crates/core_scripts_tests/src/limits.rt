@@ -1,10 +1,11 @@
 //! Limits, reached and passed.
 
-use crate::asking::{Heard, call_all, hear, query, run, xa};
+use crate::asking::{Heard, first_wrong, hear, query, run, xa};
 use crate::calls::{
-    Ask, CLAIMED, CREATE, Call, KEY_EXISTS, LIMIT, PREPARE, ROLL_BACK, START, SUCCESS, Spelled,
-    State, Told, Whose,
+    Ask, CLAIMED, CREATE, CREATE_U, Call, KEY_EXISTS, LIMIT, NO_ROW, NONE, ONE, PREPARE, ROLL_BACK,
+    START, SUCCESS, Spelled, State, Told, Whose,
 };
+use core_calls::Answer;
 use rdb_core::Core;
 use recording::NoRecords;
 use row_values::Value;
@@ -20,11 +21,10 @@ fn parsed<'a>(alloc: Global, text: &'a str) -> Result<Statement<'a>, SqlError> {
 // A core with an empty table, if it could be created.
 fn with_table(alloc: Global, create: Ask) -> Option<Core<NoRecords>> {
     let mut core = Core::start(alloc, NoRecords);
-    let calls: [Call; 2] = [(1, create, Told::Count(0)), (1, Ask::Commit, Told::Done)];
-    if call_all(alloc, &mut core, &calls) == 2 {
-        Some(core)
-    } else {
-        None
+    let calls: [Call; 2] = [(1, create, NONE), (1, Ask::Commit, Told::Done)];
+    match first_wrong(alloc, &mut core, &calls) {
+        None => Some(core),
+        Some(_) => None,
     }
 }
 
@@ -34,36 +34,33 @@ fn read_keys(alloc: Global, core: &mut Core<NoRecords>, count: i64) -> Option<bo
     let mut all = true;
     for key in 0..count {
         let answer = query(core, 1, &statement, &[Value::Number(key)]);
-        all = all && hear(answer, &Told::Rows(&[])) == Heard::Right;
+        all = all && hear(answer, &NO_ROW) == Heard::Right;
     }
     Some(all)
 }
 
+const AT_THE_LIMIT: State = State {
+    rows: &[],
+    units: &[(Whose::Local(1), 0, 65_535), (Whose::Local(2), 1, 1)],
+    branches: &[],
+};
+
+const READ_LAST: Ask = Ask::Query("SELECT * FROM T WHERE K = 65534");
+
+const WRITE_LAST: Ask = Ask::Run("DELETE FROM T WHERE K = 65534");
+
+const READ_NEXT: Ask = Ask::Query("SELECT * FROM T WHERE K = 65535");
+
+const INSERT_NEXT: Ask = Ask::Run("INSERT INTO T VALUES (65535, 'a')");
+
 // One more claim is refused and not kept; what is claimed already costs nothing.
-const CLAIMS: [Call; 7] = [
-    (1, Ask::Query("SELECT * FROM T WHERE K = 65535"), LIMIT),
-    (
-        1,
-        Ask::Query("SELECT * FROM T WHERE K = 65534"),
-        Told::Rows(&[]),
-    ),
-    (1, Ask::Run("INSERT INTO T VALUES (65535, 'a')"), LIMIT),
-    (2, Ask::Run("DELETE FROM T WHERE K = 65534"), CLAIMED),
-    (
-        2,
-        Ask::Run("INSERT INTO T VALUES (65535, 'a')"),
-        Told::Count(1),
-    ),
-    (
-        0,
-        Ask::Look,
-        Told::State(State {
-            rows: &[],
-            units: &[(Whose::Local(1), 0, 65_535), (Whose::Local(2), 1, 1)],
-            branches: &[],
-        }),
-    ),
-    (1, Ask::Commit, Told::Done),
+const CLAIMS: [Call; 6] = [
+    (1, READ_NEXT, LIMIT),
+    (1, INSERT_NEXT, LIMIT),
+    (1, READ_LAST, NO_ROW),
+    (2, WRITE_LAST, CLAIMED),
+    (2, INSERT_NEXT, ONE),
+    (0, Ask::Look, Told::State(AT_THE_LIMIT)),
 ];
 
 #[test]
@@ -72,7 +69,7 @@ fn a_unit_has_65535_claims(rt: HostRuntime) -> Result<(), Fail> {
         return Err("no table")?;
     };
     assert_eq!(rt; read_keys(rt.alloc(), &mut core, 65_535), Some(true));
-    assert_eq!(rt; call_all(rt.alloc(), &mut core, &CLAIMS), CLAIMS.len());
+    assert_eq!(rt; first_wrong(rt.alloc(), &mut core, &CLAIMS), None);
     Ok(())
 }
 
@@ -125,17 +122,31 @@ fn changes(core: &Core<NoRecords>) -> Option<(usize, usize)> {
     Some((unit.changes.len(), bytes))
 }
 
+const DELETE_1: Ask = Ask::Run("DELETE FROM T WHERE K = 1");
+
+const INSERT_AGAIN: Ask = Ask::Run("INSERT INTO T VALUES (1, '', '')");
+
+const READ_REFUSED: Ask = Ask::Query("SELECT * FROM T WHERE K = 262");
+
+const DELETE_OTHER: Ask = Ask::Run("DELETE FROM T WHERE K = 263");
+
 // No change has room any more. The row that had none is claimed all the same.
 const NO_ROOM: [Call; 5] = [
-    (1, Ask::Run("DELETE FROM T WHERE K = 1"), LIMIT),
-    (
-        1,
-        Ask::Run("CREATE TABLE U (A INTEGER, PRIMARY KEY (A))"),
-        LIMIT,
-    ),
-    (1, Ask::Run("INSERT INTO T VALUES (1, '', '')"), KEY_EXISTS),
-    (2, Ask::Query("SELECT * FROM T WHERE K = 262"), CLAIMED),
-    (2, Ask::Run("DELETE FROM T WHERE K = 263"), Told::Count(0)),
+    (1, DELETE_1, LIMIT),
+    (1, CREATE_U, LIMIT),
+    (1, INSERT_AGAIN, KEY_EXISTS),
+    (2, READ_REFUSED, CLAIMED),
+    (2, DELETE_OTHER, NONE),
+];
+
+// The keys from and to, the length of the second text, what is told, and how many changes and bytes
+// there are then.
+type Step = ((i64, i64), usize, Told, (usize, usize));
+
+const STEPS: [Step; 3] = [
+    ((0, 261), 1_989, ONE, (261, 1_045_305)),
+    ((262, 263), 1_256, LIMIT, (261, 1_045_305)),
+    ((261, 262), 1_255, ONE, (262, 1_048_576)),
 ];
 
 // 261 changes of 4,005 bytes and one of 3,271.
@@ -144,24 +155,14 @@ fn a_unit_has_1048576_bytes_of_changes(rt: HostRuntime) -> Result<(), Fail> {
     let Some(mut core) = with_table(rt.alloc(), CREATE_LONG) else {
         return Err("no table")?;
     };
-    let steps: [((i64, i64), usize, Told, (usize, usize)); 3] = [
-        ((0, 261), 1_989, Told::Count(1), (261, 1_045_305)),
-        ((262, 263), 1_256, LIMIT, (261, 1_045_305)),
-        ((261, 262), 1_255, Told::Count(1), (262, 1_048_576)),
-    ];
-    for (keys, length, told, left) in steps {
-        assert_eq!(rt;
-            put_rows(rt.alloc(), &mut core, keys, length, &told),
-            Some(true)
-        );
+    for (keys, length, told, left) in STEPS {
+        let is_right = put_rows(rt.alloc(), &mut core, keys, length, &told);
+        assert_eq!(rt; is_right, Some(true));
         assert_eq!(rt; changes(&core), Some(left));
     }
-    assert_eq!(rt; call_all(rt.alloc(), &mut core, &NO_ROOM), NO_ROOM.len());
+    assert_eq!(rt; first_wrong(rt.alloc(), &mut core, &NO_ROOM), None);
     assert_eq!(rt; changes(&core), Some((262, 1_048_576)));
-    assert_eq!(rt;
-        call_all(rt.alloc(), &mut core, &[(1, Ask::Commit, Told::Done)]),
-        1
-    );
+    assert!(rt; matches!(core.commit(1), Answer::Done));
     Ok(())
 }
 
@@ -172,22 +173,27 @@ fn create(alloc: Global, core: &mut Core<NoRecords>, number: u32, told: &Told) -
     Some(hear(run(core, 1, &statement, &[]), told) == Heard::Right)
 }
 
+// Conversation 1 creates the tables of these numbers and commits. Whether it could.
+fn create_all(alloc: Global, core: &mut Core<NoRecords>, numbers: (u32, u32)) -> Option<bool> {
+    let mut all = true;
+    for number in numbers.0..numbers.1 {
+        all = create(alloc, core, number, &NONE)? && all;
+    }
+    Some(all && matches!(core.commit(1), Answer::Done))
+}
+
 // A unit counts its own tables too.
 #[test]
 fn a_store_has_1000_tables(rt: HostRuntime) -> Result<(), Fail> {
     let mut core = Core::start(rt.alloc(), NoRecords);
-    let commit: [Call; 1] = [(1, Ask::Commit, Told::Done)];
-    for number in 0..1_000 {
-        let is_created = create(rt.alloc(), &mut core, number, &Told::Count(0));
-        assert_eq!(rt; is_created, Some(true), "{number}");
-        if number == 499 {
-            assert_eq!(rt; call_all(rt.alloc(), &mut core, &commit), 1);
-        }
+    for numbers in [(0, 400), (400, 999)] {
+        assert_eq!(rt; create_all(rt.alloc(), &mut core, numbers), Some(true));
     }
-    for _ in 0..2 {
-        assert_eq!(rt; create(rt.alloc(), &mut core, 1_000, &LIMIT), Some(true));
-        assert_eq!(rt; call_all(rt.alloc(), &mut core, &commit), 1);
+    for (number, told) in [(999, NONE), (1_000, LIMIT), (1_001, LIMIT)] {
+        assert_eq!(rt; create(rt.alloc(), &mut core, number, &told), Some(true));
     }
+    assert!(rt; matches!(core.commit(1), Answer::Done));
+    assert_eq!(rt; create(rt.alloc(), &mut core, 1_000, &LIMIT), Some(true));
     assert_eq!(rt; core.plain()?.into_tables().tables().ok(), Some(1_000));
     Ok(())
 }
@@ -205,6 +211,14 @@ fn branches(core: &Core<NoRecords>) -> Option<(usize, usize)> {
     Some((known, core.in_doubt().ok()?.as_slice().len()))
 }
 
+// What is asked of the branch of a number, the code, and how many branches are known then.
+const BEYOND: [(Spelled, u16, i32, usize); 4] = [
+    (START, 1_024, -3, 1_024),
+    (START, 7, -8, 1_024),
+    (ROLL_BACK, 7, 0, 1_023),
+    (START, 1_024, 0, 1_024),
+];
+
 #[test]
 fn branches_known_are_1024(rt: HostRuntime) {
     let mut core = Core::start(rt.alloc(), NoRecords);
@@ -212,13 +226,7 @@ fn branches_known_are_1024(rt: HostRuntime) {
         assert!(rt; ask(&mut core, START, number, 0), "{number}");
         assert!(rt; ask(&mut core, SUCCESS, number, 0), "{number}");
     }
-    let steps: [(Spelled, u16, i32, usize); 4] = [
-        (START, 1_024, -3, 1_024),
-        (START, 7, -8, 1_024),
-        (ROLL_BACK, 7, 0, 1_023),
-        (START, 1_024, 0, 1_024),
-    ];
-    for (spelled, number, code, known) in steps {
+    for (spelled, number, code, known) in BEYOND {
         assert!(rt; ask(&mut core, spelled, number, code), "{number}");
         assert_eq!(rt; branches(&core), Some((known, 0)));
     }
@@ -229,7 +237,7 @@ fn prepare(alloc: Global, core: &mut Core<NoRecords>, number: u16, code: i32) ->
     let statement = parsed(alloc, "INSERT INTO T VALUES (?, 'v')").ok()?;
     let is_started = ask(core, START, number, 0);
     let answer = run(core, 1, &statement, &[Value::Number(i64::from(number))]);
-    let is_put = hear(answer, &Told::Count(1)) == Heard::Right;
+    let is_put = hear(answer, &ONE) == Heard::Right;
     let is_left = ask(core, SUCCESS, number, 0);
     let is_prepared = ask(core, PREPARE, number, code);
     Some(is_started && is_put && is_left && is_prepared)
@@ -242,11 +250,8 @@ fn branches_in_doubt_are_256(rt: HostRuntime) -> Result<(), Fail> {
         return Err("no table")?;
     };
     for number in 0..256 {
-        assert_eq!(rt;
-            prepare(rt.alloc(), &mut core, number, 0),
-            Some(true),
-            "{number}"
-        );
+        let is_right = prepare(rt.alloc(), &mut core, number, 0);
+        assert_eq!(rt; is_right, Some(true), "{number}");
     }
     assert_eq!(rt; prepare(rt.alloc(), &mut core, 256, -3), Some(true));
     assert_eq!(rt; branches(&core), Some((257, 256)));

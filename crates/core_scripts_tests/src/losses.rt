@@ -1,28 +1,27 @@
 //! Lost conversations.
 
-use crate::asking::call_all;
+use crate::asking::first_wrong_of;
 use crate::calls::{
-    Ask, CREATE, Call, FAIL, FIRST, JOIN, PREPARE, SECOND, START, SUCCESS, State, Told, Whose,
+    Ask, CREATE, Call, FAIL, FIRST, INSERT_1, INSERT_2, JOIN, NONE, OK, ONE, PREPARE, SECOND,
+    START, SUCCESS, State, Told, Whose,
 };
-use rdb_core::Core;
-use recording::NoRecords;
 use xa_manager::BranchState;
 
-const DONE: Told = Told::Code(0);
+const CREATED: &'static [Call] = &[(9, CREATE, NONE), (9, Ask::Commit, Told::Done)];
 
-const ONE: Told = Told::Count(1);
+const BEGIN: Call = (1, Ask::Xa(START, FIRST), OK);
 
-const CREATED: [Call; 2] = [(9, CREATE, Told::Count(0)), (9, Ask::Commit, Told::Done)];
+const CHANGE: Call = (1, INSERT_1, ONE);
 
-const BEGIN: Call = (1, Ask::Xa(START, FIRST), DONE);
+const LEAVE: Call = (1, Ask::Xa(SUCCESS, FIRST), OK);
 
-const LEAVE: Call = (1, Ask::Xa(SUCCESS, FIRST), DONE);
+const JOIN_2: Call = (2, Ask::Xa(JOIN, FIRST), OK);
 
-const INSERT_1: Call = (1, Ask::Run("INSERT INTO T VALUES (1, 'a')"), ONE);
+const CHANGE_2: Call = (2, INSERT_2, ONE);
 
-const INSERT_2: Call = (1, Ask::Run("INSERT INTO T VALUES (2, 'b')"), ONE);
+const LEAVE_2: Call = (2, Ask::Xa(SUCCESS, FIRST), OK);
 
-const OTHERS_INSERT: Call = (2, Ask::Run("INSERT INTO T VALUES (2, 'b')"), ONE);
+const LOST: Call = (1, Ask::Lost, Told::Done);
 
 const NOTHING: State = State {
     rows: &[],
@@ -30,100 +29,88 @@ const NOTHING: State = State {
     branches: &[],
 };
 
-// The first branch, with its one row.
-const PREPARED: State = State {
-    units: &[(Whose::Global(FIRST), 1, 1)],
-    branches: &[(FIRST, BranchState::Prepared)],
-    ..NOTHING
+const WORK_OF_2: State = State {
+    rows: &[],
+    units: &[(Whose::Local(2), 1, 1)],
+    branches: &[],
 };
 
-// What is done before conversation 1 is lost, and what then is left.
-const LOSSES: [(&'static [Call], State); 8] = [
-    // Local work goes.
-    (&[INSERT_1], NOTHING),
-    // That of another stays.
+const PREPARED: State = State {
+    rows: &[],
+    units: &[(Whose::Global(FIRST), 1, 1)],
+    branches: &[(FIRST, BranchState::Prepared)],
+};
+
+const IDLE_OF_2: State = State {
+    rows: &[],
+    units: &[(Whose::Global(FIRST), 1, 1)],
+    branches: &[(FIRST, BranchState::Idle(2))],
+};
+
+const ACTIVE_OF_2: State = State {
+    rows: &[],
+    units: &[(Whose::Global(FIRST), 1, 1)],
+    branches: &[(FIRST, BranchState::Active(2))],
+};
+
+const COMMITTED: State = State {
+    rows: &[(1, "a")],
+    units: &[],
+    branches: &[],
+};
+
+// What conversations 1 and 2 do before 1 is lost, and what then is left.
+const LOSSES: [(&'static [Call], State); 7] = [
+    // The local work of 1 goes, that of 2 and what is committed stay.
+    (&[CHANGE_2, CHANGE, LOST], WORK_OF_2),
     (
-        &[OTHERS_INSERT, INSERT_1],
-        State {
-            units: &[(Whose::Local(2), 1, 1)],
-            ..NOTHING
-        },
+        &[
+            CHANGE,
+            (1, Ask::Commit, Told::Done),
+            (1, INSERT_2, ONE),
+            LOST,
+        ],
+        COMMITTED,
     ),
-    // A branch that it is joined to goes.
-    (&[BEGIN, INSERT_1], NOTHING),
-    // One that can only be rolled back goes, and an idle one that it was the last to join.
+    // A branch that 1 is joined to goes.
+    (&[BEGIN, CHANGE, LOST], NOTHING),
+    // One that can only be rolled back goes, and an idle one that 1 was the last to join.
     (
         &[
             BEGIN,
-            INSERT_1,
-            (1, Ask::Xa(FAIL, FIRST), DONE),
-            (2, Ask::Xa(START, SECOND), DONE),
-            OTHERS_INSERT,
-            (2, Ask::Xa(SUCCESS, SECOND), DONE),
-            (1, Ask::Xa(JOIN, SECOND), DONE),
-            (1, Ask::Xa(SUCCESS, SECOND), DONE),
+            CHANGE,
+            (1, Ask::Xa(FAIL, FIRST), OK),
+            (2, Ask::Xa(START, SECOND), OK),
+            CHANGE_2,
+            (2, Ask::Xa(SUCCESS, SECOND), OK),
+            (1, Ask::Xa(JOIN, SECOND), OK),
+            (1, Ask::Xa(SUCCESS, SECOND), OK),
+            LOST,
         ],
         NOTHING,
     ),
-    // A prepared one stays with its claims, the local work behind it goes.
+    // A prepared one stays with its claims; the local work behind it goes.
     (
         &[
             BEGIN,
-            INSERT_1,
+            CHANGE,
             LEAVE,
-            (1, Ask::Xa(PREPARE, FIRST), DONE),
-            INSERT_2,
+            (1, Ask::Xa(PREPARE, FIRST), OK),
+            (1, INSERT_2, ONE),
+            LOST,
         ],
         PREPARED,
     ),
-    // One that another was the last to join stays.
-    (
-        &[
-            BEGIN,
-            INSERT_1,
-            LEAVE,
-            (2, Ask::Xa(JOIN, FIRST), DONE),
-            (2, Ask::Xa(SUCCESS, FIRST), DONE),
-        ],
-        State {
-            branches: &[(FIRST, BranchState::Idle(2))],
-            ..PREPARED
-        },
-    ),
-    // And one that another is joined to.
-    (
-        &[BEGIN, INSERT_1, LEAVE, (2, Ask::Xa(JOIN, FIRST), DONE)],
-        State {
-            branches: &[(FIRST, BranchState::Active(2))],
-            ..PREPARED
-        },
-    ),
-    // What is committed stays.
-    (
-        &[INSERT_1, (1, Ask::Commit, Told::Done), INSERT_2],
-        State {
-            rows: &[(1, "a")],
-            ..NOTHING
-        },
-    ),
+    // One that 2 was the last to join stays, and one that 2 is joined to.
+    (&[BEGIN, CHANGE, LEAVE, JOIN_2, LEAVE_2, LOST], IDLE_OF_2),
+    (&[BEGIN, CHANGE, LEAVE, JOIN_2, LOST], ACTIVE_OF_2),
 ];
 
 #[test]
 fn what_is_left_of_a_lost_conversation(rt: HostRuntime) {
-    for (calls, left) in LOSSES {
-        let mut core = Core::start(rt.alloc(), NoRecords);
-        let loss: [Call; 2] = [
-            (1, Ask::Lost, Told::Done),
-            (0, Ask::Look, Told::State(left)),
-        ];
-        for part in [CREATED.as_slice(), calls, loss.as_slice()] {
-            let answered = call_all(rt.alloc(), &mut core, part);
-            assert_eq!(rt;
-                answered,
-                part.len(),
-                "{:?} of {calls:?}",
-                part.get(answered)
-            );
-        }
+    for (number, (calls, left)) in LOSSES.iter().enumerate() {
+        let look: [Call; 1] = [(0, Ask::Look, Told::State(*left))];
+        let wrong = first_wrong_of(rt.alloc(), &[CREATED, calls, &look]);
+        assert_eq!(rt; wrong, None, "loss {number}");
     }
 }

@@ -1,4 +1,4 @@
-//! The script of every kind of call, with ample memory or one allocation refused.
+//! The script of every kind of call, with ample memory or with one allocation refused.
 
 use crate::patience::{SCRIPT, Went, go};
 use rdb_core::Core;
@@ -7,11 +7,11 @@ use recording::NoRecords;
 #[test]
 fn calls_are_answered_when_asked_again(rt: HostRuntime) {
     let mut core = Core::start(rt.alloc(), NoRecords);
-    for call in SCRIPT {
+    for (place, call) in SCRIPT.iter().enumerate() {
         let went = go(rt.alloc(), &mut core, call);
         assert!(rt;
             went == Some(Went::Well) || went == Some(Went::WellAgain),
-            "{call:?}"
+            "{place}"
         );
     }
 }
