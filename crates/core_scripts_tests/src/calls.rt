@@ -94,7 +94,6 @@ pub enum Told {
     State(State),
 }
 
-/// XA_OK.
 pub const OK: Told = Told::Code(0);
 
 pub const NONE: Told = Told::Count(0);
@@ -103,19 +102,16 @@ pub const ONE: Told = Told::Count(1);
 
 pub const NO_ROW: Told = Told::Rows(&[]);
 
-/// Another unit claims what the statement would read or write.
+// Why a statement is refused: another unit claims its rows, a limit is reached, the key is there, no table
+// has the name, or no column.
 pub const CLAIMED: Told = Told::Refused(-913, *b"57033");
 
-/// A limit is reached.
 pub const LIMIT: Told = Told::Refused(-904, *b"57011");
 
-/// A row of this key is there.
 pub const KEY_EXISTS: Told = Told::Refused(-803, *b"23505");
 
-/// No table has this name.
 pub const NO_TABLE: Told = Told::Refused(-204, *b"42704");
 
-/// The table has no column of this name.
 pub const NO_COLUMN: Told = Told::Refused(-206, *b"42703");
 
 /// Who asks what, and what is told.

@@ -20,6 +20,8 @@ const DESCRIBE_U: Ask = Ask::Describe(Side::Input, "SELECT A FROM U");
 
 const ROW_1: Told = Told::Rows(&[(1, "a")]);
 
+const ROW_3: Told = Told::Rows(&[(3, "c")]);
+
 // Readers don't clash, nor does a unit with itself, nor do different keys.
 const CLASHES: &'static [Call] = &[
     (1, READ_5, NO_ROW),
@@ -61,44 +63,22 @@ const HELD: Call = (2, WRITE_5, CLAIMED);
 
 const FREE: Call = (2, WRITE_5, NONE);
 
-// Each end of a unit gives its claims up, those to read too.
-const COMMITTED: &'static [Call] = &[READ, HELD, (1, Ask::Commit, Told::Done), FREE];
+const COMMIT_1: Call = (1, Ask::Commit, Told::Done);
 
-const ROLLED_BACK: &'static [Call] = &[READ, HELD, (1, Ask::RollBack, Told::Done), FREE];
+const ROLL_BACK_1: Call = (1, Ask::RollBack, Told::Done);
 
-const LOST: &'static [Call] = &[READ, HELD, (1, Ask::Lost, Told::Done), FREE];
+const LOSE_1: Call = (1, Ask::Lost, Told::Done);
 
-const LOST_BRANCH: &'static [Call] = &[BEGIN, READ, HELD, (1, Ask::Lost, Told::Done), FREE];
+const PREPARE_2: Call = (2, Ask::Xa(PREPARE, FIRST), Told::Code(3));
 
-const READ_ONLY: &'static [Call] = &[
-    BEGIN,
-    READ,
-    LEAVE,
-    HELD,
-    (2, Ask::Xa(PREPARE, FIRST), Told::Code(3)),
-    FREE,
-];
+const ONE_PHASE_2: Call = (2, Ask::Xa(ONE_PHASE, FIRST), OK);
 
-const ONE_PHASE_BRANCH: &'static [Call] = &[
-    BEGIN,
-    READ,
-    LEAVE,
-    HELD,
-    (2, Ask::Xa(ONE_PHASE, FIRST), OK),
-    FREE,
-];
+const ROLL_BACK_2: Call = (2, Ask::Xa(ROLL_BACK, FIRST), OK);
 
-const BRANCH_BACK: &'static [Call] = &[
-    BEGIN,
-    READ,
-    LEAVE,
-    HELD,
-    (2, Ask::Xa(ROLL_BACK, FIRST), OK),
-    FREE,
-];
+const COMMIT_2: Call = (2, Ask::Xa(COMMIT, FIRST), OK);
 
 // A prepare keeps them all, against the conversation that made them too.
-const PREPARED: [Call; 9] = [
+const PREPARED: &'static [Call] = &[
     BEGIN,
     READ,
     (1, INSERT_3, ONE),
@@ -110,30 +90,19 @@ const PREPARED: [Call; 9] = [
     (2, READ_3, CLAIMED),
 ];
 
-const DECIDED: &'static [Call] = &[
-    (2, Ask::Xa(COMMIT, FIRST), OK),
-    FREE,
-    (2, READ_3, Told::Rows(&[(3, "c")])),
-];
-
-const UNDECIDED: &'static [Call] = &[
-    (2, Ask::Xa(ROLL_BACK, FIRST), OK),
-    FREE,
-    (2, READ_3, NO_ROW),
-];
-
+// Each end of a unit gives its claims up, those to read too.
 const SCRIPTS: [[&'static [Call]; 2]; 11] = [
     [CLASHES, &[]],
     [REFUSED, &[]],
-    [COMMITTED, &[]],
-    [ROLLED_BACK, &[]],
-    [LOST, &[]],
-    [LOST_BRANCH, &[]],
-    [READ_ONLY, &[]],
-    [ONE_PHASE_BRANCH, &[]],
-    [BRANCH_BACK, &[]],
-    [&PREPARED, DECIDED],
-    [&PREPARED, UNDECIDED],
+    [&[READ, HELD, COMMIT_1, FREE], &[]],
+    [&[READ, HELD, ROLL_BACK_1, FREE], &[]],
+    [&[READ, HELD, LOSE_1, FREE], &[]],
+    [&[BEGIN, READ, HELD, LOSE_1, FREE], &[]],
+    [&[BEGIN, READ, LEAVE, HELD, PREPARE_2, FREE], &[]],
+    [&[BEGIN, READ, LEAVE, HELD, ONE_PHASE_2, FREE], &[]],
+    [&[BEGIN, READ, LEAVE, HELD, ROLL_BACK_2, FREE], &[]],
+    [PREPARED, &[COMMIT_2, FREE, (2, READ_3, ROW_3)]],
+    [PREPARED, &[ROLL_BACK_2, FREE, (2, READ_3, NO_ROW)]],
 ];
 
 #[test]
