@@ -1,9 +1,10 @@
 //! What conversations answer to SQL commands.
 
-use crate::fixtures::{Scripted, bytes_of};
+use crate::fixtures::Scripted;
 use conversation::{Front, Need, Settings};
 use std::alloc::Global;
 use std::test::Fail;
+use test_bytes::bytes_of;
 
 // EXCSAT with UNICODEMGR 1208, ACCSEC, SECCHK of ana with the password pw, and ACCRDB of SHOP.
 const EXCSAT: &str = "0016 D001 0001 0010 1041 000C 1404 1C08 04B8 1403 0007";
