@@ -131,7 +131,7 @@ impl Settings {
     }
 
     /// A copy, or AllocError where memory is refused.
-    pub fn copied(&self, alloc: Global) -> Result<Settings, AllocError>
+    pub fn copy(&self, alloc: Global) -> Result<Settings, AllocError>
         ensures { IfOk result (λ s. s ≡ self.now) }
     {
         Ok(Settings {

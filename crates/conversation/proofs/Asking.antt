@@ -11,7 +11,7 @@ use Rattle.drda_commands.specs.declared.stage.Stage.TheVariants.{Fresh, Known, A
 use Rattle.drda_commands.specs.declared.table.Command.{Command}
 use Rattle.drda_commands.specs.declared.table.Command.TheVariants.{Excsat, Accsec, Secchk, Accrdb, Excsqlimm, Prpsqlstt, Dscsqlstt, Excsqlstt, Opnqry, Cntqry, Clsqry, Rdbcmm, Rdbrllbck, Syncctl}
 use Rattle.drda_commands.specs.Given.{Given, contents_of}
-use Rattle.drda_commands.specs.Judge.{Accepted, ◌>>=◌, command_object, is_known, is_due, is_whole, none_twice, none_missing, none_bad, judged}
+use Rattle.drda_commands.specs.Judge.{Accepted, ◌>>=◌, command_object, known_or_refused, due_or_refused, whole_or_refused, none_twice, none_missing, none_bad, judged}
 use Rattle.drda_commands.specs.Tables.{command_for, items_for}
 use Rattle.exchanges.specs.Done.{WasDone}
 use Rattle.access_exchange.specs.declared.session.Session.{Session}
@@ -34,23 +34,23 @@ command_in (Ok accepted) = accepted.command
 command_in (Err refusal) = Excsat
 
 pub accepted_due : (stage : Stage) (unicode : Bool) (contents : List ℕ) (objects : List (List ℕ)) (accepted : Accepted)
-    → judged stage unicode contents objects ≡ Ok accepted → is_due accepted.command stage ≡ Ok tt
+    → judged stage unicode contents objects ≡ Ok accepted → due_or_refused accepted.command stage ≡ Ok tt
 accepted_due stage unicode contents objects accepted e =
     let (o, e1, i1) = bind_ok (command_object contents) _ accepted e in
-    let (command, e2, i2) = bind_ok (is_known o.code (command_for o.code)) _ accepted e1 in
-    let (due, e3, i3) = bind_ok (is_due command stage) _ accepted e2 in
+    let (command, e2, i2) = bind_ok (known_or_refused o.code (command_for o.code)) _ accepted e1 in
+    let (due, e3, i3) = bind_ok (due_or_refused command stage) _ accepted e2 in
     let given : Given = record { parameters = o.value; objects = objects } in
-    let (whole, e5, i5) = bind_ok (is_whole command given) _ accepted e3 in
+    let (whole, e5, i5) = bind_ok (whole_or_refused command given) _ accepted e3 in
     let (single, e6, i6) = bind_ok (none_twice (items_for command) given) _ accepted e5 in
     let (present, e7, i7) = bind_ok (none_missing (items_for command) given) _ accepted e6 in
     let (fit, e8, i8) = bind_ok (none_bad unicode (items_for command) given) _ accepted e7 in
     let same : command ≡ accepted.command = ap command_in e8 in
-    subst (λ (c : Command). is_due c stage ≡ Ok tt) same i3
+    subst (λ (c : Command). due_or_refused c stage ≡ Ok tt) same i3
 
 -- ---- an SQL command is due only where the database is opened
 
-by_stage : (command : Command) → is_due command Fresh ≡ Err RdbNotAccessed → is_due command Known ≡ Err RdbNotAccessed → ((m : Mechanism) → is_due command (Asked m) ≡ Err RdbNotAccessed)
-    → is_due command Checked ≡ Err RdbNotAccessed → (stage : Stage) → is_due command stage ≡ Ok tt → stage ≡ Opened
+by_stage : (command : Command) → due_or_refused command Fresh ≡ Err RdbNotAccessed → due_or_refused command Known ≡ Err RdbNotAccessed → ((m : Mechanism) → due_or_refused command (Asked m) ≡ Err RdbNotAccessed)
+    → due_or_refused command Checked ≡ Err RdbNotAccessed → (stage : Stage) → due_or_refused command stage ≡ Ok tt → stage ≡ Opened
 by_stage command a b c d Fresh e = let clash : Err RdbNotAccessed ≡ Ok tt = sym a ∙ e in absurd (cc clash)
 by_stage command a b c d Known e = let clash : Err RdbNotAccessed ≡ Ok tt = sym b ∙ e in absurd (cc clash)
 by_stage command a b c d (Asked m) e = let clash : Err RdbNotAccessed ≡ Ok tt = sym (c m) ∙ e in absurd (cc clash)
@@ -61,7 +61,7 @@ by_stage command a b c d Opened e = refl
 abbrev AtOnceOr : Settings → Session → Command → Given → Type 0
 AtOnceOr settings session command given = ((a : Answer) × (access_done settings session command given ≡ Some a)) ⊎ (session.stage ≡ Opened)
 
-at_once_or_opened : (settings : Settings) (session : Session) (command : Command) (given : Given) → is_due command session.stage ≡ Ok tt → AtOnceOr settings session command given
+at_once_or_opened : (settings : Settings) (session : Session) (command : Command) (given : Given) → due_or_refused command session.stage ≡ Ok tt → AtOnceOr settings session command given
 at_once_or_opened settings session Excsat given e = inl (_, refl)
 at_once_or_opened settings session Accsec given e = inl (_, refl)
 at_once_or_opened settings session Secchk given e = inl (_, refl)

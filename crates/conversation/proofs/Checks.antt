@@ -13,7 +13,7 @@ use Rattle.drda_commands.specs.declared.table.Command.{Command}
 use Rattle.drda_commands.specs.declared.table.Command.TheVariants.{Excsat, Accsec, Secchk, Accrdb, Syncctl}
 use Rattle.drda_commands.specs.declared.table.ItemKind.TheVariants.{Parameter}
 use Rattle.drda_commands.specs.Given.{Given, contents_of, found_at}
-use Rattle.drda_commands.specs.Judge.{Accepted, is_due}
+use Rattle.drda_commands.specs.Judge.{Accepted, due_or_refused}
 use Rattle.access_exchange.specs.declared.session.Session.{Session}
 use Rattle.conversation.specs.Done.{Does, DoesAll, Exchanges, IsExcused, IsFollowed}
 use Rattle.access_exchange.specs.Access.{Answer, access_done, asked_for, bytes_of, check_code, is_ours, known_from, mechanism_for, refused}
@@ -37,7 +37,7 @@ both : {P : Type 0} (b : Bool) → b ≡ true → b ≡ false → P
 both b so not = let clash : true ≡ false = sym so ∙ not in absurd (cc clash)
 
 -- ACCRDB comes only where the user was checked
-accrdb_due : (stage : Stage) → is_due Accrdb stage ≡ Ok tt → is_checked stage ≡ true
+accrdb_due : (stage : Stage) → due_or_refused Accrdb stage ≡ Ok tt → is_checked stage ≡ true
 accrdb_due Fresh e = absurd (cc e)
 accrdb_due Known e = absurd (cc e)
 accrdb_due (Asked mechanism) e = absurd (cc e)
@@ -75,7 +75,7 @@ missing_unchecked : (session : Session) → is_checked session.stage ≡ false �
 missing_unchecked session off true = λ on. both _ on off
 missing_unchecked session off false = tt
 
-done_unchecked : (settings : Settings) (session : Session) (command : Command) (given : Given) → is_due command session.stage ≡ Ok tt → is_checked session.stage ≡ false
+done_unchecked : (settings : Settings) (session : Session) (command : Command) (given : Given) → due_or_refused command session.stage ≡ Ok tt → is_checked session.stage ≡ false
     → ChecksBy command (access_done settings session command given)
 done_unchecked settings session Excsat given due off = λ on. both _ on (known_unchecked session.stage off)
 done_unchecked settings session Accsec given due off = λ on.

@@ -4,7 +4,7 @@ use Rattle.std.specs.Prelude.{◌≡◌, ◌⊎◌, ℕ, true, false, List, [], 
 use Rattle.dss_frames.specs.Dss.{Dss}
 use Rattle.dss_frames.specs.declared.fault.FrameFault.{FrameFault}
 use Rattle.dss_frames.specs.Fault.{BeginsWith, FaultAt, IsUnfinished}
-use Rattle.dss_frames.specs.Reading.{End, unfinished, faulty, Reads}
+use Rattle.dss_frames.specs.Reading.{End, unfinished, faulty, ReadsAs}
 pub use Rattle.dss_frames.specs.Lending.{KeepsToOne, IsWanted}
 use Rattle.core_calls.specs.Call.{Call}
 use Rattle.core_calls.specs.Answer.{Answer}
@@ -89,7 +89,7 @@ module _ {A : Type 0} (asks : A → Call → Answer → A → Type 0) where
   pub record ReadsAll (settings : Settings) (s : Standing A) (text bytes left : List ℕ) (last : Standing A) : Type 0 where
     pub commands : List (List Dss)
     pub end : End
-    pub reads : Reads text commands end
+    pub reads : ReadsAs text commands end
     pub replies : List ℕ
     pub closing : List ℕ
     pub between : Standing A
@@ -104,7 +104,7 @@ module _ {A : Type 0} (asks : A → Call → Answer → A → Type 0) where
     pub beyond : List ℕ
     pub text_is : text ≡ front ++ beyond
     pub commands : List (List Dss)
-    pub reads : Reads front commands (unfinished [])
+    pub reads : ReadsAs front commands (unfinished [])
     pub does : DoesAll asks settings s commands bytes last
     pub closed_there : last.session.is_closed ≡ true
 

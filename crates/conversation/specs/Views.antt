@@ -31,6 +31,6 @@ module _ {A : Type 0} (asks : A → Call → core.Answer → A → Type 0) where
 
   -- what became of a command: it was done and its replies appended, or it found no memory, which a command
   -- of a broken chain does not ask for
-  abbrev pub Turns : Settings → Standing A → List Dss → List ℕ → Exchanged → Standing A → List ℕ → Type 0
-  Turns settings s command out Done s' out' = (bytes : List ℕ) × Exchanges asks settings s command bytes s' × (out' ≡ out ++ bytes)
-  Turns settings s command out (Short bytes) s' out' = IsExcused s command bytes s' × (out' ≡ out)
+  abbrev pub ComesTo : Settings → Standing A → List Dss → List ℕ → Exchanged → Standing A → List ℕ → Type 0
+  ComesTo settings s command out Done s' out' = (bytes : List ℕ) × Exchanges asks settings s command bytes s' × (out' ≡ out ++ bytes)
+  ComesTo settings s command out (Short bytes) s' out' = IsExcused s command bytes s' × (out' ≡ out)

@@ -10,7 +10,7 @@ ghost use Rattle.exchanges.specs.Reply.{resource_limit};
 ghost use Rattle.access_exchange.specs.Access as answers;
 ghost use Rattle.access_exchange.specs.Views.{answer_of};
 ghost use Rattle.conversation.specs.Exchange as spec;
-ghost use Rattle.conversation.specs.Views.{standing_of, verdict_of, Appends, Turns};
+ghost use Rattle.conversation.specs.Views.{standing_of, verdict_of, Appends, ComesTo};
 
 use crate::chain::{Link, append_replies, behind, format_before, link_of, worst};
 use crate::state::State;
@@ -179,7 +179,7 @@ pub(crate) fn do_command<A: Ask>(
     asker: &mut A,
     out: &mut Vec<u8>,
 ) -> Exchanged
-    ensures { Turns A.asks settings.now (standing_of state.old asker.old) (command_of group.entry) out.old.items result (standing_of state.new asker.new) out.new.items }
+    ensures { ComesTo A.asks settings.now (standing_of state.old asker.old) (command_of group.entry) out.old.items result (standing_of state.new asker.new) out.new.items }
 {
     let Some((request, objects)) = group.split_first() else {
         return Exchanged::Done;

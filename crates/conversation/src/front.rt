@@ -54,7 +54,7 @@ impl Front {
     {
         Ok(Front {
             alloc,
-            settings: settings.copied(alloc)?,
+            settings: settings.copy(alloc)?,
             segments: Segments::new(alloc),
             state: fresh_state(alloc),
         })

@@ -21,7 +21,7 @@ use Rattle.core_steps.specs.Units.{Owner, global, local}
 use Rattle.core_steps.specs.Asked.{Question, unfit}
 use Rattle.core_steps.specs.Events as core
 use Rattle.core_steps.specs.Events.{Base as CoreBase, Event as CoreEvent}
-use Rattle.core_steps.specs.Step.{CoreState, Kept, Listed, Mark, Taken, events, facts, due_in, next, replay, step_by, step_state}
+use Rattle.core_steps.specs.Step.{CoreState, Kept, MarkedCall, Mark, Taken, events, facts, due_in, next, replay, step_by, step_state}
 use Rattle.core_steps.specs.Laws as laws
 use Rattle.core_steps.specs.Laws.{AsksNone, InDoubtWait, IsPrepared}
 use Rattle.unit_order.specs.Words.{Laws}
@@ -138,7 +138,7 @@ module _ (l : Laws core_words) (wait : InDoubtWait) (fits : ActionsFit) where
   fine_by first Taken s c k f = (fine first s c k f, one first s c k f)
   fine_by first Kept s c k f = (f, refl)
 
-  all_told : (first : Store) (ls : List Listed) (s : Story) → Fine first s → Fine first (story ls s) × (core_of (story ls s) ≡ replay ls (core_of s))
+  all_told : (first : Store) (ls : List MarkedCall) (s : Story) → Fine first s → Fine first (story ls s) × (core_of (story ls s) ≡ replay ls (core_of s))
   all_told first [] s f = (f, refl)
   all_told first (x ∷ ls) s f =
       let here = fine_by first x.mark s x.conversation x.call f in

@@ -9,7 +9,7 @@ use Rattle.xa_manager.specs.Branch.{is_in_doubt, state_of}
 use Rattle.core_calls.specs.Call.{Call}
 use Rattle.core_steps.specs.Units.{Held, Owner, global, has_work, local, unit_of}
 use Rattle.core_steps.specs.Events.{Base as CoreBase}
-use Rattle.core_steps.specs.Step.{CoreState, Kept, Listed, Mark, Taken, events, next, replay}
+use Rattle.core_steps.specs.Step.{CoreState, Kept, MarkedCall, Mark, Taken, events, next, replay}
 use Rattle.unit_order.specs.Events.{World, start}
 use Rattle.unit_order.specs.Serial.{AllLie, Serially}
 use Rattle.unit_order.specs.Steps.{run_events}
@@ -37,7 +37,7 @@ abbrev pub told_by : Mark → Story → ℕ → Call → Story
 told_by Taken s conversation k = told s conversation k
 told_by Kept s conversation k = s
 
-abbrev pub story : List Listed → Story → Story
+abbrev pub story : List MarkedCall → Story → Story
 story [] s = s
 story (l ∷ ls) s = story ls (told_by l.mark s l.conversation l.call)
 
@@ -56,7 +56,7 @@ is_prepared branches (global xid) = waits (state_of branches xid)
 -- another, lead from the opening's store to the committed one. The story is that of the replay.
 abbrev pub HistoriesAreSerial : Type 0
 HistoriesAreSerial =
-    (s : Store) (units : List Held) (branches : List Branch) (history : List Listed)
+    (s : Store) (units : List Held) (branches : List Branch) (history : List MarkedCall)
     → is_store s ≡ true → AllLie core_words core_units s units → IsRising (λ b. b.xid) branches
     → ((o : Owner) → has_work (unit_of o units) ≡ true → is_prepared branches o ≡ true)
     → (let end = story history (record { branches = branches; world = start core_words core_units s units }) in

@@ -8,7 +8,7 @@ use Rattle.xa_manager.specs.declared.branch.BranchState.{BranchState}
 use Rattle.xa_manager.specs.declared.branch.BranchState.TheVariants.{Active}
 use Rattle.xa_manager.specs.declared.due.Action.{Action}
 use Rattle.xa_manager.specs.declared.due.Action.TheVariants as action
-use Rattle.xa_manager.specs.declared.due.Outcome.TheVariants as decided
+use Rattle.xa_manager.specs.declared.due.Decision.TheVariants as decided
 use Rattle.xa_manager.specs.Branch.{is_in_doubt, joined_xid, state_of}
 use Rattle.xa_manager.specs.Laws.{JoinedIsActive, PreparedOutlives, PreparedStays, is_decision}
 use Rattle.core_calls.specs.Call as call

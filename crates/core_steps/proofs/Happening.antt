@@ -2,7 +2,7 @@
 use Rattle.std.proofs.Common.{◌≡◌, ℕ, List, [], ◌∷◌, Option, refl, sym, ap, subst}
 use Rattle.xa_manager.specs.declared.due.Action.{Action}
 use Rattle.xa_manager.specs.declared.due.Action.TheVariants as action
-use Rattle.xa_manager.specs.declared.due.Outcome.TheVariants as decided
+use Rattle.xa_manager.specs.declared.due.Decision.TheVariants as decided
 use Rattle.core_steps.specs.Units.{Owner, global, local}
 use Rattle.core_steps.specs.Asked.{Clashes, Done, Outcome, TooMany, Unfit}
 use Rattle.core_steps.specs.Events.{Base, Commit, Event, Leave, bare, bare_run, happens_asked}

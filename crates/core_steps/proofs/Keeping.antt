@@ -6,7 +6,7 @@ use Rattle.xa_calls.specs.declared.request.Request.TheVariants as request
 use Rattle.xa_manager.specs.declared.branch.Branch.{Branch}
 use Rattle.xa_manager.specs.declared.due.Action.{Action}
 use Rattle.xa_manager.specs.declared.due.Action.TheVariants as action
-use Rattle.xa_manager.specs.declared.due.Outcome.TheVariants as decided
+use Rattle.xa_manager.specs.declared.due.Decision.TheVariants as decided
 use Rattle.xa_manager.specs.Branch.{joined_xid}
 use Rattle.core_calls.specs.Call as call
 use Rattle.core_calls.specs.Call.{Call}

@@ -16,7 +16,7 @@ use Rattle.xa_manager.specs.declared.branch.BranchState.{BranchState}
 use Rattle.xa_manager.specs.declared.branch.BranchState.TheVariants.{Prepared}
 use Rattle.xa_manager.specs.declared.due.Action.{Action}
 use Rattle.xa_manager.specs.declared.due.Action.TheVariants as action
-use Rattle.xa_manager.specs.declared.due.Outcome.TheVariants as decided
+use Rattle.xa_manager.specs.declared.due.Decision.TheVariants as decided
 use Rattle.xa_manager.specs.Branch.{is_last_joined_by, joined_xid, state_of}
 use Rattle.core_calls.specs.declared.refusal.Refusal.{Refusal}
 use Rattle.core_calls.specs.declared.refusal.Refusal.TheVariants as refusal
@@ -31,7 +31,7 @@ use Rattle.sql_meaning.specs.Meaning.{meaning}
 use Rattle.core_steps.specs.Units.{Held, Owner, Work, comes_before, global, has_work, idle, left_of, local, same_owner, unit_of, view}
 use Rattle.core_steps.specs.Asked.{Question, describing, is_select, meant, querying, running}
 use Rattle.core_steps.specs.Events.{Ask, Base, Commit, Event, Leave}
-use Rattle.core_steps.specs.Step.{CoreState, Listed, answer, due_in, events, lost_xids, next, owner_of, replay, step_state}
+use Rattle.core_steps.specs.Step.{CoreState, MarkedCall, answer, due_in, events, lost_xids, next, owner_of, replay, step_state}
 
 -- the answer to a call, and the state behind it
 abbrev pub answered : CoreState → ℕ → Call → Answer
@@ -259,7 +259,7 @@ pub record IsSane (b : Base) : Type 0 where
 
 -- whatever is called and by whom, and whichever steps were taken
 abbrev pub HistoriesAreSane : Type 0
-HistoriesAreSane = (history : List Listed) (s : CoreState) → IsSane s.base → IsSane (replay history s).base
+HistoriesAreSane = (history : List MarkedCall) (s : CoreState) → IsSane s.base → IsSane (replay history s).base
 
 abbrev pub NewCoresAreSane : Type 0
 NewCoresAreSane = IsSane (record { store = []; units = [] })

@@ -8,7 +8,7 @@ use Rattle.xa_manager.specs.declared.branch.Branch.{Branch}
 use Rattle.xa_manager.specs.declared.due.Action.{Action}
 use Rattle.xa_manager.specs.declared.due.Action.TheVariants as action
 use Rattle.xa_manager.specs.declared.due.Due.{Due}
-use Rattle.xa_manager.specs.declared.due.Outcome.TheVariants as decided
+use Rattle.xa_manager.specs.declared.due.Decision.TheVariants as decided
 use Rattle.xa_manager.specs.declared.due.Work.{Work as Facts}
 use Rattle.xa_manager.specs.Branch.{in_doubt_xids, is_last_joined_by, joined_xid, without_those_of}
 use Rattle.xa_manager.specs.Due.{after, due_of}
@@ -124,7 +124,7 @@ pub data Mark : Type 0 where
   Taken : Mark
   Kept : Mark
 
-pub record Listed : Type 0 where
+pub record MarkedCall : Type 0 where
   pub conversation : ℕ
   pub call : Call
   pub mark : Mark
@@ -133,6 +133,6 @@ abbrev pub step_by : Mark → CoreState → ℕ → Call → CoreState
 step_by Taken s conversation k = step_state s conversation k
 step_by Kept s conversation k = s
 
-abbrev pub replay : List Listed → CoreState → CoreState
+abbrev pub replay : List MarkedCall → CoreState → CoreState
 replay [] s = s
 replay (l ∷ ls) s = replay ls (step_by l.mark s l.conversation l.call)

@@ -12,7 +12,8 @@ use Rattle.ddm_objects.specs.declared.parts.Parts.{Parts}
 use Rattle.ddm_objects.specs.Objects.{Obj, IsObject, Begins}
 use Rattle.ddm_objects.specs.Reading.{Walk, walk, with_code}
 use Rattle.ddm_objects.specs.Source.{view, LiesBefore, LiesIn, rest_of, source_of, Steps, Finds}
-use Rattle.ddm_objects.proofs.Reading.{IsBytes, read_is_object}
+use Rattle.drda_words.specs.Bytes.{AreBytes}
+use Rattle.ddm_objects.proofs.Reading.{read_is_object}
 use Rattle.ddm_objects.proofs.Walking.{walk_of_cut, bytes_behind}
 
 -- what a search has found among the objects that it has seen
@@ -33,8 +34,8 @@ begins_next bytes [] rest front after o begun is e = (front, after, is, begun �
 begins_next bytes (x ∷ os) rest front after o begun is e = (begun.0, begun.1, begun.2, begun.3, begins_next begun.1 os rest front after o begun.4 is e)
 
 -- a byte list that goes on behind objects
-bytes_left : (bytes : List ℕ) (os : List Obj) (rest : List ℕ) → Begins bytes os rest → IsBytes bytes → IsBytes rest
-bytes_left bytes [] rest begun fits = subst IsBytes begun fits
+bytes_left : (bytes : List ℕ) (os : List Obj) (rest : List ℕ) → Begins bytes os rest → AreBytes bytes → AreBytes rest
+bytes_left bytes [] rest begun fits = subst AreBytes begun fits
 bytes_left bytes (x ∷ os) rest begun fits = bytes_left begun.1 os rest begun.4 (bytes_behind bytes begun.0 begun.1 begun.3 fits)
 
 one_more : (os : List Obj) (code : ℕ) (o : Obj) → o.code ≡ code → with_code code (os ++ o ∷ []) ≡ with_code code os ++ o ∷ []
@@ -63,7 +64,7 @@ sees_other source code seen (Some f) true o sees differ = subst (λ (os : List O
 -- ---- a step of the search
 
 -- the next object, in the source
-next_is : (source : List ℕ) (seen : List Obj) (old new : Parts) (o : Object) → IsBytes source → source_of old ≡ source → Begins source seen (rest_of old) → Steps old (Some (Ok o)) new
+next_is : (source : List ℕ) (seen : List Obj) (old new : Parts) (o : Object) → AreBytes source → source_of old ≡ source → Begins source seen (rest_of old) → Steps old (Some (Ok o)) new
     → Begins source (seen ++ view o ∷ []) (rest_of new) × LiesIn source o
 next_is source seen old new o fits same begun step =
     let t = read_is_object (rest_of old) (view o, rest_of new) (bytes_left source seen (rest_of old) begun fits) step.here in (
@@ -74,7 +75,7 @@ next_is source seen old new o fits same begun step =
 abbrev Part : Type 0
 Part = Result Object ObjFault
 
-pub goes_on_this : (source : List ℕ) (code : ℕ) (found : Option Object) (twice now : Bool) (old new : Parts) (part : Part) (o : Object) → IsBytes source → SoFar source code found twice old
+pub goes_on_this : (source : List ℕ) (code : ℕ) (found : Option Object) (twice now : Bool) (old new : Parts) (part : Part) (o : Object) → AreBytes source → SoFar source code found twice old
     → Steps old (Some part) new → part ≡ Ok o → o.code ≡ code → now ≡ is_some found → SoFar source code (Some o) now new
 goes_on_this source code found twice now old new part o fits before step is same said =
     let s : Steps old (Some (Ok o)) new = subst (λ p. Steps old (Some p) new) is step in
@@ -86,7 +87,7 @@ goes_on_this source code found twice now old new part o fits before step is same
       sees = subst (Sees source code (before.seen ++ view o ∷ []) (Some o)) (sym said) (sees_this source code before.seen found twice o before.sees same n.1);
     }
 
-pub goes_on_other : (source : List ℕ) (code : ℕ) (found : Option Object) (twice : Bool) (old new : Parts) (part : Part) (o : Object) → IsBytes source → SoFar source code found twice old
+pub goes_on_other : (source : List ℕ) (code : ℕ) (found : Option Object) (twice : Bool) (old new : Parts) (part : Part) (o : Object) → AreBytes source → SoFar source code found twice old
     → Steps old (Some part) new → part ≡ Ok o → (o.code ≡ code → ⊥) → SoFar source code found twice new
 goes_on_other source code found twice old new part o fits before step is differ =
     let s : Steps old (Some (Ok o)) new = subst (λ p. Steps old (Some p) new) is step in

@@ -11,14 +11,11 @@ use Rattle.ddm_objects.specs.Objects.{Obj, Form, Plain, Extended4, Extended6, Ex
 use Rattle.ddm_objects.specs.Reading.{value_at, plain_at, extended4_at, extended6_at, extended8_at, object_at}
 use Rattle.std.specs.Prelude.{IsOkAnd, IfOk, Some}
 use Rattle.std.specs.Borrow.{Bor}
+use Rattle.drda_words.specs.Bytes.{AreBytes}
 use Rattle.drda_words.specs.Excuse.{Answers}
 use Rattle.ddm_objects.specs.declared.object.Object.{Object}
 use Rattle.ddm_objects.specs.Source.{view}
-use Rattle.ddm_objects.specs.Laws.{AreBytes}
 use Rattle.ddm_objects.proofs.Numbers.{two_again, four_again, six_again, eight_again}
-
-abbrev pub IsBytes : List ℕ → Type 0
-IsBytes bytes = (i : ℕ) → get_or bytes i 0 < 256
 
 -- ---- what is spelled is read
 
@@ -120,7 +117,7 @@ eight_bytes a b c d e f g h p q r s t u v w = sym (be_bytes_8 (eight a b c d e f
     all (suc (suc (suc (suc (suc (suc (suc zero))))))) = w
     all (suc (suc (suc (suc (suc (suc (suc (suc i)))))))) = omega arith
 
-plain_taken : (a b c d : ℕ) (rest : List ℕ) (x : Obj × List ℕ) → IsBytes (a ∷ b ∷ c ∷ d ∷ rest) → 4 ≤ from_be_bytes w16 (a ∷ b ∷ []) → from_be_bytes w16 (a ∷ b ∷ []) < 2 ^ 15
+plain_taken : (a b c d : ℕ) (rest : List ℕ) (x : Obj × List ℕ) → AreBytes (a ∷ b ∷ c ∷ d ∷ rest) → 4 ≤ from_be_bytes w16 (a ∷ b ∷ []) → from_be_bytes w16 (a ∷ b ∷ []) < 2 ^ 15
     → value_at (from_be_bytes w16 (c ∷ d ∷ [])) (from_be_bytes w16 (a ∷ b ∷ []) - 4) rest ≡ okay x → TakesObject (a ∷ b ∷ c ∷ d ∷ rest) x
 plain_taken a b c d rest x fits low high e =
     let n = from_be_bytes w16 (a ∷ b ∷ []) in
@@ -139,7 +136,7 @@ head_of a b c d n size spelled p q r s e same =
     ∙ ap (λ (y : List ℕ). (bytes_high_first 2 n ++ y) ++ size) second
     ∙ ap (λ (y : List ℕ). (bytes_high_first 2 n ++ bytes_high_first 2 (from_be_bytes w16 (c ∷ d ∷ []))) ++ y) same
 
-taken4 : (a b : ℕ) (rest : List ℕ) (x : Obj × List ℕ) → IsBytes (a ∷ b ∷ rest) → from_be_bytes w16 (a ∷ b ∷ []) ≡ 0x8008 → extended4_at (a ∷ b ∷ rest) ≡ okay x → TakesObject (a ∷ b ∷ rest) x
+taken4 : (a b : ℕ) (rest : List ℕ) (x : Obj × List ℕ) → AreBytes (a ∷ b ∷ rest) → from_be_bytes w16 (a ∷ b ∷ []) ≡ 0x8008 → extended4_at (a ∷ b ∷ rest) ≡ okay x → TakesObject (a ∷ b ∷ rest) x
 unfolding extended4_at
 taken4 a b (c ∷ d ∷ e ∷ f ∷ g ∷ h ∷ rest) x fits is was =
     let n = from_be_bytes w64 (eight 0 0 0 0 e f g h) in
@@ -149,7 +146,7 @@ taken4 a b (c ∷ d ∷ e ∷ f ∷ g ∷ h ∷ rest) x fits is was =
     (head_of a b c d 0x8008 (e ∷ f ∷ g ∷ h ∷ []) (bytes_high_first 4 n) (fits 0) (fits 1) (fits 2) (fits 3) is size)
 taken4 a b rest x fits is was = absurd cc
 
-taken6 : (a b : ℕ) (rest : List ℕ) (x : Obj × List ℕ) → IsBytes (a ∷ b ∷ rest) → from_be_bytes w16 (a ∷ b ∷ []) ≡ 0x800A → extended6_at (a ∷ b ∷ rest) ≡ okay x → TakesObject (a ∷ b ∷ rest) x
+taken6 : (a b : ℕ) (rest : List ℕ) (x : Obj × List ℕ) → AreBytes (a ∷ b ∷ rest) → from_be_bytes w16 (a ∷ b ∷ []) ≡ 0x800A → extended6_at (a ∷ b ∷ rest) ≡ okay x → TakesObject (a ∷ b ∷ rest) x
 unfolding extended6_at
 taken6 a b (c ∷ d ∷ e ∷ f ∷ g ∷ h ∷ i ∷ j ∷ rest) x fits is was =
     let n = from_be_bytes w64 (eight 0 0 e f g h i j) in
@@ -159,7 +156,7 @@ taken6 a b (c ∷ d ∷ e ∷ f ∷ g ∷ h ∷ i ∷ j ∷ rest) x fits is was 
     (head_of a b c d 0x800A (e ∷ f ∷ g ∷ h ∷ i ∷ j ∷ []) (bytes_high_first 6 n) (fits 0) (fits 1) (fits 2) (fits 3) is size)
 taken6 a b rest x fits is was = absurd cc
 
-taken8 : (a b : ℕ) (rest : List ℕ) (x : Obj × List ℕ) → IsBytes (a ∷ b ∷ rest) → from_be_bytes w16 (a ∷ b ∷ []) ≡ 0x800C → extended8_at (a ∷ b ∷ rest) ≡ okay x → TakesObject (a ∷ b ∷ rest) x
+taken8 : (a b : ℕ) (rest : List ℕ) (x : Obj × List ℕ) → AreBytes (a ∷ b ∷ rest) → from_be_bytes w16 (a ∷ b ∷ []) ≡ 0x800C → extended8_at (a ∷ b ∷ rest) ≡ okay x → TakesObject (a ∷ b ∷ rest) x
 unfolding extended8_at
 taken8 a b (c ∷ d ∷ e ∷ f ∷ g ∷ h ∷ i ∷ j ∷ k ∷ l ∷ rest) x fits is was =
     let n = from_be_bytes w64 (eight e f g h i j k l) in
@@ -168,7 +165,7 @@ taken8 a b (c ∷ d ∷ e ∷ f ∷ g ∷ h ∷ i ∷ j ∷ k ∷ l ∷ rest) x 
     (head_of a b c d 0x800C (eight e f g h i j k l) (bytes_high_first 8 n) (fits 0) (fits 1) (fits 2) (fits 3) is size)
 taken8 a b rest x fits is was = absurd cc
 
-taken2 : (a b : ℕ) (rest : List ℕ) (x : Obj × List ℕ) → IsBytes (a ∷ b ∷ rest) → 4 ≤ from_be_bytes w16 (a ∷ b ∷ []) → from_be_bytes w16 (a ∷ b ∷ []) < 2 ^ 15 → plain_at (from_be_bytes w16 (a ∷ b ∷ []) - 4) (a ∷ b ∷ rest) ≡ okay x → TakesObject (a ∷ b ∷ rest) x
+taken2 : (a b : ℕ) (rest : List ℕ) (x : Obj × List ℕ) → AreBytes (a ∷ b ∷ rest) → 4 ≤ from_be_bytes w16 (a ∷ b ∷ []) → from_be_bytes w16 (a ∷ b ∷ []) < 2 ^ 15 → plain_at (from_be_bytes w16 (a ∷ b ∷ []) - 4) (a ∷ b ∷ rest) ≡ okay x → TakesObject (a ∷ b ∷ rest) x
 unfolding plain_at
 taken2 a b (c ∷ d ∷ rest) x fits low high was = plain_taken a b c d rest x fits low high was
 taken2 a b rest x fits low high was = absurd cc
@@ -196,7 +193,7 @@ by_form P n bytes x plain four six eight' e =
     ]
 
 -- what is read from bytes is an object at their front
-pub read_is_object : (bytes : List ℕ) (x : Obj × List ℕ) → IsBytes bytes → object_at bytes ≡ okay x → TakesObject bytes x
+pub read_is_object : (bytes : List ℕ) (x : Obj × List ℕ) → AreBytes bytes → object_at bytes ≡ okay x → TakesObject bytes x
 unfolding object_at
 read_is_object (a ∷ b ∷ rest) x fits e =
     by_form (TakesObject (a ∷ b ∷ rest) x) (from_be_bytes w16 (a ∷ b ∷ [])) (a ∷ b ∷ rest) x (taken2 a b rest x fits) (taken4 a b rest x fits) (taken6 a b rest x fits) (taken8 a b rest x fits) e
@@ -238,14 +235,9 @@ read_shorter (a ∷ b ∷ rest) x e =
     by_form (length x.1 < length (a ∷ b ∷ rest)) n (a ∷ b ∷ rest) x (λ low high. shorter2 (n - 4) a b rest x) (λ is. shorter4 a b rest x) (λ is. shorter6 a b rest x) (λ is. shorter8 a b rest x) e
 read_shorter bytes x e = absurd cc
 
-pub all_bytes : (bytes : List ℕ) → AreBytes bytes → IsBytes bytes
-all_bytes [] are i = lit< tt
-all_bytes (b ∷ bytes) are zero = are 0 0 (omega arith)
-all_bytes (b ∷ bytes) are (suc i) = all_bytes bytes (All-tail (λ x. x < 256) b bytes are) i
-
 -- ---- what a reader answers
 
-pub answers_found : (r : Result (Object × Bor (List ℕ)) ObjFault) (bytes : List ℕ) → IsBytes bytes → Answers (λ (x : Object × Bor (List ℕ)). (view x.0, x.1.now)) (λ e. Some e) r (object_at bytes)
+pub answers_found : (r : Result (Object × Bor (List ℕ)) ObjFault) (bytes : List ℕ) → AreBytes bytes → Answers (λ (x : Object × Bor (List ℕ)). (view x.0, x.1.now)) (λ e. Some e) r (object_at bytes)
     → IfOk r (λ x. (front : List ℕ) × IsObject front (view x.0) × (bytes ≡ front ++ x.1.now))
 answers_found (Ok x) bytes fits given = read_is_object bytes (view x.0, x.1.now) fits given
 answers_found (Err f) bytes fits given = tt

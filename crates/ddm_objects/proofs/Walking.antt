@@ -4,7 +4,8 @@ use Rattle.ddm_objects.specs.declared.fault.ObjFault.{ObjFault}
 use Rattle.ddm_objects.specs.Objects.{Obj, Begins, AreObjects}
 use Rattle.ddm_objects.specs.Reading.{object_at, Walk, walk, walk_within, walk_on, walk_end, walk_stop, walk_past, walk_behind}
 use Rattle.std.proofs.lemmas.List.{append-nil, get_or-append-add}
-use Rattle.ddm_objects.proofs.Reading.{IsBytes, okay, same_ok, object_is_read, read_shorter, read_is_object}
+use Rattle.drda_words.specs.Bytes.{AreBytes}
+use Rattle.ddm_objects.proofs.Reading.{okay, same_ok, object_is_read, read_shorter, read_is_object}
 
 empty_holds_none : (x : Obj × List ℕ) → object_at [] ≡ okay x → ⊥
 unfolding object_at
@@ -105,7 +106,7 @@ past_is x o w os fault e =
     let both = head_is x o w.objects os (ap (λ (v : Walk). v.objects) e) in
     (both.0, ap (λ (xs : List Obj). record { objects = xs; fault = w.fault }) both.1 ∙ ap (λ (f : Option ObjFault). record { objects = os; fault = f }) (ap (λ (v : Walk). v.fault) e))
 
-pub bytes_behind : (bytes front rest : List ℕ) → bytes ≡ front ++ rest → IsBytes bytes → IsBytes rest
+pub bytes_behind : (bytes front rest : List ℕ) → bytes ≡ front ++ rest → AreBytes bytes → AreBytes rest
 bytes_behind bytes front rest e fits i = subst (λ n. n < 256) (get_or-append-add front rest i 0) (subst (λ (y : List ℕ). get_or y (length front + i) 0 < 256) e (fits (length front + i)))
 
 not_empty : (b : ℕ) (bytes : List ℕ) → b ∷ bytes ≡ [] → ⊥
@@ -125,7 +126,7 @@ first_of_walk (b ∷ bytes) o os fault (Ok x) e was =
     (x.1, e ∙ ap (λ (y : Obj). okay (y, x.1)) is.0, is.1)
 first_of_walk (b ∷ bytes) o os fault (Err f) e was = absurd (no_object f o os fault (sym (walk_stops (b ∷ bytes) f (not_empty b bytes) e) ∙ was))
 
-pub cut_of_walk : (bytes : List ℕ) (objects : List Obj) (fault : Option ObjFault) → IsBytes bytes → walk bytes ≡ record { objects = objects; fault = fault } → CutOf bytes objects fault
+pub cut_of_walk : (bytes : List ℕ) (objects : List Obj) (fault : Option ObjFault) → AreBytes bytes → walk bytes ≡ record { objects = objects; fault = fault } → CutOf bytes objects fault
 cut_of_walk bytes [] fault fits e = cut_of_none bytes fault (object_at bytes) refl e
 cut_of_walk bytes (o ∷ os) fault fits e =
     let f = first_of_walk bytes o os fault (object_at bytes) refl e in

@@ -1,12 +1,10 @@
 -- What holds of objects and their texts.
-use Rattle.std.specs.Prelude.{◌≡◌, ◌≢◌, ℕ, ◌+◌, ◌<◌, ◌≤◌, ◌^◌, ◌↔◌, List, [], ◌++◌, length, All, Some, None, Ok, Err}
+use Rattle.std.specs.Prelude.{◌≡◌, ◌≢◌, ℕ, ◌+◌, ◌<◌, ◌≤◌, ◌^◌, ◌↔◌, List, [], ◌++◌, length, Some, None, Ok, Err}
+use Rattle.drda_words.specs.Bytes.{AreBytes}
 use Rattle.ddm_objects.specs.declared.fault.ObjFault.{ObjFault}
 use Rattle.ddm_objects.specs.Objects.{Obj, IsObject, Begins, AreObjects}
 use Rattle.ddm_objects.specs.Reading.{object_at, walk, walk_end, walk_stop, walk_past}
 use Rattle.ddm_objects.specs.Writing.{spelled, Writing, Trees, text_of, AreTrees, CanBeWritten, written, appended}
-
-abbrev pub AreBytes : List ℕ → Type 0
-AreBytes bytes = All (λ b. b < 256) bytes
 
 -- a text is cut into objects in one way at most
 abbrev pub IsCutOnce : Type 0

@@ -15,7 +15,7 @@ use unit_records::{
     commit_length, held_for_decision, prepare_length, write_commit, write_decide, write_prepare,
 };
 use xa_calls::Xid;
-use xa_manager::Outcome;
+use xa_manager::Decision;
 
 /// The bytes of a record in front of its body.
 const HEAD_BYTES: usize = 6;
@@ -60,14 +60,14 @@ pub(crate) fn prepare_body(
 pub(crate) fn decide_body(
     alloc: Global,
     xid: &Xid,
-    outcome: Outcome,
+    decision: Decision,
     room: usize,
 ) -> Result<Vec<u8>, AllocError>
-    ensures { IfOk result (λ body. IsBody (decided xid.now outcome) room body.items) }
+    ensures { IfOk result (λ body. IsBody (decided xid.now decision) room body.items) }
 {
     decisions_have_room();
     let mut body = Vec::new(alloc);
-    write_decide(&mut body, xid, outcome)?;
+    write_decide(&mut body, xid, decision)?;
     Ok(body)
 }
 

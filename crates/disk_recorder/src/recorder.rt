@@ -17,7 +17,7 @@ use unit_journal::{AppendError, Journal, Kind};
 use unit_locks::Claim;
 use unit_records::held_for_decision;
 use xa_calls::Xid;
-use xa_manager::Outcome;
+use xa_manager::Decision;
 
 /// Records in the journal of a disk, each record by four device calls: write, sync, gate, sync. A
 /// prepare holds the bytes of its decision back, so that a decision always has room. Once the device
@@ -128,12 +128,12 @@ impl<D: Disk> DiskRecorder<D> {
         }
     }
 
-    fn decide(&mut self, xid: &Xid, outcome: Outcome) -> Result<(), RecordError>
-        requires { Allows D.is_modelled D.life self.old (decided xid.now outcome) }
-        ensures ok { OnOk result (Records D.is_modelled D.life self.old (decided xid.now outcome) self.new) }
-        ensures err { IfErr result (λ error. Fails D.is_modelled D.life self.old (decided xid.now outcome) error self.new) }
+    fn decide(&mut self, xid: &Xid, decision: Decision) -> Result<(), RecordError>
+        requires { Allows D.is_modelled D.life self.old (decided xid.now decision) }
+        ensures ok { OnOk result (Records D.is_modelled D.life self.old (decided xid.now decision) self.new) }
+        ensures err { IfErr result (λ error. Fails D.is_modelled D.life self.old (decided xid.now decision) error self.new) }
     {
-        match decide_body(self.alloc, xid, outcome, self.small_room()) {
+        match decide_body(self.alloc, xid, decision, self.small_room()) {
             Ok(body) => self.append(Kind::Decide, &body, 0, held_for_decision(xid)),
             Err(_) => Err(RecordError::NoMemory),
         }
@@ -204,7 +204,7 @@ impl<D: Disk> Recorder for DiskRecorder<D> {
                 changes,
                 claims,
             } => self.prepare(xid, changes, claims),
-            Saying::Decide { xid, outcome } => self.decide(xid, outcome),
+            Saying::Decide { xid, decision } => self.decide(xid, decision),
         }
     }
 }

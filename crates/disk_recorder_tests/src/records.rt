@@ -74,9 +74,9 @@ fn saying_of(read: &UnitRecord) -> Saying<'_> {
             changes,
             claims,
         },
-        UnitRecord::Decide { xid, outcome } => Saying::Decide {
+        UnitRecord::Decide { xid, decision } => Saying::Decide {
             xid,
-            outcome: *outcome,
+            decision: *decision,
         },
     }
 }

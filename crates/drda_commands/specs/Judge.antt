@@ -40,25 +40,25 @@ abbrev pub command_object : List ℕ → Result Obj Refusal
 command_object [] = Err (Syntax Missing)
 command_object (b ∷ bytes) = alone (object_at (b ∷ bytes))
 
-abbrev pub is_known : ℕ → Option Command → Result Command Refusal
-is_known code (Some command) = Ok command
-is_known code None = Err (CommandNotSupported code)
+abbrev pub known_or_refused : ℕ → Option Command → Result Command Refusal
+known_or_refused code (Some command) = Ok command
+known_or_refused code None = Err (CommandNotSupported code)
 
 -- ---- the stage at which a command may come (DRDA V5 volume 1, "Connection Flows")
 
-abbrev pub is_due : Command → Stage → Result (Unit {0}) Refusal
-is_due Excsat stage = Ok tt
-is_due Accsec Known = Ok tt
-is_due Accsec (Asked mechanism) = Ok tt
-is_due Accsec Checked = Ok tt
-is_due Accsec stage = Err OutOfTurn
-is_due Secchk (Asked mechanism) = Ok tt
-is_due Secchk stage = Err OutOfTurn
-is_due Accrdb Checked = Ok tt
-is_due Accrdb Opened = Err RdbAccessed
-is_due Accrdb stage = Err OutOfTurn
-is_due command Opened = Ok tt
-is_due command stage = Err RdbNotAccessed
+abbrev pub due_or_refused : Command → Stage → Result (Unit {0}) Refusal
+due_or_refused Excsat stage = Ok tt
+due_or_refused Accsec Known = Ok tt
+due_or_refused Accsec (Asked mechanism) = Ok tt
+due_or_refused Accsec Checked = Ok tt
+due_or_refused Accsec stage = Err OutOfTurn
+due_or_refused Secchk (Asked mechanism) = Ok tt
+due_or_refused Secchk stage = Err OutOfTurn
+due_or_refused Accrdb Checked = Ok tt
+due_or_refused Accrdb Opened = Err RdbAccessed
+due_or_refused Accrdb stage = Err OutOfTurn
+due_or_refused command Opened = Ok tt
+due_or_refused command stage = Err RdbNotAccessed
 
 -- ---- faults of objects, and too many of them
 
@@ -66,8 +66,8 @@ abbrev pub whole_unless : Option SyntaxError → ℕ → Result (Unit {0}) Refus
 whole_unless (Some error) count = Err (Syntax error)
 whole_unless None count = if nat_lt 8 count then Err (Syntax TooManyObjects) else Ok tt
 
-abbrev pub is_whole : Command → Given → Result (Unit {0}) Refusal
-is_whole command given = whole_unless (first_fault command given) (count_in given.objects)
+abbrev pub whole_or_refused : Command → Given → Result (Unit {0}) Refusal
+whole_or_refused command given = whole_unless (first_fault command given) (count_in given.objects)
 
 -- ---- items: none twice, none missing, each with a value that is supported
 
@@ -193,9 +193,9 @@ pub record Accepted : Type 0 where
 abbrev pub judged : Stage → Bool → List ℕ → List (List ℕ) → Result Accepted Refusal
 judged stage unicode contents objects = do
   o ← command_object contents
-  command ← is_known o.code (command_for o.code)
-  due ← is_due command stage
-  whole ← is_whole command (record { parameters = o.value; objects = objects })
+  command ← known_or_refused o.code (command_for o.code)
+  due ← due_or_refused command stage
+  whole ← whole_or_refused command (record { parameters = o.value; objects = objects })
   single ← none_twice (items_for command) (record { parameters = o.value; objects = objects })
   present ← none_missing (items_for command) (record { parameters = o.value; objects = objects })
   fit ← none_bad unicode (items_for command) (record { parameters = o.value; objects = objects })

@@ -48,7 +48,7 @@ fn command_object(contents: &[u8]) -> Result<Object<'_>, Refusal>
 }
 
 fn check_due(command: Command, stage: Stage) -> Result<(), Refusal>
-    ensures { result ≡ spec.is_due command stage }
+    ensures { result ≡ spec.due_or_refused command stage }
 {
     match (command, stage) {
         (Command::Excsat, _) => Ok(()),

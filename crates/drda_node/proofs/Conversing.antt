@@ -3,7 +3,7 @@ use Rattle.std.proofs.Common.{◌≡◌, ℕ, true, false, List, [], ◌∷◌, 
 use Rattle.dss_frames.specs.Dss.{Dss}
 use Rattle.dss_frames.specs.declared.fault.FrameFault.{FrameFault}
 use Rattle.dss_frames.specs.Fault.{BeginsWith, FaultAt}
-use Rattle.dss_frames.specs.Reading.{End, unfinished, faulty, Reads}
+use Rattle.dss_frames.specs.Reading.{End, unfinished, faulty, ReadsAs}
 use Rattle.access_exchange.specs.Settings.{Settings}
 use Rattle.conversation.specs.Standing.{Standing}
 use Rattle.conversation.specs.Done.{DoesAll}
@@ -16,17 +16,17 @@ use Rattle.drda_node.specs.Hearing.{Attended, Hears}
 command_more : (bytes more rest : List ℕ) (command : List Dss) → BeginsWith bytes command rest → BeginsWith (bytes ++ more) command (rest ++ more)
 command_more bytes more rest command h = (h.0, ap (λ (z : List ℕ). z ++ more) h.1 ∙ append_assoc h.0 rest more, h.2)
 
-pub reads_then : (before after : List (List Dss)) (text left more : List ℕ) (end : End) → Reads text before (unfinished left) → Reads (left ++ more) after end → Reads (text ++ more) (before ++ after) end
-reads_then [] after text left more end p q = subst (λ (z : List ℕ). Reads (z ++ more) after end) (sym p.0) q
+pub reads_then : (before after : List (List Dss)) (text left more : List ℕ) (end : End) → ReadsAs text before (unfinished left) → ReadsAs (left ++ more) after end → ReadsAs (text ++ more) (before ++ after) end
+reads_then [] after text left more end p q = subst (λ (z : List ℕ). ReadsAs (z ++ more) after end) (sym p.0) q
 reads_then (command ∷ before) after text left more end p q = (p.0 ++ more, command_more text more p.0 command p.1, reads_then before after p.0 left more end p.2 q)
 
 -- the bytes of commands stand in front of what is left, and they are read so whatever comes behind them
 record StandInFront (text : List ℕ) (commands : List (List Dss)) (left : List ℕ) : Type 0 where
   front : List ℕ
   text_is : text ≡ front ++ left
-  reads : (more : List ℕ) (after : List (List Dss)) (end : End) → Reads more after end → Reads (front ++ more) (commands ++ after) end
+  reads : (more : List ℕ) (after : List (List Dss)) (end : End) → ReadsAs more after end → ReadsAs (front ++ more) (commands ++ after) end
 
-stand_in_front : (commands : List (List Dss)) (text left : List ℕ) → Reads text commands (unfinished left) → StandInFront text commands left
+stand_in_front : (commands : List (List Dss)) (text left : List ℕ) → ReadsAs text commands (unfinished left) → StandInFront text commands left
 stand_in_front [] text left p = record { front = []; text_is = p.0; reads = λ more after end q. q }
 stand_in_front (command ∷ commands) text left p =
     let others = stand_in_front commands p.0 left p.2 in
@@ -46,27 +46,27 @@ module _ (settings : Settings) (place : ℕ) where
 
   -- what an open conversation has read ends in the middle of a command
   reads_so_far_at : (end : End) (s between : Standing AskedCore) (text x left : List ℕ) → (p : ReadsAll (asks place) settings s text x left between) → between.session.is_closed ≡ false
-      → Reads text p.commands end → Ends (asks place) p.between end p.closing left between → Reads text p.commands (unfinished left)
-  reads_so_far_at (unfinished rest) s between text x left p still_open reads ends = subst (λ (z : List ℕ). Reads text p.commands (unfinished z)) (sym ends.1) reads
+      → ReadsAs text p.commands end → Ends (asks place) p.between end p.closing left between → ReadsAs text p.commands (unfinished left)
+  reads_so_far_at (unfinished rest) s between text x left p still_open reads ends = subst (λ (z : List ℕ). ReadsAs text p.commands (unfinished z)) (sym ends.1) reads
   reads_so_far_at (faulty fault) s between text x left p still_open reads ends =
       let shut : true ≡ false = sym (ap (λ (t : Standing AskedCore). t.session.is_closed) ends.1) ∙ still_open in
       absurd (cc shut)
 
   pub reads_so_far : (s between : Standing AskedCore) (text x left : List ℕ) → Converses (asks place) settings s text x left between → between.session.is_closed ≡ false
-      → (commands : List (List Dss)) × Reads text commands (unfinished left)
+      → (commands : List (List Dss)) × ReadsAs text commands (unfinished left)
   reads_so_far s between text x left (inl p) still_open = (p.commands, reads_so_far_at p.end s between text x left p still_open p.reads p.ends)
   reads_so_far s between text x left (inr p) still_open = let both : true ≡ false = sym p.closed_there ∙ still_open in absurd (cc both)
 
   -- a text that ends in the middle of a command, and bytes behind it
   reads_all_then : (end : End) (s between last : Standing AskedCore) (text more x y left remains : List ℕ) → (p : ReadsAll (asks place) settings s text x left between) → between.session.is_closed ≡ false
-      → Converses (asks place) settings between (left ++ more) y remains last → Reads text p.commands end → Ends (asks place) p.between end p.closing left between
+      → Converses (asks place) settings between (left ++ more) y remains last → ReadsAs text p.commands end → Ends (asks place) p.between end p.closing left between
       → Converses (asks place) settings s (text ++ more) (x ++ y) remains last
   reads_all_then (unfinished rest) s between last text more x y left remains p still_open (inl q) reads ends =
       let silent : x ≡ p.replies = p.written ∙ ap (λ (z : List ℕ). p.replies ++ z) ends.0 ∙ append-nil p.replies in
       inl (record {
         commands = p.commands ++ q.commands;
         end = q.end;
-        reads = reads_then p.commands q.commands text left more q.end (subst (λ (z : List ℕ). Reads text p.commands (unfinished z)) (sym ends.1) reads) q.reads;
+        reads = reads_then p.commands q.commands text left more q.end (subst (λ (z : List ℕ). ReadsAs text p.commands (unfinished z)) (sym ends.1) reads) q.reads;
         replies = p.replies ++ q.replies;
         closing = q.closing;
         between = q.between;
@@ -77,7 +77,7 @@ module _ (settings : Settings) (place : ℕ) where
       })
   reads_all_then (unfinished rest) s between last text more x y left remains p still_open (inr q) reads ends =
       let silent : x ≡ p.replies = p.written ∙ ap (λ (z : List ℕ). p.replies ++ z) ends.0 ∙ append-nil p.replies in
-      let stands = stand_in_front p.commands text left (subst (λ (z : List ℕ). Reads text p.commands (unfinished z)) (sym ends.1) reads) in
+      let stands = stand_in_front p.commands text left (subst (λ (z : List ℕ). ReadsAs text p.commands (unfinished z)) (sym ends.1) reads) in
       inr (record {
         front = stands.front ++ q.front;
         beyond = q.beyond;
@@ -99,13 +99,13 @@ module _ (settings : Settings) (place : ℕ) where
   converses_then s between last text more x y left remains (inr p) still_open q = let both : true ≡ false = sym p.closed_there ∙ still_open in absurd (cc both)
 
 module _ (settings : Settings) (place : ℕ) (fault_more : (bytes more : List ℕ) (fault : FrameFault) → FaultAt bytes fault → FaultAt (bytes ++ more) fault) where
-  faulty_more : (commands : List (List Dss)) (text more : List ℕ) (fault : FrameFault) → Reads text commands (faulty fault) → Reads (text ++ more) commands (faulty fault)
+  faulty_more : (commands : List (List Dss)) (text more : List ℕ) (fault : FrameFault) → ReadsAs text commands (faulty fault) → ReadsAs (text ++ more) commands (faulty fault)
   faulty_more [] text more fault p = fault_more text more fault p
   faulty_more (command ∷ commands) text more fault p = (p.0 ++ more, command_more text more p.0 command p.1, faulty_more commands p.0 more fault p.2)
 
   -- behind a fault anything may stand
   reads_all_closed : (end : End) (s last : Standing AskedCore) (text more x left : List ℕ) → last.session.is_closed ≡ true → (p : ReadsAll (asks place) settings s text x left last)
-      → Reads text p.commands end → Ends (asks place) p.between end p.closing left last → Converses (asks place) settings s (text ++ more) x left last
+      → ReadsAs text p.commands end → Ends (asks place) p.between end p.closing left last → Converses (asks place) settings s (text ++ more) x left last
   reads_all_closed (unfinished rest) s last text more x left shut p reads ends =
       let still : true ≡ false = sym shut ∙ ap (λ (t : Standing AskedCore). t.session.is_closed) ends.2 ∙ p.still_open in
       absurd (cc still)

@@ -4,7 +4,7 @@ use Rattle.std.proofs.lemmas.List.{length-take, length-drop}
 use Rattle.dss_frames.specs.Dss.{Dss}
 use Rattle.dss_frames.specs.declared.fault.FrameFault.{FrameFault}
 use Rattle.dss_frames.specs.Fault.{FaultAt}
-use Rattle.dss_frames.specs.Reading.{unfinished, Reads}
+use Rattle.dss_frames.specs.Reading.{unfinished, ReadsAs}
 use Rattle.access_exchange.specs.Settings.{Settings}
 use Rattle.conversation.specs.Held.{Held}
 use Rattle.drda_node.specs.Hearing.{Attended, Hears}
@@ -81,15 +81,15 @@ module _ (settings : Settings) (place : ℕ) (fault_more : (bytes more : List �
   some_wanted piece taken wanted size is (inr empty) some = inr empty
 
   -- the bytes of a piece are read on where those of its front ended
-  read_on : (a b : Attended) (piece : List ℕ) (taken size count : ℕ) (commands others : List (List Dss)) (rest : List ℕ) → count ≤ size → Reads (a.rest ++ take taken piece) commands (unfinished b.rest)
-      → Reads (b.rest ++ take count (take size (drop taken piece))) others (unfinished rest) → Reads (a.rest ++ take (taken + count) piece) (commands ++ others) (unfinished rest)
+  read_on : (a b : Attended) (piece : List ℕ) (taken size count : ℕ) (commands others : List (List Dss)) (rest : List ℕ) → count ≤ size → ReadsAs (a.rest ++ take taken piece) commands (unfinished b.rest)
+      → ReadsAs (b.rest ++ take count (take size (drop taken piece))) others (unfinished rest) → ReadsAs (a.rest ++ take (taken + count) piece) (commands ++ others) (unfinished rest)
   read_on a b piece taken size count commands others rest few front behind =
       let text : (a.rest ++ take taken piece) ++ take count (take size (drop taken piece)) ≡ a.rest ++ take (taken + count) piece =
       append_assoc a.rest (take taken piece) (take count (take size (drop taken piece))) ∙ ap (λ (z : List ℕ). a.rest ++ z) (more_taken piece taken size count few) in
-      subst (λ (z : List ℕ). Reads z (commands ++ others) (unfinished rest)) text
+      subst (λ (z : List ℕ). ReadsAs z (commands ++ others) (unfinished rest)) text
       (reads_then commands others (a.rest ++ take taken piece) b.rest (take count (take size (drop taken piece))) (unfinished rest) front behind)
 
-  ends_later : (a b : Attended) (piece : List ℕ) (taken size count : ℕ) (commands : List (List Dss)) → Reads (a.rest ++ take taken piece) commands (unfinished b.rest)
+  ends_later : (a b : Attended) (piece : List ℕ) (taken size count : ℕ) (commands : List (List Dss)) → ReadsAs (a.rest ++ take taken piece) commands (unfinished b.rest)
       → count ≤ size → EndsAtFault b (take size (drop taken piece)) count ⊎ EndsWithCommand b (take size (drop taken piece)) count → EndsAtFault a piece (taken + count) ⊎ EndsWithCommand a piece (taken + count)
   ends_later a b piece taken size count commands front few (inl f) =
       let some = f.some in
@@ -99,7 +99,7 @@ module _ (settings : Settings) (place : ℕ) (fault_more : (bytes more : List �
         some = omega (arith, some);
         commands = commands ++ f.commands;
         rest = f.rest;
-        one_less = subst (λ (n : ℕ). Reads (a.rest ++ take n piece) (commands ++ f.commands) (unfinished f.rest)) count_is
+        one_less = subst (λ (n : ℕ). ReadsAs (a.rest ++ take n piece) (commands ++ f.commands) (unfinished f.rest)) count_is
             (read_on a b piece taken size (count - 1) commands f.commands f.rest one_less front f.one_less);
       })
   ends_later a b piece taken size count commands front few (inr f) =

@@ -1,7 +1,7 @@
 -- A row of places, one of which is changed.
 use Rattle.std.proofs.Common.{◌≡◌, ◌<◌, ◌+◌, ℕ, zero, suc, Bool, true, false, List, [], ◌∷◌, ◌++◌, map, length, replicate, Option, Some, None, is_some, slice_get, slice_index_or, slice_set, if◌then◌else◌, ◌∙◌, ap, refl, sym, arith}
 use Rattle.std.proofs.lemmas.List.{map-set}
-use Rattle.drda_node.specs.declared.place.Place.{Place}
+use Rattle.drda_node.specs.declared.slot.Slot.{Slot}
 use Rattle.std.specs.List.{list_all}
 use Rattle.drda_node.specs.Machine.{Conversation, Machine}
 use Rattle.drda_node.specs.Asking.{AskedCore}
@@ -66,10 +66,10 @@ open_when : (b : Bool) (x y : Conversation) → (if b then Some x else None) ≡
 open_when true x y is = refl
 open_when false x y is = absurd (cc is)
 
-pub shows_open : (place : Place) (c : Conversation) → shown place ≡ Some c → place.is_open ≡ true
+pub shows_open : (place : Slot) (c : Conversation) → shown place ≡ Some c → place.is_open ≡ true
 shows_open place c is = open_when place.is_open (shown_held place.front) c is
 
-pub open_shows : (place : Place) → place.is_open ≡ true → shown place ≡ Some (shown_held place.front)
+pub open_shows : (place : Slot) → place.is_open ≡ true → shown place ≡ Some (shown_held place.front)
 open_shows place is = ap (λ (b : Bool). if b then Some (shown_held place.front) else None) is
 
 -- ---- full rows

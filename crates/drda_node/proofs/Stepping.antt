@@ -5,7 +5,7 @@ use Rattle.std.proofs.lemmas.List.{take-take, length-take-le, length-take, lengt
 use Rattle.dss_frames.specs.Dss.{Dss}
 use Rattle.dss_frames.specs.declared.fault.FrameFault.{FrameFault}
 use Rattle.dss_frames.specs.Fault.{BeginsWith, FaultAt, IsUnfinished}
-use Rattle.dss_frames.specs.Reading.{unfinished, faulty, Reads}
+use Rattle.dss_frames.specs.Reading.{unfinished, faulty, ReadsAs}
 use Rattle.access_exchange.specs.declared.session.Session.{Session}
 use Rattle.conversation.specs.declared.front.Need.{Need}
 use Rattle.conversation.specs.declared.front.Need.TheVariants.{Bytes, Local, Short, Closed}
@@ -38,7 +38,7 @@ NeedIs Closed part new = new.session.is_closed ≡ true
 
 -- the bytes that were held and those that came are whole commands
 abbrev pub IsWhole : Held → List ℕ → Type 0
-IsWhole old part = (0 < length part) × ((commands : List (List Dss)) × Reads (old.rest ++ part) commands (unfinished []))
+IsWhole old part = (0 < length part) × ((commands : List (List Dss)) × ReadsAs (old.rest ++ part) commands (unfinished []))
 
 pub record Stepped (place : ℕ) (old : Held) (core : AskedCore) (part out : List ℕ) (need : Need) (new : Held) (core' : AskedCore) (out' : List ℕ) : Type 0 where
   pub told : Told old.settings place (with_core old core) part out (reply_behind need) (with_core new core') out'
@@ -295,7 +295,7 @@ ends_at_fault before part (suc count) fault within unfinished_rest keeps there =
 
 -- or of the command
 ends_now : (before : Attended) (part : List ℕ) (count : ℕ) → count ≤ length part → IsUnfinished before.rest → KeepsToWanted before.rest (length part)
-    → ((fault : FrameFault) × FaultAt (before.rest ++ take count part) fault) ⊎ ((0 < length (take count part)) × ((commands : List (List Dss)) × Reads (before.rest ++ take count part) commands (unfinished [])))
+    → ((fault : FrameFault) × FaultAt (before.rest ++ take count part) fault) ⊎ ((0 < length (take count part)) × ((commands : List (List Dss)) × ReadsAs (before.rest ++ take count part) commands (unfinished [])))
     → EndsAtFault before part count ⊎ EndsWithCommand before part count
 ends_now before part count within unfinished_rest keeps (inl (fault, there)) = inl (ends_at_fault before part count fault within unfinished_rest keeps there)
 ends_now before part count within unfinished_rest keeps (inr (some, (commands, whole))) =

@@ -3,7 +3,7 @@ use Rattle.std.specs.Prelude.{◌≡◌, ◌⊎◌, ◌≤◌, ◌<◌, ◌-◌,
 use Rattle.dss_frames.specs.Dss.{Dss}
 use Rattle.dss_frames.specs.Fault.{IsUnfinished}
 use Rattle.dss_frames.specs.Lending.{IsWanted}
-use Rattle.dss_frames.specs.Reading.{unfinished, Reads}
+use Rattle.dss_frames.specs.Reading.{unfinished, ReadsAs}
 use Rattle.conversation.specs.declared.front.Need.{Need}
 use Rattle.conversation.specs.declared.front.Need.TheVariants.{Bytes, Local, Short as short, Closed as closed}
 use Rattle.access_exchange.specs.Settings.{Settings}
@@ -46,13 +46,13 @@ pub record EndsAtFault (before : Attended) (piece : List ℕ) (taken : ℕ) : Ty
   pub some : 0 < taken
   pub commands : List (List Dss)
   pub rest : List ℕ
-  pub one_less : Reads (before.rest ++ take (taken - 1) piece) commands (unfinished rest)
+  pub one_less : ReadsAs (before.rest ++ take (taken - 1) piece) commands (unfinished rest)
 
 -- the last byte that was taken is the last one of a command
 pub record EndsWithCommand (before : Attended) (piece : List ℕ) (taken : ℕ) : Type 0 where
   pub some : 0 < taken
   pub commands : List (List Dss)
-  pub whole : Reads (before.rest ++ take taken piece) commands (unfinished [])
+  pub whole : ReadsAs (before.rest ++ take taken piece) commands (unfinished [])
 
 -- The conversation heard the bytes of the piece that were taken, and its replies were appended. All of
 -- the piece is taken where the conversation stays open, and nothing where it was closed before.

@@ -2,12 +2,12 @@
 use Rattle.std.specs.Prelude.{◌≡◌, ℕ, ◌+◌, List, map, Option, Some, None, slice_get, slice_set, if◌then◌else◌}
 use Rattle.durable_images.specs.Journaled.{OnDisk}
 use Rattle.drda_node.specs.declared.node.Node.{Node}
-use Rattle.drda_node.specs.declared.place.Place.{Place}
+use Rattle.drda_node.specs.declared.slot.Slot.{Slot}
 use Rattle.drda_node.specs.declared.node.ConversationId.{ConversationId}
 use Rattle.drda_node.specs.Machine.{Conversation, Machine, IsOpen, opened}
 use Rattle.drda_node.specs.Feeding.{shown_held}
 
-abbrev pub shown : Place → Option Conversation
+abbrev pub shown : Slot → Option Conversation
 shown place = if place.is_open then Some (shown_held place.front) else None
 
 -- the core that its conversations ask
@@ -29,7 +29,7 @@ pub record Register : Type 0 where
   pub numbers : List ℕ
   pub given : ℕ
 
-abbrev pub number_of : Place → ℕ
+abbrev pub number_of : Slot → ℕ
 number_of place = place.number
 
 abbrev pub register : {D : Type 0} {d : _} → Node D d → Register

@@ -2,10 +2,10 @@
 use Rattle.std.specs.Prelude.{◌≡◌, List}
 use Rattle.std.specs.List.{All}
 use Rattle.access_exchange.specs.Settings.{Settings}
-use Rattle.drda_node.specs.declared.place.Place.{Place}
+use Rattle.drda_node.specs.declared.slot.Slot.{Slot}
 
-abbrev pub ServesWith : Settings → Place → Type 0
+abbrev pub ServesWith : Settings → Slot → Type 0
 ServesWith settings place = place.front.settings ≡ settings
 
-abbrev pub AllServe : Settings → List Place → Type 0
+abbrev pub AllServe : Settings → List Slot → Type 0
 AllServe settings places = All (ServesWith settings) places

@@ -8,7 +8,7 @@ ghost use Rattle.drda_node.specs.Records.{record_text};
 use std::alloc::AllocError;
 
 /// The most bytes that one record brings.
-pub(crate) const LARGEST: usize = 65536;
+pub(crate) const MAX_DATA_BYTES: usize = 65536;
 
 /// An event without its bytes.
 #[derive(Clone, Copy, Debug, PartialEq, Eq)]
@@ -29,7 +29,7 @@ pub(crate) fn head_of(kind: u8, number: u8, size: usize) -> Option<Head>
 {
     if kind == 1 && size == 0 {
         Some(Head::Opens(number))
-    } else if kind == 2 && size <= LARGEST {
+    } else if kind == 2 && size <= MAX_DATA_BYTES {
         Some(Head::Sends(number, size))
     } else if kind == 3 && size == 0 {
         Some(Head::Loses(number))

@@ -7,10 +7,10 @@ mod event;
 mod fed;
 mod feeding;
 mod node;
-mod place;
 mod reading;
 mod row;
 mod serving;
+mod slot;
 mod writing;
 
 // What a node is started with.

@@ -5,8 +5,8 @@ ghost use Rattle.drda_node.specs.Sharing.{AllServe};
 
 use crate::asker::Asker;
 use crate::fed::Fed;
-use crate::place::Place;
 use crate::row::{PLACES, free_places};
+use crate::slot::Slot;
 use conversation::Settings;
 use drda_disk::Disk;
 use durable_core::DurableCore;
@@ -46,7 +46,7 @@ pub struct Node<D: Disk> {
     alloc: Global,
     settings: Settings,
     pub(crate) core: DurableCore<D>,
-    pub(crate) places: Vec<Place>,
+    pub(crate) places: Vec<Slot>,
     pub(crate) next_number: u64,
     ghost sixty_four: { length places.items ≡ 64 },
     ghost alike: { AllServe settings places.items },

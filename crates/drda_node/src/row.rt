@@ -4,7 +4,7 @@ ghost use Rattle.std.specs.Prelude.{◌≡◌, IfOk, length, map, None, replicat
 ghost use Rattle.drda_node.specs.Register.{shown};
 ghost use Rattle.drda_node.specs.Sharing.{AllServe};
 
-use crate::place::Place;
+use crate::slot::Slot;
 use conversation::Settings;
 use std::alloc::{AllocError, Global};
 
@@ -12,14 +12,14 @@ use std::alloc::{AllocError, Global};
 pub(crate) const PLACES: usize = 64;
 
 /// A row of free places.
-pub(crate) fn free_places(alloc: Global, settings: &Settings) -> Result<Vec<Place>, AllocError>
+pub(crate) fn free_places(alloc: Global, settings: &Settings) -> Result<Vec<Slot>, AllocError>
     ensures count { IfOk result (λ places. length places.items ≡ 64) }
     ensures alike { IfOk result (λ places. AllServe settings.now places.items) }
     ensures free { IfOk result (λ places. map shown places.items ≡ replicate 64 None) }
 {
     let mut places = Vec::new(alloc);
     for _ in 0..PLACES {
-        places.push(Place::new(alloc, settings)?)?;
+        places.push(Slot::new(alloc, settings)?)?;
     }
     Ok(places)
 }

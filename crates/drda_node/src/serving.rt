@@ -6,7 +6,7 @@ ghost use Rattle.drda_node.specs.Register.{core_in, machine};
 ghost use Rattle.drda_node.specs.Serving.{Runs};
 
 use crate::answering::answer;
-use crate::event::LARGEST;
+use crate::event::MAX_DATA_BYTES;
 use crate::node::Node;
 use crate::reading::{Incoming, read_event};
 use crate::writing::write_whole;
@@ -77,5 +77,5 @@ ghost use Rattle.std.specs.Prelude.{◌≡◌, IfOk, vec_len, length};
 fn room_for_bytes(alloc: Global) -> Result<Vec<u8>, AllocError>
     ensures { IfOk result (λ v. length v.items ≡ 65536) }
 {
-    vec![in alloc; 0u8; LARGEST]
+    vec![in alloc; 0u8; MAX_DATA_BYTES]
 }

@@ -5,7 +5,7 @@ use Rattle.dss_frames.specs.declared.fault.FrameFault.{FrameFault}
 use Rattle.dss_frames.specs.Dss.{Dss, AreSegments}
 use Rattle.dss_frames.specs.Command.{IsCommand}
 use Rattle.dss_frames.specs.Fault.{FaultAt, BeginsWith, IsUnfinished}
-use Rattle.dss_frames.specs.Reading.{End, unfinished, faulty as faulty_end, EndsAt, Reads, HasOneReading, StandsOnce}
+use Rattle.dss_frames.specs.Reading.{End, unfinished, faulty as faulty_end, EndsAt, ReadsAs, HasOneReading, StandsOnce}
 use Rattle.dss_frames.proofs.Machine.{State, gathering, filling, whole, faulty, run, start, IsUnderWay}
 use Rattle.dss_frames.proofs.Ways.{run-begins, run-fault}
 use Rattle.dss_frames.proofs.Holds.{Holds, start_holds}
@@ -67,7 +67,7 @@ begins_length bytes rest dsss h =
     omega arith
 
 abbrev HasReading : List ℕ → Type 0
-HasReading text = (commands : List (List Dss)) × (end : End) × Reads text commands end
+HasReading text = (commands : List (List Dss)) × (end : End) × ReadsAs text commands end
 
 has_reading : (most : ℕ) (text : List ℕ) → length text ≤ most → Stands text → HasReading text
 has_reading most text le (inr (inl (fault, h))) = ([], faulty_end fault, h)
@@ -87,13 +87,13 @@ ended : (text rest : List ℕ) (end : End) (command : List Dss) → EndsAt text 
 ended text rest (unfinished remains) command h k = h.1.no_command command rest (subst (λ (b : List ℕ). BeginsWith b command rest) h.0 k)
 ended text rest (faulty_end fault) command h k = not_both text command rest fault k h
 
-one_reading : (commands others : List (List Dss)) (text : List ℕ) (end other : End) → Reads text commands end → Reads text others other → (others ≡ commands) × (other ≡ end)
+one_reading : (commands others : List (List Dss)) (text : List ℕ) (end other : End) → ReadsAs text commands end → ReadsAs text others other → (others ≡ commands) × (other ≡ end)
 one_reading [] [] text end other h k = (refl, end_same text end other h k)
 one_reading [] (o ∷ others) text end other h k = absurd (ended text k.0 end o h k.1)
 one_reading (c ∷ commands) [] text end other h k = absurd (ended text h.0 other c k h.1)
 one_reading (c ∷ commands) (o ∷ others) text end other h k =
     let first = one_command text c o h.0 k.0 h.1 k.1 in
-    let rest = one_reading commands others h.0 end other h.2 (subst (λ (b : List ℕ). Reads b others other) (sym first.1) k.2) in
+    let rest = one_reading commands others h.0 end other h.2 (subst (λ (b : List ℕ). ReadsAs b others other) (sym first.1) k.2) in
     let same : o ∷ others ≡ c ∷ commands = cc in
     (same, rest.1)
 

@@ -5,20 +5,20 @@ use Rattle.std.proofs.lemmas.List.Edits.{take-paste}
 use Rattle.std.proofs.Math.Seq.{paste, take-length}
 use Rattle.std.specs.List.{copy_within}
 use Rattle.drda_words.specs.Place.{part}
-use Rattle.dss_frames.specs.declared.place.Place.{Place}
+use Rattle.dss_frames.specs.declared.progress.Progress.{Progress}
 use Rattle.dss_frames.specs.declared.fault.FrameFault.{FrameFault}
 use Rattle.dss_frames.specs.Dss.{Dss, AreDsss}
 use Rattle.dss_frames.specs.Command.{IsCommand}
 use Rattle.dss_frames.specs.Fault.{FaultAt, BeginsWith, IsUnfinished}
 use Rattle.dss_frames.specs.Group.{joined_dsss}
-use Rattle.dss_frames.specs.Place.{IsAt, IsKnownFault, IsSettled, HasCommand}
+use Rattle.dss_frames.specs.Progress.{IsAt, IsKnownFault, IsConsistent, HasCommand}
 use Rattle.dss_frames.proofs.Holds.{fault_more}
 use Rattle.dss_frames.proofs.Readings.{stands_once}
 use Rattle.dss_frames.proofs.Steps.{place_more}
 
 -- the bytes that follow lie elsewhere
-pub settled_elsewhere : (items others : List ℕ) (lent lent_size start at : ℕ) (place : Place) (at_fault : Bool) → IsSettled items lent lent_size start place at_fault
-    → drop at others ≡ drop start items → at ≤ length others → IsSettled others at 0 at place at_fault
+pub settled_elsewhere : (items others : List ℕ) (lent lent_size start at : ℕ) (place : Progress) (at_fault : Bool) → IsConsistent items lent lent_size start place at_fault
+    → drop at others ≡ drop start items → at ≤ length others → IsConsistent others at 0 at place at_fault
 settled_elsewhere items others lent lent_size start at place at_fault h e le = record {
   lent_before = omega arith;
   start_within = le;
@@ -27,8 +27,8 @@ settled_elsewhere items others lent lent_size start at place at_fault h e le = r
 }
 
 -- more bytes follow
-pub settled_more : (items more : List ℕ) (lent lent_size start : ℕ) (place : Place) (at_fault : Bool) → IsSettled items lent lent_size start place at_fault
-    → IsSettled (items ++ more) lent lent_size start place at_fault
+pub settled_more : (items more : List ℕ) (lent lent_size start : ℕ) (place : Progress) (at_fault : Bool) → IsConsistent items lent lent_size start place at_fault
+    → IsConsistent (items ++ more) lent lent_size start place at_fault
 settled_more items more lent lent_size start place at_fault h =
     let within : start ≤ length items = h.start_within in
     let e : drop start (items ++ more) ≡ drop start items ++ more = drop-append-le start items more within in

@@ -6,17 +6,17 @@ use Rattle.dss_frames.specs.declared.turn.Turn.{Turn}
 use Rattle.dss_frames.specs.declared.turn.Turn.TheVariants.{Request, Object, Nothing}
 use Rattle.dss_frames.specs.declared.fault.SyntaxCode.{SyntaxCode}
 use Rattle.dss_frames.specs.declared.fault.FrameFault.{FrameFault}
-use Rattle.dss_frames.specs.declared.place.Expected.{Expected}
-use Rattle.dss_frames.specs.declared.place.Expected.TheVariants.{Header, Continuation}
-use Rattle.dss_frames.specs.declared.place.Place.{Place}
-use Rattle.dss_frames.specs.declared.place.Found.TheVariants.{Nothing as Nothing_yet}
+use Rattle.dss_frames.specs.declared.progress.Expected.{Expected}
+use Rattle.dss_frames.specs.declared.progress.Expected.TheVariants.{Header, Continuation}
+use Rattle.dss_frames.specs.declared.progress.Progress.{Progress}
+use Rattle.dss_frames.specs.declared.progress.Found.TheVariants.{Nothing as Nothing_yet}
 use Rattle.drda_words.specs.Number.{word}
 use Rattle.dss_frames.specs.Length.{is_continued, segment_length, dss_limit}
 use Rattle.dss_frames.specs.Dss.{Dss}
 use Rattle.dss_frames.specs.Command.{turn_after, IsCommand}
 use Rattle.dss_frames.specs.Fault.{Next, dss_in_turn, continuation_of, UpTo, IsWrong, FaultAt, IsUnfinished, CanBeJudged, header_size, header_fault, continuation_fault}
 use Rattle.dss_frames.specs.Judging.{judged, unless_wrong, after_segment, IsWithinLimit}
-use Rattle.dss_frames.specs.Place.{IsExpected, Reaches, IsAt, HasCommand, Finds, found_when, found_at, header_length}
+use Rattle.dss_frames.specs.Progress.{IsExpected, Reaches, IsAt, HasCommand, Finds, found_when, found_at, header_length}
 use Rattle.dss_frames.proofs.Headers.{header_right, continuation_right}
 use Rattle.dss_frames.proofs.Machine.{State, arrive, filled, fill, stop_or, begun, joined, run, start, run-append, run-fill, run-fill-short, IsUnderWay}
 use Rattle.dss_frames.proofs.Ways.{IsOpen, run-up_to}
@@ -199,22 +199,22 @@ filled_reaches false dsss dss declared bytes h = border_reaches (dsss ++ dss ∷
 
 -- ---- places
 
-reached : (bytes : List ℕ) (place : Place) → IsAt bytes place → place.at ≤ length bytes → Reaches (take place.at bytes) place.expected
+reached : (bytes : List ℕ) (place : Progress) → IsAt bytes place → place.at ≤ length bytes → Reaches (take place.at bytes) place.expected
 reached bytes place h le =
     subst (λ (b : List ℕ). Reaches (take place.at b) place.expected) (append-nil bytes) (h.there [] (let k = ap length (append-nil bytes) in omega arith))
 
-pub place_fault : (bytes : List ℕ) (place : Place) (fault : FrameFault) → IsAt bytes place → place.at ≤ length bytes → judged place.expected (drop place.at bytes) ≡ Err fault → FaultAt bytes fault
+pub place_fault : (bytes : List ℕ) (place : Progress) (fault : FrameFault) → IsAt bytes place → place.at ≤ length bytes → judged place.expected (drop place.at bytes) ≡ Err fault → FaultAt bytes fault
 place_fault bytes place fault h le e =
     let r = reached bytes place h le in
     (take place.at bytes, drop place.at bytes, r.0, r.1, sym (take-append-drop place.at bytes), r.2, wrong r.1 place.expected (drop place.at bytes) fault r.3 e)
 
-pub place_early : (bytes : List ℕ) (place : Place) → IsAt bytes place → length bytes < place.at → IsUnfinished bytes
+pub place_early : (bytes : List ℕ) (place : Progress) → IsAt bytes place → length bytes < place.at → IsUnfinished bytes
 place_early bytes place h lt = subst (λ (b : List ℕ). IsUnfinished b) (append-nil bytes) (h.early [] (let k = ap length (append-nil bytes) in omega arith))
 
 run-behind : (bytes rest : List ℕ) (dsss : List Dss) (next : Next) → UpTo bytes dsss next → run start (bytes ++ rest) ≡ run (arrive dsss next) rest
 run-behind bytes rest dsss next h = run-append start bytes rest ∙ ap (λ (s : State). run s rest) (run-up_to bytes dsss next h)
 
-pub place_part : (bytes : List ℕ) (place : Place) → IsAt bytes place → place.at ≤ length bytes → GoesOn place.expected → judged place.expected (drop place.at bytes) ≡ Ok None → IsUnfinished bytes
+pub place_part : (bytes : List ℕ) (place : Progress) → IsAt bytes place → place.at ≤ length bytes → GoesOn place.expected → judged place.expected (drop place.at bytes) ≡ Ok None → IsUnfinished bytes
 place_part bytes place h le goes e =
     let r = reached bytes place h le in
     let under = part r.1 place.expected r.0 (drop place.at bytes) r.3 goes e in
@@ -225,7 +225,7 @@ whole_command : (dsss : List Dss) (next : Next) (bytes : List ℕ) → UpTo byte
 whole_command dsss (dss_in_turn turn) bytes h e = subst (λ (t : Turn). UpTo bytes dsss (dss_in_turn t)) e h
 whole_command dsss (continuation_of dss declared) bytes h e = absurd e
 
-pub place_command : (bytes : List ℕ) (place : Place) → IsAt bytes place → place.at ≤ length bytes → place.expected ≡ Header Nothing → HasCommand bytes place.at
+pub place_command : (bytes : List ℕ) (place : Progress) → IsAt bytes place → place.at ≤ length bytes → place.expected ≡ Header Nothing → HasCommand bytes place.at
 place_command bytes place h le e =
     let r = reached bytes place h le in
     (le, (r.0, whole_command r.0 r.1 (take place.at bytes) r.2 (subst (λ (x : Expected). IsExpected r.1 x) e r.3)))
@@ -234,7 +234,7 @@ place_command bytes place h le e =
 behind_more : (bytes more : List ℕ) (at : ℕ) → at ≤ length bytes → drop at (bytes ++ more) ≡ drop at bytes ++ more
 behind_more bytes more at le = drop-append-le at bytes more le
 
-next_there : (bytes more : List ℕ) (place : Place) (after : Expected) (size : ℕ) → IsAt bytes place → place.at ≤ length bytes
+next_there : (bytes more : List ℕ) (place : Progress) (after : Expected) (size : ℕ) → IsAt bytes place → place.at ≤ length bytes
     → judged place.expected (drop place.at bytes) ≡ Ok (Some (after, size))
     → place.at + size ≤ length (bytes ++ more) → Reaches (take (place.at + size) (bytes ++ more)) after
 next_there bytes more place after size h le e fits =
@@ -264,7 +264,7 @@ next_there bytes more place after size h le e fits =
     subst (λ (s : State). Holds s (take (at + size) all)) runs (start_holds (take (at + size) all)) in
     subst (λ (a : Expected). Reaches (take (at + size) all) a) x.expects (filled_reaches x.more r.0 (joined x.dss contents) x.declared (take (at + size) all) holds)
 
-next_early : (bytes more : List ℕ) (place : Place) (after : Expected) (size : ℕ) → IsAt bytes place → place.at ≤ length bytes
+next_early : (bytes more : List ℕ) (place : Progress) (after : Expected) (size : ℕ) → IsAt bytes place → place.at ≤ length bytes
     → judged place.expected (drop place.at bytes) ≡ Ok (Some (after, size))
     → length (bytes ++ more) < place.at + size → IsUnfinished (bytes ++ more)
 next_early bytes more place after size h le e short =
@@ -285,7 +285,7 @@ next_early bytes more place after size h le e short =
     is_unfinished all (let P : State → Type 0 = λ s. IsUnderWay s in subst P (sym runs) (run-fill-short left x.missing r.0 x.more x.dss x.declared (omega arith)))
 
 -- one header further on
-pub place_next : (bytes : List ℕ) (place : Place) (after : Expected) (size : ℕ) → IsAt bytes place → place.at ≤ length bytes
+pub place_next : (bytes : List ℕ) (place : Progress) (after : Expected) (size : ℕ) → IsAt bytes place → place.at ≤ length bytes
     → judged place.expected (drop place.at bytes) ≡ Ok (Some (after, size)) → (1 ≤ size) × (size < 32768) × IsAt bytes (record { at = place.at + size; expected = after })
 place_next bytes place after size h le e =
     let r = reached bytes place h le in
@@ -302,7 +302,7 @@ place_next bytes place after size h le e =
     )
 
 -- more bytes change no place
-pub place_more : (bytes more : List ℕ) (place : Place) → IsAt bytes place → IsAt (bytes ++ more) place
+pub place_more : (bytes more : List ℕ) (place : Progress) → IsAt bytes place → IsAt (bytes ++ more) place
 place_more bytes more place h = record {
   early = λ others lt. subst (λ (b : List ℕ). IsUnfinished b) (sym (append_assoc bytes more others)) (h.early (more ++ others) (let k = ap length (append_assoc bytes more others) in omega arith));
   there = λ others le. subst (λ (b : List ℕ). Reaches (take place.at b) place.expected) (sym (append_assoc bytes more others)) (h.there (more ++ others) (let k = ap length (append_assoc bytes more others) in omega arith));
@@ -333,26 +333,26 @@ short_header (Continuation format of_dss so_far) (high ∷ low ∷ bytes) goes e
     absurd (judged_nothing (continuation_fault so_far high low) of_dss (outcome (after_segment (is_continued high low) format of_dss (so_far + segment_length high low)) (segment_length high low)) _ e refl)
 short_header (Continuation format of_dss so_far) bytes goes e = omega arith
 
-place_short : (bytes : List ℕ) (place : Place) → place.at ≤ length bytes → GoesOn place.expected → judged place.expected (drop place.at bytes) ≡ Ok None
+place_short : (bytes : List ℕ) (place : Progress) → place.at ≤ length bytes → GoesOn place.expected → judged place.expected (drop place.at bytes) ≡ Ok None
     → length bytes < place.at + header_length place.expected
 place_short bytes place le goes e = let k = length-drop place.at bytes in let short = short_header place.expected (drop place.at bytes) goes e in omega arith
 
-waiting : (bytes : List ℕ) (place : Place) → IsAt bytes place → place.at ≤ length bytes → GoesOn place.expected → judged place.expected (drop place.at bytes) ≡ Ok None → Finds bytes (Ok (Nothing_yet place))
+waiting : (bytes : List ℕ) (place : Progress) → IsAt bytes place → place.at ≤ length bytes → GoesOn place.expected → judged place.expected (drop place.at bytes) ≡ Ok None → Finds bytes (Ok (Nothing_yet place))
 waiting bytes place h le goes e = (place_part bytes place h le goes e, h, place_short bytes place le goes e)
 
 -- what is found where no header has come at a place
-found_when_is : (expected : Expected) (bytes : List ℕ) (place : Place) → place.expected ≡ expected → IsAt bytes place → place.at ≤ length bytes → judged expected (drop place.at bytes) ≡ Ok None
+found_when_is : (expected : Expected) (bytes : List ℕ) (place : Progress) → place.expected ≡ expected → IsAt bytes place → place.at ≤ length bytes → judged expected (drop place.at bytes) ≡ Ok None
     → Finds bytes (Ok (found_when expected place))
 found_when_is (Header Nothing) bytes place same h le e = place_command bytes place h le same
 found_when_is (Header Request) bytes place same h le e = waiting bytes place h le (rw same tt) (rw same e)
 found_when_is (Header (Object of_dss)) bytes place same h le e = waiting bytes place h le (rw same tt) (rw same e)
 found_when_is (Continuation format of_dss declared) bytes place same h le e = waiting bytes place h le (rw same tt) (rw same e)
 
-pub place_found : (bytes : List ℕ) (place : Place) → IsAt bytes place → place.at ≤ length bytes → judged place.expected (drop place.at bytes) ≡ Ok None → Finds bytes (Ok (found_at place))
+pub place_found : (bytes : List ℕ) (place : Progress) → IsAt bytes place → place.at ≤ length bytes → judged place.expected (drop place.at bytes) ≡ Ok None → Finds bytes (Ok (found_at place))
 place_found bytes place h le e = found_when_is place.expected bytes place refl h le e
 
 -- beyond the bytes that are held
-pub place_beyond : (bytes : List ℕ) (place : Place) → IsAt bytes place → length bytes < place.at → Finds bytes (Ok (Nothing_yet place))
+pub place_beyond : (bytes : List ℕ) (place : Progress) → IsAt bytes place → length bytes < place.at → Finds bytes (Ok (Nothing_yet place))
 place_beyond bytes place h lt = (place_early bytes place h lt, h, omega arith)
 
 -- ---- the next header, once it has come
@@ -367,7 +367,7 @@ expected_size (dss_in_turn turn) (Header expected) e = ap (λ (t : Turn). header
 expected_size (continuation_of dss declared) (Continuation format of_dss so_far) e = refl
 expected_size next expected e = absurd e
 
-pub place_judged : (bytes more : List ℕ) (place : Place) → IsAt bytes place → length (bytes ++ more) ≡ place.at + header_length place.expected → CanBeJudged (bytes ++ more)
+pub place_judged : (bytes more : List ℕ) (place : Progress) → IsAt bytes place → length (bytes ++ more) ≡ place.at + header_length place.expected → CanBeJudged (bytes ++ more)
 place_judged bytes more place h size =
     let all : List ℕ = bytes ++ more in
     let r = h.there more (omega arith) in

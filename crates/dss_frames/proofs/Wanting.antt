@@ -5,14 +5,14 @@ use Rattle.std.proofs.Math.Seq.{take-append_seam, take-append-add}
 use Rattle.std.proofs.Math.Dec.{ltb}
 use Rattle.std.proofs.lemmas.Bool.{ltb-true, ltb-false}
 use Rattle.dss_frames.specs.declared.turn.Turn.TheVariants.{Request, Object, Nothing}
-use Rattle.dss_frames.specs.declared.place.Expected.{Expected}
-use Rattle.dss_frames.specs.declared.place.Expected.TheVariants.{Header, Continuation}
-use Rattle.dss_frames.specs.declared.place.Place.{Place}
+use Rattle.dss_frames.specs.declared.progress.Expected.{Expected}
+use Rattle.dss_frames.specs.declared.progress.Expected.TheVariants.{Header, Continuation}
+use Rattle.dss_frames.specs.declared.progress.Progress.{Progress}
 use Rattle.dss_frames.specs.Dss.{Dss}
 use Rattle.dss_frames.specs.Command.{IsCommand}
 use Rattle.dss_frames.specs.Fault.{IsUnfinished}
 use Rattle.dss_frames.specs.Judging.{judged}
-use Rattle.dss_frames.specs.Place.{IsAt, HasCommand, header_length}
+use Rattle.dss_frames.specs.Progress.{IsAt, HasCommand, header_length}
 use Rattle.dss_frames.specs.Lending.{KeepsToOne, IsWanted}
 use Rattle.dss_frames.proofs.Steps.{GoesOn, place_part, place_early, place_more, place_judged}
 
@@ -27,7 +27,7 @@ short_header (Continuation format of_dss declared) (a ∷ b ∷ bytes) lt = absu
 short_header (Continuation format of_dss declared) bytes lt = (tt, refl)
 
 -- what stands before the end of the next header is unfinished
-unfinished_by : (early : Bool) (bytes : List ℕ) (place : Place) → ltb (length bytes) place.at ≡ early → IsAt bytes place → length bytes < place.at + header_length place.expected → IsUnfinished bytes
+unfinished_by : (early : Bool) (bytes : List ℕ) (place : Progress) → ltb (length bytes) place.at ≡ early → IsAt bytes place → length bytes < place.at + header_length place.expected → IsUnfinished bytes
 unfinished_by true bytes place e h lt = place_early bytes place h (ltb-true _ _ e)
 unfinished_by false bytes place e h lt =
     let le : place.at ≤ length bytes = ltb-false _ _ e in
@@ -35,11 +35,11 @@ unfinished_by false bytes place e h lt =
     let short = short_header place.expected (drop place.at bytes) tail in
     place_part bytes place h le short.0 short.1
 
-unfinished : (bytes : List ℕ) (place : Place) → IsAt bytes place → length bytes < place.at + header_length place.expected → IsUnfinished bytes
+unfinished : (bytes : List ℕ) (place : Progress) → IsAt bytes place → length bytes < place.at + header_length place.expected → IsUnfinished bytes
 unfinished bytes place h lt = unfinished_by (ltb (length bytes) place.at) bytes place refl h lt
 
 -- a command that ends before the last byte
-ends_before : (within : Bool) (bytes more front rest : List ℕ) (command : List Dss) (place : Place) (n : ℕ) → ltb (length bytes) (length front) ≡ within
+ends_before : (within : Bool) (bytes more front rest : List ℕ) (command : List Dss) (place : Progress) (n : ℕ) → ltb (length bytes) (length front) ≡ within
     → IsAt bytes place → n ≡ max 1 (place.at + header_length place.expected - length bytes) → IsUnfinished bytes → length more ≤ n
     → bytes ++ more ≡ front ++ rest → 1 ≤ length rest → IsCommand front command → ⊥
 ends_before false bytes more front rest command place n w h e un le same some is =
@@ -58,12 +58,12 @@ ends_before true bytes more front rest command place n w h e un le same some is 
     let un_all = unfinished all place (place_more bytes (take count more) place h) (omega arith) in
     un_all.no_command command [] (front, front_is ∙ sym (append-nil front), is)
 
-pub keeps_to_one : (bytes : List ℕ) (place : Place) (n : ℕ) → IsAt bytes place → n ≡ max 1 (place.at + header_length place.expected - length bytes) → KeepsToOne bytes n
+pub keeps_to_one : (bytes : List ℕ) (place : Progress) (n : ℕ) → IsAt bytes place → n ≡ max 1 (place.at + header_length place.expected - length bytes) → KeepsToOne bytes n
 keeps_to_one bytes place n h e more command [] un le begins = refl
 keeps_to_one bytes place n h e more command (x ∷ rest) un le begins =
     absurd (ends_before (ltb (length bytes) (length begins.0)) bytes more begins.0 (x ∷ rest) command place n refl h e un le begins.1 (omega arith) begins.2)
 
-pub is_wanted : (bytes : List ℕ) (place : Place) (n : ℕ) → IsAt bytes place → length bytes < place.at + header_length place.expected → n ≡ max 1 (place.at + header_length place.expected - length bytes) → IsWanted bytes n
+pub is_wanted : (bytes : List ℕ) (place : Progress) (n : ℕ) → IsAt bytes place → length bytes < place.at + header_length place.expected → n ≡ max 1 (place.at + header_length place.expected - length bytes) → IsWanted bytes n
 is_wanted bytes place n h lt e = record {
   less = λ more fewer. let k = length-append bytes more in unfinished (bytes ++ more) place (place_more bytes more place h) (omega arith);
   just = λ more so_many. let k = length-append bytes more in place_judged bytes more place h (omega arith);

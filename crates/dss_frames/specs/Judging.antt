@@ -1,8 +1,8 @@
 -- What a header that has come says, and nothing of the bytes behind it.
 use Rattle.std.specs.Prelude.{ℕ, ◌+◌, Bool, List, ◌∷◌, ◌≤◌, Option, Some, None, Result, Ok, Err, if◌then◌else◌}
 use Rattle.dss_frames.specs.declared.turn.Turn.TheVariants.{Nothing}
-use Rattle.dss_frames.specs.declared.place.Expected.{Expected}
-use Rattle.dss_frames.specs.declared.place.Expected.TheVariants.{Header, Continuation}
+use Rattle.dss_frames.specs.declared.progress.Expected.{Expected}
+use Rattle.dss_frames.specs.declared.progress.Expected.TheVariants.{Header, Continuation}
 use Rattle.dss_frames.specs.declared.fault.SyntaxCode.{SyntaxCode}
 use Rattle.dss_frames.specs.declared.fault.FrameFault.{FrameFault}
 use Rattle.drda_words.specs.Number.{word}

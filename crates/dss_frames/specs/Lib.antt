@@ -8,7 +8,7 @@ pub mod Writing
 pub mod Group
 pub mod Held
 pub mod Lending
-pub mod Place
+pub mod Progress
 pub mod Judging
 pub mod Joining
 pub mod Parts

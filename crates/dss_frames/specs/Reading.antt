@@ -14,17 +14,17 @@ EndsAt bytes (unfinished rest) = (bytes ≡ rest) × IsUnfinished rest
 EndsAt bytes (faulty fault) = FaultAt bytes fault
 
 -- the text is these commands, and then its end
-abbrev pub Reads : List ℕ → List (List Dss) → End → Type 0
-Reads text [] end = EndsAt text end
-Reads text (command ∷ commands) end = (rest : List ℕ) × BeginsWith text command rest × Reads rest commands end
+abbrev pub ReadsAs : List ℕ → List (List Dss) → End → Type 0
+ReadsAs text [] end = EndsAt text end
+ReadsAs text (command ∷ commands) end = (rest : List ℕ) × BeginsWith text command rest × ReadsAs rest commands end
 
 -- a reading of a text, and there is no other
 pub record HasOneReading (text : List ℕ) : Type 0 where
   pub commands : List (List Dss)
   pub end : End
-  pub reads : Reads text commands end
-  pub only_commands : (others : List (List Dss)) (other : End) → Reads text others other → others ≡ commands
-  pub only_end : (others : List (List Dss)) (other : End) → Reads text others other → other ≡ end
+  pub reads : ReadsAs text commands end
+  pub only_commands : (others : List (List Dss)) (other : End) → ReadsAs text others other → others ≡ commands
+  pub only_end : (others : List (List Dss)) (other : End) → ReadsAs text others other → other ≡ end
 
 -- what stands in front of a text: a command, and no other; or a fault, and no other; or neither
 pub record StandsOnce (bytes : List ℕ) : Type 0 where

@@ -7,11 +7,11 @@ ghost use Rattle.dss_frames.specs.Command.{turn_after, is_due};
 
 use crate::fault::{FrameFault, SyntaxCode};
 use crate::format::Format;
-use crate::place::Expected;
+use crate::progress::Expected;
 use crate::turn::Turn;
 
 /// The most bytes that a DSS and its continuations may declare, their headers counted.
-const DSS_LIMIT: usize = 1_048_576;
+const MAX_DSS_BYTES: usize = 1_048_576;
 
 /// The length of a segment, its own header counted.
 pub(crate) fn segment_length(high: u8, low: u8) -> usize
@@ -78,7 +78,7 @@ fn continuation_fault(declared: usize, high: u8, low: u8) -> Option<SyntaxCode>
     ensures { result ≡ continuation_fault declared high low }
 {
     let counted = segment_length(high, low);
-    if declared + counted > DSS_LIMIT {
+    if declared + counted > MAX_DSS_BYTES {
         Some(SyntaxCode::TooLong)
     } else if counted < 3 {
         Some(SyntaxCode::ContinuationTooShort)

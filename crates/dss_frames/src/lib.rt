@@ -10,7 +10,7 @@ mod joining;
 mod judging;
 mod laws;
 mod looking;
-mod place;
+mod progress;
 mod segments;
 mod turn;
 mod writing;

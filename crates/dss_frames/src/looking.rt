@@ -1,9 +1,9 @@
 ghost use Rattle.std.specs.Prelude.{◌≡◌, ◌≤◌, ◌+◌, ◌-◌, max, length};
-ghost use Rattle.dss_frames.specs.Place.{IsAt, Finds, header_length, found_at};
+ghost use Rattle.dss_frames.specs.Progress.{IsAt, Finds, header_length, found_at};
 
 use crate::fault::FrameFault;
 use crate::judging::judge;
-use crate::place::{Expected, Found, Place};
+use crate::progress::{Expected, Found, Progress};
 use crate::turn::Turn;
 
 fn header_length(expected: Expected) -> usize
@@ -18,7 +18,7 @@ fn header_length(expected: Expected) -> usize
 }
 
 /// How many bytes more the next header takes, or the rest of the command; one at the least.
-pub(crate) fn missing(place: Place, bytes: &[u8]) -> usize
+pub(crate) fn missing(place: Progress, bytes: &[u8]) -> usize
     requires { place.at ≤ length bytes.now + 32767 }
     ensures { result ≡ max 1 (place.at + header_length place.expected - length bytes.now) }
 {
@@ -27,7 +27,7 @@ pub(crate) fn missing(place: Place, bytes: &[u8]) -> usize
 }
 
 /// Judges the headers that have come, from a place on.
-pub(crate) fn look(place: Place, bytes: &[u8]) -> Result<Found, FrameFault>
+pub(crate) fn look(place: Progress, bytes: &[u8]) -> Result<Found, FrameFault>
     requires { IsAt bytes.now place }
     ensures { Finds bytes.now result }
 {
@@ -37,7 +37,7 @@ pub(crate) fn look(place: Place, bytes: &[u8]) -> Result<Found, FrameFault>
             Err(fault) => return Err(fault),
             Ok(None) => return Ok(found(place)),
             Ok(Some((expected, size))) => {
-                place = Place {
+                place = Progress {
                     at: place.at + size,
                     expected,
                 };
@@ -47,7 +47,7 @@ pub(crate) fn look(place: Place, bytes: &[u8]) -> Result<Found, FrameFault>
     Ok(Found::Nothing(place))
 }
 
-fn found(place: Place) -> Found
+fn found(place: Progress) -> Found
     ensures { result ≡ found_at place }
 {
     match place.expected {

@@ -2,7 +2,7 @@ use crate::fault::FrameFault;
 use crate::group::Group;
 use crate::joining::join;
 use crate::looking::{look, missing};
-use crate::place::{Expected, Found, Place};
+use crate::progress::{Expected, Found, Progress};
 use crate::turn::Turn;
 use std::alloc::Global;
 use std::marker::Model;
@@ -18,7 +18,7 @@ pub struct Segments {
     lent: usize,
     lent_size: usize,
     start: usize,
-    place: Place,
+    place: Progress,
     at_fault: bool,
 }
 
@@ -27,13 +27,13 @@ impl Model for Segments {
     ghost use Rattle.drda_words.specs.Place.{part};
     ghost use Rattle.dss_frames.specs.Held.{Held};
     ghost use Rattle.dss_frames.specs.Group.{joined_dsss};
-    ghost use Rattle.dss_frames.specs.Place.{IsSettled};
+    ghost use Rattle.dss_frames.specs.Progress.{IsConsistent};
 
     ghost Value = { Held };
 
     ghost view = { λ s. record { rest = drop s.start s.buf.items; at_fault = s.at_fault; last = joined_dsss (part s.buf.items s.lent s.lent_size) } };
 
-    ghost invariant = { λ s. IsSettled s.buf.items s.lent s.lent_size s.start s.place s.at_fault };
+    ghost invariant = { λ s. IsConsistent s.buf.items s.lent s.lent_size s.start s.place s.at_fault };
 }
 
 impl Segments {
@@ -42,7 +42,7 @@ impl Segments {
     ghost use Rattle.dss_frames.specs.Group.{command_of};
     ghost use Rattle.dss_frames.specs.Fault.{IsUnfinished};
     ghost use Rattle.dss_frames.specs.Lending.{EndsAs, Takes, TakesFront, TakesCommand, KeepsToOne, IsWanted};
-    ghost use Rattle.dss_frames.specs.Place.{HasCommand};
+    ghost use Rattle.dss_frames.specs.Progress.{HasCommand};
 
     /// A reader that holds nothing. It takes no memory before the first bytes come.
     pub fn new(alloc: Global) -> Segments
@@ -54,7 +54,7 @@ impl Segments {
             lent: 0,
             lent_size: 0,
             start: 0,
-            place: Place {
+            place: Progress {
                 at: 0,
                 expected: Expected::Header(Turn::Request),
             },
@@ -167,7 +167,7 @@ impl Segments {
         self.lent = self.start;
         self.lent_size = joined;
         self.start = end;
-        self.place = Place {
+        self.place = Progress {
             at: 0,
             expected: Expected::Header(Turn::Request),
         };

@@ -13,14 +13,14 @@ use Rattle.row_values.specs.declared.row.ReadError.{ReadError}
 use Rattle.row_values.specs.declared.row.ReadError.TheVariants.{Damaged, NoMemory}
 use Rattle.tables.specs.Change.{Change}
 use Rattle.tables.specs.ChangeView.{change_of}
-use Rattle.xa_manager.specs.declared.due.Outcome.{Outcome}
+use Rattle.xa_manager.specs.declared.due.Decision.{Decision}
 use Rattle.unit_locks.specs.Claim.{Claim}
 use Rattle.unit_locks.specs.Claims.{all_added}
 use Rattle.core_steps.specs.Units.{Work}
 use Rattle.unit_journal.specs.Record.{Entry, entry_of}
 use Rattle.unit_journal.specs.declared.record.Record.{Record}
 use Rattle.unit_records.specs.Laws.{OneReading}
-use Rattle.unit_records.specs.Read.{Reads}
+use Rattle.unit_records.specs.Read.{ReadsRecord}
 use Rattle.unit_records.specs.Records.{IsRecord, UnitRecord, committed, decided, prepared}
 use Rattle.unit_records.specs.declared.record.UnitRecord.{UnitRecord as CodeRecord}
 use Rattle.unit_records.specs.declared.record.UnitRecord.TheVariants.{Commit, Decide, Prepare}
@@ -91,17 +91,17 @@ module _ (once : OneReading) (e : Entry) (doubts : Doubts) where
   not_committed : (changes : List Change) → IsRecord e.kind e.body (committed changes) → (xid : List ℕ) (more : List Change) (claims : List Claim) → IsRecord e.kind e.body (prepared xid more claims) → ⊥
   not_committed changes is xid more claims p = let clash : committed changes ≡ prepared xid more claims = once e.kind e.body (committed changes) (prepared xid more claims) is p in absurd cc
 
-  not_decided : (other : List ℕ) (o : Outcome) → IsRecord e.kind e.body (decided other o) → (xid : List ℕ) (more : List Change) (claims : List Claim) → IsRecord e.kind e.body (prepared xid more claims) → ⊥
+  not_decided : (other : List ℕ) (o : Decision) → IsRecord e.kind e.body (decided other o) → (xid : List ℕ) (more : List Change) (claims : List Claim) → IsRecord e.kind e.body (prepared xid more claims) → ⊥
   not_decided other o is xid more claims p = let clash : decided other o ≡ prepared xid more claims = once e.kind e.body (decided other o) (prepared xid more claims) is p in absurd cc
 
-  told_of : (said : Result CodeRecord ReadError) (told : Bool) → Reads e.kind e.body said → IsPrepare doubts said told → IsTrue told ↔ PreparesOne doubts e
+  told_of : (said : Result CodeRecord ReadError) (told : Bool) → ReadsRecord e.kind e.body said → IsPrepare doubts said told → IsTrue told ↔ PreparesOne doubts e
   told_of (Ok (Prepare xid changes claims)) told is known = says_prepared xid (map change_of changes.items) claims.items is told known
   told_of (Ok (Commit changes)) told is known = says_other told known (not_committed (map change_of changes.items) is)
-  told_of (Ok (Decide xid outcome)) told is known = says_other told known (not_decided xid outcome is)
+  told_of (Ok (Decide xid decision)) told is known = says_other told known (not_decided xid decision is)
   told_of (Err Damaged) told is known = says_other told known (λ xid changes claims p. is (prepared xid changes claims) p)
   told_of (Err NoMemory) told is known = absurd known
 
-  pub prepares : {E : Type 0} (said : Result CodeRecord ReadError) (r : Result Bool E) → Reads e.kind e.body said → IfOk r (IsPrepare doubts said) → IfOk r (λ told. IsTrue told ↔ PreparesOne doubts e)
+  pub prepares : {E : Type 0} (said : Result CodeRecord ReadError) (r : Result Bool E) → ReadsRecord e.kind e.body said → IfOk r (IsPrepare doubts said) → IfOk r (λ told. IsTrue told ↔ PreparesOne doubts e)
   prepares said (Ok told) is known = told_of said told is known
   prepares said (Err error) is known = tt
 

@@ -14,7 +14,7 @@ use Rattle.durable_core.specs.Damage.{PreparesOne}
 abbrev pub IsPrepare : Doubts → Result CodeRecord ReadError → Bool → Type 0
 IsPrepare doubts (Ok (Prepare xid changes claims)) told = told ≡ is_some (doubt_of doubts xid)
 IsPrepare doubts (Ok (Commit changes)) told = told ≡ false
-IsPrepare doubts (Ok (Decide xid outcome)) told = told ≡ false
+IsPrepare doubts (Ok (Decide xid decision)) told = told ≡ false
 IsPrepare doubts (Err Damaged) told = told ≡ false
 IsPrepare doubts (Err NoMemory) told = ⊥
 

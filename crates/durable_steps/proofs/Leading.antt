@@ -12,7 +12,7 @@ use Rattle.xa_manager.specs.declared.branch.Branch.{Branch}
 use Rattle.xa_manager.specs.declared.branch.BranchState.TheVariants.{Idle, Prepared}
 use Rattle.xa_manager.specs.declared.due.Action.{Action}
 use Rattle.xa_manager.specs.declared.due.Action.TheVariants as action
-use Rattle.xa_manager.specs.declared.due.Outcome.TheVariants as outcome
+use Rattle.xa_manager.specs.declared.due.Decision.TheVariants as decision
 use Rattle.xa_manager.specs.declared.due.Work.{Work as Facts}
 use Rattle.xa_manager.specs.Branch.{in_doubt_count, in_doubt_xids, joined_xid, state_of, with_state, without}
 use Rattle.xa_manager.specs.Due.{after, facts_of}
@@ -123,12 +123,12 @@ module _ (s : CoreState) (x : List ℕ) (kept : IsKept s) where
       (the_record (prepared x u.changes u.claims) r (Some (prepared x u.changes u.claims)) refl h) (prepare_leads fit.0.0 fit.0.1 fit.1)
   action_leads c w r action.Forget fit h = idle_leads fit.0 r fit.1 h
   action_leads c w r action.CommitOnePhase fit h = idle_leads fit.0 r fit.1 h
-  action_leads c w r (action.Decide outcome.Commit) fit h =
+  action_leads c w r (action.Decide decision.Commit) fit h =
       subst (λ (q : UnitRecord). next (durable_part s) q ≡ Some (durable_part (record { base = bare s.base (Commit (global x)); branches = without s.branches x })))
-      (the_record (decided x outcome.Commit) r (Some (decided x outcome.Commit)) refl h) (decided_leads outcome.Commit (bare s.base (Commit (global x))) fit refl refl)
-  action_leads c w r (action.Decide outcome.RollBack) fit h =
+      (the_record (decided x decision.Commit) r (Some (decided x decision.Commit)) refl h) (decided_leads decision.Commit (bare s.base (Commit (global x))) fit refl refl)
+  action_leads c w r (action.Decide decision.RollBack) fit h =
       subst (λ (q : UnitRecord). next (durable_part s) q ≡ Some (durable_part (record { base = bare s.base (Leave (global x)); branches = without s.branches x })))
-      (the_record (decided x outcome.RollBack) r (Some (decided x outcome.RollBack)) refl h) (decided_leads outcome.RollBack (bare s.base (Leave (global x))) fit refl refl)
+      (the_record (decided x decision.RollBack) r (Some (decided x decision.RollBack)) refl h) (decided_leads decision.RollBack (bare s.base (Leave (global x))) fit refl refl)
   action_leads c w r action.RollBack fit h = none_due r None refl h
 
 -- ---- the step

@@ -16,8 +16,8 @@ use Rattle.tables.specs.View.{is_sound, is_store}
 use Rattle.unit_locks.specs.Claims.{all_added}
 use Rattle.core_steps.specs.Units.{Work, apply_all}
 use Rattle.unit_journal.specs.Record.{Entry}
-use Rattle.xa_manager.specs.declared.due.Outcome.{Outcome}
-use Rattle.xa_manager.specs.declared.due.Outcome.TheVariants as outcome
+use Rattle.xa_manager.specs.declared.due.Decision.{Decision}
+use Rattle.xa_manager.specs.declared.due.Decision.TheVariants as decision
 use Rattle.unit_records.specs.Records.{IsChange, IsGood, UnitRecord, committed, decided, prepared}
 use Rattle.durable_units.specs.Durable.{Doubts, Durable, decide, doubt_of, fresh, have_places, is_claimed, is_free, next, with_doubt, without_doubt}
 use Rattle.durable_units.specs.Sound.{IsGoodDoubt, IsSound, LeadsAreSound, StatesStaySound}
@@ -118,9 +118,9 @@ work_good (e ∷ es) xid work all is = found_good (bytes_eq xid e.0) e (doubt_of
 
 -- ---- records
 
-decided_kept : StoresAreKept → (o : Outcome) (s : Store) (work : Work) → AllByRecursion IsChange work.changes → is_store s ≡ true → is_store (decide o s work) ≡ true
-decided_kept kept outcome.Commit s work all good = stores_kept kept work.changes s all good
-decided_kept kept outcome.RollBack s work all good = good
+decided_kept : StoresAreKept → (o : Decision) (s : Store) (work : Work) → AllByRecursion IsChange work.changes → is_store s ≡ true → is_store (decide o s work) ≡ true
+decided_kept kept decision.Commit s work all good = stores_kept kept work.changes s all good
+decided_kept kept decision.RollBack s work all good = good
 
 pub states_stay_sound : StoresAreKept → StatesStaySound
 states_stay_sound kept d e (committed changes) good h sound =

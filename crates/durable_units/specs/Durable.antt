@@ -13,8 +13,8 @@ use Rattle.tables.specs.Tables.{Store, apply, schema_of}
 use Rattle.unit_locks.specs.Claim.{Claim}
 use Rattle.unit_locks.specs.Claims.{all_added, has}
 use Rattle.unit_locks.specs.declared.access.Access.TheVariants.{Write}
-use Rattle.xa_manager.specs.declared.due.Outcome.{Outcome}
-use Rattle.xa_manager.specs.declared.due.Outcome.TheVariants as outcome
+use Rattle.xa_manager.specs.declared.due.Decision.{Decision}
+use Rattle.xa_manager.specs.declared.due.Decision.TheVariants as decision
 use Rattle.core_steps.specs.Units.{Work, apply_all}
 use Rattle.unit_records.specs.Records.{UnitRecord, committed, decided, prepared}
 
@@ -79,9 +79,9 @@ abbrev pub is_free : Doubts → List ℕ → Bool
 is_free doubts xid = not (is_some (doubt_of doubts xid)) && nat_lt (length doubts) 256
 
 -- a unit that was in doubt is decided: its changes are made, or not, and its claims end
-abbrev pub decide : Outcome → Store → Work → Store
-decide outcome.Commit store work = apply_all work.changes store
-decide outcome.RollBack store work = store
+abbrev pub decide : Decision → Store → Work → Store
+decide decision.Commit store work = apply_all work.changes store
+decide decision.RollBack store work = store
 
 -- ---- records
 

@@ -16,10 +16,7 @@ use tables::Change;
 use unit_locks::Claim;
 use unit_records::UnitRecord;
 use xa_calls::Xid;
-use xa_manager::Outcome;
-
-/// The most units in doubt.
-const MAX_IN_DOUBT: usize = 256;
+use xa_manager::{Decision, MAX_IN_DOUBT};
 
 /// The committed tables and the units in doubt that the records so far stand for.
 #[derive(Debug, Drop)]
@@ -57,7 +54,7 @@ impl Replay {
                 changes,
                 claims,
             } => self.prepare(alloc, xid, changes, claims),
-            UnitRecord::Decide { xid, outcome } => self.decide(alloc, &xid, outcome),
+            UnitRecord::Decide { xid, decision } => self.decide(alloc, &xid, decision),
         }
     }
 
@@ -111,20 +108,20 @@ impl Replay {
         Ok(())
     }
 
-    fn decide(&mut self, alloc: Global, xid: &Xid, outcome: Outcome) -> Result<(), ReadError>
-        ensures { Steps result (next (durable_of self.old) (decided xid.now outcome)) (durable_of self.new) }
+    fn decide(&mut self, alloc: Global, xid: &Xid, decision: Decision) -> Result<(), ReadError>
+        ensures { Steps result (next (durable_of self.old) (decided xid.now decision)) (durable_of self.new) }
     {
         let place = match place_of(self.units.as_slice(), xid) {
             Some(place) => place,
             None => return Err(ReadError::Damaged),
         };
         let unit = take_at(&mut self.units, xid, place);
-        match outcome {
-            Outcome::Commit => {
+        match decision {
+            Decision::Commit => {
                 make(&mut self.store, alloc, unit.changes)?;
                 Ok(())
             }
-            Outcome::RollBack => Ok(()),
+            Decision::RollBack => Ok(()),
         }
     }
 }

@@ -46,8 +46,8 @@ slot_of e = (e.0.items, option_map (λ row. row.items) e.1)
 abbrev pub slots_in : List (Vec ℕ × Option (Vec ℕ)) → Slots
 slots_in entries = map slot_of entries
 
-abbrev pub is_ordered : BTreeMap (Vec ℕ) (Option (Vec ℕ)) → Type 0
-is_ordered m = IsOrdered (λ x y. by_bytes x.items y.items) m
+abbrev pub IsInOrder : BTreeMap (Vec ℕ) (Option (Vec ℕ)) → Type 0
+IsInOrder m = IsOrdered (λ x y. by_bytes x.items y.items) m
 
 -- a query finds this key
 abbrev pub finds : List ℕ → Vec ℕ → Bool

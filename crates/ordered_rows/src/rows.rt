@@ -4,7 +4,7 @@ ghost use Rattle.std.specs.Prelude.{◌≡◌, ℕ, List, [], None, OnOk, false,
 ghost use Rattle.std.specs.List.Sorted.{IsStrictlySortedBy};
 ghost use Rattle.std.specs.Map.{keys_of, lookup, remove_entry};
 ghost use Rattle.std.specs.BTreeMap.{insert_entry};
-ghost use Rattle.ordered_rows.specs.Slots.{Slots, HasRoom, by_bytes, by_key, has_room, is_ordered, rows_of, slots_in};
+ghost use Rattle.ordered_rows.specs.Slots.{Slots, HasRoom, by_bytes, by_key, has_room, IsInOrder, rows_of, slots_in};
 ghost use Rattle.ordered_rows.specs.Walk.{from_key, rows_left};
 
 use crate::slots::{drop_slot, is_blank, write_slot};
@@ -28,7 +28,7 @@ impl Model for OrderedRows {
 
     ghost view = { λ t. slots_in t.slots.entries };
 
-    ghost invariant = { λ t. is_ordered t.slots };
+    ghost invariant = { λ t. IsInOrder t.slots };
 }
 
 impl OrderedRows {

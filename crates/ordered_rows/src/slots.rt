@@ -2,7 +2,7 @@
 
 ghost use Rattle.std.specs.Prelude.{◌≡◌, None};
 ghost use Rattle.std.specs.Map.{lookup, remove_entry, set_value};
-ghost use Rattle.ordered_rows.specs.Slots.{finds, is_blank, is_ordered};
+ghost use Rattle.ordered_rows.specs.Slots.{finds, is_blank, IsInOrder};
 
 use std::collections::BTreeMap;
 
@@ -13,7 +13,7 @@ pub(crate) fn write_slot(
     row: Option<Vec<u8>>,
 )
     ensures entries { slots.new.entries ≡ set_value (finds key.now) slots.old.entries row }
-    ensures ordered { is_ordered slots.new }
+    ensures ordered { IsInOrder slots.new }
 {
     if let Some(slot) = slots.get_mut(key) {
         *slot = row;
@@ -34,7 +34,7 @@ pub(crate) fn is_blank(slots: &BTreeMap<Vec<u8>, Option<Vec<u8>>>, key: &[u8]) -
 pub(crate) fn drop_slot(slots: &mut BTreeMap<Vec<u8>, Option<Vec<u8>>>, key: &[u8])
     ensures entries { slots.new.entries ≡ remove_entry (finds key.now) slots.old.entries }
     ensures gone { lookup (finds key.now) slots.new.entries ≡ None }
-    ensures ordered { is_ordered slots.new }
+    ensures ordered { IsInOrder slots.new }
 {
     slots.remove(key);
 }

@@ -5,7 +5,7 @@ use Rattle.xa_calls.specs.declared.request.Request.{Request}
 use Rattle.xa_calls.specs.declared.request.Request.TheVariants as request
 use Rattle.xa_manager.specs.declared.due.Action.{Action}
 use Rattle.xa_manager.specs.declared.due.Action.TheVariants as action
-use Rattle.xa_manager.specs.declared.due.Outcome.TheVariants as decided
+use Rattle.xa_manager.specs.declared.due.Decision.TheVariants as decided
 use Rattle.unit_records.specs.Records.{UnitRecord}
 use Rattle.recording.specs.Due.{record_due}
 use Rattle.recording.specs.declared.record_error.RecordError.{RecordError}

@@ -20,7 +20,7 @@ use table_store::TableStore;
 use tables::Change;
 use unit_table::{Owner, Units};
 use xa_calls::Xid;
-use xa_manager::{Action, Branch, Outcome};
+use xa_manager::{Action, Branch, Decision};
 
 /// An owner's unit is committed: its changes are recorded and then made, and it ends with its claims.
 /// Memory is taken, and a record is made, only where it has changes. On an error all units and tables
@@ -62,11 +62,11 @@ fn commit_decided<R: Recorder>(
     alloc: Global,
     xid: &Xid,
 ) -> Result<(), RecordError>
-    requires allowed { R.allows recorder.old (decided xid.now Outcome.Commit) }
+    requires allowed { R.allows recorder.old (decided xid.now Decision.Commit) }
     ensures done { OnOk result (base_of store.new units.new ≡ bare (base_of store.old units.old) (Commit (global xid.now))) }
-    ensures recorded { OnOk result (R.records recorder.old (decided xid.now Outcome.Commit) recorder.new) }
+    ensures recorded { OnOk result (R.records recorder.old (decided xid.now Decision.Commit) recorder.new) }
     ensures kept { OnErr result (base_of store.new units.new ≡ base_of store.old units.old) }
-    ensures refused { IfErr result (λ error. Refuses R.fails (Some (decided xid.now Outcome.Commit)) error recorder.old recorder.new) }
+    ensures refused { IfErr result (λ error. Refuses R.fails (Some (decided xid.now Decision.Commit)) error recorder.old recorder.new) }
 {
     let owner = Owner::Global(*xid);
     match make_room(store, alloc, units.changes(&owner)) {
@@ -75,7 +75,7 @@ fn commit_decided<R: Recorder>(
     }
     let recorded = recorder.record(Saying::Decide {
         xid,
-        outcome: Outcome::Commit,
+        decision: Decision::Commit,
     });
     finish(store, units, &owner, recorded)
 }
@@ -87,15 +87,15 @@ fn roll_back_decided<R: Recorder>(
     recorder: &mut R,
     xid: &Xid,
 ) -> Result<(), RecordError>
-    requires allowed { R.allows recorder.old (decided xid.now Outcome.RollBack) }
+    requires allowed { R.allows recorder.old (decided xid.now Decision.RollBack) }
     ensures done { OnOk result (units.new ≡ without (global xid.now) units.old) }
-    ensures recorded { OnOk result (R.records recorder.old (decided xid.now Outcome.RollBack) recorder.new) }
+    ensures recorded { OnOk result (R.records recorder.old (decided xid.now Decision.RollBack) recorder.new) }
     ensures kept { OnErr result (units.new ≡ units.old) }
-    ensures refused { IfErr result (λ error. Refuses R.fails (Some (decided xid.now Outcome.RollBack)) error recorder.old recorder.new) }
+    ensures refused { IfErr result (λ error. Refuses R.fails (Some (decided xid.now Decision.RollBack)) error recorder.old recorder.new) }
 {
     recorder.record(Saying::Decide {
         xid,
-        outcome: Outcome::RollBack,
+        decision: Decision::RollBack,
     })?;
     let _changes = units.end(&Owner::Global(*xid));
     Ok(())
@@ -168,8 +168,8 @@ pub(crate) fn do_due<R: Recorder>(
         Action::Forget | Action::CommitOnePhase => {
             commit_unit(store, units, recorder, alloc, &owner)
         }
-        Action::Decide(Outcome::Commit) => commit_decided(store, units, recorder, alloc, xid),
-        Action::Decide(Outcome::RollBack) => roll_back_decided(units, recorder, xid),
+        Action::Decide(Decision::Commit) => commit_decided(store, units, recorder, alloc, xid),
+        Action::Decide(Decision::RollBack) => roll_back_decided(units, recorder, xid),
         Action::RollBack => {
             let _changes = units.end(&owner);
             Ok(())

@@ -28,7 +28,7 @@ action_due xid unit (action.End ending) = None
 action_due xid unit action.Prepare = Some (prepared xid unit.changes unit.claims)
 action_due xid unit action.Forget = commit_due unit.changes
 action_due xid unit action.CommitOnePhase = commit_due unit.changes
-action_due xid unit (action.Decide outcome) = Some (decided xid outcome)
+action_due xid unit (action.Decide decision) = Some (decided xid decision)
 action_due xid unit action.RollBack = None
 
 abbrev pub xa_due : List Branch → Base → ℕ → Option Request → Option UnitRecord

@@ -8,4 +8,4 @@ use Rattle.recording.specs.declared.saying.Saying.TheVariants.{Commit, Decide, P
 abbrev pub said_by : Saying → UnitRecord
 said_by (Commit changes) = committed (map change_of changes.now)
 said_by (Prepare xid changes claims) = prepared xid.now (map change_of changes.now) claims.now
-said_by (Decide xid outcome) = decided xid.now outcome
+said_by (Decide xid decision) = decided xid.now decision

@@ -3,7 +3,7 @@
 use tables::Change;
 use unit_locks::Claim;
 use xa_calls::Xid;
-use xa_manager::Outcome;
+use xa_manager::Decision;
 
 /// What becomes of a unit of work, as its record says it. Contracts see it by `said_by`.
 #[derive(Clone, Copy, Debug)]
@@ -22,6 +22,6 @@ pub enum Saying<'a> {
     /// The branch of the XID, which is in doubt, is decided.
     Decide {
         xid: &'a Xid,
-        outcome: Outcome,
+        decision: Decision,
     },
 }

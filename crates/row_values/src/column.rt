@@ -7,6 +7,7 @@ ghost use Rattle.row_values.specs.Value.{value_of, number as number_value, text 
 ghost use Rattle.row_values.specs.Column.{column_of, fits, misfit_of, within};
 ghost use Rattle.row_values.specs.Schema.{goes_on_name, is_capital, is_column, is_limit, is_name};
 
+use crate::schema::{MAX_COLUMN_LENGTH, MAX_NAME_BYTES};
 use crate::value::Value;
 use std::alloc::{AllocError, Global};
 
@@ -126,7 +127,7 @@ pub fn is_name(bytes: &[u8]) -> bool
 {
     match bytes {
         [] => false,
-        [first, rest @ ..] => is_capital(*first) && all_go_on(rest) && rest.len() <= 29,
+        [first, rest @ ..] => is_capital(*first) && all_go_on(rest) && rest.len() < MAX_NAME_BYTES,
     }
 }
 
@@ -153,6 +154,6 @@ fn is_length(kind: Kind, length: u16) -> bool
 {
     match kind {
         Kind::SmallInt | Kind::Integer | Kind::BigInt => length == 0,
-        Kind::VarChar | Kind::VarBinary => 0 < length && length <= 2_000,
+        Kind::VarChar | Kind::VarBinary => 0 < length && length <= MAX_COLUMN_LENGTH,
     }
 }

@@ -9,7 +9,7 @@ use Rattle.dss_frames.specs.declared.fault.FrameFault.{FrameFault}
 use Rattle.dss_frames.specs.Fault.{FaultAt}
 use Rattle.drda_node.specs.Machine.{Conversation, Machine, beginning, lost, opened}
 use Rattle.drda_node.specs.declared.node.ConversationId.{ConversationId}
-use Rattle.drda_node.specs.declared.place.Place.{Place}
+use Rattle.drda_node.specs.declared.slot.Slot.{Slot}
 use Rattle.drda_node.specs.Register.{Names, Opens, Register, number_of, shown}
 use Rattle.drda_node.specs.Hearing.{Attended, Hears, attended, attended_at, conversation_of}
 use Rattle.drda_node.proofs.Conversing.{hears_then}

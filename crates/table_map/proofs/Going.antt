@@ -14,10 +14,10 @@ use Rattle.key_map.specs.Overlay.{change_of, said}
 use Rattle.key_map.proofs.Merged.{weaker}
 use Rattle.table_map.specs.Keyed.{keyed_rows}
 use Rattle.table_map.specs.Stored.{AreAt}
-use Rattle.table_map.specs.Walk.{PagesLeft, IsSettled, ReadsPage, Settles, TakesRow, TakesEntry}
-use Rattle.table_map.specs.Cursor.{IsLeft, GoesOn, Steps, SaysStep, RowStep, turn_of}
+use Rattle.table_map.specs.Walk.{PagesLeft, IsLoaded, ReadsPage, Loads, TakesRow, TakesEntry}
+use Rattle.table_map.specs.Cursor.{IsLeft, GoesOn, Steps, SaysStep, RowStep, smaller_of}
 use Rattle.table_map.specs.declared.cursor.RowCursor.{RowCursor}
-use Rattle.table_map.specs.declared.cursor.Turn.TheVariants as turn
+use Rattle.table_map.specs.declared.cursor.Smaller.TheVariants as smaller
 use Rattle.table_map.specs.declared.cursor.Step.{Step}
 use Rattle.table_map.specs.declared.cursor.Step.TheVariants as step
 
@@ -27,17 +27,17 @@ each_ok P Q (Err e) f h = tt
 
 -- ---- whose turn it is
 
-is_less : (o : Ordering) → match_ordering o turn.Change turn.Both turn.Row ≡ turn.Change → o ≡ Less
+is_less : (o : Ordering) → match_ordering o smaller.Change smaller.Both smaller.Row ≡ smaller.Change → o ≡ Less
 is_less Less e = refl
 is_less Equal e = absurd cc
 is_less Greater e = absurd cc
 
-is_equal : (o : Ordering) → match_ordering o turn.Change turn.Both turn.Row ≡ turn.Both → o ≡ Equal
+is_equal : (o : Ordering) → match_ordering o smaller.Change smaller.Both smaller.Row ≡ smaller.Both → o ≡ Equal
 is_equal Less e = absurd cc
 is_equal Equal e = refl
 is_equal Greater e = absurd cc
 
-is_greater : (o : Ordering) → match_ordering o turn.Change turn.Both turn.Row ≡ turn.Row → o ≡ Greater
+is_greater : (o : Ordering) → match_ordering o smaller.Change smaller.Both smaller.Row ≡ smaller.Row → o ≡ Greater
 is_greater Less e = absurd cc
 is_greater Equal e = absurd cc
 is_greater Greater e = refl
@@ -52,18 +52,18 @@ module _ (key_of : List ℕ → List ℕ) (file : List ℕ) where
   abbrev cursor : ℕ → ℕ → List (List ℕ) → Rows → RowCursor
   cursor at n rows entries = record { base = record { at = at; pages = n; rows = rows }; changes = entries }
 
-  row_above : (row : List ℕ) (rows : List (List ℕ)) (entries : Rows) → turn_of key_of (row ∷ rows) entries ≡ turn.Row → InOrder (map change_of entries) → Above (key_of row) (map change_of entries)
+  row_above : (row : List ℕ) (rows : List (List ℕ)) (entries : Rows) → smaller_of key_of (row ∷ rows) entries ≡ smaller.Row → InOrder (map change_of entries) → Above (key_of row) (map change_of entries)
   row_above row rows [] is up = tt
   row_above row rows (e ∷ es) is up = all_above (key_of row) e.0 (said e.1) (map change_of es) (mirrored e.0 (key_of row) (is_greater (by_bytes e.0 (key_of row)) is)) up
 
-  change_above : (e : List ℕ × List ℕ) (es : Rows) (rows : List (List ℕ)) (pages : List (List (List ℕ))) → turn_of key_of rows (e ∷ es) ≡ turn.Change → (rows ≡ [] → length pages ≡ 0) → InOrder (keyed_rows key_of (rows ++ rows_over pages)) → Above e.0 (keyed_rows key_of (rows ++ rows_over pages))
+  change_above : (e : List ℕ × List ℕ) (es : Rows) (rows : List (List ℕ)) (pages : List (List (List ℕ))) → smaller_of key_of rows (e ∷ es) ≡ smaller.Change → (rows ≡ [] → length pages ≡ 0) → InOrder (keyed_rows key_of (rows ++ rows_over pages)) → Above e.0 (keyed_rows key_of (rows ++ rows_over pages))
   change_above e es [] [] is settled up = tt
   change_above e es [] (page ∷ pages) is settled up = let none : suc (length pages) ≡ 0 = settled refl in absurd (omega (arith, none))
   change_above e es (row ∷ rows) pages is settled up = all_above e.0 (key_of row) row (keyed_rows key_of (rows ++ rows_over pages)) (is_less (by_bytes e.0 (key_of row)) is) up
 
   -- ---- a row of the pages
 
-  row_goes : RowFirst → (at n : ℕ) (row : List ℕ) (rows : List (List ℕ)) (entries left : Rows) → turn_of key_of (row ∷ rows) entries ≡ turn.Row → IsLeft key_of file (cursor at n (row ∷ rows) entries) left → GoesOn key_of file left row (cursor at n rows entries)
+  row_goes : RowFirst → (at n : ℕ) (row : List ℕ) (rows : List (List ℕ)) (entries left : Rows) → smaller_of key_of (row ∷ rows) entries ≡ smaller.Row → IsLeft key_of file (cursor at n (row ∷ rows) entries) left → GoesOn key_of file left row (cursor at n rows entries)
   row_goes law at n row rows entries left is held =
       let rest = keyed_rows key_of (rows ++ rows_over held.pages) in
       record {
@@ -73,18 +73,18 @@ module _ (key_of : List ℕ → List ℕ) (file : List ℕ) where
         is = record { pages = held.pages; stand = held.stand; many = held.many; order = sorted_tail by_bytes (key_of row) (keys_of rest) held.order; rising = held.rising; same = refl };
       }
 
-  no_row : (entries : Rows) → turn_of key_of [] entries ≡ turn.Row → ⊥
+  no_row : (entries : Rows) → smaller_of key_of [] entries ≡ smaller.Row → ⊥
   no_row [] is = absurd cc
   no_row (e ∷ es) is = absurd cc
 
-  row_given : RowFirst → (at n : ℕ) (rows : List (List ℕ)) (entries left : Rows) → turn_of key_of rows entries ≡ turn.Row → IsLeft key_of file (cursor at n rows entries) left
+  row_given : RowFirst → (at n : ℕ) (rows : List (List ℕ)) (entries left : Rows) → smaller_of key_of rows entries ≡ smaller.Row → IsLeft key_of file (cursor at n rows entries) left
       → (row : Option (Vec ℕ)) (more : List (List ℕ)) → TakesRow rows row more → (made : Step) → RowStep row made → Steps key_of file left made (cursor at n more entries)
-  row_given law at n rows entries left is held None more takes made gives = absurd (no_row entries (ap (λ (l : List (List ℕ)). turn_of key_of l entries) (sym takes.0) ∙ is))
+  row_given law at n rows entries left is held None more takes made gives = absurd (no_row entries (ap (λ (l : List (List ℕ)). smaller_of key_of l entries) (sym takes.0) ∙ is))
   row_given law at n rows entries left is held (Some row) more takes made gives =
       subst (λ (s : Step). Steps key_of file left s (cursor at n more entries)) (sym gives)
-      (row_goes law at n row.items more entries left (ap (λ (l : List (List ℕ)). turn_of key_of l entries) (sym takes) ∙ is) (subst (λ (l : List (List ℕ)). IsLeft key_of file (cursor at n l entries) left) takes held))
+      (row_goes law at n row.items more entries left (ap (λ (l : List (List ℕ)). smaller_of key_of l entries) (sym takes) ∙ is) (subst (λ (l : List (List ℕ)). IsLeft key_of file (cursor at n l entries) left) takes held))
 
-  pub row_steps : RowFirst → (old : RowCursor) (left : Rows) → turn_of key_of old.base.rows old.changes ≡ turn.Row → IsLeft key_of file old left
+  pub row_steps : RowFirst → (old : RowCursor) (left : Rows) → smaller_of key_of old.base.rows old.changes ≡ smaller.Row → IsLeft key_of file old left
       → (row : Option (Vec ℕ)) (new : PagesLeft) → TakesRow old.base.rows row new.rows → new.at ≡ old.base.at → new.pages ≡ old.base.pages → (made : Step) → RowStep row made → Steps key_of file left made (record { base = new; changes = old.changes })
   row_steps law old left is held row new takes at pages made gives =
       subst (λ a. Steps key_of file left made (cursor a new.pages new.rows old.changes)) (sym at)
@@ -109,13 +109,13 @@ module _ (key_of : List ℕ → List ℕ) (file : List ℕ) where
         is = record { pages = pages; stand = stand; many = many; order = order; rising = rising; same = refl };
       }
 
-  change_goes : ChangeFirst → (at n : ℕ) (rows : List (List ℕ)) (e : List ℕ × List ℕ) (es left : Rows) → (rows ≡ [] → n ≡ 0) → turn_of key_of rows (e ∷ es) ≡ turn.Change → IsLeft key_of file (cursor at n rows (e ∷ es)) left
+  change_goes : ChangeFirst → (at n : ℕ) (rows : List (List ℕ)) (e : List ℕ × List ℕ) (es left : Rows) → (rows ≡ [] → n ≡ 0) → smaller_of key_of rows (e ∷ es) ≡ smaller.Change → IsLeft key_of file (cursor at n rows (e ∷ es)) left
       → Told left (said e.1) (cursor at n rows es)
   change_goes law at n rows e es left settled is held =
       told at n rows held.pages e.0 es left held.stand held.many held.order (sorted_tail by_bytes e.0 (keys_of (map change_of es)) held.rising) (said e.1)
       (held.same ∙ law (keyed_rows key_of (rows ++ rows_over held.pages)) (change_of e) (map change_of es) (change_above e es rows held.pages is (λ none. held.many ∙ settled none) held.order) held.rising)
 
-  both_go : ChangeHere → (at n : ℕ) (row : List ℕ) (rows : List (List ℕ)) (e : List ℕ × List ℕ) (es left : Rows) → turn_of key_of (row ∷ rows) (e ∷ es) ≡ turn.Both → IsLeft key_of file (cursor at n (row ∷ rows) (e ∷ es)) left
+  both_go : ChangeHere → (at n : ℕ) (row : List ℕ) (rows : List (List ℕ)) (e : List ℕ × List ℕ) (es left : Rows) → smaller_of key_of (row ∷ rows) (e ∷ es) ≡ smaller.Both → IsLeft key_of file (cursor at n (row ∷ rows) (e ∷ es)) left
       → Told left (said e.1) (cursor at n rows es)
   both_go law at n row rows e es left is held =
       let rest = keyed_rows key_of (rows ++ rows_over held.pages) in
@@ -127,40 +127,40 @@ module _ (key_of : List ℕ → List ℕ) (file : List ℕ) where
   told_step left new e is (step.Row row) says = subst (λ (o : Option (List ℕ)). Told left o new) says is
   told_step left new e is step.Skip says = subst (λ (o : Option (List ℕ)). Told left o new) says is
 
-  no_change : (rows : List (List ℕ)) → turn_of key_of rows [] ≡ turn.Change → ⊥
+  no_change : (rows : List (List ℕ)) → smaller_of key_of rows [] ≡ smaller.Change → ⊥
   no_change [] is = absurd cc
   no_change (row ∷ rows) is = absurd cc
 
-  pub change_steps : ChangeFirst → (old : RowCursor) (left : Rows) → IsSettled old.base → turn_of key_of old.base.rows old.changes ≡ turn.Change → IsLeft key_of file old left
+  pub change_steps : ChangeFirst → (old : RowCursor) (left : Rows) → IsLoaded old.base → smaller_of key_of old.base.rows old.changes ≡ smaller.Change → IsLeft key_of file old left
       → (entry : Option (Bor (List ℕ) × Bor (List ℕ))) (more : Rows) → TakesEntry old.changes entry more → (made : Step) → SaysStep entry made → Steps key_of file left made (record { base = old.base; changes = more })
-  change_steps law old left settled is held None more takes made says = absurd (no_change old.base.rows (ap (λ (l : Rows). turn_of key_of old.base.rows l) (sym takes.0) ∙ is))
+  change_steps law old left settled is held None more takes made says = absurd (no_change old.base.rows (ap (λ (l : Rows). smaller_of key_of old.base.rows l) (sym takes.0) ∙ is))
   change_steps law old left settled is held (Some e) more takes made says =
       told_step left (record { base = old.base; changes = more }) e
-      (change_goes law old.base.at old.base.pages old.base.rows (e.0.now, e.1.now) more left settled (ap (λ (l : Rows). turn_of key_of old.base.rows l) (sym takes) ∙ is)
+      (change_goes law old.base.at old.base.pages old.base.rows (e.0.now, e.1.now) more left settled (ap (λ (l : Rows). smaller_of key_of old.base.rows l) (sym takes) ∙ is)
       (subst (λ (l : Rows). IsLeft key_of file (record { base = old.base; changes = l }) left) takes held))
       made says
 
-  not_both : (rows : List (List ℕ)) → turn_of key_of rows [] ≡ turn.Both → ⊥
+  not_both : (rows : List (List ℕ)) → smaller_of key_of rows [] ≡ smaller.Both → ⊥
   not_both [] is = absurd cc
   not_both (row ∷ rows) is = absurd cc
 
-  no_row_too : (entries : Rows) → turn_of key_of [] entries ≡ turn.Both → ⊥
+  no_row_too : (entries : Rows) → smaller_of key_of [] entries ≡ smaller.Both → ⊥
   no_row_too [] is = absurd cc
   no_row_too (e ∷ es) is = absurd cc
 
-  both_given : ChangeHere → (at n : ℕ) (rows : List (List ℕ)) (entries left : Rows) → turn_of key_of rows entries ≡ turn.Both → IsLeft key_of file (cursor at n rows entries) left
+  both_given : ChangeHere → (at n : ℕ) (rows : List (List ℕ)) (entries left : Rows) → smaller_of key_of rows entries ≡ smaller.Both → IsLeft key_of file (cursor at n rows entries) left
       → (row : Option (Vec ℕ)) (fewer : List (List ℕ)) → TakesRow rows row fewer → (entry : Option (Bor (List ℕ) × Bor (List ℕ))) (more : Rows) → TakesEntry entries entry more
       → (made : Step) → SaysStep entry made → Steps key_of file left made (cursor at n fewer more)
-  both_given law at n rows entries left is held None fewer takes entry more gives made says = absurd (no_row_too entries (ap (λ (l : List (List ℕ)). turn_of key_of l entries) (sym takes.0) ∙ is))
-  both_given law at n rows entries left is held (Some row) fewer takes None more gives made says = absurd (not_both rows (ap (λ (l : Rows). turn_of key_of rows l) (sym gives.0) ∙ is))
+  both_given law at n rows entries left is held None fewer takes entry more gives made says = absurd (no_row_too entries (ap (λ (l : List (List ℕ)). smaller_of key_of l entries) (sym takes.0) ∙ is))
+  both_given law at n rows entries left is held (Some row) fewer takes None more gives made says = absurd (not_both rows (ap (λ (l : Rows). smaller_of key_of rows l) (sym gives.0) ∙ is))
   both_given law at n rows entries left is held (Some row) fewer takes (Some e) more gives made says =
       told_step left (cursor at n fewer more) e
       (both_go law at n row.items fewer (e.0.now, e.1.now) more left
-      (ap (λ (l : Rows). turn_of key_of (row.items ∷ fewer) l) (sym gives) ∙ ap (λ (l : List (List ℕ)). turn_of key_of l entries) (sym takes) ∙ is)
+      (ap (λ (l : Rows). smaller_of key_of (row.items ∷ fewer) l) (sym gives) ∙ ap (λ (l : List (List ℕ)). smaller_of key_of l entries) (sym takes) ∙ is)
       (subst (λ (l : Rows). IsLeft key_of file (cursor at n (row.items ∷ fewer) l) left) gives (subst (λ (l : List (List ℕ)). IsLeft key_of file (cursor at n l entries) left) takes held)))
       made says
 
-  pub both_steps : ChangeHere → (old : RowCursor) (left : Rows) → turn_of key_of old.base.rows old.changes ≡ turn.Both → IsLeft key_of file old left
+  pub both_steps : ChangeHere → (old : RowCursor) (left : Rows) → smaller_of key_of old.base.rows old.changes ≡ smaller.Both → IsLeft key_of file old left
       → (row : Option (Vec ℕ)) (new : PagesLeft) → TakesRow old.base.rows row new.rows → new.at ≡ old.base.at → new.pages ≡ old.base.pages
       → (entry : Option (Bor (List ℕ) × Bor (List ℕ))) (more : Rows) → TakesEntry old.changes entry more → (made : Step) → SaysStep entry made → Steps key_of file left made (record { base = new; changes = more })
   both_steps law old left is held row new takes at pages entry more gives made says =
@@ -187,6 +187,6 @@ module _ (key_of : List ℕ → List ℕ) (file : List ℕ) where
         same = same ∙ ap (λ (l : List (List ℕ)). merged (keyed_rows key_of l) (map change_of old.changes)) is;
       }
 
-  pub settled_left : (old : RowCursor) (left : Rows) (new : PagesLeft) → Settles file old.base new → IsLeft key_of file old left → IsLeft key_of file (record { base = new; changes = old.changes }) left
+  pub settled_left : (old : RowCursor) (left : Rows) (new : PagesLeft) → Loads file old.base new → IsLeft key_of file old left → IsLeft key_of file (record { base = new; changes = old.changes }) left
   settled_left old left new (inl same) held = subst (λ (b : PagesLeft). IsLeft key_of file (record { base = b; changes = old.changes }) left) (sym same) held
   settled_left old left new (inr reads) held = read_left old left new held.pages reads held.stand held.many held.order held.rising held.same

@@ -10,8 +10,8 @@ use Rattle.key_map.specs.Overlay.{change_of, said}
 use Rattle.table_map.specs.Keyed.{keyed_rows}
 use Rattle.table_map.specs.Stored.{AreAt}
 use Rattle.table_map.specs.declared.cursor.RowCursor.{RowCursor}
-use Rattle.table_map.specs.declared.cursor.Turn.{Turn}
-use Rattle.table_map.specs.declared.cursor.Turn.TheVariants as turn
+use Rattle.table_map.specs.declared.cursor.Smaller.{Smaller}
+use Rattle.table_map.specs.declared.cursor.Smaller.TheVariants as smaller
 use Rattle.table_map.specs.declared.cursor.Step.{Step}
 use Rattle.table_map.specs.declared.cursor.Step.TheVariants as step
 
@@ -40,11 +40,11 @@ GivesFirst key_of file left (Some row) cursor = GoesOn key_of file left row.item
 -- ---- step by step
 
 -- whose key comes first
-abbrev pub turn_of : (List ℕ → List ℕ) → List (List ℕ) → Rows → Turn
-turn_of key_of [] [] = turn.End
-turn_of key_of [] (e ∷ es) = turn.Change
-turn_of key_of (row ∷ rows) [] = turn.Row
-turn_of key_of (row ∷ rows) (e ∷ es) = match_ordering (by_bytes e.0 (key_of row)) turn.Change turn.Both turn.Row
+abbrev pub smaller_of : (List ℕ → List ℕ) → List (List ℕ) → Rows → Smaller
+smaller_of key_of [] [] = smaller.End
+smaller_of key_of [] (e ∷ es) = smaller.Change
+smaller_of key_of (row ∷ rows) [] = smaller.Row
+smaller_of key_of (row ∷ rows) (e ∷ es) = match_ordering (by_bytes e.0 (key_of row)) smaller.Change smaller.Both smaller.Row
 
 -- what became of the rows that are left: none was left, the first was given, or there was a mark and all are left
 abbrev pub Steps : (List ℕ → List ℕ) → List ℕ → Rows → Step → RowCursor → Type 0

@@ -14,8 +14,8 @@ pub record PagesLeft : Type 0 where
   pub rows : List (List ℕ)
 
 -- all rows of the page were given only where no page comes
-abbrev pub IsSettled : PagesLeft → Type 0
-IsSettled left = left.rows ≡ [] → left.pages ≡ 0
+abbrev pub IsLoaded : PagesLeft → Type 0
+IsLoaded left = left.rows ≡ [] → left.pages ≡ 0
 
 -- the next page was read: its rows are left now, and the pages behind it
 pub record ReadsPage (file : List ℕ) (old new : PagesLeft) : Type 0 where
@@ -25,8 +25,8 @@ pub record ReadsPage (file : List ℕ) (old new : PagesLeft) : Type 0 where
   pub rows : (rows : List (List ℕ)) → IsPage (record { kind = kind.Rows; rows = rows }) (part file old.at 8192) → new.rows ≡ rows
 
 -- nothing is read, or the rows of the page that came, as a disk with these bytes reads it
-abbrev pub Settles : List ℕ → PagesLeft → PagesLeft → Type 0
-Settles file old new = (new ≡ old) ⊎ ReadsPage file old new
+abbrev pub Loads : List ℕ → PagesLeft → PagesLeft → Type 0
+Loads file old new = (new ≡ old) ⊎ ReadsPage file old new
 
 abbrev pub IsFirstRow : List (List ℕ) → Option (Bor (List ℕ)) → Type 0
 IsFirstRow rows None = rows ≡ []

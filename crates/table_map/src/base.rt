@@ -5,7 +5,7 @@ ghost use Rattle.drda_disk.specs.Disk.{Stays};
 ghost use Rattle.row_pages.specs.Page.{IsPage};
 ghost use Rattle.row_pages.specs.Keeping.{AreRead, CountsPageFault, TellsDamage};
 ghost use Rattle.table_map.specs.Damage.{DamagedWhere, HasNoRows};
-ghost use Rattle.table_map.specs.Walk.{IsFirstRow, IsSettled, Settles, TakesRow};
+ghost use Rattle.table_map.specs.Walk.{IsFirstRow, IsLoaded, Loads, TakesRow};
 
 use drda_disk::Disk;
 use row_pages::{KeptPage, PAGE_BYTES, PageCache, PageFault, PageKind};
@@ -103,9 +103,9 @@ impl RowsLeft {
         disk: &mut D,
     ) -> Result<(), PageFault>
         requires { self.old.at + 8192 * self.old.pages ≤ length (D.life disk.old).seen }
-        ensures rows { IsTrue D.is_modelled → AreRead cache.old (D.life disk.old).seen → OnOk result (Settles (D.life disk.old).seen self.old self.new) }
+        ensures rows { IsTrue D.is_modelled → AreRead cache.old (D.life disk.old).seen → OnOk result (Loads (D.life disk.old).seen self.old self.new) }
         ensures damaged { IsTrue D.is_modelled → AreRead cache.old (D.life disk.old).seen → DamagedWhere ((0 < self.old.pages) × HasNoRows (part (D.life disk.old).seen self.old.at 8192)) result }
-        ensures settled { OnOk result (IsSettled self.new) }
+        ensures settled { OnOk result (IsLoaded self.new) }
         ensures end { self.new.at + 8192 * self.new.pages ≡ self.old.at + 8192 * self.old.pages }
         ensures forward { self.old.at ≤ self.new.at }
         ensures weight { self.new.pages * 2 ^ 64 + length self.new.rows ≤ self.old.pages * 2 ^ 64 + length self.old.rows }

@@ -3,9 +3,9 @@ ghost use Rattle.std.specs.Prelude.{◌≡◌, ◌+◌, ◌*◌, ◌<◌, ◌≤
 ghost use Rattle.drda_disk.specs.Disk.{Stays};
 ghost use Rattle.row_pages.specs.Keeping.{AreRead, CountsPageFault};
 ghost use Rattle.key_map.specs.Merging.{Rows};
-ghost use Rattle.table_map.specs.Cursor.{Falls, FallsAt, GivesFirst, IsLeft, RowStep, SaysStep, Steps, turn_of};
+ghost use Rattle.table_map.specs.Cursor.{Falls, FallsAt, GivesFirst, IsLeft, RowStep, SaysStep, Steps, smaller_of};
 ghost use Rattle.table_map.specs.Damage.{DamagedWhere, HasNoRows, SomePage};
-ghost use Rattle.table_map.specs.Walk.{IsSettled};
+ghost use Rattle.table_map.specs.Walk.{IsLoaded};
 
 use crate::RowKeys;
 use crate::base::RowsLeft;
@@ -26,7 +26,7 @@ pub struct RowCursor<'a> {
 
 /// Whose key comes first.
 #[derive(Clone, Copy, Debug, PartialEq, Eq)]
-pub(crate) enum Turn {
+pub(crate) enum Smaller {
     /// Nothing is left.
     End,
     /// A row of the pages.
@@ -71,35 +71,35 @@ fn of_row(row: Option<Vec<u8>>) -> Step
 
 impl<'a> RowCursor<'a> {
     /// Whose key comes first, where the rows of the page that was read are left.
-    fn turn<K: RowKeys>(&self, alloc: Global, keys: &K) -> Result<Turn, AllocError>
-        ensures { IfOk result (λ turn. turn ≡ turn_of (K.key_of keys.now) self.now.base.rows self.now.changes) }
+    fn smaller<K: RowKeys>(&self, alloc: Global, keys: &K) -> Result<Smaller, AllocError>
+        ensures { IfOk result (λ turn. turn ≡ smaller_of (K.key_of keys.now) self.now.base.rows self.now.changes) }
     {
         match (self.base.first(), self.changes.first()) {
-            (None, None) => Ok(Turn::End),
-            (Some(_), None) => Ok(Turn::Row),
-            (None, Some(_)) => Ok(Turn::Change),
+            (None, None) => Ok(Smaller::End),
+            (Some(_), None) => Ok(Smaller::Row),
+            (None, Some(_)) => Ok(Smaller::Change),
             (Some(row), Some((key, _))) => match keys.compare(alloc, key, row)? {
-                Ordering::Less => Ok(Turn::Change),
-                Ordering::Equal => Ok(Turn::Both),
-                Ordering::Greater => Ok(Turn::Row),
+                Ordering::Less => Ok(Smaller::Change),
+                Ordering::Equal => Ok(Smaller::Both),
+                Ordering::Greater => Ok(Smaller::Row),
             },
         }
     }
 
     /// One step: a row of the pages, a change, or a change in place of the row of its key.
     fn step<K: RowKeys>(&mut self, alloc: Global, keys: &K) -> Result<Step, AllocError>
-        requires { IsSettled self.old.base }
+        requires { IsLoaded self.old.base }
         ensures steps { (file : List ℕ) (left : Rows) → IsLeft (K.key_of keys.now) file self.old left → IfOk result (λ step. Steps (K.key_of keys.now) file left step self.new) }
         ensures at { self.new.base.at ≡ self.old.base.at }
         ensures pages { self.new.base.pages ≡ self.old.base.pages }
         ensures fewer { IfOk result (λ step. Falls step self.old self.new) }
     {
         changes_and_rows_in_turn();
-        match self.turn(alloc, keys)? {
-            Turn::End => Ok(Step::End),
-            Turn::Row => Ok(of_row(self.base.take())),
-            Turn::Change => changed(alloc, self.changes.take()),
-            Turn::Both => {
+        match self.smaller(alloc, keys)? {
+            Smaller::End => Ok(Step::End),
+            Smaller::Row => Ok(of_row(self.base.take())),
+            Smaller::Change => changed(alloc, self.changes.take()),
+            Smaller::Both => {
                 let _row = self.base.take();
                 changed(alloc, self.changes.take())
             }

@@ -36,7 +36,7 @@ impl Model for TableMap {
 }
 
 /// A copy of a row.
-fn copy_of(alloc: Global, row: &[u8]) -> Result<Option<Vec<u8>>, PageFault>
+fn copy_row(alloc: Global, row: &[u8]) -> Result<Option<Vec<u8>>, PageFault>
     ensures row { IfOk result (λ copy. copied copy ≡ Some row.now) }
     ensures fault { IfErr result (λ fault. fault ≡ NoMemory) }
     ensures cause { (n : ℕ) → CountsPageFault result n n }
@@ -78,7 +78,7 @@ impl TableMap {
         ensures cause { CountsPageFault result (D.life disk.old).faults (D.life disk.new).faults }
     {
         match self.overlay.change(key) {
-            Some(Some(row)) => copy_of(alloc, row),
+            Some(Some(row)) => copy_row(alloc, row),
             Some(None) => Ok(None),
             None => self.pages.row(alloc, keys, cache, disk, key),
         }

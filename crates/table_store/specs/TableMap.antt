@@ -40,12 +40,12 @@ entry_of e = (e.0.items, e.1)
 abbrev pub tables_in : List (Vec ℕ × Stored) → Tables
 tables_in entries = map entry_of entries
 
-abbrev pub is_ordered : BTreeMap (Vec ℕ) Stored → Type 0
-is_ordered m = IsOrdered (λ x y. by_bytes x.items y.items) m
+abbrev pub IsInOrder : BTreeMap (Vec ℕ) Stored → Type 0
+IsInOrder m = IsOrdered (λ x y. by_bytes x.items y.items) m
 
 -- the names rise, and what is created is a store
 pub record IsTableMap (m : BTreeMap (Vec ℕ) Stored) : Type 0 where
-  pub ordered : is_ordered m
+  pub ordered : IsInOrder m
   pub good : is_store (store_of (tables_in m.entries)) ≡ true
 
 -- ---- room

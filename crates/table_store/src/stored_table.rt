@@ -67,7 +67,7 @@ impl StoredTable {
         ensures { IfOk result (λ row. option_map (λ bytes. bytes.items) row ≡ lookup (bytes_eq key.now) (table_in self.now).rows) }
     {
         match form_of_key(alloc, &self.schema, key)? {
-            Some(form) => copied(alloc, self.rows.get(form.as_slice())),
+            Some(form) => copy_row(alloc, self.rows.get(form.as_slice())),
             None => Ok(None),
         }
     }
@@ -177,7 +177,7 @@ impl StoredTable {
 }
 
 // The bytes, copied.
-fn copied(alloc: Global, row: Option<&[u8]>) -> Result<Option<Vec<u8>>, AllocError>
+fn copy_row(alloc: Global, row: Option<&[u8]>) -> Result<Option<Vec<u8>>, AllocError>
     ensures { IfOk result (λ copy. option_map (λ bytes. bytes.items) copy ≡ option_map (λ bytes. bytes.now) row.entry) }
 {
     match row {

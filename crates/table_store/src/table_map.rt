@@ -7,7 +7,7 @@ ghost use Rattle.tables.specs.ChangeView.{change_of};
 ghost use Rattle.tables.specs.Tables.{Store, apply, schema_of, table_of};
 ghost use Rattle.tables.specs.View.{is_store};
 ghost use Rattle.table_store.specs.Stored.{form_in, table_in};
-ghost use Rattle.table_store.specs.TableMap.{Grows, IsReady, is_ordered, schema_after, schema_at, store_of, tables_in};
+ghost use Rattle.table_store.specs.TableMap.{Grows, IsReady, IsInOrder, schema_after, schema_at, store_of, tables_in};
 
 use crate::plain::copied_tables;
 use crate::stored_table::StoredTable;
@@ -107,7 +107,7 @@ fn created_in<'a>(
     tables: &'a BTreeMap<Vec<u8>, StoredTable>,
     name: &[u8],
 ) -> Option<&'a StoredTable>
-    requires { is_ordered tables.now }
+    requires { IsInOrder tables.now }
     ensures { option_map (λ table. table_in table.now) result ≡ table_of (store_of (tables_in tables.now.entries)) name.now }
 {
     match find(tables, name) {
@@ -141,12 +141,12 @@ fn reserve_in(
     alloc: Global,
     action: &Action,
 ) -> Result<Option<Vec<u8>>, AllocError>
-    requires { is_ordered tables.old }
+    requires { IsInOrder tables.old }
     ensures store { store_of (tables_in tables.new.entries) ≡ store_of (tables_in tables.old.entries) }
     ensures grows { Grows (tables_in tables.old.entries) (tables_in tables.new.entries) }
     ensures schemas { OnOk result ((q : List ℕ) → schema_at (tables_in tables.new.entries) q ≡ schema_after (action_of action.now) (tables_in tables.old.entries) q) }
     ensures ready { IfOk result (λ form. (store : Store) → ((q : List ℕ) → schema_of store q ≡ schema_at (tables_in tables.old.entries) q) → IsReady (action_of action.now) (form_in form) store (tables_in tables.new.entries)) }
-    ensures ordered { is_ordered tables.new }
+    ensures ordered { IsInOrder tables.new }
 {
     match action {
         Action::CreateTable { table, schema } => {
@@ -160,11 +160,11 @@ fn reserve_in(
 
 // Does what a change does, which has its room.
 fn apply_in(tables: &mut BTreeMap<Vec<u8>, StoredTable>, action: Action, form: &Option<Vec<u8>>)
-    requires ordered { is_ordered tables.old }
+    requires ordered { IsInOrder tables.old }
     requires ready { IsReady (action_of action) (form_in form.now) (store_of (tables_in tables.old.entries)) (tables_in tables.old.entries) }
     ensures store { store_of (tables_in tables.new.entries) ≡ apply (action_of action) (store_of (tables_in tables.old.entries)) }
     ensures grows { Grows (tables_in tables.old.entries) (tables_in tables.new.entries) }
-    ensures ordered { is_ordered tables.new }
+    ensures ordered { IsInOrder tables.new }
 {
     match action {
         Action::CreateTable { table, schema: _ } => create(tables, table.as_bytes()),

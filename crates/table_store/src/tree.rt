@@ -5,7 +5,7 @@ ghost use Rattle.row_values.specs.Schema.{Schema};
 ghost use Rattle.tables.specs.Change.{create as create_change, put as put_change, remove as remove_change};
 ghost use Rattle.tables.specs.Tables.{apply, schema_of};
 ghost use Rattle.table_store.specs.Stored.{FormsKey, FormsRow, HasRoomFor, form_in};
-ghost use Rattle.table_store.specs.TableMap.{Grows, IsReady, is_created, is_ordered, named, schema_after, schema_at, slots_at, store_of, tables_in};
+ghost use Rattle.table_store.specs.TableMap.{Grows, IsReady, is_created, IsInOrder, named, schema_after, schema_at, slots_at, store_of, tables_in};
 
 use crate::stored_table::StoredTable;
 use row_values::Schema;
@@ -30,11 +30,11 @@ pub(crate) fn hold_ready(
     name: &[u8],
     schema: &Schema,
 ) -> Result<(), AllocError>
-    requires { is_ordered tables.old }
+    requires { IsInOrder tables.old }
     ensures store { store_of (tables_in tables.new.entries) ≡ store_of (tables_in tables.old.entries) }
     ensures grows { Grows (tables_in tables.old.entries) (tables_in tables.new.entries) }
     ensures schemas { OnOk result ((q : List ℕ) → schema_at (tables_in tables.new.entries) q ≡ schema_after (create_change name.now schema.now) (tables_in tables.old.entries) q) }
-    ensures ordered { is_ordered tables.new }
+    ensures ordered { IsInOrder tables.new }
 {
     if tables.contains_key(name) {
         return Ok(());
@@ -57,7 +57,7 @@ pub(crate) fn reserve(
     ensures schemas { (q : List ℕ) → schema_at (tables_in tables.new.entries) q ≡ schema_at (tables_in tables.old.entries) q }
     ensures form { IfOk result (λ form. (schema : Schema) → schema_at (tables_in tables.old.entries) name.now ≡ Some schema → FormsRow schema row.now (form_in form)) }
     ensures room { IfOk result (λ form. (schema : Schema) → schema_at (tables_in tables.old.entries) name.now ≡ Some schema → HasRoomFor (slots_at (tables_in tables.new.entries) name.now) (form_in form)) }
-    ensures ordered { is_ordered tables.new }
+    ensures ordered { IsInOrder tables.new }
 {
     match tables.get_mut(name) {
         Some(table) => table.reserve(alloc, row),
@@ -82,10 +82,10 @@ pub(crate) fn form_of(
 
 /// Creates the table of a name, which is held ready, unless it is created.
 pub(crate) fn create(tables: &mut BTreeMap<Vec<u8>, StoredTable>, name: &[u8])
-    requires { is_ordered tables.old }
+    requires { IsInOrder tables.old }
     ensures store { (schema : Schema) → IsReady (create_change name.now schema) None (store_of (tables_in tables.old.entries)) (tables_in tables.old.entries) → store_of (tables_in tables.new.entries) ≡ apply (create_change name.now schema) (store_of (tables_in tables.old.entries)) }
     ensures grows { Grows (tables_in tables.old.entries) (tables_in tables.new.entries) }
-    ensures ordered { is_ordered tables.new }
+    ensures ordered { IsInOrder tables.new }
 {
     if let Some(table) = tables.get_mut(name) {
         table.create();
@@ -99,11 +99,11 @@ pub(crate) fn put(
     form: &Option<Vec<u8>>,
     row: Vec<u8>,
 )
-    requires ordered { is_ordered tables.old }
+    requires ordered { IsInOrder tables.old }
     requires ready { IsReady (put_change name.now row.items) (form_in form.now) (store_of (tables_in tables.old.entries)) (tables_in tables.old.entries) }
     ensures store { store_of (tables_in tables.new.entries) ≡ apply (put_change name.now row.items) (store_of (tables_in tables.old.entries)) }
     ensures grows { Grows (tables_in tables.old.entries) (tables_in tables.new.entries) }
-    ensures ordered { is_ordered tables.new }
+    ensures ordered { IsInOrder tables.new }
 {
     if let Some(table) = tables.get_mut(name) {
         table.put(form, row);
@@ -116,10 +116,10 @@ pub(crate) fn remove(
     name: &[u8],
     form: &Option<Vec<u8>>,
 )
-    requires { is_ordered tables.old }
+    requires { IsInOrder tables.old }
     ensures store { (key : List ℕ) → IsReady (remove_change name.now key) (form_in form.now) (store_of (tables_in tables.old.entries)) (tables_in tables.old.entries) → store_of (tables_in tables.new.entries) ≡ apply (remove_change name.now key) (store_of (tables_in tables.old.entries)) }
     ensures grows { Grows (tables_in tables.old.entries) (tables_in tables.new.entries) }
-    ensures ordered { is_ordered tables.new }
+    ensures ordered { IsInOrder tables.new }
 {
     if let Some(table) = tables.get_mut(name) {
         table.remove(form);
@@ -129,7 +129,7 @@ pub(crate) fn remove(
 /// Gives up the room at a form, where there is no row, in the table of a name.
 pub(crate) fn release(tables: &mut BTreeMap<Vec<u8>, StoredTable>, name: &[u8], form: &[u8])
     ensures store { store_of (tables_in tables.new.entries) ≡ store_of (tables_in tables.old.entries) }
-    ensures ordered { is_ordered tables.new }
+    ensures ordered { IsInOrder tables.new }
 {
     if let Some(table) = tables.get_mut(name) {
         table.release(form);
@@ -139,7 +139,7 @@ pub(crate) fn release(tables: &mut BTreeMap<Vec<u8>, StoredTable>, name: &[u8], 
 /// Takes out the tables that are held ready and not created.
 pub(crate) fn keep_created(tables: &mut BTreeMap<Vec<u8>, StoredTable>)
     ensures kept { tables_in tables.new.entries ≡ filter is_created (tables_in tables.old.entries) }
-    ensures ordered { is_ordered tables.new }
+    ensures ordered { IsInOrder tables.new }
 {
     tables.retain(|_, table| table.is_created());
 }

@@ -248,10 +248,8 @@ fn place_for(tables: &[PlainTable], name: &str) -> usize
     ensures place { result ≡ tables_before name.now tables.now }
     ensures within { result ≤ length tables.now }
 {
-    for i in 0..tables.len() {
-        if !name.as_bytes().cmp(tables[i].name.as_bytes()).is_gt() {
-            return i;
-        }
-    }
-    tables.len()
+    tables
+        .iter()
+        .take_while(|table| name.as_bytes().cmp(table.name.as_bytes()).is_gt())
+        .count()
 }

@@ -12,7 +12,7 @@ use Rattle.unit_journal.specs.Record.{Entry, laid, AreShort, entry_of, entries_o
 use Rattle.unit_journal.specs.Stands.{Stands, IsDamagedAt, IsNoRecord}
 use Rattle.unit_journal.specs.Journal.{region_of, next_of}
 use Rattle.unit_journal.specs.Open.{IsAt, ReadsNext, IsWhole}
-use Rattle.unit_journal.specs.Opened.{ArePlaced, IsOpened, Reads}
+use Rattle.unit_journal.specs.Opened.{ArePlaced, IsOpened, ReadsRegion}
 use Rattle.unit_journal.specs.declared.record.Record.{Record}
 use Rattle.unit_journal.specs.declared.journal.Journal.{Journal}
 use Rattle.unit_journal.specs.declared.errors.OpenError.{OpenError}
@@ -94,20 +94,20 @@ next_none old new at limit found same is next = subst (λ (f : Option Record). R
 
 -- what an error of reading says of the region
 pub next_error : (region : Region) (modelled : Bool) (old new : List ℕ) (disk : Life) (at : ℕ) (rs : List Record) (e : OpenError) → new ≡ old → ReadSoFar old region.at at rs → at < end_of region → end_of region ≤ length old
-    → ReadsNext new at (end_of region) (Err e) → Reads region modelled old disk (Err e)
+    → ReadsNext new at (end_of region) (Err e) → ReadsRegion region modelled old disk (Err e)
 next_error region modelled old new disk at rs e same so_far low inside next = go e (next_in old new at (end_of region) (Err e) same next)
   where
-    go : (e : OpenError) → ReadsNext old at (end_of region) (Err e) → Reads region modelled old disk (Err e)
+    go : (e : OpenError) → ReadsNext old at (end_of region) (Err e) → ReadsRegion region modelled old disk (Err e)
     go (Damaged gate) (place, opened, none) = let P : ℕ → Type 0 = λ n. IsDamagedAt region n old in subst P (sym place) (damaged region old at rs so_far low inside opened none)
     go DeviceFailed none = tt
     go NoMemory none = tt
 
-pub whole_by : (region : Region) (modelled : Bool) (image : List ℕ) (disk : Life) (es : List Entry) (result : Result (Journal × Vec Record Global) OpenError) → Stands region es image → Reads region modelled image disk result → IsWhole result
+pub whole_by : (region : Region) (modelled : Bool) (image : List ℕ) (disk : Life) (es : List Entry) (result : Result (Journal × Vec Record Global) OpenError) → Stands region es image → ReadsRegion region modelled image disk result → IsWhole result
 whole_by region modelled image disk es (Ok found) s reads = tt
 whole_by region modelled image disk es (Err (Damaged gate)) s reads = not_both region image es gate s reads
 whole_by region modelled image disk es (Err DeviceFailed) s reads = tt
 whole_by region modelled image disk es (Err NoMemory) s reads = tt
 
-pub found_by : (region : Region) (modelled : Bool) (image : List ℕ) (disk : Life) (es : List Entry) (found : Journal × Vec Record Global) → Stands region es image → Reads region modelled image disk (Ok found) → IsOpened modelled disk region es found
+pub found_by : (region : Region) (modelled : Bool) (image : List ℕ) (disk : Life) (es : List Entry) (found : Journal × Vec Record Global) → Stands region es image → ReadsRegion region modelled image disk (Ok found) → IsOpened modelled disk region es found
 found_by region modelled image disk es found s reads =
     subst (λ (l : List Entry). IsOpened modelled disk region l found) (one_list region image (entries_of found.1.items) es reads.0 s) reads.1

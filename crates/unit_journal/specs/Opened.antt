@@ -23,8 +23,8 @@ pub record IsOpened (modelled : Bool) (disk : Life) (region : Region) (es : List
   pub settled : IsSettled modelled disk opened.0 es
 
 -- the records that stand there, or the damage that is there
-abbrev pub Reads : Region → Bool → List ℕ → Life → Result (Journal × Vec Record Global) OpenError → Type 0
-Reads region modelled image disk (Ok opened) = Stands region (entries_of opened.1.items) image × IsOpened modelled disk region (entries_of opened.1.items) opened
-Reads region modelled image disk (Err (Damaged gate)) = IsDamagedAt region gate image
-Reads region modelled image disk (Err DeviceFailed) = Unit {0}
-Reads region modelled image disk (Err NoMemory) = Unit {0}
+abbrev pub ReadsRegion : Region → Bool → List ℕ → Life → Result (Journal × Vec Record Global) OpenError → Type 0
+ReadsRegion region modelled image disk (Ok opened) = Stands region (entries_of opened.1.items) image × IsOpened modelled disk region (entries_of opened.1.items) opened
+ReadsRegion region modelled image disk (Err (Damaged gate)) = IsDamagedAt region gate image
+ReadsRegion region modelled image disk (Err DeviceFailed) = Unit {0}
+ReadsRegion region modelled image disk (Err NoMemory) = Unit {0}

@@ -78,7 +78,7 @@ fn read_record<D: Disk>(
 }
 
 impl Journal {
-    ghost use Rattle.unit_journal.specs.Opened.{Reads, IsOpened};
+    ghost use Rattle.unit_journal.specs.Opened.{ReadsRegion, IsOpened};
     ghost use Rattle.unit_journal.specs.Journal.{region_of, held_of};
 
     /// The journal of a region, and its records in order: those up to the first closed gate. Nothing
@@ -96,7 +96,7 @@ impl Journal {
         requires some { 0 < region.length }
         requires small { region.length ≤ 2 ^ 32 }
         requires inside { end_of region ≤ length (D.life disk.old).seen }
-        ensures reads { IsTrue D.is_modelled → Reads region D.is_modelled (D.life disk.old).seen (D.life disk.new) result }
+        ensures reads { IsTrue D.is_modelled → ReadsRegion region D.is_modelled (D.life disk.old).seen (D.life disk.new) result }
         // Where these records stand there, they are found and no damage is told.
         ensures found { (es : List Entry) → IsTrue D.is_modelled → Stands region es (D.life disk.old).seen → IfOk result (IsOpened D.is_modelled (D.life disk.new) region es) }
         ensures whole { (es : List Entry) → IsTrue D.is_modelled → Stands region es (D.life disk.old).seen → IsWhole result }

@@ -4,7 +4,7 @@ use Rattle.std.specs.Prelude.{if◌then◌else◌}
 use Rattle.unit_order.specs.Words.{Words, Laws}
 use Rattle.unit_order.specs.Events.{UnitMap, UnitMapLaws, Outcome, Clashes, TooMany, Done, asked, asked_in, World, Event, Ask, Commit, Leave, happens, lost, start}
 use Rattle.unit_order.specs.Serial.{Serially}
-use Rattle.unit_order.specs.Steps.{bare_asked, bare, bare_run, run_events, forget, IsBegun, AllBegun, Calls, Ends, AsksOf, CallLaws, LogsAreBeside, State, step, Listed, replay, Story, told, story, SerialOrderOf}
+use Rattle.unit_order.specs.Steps.{bare_asked, bare, bare_run, run_events, forget, IsBegun, AllBegun, Calls, Ends, AsksOf, CallLaws, LogsAreBeside, State, step, MarkedCall, replay, Story, told, story, SerialOrderOf}
 use Rattle.unit_order.proofs.Running.{which, both, Holds, goes_on, at_start}
 
 module _ (w : Words) (k : UnitMap w) (kl : UnitMapLaws w k) where
@@ -85,7 +85,7 @@ module _ (w : Words) (l : Laws w) (k : UnitMap w) (kl : UnitMapLaws w k) (d : Ca
             ⊎_elim (λ still. still) (λ ends. absurd (r.1 ends)) (dl.stays s.rest (forget w k s.world) call o (f.in_doubt o r.0));
       }
 
-  all_told : (first : w.Store) (ks : List (Listed w k d)) (s : Story w k d) → Fine first s → Fine first (story w k d ks s) × (plain (story w k d ks s) ≡ replay w k d ks (plain s))
+  all_told : (first : w.Store) (ks : List (MarkedCall w k d)) (s : Story w k d) → Fine first s → Fine first (story w k d ks s) × (plain (story w k d ks s) ≡ replay w k d ks (plain s))
   all_told first [] s f = (f, refl)
   all_told first (x ∷ ks) s f =
       let P : Bool → Type 0 = λ b. Fine first (if b then told w k d s x.call else s) in

@@ -4,11 +4,11 @@ use Rattle.std.specs.Prelude.{if◌then◌else◌}
 use Rattle.unit_order.specs.Words.{Words}
 use Rattle.unit_order.specs.Events.{UnitMap, UnitMapLaws, Ask, Commit, Leave}
 use Rattle.unit_order.specs.Steps.{AsksOf, CallLaws, Ends}
-use Rattle.unit_order.specs.Prepared.{Order, Does, Prepares, after_order, marked, order_events, prepared_units}
+use Rattle.unit_order.specs.Prepared.{UnitCall, Does, Prepares, after_call, marked, call_events, prepared_units}
 use Rattle.unit_order.proofs.Running.{which}
 
 module _ (w : Words) (k : UnitMap w) (kl : UnitMapLaws w k) where
-  asks : (x : k.Owner → Bool) (order : Order w k) → AsksOf w k x (order_events w k x order)
+  asks : (x : k.Owner → Bool) (call : UnitCall w k) → AsksOf w k x (call_events w k x call)
   asks x (Does (Ask o call)) =
       let P : Bool → Type 0 = λ b. AsksOf w k x (if b then [] else Ask o call ∷ []) in
       ⊎_elim (λ so. subst P (sym so) tt) (λ n. subst P (sym n) (n, tt)) (which (x o))
@@ -20,7 +20,7 @@ module _ (w : Words) (k : UnitMap w) (kl : UnitMapLaws w k) where
   kept_mark o c x is =
       ⊎_elim (λ so. inr (inl (kl.same_is c o so))) (λ n. inl (ap (λ b. if b then false else x c) n ∙ is)) (which (k.same c o))
 
-  stays : (x : k.Owner → Bool) (order : Order w k) (c : k.Owner) → x c ≡ true → (after_order w k x order c ≡ true) ⊎ Ends w k c (order_events w k x order)
+  stays : (x : k.Owner → Bool) (call : UnitCall w k) (c : k.Owner) → x c ≡ true → (after_call w k x call c ≡ true) ⊎ Ends w k c (call_events w k x call)
   stays x (Does (Ask o call)) c is = inl is
   stays x (Does (Commit o)) c is = kept_mark o c x is
   stays x (Does (Leave o)) c is = kept_mark o c x is
@@ -28,4 +28,4 @@ module _ (w : Words) (k : UnitMap w) (kl : UnitMapLaws w k) where
       inl (⊎_elim (λ so. ap (λ b. if b then true else x c) so) (λ n. ap (λ b. if b then true else x c) n ∙ is) (which (k.same c o)))
 
   pub prepared_laws : CallLaws w k (prepared_units w k)
-  prepared_laws = record { asks = λ x b order. asks x order; stays = λ x b order o is. stays x order o is }
+  prepared_laws = record { asks = λ x b call. asks x call; stays = λ x b call o is. stays x call o is }

@@ -77,11 +77,11 @@ abbrev pub step : (w : Words) (k : UnitMap w) (d : Calls w k) → State w k d �
 step w k d s call = record { rest = d.next s.rest s.base call; base = bare_run w k (d.events s.rest s.base call) s.base }
 
 -- a call, and whether its step was taken
-pub record Listed (w : Words) (k : UnitMap w) (d : Calls w k) : Type 0 where
+pub record MarkedCall (w : Words) (k : UnitMap w) (d : Calls w k) : Type 0 where
   pub call : d.Asked
   pub is_taken : Bool
 
-abbrev pub replay : (w : Words) (k : UnitMap w) (d : Calls w k) → List (Listed w k d) → State w k d → State w k d
+abbrev pub replay : (w : Words) (k : UnitMap w) (d : Calls w k) → List (MarkedCall w k d) → State w k d → State w k d
 replay w k d [] s = s
 replay w k d (c ∷ cs) s = replay w k d cs (if c.is_taken then step w k d s c.call else s)
 
@@ -116,7 +116,7 @@ pub record Story (w : Words) (k : UnitMap w) (d : Calls w k) : Type 0 where
 abbrev pub told : (w : Words) (k : UnitMap w) (d : Calls w k) → Story w k d → d.Asked → Story w k d
 told w k d s call = record { rest = d.next s.rest (forget w k s.world) call; world = run_events w k (d.events s.rest (forget w k s.world) call) s.world }
 
-abbrev pub story : (w : Words) (k : UnitMap w) (d : Calls w k) → List (Listed w k d) → Story w k d → Story w k d
+abbrev pub story : (w : Words) (k : UnitMap w) (d : Calls w k) → List (MarkedCall w k d) → Story w k d → Story w k d
 story w k d [] s = s
 story w k d (c ∷ cs) s = story w k d cs (if c.is_taken then told w k d s c.call else s)
 
@@ -124,7 +124,7 @@ story w k d (c ∷ cs) s = story w k d cs (if c.is_taken then told w k d s c.cal
 -- replay, and the units committed in it lead, one after another, to the replay's store.
 abbrev pub SerialOrderOf : (w : Words) (k : UnitMap w) → Calls w k → Type 0
 SerialOrderOf w k d =
-    (x : d.Rest) (s : w.Store) (units : k.Units) (calls : List (Listed w k d)) → w.Sound s → AllLie w k s units → ((o : k.Owner) → k.has o units ≡ true → d.prepared x o ≡ true)
+    (x : d.Rest) (s : w.Store) (units : k.Units) (calls : List (MarkedCall w k d)) → w.Sound s → AllLie w k s units → ((o : k.Owner) → k.has o units ≡ true → d.prepared x o ≡ true)
     → (let end = story w k d calls (record { rest = x; world = start w k s units }) in
     let real = replay w k d calls (record { rest = x; base = record { store = s; units = units } }) in
     Serially w s end.world.ended real.base.store × (forget w k end.world ≡ real.base) × (end.rest ≡ real.rest))

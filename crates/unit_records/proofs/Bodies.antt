@@ -6,14 +6,14 @@ use Rattle.row_values.specs.declared.row.ReadError.TheVariants.{Damaged, NoMemor
 use Rattle.tables.specs.Change.{Change, change_bytes}
 use Rattle.unit_locks.specs.Claim.{Claim, IsClaim, claim_bytes}
 use Rattle.xa_calls.specs.Xid.{IsXid}
-use Rattle.xa_manager.specs.declared.due.Outcome.{Outcome}
-use Rattle.xa_manager.specs.declared.due.Outcome.TheVariants as outcome
+use Rattle.xa_manager.specs.declared.due.Decision.{Decision}
+use Rattle.xa_manager.specs.declared.due.Decision.TheVariants as decision
 use Rattle.unit_journal.specs.declared.kind.Kind.{Kind}
 use Rattle.unit_journal.specs.declared.kind.Kind.TheVariants.{Commit, Prepare, Decide}
 use Rattle.unit_records.specs.Fronts.{AreListed, Misses, listed}
-use Rattle.unit_records.specs.Records.{IsChange, IsRecord, UnitRecord, committed, decided, kind_of, outcome_byte, prepared, record_bytes}
+use Rattle.unit_records.specs.Records.{IsChange, IsRecord, UnitRecord, committed, decided, kind_of, decision_byte, prepared, record_bytes}
 use Rattle.unit_records.specs.Laws.{OneReading, PartsStandOnce}
-use Rattle.unit_records.specs.Read.{Gives, IsNone, Reads, record_of}
+use Rattle.unit_records.specs.Read.{Gives, IsNone, ReadsRecord, record_of}
 use Rattle.unit_records.specs.declared.record.UnitRecord.{UnitRecord as CodeRecord}
 
 -- a list that is a whole text
@@ -34,11 +34,11 @@ nothing_left rest test = none rest (eqb-true (length rest) 0 test)
     none [] h = refl
     none (x ∷ xs) h = absurd (omega arith)
 
-outcomes_once : (a b : Outcome) → outcome_byte a ∷ [] ≡ outcome_byte b ∷ [] → a ≡ b
-outcomes_once outcome.Commit outcome.Commit same = refl
-outcomes_once outcome.Commit outcome.RollBack same = absurd cc
-outcomes_once outcome.RollBack outcome.Commit same = absurd cc
-outcomes_once outcome.RollBack outcome.RollBack same = refl
+outcomes_once : (a b : Decision) → decision_byte a ∷ [] ≡ decision_byte b ∷ [] → a ≡ b
+outcomes_once decision.Commit decision.Commit same = refl
+outcomes_once decision.Commit decision.RollBack same = absurd cc
+outcomes_once decision.RollBack decision.Commit same = absurd cc
+outcomes_once decision.RollBack decision.RollBack same = refl
 
 module _ (o : PartsStandOnce) where
   pub one_reading : OneReading
@@ -57,7 +57,7 @@ module _ (o : PartsStandOnce) where
   one_reading kind body (decided x d) (committed b) r s = absurd (cc (r.same_kind, s.same_kind))
   one_reading kind body (decided x d) (prepared y bs es) r s = absurd (cc (r.same_kind, s.same_kind))
   one_reading kind body (decided x d) (decided y e) r s =
-      let first = o.xids x y (outcome_byte d ∷ []) (outcome_byte e ∷ []) r.good s.good (sym r.bytes ∙ s.bytes) in
+      let first = o.xids x y (decision_byte d ∷ []) (decision_byte e ∷ []) r.good s.good (sym r.bytes ∙ s.bytes) in
       ap (λ (z : List ℕ). decided z d) first.0 ∙ ap (decided y) (outcomes_once d e first.1)
 
   -- ---- what is wrong with a body
@@ -89,13 +89,13 @@ module _ (o : PartsStandOnce) where
   pub unnamed_decide : (body : List ℕ) → ((xid rest : List ℕ) → IsXid xid → body ≢ xid ++ rest) → (r : UnitRecord) → IsRecord Decide body r → ⊥
   unnamed_decide body none (committed a) r = absurd (cc r.same_kind)
   unnamed_decide body none (prepared x cs ds) r = absurd (cc r.same_kind)
-  unnamed_decide body none (decided x d) r = none x (outcome_byte d ∷ []) r.good r.bytes
+  unnamed_decide body none (decided x d) r = none x (decision_byte d ∷ []) r.good r.bytes
 
   module _ (body xid behind : List ℕ) (named : IsXid xid) (text : body ≡ xid ++ behind) where
-    pub undecided : ((d : Outcome) → behind ≢ outcome_byte d ∷ []) → (r : UnitRecord) → IsRecord Decide body r → ⊥
+    pub undecided : ((d : Decision) → behind ≢ decision_byte d ∷ []) → (r : UnitRecord) → IsRecord Decide body r → ⊥
     undecided none (committed a) r = absurd (cc r.same_kind)
     undecided none (prepared x cs ds) r = absurd (cc r.same_kind)
-    undecided none (decided x d) r = none d (o.xids xid x behind (outcome_byte d ∷ []) named r.good (sym text ∙ r.bytes)).1
+    undecided none (decided x d) r = none d (o.xids xid x behind (decision_byte d ∷ []) named r.good (sym text ∙ r.bytes)).1
 
     -- what a prepare has behind its XID
     after_xid : (x : List ℕ) (cs : List Change) (ds : List Claim) → IsRecord Prepare body (prepared x cs ds) → behind ≡ listed claim_bytes ds ++ listed change_bytes cs
@@ -131,7 +131,7 @@ module _ (o : PartsStandOnce) where
 
 -- ---- what is read is the record that stands there
 
-pub gives : OneReading → (kind : Kind) (body : List ℕ) (r : UnitRecord) (result : Result CodeRecord ReadError) → Reads kind body result → IsRecord kind body r → Gives r result
+pub gives : OneReading → (kind : Kind) (body : List ℕ) (r : UnitRecord) (result : Result CodeRecord ReadError) → ReadsRecord kind body result → IsRecord kind body r → Gives r result
 gives once kind body r (Ok read) is there = once kind body (record_of read) r is there
 gives once kind body r (Err Damaged) is there = is r there
 gives once kind body r (Err NoMemory) is there = tt

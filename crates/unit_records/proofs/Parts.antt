@@ -9,7 +9,7 @@ use Rattle.tables.specs.Change.{Change, change_at, change_bytes, is_change}
 use Rattle.tables.specs.Laws.{ChangeReadWasWritten, ChangeWrittenIsRead}
 use Rattle.xa_calls.specs.Xid.{AreParts, IsXid, Parts, wire, xid_in}
 use Rattle.unit_records.specs.Fronts.{OneFront, TakesFront}
-use Rattle.unit_records.specs.Records.{IsChange, outcome_byte}
+use Rattle.unit_records.specs.Records.{IsChange, decision_byte}
 use Rattle.unit_records.specs.Room.{DecisionsAreShort, DecisionsFit, DecisionsNeedNoRoom}
 
 -- ---- changes
@@ -59,10 +59,10 @@ pub short_xid : (xid : List ℕ) → IsXid xid → length xid ≤ 140
 short_xid xid is = omega (arith, ap length is.2, length-wire is.0, is.1.short_global, is.1.short_branch)
 
 pub decision_fits : DecisionsFit
-decision_fits xid changes claims o = omega (arith, length-append xid (outcome_byte o ∷ []))
+decision_fits xid changes claims o = omega (arith, length-append xid (decision_byte o ∷ []))
 
 pub decision_needs_no_more : DecisionsNeedNoRoom
-decision_needs_no_more xid o = omega (arith, length-append xid (outcome_byte o ∷ []))
+decision_needs_no_more xid o = omega (arith, length-append xid (decision_byte o ∷ []))
 
 pub decision_short : DecisionsAreShort
 decision_short p = omega (arith, length-wire p)

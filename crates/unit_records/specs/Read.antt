@@ -11,7 +11,7 @@ use Rattle.unit_records.specs.declared.record.UnitRecord.TheVariants.{Commit, De
 abbrev pub record_of : CodeRecord → UnitRecord
 record_of (Commit changes) = committed (map change_of changes.items)
 record_of (Prepare xid changes claims) = prepared xid (map change_of changes.items) claims.items
-record_of (Decide xid outcome) = decided xid outcome
+record_of (Decide xid decision) = decided xid decision
 
 -- the body is no record of the kind, or there is no memory
 abbrev pub IsNone : Kind → List ℕ → ReadError → Type 0
@@ -19,9 +19,9 @@ IsNone kind body Damaged = (r : UnitRecord) → IsRecord kind body r → ⊥
 IsNone kind body NoMemory = Unit {0}
 
 -- the record that a body is, or that it is none; want of memory may come in place of either
-abbrev pub Reads : Kind → List ℕ → Result CodeRecord ReadError → Type 0
-Reads kind body (Ok r) = IsRecord kind body (record_of r)
-Reads kind body (Err error) = IsNone kind body error
+abbrev pub ReadsRecord : Kind → List ℕ → Result CodeRecord ReadError → Type 0
+ReadsRecord kind body (Ok r) = IsRecord kind body (record_of r)
+ReadsRecord kind body (Err error) = IsNone kind body error
 
 -- this record is read, or there is no memory
 abbrev pub Gives : UnitRecord → Result CodeRecord ReadError → Type 0

@@ -8,8 +8,8 @@ use Rattle.std.specs.Prelude.{◌≡◌, ℕ, List, [], ◌∷◌, ◌++◌, tru
 use Rattle.tables.specs.Change.{Change, change_bytes, is_change}
 use Rattle.unit_locks.specs.Claim.{Claim, IsClaim, claim_bytes}
 use Rattle.xa_calls.specs.Xid.{IsXid}
-use Rattle.xa_manager.specs.declared.due.Outcome.{Outcome}
-use Rattle.xa_manager.specs.declared.due.Outcome.TheVariants as outcome
+use Rattle.xa_manager.specs.declared.due.Decision.{Decision}
+use Rattle.xa_manager.specs.declared.due.Decision.TheVariants as decision
 use Rattle.unit_journal.specs.declared.kind.Kind.{Kind}
 use Rattle.unit_journal.specs.declared.kind.Kind.TheVariants.{Commit, Prepare, Decide}
 use Rattle.unit_journal.specs.Record.{Entry}
@@ -21,7 +21,7 @@ pub data UnitRecord : Type 0 where
   -- the branch of an XID was prepared and is in doubt: the changes of its unit, and its claims
   prepared : List ℕ → List Change → List Claim → UnitRecord
   -- the branch of an XID, which was in doubt, was decided
-  decided : List ℕ → Outcome → UnitRecord
+  decided : List ℕ → Decision → UnitRecord
 
 abbrev pub kind_of : UnitRecord → Kind
 kind_of (committed changes) = Commit
@@ -30,14 +30,14 @@ kind_of (decided xid o) = Decide
 
 -- ---- the bytes
 
-abbrev pub outcome_byte : Outcome → ℕ
-outcome_byte outcome.Commit = 1
-outcome_byte outcome.RollBack = 2
+abbrev pub decision_byte : Decision → ℕ
+decision_byte decision.Commit = 1
+decision_byte decision.RollBack = 2
 
 abbrev pub record_bytes : UnitRecord → List ℕ
 record_bytes (committed changes) = listed change_bytes changes
 record_bytes (prepared xid changes claims) = xid ++ (listed claim_bytes claims ++ listed change_bytes changes)
-record_bytes (decided xid o) = xid ++ outcome_byte o ∷ []
+record_bytes (decided xid o) = xid ++ decision_byte o ∷ []
 
 -- as the journal has it
 abbrev pub entry_of : UnitRecord → Entry

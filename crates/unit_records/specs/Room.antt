@@ -3,7 +3,7 @@ use Rattle.std.specs.Prelude.{◌≡◌, ℕ, ◌+◌, List, length}
 use Rattle.tables.specs.Change.{Change}
 use Rattle.unit_locks.specs.Claim.{Claim}
 use Rattle.xa_calls.specs.Xid.{Parts, wire}
-use Rattle.xa_manager.specs.declared.due.Outcome.{Outcome}
+use Rattle.xa_manager.specs.declared.due.Decision.{Decision}
 use Rattle.unit_records.specs.Records.{UnitRecord, committed, decided, prepared, record_bytes}
 
 -- a record with its gate, its kind and its length
@@ -30,11 +30,11 @@ released (decided xid o) = decision_taken xid
 
 -- a decision takes what its prepare held back for it
 abbrev pub DecisionsFit : Type 0
-DecisionsFit = (xid : List ℕ) (changes : List Change) (claims : List Claim) (o : Outcome) → taken (decided xid o) ≡ held (prepared xid changes claims)
+DecisionsFit = (xid : List ℕ) (changes : List Change) (claims : List Claim) (o : Decision) → taken (decided xid o) ≡ held (prepared xid changes claims)
 
 -- so it needs no room besides
 abbrev pub DecisionsNeedNoRoom : Type 0
-DecisionsNeedNoRoom = (xid : List ℕ) (o : Outcome) → taken (decided xid o) + held (decided xid o) ≡ released (decided xid o)
+DecisionsNeedNoRoom = (xid : List ℕ) (o : Decision) → taken (decided xid o) + held (decided xid o) ≡ released (decided xid o)
 
 -- which are 19 bytes and the two parts of the XID
 abbrev pub DecisionsAreShort : Type 0

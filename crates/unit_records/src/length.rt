@@ -6,7 +6,7 @@ ghost use Rattle.tables.specs.Change.{change_bytes};
 ghost use Rattle.tables.specs.ChangeView.{change_of};
 ghost use Rattle.unit_locks.specs.Claim.{IsClaim, claim_bytes};
 ghost use Rattle.xa_calls.specs.Xid.{IsXid, xid_in};
-ghost use Rattle.xa_manager.specs.declared.due.Outcome.{Outcome as OutcomeIs};
+ghost use Rattle.xa_manager.specs.declared.due.Decision.{Decision as DecisionIs};
 ghost use Rattle.unit_records.specs.Records.{committed, decided, prepared, record_bytes};
 ghost use Rattle.unit_records.specs.Room.{decision_taken};
 
@@ -43,7 +43,7 @@ pub fn prepare_length(xid: &Xid, changes: &[Change], claims: &[Claim]) -> usize
 
 /// The length of the body of a decision, whichever it is: 14 to 141.
 pub fn decide_length(xid: &Xid) -> usize
-    ensures length { (outcome : OutcomeIs) → result ≡ length (record_bytes (decided xid.now outcome)) }
+    ensures length { (decision : DecisionIs) → result ≡ length (record_bytes (decided xid.now decision)) }
     ensures short { result ≤ 141 }
     ensures named { IsXid xid.now }
 {

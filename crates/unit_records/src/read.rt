@@ -2,16 +2,16 @@
 
 ghost use Rattle.std.specs.Prelude.{◌≡◌, ◌≢◌, [], ◌∷◌, IfNone, IfSome};
 ghost use Rattle.unit_journal.specs.declared.kind.Kind.TheVariants as kind;
-ghost use Rattle.xa_manager.specs.declared.due.Outcome.{Outcome as OutcomeIs};
-ghost use Rattle.unit_records.specs.Records.{outcome_byte};
-ghost use Rattle.unit_records.specs.Read.{Reads};
+ghost use Rattle.xa_manager.specs.declared.due.Decision.{Decision as DecisionIs};
+ghost use Rattle.unit_records.specs.Records.{decision_byte};
+ghost use Rattle.unit_records.specs.Read.{ReadsRecord};
 
 use crate::fronts::{take_changes, take_claims, take_xid};
 use crate::laws::parts_stand_once;
 use crate::record::UnitRecord;
 use row_values::ReadError;
 use std::alloc::Global;
-use xa_manager::Outcome;
+use xa_manager::Decision;
 
 /// The byte of a decision to commit.
 const COMMIT: u8 = 1;
@@ -21,7 +21,7 @@ const ROLL_BACK: u8 = 2;
 
 /// Nothing but changes.
 pub(crate) fn read_commit(alloc: Global, body: &[u8]) -> Result<UnitRecord, ReadError>
-    ensures { Reads kind.Commit body.now result }
+    ensures { ReadsRecord kind.Commit body.now result }
 {
     parts_stand_once();
     let (changes, rest) = match take_changes(alloc, body) {
@@ -36,7 +36,7 @@ pub(crate) fn read_commit(alloc: Global, body: &[u8]) -> Result<UnitRecord, Read
 
 /// An XID, claims and changes.
 pub(crate) fn read_prepare(alloc: Global, body: &[u8]) -> Result<UnitRecord, ReadError>
-    ensures { Reads kind.Prepare body.now result }
+    ensures { ReadsRecord kind.Prepare body.now result }
 {
     parts_stand_once();
     let (xid, rest) = match take_xid(body) {
@@ -63,30 +63,30 @@ pub(crate) fn read_prepare(alloc: Global, body: &[u8]) -> Result<UnitRecord, Rea
 
 /// An XID and a byte.
 pub(crate) fn read_decide(body: &[u8]) -> Result<UnitRecord, ReadError>
-    ensures { Reads kind.Decide body.now result }
+    ensures { ReadsRecord kind.Decide body.now result }
 {
     parts_stand_once();
     let (xid, rest) = match take_xid(body) {
         Ok(taken) => taken,
         Err(error) => return Err(error),
     };
-    match outcome_in(rest) {
-        Some(outcome) => Ok(UnitRecord::Decide { xid, outcome }),
+    match decision_in(rest) {
+        Some(decision) => Ok(UnitRecord::Decide { xid, decision }),
         None => Err(ReadError::Damaged),
     }
 }
 
-// The outcome whose byte stands here, and nothing else.
-fn outcome_in(bytes: &[u8]) -> Option<Outcome>
-    ensures some { IfSome result (λ outcome. bytes.now ≡ outcome_byte outcome ∷ []) }
-    ensures none { IfNone result ((outcome : OutcomeIs) → bytes.now ≢ outcome_byte outcome ∷ []) }
+// The decision whose byte stands here, and nothing else.
+fn decision_in(bytes: &[u8]) -> Option<Decision>
+    ensures some { IfSome result (λ decision. bytes.now ≡ decision_byte decision ∷ []) }
+    ensures none { IfNone result ((decision : DecisionIs) → bytes.now ≢ decision_byte decision ∷ []) }
 {
     let [code] = bytes else {
         return None;
     };
     match *code {
-        COMMIT => Some(Outcome::Commit),
-        ROLL_BACK => Some(Outcome::RollBack),
+        COMMIT => Some(Decision::Commit),
+        ROLL_BACK => Some(Decision::RollBack),
         _ => None,
     }
 }

@@ -1,7 +1,7 @@
 //! A record, as it is read.
 
 ghost use Rattle.unit_records.specs.Records.{IsRecord, UnitRecord as RecordIs};
-ghost use Rattle.unit_records.specs.Read.{Gives, Reads};
+ghost use Rattle.unit_records.specs.Read.{Gives, ReadsRecord};
 
 use crate::laws::records_have_one_reading;
 use crate::read::{read_commit, read_decide, read_prepare};
@@ -11,7 +11,7 @@ use tables::Change;
 use unit_journal::Kind;
 use unit_locks::Claim;
 use xa_calls::Xid;
-use xa_manager::Outcome;
+use xa_manager::Decision;
 
 /// What a record of the journal says of a unit of work.
 #[derive(Debug, Drop)]
@@ -30,7 +30,7 @@ pub enum UnitRecord {
     /// The branch of the XID, which was in doubt, was decided.
     Decide {
         xid: Xid,
-        outcome: Outcome,
+        decision: Decision,
     },
 }
 
@@ -39,7 +39,7 @@ impl UnitRecord {
     /// that kind: a part is damaged, or other bytes than its parts stand in it. Whether the record
     /// has a place among those before it is not judged here.
     pub fn read(alloc: Global, kind: Kind, body: &[u8]) -> Result<UnitRecord, ReadError>
-        ensures reads { Reads kind body.now result }
+        ensures reads { ReadsRecord kind body.now result }
         ensures gives { (r : RecordIs) → IsRecord kind body.now r → Gives r result }
     {
         records_have_one_reading();

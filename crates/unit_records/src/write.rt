@@ -7,14 +7,14 @@ ghost use Rattle.tables.specs.Change.{change_bytes};
 ghost use Rattle.tables.specs.ChangeView.{change_of};
 ghost use Rattle.unit_locks.specs.Claim.{claim_bytes};
 ghost use Rattle.unit_records.specs.Fronts.{listed};
-ghost use Rattle.unit_records.specs.Records.{IsGood, committed, decided, outcome_byte, prepared, record_bytes};
+ghost use Rattle.unit_records.specs.Records.{IsGood, committed, decided, decision_byte, prepared, record_bytes};
 
 use crate::length::{commit_length, decide_length, prepare_length, xid_bytes};
 use std::alloc::AllocError;
 use tables::Change;
 use unit_locks::Claim;
 use xa_calls::Xid;
-use xa_manager::Outcome;
+use xa_manager::Decision;
 
 /// Appends the body of a commit with these changes, by one growth at most. It is shorter than 2^32
 /// bytes, which `commit_length` tells. Out of memory, nothing is appended.
@@ -57,15 +57,15 @@ pub fn write_prepare(
 
 /// Appends the body of a decision. Out of memory, nothing is appended; with room for 141 bytes in
 /// `out` it does not fail.
-pub fn write_decide(out: &mut Vec<u8>, xid: &Xid, outcome: Outcome) -> Result<(), AllocError>
-    ensures good { IsGood (decided xid.now outcome) }
+pub fn write_decide(out: &mut Vec<u8>, xid: &Xid, decision: Decision) -> Result<(), AllocError>
+    ensures good { IsGood (decided xid.now decision) }
     ensures room { vec_len out.old + 141 ≤ vec_capacity out.old → IsOk result }
-    ensures ok { OnOk result (out.new.items ≡ out.old.items ++ record_bytes (decided xid.now outcome)) }
+    ensures ok { OnOk result (out.new.items ≡ out.old.items ++ record_bytes (decided xid.now decision)) }
     ensures err { OnErr result (out.new.items ≡ out.old.items) }
 {
     out.reserve(decide_length(xid))?;
     let start = out.len();
-    let written = put_decide(out, xid, outcome);
+    let written = put_decide(out, xid, decision);
     if written.is_err() {
         out.truncate(start);
     }
@@ -89,22 +89,22 @@ fn put_prepare(
 }
 
 // Appends the bytes of a decision, or some of them.
-fn put_decide(out: &mut Vec<u8>, xid: &Xid, outcome: Outcome) -> Result<(), AllocError>
+fn put_decide(out: &mut Vec<u8>, xid: &Xid, decision: Decision) -> Result<(), AllocError>
     ensures room { vec_len out.old + 141 ≤ vec_capacity out.old → IsOk result }
-    ensures ok { OnOk result (out.new.items ≡ out.old.items ++ record_bytes (decided xid.now outcome)) }
+    ensures ok { OnOk result (out.new.items ≡ out.old.items ++ record_bytes (decided xid.now decision)) }
     ensures err { OnErr result (Keeps out.old.items out.new.items) }
 {
     out.extend_from_slice(xid_bytes(xid))?;
-    out.push(outcome_code(outcome))?;
+    out.push(decision_code(decision))?;
     Ok(())
 }
 
-fn outcome_code(outcome: Outcome) -> u8
-    ensures { result ≡ outcome_byte outcome }
+fn decision_code(decision: Decision) -> u8
+    ensures { result ≡ decision_byte decision }
 {
-    match outcome {
-        Outcome::Commit => 1,
-        Outcome::RollBack => 2,
+    match decision {
+        Decision::Commit => 1,
+        Decision::RollBack => 2,
     }
 }
 

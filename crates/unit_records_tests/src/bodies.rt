@@ -76,8 +76,8 @@ fn write(out: &mut Vec<u8>, read: &UnitRecord) -> Result<usize, AllocError> {
             changes,
             claims,
         } => write_branch(out, xid, changes.as_slice(), claims.as_slice()),
-        UnitRecord::Decide { xid, outcome } => {
-            write_decide(out, xid, *outcome)?;
+        UnitRecord::Decide { xid, decision } => {
+            write_decide(out, xid, *decision)?;
             Ok(decide_length(xid))
         }
     }
@@ -132,7 +132,7 @@ fn parts_of_bodies_are_damaged(rt: HostRuntime) {
     }
 }
 
-// Another record, an unknown outcome, the XID that names no branch, and an XID that is missing.
+// Another record, an unknown decision, the XID that names no branch, and an XID that is missing.
 const STRANGERS: [(Kind, &'static [u8]); 4] = [
     (Kind::Commit, &[0, 0, 0, 7, 0, 0, 0, 1, 0, 0, 0, 0, b'g', 1]),
     (Kind::Decide, &[0, 0, 0, 7, 0, 0, 0, 1, 0, 0, 0, 0, b'g', 3]),

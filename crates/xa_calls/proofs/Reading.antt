@@ -7,7 +7,8 @@ use Rattle.std.proofs.lemmas.List.{take_at, length-take, length-drop, get_or-dro
 use Rattle.std.proofs.lemmas.Nat.{be_bytes_4, from_be_bytes-to_be_bytes_4}
 use Rattle.std.proofs.Math.Seq.{take-add}
 use Rattle.drda_words.specs.Place.{part}
-use Rattle.xa_calls.specs.Xid.{AreBytes, Parts, AreParts, IsXid, BeginsWith, wire, number_at, parts_of, xid_length, begins_with_xid, xid_in}
+use Rattle.drda_words.specs.Bytes.{AreBytes}
+use Rattle.xa_calls.specs.Xid.{Parts, AreParts, IsXid, BeginsWith, wire, number_at, parts_of, xid_length, begins_with_xid, xid_in}
 
 AreBytes-part : (text : List ℕ) (at n : ℕ) → AreBytes text → AreBytes (part text at n)
 AreBytes-part text at n h i =

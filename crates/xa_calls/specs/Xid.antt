@@ -34,10 +34,6 @@ BeginsWith text bytes = (rest : List ℕ) × (text ≡ bytes ++ rest)
 
 -- ---- reading
 
--- each item is a byte
-abbrev pub AreBytes : List ℕ → Type 0
-AreBytes text = (i : ℕ) → slice_index text i < 256
-
 -- the number in the four bytes at a place
 abbrev pub number_at : List ℕ → ℕ → ℕ
 number_at text at = from_be_bytes w32 (part text at 4)

@@ -7,7 +7,8 @@ ghost use Rattle.std.specs.Ordering.{nat_cmp};
 ghost use Rattle.std.specs.Cmp.{partial_equiv_from_equiv};
 ghost use Rattle.std.specs.Cmp.Lexicographic.{slice_cmp, nat_list_eq_equiv, nat_list_cmp_total, texts_po, texts_ties};
 ghost use Rattle.std.proofs.Common.{refl};
-ghost use Rattle.xa_calls.specs.Xid.{AreBytes, Parts, AreParts, IsXid, BeginsWith, wire, parts_of, number_at, begins_with_xid, xid_length, xid_in};
+ghost use Rattle.drda_words.specs.Bytes.{AreBytes};
+ghost use Rattle.xa_calls.specs.Xid.{Parts, AreParts, IsXid, BeginsWith, wire, parts_of, number_at, begins_with_xid, xid_length, xid_in};
 
 use std::alloc::AllocError;
 use std::cmp::Ordering;
@@ -19,7 +20,7 @@ use thiserror::Error;
 const HEAD: usize = 12;
 
 /// The longest that each of the two parts may be, in bytes.
-const PART_LIMIT: u32 = 64;
+const MAX_PART_BYTES: u32 = 64;
 
 /// The format number of the null XID, which names no branch (-1 as 32 bits).
 const NULL_FORMAT: u32 = 0xFFFF_FFFF;
@@ -45,7 +46,8 @@ impl Model for Xid {
     ghost use Rattle.std.specs.Cmp.{partial_equiv_from_equiv};
     ghost use Rattle.std.specs.Cmp.Lexicographic.{slice_cmp, nat_list_eq_equiv, nat_list_cmp_total, texts_po, texts_ties};
     ghost use Rattle.std.proofs.Common.{refl};
-    ghost use Rattle.xa_calls.specs.Xid.{AreBytes, IsPadded, padded-take, length-take_padded};
+    ghost use Rattle.drda_words.specs.Bytes.{AreBytes};
+    ghost use Rattle.xa_calls.specs.Xid.{IsPadded, padded-take, length-take_padded};
 
     ghost Value = { List ℕ };
 
@@ -202,7 +204,7 @@ fn length_in(text: &[u8]) -> Option<usize>
     let format = u32_at(text, 0);
     let global = u32_at(text, 4);
     let branch = u32_at(text, 8);
-    if format == NULL_FORMAT || global == 0 || global > PART_LIMIT || branch > PART_LIMIT {
+    if format == NULL_FORMAT || global == 0 || global > MAX_PART_BYTES || branch > MAX_PART_BYTES {
         return None;
     }
     let length = HEAD + global as usize + branch as usize;

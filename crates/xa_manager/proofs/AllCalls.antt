@@ -14,7 +14,7 @@ use Rattle.xa_calls.specs.declared.request.Verb.TheVariants as verb
 use Rattle.xa_manager.specs.declared.branch.Branch.{Branch}
 use Rattle.xa_manager.specs.declared.branch.BranchState.{BranchState}
 use Rattle.xa_manager.specs.declared.branch.BranchState.TheVariants.{Active, Idle, RollbackOnly, Prepared}
-use Rattle.xa_manager.specs.declared.due.Outcome.TheVariants as outcome
+use Rattle.xa_manager.specs.declared.due.Decision.TheVariants as decision
 use Rattle.xa_manager.specs.declared.due.Action.{Action}
 use Rattle.xa_manager.specs.declared.due.Action.TheVariants as action
 use Rattle.xa_manager.specs.declared.due.Due.{Due}
@@ -133,13 +133,13 @@ commit_row : (s : BranchState) (f : Facts) → IsRow (Some s) f (due_of_commit s
 commit_row (Active c) f = refuses (Some (Active c)) f code.Protocol
 commit_row (Idle c) f = refuses (Some (Idle c)) f code.Protocol
 commit_row (RollbackOnly c) f = refuses (Some (RollbackOnly c)) f code.Protocol
-commit_row Prepared f = does (Some Prepared) f (action.Decide outcome.Commit) refl
+commit_row Prepared f = does (Some Prepared) f (action.Decide decision.Commit) refl
 
 roll_back_row : (s : BranchState) (f : Facts) → IsRow (Some s) f (due_of_roll_back s)
 roll_back_row (Active c) f = refuses (Some (Active c)) f code.Protocol
 roll_back_row (Idle c) f = does (Some (Idle c)) f action.RollBack (inl (c, refl))
 roll_back_row (RollbackOnly c) f = does (Some (RollbackOnly c)) f action.RollBack (inr (c, refl))
-roll_back_row Prepared f = does (Some Prepared) f (action.Decide outcome.RollBack) refl
+roll_back_row Prepared f = does (Some Prepared) f (action.Decide decision.RollBack) refl
 
 row : (v : Verb) (s : Option BranchState) (f : Facts) → IsRow s f (due_at v s f)
 row verb.Start None f = new_row f

@@ -10,7 +10,7 @@ use Rattle.xa_calls.specs.declared.request.Verb.{Verb}
 use Rattle.xa_calls.specs.declared.request.Verb.TheVariants as verb
 use Rattle.xa_calls.specs.declared.code.XaCode.{XaCode}
 use Rattle.xa_calls.specs.declared.code.XaCode.TheVariants as code
-use Rattle.xa_manager.specs.declared.due.Outcome.TheVariants as outcome
+use Rattle.xa_manager.specs.declared.due.Decision.TheVariants as decision
 use Rattle.xa_manager.specs.declared.due.Action.{Action}
 use Rattle.xa_manager.specs.declared.due.Action.TheVariants as action
 use Rattle.xa_manager.specs.declared.due.Due.{Due}
@@ -73,7 +73,7 @@ abbrev pub due_of_commit : BranchState → Due
 due_of_commit (Active _) = refused code.Protocol
 due_of_commit (Idle _) = refused code.Protocol
 due_of_commit (RollbackOnly _) = refused code.Protocol
-due_of_commit Prepared = done (action.Decide outcome.Commit)
+due_of_commit Prepared = done (action.Decide decision.Commit)
 
 -- commit with TMONEPHASE
 abbrev pub due_of_one_phase : BranchState → Due
@@ -85,7 +85,7 @@ due_of_one_phase (Idle _) = done action.CommitOnePhase
 -- roll back
 abbrev pub due_of_roll_back : BranchState → Due
 due_of_roll_back (Active _) = refused code.Protocol
-due_of_roll_back Prepared = done (action.Decide outcome.RollBack)
+due_of_roll_back Prepared = done (action.Decide decision.RollBack)
 due_of_roll_back (Idle _) = done action.RollBack
 due_of_roll_back (RollbackOnly _) = done action.RollBack
 

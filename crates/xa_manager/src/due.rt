@@ -7,14 +7,14 @@ use crate::branch::BranchState;
 use xa_calls::{Ending, Verb, XaCode};
 
 /// How many branches the table knows at most.
-pub const KNOWN_LIMIT: usize = 1024;
+pub const MAX_BRANCHES: usize = 1024;
 
 /// How many of them may be in doubt.
-pub const IN_DOUBT_LIMIT: usize = 256;
+pub const MAX_IN_DOUBT: usize = 256;
 
 /// How a branch is decided.
 #[derive(Clone, Copy, Debug, PartialEq, Eq)]
-pub enum Outcome {
+pub enum Decision {
     /// Its changes are made.
     Commit,
     /// Its changes are dropped.
@@ -40,7 +40,7 @@ pub enum Action {
     /// The branch is committed in one phase, with a Commit record where it has changes.
     CommitOnePhase,
     /// A Decide record is due; then the branch has ended.
-    Decide(Outcome),
+    Decide(Decision),
     /// The branch is rolled back, with nothing to record.
     RollBack,
 }
@@ -135,7 +135,7 @@ impl Due {
             Due::refused(XaCode::Protocol)
         } else if facts.work.is_local {
             Due::refused(XaCode::Outside)
-        } else if facts.known >= KNOWN_LIMIT {
+        } else if facts.known >= MAX_BRANCHES {
             Due::refused(XaCode::Limit)
         } else {
             Due::done(Action::Start)
@@ -185,7 +185,7 @@ impl Due {
                 code: XaCode::ReadOnly,
                 action: Action::Forget,
             },
-            BranchState::Idle(_) if facts.in_doubt >= IN_DOUBT_LIMIT => Due::refused(XaCode::Limit),
+            BranchState::Idle(_) if facts.in_doubt >= MAX_IN_DOUBT => Due::refused(XaCode::Limit),
             BranchState::Idle(_) => Due::done(Action::Prepare),
         }
     }
@@ -195,7 +195,7 @@ impl Due {
         ensures { result ≡ due_of_commit state }
     {
         match state {
-            BranchState::Prepared => Due::done(Action::Decide(Outcome::Commit)),
+            BranchState::Prepared => Due::done(Action::Decide(Decision::Commit)),
             BranchState::Active(_) | BranchState::Idle(_) | BranchState::RollbackOnly(_) => {
                 Due::refused(XaCode::Protocol)
             }
@@ -219,7 +219,7 @@ impl Due {
     {
         match state {
             BranchState::Active(_) => Due::refused(XaCode::Protocol),
-            BranchState::Prepared => Due::done(Action::Decide(Outcome::RollBack)),
+            BranchState::Prepared => Due::done(Action::Decide(Decision::RollBack)),
             BranchState::Idle(_) | BranchState::RollbackOnly(_) => Due::done(Action::RollBack),
         }
     }

@@ -12,7 +12,7 @@ mod table;
 mod xids;
 
 pub use branch::{Branch, BranchState};
-pub use due::{Action, Due, Facts, IN_DOUBT_LIMIT, KNOWN_LIMIT, Outcome, Work};
+pub use due::{Action, Decision, Due, Facts, MAX_BRANCHES, MAX_IN_DOUBT, Work};
 pub use laws::{
     actions_fit_states, joined_to_one, moves_one_branch, prepared_until_decided,
     refusals_do_nothing, works_while_active,

@@ -7,7 +7,7 @@ ghost use Rattle.xa_manager.specs.Place.{Restores};
 
 use crate::branch::{Branch, BranchState};
 use crate::counts::Counts;
-use crate::due::{Action, Due, Facts, IN_DOUBT_LIMIT, KNOWN_LIMIT, Work};
+use crate::due::{Action, Due, Facts, MAX_BRANCHES, MAX_IN_DOUBT, Work};
 use crate::search::place;
 use crate::xids::Xids;
 use std::alloc::{AllocError, Global};
@@ -177,7 +177,7 @@ impl XaTable {
         if self.state(xid).is_some() {
             return Err(RestoreError::Known);
         }
-        if self.branches.len() >= KNOWN_LIMIT || self.counts.in_doubt >= IN_DOUBT_LIMIT {
+        if self.branches.len() >= MAX_BRANCHES || self.counts.in_doubt >= MAX_IN_DOUBT {
             return Err(RestoreError::Full);
         }
         self.add(Branch {
@@ -190,8 +190,8 @@ impl XaTable {
     // Adds a branch in its place.
     fn add(&mut self, branch: Branch) -> Result<(), AllocError>
         requires unknown { state_of self.old branch.xid ≡ None }
-        requires known { length self.old < KNOWN_LIMIT }
-        requires in_doubt { is_in_doubt branch.state ≡ true → in_doubt_count self.old < IN_DOUBT_LIMIT }
+        requires known { length self.old < MAX_BRANCHES }
+        requires in_doubt { is_in_doubt branch.state ≡ true → in_doubt_count self.old < MAX_IN_DOUBT }
         ensures ok { OnOk result (self.new ≡ with_branch self.old branch) }
         ensures err { OnErr result (self.new ≡ self.old) }
     {
@@ -208,7 +208,7 @@ impl XaTable {
 
     // The branch of an XID that is known has this state from now on.
     fn set(&mut self, xid: &Xid, state: BranchState)
-        requires { is_in_doubt state ≡ true → in_doubt_count self.old < IN_DOUBT_LIMIT }
+        requires { is_in_doubt state ≡ true → in_doubt_count self.old < MAX_IN_DOUBT }
         ensures { self.new ≡ with_state self.old xid.now state }
     {
         if let Ok(at) = place(&self.branches, xid) {

@@ -4,7 +4,7 @@ ghost use Rattle.std.specs.Prelude.{◌≡◌, ◌≤◌, List, length, IfOk};
 ghost use Rattle.xa_manager.specs.Branch.{IsTable, in_doubt_xids};
 
 use crate::branch::Branch;
-use crate::due::IN_DOUBT_LIMIT;
+use crate::due::MAX_IN_DOUBT;
 use std::alloc::{AllocError, Global};
 use std::marker::Model;
 use xa_calls::Xid;
@@ -29,7 +29,7 @@ impl Xids {
     /// The XIDs.
     pub fn as_slice(&self) -> &[Xid]
         ensures all { result.now ≡ self.now }
-        ensures limit { length self.now ≤ IN_DOUBT_LIMIT }
+        ensures limit { length self.now ≤ MAX_IN_DOUBT }
     {
         &self.xids
     }

@@ -4,7 +4,7 @@ use crate::fixtures::{CHANGED, numbered, settle};
 use std::alloc::Global;
 use std::test::Fail;
 use xa_calls::{Ending, Verb};
-use xa_manager::{Action, Outcome, RestoreError, XaTable};
+use xa_manager::{Action, Decision, RestoreError, XaTable};
 
 // 1,024 idle branches, added so that each goes before or behind the others; then as many of them are
 // prepared, every fourth from the end.
@@ -58,7 +58,7 @@ fn has_256_in_doubt(rt: HostRuntime) -> Result<(), Fail> {
 fn a_decision_makes_room(rt: HostRuntime) -> Result<(), Fail> {
     let mut table = filled(rt.alloc(), 256)?;
     for (verb, number, action) in [
-        (Verb::Commit, 8u32, Action::Decide(Outcome::Commit)),
+        (Verb::Commit, 8u32, Action::Decide(Decision::Commit)),
         (Verb::Prepare, 1, Action::Prepare),
         (Verb::Start, 1024, Action::Start),
     ] {

@@ -1,5 +1,5 @@
 use Rattle.std.proofs.Common.{◌-◌, ◌+◌, length}
-use Rattle.dss_frames.specs.Place.{IsAt}
+use Rattle.dss_frames.specs.Progress.{IsAt}
 use Rattle.dss_frames.proofs.looking.look.Given as goal
 
 abbrev pub invariant-judging : goal.invariant-judging

@@ -1,6 +1,6 @@
 use Rattle.std.proofs.Common.{ℕ, List, subst}
 use Rattle.unit_journal.specs.Record.{entry_of}
-use Rattle.unit_records.specs.Read.{Reads}
+use Rattle.unit_records.specs.Read.{ReadsRecord}
 use Rattle.durable_units.specs.Replay.{doubts_in}
 use Rattle.durable_core.proofs.Prepared.{prepares}
 use Rattle.durable_core.proofs.preparing.prepares_one.Goals as goal
@@ -8,4 +8,4 @@ use Rattle.durable_core.proofs.preparing.prepares_one.Goals as goal
 pub returns : goal.returns
 returns c =
     prepares c.records_have_one_reading.ensures.once (entry_of c.args.entry.now) (doubts_in c.args.units.now) c.read-said.result c.is_prepare.result
-    (subst (λ (body : List ℕ). Reads c.args.entry.now.kind body c.read-said.result) c.as_slice.ensures.value c.read-said.ensures.reads) c.is_prepare.ensures
+    (subst (λ (body : List ℕ). ReadsRecord c.args.entry.now.kind body c.read-said.result) c.as_slice.ensures.value c.read-said.ensures.reads) c.is_prepare.ensures

@@ -1,4 +1,4 @@
--- The outcome is the rest of the body.
+-- The decision is the rest of the body.
 use Rattle.unit_records.proofs.Bodies.{undecided}
 use Rattle.unit_records.proofs.read.read_decide.Goals as goal
 

@@ -2,7 +2,7 @@ use Rattle.std.proofs.Common.{◌≡◌, Some, refl, ap, ◌∙◌, sym, subst}
 use Rattle.access_exchange.specs.Settings.{Settings}
 use Rattle.drda_node.specs.Feeding.{shown_held, Takes, with_core}
 use Rattle.drda_node.specs.Asking.{asked_of, core_of}
-use Rattle.drda_node.specs.declared.place.Place.{Place}
+use Rattle.drda_node.specs.declared.slot.Slot.{Slot}
 use Rattle.drda_node.specs.Register.{shown, number_of}
 use Rattle.drda_node.proofs.Rows.{below_view, view_at, view_set, view_kept, shows_open, open_shows, same_machine, same_numbers}
 use Rattle.drda_node.proofs.node.Node.feed_at.Goals as goal
@@ -15,7 +15,7 @@ returns-clause-feeds g c =
     let (h, here) = c.requires in
     let is : shown place ≡ Some h = ap shown c.index_mut.ensures.value ∙ view_at shown items c.args.place place (Some h) here in
     let shows = open_shows place (shows_open place h is) in
-    let settings : place.front.settings ≡ c.args.self.now.settings = ap (λ (p : Place). p.front.settings) c.index_mut.ensures.value ∙ c.args.self.now.alike c.args.place place (below_view shown items c.args.place (Some h) here) in
+    let settings : place.front.settings ≡ c.args.self.now.settings = ap (λ (p : Slot). p.front.settings) c.index_mut.ensures.value ∙ c.args.self.now.alike c.args.place place (below_view shown items c.args.place (Some h) here) in
     record {
       before = shown_held place.front;
       after = with_core new.front (core_of c.feed.new.asker);

@@ -1,7 +1,7 @@
 use Rattle.std.proofs.Common.{rules, ℕ, List, subst, arith, ◌∙◌}
 use Rattle.drda_disk.proofs.Moments.{Stays-trans}
 use Rattle.table_map.specs.Damage.{HasNoRows, SomePage}
-use Rattle.table_map.specs.Walk.{Settles}
+use Rattle.table_map.specs.Walk.{Loads}
 use Rattle.table_map.proofs.Damaged.{at_front, handed_on, of_left}
 use Rattle.table_map.proofs.Going.{settled_left}
 use Rattle.table_map.proofs.cursor.RowCursor.next.Goals as goal
@@ -10,7 +10,7 @@ pub returns-in-Ok-Row-clause-gives : goal.returns-in-Ok-Row-clause-gives
 returns-in-Ok-Row-clause-gives g c left honest read held =
     let inv = c.loop-self.invariant in
     let file = (g.D.Disk.life c.args.disk.now).seen in
-    let reads = subst (λ (f : List ℕ). Settles f c.loop-self.self.base c.settle.new.self) inv.stays.same (c.in_ok-settle.ensures.rows honest (inv.kept honest read)) in
+    let reads = subst (λ (f : List ℕ). Loads f c.loop-self.self.base c.settle.new.self) inv.stays.same (c.in_ok-settle.ensures.rows honest (inv.kept honest read)) in
     let now = settled_left (g.K.RowKeys.key_of c.args.keys.now) file c.loop-self.self left c.settle.new.self reads (inv.left left honest read held) in
     rw c.in-Ok-Row.field-0-is at c.in-Ok-Row.ensures.steps file left now
 
@@ -18,7 +18,7 @@ pub returns-in-Ok-End-clause-gives : goal.returns-in-Ok-End-clause-gives
 returns-in-Ok-End-clause-gives g c left honest read held =
     let inv = c.loop-self.invariant in
     let file = (g.D.Disk.life c.args.disk.now).seen in
-    let reads = subst (λ (f : List ℕ). Settles f c.loop-self.self.base c.settle.new.self) inv.stays.same (c.in_ok-settle.ensures.rows honest (inv.kept honest read)) in
+    let reads = subst (λ (f : List ℕ). Loads f c.loop-self.self.base c.settle.new.self) inv.stays.same (c.in_ok-settle.ensures.rows honest (inv.kept honest read)) in
     let now = settled_left (g.K.RowKeys.key_of c.args.keys.now) file c.loop-self.self left c.settle.new.self reads (inv.left left honest read held) in
     rw c.in-Ok-End.field-0-is at c.in-Ok-End.ensures.steps file left now
 
@@ -35,7 +35,7 @@ loop-self-preserved g c =
       forward = omega (arith, c.step.ensures.at, c.settle.ensures.forward, inv.forward);
       fewer = omega (arith, falls, c.settle.ensures.weight, inv.fewer);
       left = λ left honest read held.
-          let reads = subst (λ (f : List ℕ). Settles f c.loop-self.self.base c.settle.new.self) inv.stays.same (c.in_ok-settle.ensures.rows honest (inv.kept honest read)) in
+          let reads = subst (λ (f : List ℕ). Loads f c.loop-self.self.base c.settle.new.self) inv.stays.same (c.in_ok-settle.ensures.rows honest (inv.kept honest read)) in
           let now = settled_left (g.K.RowKeys.key_of c.args.keys.now) file c.loop-self.self left c.settle.new.self reads (inv.left left honest read held) in
           rw c.in-Ok-Skip.field-0-is at c.in-Ok-Skip.ensures.steps file left now;
     }

@@ -15,9 +15,9 @@ pub returns-in-Some-Some-clause-found : goal.returns-in-Some-Some-clause-found
 returns-in-Some-Some-clause-found g c pages honest read is =
     let base = keyed_rows (g.K.RowKeys.key_of c.args.keys.now) (rows_over pages) in
     let word = rw c.in-Some-Some.field-0-is at c.in-Some-Some.ensures in
-    subst (λ (o : Option (List ℕ)). IfOk c.copy_of.result (λ row. copied row ≡ o))
+    subst (λ (o : Option (List ℕ)). IfOk c.copy_row.result (λ row. copied row ≡ o))
     (told c.args.key.now base (changes_of c.args.self.now.overlay) (Some (Some c.in-Some-Some.row.now)) is.order (word ∙ ap (λ (t : Table). row_at c.args.key.now (changes_of t.overlay)) c.self.view_is))
-    (rw c.in-Some-Some.field-0-is at c.copy_of.ensures.row)
+    (rw c.in-Some-Some.field-0-is at c.copy_row.ensures.row)
 
 pub returns-in-Some-None-clause-found : goal.returns-in-Some-None-clause-found
 returns-in-Some-None-clause-found g c pages honest read is =
@@ -35,7 +35,7 @@ returns-in-None-clause-found g c pages honest read is =
     (c.row.ensures.found pages honest read stored)
 
 pub returns-in-Some-Some-clause-damaged : goal.returns-in-Some-Some-clause-damaged
-returns-in-Some-Some-clause-damaged g c honest = only_memory _ c.copy_of.result c.copy_of.ensures.fault
+returns-in-Some-Some-clause-damaged g c honest = only_memory _ c.copy_row.result c.copy_row.ensures.fault
 
 pub returns-in-None-clause-damaged : goal.returns-in-None-clause-damaged
 returns-in-None-clause-damaged g c honest =

@@ -11,13 +11,13 @@ use Rattle.table_store.proofs.stored_table.StoredTable.get.Goals as goal
 
 pub returns-in-Some : goal.returns-in-Some
 returns-in-Some c =
-    subst (λ (o : Option (List ℕ)). IfOk c.copied.result (λ row. option_map (λ bytes. bytes.items) row ≡ o))
+    subst (λ (o : Option (List ℕ)). IfOk c.copy_row.result (λ row. option_map (λ bytes. bytes.items) row ≡ o))
     (c.get.ensures
     ∙ ap (λ (f : List ℕ). lookup (by_key f) (rows_of c.self.inside.rows)) c.as_slice.ensures.value
     ∙ found_at (arc_value c.self.inside.schema) c.args.key.now c.in-Some.form.items (rows_of c.self.inside.rows)
     (form_there c.deref.result.now (arc_value c.self.inside.schema) c.args.key.now c.in_ok-form.field-0 c.in-Some.form c.deref.ensures c.in-Some.is c.in_ok-form.ensures) c.self.invariant.forms
     ∙ ap (λ (t : Stored). lookup (bytes_eq c.args.key.now) (table_in t).rows) c.self.view_is)
-    c.copied.ensures
+    c.copy_row.ensures
 
 pub returns-in-None : goal.returns-in-None
 returns-in-None c =

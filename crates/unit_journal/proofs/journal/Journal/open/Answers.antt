@@ -3,7 +3,7 @@ use Rattle.std.specs.Prelude.{Vec, Result, Err}
 use Rattle.std.specs.declared.alloc.Global.{Global}
 use Rattle.drda_disk.proofs.Moments.{Stays-trans, Only-stays}
 use Rattle.unit_journal.specs.Open.{IsAt}
-use Rattle.unit_journal.specs.Opened.{Reads}
+use Rattle.unit_journal.specs.Opened.{ReadsRegion}
 use Rattle.unit_journal.specs.declared.record.Record.{Record}
 use Rattle.unit_journal.specs.declared.journal.Journal.{Journal}
 use Rattle.unit_journal.specs.declared.errors.OpenError.{OpenError}
@@ -13,7 +13,7 @@ use Rattle.unit_journal.proofs.journal.Journal.open.Goals as goal
 pub returns-in_err-record-clause-reads : goal.returns-in_err-record-clause-reads
 returns-in_err-record-clause-reads g c honest =
     let same : c.from_residual-in_err-record.result ≡ Err c.in_err-record.field-0.0 = search rules in
-    let P : Result (Journal × Vec Record Global) OpenError → Type 0 = λ r. Reads c.args.region g.D.Disk.is_modelled (g.D.Disk.life c.args.disk.now).seen (g.D.Disk.life c.read_record.new.disk) r in
+    let P : Result (Journal × Vec Record Global) OpenError → Type 0 = λ r. ReadsRegion c.args.region g.D.Disk.is_modelled (g.D.Disk.life c.args.disk.now).seen (g.D.Disk.life c.read_record.new.disk) r in
     subst P (sym same) (next_error c.args.region g.D.Disk.is_modelled (g.D.Disk.life c.args.disk.now).seen (g.D.Disk.life c.loop-records.disk).seen (g.D.Disk.life c.read_record.new.disk) c.loop-records.at c.loop-records.records.items c.in_err-record.field-0.0
     c.loop-records.invariant.stays.same (c.loop-records.invariant.so_far honest) c.loop-records.invariant.high c.requires.inside (c.in_err-record.ensures.next honest))
 

@@ -1,10 +1,10 @@
 -- How far a reader has come in the bytes that it holds.
 use Rattle.std.specs.Prelude.{◌≡◌, ℕ, ◌+◌, ◌≤◌, ◌<◌, Bool, List, ◌++◌, length, take, drop, Result, Ok, Err, IsTrue}
-use Rattle.dss_frames.specs.declared.place.Expected.{Expected}
-use Rattle.dss_frames.specs.declared.place.Expected.TheVariants.{Header, Continuation}
-use Rattle.dss_frames.specs.declared.place.Place.{Place}
-use Rattle.dss_frames.specs.declared.place.Found.{Found}
-use Rattle.dss_frames.specs.declared.place.Found.TheVariants as found
+use Rattle.dss_frames.specs.declared.progress.Expected.{Expected}
+use Rattle.dss_frames.specs.declared.progress.Expected.TheVariants.{Header, Continuation}
+use Rattle.dss_frames.specs.declared.progress.Progress.{Progress}
+use Rattle.dss_frames.specs.declared.progress.Found.{Found}
+use Rattle.dss_frames.specs.declared.progress.Found.TheVariants as found
 use Rattle.dss_frames.specs.declared.turn.Turn.TheVariants.{Nothing}
 use Rattle.dss_frames.specs.declared.fault.FrameFault.{FrameFault}
 use Rattle.dss_frames.specs.Dss.{Dss}
@@ -24,7 +24,7 @@ Reaches bytes expected = (dsss : List Dss) × (next : Next) × UpTo bytes dsss n
 
 -- The next header stands at this place, or will once the bytes before it have come; all headers
 -- before it are right.
-pub record IsAt (bytes : List ℕ) (place : Place) : Type 0 where
+pub record IsAt (bytes : List ℕ) (place : Progress) : Type 0 where
   pub early : (more : List ℕ) → length (bytes ++ more) < place.at → IsUnfinished (bytes ++ more)
   pub there : (more : List ℕ) → place.at ≤ length (bytes ++ more) → Reaches (take place.at (bytes ++ more)) place.expected
   pub near : place.at ≤ length bytes + 32767
@@ -36,7 +36,7 @@ IsKnownFault at_fault bytes = IsTrue at_fault → (fault : FrameFault) × FaultA
 
 -- what a reader keeps is of one piece: where the command lies that was lent last, where the bytes
 -- begin that follow it, the place of the next header, and whether a fault was found
-pub record IsSettled (items : List ℕ) (lent lent_size start : ℕ) (place : Place) (at_fault : Bool) : Type 0 where
+pub record IsConsistent (items : List ℕ) (lent lent_size start : ℕ) (place : Progress) (at_fault : Bool) : Type 0 where
   pub lent_before : lent + lent_size ≤ start
   pub start_within : start ≤ length items
   pub stands : IsAt (drop start items) place
@@ -58,10 +58,10 @@ Finds bytes (Ok (found.Command size)) = HasCommand bytes size
 Finds bytes (Ok (found.Nothing place)) = IsUnfinished bytes × IsAt bytes place × (length bytes < place.at + header_length place.expected)
 Finds bytes (Err fault) = FaultAt bytes fault
 
-abbrev pub found_when : Expected → Place → Found
+abbrev pub found_when : Expected → Progress → Found
 found_when (Header Nothing) place = found.Command place.at
 found_when expected place = found.Nothing place
 
 -- what is found where no header has come at a place
-abbrev pub found_at : Place → Found
+abbrev pub found_at : Progress → Found
 found_at place = found_when place.expected place

@@ -12,14 +12,14 @@ use std::alloc::{AllocError, Global};
 
 /// A place for a conversation, with the number that was given to the one that stands there.
 #[derive(Drop)]
-pub struct Place {
+pub struct Slot {
     pub(crate) number: u64,
     pub(crate) is_open: bool,
     pub(crate) front: Front,
     ghost settled: { IsBetweenCommands front },
 }
 
-impl Place {
+impl Slot {
     ghost use Rattle.std.specs.Prelude.{◌≡◌, IfOk, true};
     ghost use Rattle.drda_node.specs.Asking.{IsJournaled, IsSameAsker, core_of};
     ghost use Rattle.drda_node.specs.Feeding.{Takes, with_core};
@@ -27,12 +27,12 @@ impl Place {
     ghost use Rattle.drda_node.specs.Machine.{beginning};
 
     /// A free place.
-    pub(crate) fn new(alloc: Global, settings: &Settings) -> Result<Place, AllocError>
+    pub(crate) fn new(alloc: Global, settings: &Settings) -> Result<Slot, AllocError>
         ensures free { IfOk result (λ p. shown p ≡ None) }
         ensures settings { IfOk result (λ p. p.front.settings ≡ settings.now) }
     {
         stays_read();
-        Ok(Place {
+        Ok(Slot {
             number: 0,
             is_open: false,
             front: Front::new(alloc, settings)?,

@@ -10,7 +10,7 @@ pub enum Expected {
 
 /// How far the headers of a command are judged: where the next one begins, be it there or not.
 #[derive(Clone, Copy)]
-pub struct Place {
+pub struct Progress {
     pub at: usize,
     pub expected: Expected,
 }
@@ -21,5 +21,5 @@ pub enum Found {
     /// A whole command of so many bytes.
     Command(usize),
     /// No command yet.
-    Nothing(Place),
+    Nothing(Progress),
 }
