@@ -1,7 +1,8 @@
-ghost use Rattle.std.specs.Prelude.{◌≡◌, ◌≤◌, ◌<◌, ◌^◌, ◌+◌, ◌++◌, ℕ, List, length, IsOk, OnOk, OnErr, vec_len, vec_capacity};
+ghost use Rattle.std.specs.Prelude.{◌≡◌, ◌≤◌, ◌<◌, ◌^◌, ◌+◌, ◌++◌, ◌∷◌, [], ℕ, List, length, IsOk, OnOk, OnErr, vec_len, vec_capacity};
+ghost use Rattle.std.specs.Int.{to_be_bytes, w16};
 ghost use Rattle.dss_frames.specs.Dss.{IsDss};
 ghost use Rattle.dss_frames.specs.Length.{dss_limit};
-ghost use Rattle.dss_frames.specs.Writing.{written, written_length, length_bytes, continuations, continued_length};
+ghost use Rattle.dss_frames.specs.Writing.{written, written_length, first_size, length_bytes, continuations, continued_length};
 
 use crate::format::Format;
 use std::alloc::AllocError;
@@ -25,9 +26,7 @@ pub fn write_dss(
     ensures capacity { vec_capacity out.old ≤ vec_capacity out.new }
 {
     out.reserve(written_length(contents.len()))?;
-    append(out, &length_bytes(6, FIRST_SIZE, contents.len()));
-    append(out, &[0xD0, format.byte]);
-    append(out, &correlator.to_be_bytes());
+    append(out, &header(format, correlator, contents.len()));
     let (first, rest) = contents.split_at((FIRST_SIZE as usize).min(contents.len()));
     append(out, first);
     append_continuations(out, rest);
@@ -41,6 +40,15 @@ pub fn written_length(count: usize) -> usize
 {
     let others = count.saturating_sub(FIRST_SIZE as usize);
     6 + count + 2 * others.div_ceil(NEXT_SIZE as usize)
+}
+
+/// The header of a DSS with so many bytes of contents.
+fn header(format: Format, correlator: u16, count: usize) -> [u8; 6]
+    ensures { result ≡ length_bytes 6 first_size count ++ (0xD0 ∷ format.byte ∷ []) ++ to_be_bytes w16 correlator }
+{
+    let [high, low] = length_bytes(6, FIRST_SIZE, count);
+    let [c, d] = correlator.to_be_bytes();
+    [high, low, 0xD0, format.byte, c, d]
 }
 
 /// The length of a segment that holds the first bytes of some, at most so many.
