@@ -8,9 +8,7 @@ use Rattle.core_calls.specs.Answer.{refused, rows}
 use Rattle.core_calls.specs.Refusal.{fault_of}
 use Rattle.core_calls.specs.declared.sql_fault.SqlFault.{SqlFault}
 use Rattle.core_calls.specs.declared.sql_fault.SqlFault.TheVariants as fault
-use Rattle.row_values.specs.Schema.{picked}
 use Rattle.row_values.specs.Value.{Value}
-use Rattle.fdoca.specs.Writing.{answer_descriptor}
 use Rattle.tables.specs.RowList.{RowList}
 use Rattle.sections.specs.Blocks.{ends_behind}
 use Rattle.sections.specs.Cursors.{section_of}
@@ -48,7 +46,7 @@ opened_sent is_held instance = (message_tree (record {
 })).0
 
 description_sent : (l : RowList) → IsSent (rows_description l)
-description_sent l = values_sent RowsDescription (answer_descriptor (picked l.schema.columns l.selected))
+description_sent l = values_sent RowsDescription _
 
 rows_sent : (l : RowList) (place count : ℕ) → IsSent (some_rows l place count)
 rows_sent l place count = values_sent Rows (rows_text l place count)
