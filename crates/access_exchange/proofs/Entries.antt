@@ -1,8 +1,9 @@
 -- Levels, entry by entry.
 use Rattle.std.proofs.Common.{◌≡◌, ◌≤◌, ◌-◌, ℕ, List, [], ◌∷◌, length, take, drop, get_or, sym, ap, ◌∙◌, arith}
 use Rattle.std.proofs.Math.Seq.{take-length}
+use Rattle.drda_words.specs.Number.{word}
 use Rattle.access_exchange.specs.declared.session.Agreed.{Agreed}
-use Rattle.access_exchange.specs.Levels.{word, level_for, agreed_on, agreed_after}
+use Rattle.access_exchange.specs.Levels.{level_for, agreed_on, agreed_after}
 
 abbrev pub at : List ℕ → ℕ → ℕ
 at xs i = get_or xs i 0

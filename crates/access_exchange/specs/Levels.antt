@@ -1,12 +1,10 @@
 -- The managers of both sides and their levels (DRDA V5 volume 3, MGRLVLLS and "Manager-Level Number"):
 -- the requester names those that it wants, and the server answers each with the level that it gives.
 use Rattle.std.specs.Prelude.{ℕ, ◌==◌, min, false, List, [], ◌∷◌, ◌++◌, if◌then◌else◌}
-use Rattle.std.specs.Int.{w16, to_be_bytes, from_be_bytes}
+use Rattle.std.specs.Int.{w16, to_be_bytes}
+use Rattle.drda_words.specs.Number.{word}
 use Rattle.ddm_objects.specs.declared.code_point.TheConstants.{AGENT, SQLAM, RDB, SECMGR, CMNTCPIP, XAMGR, UNICODEMGR}
 use Rattle.access_exchange.specs.declared.session.Agreed.{Agreed}
-
-abbrev pub word : ℕ → ℕ → ℕ
-word high low = from_be_bytes w16 (high ∷ low ∷ [])
 
 -- the highest level that is given, 0 for a manager that is not here
 abbrev pub highest : ℕ → ℕ

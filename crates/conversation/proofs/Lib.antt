@@ -4,5 +4,10 @@ mod Chains
 mod Asking
 mod Single
 mod Checks
+mod SentObjects
+mod AccessObjects
+mod SqlObjects
+mod CursorObjects
+mod SyncObjects
 mod TreesOf
 mod Failing

@@ -1,6 +1,8 @@
 -- What holds of every command, and of commands one after the other, whoever is asked.
-use Rattle.std.specs.Prelude.{◌≡◌, ◌⊎◌, ℕ, Bool, true, false, List, [], ◌∷◌, ◌++◌, Ok, Err, Result}
-use Rattle.ddm_objects.specs.Writing.{Trees, NoTrees, Container, text_of}
+use Rattle.std.specs.Prelude.{◌≡◌, ◌⊎◌, ℕ, ◌+◌, Bool, true, false, not, ◌&&◌, List, [], ◌∷◌, ◌++◌, Ok, Err, Result, if◌then◌else◌}
+use Rattle.std.specs.Int.{w16, to_be_bytes}
+use Rattle.ddm_objects.specs.declared.code_point.TheConstants.{SVRCOD, SQLCARD, SQLDARD, QRYDSC, QRYDTA}
+use Rattle.ddm_objects.specs.Writing.{Trees, NoTrees, Scalar, Container, text_of}
 use Rattle.dss_frames.specs.Dss.{Dss}
 use Rattle.dss_frames.specs.Writing.{written}
 use Rattle.core_calls.specs.Call.{Call}
@@ -39,8 +41,56 @@ pub record ChecksTheUser (session : Session) (command : List Dss) (bytes : List 
   pub format : ℕ
   pub answer : bytes ≡ written format request.correlator (secchkrm 0).text
 
--- The bytes are a DSS, as it is written, and its contents are one object with trees of objects in it. That it
--- reads back is a law of the writers (`written_dss_is_read`, `nesting_reads_back`).
+-- ---- what is sent (DRDA V5 volume 3, DSS)
+
+-- the objects whose data are no objects: an SQLCA, a description of columns or parameters, one of rows, and rows
+pub data Values : Type 0 where
+  Card : Values
+  Description : Values
+  RowsDescription : Values
+  Rows : Values
+
+abbrev pub code_point : Values → ℕ
+code_point Card = SQLCARD
+code_point Description = SQLDARD
+code_point RowsDescription = QRYDSC
+code_point Rows = QRYDTA
+
+-- One object that is sent: a reply message, with its severity before the trees of its other parameters; a
+-- container with trees of objects in it; or one of those, with its data.
+pub data SentObject : Type 0 where
+  SentMessage : ℕ → ℕ → Trees → SentObject
+  SentContainer : ℕ → Trees → SentObject
+  SentValues : Values → List ℕ → SentObject
+
+abbrev pub tree_of : SentObject → Trees
+tree_of (SentMessage code severity others) = Container code (Scalar SVRCOD (to_be_bytes w16 severity) others) NoTrees
+tree_of (SentContainer code inside) = Container code inside NoTrees
+tree_of (SentValues kind bytes) = Scalar (code_point kind) bytes NoTrees
+
+-- the type of its DSS: 2, a reply message, or 3, an object
+abbrev pub type_of : SentObject → ℕ
+type_of (SentMessage code severity others) = 2
+type_of object = 3
+
+-- The chain's bits before these others of its command: another DSS follows (40), and it has the same correlator
+-- (10). Behind the last one is what belongs to the next command, if to any.
+abbrev pub bits_before : Bool → List SentObject → ℕ
+bits_before is_chained [] = if is_chained then 0x40 else 0
+bits_before is_chained (object ∷ others) = 0x50
+
+-- each in a DSS of its own, one after the other, as a DSS is written
+abbrev pub sent_bytes : ℕ → Bool → List SentObject → List ℕ
+sent_bytes correlator is_chained [] = []
+sent_bytes correlator is_chained (object ∷ others) =
+    written (bits_before is_chained others + type_of object) correlator (text_of (tree_of object)) ++ sent_bytes correlator is_chained others
+
+-- The bytes are DSSs of this correlator one after the other, and the contents of each are one object. That they
+-- read back is a law of the writers (`written_dss_is_read`, `nesting_reads_back`).
+abbrev pub AreSentObjects : ℕ → Bool → List ℕ → Type 0
+AreSentObjects correlator is_chained bytes = (objects : List SentObject) × (bytes ≡ sent_bytes correlator is_chained objects)
+
+-- they are one DSS, and its contents are a container
 pub record IsOneTree (bytes : List ℕ) : Type 0 where
   pub format : ℕ
   pub correlator : ℕ
@@ -121,8 +171,17 @@ module _ {A : Type 0} (asks : A → Call → Answer → A → Type 0) where
 
   -- ---- what is sent
 
-  -- A command that is refused, or comes before those of SQL, is answered by nothing or by one DSS of one tree.
+  -- What is sent for a command, whichever it is and whatever becomes of it, is DSSs of one object each, with the
+  -- correlator of its request. The last of them is chained to what follows where the command is and its chain is
+  -- not broken.
   abbrev pub RepliesAreTrees : Type 0
   RepliesAreTrees =
+      (settings : Settings) (s next : Standing A) (request : Dss) (objects : List Dss) (bytes : List ℕ)
+      → Does asks settings s (request ∷ objects) bytes next
+      → AreSentObjects request.correlator (goes_on (request ∷ objects) && not next.session.is_broken) bytes
+
+  -- For one that is refused, or comes before those of SQL, it is nothing or one DSS with one container.
+  abbrev pub FirstRepliesAreOneTree : Type 0
+  FirstRepliesAreOneTree =
       (settings : Settings) (s next : Standing A) (request : Dss) (objects : List Dss) (bytes : List ℕ)
       → asks_nothing (verdict s.session request objects) ≡ true → Does asks settings s (request ∷ objects) bytes next → (bytes ≡ []) ⊎ IsOneTree bytes

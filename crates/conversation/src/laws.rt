@@ -1,6 +1,6 @@
 //! Laws of the definitions. The functions do nothing: their contracts are the laws.
 
-ghost use Rattle.conversation.specs.Laws.{AsksOnlyWhenOpened, BrokenChainsAreSilent, IsOneTree, OnlyFailureCloses, OpenedBehindACheck, RefusalsKeepTheStage, RepliesAreTrees};
+ghost use Rattle.conversation.specs.Laws.{AsksOnlyWhenOpened, BrokenChainsAreSilent, FirstRepliesAreOneTree, IsOneTree, OnlyFailureCloses, OpenedBehindACheck, RefusalsKeepTheStage, RepliesAreTrees};
 ghost use Rattle.conversation.specs.Replies.{fault_bytes};
 ghost use Rattle.dss_frames.specs.declared.fault.FrameFault.{FrameFault};
 
@@ -33,9 +33,13 @@ pub fn opened_behind_a_check<A: Ask>()
     ensures { OpenedBehindACheck A.asks }
 {}
 
-/// What is sent for a command that is refused, or comes before those of SQL, is nothing or one DSS whose
-/// contents are one object with trees of objects in it; so is the answer to a fault of the framing.
+/// What is sent for a command, whichever it is and whatever becomes of it, is DSSs one after the other, each as
+/// it is written, with the correlator of the request and chained to the next one. The contents of each are one
+/// object: a reply message, another container with trees of objects in it, or SQLCARD, SQLDARD, QRYDSC or QRYDTA
+/// with its data. For a command that is refused, or comes before those of SQL, it is nothing or one DSS with one
+/// container; and one such DSS answers a fault of the framing.
 pub fn replies_are_trees<A: Ask>()
     ensures commands { RepliesAreTrees A.asks }
+    ensures before_sql { FirstRepliesAreOneTree A.asks }
     ensures faults { (fault : FrameFault) → IsOneTree (fault_bytes fault) }
 {}

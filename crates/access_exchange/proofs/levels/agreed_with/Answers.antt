@@ -1,6 +1,7 @@
 use Rattle.std.proofs.Common.{◌≡◌, ◌-◌, List, ℕ, length, take, drop, ap, ◌∙◌}
+use Rattle.drda_words.specs.Number.{word}
 use Rattle.access_exchange.specs.declared.session.Agreed.{Agreed}
-use Rattle.access_exchange.specs.Levels.{word, level_for, agreed_on, agreed_after}
+use Rattle.access_exchange.specs.Levels.{level_for, agreed_on, agreed_after}
 use Rattle.access_exchange.proofs.Entries.{at, agreed_four}
 use Rattle.access_exchange.proofs.levels.agreed_with.Goals as goal
 
