@@ -1,7 +1,6 @@
 -- What a crash leaves in each of the two steps of an append.
 use Rattle.std.proofs.Common.{◌≡◌, ◌⊎◌, inl, inr, ℕ, ◌+◌, ◌^◌, ◌<◌, ◌≤◌, List, [], ◌∷◌, ◌++◌, length, get_or, sym, ◌∙◌, ap, subst, arith, append_assoc, length-append}
 use Rattle.std.specs.Prelude.{Bool}
-use Rattle.std.specs.Int.{w32, to_be_bytes}
 use Rattle.std.proofs.lemmas.Bool.{cases_eq}
 use Rattle.drda_words.specs.Place.{part}
 use Rattle.drda_disk.specs.Disk.{Life, LeavesOnly, Torn, overlaid}
@@ -9,7 +8,6 @@ use Rattle.drda_disk.specs.Images.{Torn-overlaid}
 use Rattle.drda_disk.specs.Region.{end_of, SameOutside}
 use Rattle.drda_disk.proofs.Moments.{weaker, and_then}
 use Rattle.drda_disk.proofs.Parts.{part_before, part_after, part-add, part-overlaid, Torn-wider, Torn-trans}
-use Rattle.unit_journal.specs.Kind.{code_of}
 use Rattle.unit_journal.specs.Record.{Entry, behind, laid}
 use Rattle.unit_journal.specs.Stands.{StandsFrom, Stands, IsBeforeOrAfter}
 use Rattle.unit_journal.specs.Journal.{IsSettled, region_of, next_of}
@@ -17,9 +15,6 @@ use Rattle.unit_journal.specs.declared.journal.Journal.{Journal}
 use Rattle.unit_journal.proofs.Spelling.{laid-push, length-laid-push, length-behind, short-push, byte_part, stands_from, those}
 
 -- the bytes that an append writes behind the gate
-pub behind_is : (e : Entry) (bytes : List ℕ) → bytes ≡ code_of e.kind ∷ (to_be_bytes w32 (length e.body) ++ (e.body ++ 0 ∷ [])) → bytes ≡ behind e ++ 0 ∷ []
-behind_is e bytes is = is ∙ ap (λ (l : List ℕ). code_of e.kind ∷ l) (sym (append_assoc (to_be_bytes w32 (length e.body)) e.body (0 ∷ [])))
-
 pub length-bytes : (e : Entry) (bytes : List ℕ) → bytes ≡ behind e ++ 0 ∷ [] → length bytes ≡ length e.body + 6
 length-bytes e bytes is = omega (arith, ap length is, length-append (behind e) (0 ∷ []), length-behind e)
 

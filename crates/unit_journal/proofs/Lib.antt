@@ -1,5 +1,6 @@
 pub mod Spelling
 pub mod Appending
+mod LaidRecords
 mod Reading
 mod Opening
 pub mod Readings

@@ -7,12 +7,10 @@ use Rattle.std.proofs.lemmas.Nat.{be_bytes_4}
 use Rattle.std.specs.Int.{w32, to_be_bytes, from_be_bytes}
 use Rattle.drda_words.specs.Bytes.{AreBytes}
 use Rattle.drda_words.specs.Place.{part}
-use Rattle.drda_disk.specs.Region.{end_of}
-use Rattle.drda_disk.specs.declared.region.Region.{Region}
 use Rattle.drda_disk.proofs.Parts.{part-add, length-part}
 use Rattle.unit_journal.specs.Kind.{code_of}
 use Rattle.unit_journal.specs.Record.{Entry, behind, laid}
-use Rattle.unit_journal.specs.Stands.{StandsFrom, Stands, DamagedFrom, IsDamagedAt, IsNoRecord}
+use Rattle.unit_journal.specs.Stands.{StandsFrom, DamagedFrom, IsNoRecord}
 use Rattle.unit_journal.specs.declared.kind.Kind.{Kind}
 use Rattle.unit_journal.specs.declared.kind.Kind.TheVariants.{Commit, Prepare, Decide}
 use Rattle.unit_journal.proofs.Reading.{kind_is, lengths, record_spelled}

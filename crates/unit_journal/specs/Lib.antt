@@ -1,5 +1,6 @@
 pub mod Kind
 pub mod Record
+pub mod LaidRecord
 pub mod Stands
 pub mod Journal
 pub mod Errors

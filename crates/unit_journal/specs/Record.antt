@@ -1,5 +1,5 @@
 -- The bytes of records.
-use Rattle.std.specs.Prelude.{ℕ, ◌^◌, ◌<◌, List, [], ◌∷◌, ◌++◌, length, map}
+use Rattle.std.specs.Prelude.{ℕ, ◌-◌, ◌^◌, ◌<◌, List, [], ◌∷◌, ◌++◌, length, map, take, drop}
 use Rattle.std.specs.List.{AllByRecursion}
 use Rattle.std.specs.Int.{w32, to_be_bytes}
 use Rattle.unit_journal.specs.Kind.{code_of}
@@ -20,6 +20,10 @@ entries_of rs = map entry_of rs
 -- all of a record but its gate: its kind, the length of its body in four bytes, its body
 abbrev pub behind : Entry → List ℕ
 behind e = code_of e.kind ∷ (to_be_bytes w32 (length e.body) ++ e.body)
+
+-- the body in such bytes with the gate of the next record behind them
+abbrev pub body_in : List ℕ → List ℕ
+body_in bytes = take (length bytes - 6) (drop 5 bytes)
 
 -- records with open gates, one behind another
 abbrev pub laid : List Entry → List ℕ

@@ -6,52 +6,51 @@ ghost use Rattle.unit_journal.specs.Record.{Entry};
 ghost use Rattle.unit_journal.specs.Stands.{IsBeforeOrAfter};
 ghost use Rattle.unit_journal.specs.Errors.{SaysFull, OnRefused, CountsAppend};
 
-use crate::record::{HEAD, OPEN, behind_gate};
-use crate::{AppendError, Full, Journal, Kind};
+use crate::record::OPEN;
+use crate::{AppendError, Full, Journal, LaidRecord};
 use drda_disk::{Disk, write_through};
-use std::alloc::Global;
 
 impl Journal {
+    ghost use Rattle.unit_journal.specs.LaidRecord.{entry_in};
     ghost use Rattle.unit_journal.specs.Journal.{IsSettled, region_of, held_of, room_of};
 
     /// Adds a record. Once this succeeds the record outlasts a crash; a crash at any moment before
     /// leaves it whole or leaves the records without it.
     ///
     /// With it the journal holds `hold` more bytes back and `release` fewer, at most all that it
-    /// holds. `Full` comes exactly where the record and `hold` are longer than the room and `release`.
-    /// It and `NoMemory` come before any device call. On an error the journal is as it was; but after
-    /// `DeviceFailed` it is not used again: whether the record is there shows when it is opened anew.
+    /// holds. `Full` comes exactly where the record and `hold` are longer than the room and `release`,
+    /// before any device call. On an error the journal is as it was; but after `DeviceFailed` it is not
+    /// used again: whether the record is there shows when it is opened anew.
     pub fn append<D: Disk>(
         &mut self,
-        alloc: Global,
         disk: &mut D,
-        kind: Kind,
-        body: &[u8],
+        laid: &LaidRecord,
         hold: usize,
         release: usize,
     ) -> Result<(), AppendError>
         requires inside { end_of (region_of self.old) ≤ length (D.life disk.old).seen }
-        requires counted { 6 + length body.now + hold < 2 ^ 64 }
+        requires counted { 6 + length (entry_in laid.now).body + hold < 2 ^ 64 }
         requires released { release ≤ held_of self.old }
         ensures ok { (es : List Entry) → IsSettled D.is_modelled (D.life disk.old) self.old es →
-            OnOk result (IsSettled D.is_modelled (D.life disk.new) self.new (es ++ record { kind = kind; body = body.now } ∷ [])) }
+            OnOk result (IsSettled D.is_modelled (D.life disk.new) self.new (es ++ entry_in laid.now ∷ [])) }
 
         // A crash at any moment of the call leaves the records from before it, with the new one or without.
         ensures any_moment { (es : List Entry) → IsSettled D.is_modelled (D.life disk.old) self.old es →
             LeavesOnly (D.life disk.old) (D.life disk.new)
-            (IsBeforeOrAfter (region_of self.old) (D.life disk.old).seen es (record { kind = kind; body = body.now })) }
+            (IsBeforeOrAfter (region_of self.old) (D.life disk.old).seen es (entry_in laid.now)) }
         ensures others { SameOutside (region_of self.old) (D.life disk.old).seen (D.life disk.new).seen }
 
-        ensures full { SaysFull result (6 + length body.now + hold) release (room_of self.old) }
+        ensures full { SaysFull result (6 + length (entry_in laid.now).body + hold) release (room_of self.old) }
         ensures same { OnErr result (self.new ≡ self.old) }
         ensures refused { OnRefused result ((self.new ≡ self.old) × (disk.new ≡ disk.old)) }
         ensures cause { CountsAppend result (D.life disk.old).faults (D.life disk.new).faults }
 
         ensures region { region_of self.new ≡ region_of self.old }
         ensures held { OnOk result (held_of self.new + release ≡ held_of self.old + hold) }
-        ensures room { OnOk result (room_of self.new + (6 + length body.now + hold) ≡ room_of self.old + release) }
+        ensures room { OnOk result (room_of self.new + (6 + length (entry_in laid.now).body + hold) ≡ room_of self.old + release) }
     {
-        let need = HEAD + body.len() + hold;
+        let bytes = laid.bytes();
+        let need = bytes.len() + hold;
         let room = self.room();
         if need > room + release {
             return Err(AppendError::Full(Full {
@@ -59,10 +58,9 @@ impl Journal {
                 room,
             }));
         }
-        let bytes = behind_gate(alloc, kind, body)?;
-        write_through(disk, self.next + 1, &bytes)?;
+        write_through(disk, self.next + 1, bytes)?;
         write_through(disk, self.next, &[OPEN])?;
-        self.next += HEAD + body.len();
+        self.next += bytes.len();
         self.held = self.held - release + hold;
         Ok(())
     }

@@ -16,22 +16,10 @@ pub struct Full {
 /// Why no record was added.
 #[derive(Clone, Copy, Debug, PartialEq, Eq, Error)]
 pub enum AppendError {
-    #[error("no memory")]
-    NoMemory,
     #[error(transparent)]
     Full(Full),
     #[error("the device failed")]
     DeviceFailed,
-}
-
-impl From<AllocError> for AppendError {
-    ghost use Rattle.unit_journal.specs.declared.errors.AppendError.TheVariants.{NoMemory};
-
-    ghost from_gives = { λ _ e. e ≡ NoMemory };
-
-    fn from(_: AllocError) -> Self {
-        AppendError::NoMemory
-    }
 }
 
 impl From<DiskFault> for AppendError {

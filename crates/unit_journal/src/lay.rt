@@ -1,15 +1,13 @@
 //! Laying records into a region that does not count yet.
 ghost use Rattle.std.specs.Prelude.{◌≡◌, ◌+◌, ◌-◌, ◌^◌, ◌<◌, ◌≤◌, ◌++◌, ◌∷◌, [], min, ℕ, List, IsTrue, OnOk, IfOk, length};
-ghost use Rattle.std.specs.Int.{w32, to_be_bytes};
 ghost use Rattle.drda_disk.specs.Disk.{LeavesOnly, Torn, Within};
 ghost use Rattle.drda_disk.specs.Region.{end_of, SameOutside};
 ghost use Rattle.unit_journal.specs.Record.{laid, behind, entry_of, entries_of};
-ghost use Rattle.unit_journal.specs.Kind.{code_of};
 ghost use Rattle.unit_journal.specs.Stands.{Stands};
 ghost use Rattle.unit_journal.specs.Errors.{SaysFullToLay, OnRefusedToLay, CountsLay};
 
-use crate::record::{CLOSED, HEAD, OPEN};
-use crate::{Full, Journal, Kind, LayError, Record};
+use crate::record::{CLOSED, HEAD, head_of};
+use crate::{Full, Journal, LayError, Record};
 use drda_disk::{Disk, Region};
 use std::alloc::{AllocError, Global};
 
@@ -22,14 +20,6 @@ fn laid_len(records: &[Record]) -> usize
         sum = sum.saturating_add(HEAD).saturating_add(item.body.len());
     }
     sum
-}
-
-/// A record's bytes before its body, with an open gate.
-fn head_of(kind: Kind, len: u32) -> [u8; 6]
-    ensures { result ≡ 165 ∷ (code_of kind ∷ to_be_bytes w32 len) }
-{
-    let [a, b, c, d] = len.to_be_bytes();
-    [OPEN, kind.code(), a, b, c, d]
 }
 
 /// Puts a record behind other bytes, with an open gate.

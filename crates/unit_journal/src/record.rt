@@ -1,10 +1,9 @@
 //! A record, in memory and on the disk.
-ghost use Rattle.std.specs.Prelude.{◌≡◌, ◌^◌, ◌<◌, ◌++◌, ◌∷◌, [], length, IfOk};
+ghost use Rattle.std.specs.Prelude.{◌≡◌, ◌∷◌};
 ghost use Rattle.std.specs.Int.{w32, to_be_bytes};
 ghost use Rattle.unit_journal.specs.Kind.{code_of};
 
 use crate::Kind;
-use std::alloc::{AllocError, Global};
 
 /// An open gate: the record behind it counts. Any other byte is a closed gate, behind which nothing
 /// is read.
@@ -25,15 +24,10 @@ pub struct Record {
     pub body: Vec<u8>,
 }
 
-/// A record but for its gate, with the closed gate of the next record behind it.
-pub(crate) fn behind_gate(alloc: Global, kind: Kind, body: &[u8]) -> Result<Vec<u8>, AllocError>
-    requires { length body.now < 2 ^ 32 }
-    ensures { IfOk result (λ bytes. bytes.items ≡ code_of kind ∷ (to_be_bytes w32 (length body.now) ++ (body.now ++ 0 ∷ []))) }
+/// A record's bytes before its body, with an open gate.
+pub(crate) fn head_of(kind: Kind, len: u32) -> [u8; 6]
+    ensures { result ≡ 165 ∷ (code_of kind ∷ to_be_bytes w32 len) }
 {
-    let mut bytes = Vec::with_capacity(alloc, HEAD + body.len())?;
-    bytes.push(kind.code())?;
-    bytes.extend_from_slice(&(body.len() as u32).to_be_bytes())?;
-    bytes.extend_from_slice(body)?;
-    bytes.push(CLOSED)?;
-    Ok(bytes)
+    let [a, b, c, d] = len.to_be_bytes();
+    [OPEN, kind.code(), a, b, c, d]
 }

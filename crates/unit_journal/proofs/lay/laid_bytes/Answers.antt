@@ -1,4 +1,4 @@
-use Rattle.std.proofs.Common.{◌+◌, ℕ, List, ◌∷◌, ◌++◌, length, take, sym, ◌∙◌, ap, arith}
+use Rattle.std.proofs.Common.{ℕ, List, ◌∷◌, ◌++◌, length, take, sym, ◌∙◌, ap, arith}
 use Rattle.unit_journal.specs.Record.{behind, laid, entry_of, entries_of}
 use Rattle.unit_journal.proofs.Laying.{laid_next, fits_next}
 use Rattle.unit_journal.proofs.lay.laid_bytes.Goals as goal

@@ -1,7 +1,7 @@
-use Rattle.std.proofs.Common.{◌≡◌, ◌+◌, List, length, ◌∙◌, arith}
+use Rattle.std.proofs.Common.{length, ◌∙◌, arith}
 use Rattle.drda_disk.proofs.Moments.{torn_within}
 use Rattle.drda_disk.proofs.Parts.{Torn-wider}
-use Rattle.unit_journal.specs.Record.{laid, entries_of}
+use Rattle.unit_journal.specs.Record.{entries_of}
 use Rattle.unit_journal.proofs.Laying.{total_fits, short_all, length-laid, laid_stands}
 use Rattle.unit_journal.proofs.journal.Journal.lay.Goals as goal
 
