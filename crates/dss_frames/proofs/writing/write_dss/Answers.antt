@@ -12,7 +12,7 @@ returns-clause-ok c =
     let number : List ℕ = to_be_bytes w16 c.args.correlator in
     let rest : List ℕ = c.split_at.result.1.now in
     let begun : old ++ ((size ++ mark) ++ number) ≡ ((old ++ size) ++ mark) ++ number =
-        sym (append_assoc old (size ++ mark) number) ∙ ap (λ (b : List ℕ). b ++ number) (sym (append_assoc old size mark)) in
+    sym (append_assoc old (size ++ mark) number) ∙ ap (λ (b : List ℕ). b ++ number) (sym (append_assoc old size mark)) in
     c.append_continuations.ensures.items
     ∙ ap (λ (b : List ℕ). b ++ continuations (length rest) rest) (c.append-2.ensures.items
     ∙ ap (λ (b : List ℕ). b ++ c.split_at.result.0.now) (c.append.ensures.items
