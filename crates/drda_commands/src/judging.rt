@@ -63,7 +63,7 @@ fn check_due(command: Command, stage: Stage) -> Result<(), Refusal>
 }
 
 fn check_whole(command: Command, given: Given<'_>) -> Result<(), Refusal>
-    ensures { result ≡ spec.is_whole command (given_of given.entry) }
+    ensures { result ≡ spec.whole_or_refused command (given_of given.entry) }
 {
     if let Some(error) = given.first_fault(command) {
         return Err(Refusal::Syntax(error));
