@@ -4,13 +4,11 @@ use Rattle.std.proofs.lemmas.List.{append-nil, drop-drop, drop-take, length-take
 use Rattle.std.proofs.Math.Seq.{take-append_seam, drop-append_seam}
 use Rattle.drda_words.specs.Place.{part}
 use Rattle.drda_words.specs.Number.{word}
+use Rattle.drda_words.proofs.Number.{word_is}
 use Rattle.dss_frames.specs.Dss.{Dss, IsDss, AreDsss}
 use Rattle.dss_frames.specs.Joining.{count_bytes, IsJoined, AreJoined, JoinsDss}
 use Rattle.dss_frames.specs.Group.{dsss_in, joined_dsss}
 use Rattle.dss_frames.proofs.Readings.{segments_length}
-
-pub word_is : (high low : ℕ) → word high low ≡ 256 * high + low
-word_is high low = omega arith
 
 -- three bytes give the count that they were made of
 pub count_read : (n : ℕ) → n ≤ 1048576 → 65536 * (n / 256 / 256 % 256) + word (n / 256 % 256) (n % 256) ≡ n
