@@ -1,3 +1,3 @@
 pub mod Kinds
-pub mod Bodies
+pub mod Laying
 pub mod Recording

@@ -1,7 +1,7 @@
 //! Units of work recorded in the journal of a disk.
 #![tactic(auto)]
 
-mod bodies;
+mod laying;
 mod made;
 mod recorder;
 

@@ -4,16 +4,17 @@ ghost use Rattle.std.specs.Prelude.{◌≡◌, ◌+◌, ◌<◌, ◌≤◌, ◌^
 ghost use Rattle.drda_disk.specs.Region.{end_of};
 ghost use Rattle.tables.specs.ChangeView.{change_of};
 ghost use Rattle.unit_journal.specs.Journal.{held_of, region_of, room_of};
+ghost use Rattle.unit_journal.specs.LaidRecord.{entry_in};
 ghost use Rattle.unit_records.specs.Records.{UnitRecord, committed, decided, prepared};
 ghost use Rattle.disk_recorder.specs.Kinds.{kind_for};
 
-use crate::bodies::{commit_body, decide_body, prepare_body};
+use crate::laying::{lay_commit, lay_decide, lay_prepare};
 use crate::made::MadeRecords;
 use drda_disk::{Disk, Region};
 use recording::{RecordError, Recorder, Saying};
 use std::alloc::Global;
 use tables::Change;
-use unit_journal::{AppendError, Journal, Kind};
+use unit_journal::{AppendError, Journal, Kind, LaidRecord};
 use unit_locks::Claim;
 use unit_records::held_for_decision;
 use xa_calls::Xid;
@@ -32,7 +33,7 @@ pub struct DiskRecorder<D> {
 }
 
 impl<D: Disk> DiskRecorder<D> {
-    ghost use Rattle.disk_recorder.specs.Bodies.{Says};
+    ghost use Rattle.disk_recorder.specs.Laying.{Says};
     ghost use Rattle.disk_recorder.specs.Recording.{Allows, Fails, Records, disk_of, has_failed, journal_of, made_of};
 
     /// Records in this journal of this disk, whose device has not failed.
@@ -106,8 +107,8 @@ impl<D: Disk> DiskRecorder<D> {
         ensures ok { OnOk result (Records D.is_modelled D.life self.old (committed (map change_of changes.now)) self.new) }
         ensures err { IfErr result (λ error. Fails D.is_modelled D.life self.old (committed (map change_of changes.now)) error self.new) }
     {
-        match commit_body(self.alloc, changes, self.small_room()) {
-            Ok(body) => self.append(Kind::Commit, &body, 0, 0),
+        match lay_commit(self.alloc, changes, self.small_room()) {
+            Ok(laid) => self.append(&laid, 0, 0),
             Err(error) => Err(error),
         }
     }
@@ -122,8 +123,8 @@ impl<D: Disk> DiskRecorder<D> {
         ensures ok { OnOk result (Records D.is_modelled D.life self.old (prepared xid.now (map change_of changes.now) claims.now) self.new) }
         ensures err { IfErr result (λ error. Fails D.is_modelled D.life self.old (prepared xid.now (map change_of changes.now) claims.now) error self.new) }
     {
-        match prepare_body(self.alloc, xid, changes, claims, self.small_room()) {
-            Ok(body) => self.append(Kind::Prepare, &body, held_for_decision(xid), 0),
+        match lay_prepare(self.alloc, xid, changes, claims, self.small_room()) {
+            Ok(laid) => self.append(&laid, held_for_decision(xid), 0),
             Err(error) => Err(error),
         }
     }
@@ -133,43 +134,33 @@ impl<D: Disk> DiskRecorder<D> {
         ensures ok { OnOk result (Records D.is_modelled D.life self.old (decided xid.now decision) self.new) }
         ensures err { IfErr result (λ error. Fails D.is_modelled D.life self.old (decided xid.now decision) error self.new) }
     {
-        match decide_body(self.alloc, xid, decision, self.small_room()) {
-            Ok(body) => self.append(Kind::Decide, &body, 0, held_for_decision(xid)),
+        match lay_decide(self.alloc, xid, decision, self.small_room()) {
+            Ok(laid) => self.append(&laid, 0, held_for_decision(xid)),
             Err(_) => Err(RecordError::NoMemory),
         }
     }
 
     // Adds a record that fits; a failure of the device is remembered.
-    fn append(
-        &mut self,
-        kind: Kind,
-        body: &[u8],
-        hold: usize,
-        release: usize,
-    ) -> Result<(), RecordError>
+    fn append(&mut self, laid: &LaidRecord, hold: usize, release: usize) -> Result<(), RecordError>
         requires going { has_failed self.old ≡ false }
         requires inside { end_of (region_of (journal_of self.old)) ≤ length (D.life (disk_of self.old)).seen }
         requires released { release ≤ held_of (journal_of self.old) }
-        requires fits { 6 + length body.now + hold ≤ room_of (journal_of self.old) + release }
-        ensures ok { (said : UnitRecord) → Says said kind body.now hold release → OnOk result (Records D.is_modelled D.life self.old said self.new) }
-        ensures err { (said : UnitRecord) → Says said kind body.now hold release → IfErr result (λ error. Fails D.is_modelled D.life self.old said error self.new) }
+        requires fits { 6 + length (entry_in laid.now).body + hold ≤ room_of (journal_of self.old) + release }
+        ensures ok { (said : UnitRecord) → Says said (entry_in laid.now) hold release → OnOk result (Records D.is_modelled D.life self.old said self.new) }
+        ensures err { (said : UnitRecord) → Says said (entry_in laid.now) hold release → IfErr result (λ error. Fails D.is_modelled D.life self.old said error self.new) }
     {
-        match self
-            .journal
-            .append(self.alloc, &mut self.disk, kind, body, hold, release)
-        {
+        match self.journal.append(&mut self.disk, laid, hold, release) {
             Ok(()) => {
-                self.made.note(&[number_of(kind)], body);
+                self.made.note(&[number_of(laid.kind())], laid.body());
                 Ok(())
             }
-            Err(AppendError::NoMemory) => Err(RecordError::NoMemory),
             Err(AppendError::Full(full)) => Err(RecordError::Full {
                 need: full.need as u64,
                 room: full.room as u64,
             }),
             Err(AppendError::DeviceFailed) => {
                 self.is_failed = true;
-                self.made.note(&[number_of(kind)], body);
+                self.made.note(&[number_of(laid.kind())], laid.body());
                 Err(RecordError::DeviceFailed)
             }
         }

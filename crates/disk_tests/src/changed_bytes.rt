@@ -30,7 +30,7 @@ fn read_with(alloc: Global, place: usize, byte: u8) -> Result<Result<usize, usiz
     let mut disk = MemDisk::new(alloc, 64)?;
     let mut journal = start(&mut disk, SMALL)?;
     for kind in [Kind::Commit, Kind::Prepare, Kind::Decide] {
-        append(alloc, &mut journal, &mut disk, record_of(kind, &[1, 2, 3]))?;
+        append(alloc, &mut journal, &mut disk, record_of(kind, &[1, 2, 3]))??;
     }
     put(&mut disk, place.saturating_add(5), &[byte])?;
     Ok(found(alloc, &mut disk, SMALL)?)

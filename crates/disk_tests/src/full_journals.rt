@@ -32,7 +32,7 @@ fn answer<D: Disk>(
     journal: &mut Journal,
     disk: &mut D,
     call: Call,
-) -> Result<Option<(usize, usize)>, AppendError> {
+) -> Result<Option<(usize, usize)>, Fail> {
     match call {
         Call::Append(kind, len, hold, release) => {
             let body = vec![in alloc; 7; len]?;
@@ -42,10 +42,10 @@ fn answer<D: Disk>(
                 hold,
                 release,
             };
-            match append(alloc, journal, disk, said) {
+            match append(alloc, journal, disk, said)? {
                 Ok(()) => Ok(None),
                 Err(AppendError::Full(full)) => Ok(full_of(full)),
-                Err(error) => Err(error),
+                Err(error) => Err(error.into()),
             }
         }
         Call::Hold(bytes) => match journal.hold(bytes) {

@@ -1,11 +1,12 @@
 //! Calls on journals whose conditions are tested, for tests. One that does not hold shows as a
 //! fault of the device.
-ghost use Rattle.std.specs.Prelude.{◌≡◌, ◌^◌, ◌<◌, ◌≤◌, IsTrue, length};
+ghost use Rattle.std.specs.Prelude.{◌≡◌, ◌^◌, ◌<◌, ◌≤◌, IfOk, IsTrue, length};
 ghost use Rattle.drda_disk.specs.Region.{end_of};
+ghost use Rattle.unit_journal.specs.LaidRecord.{entry_in};
 
 use drda_disk::{Disk, DiskFault, Region};
-use std::alloc::Global;
-use unit_journal::{AppendError, Journal, Kind, LayError, OpenError, Record};
+use std::alloc::{AllocError, Global};
+use unit_journal::{AppendError, Journal, Kind, LaidRecord, LayError, OpenError, Record};
 
 fn may_be_a_journal<D: Disk>(disk: &D, region: Region) -> bool
     ensures some { IsTrue result → 0 < region.length }
@@ -65,12 +66,23 @@ pub fn record_of(kind: Kind, body: &[u8]) -> Said<'_> {
     }
 }
 
+/// The record of this kind with this body.
+pub fn laid_record(alloc: Global, kind: Kind, body: &[u8]) -> Result<LaidRecord, AllocError>
+    requires { length body.now < 2 ^ 32 }
+    ensures { IfOk result (λ laid. entry_in laid ≡ record { kind = kind; body = body.now }) }
+{
+    let mut bytes = LaidRecord::begin(alloc, body.len())?;
+    bytes.extend_from_slice(body)?;
+    LaidRecord::finish(kind, bytes)
+}
+
+/// Lays a record, and what its append answers.
 pub fn append<D: Disk>(
     alloc: Global,
     journal: &mut Journal,
     disk: &mut D,
     said: Said<'_>,
-) -> Result<(), AppendError> {
+) -> Result<Result<(), AppendError>, AllocError> {
     let Said {
         kind,
         body,
@@ -82,9 +94,10 @@ pub fn append<D: Disk>(
         || hold >= 1 << 32
         || release > journal.held()
     {
-        return Err(AppendError::DeviceFailed);
+        return Ok(Err(AppendError::DeviceFailed));
     }
-    journal.append(alloc, disk, kind, body, hold, release)
+    let laid = laid_record(alloc, kind, body)?;
+    Ok(journal.append(disk, &laid, hold, release))
 }
 
 /// What opening finds: how many records there are, or where the region is damaged.

@@ -1,22 +1,40 @@
 //! Records that are laid, and old ones behind a closed gate.
-use crate::journals::{append, found, lay, open, record_of, start};
+use crate::journals::{append, found, laid_record, lay, open, record_of, start};
 use drda_disk::{Disk, MemDisk, Region};
 use std::alloc::Global;
 use std::test::Fail;
-use unit_journal::{AppendError, Full, Kind, LayError, Record};
+use unit_journal::{Full, Kind, LaidRecord, LayError, Record};
 
 const SMALL: Region = Region { at: 5, length: 40 };
+
+#[test]
+fn a_record_says_its_kind_and_body(rt: HostRuntime) -> Result<(), Fail> {
+    for (kind, body) in [(Kind::Prepare, &[] as &[u8]), (Kind::Decide, &[8, 9])] {
+        let laid = laid_record(rt.alloc(), kind, body)?;
+        assert_eq!(rt; (laid.kind(), laid.body()), (kind, body));
+    }
+    Ok(())
+}
+
+#[test]
+fn a_record_begun_wants_no_more_memory(rt: HostRuntime) -> Result<(), Fail> {
+    let mut bytes = LaidRecord::begin(rt.alloc(), 3)?;
+    // Neither fails whatever memory is refused.
+    assert!(rt; bytes.extend_from_slice(&[1, 2, 3]).is_ok());
+    assert!(rt; LaidRecord::finish(Kind::Commit, bytes).is_ok());
+    Ok(())
+}
 
 /// A journal of three records, and then one begun anew with a record of two bytes: the gates of the
 /// old ones stay open behind it. How many records are found before that record and with it.
 fn begun_anew(alloc: Global, disk: &mut MemDisk) -> Result<(usize, usize), Fail> {
     let mut journal = start(disk, SMALL)?;
     for kind in [Kind::Commit, Kind::Prepare, Kind::Decide] {
-        append(alloc, &mut journal, disk, record_of(kind, &[1, 2, 3]))?;
+        append(alloc, &mut journal, disk, record_of(kind, &[1, 2, 3]))??;
     }
     let mut journal = start(disk, SMALL)?;
     let (_, none) = open(alloc, disk, SMALL)?;
-    append(alloc, &mut journal, disk, record_of(Kind::Commit, &[8, 9]))?;
+    append(alloc, &mut journal, disk, record_of(Kind::Commit, &[8, 9]))??;
     let (_, one) = open(alloc, disk, SMALL)?;
     Ok((none.len(), one.len()))
 }

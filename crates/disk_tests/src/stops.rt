@@ -26,7 +26,7 @@ fn stopped(alloc: Global, k: u64, once: bool) -> Result<(u64, u64, u64, u64), Fa
             &mut journal,
             &mut disk,
             record_of(Kind::Commit, body),
-        )
+        )?
         .is_err()
         {
             break;

@@ -35,13 +35,13 @@ impl LaidRecord {
     ghost use Rattle.unit_journal.specs.LaidRecord.{entry_in};
 
     /// Room for the kind and the length of a record's body: five bytes, behind which the caller
-    /// writes the body. There is memory for `length` bytes of it and for the gate behind them.
-    pub fn begin(alloc: Global, length: usize) -> Result<Vec<u8>, AllocError>
-        requires { length < 2 ^ 32 }
-        ensures front { IfOk result (λ bytes. vec_len bytes ≡ 5) }
-        ensures room { IfOk result (λ bytes. 6 + length ≤ vec_capacity bytes) }
+    /// writes the body. There is memory for `len` bytes of it and for the gate behind them.
+    pub fn begin(alloc: Global, len: usize) -> Result<Vec<u8>, AllocError>
+        requires { len < 2 ^ 32 }
+        ensures front { IfOk result (λ bytes. length bytes.items ≡ 5) }
+        ensures room { IfOk result (λ bytes. 6 + len ≤ vec_capacity bytes) }
     {
-        let mut bytes = Vec::with_capacity(alloc, HEAD + length)?;
+        let mut bytes = Vec::with_capacity(alloc, HEAD + len)?;
         bytes.extend_from_slice(&[0; FRONT])?;
         Ok(bytes)
     }

@@ -1,22 +1,21 @@
--- The bodies that are handed to a journal.
-use Rattle.std.specs.Prelude.{◌≡◌, ℕ, ◌+◌, ◌-◌, ◌^◌, ◌<◌, ◌≤◌, List, min}
-use Rattle.unit_journal.specs.declared.kind.Kind.{Kind}
-use Rattle.unit_records.specs.Records.{IsGood, UnitRecord, kind_of, record_bytes}
+-- The records that are handed to a journal.
+use Rattle.std.specs.Prelude.{◌≡◌, ℕ, ◌+◌, ◌-◌, ◌^◌, ◌<◌, ◌≤◌, min}
+use Rattle.unit_journal.specs.Record.{Entry}
+use Rattle.unit_records.specs.Records.{IsGood, UnitRecord, entry_of}
 use Rattle.unit_records.specs.Room.{held, released, taken}
 use Rattle.recording.specs.declared.record_error.RecordError.{RecordError}
 use Rattle.recording.specs.declared.record_error.RecordError.TheVariants.{DeviceFailed, Full, NoMemory}
 
--- this body is the record's, and there is room for it
-pub record IsBody (said : UnitRecord) (room : ℕ) (body : List ℕ) : Type 0 where
-  pub bytes : body ≡ record_bytes said
+-- this entry is the record's, and there is room for it
+pub record IsLaid (said : UnitRecord) (room : ℕ) (e : Entry) : Type 0 where
+  pub entry : e ≡ entry_of said
   pub good : IsGood said
   pub fits : taken said + held said ≤ room + released said
 
--- this kind, body and numbers of bytes held and released are the record's
-pub record Says (said : UnitRecord) (kind : Kind) (body : List ℕ) (hold release : ℕ) : Type 0 where
+-- this entry and these numbers of bytes held and released are the record's
+pub record Says (said : UnitRecord) (e : Entry) (hold release : ℕ) : Type 0 where
   pub good : IsGood said
-  pub same_kind : kind ≡ kind_of said
-  pub bytes : body ≡ record_bytes said
+  pub entry : e ≡ entry_of said
   pub holds : hold ≡ held said
   pub releases : release ≡ released said
 
@@ -26,7 +25,7 @@ pub record LacksRoom (said : UnitRecord) (left need room : ℕ) : Type 0 where
   pub room_is : room ≡ left
   pub less : left + released said < taken said + held said
 
--- why no body was made
+-- why no record was laid
 abbrev pub Refuses : UnitRecord → ℕ → RecordError → Type 0
 Refuses said left NoMemory = Unit {0}
 Refuses said left (Full need room) = LacksRoom said left need room
