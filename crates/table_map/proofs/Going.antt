@@ -25,7 +25,7 @@ pub each_ok : {T E : Type 0} (P Q : T → Type 0) (r : Result T E) → ((x : T) 
 each_ok P Q (Ok x) f h = f x h
 each_ok P Q (Err e) f h = tt
 
--- ---- whose turn it is
+-- ---- whose key is smaller
 
 is_less : (o : Ordering) → match_ordering o smaller.Change smaller.Both smaller.Row ≡ smaller.Change → o ≡ Less
 is_less Less e = refl

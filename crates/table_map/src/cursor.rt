@@ -72,7 +72,7 @@ fn of_row(row: Option<Vec<u8>>) -> Step
 impl<'a> RowCursor<'a> {
     /// Whose key comes first, where the rows of the page that was read are left.
     fn smaller<K: RowKeys>(&self, alloc: Global, keys: &K) -> Result<Smaller, AllocError>
-        ensures { IfOk result (λ turn. turn ≡ smaller_of (K.key_of keys.now) self.now.base.rows self.now.changes) }
+        ensures { IfOk result (λ first. first ≡ smaller_of (K.key_of keys.now) self.now.base.rows self.now.changes) }
     {
         match (self.base.first(), self.changes.first()) {
             (None, None) => Ok(Smaller::End),
