@@ -1,5 +1,5 @@
 -- What commands on cursors are answered are objects.
-use Rattle.std.proofs.Common.{◌==◌, ◌+◌, ℕ, Bool, true, false, List, [], ◌∷◌, ◌++◌, Option, Some, None, Result, Ok, Err, if◌then◌else◌}
+use Rattle.std.proofs.Common.{◌==◌, ◌+◌, ℕ, Bool, List, [], ◌∷◌, Option, Some, None, Result, Ok, Err, if◌then◌else◌}
 use Rattle.std.specs.Prelude.{codes, length, nat_le, pos, unwrap_or}
 use Rattle.std.specs.Int.{to_be_bytes, w16, w64}
 use Rattle.ddm_objects.specs.declared.code_point.TheConstants.{ENDQRYRM, LMTBLKPRC, OPNQFLRM, OPNQRYRM, PKGNAMCSN, QRYINSID, QRYNOPRM, QRYPOPRM, QRYPRCTYP, RDBNAM, SQLCSRHLD}
