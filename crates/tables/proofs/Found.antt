@@ -1,5 +1,5 @@
 -- What is found in a store.
-use Rattle.std.proofs.Common.{◌≡◌, ℕ, zero, suc, List, [], ◌∷◌, Bool, true, false, cond, ◌&&◌, refl, sym, ap, subst, ◌∙◌, length, map, Option, Some, None, option_map}
+use Rattle.std.proofs.Common.{◌≡◌, ℕ, zero, suc, List, [], ◌∷◌, Bool, true, false, cond, refl, sym, ap, subst, ◌∙◌, length, map, Option, Some, None, option_map}
 use Rattle.std.proofs.Common.{Ordering, Less, Equal, Greater}
 use Rattle.std.specs.Prelude.{bytes_eq, is_some, unwrap_or}
 use Rattle.std.specs.Option.{option_and_then}
@@ -10,18 +10,18 @@ use Rattle.std.specs.BTreeMap.{insert_entry}
 use Rattle.std.specs.Cmp.Lexicographic.{nat_list_cmp_total, slice_cmp}
 use Rattle.std.proofs.lemmas.List.{length-map}
 use Rattle.drda_words.specs.Order.{rises}
-use Rattle.row_values.specs.Schema.{Schema, is_name}
+use Rattle.row_values.specs.Schema.{Schema}
 use Rattle.row_values.specs.Row.{is_row}
 use Rattle.row_values.specs.Key.{key_cmp, row_key}
 use Rattle.row_values.proofs.ValueLaws.{first_true, second_true}
 use Rattle.tables.specs.Change.{Change, create, put, remove}
-use Rattle.tables.specs.Tables.{Store, Table, apply, is_row_at, put_row, remove_row, row_of, rows_of, schema_of, table_of, with_table}
+use Rattle.tables.specs.Tables.{Store, Table, apply, is_row_at, put_row, remove_row, row_of, rows_of, schema_of, table_of}
 use Rattle.tables.specs.View.{is_entry, is_store, is_table}
 use Rattle.tables.specs.Laws.{IsAmong, ListsFound, names_after, with_name}
 use Rattle.tables.proofs.Finding.{TellsApart, found_put, otherwise, same_bytes}
-use Rattle.tables.proofs.Changes.{keys_apart, names_apart, table_after}
+use Rattle.tables.proofs.Changes.{keys_apart, names_apart}
 use Rattle.tables.proofs.Keeping.{before_all, less_is, named_table, parts, same_keys}
-use Rattle.tables.proofs.Showing.{GoodTable, found_first, good_table, inside, lists_same, same_at, some_is_not_none}
+use Rattle.tables.proofs.Showing.{GoodTable, found_first, good_table, inside, lists_same, same_at}
 
 all_tables : (s : Store) → is_store s ≡ true → list_all named_table s ≡ true
 all_tables s h = first_true (list_all named_table s) (rises (slice_cmp nat_cmp) (keys_of s)) h

@@ -1,5 +1,5 @@
 -- The laws that tie the definitions to one another.
-use Rattle.std.specs.Prelude.{◌≡◌, ℕ, Bool, List, [], ◌++◌, length, map, Option, Some, is_some, option_map, unwrap_or, bytes_eq, if◌then◌else◌, true}
+use Rattle.std.specs.Prelude.{◌≡◌, ℕ, List, [], ◌++◌, length, map, Some, is_some, option_map, unwrap_or, bytes_eq, if◌then◌else◌, true}
 use Rattle.std.specs.List.{slice_get}
 use Rattle.std.specs.Map.{keys_of}
 use Rattle.std.specs.Ordering.{nat_cmp}

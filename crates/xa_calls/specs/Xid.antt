@@ -1,7 +1,7 @@
 -- XID data (DRDA V5 volume 3, XID; C193 chapter 4, "Transaction Identification"): a format
 -- number, the lengths of the two parts, four bytes each, then the global transaction identifier and
 -- the branch qualifier. Format -1 (FFFFFFFF) is the null XID, which names no branch.
-use Rattle.std.specs.Prelude.{◌≡◌, ◌<◌, ◌≤◌, ℕ, ◌+◌, ◌-◌, ◌^◌, Bool, ◌&&◌, nat_le, nat_lt, List, ◌++◌, length, take, replicate, slice_index, Option, Some, None, if◌then◌else◌}
+use Rattle.std.specs.Prelude.{◌≡◌, ◌<◌, ◌≤◌, ℕ, ◌+◌, ◌-◌, ◌^◌, Bool, ◌&&◌, nat_le, nat_lt, List, ◌++◌, length, take, replicate, Option, Some, None, if◌then◌else◌}
 use Rattle.std.specs.Int.{w32, to_be_bytes, from_be_bytes}
 use Rattle.std.proofs.Common.{drop, arith, take-append-drop, length-take-le}
 use Rattle.drda_words.specs.Place.{part}

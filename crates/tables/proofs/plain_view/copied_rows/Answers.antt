@@ -1,5 +1,5 @@
 -- The rows are those of the table of the name.
-use Rattle.std.proofs.Common.{IfOk, [], Option, option_map, ap, map, subst, sym, ◌∙◌, ◌≡◌}
+use Rattle.std.proofs.Common.{IfOk, [], Option, option_map, ap, subst, sym, ◌∙◌, ◌≡◌}
 use Rattle.std.specs.Prelude.{unwrap_or}
 use Rattle.std.specs.Map.{values_of}
 use Rattle.tables.specs.Tables.{Table}
