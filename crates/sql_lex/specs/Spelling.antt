@@ -24,12 +24,12 @@ AreDigits n = (1 ≤ length n) × (list_all is_ascii_digit n ≡ true)
 
 -- pairs of hexadecimal digits
 abbrev pub ArePairs : List ℕ → Type 0
-ArePairs z = (length z % 2 ≡ 0) × (list_all is_ascii_hexdigit z ≡ true)
+ArePairs text = (length text % 2 ≡ 0) × (list_all is_ascii_hexdigit text ≡ true)
 
 -- with each quote twice
 abbrev pub doubled : List ℕ → List ℕ
 doubled [] = []
-doubled (b ∷ z) = if b == 39 then 39 ∷ 39 ∷ doubled z else b ∷ doubled z
+doubled (b ∷ text) = if b == 39 then 39 ∷ 39 ∷ doubled text else b ∷ doubled text
 
 abbrev pub sign_of : Comparison → List ℕ
 sign_of is.Equal = codes "="
@@ -47,17 +47,17 @@ Lengthens _ b = ⊥
 
 -- a text from a token on: the token, with all the bytes that go on with it
 abbrev pub IsSpelled : List ℕ → Token → Type 0
-IsSpelled z (t.Fixed w) =
-    (word : List ℕ) × (rest : List ℕ) × (z ≡ word ++ rest) × (capitals word ≡ spelling w) × (is_ascii_alphabetic (slice_index word 0) ≡ true → goes_on (slice_index rest 0) ≡ false)
-IsSpelled z (t.Compare c) = (rest : List ℕ) × (z ≡ sign_of c ++ rest) × (Lengthens c (slice_index rest 0) → ⊥)
-IsSpelled z (t.Minus None) = (rest : List ℕ) × (z ≡ 45 ∷ rest) × (is_ascii_digit (slice_index rest 0) ≡ false)
-IsSpelled z (t.Minus (Some n)) = (digits : List ℕ) × (rest : List ℕ) × (n ≡ 45 ∷ digits) × AreDigits digits × (z ≡ n ++ rest) × (is_ascii_digit (slice_index rest 0) ≡ false)
-IsSpelled z (t.Marker before) = (rest : List ℕ) × (z ≡ 63 ∷ rest)
-IsSpelled z (t.Name n) = (rest : List ℕ) × (z ≡ n ++ rest) × (goes_on (slice_index rest 0) ≡ false) × IsName n
-IsSpelled z (t.Number n) = (rest : List ℕ) × (z ≡ n ++ rest) × (is_ascii_digit (slice_index rest 0) ≡ false) × AreDigits n
-IsSpelled z (t.Text v) = (whole : List ℕ) × (rest : List ℕ) × (v ≡ doubled whole) × (z ≡ 39 ∷ (v ++ 39 ∷ rest)) × (slice_index rest 0 ≢ 39)
-IsSpelled z (t.Bytes v) = (x : ℕ) × (rest : List ℕ) × (to_ascii_uppercase x ≡ 88) × (z ≡ x ∷ 39 ∷ (v ++ 39 ∷ rest)) × ArePairs v
-IsSpelled z t.Unknown = Unit {0}
+IsSpelled text (t.Fixed w) =
+    (word : List ℕ) × (rest : List ℕ) × (text ≡ word ++ rest) × (capitals word ≡ spelling w) × (is_ascii_alphabetic (slice_index word 0) ≡ true → goes_on (slice_index rest 0) ≡ false)
+IsSpelled text (t.Compare c) = (rest : List ℕ) × (text ≡ sign_of c ++ rest) × (Lengthens c (slice_index rest 0) → ⊥)
+IsSpelled text (t.Minus None) = (rest : List ℕ) × (text ≡ 45 ∷ rest) × (is_ascii_digit (slice_index rest 0) ≡ false)
+IsSpelled text (t.Minus (Some n)) = (digits : List ℕ) × (rest : List ℕ) × (n ≡ 45 ∷ digits) × AreDigits digits × (text ≡ n ++ rest) × (is_ascii_digit (slice_index rest 0) ≡ false)
+IsSpelled text (t.Marker before) = (rest : List ℕ) × (text ≡ 63 ∷ rest)
+IsSpelled text (t.Name n) = (rest : List ℕ) × (text ≡ n ++ rest) × (goes_on (slice_index rest 0) ≡ false) × IsName n
+IsSpelled text (t.Number n) = (rest : List ℕ) × (text ≡ n ++ rest) × (is_ascii_digit (slice_index rest 0) ≡ false) × AreDigits n
+IsSpelled text (t.Text v) = (whole : List ℕ) × (rest : List ℕ) × (v ≡ doubled whole) × (text ≡ 39 ∷ (v ++ 39 ∷ rest)) × (slice_index rest 0 ≢ 39)
+IsSpelled text (t.Bytes v) = (x : ℕ) × (rest : List ℕ) × (to_ascii_uppercase x ≡ 88) × (text ≡ x ∷ 39 ∷ (v ++ 39 ∷ rest)) × ArePairs v
+IsSpelled text t.Unknown = Unit {0}
 
 abbrev pub AllSpelled : List ℕ → List Lexeme → Type 0
 AllSpelled text [] = Unit {0}

@@ -8,11 +8,11 @@ use Rattle.sql_lex.specs.declared.token.Token.TheVariants as t
 -- a name, a number, and a '-' with its number stand where their token does; a text stands behind its
 -- quote, and bytes behind their X and quote
 abbrev pub StandsIn : List ℕ → ℕ → Token → Type 0
-StandsIn text at (t.Name z) = StandsAt text at z
-StandsIn text at (t.Number z) = StandsAt text at z
-StandsIn text at (t.Minus (Some z)) = StandsAt text at z
-StandsIn text at (t.Text z) = StandsAt text (at + 1) z
-StandsIn text at (t.Bytes z) = StandsAt text (at + 2) z
+StandsIn text at (t.Name bytes) = StandsAt text at bytes
+StandsIn text at (t.Number bytes) = StandsAt text at bytes
+StandsIn text at (t.Minus (Some bytes)) = StandsAt text at bytes
+StandsIn text at (t.Text bytes) = StandsAt text (at + 1) bytes
+StandsIn text at (t.Bytes bytes) = StandsAt text (at + 2) bytes
 StandsIn text at _ = Unit {0}
 
 abbrev pub Stands : List ℕ → Lexeme → Type 0

@@ -19,44 +19,44 @@ abbrev pub goes_on : ℕ → Bool
 goes_on b = is_ascii_alphanumeric b || b == 95
 
 abbrev pub is_spelled : List ℕ → Terminal → Bool
-is_spelled z word = str_eq_ignore_ascii_case z (spelling word)
+is_spelled text word = str_eq_ignore_ascii_case text (spelling word)
 
 abbrev pub name_by : List ℕ → Option Terminal → Token
-name_by z (Some word) = t.Fixed word
-name_by z None = if nat_le (length z) 30 then t.Name z else t.Unknown
+name_by text (Some word) = t.Fixed word
+name_by text None = if nat_le (length text) 30 then t.Name text else t.Unknown
 
 -- a word of the grammar, or else a name
 unfoldable pub named : List ℕ → Token
-named z = name_by z (find (is_spelled z) words)
+named text = name_by text (find (is_spelled text) words)
 
 -- how many bytes a text has behind its first quote, up to the quote that ends it; a doubled quote does not end it
 abbrev pub closing : Bool → ℕ → List ℕ → Option ℕ
 closing is_second at [] = None
-closing true at (b ∷ z) = closing false (at + 1) z
-closing false at (b ∷ z) = if b == 39 && not (slice_index z 0 == 39) then Some at else closing (b == 39) (at + 1) z
+closing true at (b ∷ text) = closing false (at + 1) text
+closing false at (b ∷ text) = if b == 39 && not (slice_index text 0 == 39) then Some at else closing (b == 39) (at + 1) text
 
 -- a text, by the place of its last quote
 abbrev pub quoted_by : List ℕ → Option ℕ → Token × ℕ
-quoted_by z None = (t.Unknown, 1)
-quoted_by z (Some n) = (t.Text (take n z), n + 2)
+quoted_by text None = (t.Unknown, 1)
+quoted_by text (Some n) = (t.Text (take n text), n + 2)
 
 abbrev pub is_pairs : List ℕ → Bool
-is_pairs z = length z % 2 == 0 && list_all is_ascii_hexdigit z
+is_pairs text = length text % 2 == 0 && list_all is_ascii_hexdigit text
 
 -- bytes, by the place of their last quote
 abbrev pub hexadecimal_by : List ℕ → Option ℕ → Token × ℕ
-hexadecimal_by z None = (t.Unknown, 1)
-hexadecimal_by z (Some n) = if is_pairs (take n z) then (t.Bytes (take n z), n + 3) else (t.Unknown, 1)
+hexadecimal_by text None = (t.Unknown, 1)
+hexadecimal_by text (Some n) = if is_pairs (take n text) then (t.Bytes (take n text), n + 3) else (t.Unknown, 1)
 
 -- a letter begins bytes where it is the word X directly before a quote, and else a word or a name
 unfoldable pub lettered : List ℕ → Token × ℕ
-lettered z =
-    if slice_index z 1 == 39 && eq_ignore_ascii_case (slice_index z 0) 88 then hexadecimal_by (drop 2 z) (position (λ b. b == 39) (drop 2 z))
-    else (let n = prefix_len goes_on z in (named (take n z), n))
+lettered text =
+    if slice_index text 1 == 39 && eq_ignore_ascii_case (slice_index text 0) 88 then hexadecimal_by (drop 2 text) (position (λ b. b == 39) (drop 2 text))
+    else (let n = prefix_len goes_on text in (named (take n text), n))
 
 -- a '-', with the digits that stand directly behind it
 abbrev pub minus : List ℕ → Token
-minus z = let n = prefix_len is_ascii_digit (drop 1 z) in if n == 0 then t.Minus None else t.Minus (Some (take (n + 1) z))
+minus text = let n = prefix_len is_ascii_digit (drop 1 text) in if n == 0 then t.Minus None else t.Minus (Some (take (n + 1) text))
 
 -- a sign, by its first two bytes
 unfoldable pub sign : ℕ → ℕ → Token × ℕ
@@ -72,13 +72,13 @@ sign b next =
 
 -- the token at the front, behind so many markers, and how many bytes it takes
 unfoldable pub token : ℕ → List ℕ → Token × ℕ
-token markers z =
-    let b = slice_index z 0 in
-    if is_ascii_alphabetic b then lettered z
-    else (if is_ascii_digit b then (let n = prefix_len is_ascii_digit z in (t.Number (take n z), n))
-    else (if b == 39 then quoted_by (drop 1 z) (closing false 0 (drop 1 z))
-    else (if b == 45 then (minus z, 1)
-    else (if b == 63 then (t.Marker markers, 1) else sign b (slice_index z 1)))))
+token markers text =
+    let b = slice_index text 0 in
+    if is_ascii_alphabetic b then lettered text
+    else (if is_ascii_digit b then (let n = prefix_len is_ascii_digit text in (t.Number (take n text), n))
+    else (if b == 39 then quoted_by (drop 1 text) (closing false 0 (drop 1 text))
+    else (if b == 45 then (minus text, 1)
+    else (if b == 63 then (t.Marker markers, 1) else sign b (slice_index text 1)))))
 
 -- a token, and how many bytes there are from it on
 abbrev pub Lexeme : Type 0
@@ -92,10 +92,10 @@ counted _ markers = markers
 -- the first number counts the bytes that are left of a token, the second the markers before it
 abbrev pub tokens_from : ℕ → ℕ → List ℕ → List Lexeme
 tokens_from left markers [] = []
-tokens_from (suc left) markers (b ∷ z) = tokens_from left markers z
-tokens_from zero markers (b ∷ z) =
-    if is_blank b then tokens_from zero markers z
-    else (length (b ∷ z), (token markers (b ∷ z)).0) ∷ tokens_from ((token markers (b ∷ z)).1 - 1) (counted (token markers (b ∷ z)).0 markers) z
+tokens_from (suc left) markers (b ∷ text) = tokens_from left markers text
+tokens_from zero markers (b ∷ text) =
+    if is_blank b then tokens_from zero markers text
+    else (length (b ∷ text), (token markers (b ∷ text)).0) ∷ tokens_from ((token markers (b ∷ text)).1 - 1) (counted (token markers (b ∷ text)).0 markers) text
 
 -- the tokens of a text, each with its place
 unfoldable pub tokens : List ℕ → List Lexeme

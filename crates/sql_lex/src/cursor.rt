@@ -30,18 +30,18 @@ impl<'a> Model for Cursor<'a> {
     ghost invariant = { λ c. c.markers + length c.text.now < 2 ^ 63 };
 }
 
-fn skip_blanks(markers: usize, mut z: &[u8]) -> &[u8]
-    ensures rest { spec.tokens_ahead (markers, result.now) ≡ spec.tokens_ahead (markers, z.entry.now) }
+fn skip_blanks(markers: usize, mut text: &[u8]) -> &[u8]
+    ensures rest { spec.tokens_ahead (markers, result.now) ≡ spec.tokens_ahead (markers, text.entry.now) }
     ensures stops { spec.is_blank (slice_index result.now 0) ≡ false }
-    ensures within { length result.now ≤ length z.entry.now }
+    ensures within { length result.now ≤ length text.entry.now }
 {
-    while let [b, rest @ ..] = z {
+    while let [b, rest @ ..] = text {
         if !is_blank(*b) {
-            return z;
+            return text;
         }
-        z = rest;
+        text = rest;
     }
-    z
+    text
 }
 
 impl<'a> Cursor<'a> {

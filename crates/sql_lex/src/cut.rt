@@ -23,124 +23,124 @@ fn goes_on(b: u8) -> bool
 }
 
 /// The byte at a place, or 0 where there is none.
-fn byte(z: &[u8], at: usize) -> u8
-    ensures value { result ≡ slice_index z.now at }
-    ensures within { result ≢ 0 → at < length z.now }
+fn byte(text: &[u8], at: usize) -> u8
+    ensures value { result ≡ slice_index text.now at }
+    ensures within { result ≢ 0 → at < length text.now }
 {
-    if at < z.len() { z[at] } else { 0 }
+    if at < text.len() { text[at] } else { 0 }
 }
 
-fn word_len(z: &[u8]) -> usize
-    ensures value { result ≡ prefix_len spec.goes_on z.now }
-    ensures within { result ≤ length z.now }
-    ensures moves { is_ascii_alphabetic (slice_index z.now 0) ≡ true → 1 ≤ result }
+fn word_len(text: &[u8]) -> usize
+    ensures value { result ≡ prefix_len spec.goes_on text.now }
+    ensures within { result ≤ length text.now }
+    ensures moves { is_ascii_alphabetic (slice_index text.now 0) ≡ true → 1 ≤ result }
 {
-    z.iter().take_while(|b| goes_on(**b)).count()
+    text.iter().take_while(|b| goes_on(**b)).count()
 }
 
-fn digits_len(z: &[u8]) -> usize
-    ensures value { result ≡ prefix_len is_ascii_digit z.now }
-    ensures within { result ≤ length z.now }
-    ensures moves { is_ascii_digit (slice_index z.now 0) ≡ true → 1 ≤ result }
+fn digits_len(text: &[u8]) -> usize
+    ensures value { result ≡ prefix_len is_ascii_digit text.now }
+    ensures within { result ≤ length text.now }
+    ensures moves { is_ascii_digit (slice_index text.now 0) ≡ true → 1 ≤ result }
 {
-    z.iter().take_while(|b| b.is_ascii_digit()).count()
+    text.iter().take_while(|b| b.is_ascii_digit()).count()
 }
 
-fn is_spelled(z: &[u8], word: Terminal) -> bool
-    ensures { result ≡ spec.is_spelled z.now word }
+fn is_spelled(text: &[u8], word: Terminal) -> bool
+    ensures { result ≡ spec.is_spelled text.now word }
 {
-    z.eq_ignore_ascii_case(word.spelling())
+    text.eq_ignore_ascii_case(word.spelling())
 }
 
-fn word(z: &[u8]) -> Option<Terminal>
-    ensures { result ≡ find (spec.is_spelled z.now) wordlist.words }
+fn word(text: &[u8]) -> Option<Terminal>
+    ensures { result ≡ find (spec.is_spelled text.now) wordlist.words }
 {
-    words().iter().copied().find(|w| is_spelled(z, *w))
+    words().iter().copied().find(|w| is_spelled(text, *w))
 }
 
 #[tactic(auto, unfolding(crate::specs::Tokens::named))]
-fn named(z: &[u8]) -> Token<'_>
-    ensures { result ≡ spec.named z.now }
+fn named(text: &[u8]) -> Token<'_>
+    ensures { result ≡ spec.named text.now }
 {
-    match word(z) {
+    match word(text) {
         Some(word) => Token::Fixed(word),
-        None if z.len() <= 30 => Token::Name(Part::new(z)),
+        None if text.len() <= 30 => Token::Name(Part::new(text)),
         None => Token::Unknown,
     }
 }
 
-fn closing(mut z: &[u8]) -> Option<usize>
-    requires { length z.now < 2 ^ 63 }
-    ensures value { result ≡ spec.closing false 0 z.entry.now }
-    ensures within { IfSome result (λ end. end < length z.entry.now) }
+fn closing(mut text: &[u8]) -> Option<usize>
+    requires { length text.now < 2 ^ 63 }
+    ensures value { result ≡ spec.closing false 0 text.entry.now }
+    ensures within { IfSome result (λ end. end < length text.entry.now) }
 {
     let mut is_second = false;
     let mut at = 0;
-    while let [b, rest @ ..] = z {
+    while let [b, rest @ ..] = text {
         if !is_second && *b == b'\'' && byte(rest, 0) != b'\'' {
             return Some(at);
         }
         is_second = !is_second && *b == b'\'';
         at += 1;
-        z = rest;
+        text = rest;
     }
     None
 }
 
-fn quoted(z: &[u8]) -> (Token<'_>, usize)
-    requires { length z.now < 2 ^ 63 }
-    ensures value { result ≡ spec.quoted_by z.now (spec.closing false 0 z.now) }
-    ensures within { (1 ≤ result.1) × (result.1 ≤ length z.now + 1) }
+fn quoted(text: &[u8]) -> (Token<'_>, usize)
+    requires { length text.now < 2 ^ 63 }
+    ensures value { result ≡ spec.quoted_by text.now (spec.closing false 0 text.now) }
+    ensures within { (1 ≤ result.1) × (result.1 ≤ length text.now + 1) }
 {
-    match closing(z) {
+    match closing(text) {
         None => (Token::Unknown, 1),
-        Some(end) => (Token::Text(Part::new(&z[..end])), end + 2),
+        Some(end) => (Token::Text(Part::new(&text[..end])), end + 2),
     }
 }
 
-fn all_hexadecimal(z: &[u8]) -> bool
-    ensures { result ≡ list_all is_ascii_hexdigit z.now }
+fn all_hexadecimal(text: &[u8]) -> bool
+    ensures { result ≡ list_all is_ascii_hexdigit text.now }
 {
-    z.iter().all(|b| b.is_ascii_hexdigit())
+    text.iter().all(|b| b.is_ascii_hexdigit())
 }
 
-fn is_pairs(z: &[u8]) -> bool
-    ensures { result ≡ spec.is_pairs z.now }
+fn is_pairs(text: &[u8]) -> bool
+    ensures { result ≡ spec.is_pairs text.now }
 {
-    z.len() % 2 == 0 && all_hexadecimal(z)
+    text.len() % 2 == 0 && all_hexadecimal(text)
 }
 
-fn first_quote(z: &[u8]) -> Option<usize>
-    ensures value { result ≡ position (λ b. b == 39) z.now }
-    ensures within { IfSome result (λ end. end < length z.now) }
+fn first_quote(text: &[u8]) -> Option<usize>
+    ensures value { result ≡ position (λ b. b == 39) text.now }
+    ensures within { IfSome result (λ end. end < length text.now) }
 {
-    z.iter().position(|b| *b == b'\'')
+    text.iter().position(|b| *b == b'\'')
 }
 
-fn hexadecimal(z: &[u8]) -> (Token<'_>, usize)
-    requires { length z.now < 2 ^ 63 }
-    ensures value { result ≡ spec.hexadecimal_by z.now (position (λ b. b == 39) z.now) }
-    ensures within { (1 ≤ result.1) × (result.1 ≤ length z.now + 2) }
+fn hexadecimal(text: &[u8]) -> (Token<'_>, usize)
+    requires { length text.now < 2 ^ 63 }
+    ensures value { result ≡ spec.hexadecimal_by text.now (position (λ b. b == 39) text.now) }
+    ensures within { (1 ≤ result.1) × (result.1 ≤ length text.now + 2) }
 {
-    let Some(end) = first_quote(z) else {
+    let Some(end) = first_quote(text) else {
         return (Token::Unknown, 1);
     };
-    if !is_pairs(&z[..end]) {
+    if !is_pairs(&text[..end]) {
         return (Token::Unknown, 1);
     }
-    (Token::Bytes(Part::new(&z[..end])), end + 3)
+    (Token::Bytes(Part::new(&text[..end])), end + 3)
 }
 
-fn minus(z: &[u8]) -> Token<'_>
-    requires some { 0 < length z.now }
-    requires fits { length z.now < 2 ^ 63 }
-    ensures { result ≡ spec.minus z.now }
+fn minus(text: &[u8]) -> Token<'_>
+    requires some { 0 < length text.now }
+    requires fits { length text.now < 2 ^ 63 }
+    ensures { result ≡ spec.minus text.now }
 {
-    let n = digits_len(&z[1..]);
+    let n = digits_len(&text[1..]);
     if n == 0 {
         return Token::Minus(None);
     }
-    Token::Minus(Some(Part::new(&z[..n + 1])))
+    Token::Minus(Some(Part::new(&text[..n + 1])))
 }
 
 #[tactic(auto, unfolding(crate::specs::Tokens::sign))]
@@ -169,40 +169,40 @@ fn sign<'a>(b: u8, next: u8) -> (Token<'a>, usize)
 }
 
 #[tactic(auto, unfolding(crate::specs::Tokens::lettered))]
-fn lettered(z: &[u8]) -> (Token<'_>, usize)
-    requires some { is_ascii_alphabetic (slice_index z.now 0) ≡ true }
-    requires fits { length z.now < 2 ^ 63 }
-    ensures value { result ≡ spec.lettered z.now }
-    ensures within { (1 ≤ result.1) × (result.1 ≤ length z.now) }
+fn lettered(text: &[u8]) -> (Token<'_>, usize)
+    requires some { is_ascii_alphabetic (slice_index text.now 0) ≡ true }
+    requires fits { length text.now < 2 ^ 63 }
+    ensures value { result ≡ spec.lettered text.now }
+    ensures within { (1 ≤ result.1) × (result.1 ≤ length text.now) }
 {
-    if byte(z, 1) == b'\'' && byte(z, 0).eq_ignore_ascii_case(&b'X') {
-        return hexadecimal(&z[2..]);
+    if byte(text, 1) == b'\'' && byte(text, 0).eq_ignore_ascii_case(&b'X') {
+        return hexadecimal(&text[2..]);
     }
-    let n = word_len(z);
-    (named(&z[..n]), n)
+    let n = word_len(text);
+    (named(&text[..n]), n)
 }
 
 /// The token at the front, behind so many markers, and how many bytes it takes.
 #[tactic(auto, unfolding(crate::specs::Tokens::token))]
-pub(crate) fn token(markers: usize, z: &[u8]) -> (Token<'_>, usize)
-    requires some { 0 < length z.now }
-    requires fits { length z.now < 2 ^ 63 }
-    ensures value { result ≡ spec.token markers z.now }
-    ensures within { (1 ≤ result.1) × (result.1 ≤ length z.now) }
+pub(crate) fn token(markers: usize, text: &[u8]) -> (Token<'_>, usize)
+    requires some { 0 < length text.now }
+    requires fits { length text.now < 2 ^ 63 }
+    ensures value { result ≡ spec.token markers text.now }
+    ensures within { (1 ≤ result.1) × (result.1 ≤ length text.now) }
 {
-    let b = z[0];
+    let b = text[0];
     if b.is_ascii_alphabetic() {
-        lettered(z)
+        lettered(text)
     } else if b.is_ascii_digit() {
-        let n = digits_len(z);
-        (Token::Number(Part::new(&z[..n])), n)
+        let n = digits_len(text);
+        (Token::Number(Part::new(&text[..n])), n)
     } else if b == b'\'' {
-        quoted(&z[1..])
+        quoted(&text[1..])
     } else if b == b'-' {
-        (minus(z), 1)
+        (minus(text), 1)
     } else if b == b'?' {
         (Token::Marker(markers), 1)
     } else {
-        sign(b, byte(z, 1))
+        sign(b, byte(text, 1))
     }
 }

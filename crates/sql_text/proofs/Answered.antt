@@ -6,7 +6,7 @@ use Rattle.sql_lex.specs.Tokens.{Lexeme, tokens, tokens_ahead}
 use Rattle.sql_lex.proofs.Ahead.{ahead-all, tokens-length}
 use Rattle.sql_lex.proofs.Numbered.{all_markers, markers_at_end}
 use Rattle.sql_text.specs.Grammar.{IsStatement}
-use Rattle.sql_text.specs.Reading.{Outcome, Reads}
+use Rattle.sql_text.specs.Reading.{Parsed, Yields}
 use Rattle.sql_text.specs.Rules.{command_at, longest}
 use Rattle.sql_text.specs.Text.{but_memory, refusal_error, fault_error, answer, outcome_answer, reading}
 use Rattle.sql_text.specs.declared.check.Refusal.{Refusal}
@@ -31,7 +31,7 @@ refused_so : (text : List ℕ) (cursor : ℕ × List ℕ) (f : Fault) → cursor
 unfolding reading
 refused_so text cursor f start e = ap (λ ts. outcome_answer text (command_at ts)) (sym (begun text cursor start)) ∙ ap (λ o. outcome_answer text o) e
 
-pub faulted : (text : List ℕ) (cursor : ℕ × List ℕ) (f : Fault) → cursor ≡ (0, text) → Reads (command_at (tokens_ahead cursor)) (Err f) → Answers (λ s. s) but_memory (Err (fault_error (length text) f)) (reading text)
+pub faulted : (text : List ℕ) (cursor : ℕ × List ℕ) (f : Fault) → cursor ≡ (0, text) → Yields (command_at (tokens_ahead cursor)) (Err f) → Answers (λ s. s) but_memory (Err (fault_error (length text) f)) (reading text)
 faulted text cursor (fault.Unexpected left) start e = refused_so text cursor (fault.Unexpected left) start e
 faulted text cursor fault.Deep start e = refused_so text cursor fault.Deep start e
 faulted text cursor fault.Memory start e = tt
@@ -47,7 +47,7 @@ is_refused len refusal.Limit given e = e
 is_refused len (refusal.Wrong left) given e = e
 is_refused len refusal.KeyUnknown given e = e
 
-by_outcome : (text : List ℕ) (o : Outcome Draft) (s : Statement) → command_at (tokens text) ≡ o → outcome_answer text o ≡ Ok s → (d : Draft) × IsStatement d (tokens text) × (answer text d ≡ Ok s)
+by_outcome : (text : List ℕ) (o : Parsed Draft) (s : Statement) → command_at (tokens text) ≡ o → outcome_answer text o ≡ Ok s → (d : Draft) × IsStatement d (tokens text) × (answer text d ≡ Ok s)
 by_outcome text (Ok x) s e a = (x.0, command_found (tokens text) x.0 x.1 e, a)
 by_outcome text (Err f) s e a = absurd (cc)
 

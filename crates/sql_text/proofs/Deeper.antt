@@ -13,20 +13,20 @@ use Rattle.sql_text.specs.declared.tree.Predicate.{Predicate}
 use Rattle.sql_text.specs.declared.tree.Predicate.TheVariants as predicate
 use Rattle.sql_text.specs.Grammar as g
 use Rattle.sql_text.specs.Grammar.{◌⨾◌, The, IsList, IsAll, IsAny, IsPrimary, IsNested, IsDefinition, IsAssignment, IsFilterUnder, IsCommandUnder}
-use Rattle.sql_text.specs.Reading.{Parser, Outcome, and_then, ◌>>=◌, pure, as_verb, the, may, verb_at, end_at}
+use Rattle.sql_text.specs.Reading.{Parser, Parsed, and_then, ◌>>=◌, pure, as_verb, expect_fixed, take_fixed, verb_at, end_at}
 use Rattle.sql_text.specs.Rules.{longest, items_from, items, all_at, any_at, group, negation, level, neg_at, predicate_at, filter_at, update_at, delete_at, select_at, command_at}
 use Rattle.sql_text.proofs.Only.{again, the_again, may_again, name_again, Lacks, lacks, lacks_nil, is_length, list_length, list_shorter}
 use Rattle.sql_text.proofs.OnlyRules.{is_apart, all_shorter, nested_shorter, level_only, command_only, end_only, name_shorter, assignment_shorter, assignments_only, selected_only, selected_shorter, no_filter_sign, no_filter_comma}
 
 -- read so, or found too deep
-abbrev pub ReadOrDeep : {A : Type 0} → Outcome A → A × List Lexeme → Type 0
+abbrev pub ReadOrDeep : {A : Type 0} → Parsed A → A × List Lexeme → Type 0
 ReadOrDeep o x = (o ≡ Ok x) ⊎ (o ≡ Err fault.Deep)
 
-as_read : {A : Type 0} (o o' : Outcome A) (x x' : A × List Lexeme) → o ≡ o' → x' ≡ x → ReadOrDeep o' x' → ReadOrDeep o x
+as_read : {A : Type 0} (o o' : Parsed A) (x x' : A × List Lexeme) → o ≡ o' → x' ≡ x → ReadOrDeep o' x' → ReadOrDeep o x
 as_read o o' x x' e f (inl r) = inl (e ∙ r ∙ ap (λ y. Ok y) f)
 as_read o o' x x' e f (inr r) = inr (e ∙ r)
 
-then_read : {A B : Type 0} (o : Outcome A) (f : A → Parser B) (a : A) (mid : List Lexeme) (y : B × List Lexeme) → ReadOrDeep o (a, mid) → ReadOrDeep (f a mid) y → ReadOrDeep (and_then o f) y
+then_read : {A B : Type 0} (o : Parsed A) (f : A → Parser B) (a : A) (mid : List Lexeme) (y : B × List Lexeme) → ReadOrDeep o (a, mid) → ReadOrDeep (f a mid) y → ReadOrDeep (and_then o f) y
 then_read o f a mid y (inl e) (inl r) = inl (ap (λ v. and_then v f) e ∙ r)
 then_read o f a mid y (inl e) (inr r) = inr (ap (λ v. and_then v f) e ∙ r)
 then_read o f a mid y (inr e) r = inr (ap (λ v. and_then v f) e)
@@ -39,10 +39,10 @@ module _ {A : Type 0} (item : Parser A) (word : Terminal) (R : A → List Lexeme
     (behind : (ts rest : List Lexeme) → The word ts rest → Follows ts) where
   -- what comes behind an item
   abbrev turn : ℕ → List A → A → Parser (List A)
-  turn n found x = may word >>= (λ go. cond go (items_from item (may word) n (found ++ x ∷ [])) (pure (found ++ x ∷ [])))
+  turn n found x = take_fixed word >>= (λ go. cond go (items_from item (take_fixed word) n (found ++ x ∷ [])) (pure (found ++ x ∷ [])))
 
   from_read : (n : ℕ) (found xs : List A) (ts rest : List Lexeme) → length ts ≤ longest → length xs ≤ n → Follows rest → Lacks word rest → IsList R (The word) xs ts rest
-      → ReadOrDeep (items_from item (may word) n found ts) (found ++ xs, rest)
+      → ReadOrDeep (items_from item (take_fixed word) n found ts) (found ++ xs, rest)
   unfolding items_from
   from_read n found [] ts rest fits few follows stops m = absurd m
   from_read zero found (x ∷ xs) ts rest fits few follows stops m = absurd (omega arith)
@@ -53,10 +53,10 @@ module _ {A : Type 0} (item : Parser A) (word : Terminal) (R : A → List Lexeme
       let on = may_again word mid after b in
       let more = from_read n (found ++ x ∷ []) (y ∷ ys) after rest room fewer follows stops m in
       then_read (item ts) (turn n found) x mid (found ++ x ∷ y ∷ ys, rest) (only x ts mid fits (behind mid after b) r)
-      (rw on (as_read (items_from item (may word) n (found ++ x ∷ []) after) (items_from item (may word) n (found ++ x ∷ []) after) (found ++ x ∷ y ∷ ys, rest) ((found ++ x ∷ []) ++ (y ∷ ys), rest) refl
+      (rw on (as_read (items_from item (take_fixed word) n (found ++ x ∷ []) after) (items_from item (take_fixed word) n (found ++ x ∷ []) after) (found ++ x ∷ y ∷ ys, rest) ((found ++ x ∷ []) ++ (y ∷ ys), rest) refl
       (ap (λ (all : List A). (all, rest)) (append_assoc found (x ∷ []) (y ∷ ys))) more))
 
-  list_read : (xs : List A) (ts rest : List Lexeme) → length ts ≤ longest → Follows rest → Lacks word rest → IsList R (The word) xs ts rest → ReadOrDeep (items item (may word) ts) (xs, rest)
+  list_read : (xs : List A) (ts rest : List Lexeme) → length ts ≤ longest → Follows rest → Lacks word rest → IsList R (The word) xs ts rest → ReadOrDeep (items item (take_fixed word) ts) (xs, rest)
   unfolding items
   list_read xs ts rest fits follows stops m =
       let few : length xs ≤ longest = omega (arith, list_length R (The word) shorter (is_length (t.Fixed word)) xs ts rest m) in
@@ -82,13 +82,13 @@ module _ (neg : Parser Predicate) (R : Predicate → List Lexeme → List Lexeme
   all_read : (p : Predicate) (ts rest : List Lexeme) → length ts ≤ longest → Lacks w.And rest → IsAll R p ts rest → ReadOrDeep (all_at neg ts) (p, rest)
   unfolding all_at
   all_read p ts rest fits stops (ps, same, m) =
-      then_read (items neg (may w.And) ts) (λ parts. pure (predicate.All parts)) ps rest (p, rest)
+      then_read (items neg (take_fixed w.And) ts) (λ parts. pure (predicate.All parts)) ps rest (p, rest)
       (list_read neg w.And R (λ _. Unit {0}) shorter (λ q us vs room _ r. only q us vs room r) (λ us vs b. tt) ps ts rest fits tt stops m) (inl (ap (λ (q : Predicate). Ok (q, rest)) (sym same)))
 
   any_read : (p : Predicate) (ts rest : List Lexeme) → length ts ≤ longest → Lacks w.And rest → Lacks w.Or rest → IsAny R p ts rest → ReadOrDeep (any_at neg ts) (p, rest)
   unfolding any_at
   any_read p ts rest fits ands ors (ps, same, m) =
-      then_read (items (all_at neg) (may w.Or) ts) (λ parts. pure (predicate.Any parts)) ps rest (p, rest)
+      then_read (items (all_at neg) (take_fixed w.Or) ts) (λ parts. pure (predicate.Any parts)) ps rest (p, rest)
       (list_read (all_at neg) w.Or (IsAll R) (Lacks w.And) (all_shorter R shorter) all_read (λ us vs b. lacks w.And (t.Fixed w.Or) us vs (is_apart w.Or w.And refl) b) ps ts rest fits ands ors m)
       (inl (ap (λ (q : Predicate). Ok (q, rest)) (sym same)))
 
@@ -101,7 +101,7 @@ module _ (neg : Parser Predicate) (R : Predicate → List Lexeme → List Lexeme
       let room : length mid ≤ longest = omega (arith, ap length same) in
       let inner = any_read q mid after room (lacks w.And (t.Fixed w.Close) after rest (is_apart w.Close w.And refl) c) (lacks w.Or (t.Fixed w.Close) after rest (is_apart w.Close w.Or refl) c) r in
       let closes = the_again w.Close after rest c in
-      rw same (then_read (any_at neg mid) (λ x. the w.Close >>= (λ _. pure (predicate.Group x))) q after (predicate.Group q, rest) inner (inl (rw closes refl)))
+      rw same (then_read (any_at neg mid) (λ x. expect_fixed w.Close >>= (λ _. pure (predicate.Group x))) q after (predicate.Group q, rest) inner (inl (rw closes refl)))
   level_read p ts rest fits (g.compared {a = a} {b = b} {c = c} m) = inl (level_only neg Nowhere nowhere_shorter (nowhere_read neg) (predicate.Compare a c b) ts rest fits (g.compared m))
   level_read p ts rest fits (g.null {n = n} m) = inl (level_only neg Nowhere nowhere_shorter (nowhere_read neg) (predicate.IsNull n false) ts rest fits (g.null m))
   level_read p ts rest fits (g.not_null {n = n} m) = inl (level_only neg Nowhere nowhere_shorter (nowhere_read neg) (predicate.IsNull n true) ts rest fits (g.not_null m))
@@ -117,7 +117,7 @@ predicate_read p ts rest fits ands ors r = any_read (neg_at 65) (IsNested 66) (n
 
 filter_read : (f : Option Predicate) (ts : List Lexeme) → length ts ≤ longest → IsFilterUnder 66 f ts [] → ReadOrDeep (filter_at ts) (f, [])
 unfolding filter_at
-filter_read None ts fits same = let here : may w.Where ts ≡ Ok (false, []) = rw same (lacks_nil w.Where) in inl (rw here refl)
+filter_read None ts fits same = let here : take_fixed w.Where ts ≡ Ok (false, []) = rw same (lacks_nil w.Where) in inl (rw here refl)
 filter_read (Some p) ts fits (mid, is, m) =
     let room : length mid ≤ longest = omega (arith, is_length _ ts mid is) in
     let goes = may_again w.Where ts mid is in
@@ -125,7 +125,7 @@ filter_read (Some p) ts fits (mid, is, m) =
 
 -- ---- statements
 
-ended : (o : Outcome Draft) (c : Draft) → ReadOrDeep o (c, []) → ReadOrDeep (and_then o (λ x. end_at >>= (λ _. pure x))) (c, [])
+ended : (o : Parsed Draft) (c : Draft) → ReadOrDeep o (c, []) → ReadOrDeep (and_then o (λ x. end_at >>= (λ _. pure x))) (c, [])
 ended o c r = then_read o (λ x. end_at >>= (λ _. pure x)) c [] (c, []) r (inl (rw end_only refl))
 
 pub command_read : (c : Draft) (ts : List Lexeme) → length ts ≤ longest → IsCommandUnder 66 c ts [] → ReadOrDeep (command_at ts) (c, [])

@@ -6,7 +6,7 @@ use Rattle.sql_lex.specs.Tokens.{Lexeme, tokens}
 use Rattle.sql_lex.proofs.Ahead.{tokens-length}
 use Rattle.sql_text.specs.Grammar.{IsCommandUnder, IsCommand}
 use Rattle.sql_text.specs.Place.{SameHead, IsDead, IsDeadUnder, Begins, BeginsNone, IsStuck, IsTooDeep, IsRefused, Explains}
-use Rattle.sql_text.specs.Reading.{Outcome, place}
+use Rattle.sql_text.specs.Reading.{Parsed, place}
 use Rattle.sql_text.specs.Rules.{command_at, longest}
 use Rattle.sql_text.specs.Text.{but_memory, answer, outcome_answer, reading}
 use Rattle.sql_text.specs.declared.error.SqlError.{SqlError}
@@ -29,7 +29,7 @@ dead front bad stays more c short head is =
     let e = command_only c (front ++ more) fits is in
     let s = stays more head in absurd (cc)
 
-either : (o : Outcome Draft) (x : Draft × List Lexeme) (at : ℕ) → o ≡ Err (fault.Unexpected at) → ReadOrDeep o x → ⊥
+either : (o : Parsed Draft) (x : Draft × List Lexeme) (at : ℕ) → o ≡ Err (fault.Unexpected at) → ReadOrDeep o x → ⊥
 either o x at e (inl r) = absurd (cc)
 either o x at e (inr r) = absurd (cc)
 
@@ -54,7 +54,7 @@ refused : (text : List ℕ) (x : Draft × List Lexeme) (e : SqlError) → comman
 refused text x e o a = (x.0, command_found (tokens text) x.0 x.1 o, a)
 
 -- what was read is explained by how it was read
-by_place : (text : List ℕ) (o : Outcome Draft) (at : ℕ) → command_at (tokens text) ≡ o → Told ⊥ (suc longest) command_at IsCommand (tokens text) o → outcome_answer text o ≡ Err (error.SqlText at) → Explains text (error.SqlText at)
+by_place : (text : List ℕ) (o : Parsed Draft) (at : ℕ) → command_at (tokens text) ≡ o → Told ⊥ (suc longest) command_at IsCommand (tokens text) o → outcome_answer text o ≡ Err (error.SqlText at) → Explains text (error.SqlText at)
 by_place text (Ok x) at o l e = inl (refused text x (error.SqlText at) o e)
 by_place text (Err (fault.Unexpected left)) at o l e =
     let same : length text - left ≡ at = cc in
@@ -69,13 +69,13 @@ too_deep text deep fits =
     let r = deep tt small in
     (r.0, r.1, r.3, (r.4.0, r.4.1 ++ [], r.4.2 []), none r.0 r.5)
 
-by_limit : (text : List ℕ) (o : Outcome Draft) → length text ≤ 32767 → command_at (tokens text) ≡ o → Told (Unit {0}) (suc longest) command_at (IsCommandUnder 66) (tokens text) o → outcome_answer text o ≡ Err error.Limit → Explains text error.Limit
+by_limit : (text : List ℕ) (o : Parsed Draft) → length text ≤ 32767 → command_at (tokens text) ≡ o → Told (Unit {0}) (suc longest) command_at (IsCommandUnder 66) (tokens text) o → outcome_answer text o ≡ Err error.Limit → Explains text error.Limit
 by_limit text (Ok x) fits o l e = inr (inl (refused text x error.Limit o e))
 by_limit text (Err (fault.Unexpected left)) fits o l e = absurd (cc)
 by_limit text (Err fault.Deep) fits o l e = inr (inr (too_deep text l fits))
 by_limit text (Err fault.Memory) fits o l e = absurd (cc)
 
-by_key : (text : List ℕ) (o : Outcome Draft) → command_at (tokens text) ≡ o → outcome_answer text o ≡ Err error.KeyUnknown → Explains text error.KeyUnknown
+by_key : (text : List ℕ) (o : Parsed Draft) → command_at (tokens text) ≡ o → outcome_answer text o ≡ Err error.KeyUnknown → Explains text error.KeyUnknown
 by_key text (Ok x) o e = refused text x error.KeyUnknown o e
 by_key text (Err (fault.Unexpected left)) o e = absurd (cc)
 by_key text (Err fault.Deep) o e = absurd (cc)

@@ -9,7 +9,7 @@ use Rattle.sql_lex.specs.Tokens.{Lexeme}
 use Rattle.sql_lex.proofs.Terminals.{same_again}
 use Rattle.sql_text.specs.declared.tree.Operation.{Operation}
 use Rattle.sql_text.specs.declared.tree.Operation.TheVariants as operation
-use Rattle.sql_text.specs.Reading.{Parser, expect, is_fixed, as_fixed, as_name, as_digits, as_comparison, as_equal, as_operation, the, may, name_at, placed_name_at, digits_at, length_at, comparison_at, equal_at, operation_at}
+use Rattle.sql_text.specs.Reading.{Parser, expect, is_fixed, as_fixed, as_name, as_digits, as_comparison, as_equal, as_operation, expect_fixed, take_fixed, name_at, placed_name_at, digits_at, length_at, comparison_at, equal_at, operation_at}
 use Rattle.sql_text.specs.Rules.{longest, items_from, items}
 use Rattle.sql_text.specs.Grammar.{At, Is, The, IsList, IsName, IsOperation, IsLength}
 
@@ -21,12 +21,12 @@ again f tok a ts rest e (k, same) = rw (same, e) refl
 as_fixed_is : (w : Terminal) → as_fixed w (t.Fixed w) ≡ Some tt
 as_fixed_is w = rw (same_again w) refl
 
-pub the_again : (w : Terminal) (ts rest : List Lexeme) → The w ts rest → the w ts ≡ Ok (tt, rest)
-unfolding the
+pub the_again : (w : Terminal) (ts rest : List Lexeme) → The w ts rest → expect_fixed w ts ≡ Ok (tt, rest)
+unfolding expect_fixed
 the_again w ts rest is = again (as_fixed w) (t.Fixed w) tt ts rest (as_fixed_is w) is
 
-pub may_again : (w : Terminal) (ts rest : List Lexeme) → The w ts rest → may w ts ≡ Ok (true, rest)
-unfolding may
+pub may_again : (w : Terminal) (ts rest : List Lexeme) → The w ts rest → take_fixed w ts ≡ Ok (true, rest)
+unfolding take_fixed
 may_again w ts rest (k, same) = rw (same, same_again w) refl
 
 pub name_again : (n : List ℕ) (ts rest : List Lexeme) → IsName n ts rest → name_at ts ≡ Ok (n, rest)
@@ -62,14 +62,14 @@ operation_again operation.Subtract ts rest (n, (k, same)) = rw same refl
 
 -- no such word comes next
 abbrev pub Lacks : Terminal → List Lexeme → Type 0
-Lacks w ts = may w ts ≡ Ok (false, ts)
+Lacks w ts = take_fixed w ts ≡ Ok (false, ts)
 
 -- no sign of a sum comes next
 abbrev pub NoSign : List Lexeme → Type 0
 NoSign ts = operation_at ts ≡ Ok (None, ts)
 
 pub lacks_nil : (w : Terminal) → Lacks w []
-unfolding may
+unfolding take_fixed
 lacks_nil w = refl
 
 pub no_sign_nil : NoSign []
@@ -77,7 +77,7 @@ unfolding operation_at
 no_sign_nil = refl
 
 pub lacks : (w : Terminal) (tok : Token) (ts rest : List Lexeme) → is_fixed w tok ≡ false → Is tok ts rest → Lacks w ts
-unfolding may
+unfolding take_fixed
 lacks w tok ts rest e (k, same) = rw (same, e) refl
 
 pub no_sign : (tok : Token) (ts rest : List Lexeme) → as_operation tok ≡ None → Is tok ts rest → NoSign ts
@@ -145,6 +145,6 @@ module _ {A : Type 0} (item : Parser A) (w : Terminal) (R : A → List Lexeme �
     (shorter : (x : A) (ts rest : List Lexeme) → R x ts rest → length rest < length ts)
     (only : (x : A) (ts rest : List Lexeme) → length ts ≤ longest → Follows rest → R x ts rest → item ts ≡ Ok (x, rest))
     (behind : (ts rest : List Lexeme) → The w ts rest → Follows ts) where
-  pub list_only : (xs : List A) (ts rest : List Lexeme) → length ts ≤ longest → Follows rest → Lacks w rest → IsList R (The w) xs ts rest → items item (may w) ts ≡ Ok (xs, rest)
+  pub list_only : (xs : List A) (ts rest : List Lexeme) → length ts ≤ longest → Follows rest → Lacks w rest → IsList R (The w) xs ts rest → items item (take_fixed w) ts ≡ Ok (xs, rest)
   list_only xs ts rest fits follows stops m =
-      items_only item (may w) R (The w) Follows shorter (is_length (t.Fixed w)) only (λ x us mid after b r. may_again w us mid b) behind xs ts rest rest fits follows stops m
+      items_only item (take_fixed w) R (The w) Follows shorter (is_length (t.Fixed w)) only (λ x us mid after b r. may_again w us mid b) behind xs ts rest rest fits follows stops m

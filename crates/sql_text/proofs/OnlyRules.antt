@@ -31,7 +31,7 @@ use Rattle.sql_text.specs.declared.tree.Columns.{Columns}
 use Rattle.sql_text.specs.declared.tree.Columns.TheVariants as columns
 use Rattle.sql_text.specs.declared.draft.Draft.{Draft}
 use Rattle.sql_text.specs.declared.draft.Draft.TheVariants as draft
-use Rattle.sql_text.specs.Reading.{Parser, is_fixed, as_name, as_start, as_value_term, as_term, as_type, as_verb, may, name_at, operation_at, start_at, term_start_at, type_word_at, verb_at, end_at}
+use Rattle.sql_text.specs.Reading.{Parser, is_fixed, as_name, as_start, as_value_term, as_term, as_type, as_verb, take_fixed, name_at, operation_at, start_at, term_start_at, type_word_at, verb_at, end_at}
 use Rattle.sql_text.specs.Rules.{longest, value_at, term_at, addends_from, addends_at, sum_at, Else, opening_of, compared, null_test, named, comparison, all_at, any_at, group, negation, level, neg_at, predicate_at, names_at, values_at, key_column_at, key_at, assignment_at, assignments_at, length_within, type_at, nullable_at, definition_at, another, definitions_at, listed_at, selected_at, filter_at, create_at, insert_at, update_at, delete_at, select_at, command_at}
 use Rattle.sql_text.specs.Grammar as g
 use Rattle.sql_text.specs.Grammar.{◌⨾◌, Nothing, At, Is, The, IsList, IsName, IsNumber, IsValue, IsTerm, IsOperation, AreAddends, IsSum, IsAll, IsAny, IsPrimary, IsNested, IsPredicate, IsLength, IsType, IsNullable, IsDefinition, IsKeyColumn, IsAssignment, AreNames, AreListed, AreSelected, IsFilter, IsFilterUnder, IsCommand, IsStatement}
@@ -304,7 +304,7 @@ type_only (column.VarBinary n k) ts rest (mid, is, m) = rw (again as_type (t.Fix
 
 nullable_only : (b : Bool) (ts rest : List Lexeme) → Lacks w.Not rest → IsNullable b ts rest → nullable_at ts ≡ Ok (b, rest)
 unfolding nullable_at
-nullable_only true ts rest stops same = let here : may w.Not ts ≡ Ok (false, rest) = rw same stops in rw here refl
+nullable_only true ts rest stops same = let here : take_fixed w.Not ts ≡ Ok (false, rest) = rw same stops in rw here refl
 nullable_only false ts rest stops (mid, n, u) = rw (may_again w.Not ts mid n, the_again w.Null mid rest u) refl
 
 definition_only : (d : DraftColumn) (ts rest : List Lexeme) → Lacks w.Not rest → IsDefinition d ts rest → definition_at ts ≡ Ok (d, rest)
@@ -331,7 +331,7 @@ definitions_only xs ts mid after rest fits m c p =
 
 listed_only : (l : Columns) (ts rest : List Lexeme) → length ts ≤ longest → Lacks w.Open rest → AreListed l ts rest → listed_at ts ≡ Ok (l, rest)
 unfolding listed_at
-listed_only columns.All ts rest fits stops same = let here : may w.Open ts ≡ Ok (false, rest) = rw same stops in rw here refl
+listed_only columns.All ts rest fits stops same = let here : take_fixed w.Open ts ≡ Ok (false, rest) = rw same stops in rw here refl
 listed_only (columns.Named names) ts rest fits stops (mid, o, (after, m, c)) =
     let room : length mid ≤ longest = omega (arith, is_length _ ts mid o) in
     rw (may_again w.Open ts mid o, names_only names mid after room (lacks w.Comma (t.Fixed w.Close) after rest (is_apart w.Close w.Comma refl) c) m, the_again w.Close after rest c) refl
@@ -348,7 +348,7 @@ selected_only (columns.Named names) ts rest fits stops m = rw (names_lack names 
 
 filter_only : (f : Option Predicate) (ts : List Lexeme) → length ts ≤ longest → IsFilter f ts [] → filter_at ts ≡ Ok (f, [])
 unfolding filter_at
-filter_only None ts fits same = let here : may w.Where ts ≡ Ok (false, []) = rw same (lacks_nil w.Where) in rw here refl
+filter_only None ts fits same = let here : take_fixed w.Where ts ≡ Ok (false, []) = rw same (lacks_nil w.Where) in rw here refl
 filter_only (Some p) ts fits (mid, is, m) =
     let room : length mid ≤ longest = omega (arith, is_length _ ts mid is) in
     rw (may_again w.Where ts mid is, predicate_only p mid [] room (lacks_nil w.And) (lacks_nil w.Or) m) refl

@@ -9,7 +9,7 @@ use Rattle.sql_text.specs.declared.fault.Fault.{Fault}
 use Rattle.sql_text.specs.declared.fault.Fault.TheVariants as fault
 use Rattle.sql_text.specs.Grammar.{◌⨾◌, Nothing, Is, The, IsList}
 use Rattle.sql_text.specs.Place.{SameHead}
-use Rattle.sql_text.specs.Reading.{Parser, Outcome, and_then, ◌>>=◌, pure, place, taken, expect, taken_at, expect_placed, tried, attempt, eat, is_fixed, as_fixed, the, may, end_at}
+use Rattle.sql_text.specs.Reading.{Parser, Parsed, and_then, ◌>>=◌, pure, place, taken, expect, taken_at, expect_placed, tried, attempt, take_if, is_fixed, as_fixed, expect_fixed, take_fixed, end_at}
 use Rattle.sql_text.specs.Rules.{longest, items_from, items}
 use Rattle.sql_text.proofs.TokenKinds.{fixed_is, eaten_is}
 
@@ -39,7 +39,7 @@ IsNonEmpty (l ∷ ts) = Unit {0}
 -- What it takes is spelled so, whatever follows, and is taken wherever the same token follows.
 -- What stands before a token that it refuses goes on to something of the rule, and the same token is refused there again.
 -- What goes up to a nesting too deep for it does so too, if the rule has what is nested `Deeper` and the tokens are fewer than the turns of a list.
-abbrev pub Told : {A : Type 0} → Type 0 → ℕ → Parser A → Rule A → List Lexeme → Outcome A → Type 0
+abbrev pub Told : {A : Type 0} → Type 0 → ℕ → Parser A → Rule A → List Lexeme → Parsed A → Type 0
 Told Deeper n p R ts (Ok x) = (front : List Lexeme) × (ts ≡ front ++ x.1) × ((more : List Lexeme) → R x.0 (front ++ more) more) × ((more : List Lexeme) → SameHead x.1 more → p (front ++ more) ≡ Ok (x.0, more))
 Told Deeper n p R ts (Err (fault.Unexpected at)) = (front : List Lexeme) × (bad : List Lexeme) × (ts ≡ front ++ bad) × (at ≡ place bad) × GoesOn R front × ((more : List Lexeme) → SameHead bad more → p (front ++ more) ≡ Err (fault.Unexpected (place more)))
 Told Deeper n p R ts (Err fault.Deep) = Deeper → length ts < n → (front : List Lexeme) × (rest : List Lexeme) × IsNonEmpty front × (ts ≡ front ++ rest) × GoesOn R front × ((more : List Lexeme) → p (front ++ more) ≡ Err fault.Deep)
@@ -96,18 +96,18 @@ told_length : {A : Type 0} (D : Type 0) (n : ℕ) (p : Parser A) (R : Rule A) (t
 told_length D n p R ts x rest (front, same, found, stays) = let e : length ts ≡ length front + length rest = ap length same ∙ length-append front rest in omega arith
 
 pub tells_length : {D : Type 0} {A : Type 0} (n : ℕ) (p : Parser A) (R : Rule A) → Tells D n p R → (ts : List Lexeme) (x : A) (rest : List Lexeme) → p ts ≡ Ok (x, rest) → length rest ≤ length ts
-tells_length {D} {A} n p R told ts x rest e = let P : Outcome A → Type 0 = λ o. Told D n p R ts o in told_length D n p R ts x rest (subst P e (told.tell ts))
+tells_length {D} {A} n p R told ts x rest e = let P : Parsed A → Type 0 = λ o. Told D n p R ts o in told_length D n p R ts x rest (subst P e (told.tell ts))
 
 module _ {D : Type 0} {A B : Type 0} (n m : ℕ) (p : Parser A) (f : A → Parser B) (R : Rule A) (T : Rule B)
     (told : Tells D n p R) (next : (x : A) → Tells D m (f x) (R x ⇒ T)) (others : Fails p → (x : A) → Exists (R x ⇒ T))
     (room : (ts : List Lexeme) (x : A) (rest : List Lexeme) → p ts ≡ Ok (x, rest) → length ts < n → length rest < m) where
-  after : (ts : List Lexeme) (x : A × List Lexeme) (r : Outcome B) → p ts ≡ Ok x → Told D n p R ts (Ok x) → Told D m (f x.0) (R x.0 ⇒ T) x.1 r → Told D n (p >>= f) T ts r
+  after : (ts : List Lexeme) (x : A × List Lexeme) (r : Parsed B) → p ts ≡ Ok x → Told D n p R ts (Ok x) → Told D m (f x.0) (R x.0 ⇒ T) x.1 r → Told D n (p >>= f) T ts r
   after ts x (Ok y) e (front, same, found, stays) (front', same', found', stays') = (
     front ++ front',
     same ∙ ap (λ u. front ++ u) same' ∙ sym (append_assoc front front' y.1),
     λ more. joined R T x.0 y.0 front front' more more found (found' more),
     λ more h. ap (λ u. and_then (p u) f) (append_assoc front front' more)
-        ∙ ap (λ (o : Outcome A). and_then o f) (stays (front' ++ more) (head_append x.1 front' y.1 more same' h)) ∙ stays' more h,
+        ∙ ap (λ (o : Parsed A). and_then o f) (stays (front' ++ more) (head_append x.1 front' y.1 more same' h)) ∙ stays' more h,
   )
   after ts x (Err (fault.Unexpected at)) e (front, same, found, stays) (front', bad, same', is, goes, stays') = (
     front ++ front',
@@ -116,7 +116,7 @@ module _ {D : Type 0} {A B : Type 0} (n m : ℕ) (p : Parser A) (f : A → Parse
     is,
     (goes.0, goes.1, λ follow. joined R T x.0 goes.0 front front' (goes.1 ++ follow) follow found (goes.2 follow)),
     λ more h. ap (λ u. and_then (p u) f) (append_assoc front front' more)
-        ∙ ap (λ (o : Outcome A). and_then o f) (stays (front' ++ more) (head_append x.1 front' bad more same' h)) ∙ stays' more h,
+        ∙ ap (λ (o : Parsed A). and_then o f) (stays (front' ++ more) (head_append x.1 front' bad more same' h)) ∙ stays' more h,
   )
   after ts x (Err fault.Deep) e (front, same, found, stays) deep = λ deeper small.
       let r = deep deeper (room ts x.0 x.1 e small) in (
@@ -126,17 +126,17 @@ module _ {D : Type 0} {A B : Type 0} (n m : ℕ) (p : Parser A) (f : A → Parse
         same ∙ ap (λ u. front ++ u) r.3 ∙ sym (append_assoc front r.0 r.1),
         (r.4.0, r.4.1, λ follow. joined R T x.0 r.4.0 front r.0 (r.4.1 ++ follow) follow found (r.4.2 follow)),
         λ more. ap (λ u. and_then (p u) f) (append_assoc front r.0 more)
-            ∙ ap (λ (o : Outcome A). and_then o f) (stays (r.0 ++ more) (head_some x.1 r.0 r.1 more r.3 r.2)) ∙ r.5 more,
+            ∙ ap (λ (o : Parsed A). and_then o f) (stays (r.0 ++ more) (head_some x.1 r.0 r.1 more r.3 r.2)) ∙ r.5 more,
       )
   after ts x (Err fault.Memory) e l deep = tt
 
-  bound : (ts : List Lexeme) (o : Outcome A) → p ts ≡ o → Told D n p R ts o → Told D n (p >>= f) T ts (and_then o f)
+  bound : (ts : List Lexeme) (o : Parsed A) → p ts ≡ o → Told D n p R ts o → Told D n (p >>= f) T ts (and_then o f)
   bound ts (Ok x) e l = after ts x (f x.0 x.1) e l ((next x.0).tell x.1)
   bound ts (Err (fault.Unexpected at)) e (front, bad, same, is, goes, stays) =
-      (front, bad, same, is, ended R T front goes (others (ts, fault.Unexpected at, e)), λ more h. ap (λ (o : Outcome A). and_then o f) (stays more h))
+      (front, bad, same, is, ended R T front goes (others (ts, fault.Unexpected at, e)), λ more h. ap (λ (o : Parsed A). and_then o f) (stays more h))
   bound ts (Err fault.Deep) e deep = λ deeper small.
       let r = deep deeper small in
-      (r.0, r.1, r.2, r.3, ended R T r.0 r.4 (others (ts, fault.Deep, e)), λ more. ap (λ (o : Outcome A). and_then o f) (r.5 more))
+      (r.0, r.1, r.2, r.3, ended R T r.0 r.4 (others (ts, fault.Deep, e)), λ more. ap (λ (o : Parsed A). and_then o f) (r.5 more))
   bound ts (Err fault.Memory) e l = tt
 
   pub tells_bind_less : Tells D n (p >>= f) T
@@ -160,13 +160,13 @@ good_pure a T is = (tells_pure a T is, (a, [], is))
 
 -- no tokens are fewer than none
 pub tells_none : {D : Type 0} {A : Type 0} (p : Parser A) (T : Rule A) → ((ts : List Lexeme) → p ts ≡ Err fault.Deep) → Tells D 0 p T
-tells_none {D} {A} p T is = record { tell = λ ts. let P : Outcome A → Type 0 = λ o. Told D 0 p T ts o in subst P (sym (is ts)) (λ deeper small. absurd (omega arith)) }
+tells_none {D} {A} p T is = record { tell = λ ts. let P : Parsed A → Type 0 = λ o. Told D 0 p T ts o in subst P (sym (is ts)) (λ deeper small. absurd (omega arith)) }
 
 -- and so for fewer tokens
 pub tells_less : {D : Type 0} {A : Type 0} (n m : ℕ) (p : Parser A) (R : Rule A) → m ≤ n → Tells D n p R → Tells D m p R
 tells_less {D} {A} n m p R less told = record { tell = λ ts. weaker ts (p ts) (told.tell ts) }
   where
-    weaker : (ts : List Lexeme) (o : Outcome A) → Told D n p R ts o → Told D m p R ts o
+    weaker : (ts : List Lexeme) (o : Parsed A) → Told D n p R ts o → Told D m p R ts o
     weaker ts (Ok x) l = l
     weaker ts (Err (fault.Unexpected at)) l = l
     weaker ts (Err fault.Deep) deep = λ deeper small. let room : length ts < n = omega arith in deep deeper room
@@ -176,7 +176,7 @@ tells_less {D} {A} n m p R less told = record { tell = λ ts. weaker ts (p ts) (
 pub tells_as : {D : Type 0} {A : Type 0} {n : ℕ} (p : Parser A) (R S : Rule A) → Tells D n p R → ((x : A) (ts rest : List Lexeme) → R x ts rest → S x ts rest) → Tells D n p S
 tells_as {D} {A} {n} p R S told same = record { tell = λ ts. changed ts (p ts) (told.tell ts) }
   where
-    changed : (ts : List Lexeme) (o : Outcome A) → Told D n p R ts o → Told D n p S ts o
+    changed : (ts : List Lexeme) (o : Parsed A) → Told D n p R ts o → Told D n p S ts o
     changed ts (Ok x) (front, e, found, stays) = (front, e, λ more. same x.0 (front ++ more) more (found more), stays)
     changed ts (Err (fault.Unexpected at)) (front, bad, e, is, goes, stays) = (front, bad, e, is, (goes.0, goes.1, λ follow. same goes.0 (front ++ (goes.1 ++ follow)) follow (goes.2 follow)), stays)
     changed ts (Err fault.Deep) deep = λ deeper small. let r = deep deeper small in (r.0, r.1, r.2, r.3, (r.4.0, r.4.1, λ follow. same r.4.0 (r.0 ++ (r.4.1 ++ follow)) follow (r.4.2 follow)), r.5)
@@ -185,7 +185,7 @@ tells_as {D} {A} {n} p R S told same = record { tell = λ ts. changed ts (p ts) 
 -- what is found is of the rule
 pub tells_found : {D : Type 0} {A : Type 0} {n : ℕ} (p : Parser A) (R : Rule A) → Tells D n p R → (ts : List Lexeme) (x : A) (rest : List Lexeme) → p ts ≡ Ok (x, rest) → R x ts rest
 tells_found {D} {A} {n} p R told ts x rest e =
-    let P : Outcome A → Type 0 = λ o. Told D n p R ts o in
+    let P : Parsed A → Type 0 = λ o. Told D n p R ts o in
     let l = subst P e (told.tell ts) in
     let Q : List Lexeme → Type 0 = λ u. R x u rest in
     subst Q (sym l.1) (l.2 rest)
@@ -270,31 +270,31 @@ abbrev pub IsMay : Terminal → Rule Bool
 IsMay w true = The w
 IsMay w false = Nothing
 
-abbrev eating : Bool → Lexeme → List Lexeme → Outcome Bool
+abbrev eating : Bool → Lexeme → List Lexeme → Parsed Bool
 eating b l ts = cond b (Ok (true, ts)) (Ok (false, l ∷ ts))
 
-told_eaten : (D : Type 0) (n : ℕ) (w : Terminal) (l : Lexeme) (ts : List Lexeme) (b : Bool) → is_fixed w l.1 ≡ b → Told D n (eat (is_fixed w)) (IsMay w) (l ∷ ts) (eating b l ts)
+told_eaten : (D : Type 0) (n : ℕ) (w : Terminal) (l : Lexeme) (ts : List Lexeme) (b : Bool) → is_fixed w l.1 ≡ b → Told D n (take_if (is_fixed w)) (IsMay w) (l ∷ ts) (eating b l ts)
 told_eaten D n w l ts true e = (l ∷ [], refl, λ more. (l.0, ap (λ tok. (l.0, tok) ∷ more) (eaten_is w l.1 e)), λ more h. rw e refl)
 told_eaten D n w l ts false e = ([], refl, λ more. refl, λ more h. kept more h)
   where
-    kept : (more : List Lexeme) → SameHead (l ∷ ts) more → eat (is_fixed w) more ≡ Ok (false, more)
+    kept : (more : List Lexeme) → SameHead (l ∷ ts) more → take_if (is_fixed w) more ≡ Ok (false, more)
     kept [] h = absurd h
     kept (m ∷ us) h = rw (← h, e) refl
 
-told_may : (D : Type 0) (n : ℕ) (w : Terminal) (ts : List Lexeme) → Told D n (eat (is_fixed w)) (IsMay w) ts (eat (is_fixed w) ts)
+told_may : (D : Type 0) (n : ℕ) (w : Terminal) (ts : List Lexeme) → Told D n (take_if (is_fixed w)) (IsMay w) ts (take_if (is_fixed w) ts)
 told_may D n w [] = ([], refl, λ more. refl, λ more h. none more h)
   where
-    none : (more : List Lexeme) → SameHead [] more → eat (is_fixed w) more ≡ Ok (false, more)
+    none : (more : List Lexeme) → SameHead [] more → take_if (is_fixed w) more ≡ Ok (false, more)
     none [] h = refl
     none (m ∷ us) h = absurd h
 told_may D n w (l ∷ ts) = told_eaten D n w l ts (is_fixed w l.1) refl
 
-pub tells_may : {D : Type 0} {n : ℕ} (w : Terminal) → Tells D n (may w) (IsMay w)
-unfolding may
+pub tells_may : {D : Type 0} {n : ℕ} (w : Terminal) → Tells D n (take_fixed w) (IsMay w)
+unfolding take_fixed
 tells_may {D} {n} w = record { tell = told_may D n w }
 
-pub may_goes : (w : Terminal) → Fails (may w) → ⊥
-unfolding may
+pub may_goes : (w : Terminal) → Fails (take_fixed w) → ⊥
+unfolding take_fixed
 may_goes w ([], at, e) = cc
 may_goes w (l ∷ ts, at, e) = goes (is_fixed w l.1) e
   where
@@ -306,19 +306,19 @@ may_goes w (l ∷ ts, at, e) = goes (is_fixed w l.1) e
 pub good_kind : {D : Type 0} {A : Type 0} {n : ℕ} (f : Token → Option A) (kind : A → Token) (a : A) → ((tok : Token) (b : A) → f tok ≡ Some b → tok ≡ kind b) → Good D n (expect f) (λ b. Is (kind b))
 good_kind f kind a same = good_expect f (λ b. Is (kind b)) (λ l b more e. (l.0, ap (λ tok. (l.0, tok) ∷ more) (same l.1 b e))) (a, (0, kind a) ∷ [], λ follow. (0, refl))
 
-pub good_the : {D : Type 0} {n : ℕ} (w : Terminal) → Good D n (the w) (λ _. The w)
-unfolding the
+pub good_the : {D : Type 0} {n : ℕ} (w : Terminal) → Good D n (expect_fixed w) (λ _. The w)
+unfolding expect_fixed
 good_the w = good_kind (as_fixed w) (λ _. t.Fixed w) tt (fixed_is w)
 
 -- one way with the token, and another without it
-pub tells_may_bind : {D : Type 0} {B : Type 0} {n : ℕ} (w : Terminal) (f : Bool → Parser B) (T : Rule B) → ((b : Bool) → Tells D n (f b) (IsMay w b ⇒ T)) → Tells D n (may w >>= f) T
-tells_may_bind w f T next = tells_bind (may w) f (IsMay w) T (tells_may w) next (λ failed x. absurd (may_goes w failed))
+pub tells_may_bind : {D : Type 0} {B : Type 0} {n : ℕ} (w : Terminal) (f : Bool → Parser B) (T : Rule B) → ((b : Bool) → Tells D n (f b) (IsMay w b ⇒ T)) → Tells D n (take_fixed w >>= f) T
+tells_may_bind w f T next = tells_bind (take_fixed w) f (IsMay w) T (tells_may w) next (λ failed x. absurd (may_goes w failed))
 
 by_may : {D : Type 0} {B : Type 0} {n : ℕ} (w : Terminal) (p q : Parser B) (T : Rule B) → Tells D n p (The w ⇒ T) → Tells D n q T → (b : Bool) → Tells D n (cond b p q) (IsMay w b ⇒ T)
 by_may w p q T with_it without true = with_it
 by_may w p q T with_it without false = tells_as q T (Nothing ⇒ T) without (λ x mid rest is ts same. let P : List Lexeme → Type 0 = λ u. T x u rest in subst P (sym same) is)
 
-pub tells_if : {D : Type 0} {B : Type 0} {n : ℕ} (w : Terminal) (p q : Parser B) (T : Rule B) → Tells D n p (The w ⇒ T) → Tells D n q T → Tells D n (may w >>= (λ b. cond b p q)) T
+pub tells_if : {D : Type 0} {B : Type 0} {n : ℕ} (w : Terminal) (p q : Parser B) (T : Rule B) → Tells D n p (The w ⇒ T) → Tells D n q T → Tells D n (take_fixed w >>= (λ b. cond b p q)) T
 tells_if w p q T with_it without = tells_may_bind w _ T (by_may w p q T with_it without)
 
 -- the end
@@ -392,7 +392,7 @@ module _ {D : Type 0} {A : Type 0} (item : Parser A) (more : Parser Bool) (R : R
   tells_items = tells_as _ _ _ (tells_items_from longest [] (omega arith)) (λ xs ts rest is. let P : List A → Type 0 = λ ys. (IsList R (M true) ys ⨾ M false) ts rest in subst P (sym is.1) is.2)
 
 -- a list with this word between its items
-pub tells_list : {D : Type 0} {A : Type 0} (item : Parser A) (w : Terminal) (R : Rule A) → Tells D longest item R → ((x : A) (ts rest : List Lexeme) → R x ts rest → length rest < length ts) → Tells D longest (items item (may w)) (IsList R (The w))
+pub tells_list : {D : Type 0} {A : Type 0} (item : Parser A) (w : Terminal) (R : Rule A) → Tells D longest item R → ((x : A) (ts rest : List Lexeme) → R x ts rest → length rest < length ts) → Tells D longest (items item (take_fixed w)) (IsList R (The w))
 tells_list item w R told shorter =
-    tells_as _ _ _ (tells_items item (may w) R (IsMay w) told (tells_may w) ([], λ follow. refl) (λ failed. absurd (may_goes w failed)) shorter)
+    tells_as _ _ _ (tells_items item (take_fixed w) R (IsMay w) told (tells_may w) ([], λ follow. refl) (λ failed. absurd (may_goes w failed)) shorter)
     (λ xs ts rest is. let P : List Lexeme → Type 0 = λ u. IsList R (The w) xs ts u in subst P is.2 is.1)

@@ -31,7 +31,7 @@ use Rattle.sql_text.specs.declared.draft.Draft.{Draft}
 use Rattle.sql_text.specs.Grammar as g
 use Rattle.sql_text.specs.Grammar.{◌⨾◌, Nothing, At, Is, The, IsList, IsName, IsValue, IsTerm, IsOperation, AreAddends, IsSum, IsAll, IsAny, IsPrimary, IsNested, IsLength, IsType, IsNullable, IsDefinition, IsKeyColumn, IsAssignment, AreNames, AreListed, AreSelected, IsFilterUnder, IsCommandUnder, IsCommand, IsStatement}
 use Rattle.sql_text.specs.Place.{SameHead}
-use Rattle.sql_text.specs.Reading.{Parser, Outcome, ◌>>=◌, pure, as_name, as_digits, as_length, as_comparison, as_equal, as_operation, as_start, as_value_term, as_term, as_type, as_verb, name_at, placed_name_at, digits_at, length_at, comparison_at, equal_at, operation_at, start_at, term_start_at, type_word_at, verb_at, end_at}
+use Rattle.sql_text.specs.Reading.{Parser, Parsed, ◌>>=◌, pure, as_name, as_digits, as_length, as_comparison, as_equal, as_operation, as_start, as_value_term, as_term, as_type, as_verb, name_at, placed_name_at, digits_at, length_at, comparison_at, equal_at, operation_at, start_at, term_start_at, type_word_at, verb_at, end_at}
 use Rattle.sql_text.specs.Rules.{longest, items_from, items, value_by, value_at, term_by, term_at, addend, addends_by, addends_from, addends_at, sum_at, Opening, Negates, Opens, Names, Else, opening_of, compared, null_test, named, comparison, all_at, any_at, group, negation, level_by, level, neg_at, predicate_at, names_at, values_at, key_column_at, key_at, assignment_at, assignments_at, length_within, type_by, type_at, nullable_at, definition_at, another, definitions_at, listed_at, selected_at, filter_at, create_at, insert_at, update_at, delete_at, select_at, command_by, command_at}
 use Rattle.sql_text.proofs.Only.{is_length}
 use Rattle.sql_text.proofs.OnlyRules.{value_shorter, term_shorter, assignment_shorter, definition_shorter, key_column_shorter, name_shorter, all_shorter, nested_shorter}
@@ -226,14 +226,14 @@ module _ (D : Type 0) where
     unfolding named
     tells_named n = tells_if w.Is _ _ _ (tells_null_test n) (good_compared (term.Column n)).0
 
-    as_level : (ts : List Lexeme) (o : Outcome Predicate) → ((u : List Lexeme) → SameHead ts u → level neg u ≡ comparison u) → Told D longest comparison (IsPrimary R) ts o → Told D longest (level neg) (IsPrimary R) ts o
+    as_level : (ts : List Lexeme) (o : Parsed Predicate) → ((u : List Lexeme) → SameHead ts u → level neg u ≡ comparison u) → Told D longest comparison (IsPrimary R) ts o → Told D longest (level neg) (IsPrimary R) ts o
     as_level ts (Ok x) same (front, e, found, stays) = (front, e, found, λ more h. same (front ++ more) (head_append ts front x.1 more e h) ∙ stays more h)
     as_level ts (Err (fault.Unexpected at)) same (front, bad, e, is, goes, stays) = (front, bad, e, is, goes, λ more h. same (front ++ more) (head_append ts front bad more e h) ∙ stays more h)
     as_level ts (Err fault.Deep) same deep = λ deeper small. let r = deep deeper small in (r.0, r.1, r.2, r.3, r.4, λ more. same (r.0 ++ more) (head_some ts r.0 r.1 more r.3 r.2) ∙ r.5 more)
     as_level ts (Err fault.Memory) same l = tt
 
     -- behind the token that it begins with
-    pub behind : (q : Parser Predicate) (S : List Lexeme → List Lexeme → Type 0) (l : Lexeme) (ts : List Lexeme) (o : Outcome Predicate) → ((u : List Lexeme) → S (l ∷ u) u) → ((u : List Lexeme) → level neg (l ∷ u) ≡ q u)
+    pub behind : (q : Parser Predicate) (S : List Lexeme → List Lexeme → Type 0) (l : Lexeme) (ts : List Lexeme) (o : Parsed Predicate) → ((u : List Lexeme) → S (l ∷ u) u) → ((u : List Lexeme) → level neg (l ∷ u) ≡ q u)
         → Told D longest q (S ⇒ IsPrimary R) ts o → Told D longest (level neg) (IsPrimary R) (l ∷ ts) o
     behind q S l ts (Ok x) is same (front, e, found, stays) =
         (l ∷ front, ap (λ u. l ∷ u) e, λ more. found more (l ∷ (front ++ more)) (is (front ++ more)), λ more h. same (front ++ more) ∙ stays more h)

@@ -86,8 +86,8 @@ IsNumber n ts rest =
 
 abbrev pub IsValue : Literal → List Lexeme → List Lexeme → Type 0
 IsValue (literal.Number n) = IsNumber n
-IsValue (literal.Text z) = Is (t.Text z)
-IsValue (literal.Bytes z) = Is (t.Bytes z)
+IsValue (literal.Text text) = Is (t.Text text)
+IsValue (literal.Bytes text) = Is (t.Bytes text)
 IsValue (literal.Marker n) = Is (t.Marker n)
 IsValue literal.Null = The w.Null
 

@@ -25,13 +25,13 @@ use Rattle.sql_text.specs.declared.tree.Operation.{Operation}
 use Rattle.sql_text.specs.declared.tree.Operation.TheVariants as operation
 use Rattle.sql_text.specs.declared.draft.DraftType.TheVariants as column
 
-abbrev pub Outcome : Type 0 → Type 0
-Outcome A = Result (A × List Lexeme) Fault
+abbrev pub Parsed : Type 0 → Type 0
+Parsed A = Result (A × List Lexeme) Fault
 
 abbrev pub Parser : Type 0 → Type 0
-Parser A = List Lexeme → Outcome A
+Parser A = List Lexeme → Parsed A
 
-abbrev pub and_then : {A B : Type 0} → Outcome A → (A → Parser B) → Outcome B
+abbrev pub and_then : {A B : Type 0} → Parsed A → (A → Parser B) → Parsed B
 and_then (Ok x) f = f x.0 x.1
 and_then (Err e) f = Err e
 
@@ -78,7 +78,7 @@ taken_at None left ts = Err (fault.Unexpected left)
 abbrev pub expect_placed : {A : Type 0} → (Token → Option A) → Parser (A × ℕ)
 expect_placed f = next_at >>= (λ x. taken_at (f x.0) x.1)
 
-abbrev pub tried : {A : Type 0} → Option A → Lexeme → List Lexeme → Outcome (Option A)
+abbrev pub tried : {A : Type 0} → Option A → Lexeme → List Lexeme → Parsed (Option A)
 tried (Some a) l ts = Ok (Some a, ts)
 tried None l ts = Ok (None, l ∷ ts)
 
@@ -88,9 +88,9 @@ attempt f [] = Ok (None, [])
 attempt f (l ∷ ts) = tried (f l.1) l ts
 
 -- whether a token of a kind comes next, which is then taken
-abbrev pub eat : (Token → Bool) → Parser Bool
-eat f [] = Ok (false, [])
-eat f (l ∷ ts) = if f l.1 then Ok (true, ts) else Ok (false, l ∷ ts)
+abbrev pub take_if : (Token → Bool) → Parser Bool
+take_if f [] = Ok (false, [])
+take_if f (l ∷ ts) = if f l.1 then Ok (true, ts) else Ok (false, l ∷ ts)
 
 abbrev pub is_fixed : Terminal → Token → Bool
 is_fixed w (t.Fixed v) = is_same v w
@@ -129,8 +129,8 @@ as_operation _ = None
 abbrev pub as_start : Token → Option ValueStart
 as_start (t.Number n) = if is_bigint n then Some (start.Whole (literal.Number n)) else None
 as_start (t.Minus (Some n)) = if is_negative_bigint n then Some (start.Negative n) else None
-as_start (t.Text z) = Some (start.Whole (literal.Text z))
-as_start (t.Bytes z) = Some (start.Whole (literal.Bytes z))
+as_start (t.Text text) = Some (start.Whole (literal.Text text))
+as_start (t.Bytes text) = Some (start.Whole (literal.Bytes text))
 as_start (t.Marker n) = Some (start.Whole (literal.Marker n))
 as_start (t.Fixed w.Null) = Some (start.Whole literal.Null)
 as_start _ = None
@@ -161,11 +161,11 @@ as_verb (t.Fixed w.Delete) = Some verb.Delete
 as_verb (t.Fixed w.Select) = Some verb.Select
 as_verb _ = None
 
-unfoldable pub the : Terminal → Parser (Unit {0})
-the w = expect (as_fixed w)
+unfoldable pub expect_fixed : Terminal → Parser (Unit {0})
+expect_fixed w = expect (as_fixed w)
 
-unfoldable pub may : Terminal → Parser Bool
-may w = eat (is_fixed w)
+unfoldable pub take_fixed : Terminal → Parser Bool
+take_fixed w = take_if (is_fixed w)
 
 unfoldable pub name_at : Parser (List ℕ)
 name_at = expect as_name
@@ -207,13 +207,13 @@ end_at (l ∷ ts) = refuse (l ∷ ts)
 -- ---- what a function of the parser returns
 
 -- what was read is what reading gives, unless memory ran out
-abbrev pub Reads : {A : Type 0} → Outcome A → Result (A × (ℕ × List ℕ)) Fault → Type 0
-Reads outcome (Ok x) = outcome ≡ Ok (x.0, tokens_ahead x.1)
-Reads outcome (Err fault.Memory) = Unit {0}
-Reads outcome (Err e) = outcome ≡ Err e
+abbrev pub Yields : {A : Type 0} → Parsed A → Result (A × (ℕ × List ℕ)) Fault → Type 0
+Yields outcome (Ok x) = outcome ≡ Ok (x.0, tokens_ahead x.1)
+Yields outcome (Err fault.Memory) = Unit {0}
+Yields outcome (Err e) = outcome ≡ Err e
 
 -- the same where nothing is to be kept but the place
-abbrev pub Passes : Outcome (Unit {0}) → Result (ℕ × List ℕ) Fault → Type 0
+abbrev pub Passes : Parsed (Unit {0}) → Result (ℕ × List ℕ) Fault → Type 0
 Passes outcome (Ok x) = outcome ≡ Ok (tt, tokens_ahead x)
 Passes outcome (Err fault.Memory) = Unit {0}
 Passes outcome (Err e) = outcome ≡ Err e

@@ -4,7 +4,7 @@ use Rattle.sql_lex.specs.declared.terminal.Terminal.TheVariants as w
 use Rattle.sql_lex.specs.declared.token.Token.{Token}
 use Rattle.sql_lex.specs.declared.token.Token.TheVariants as t
 use Rattle.sql_lex.specs.Tokens.{Lexeme}
-use Rattle.sql_text.specs.Reading.{Parser, ◌>>=◌, ◌>>◌, pure, the, may, name_at, placed_name_at, digits_at, length_at, comparison_at, equal_at, operation_at, start_at, term_start_at, type_word_at, verb_at, end_at}
+use Rattle.sql_text.specs.Reading.{Parser, ◌>>=◌, ◌>>◌, pure, expect_fixed, take_fixed, name_at, placed_name_at, digits_at, length_at, comparison_at, equal_at, operation_at, start_at, term_start_at, type_word_at, verb_at, end_at}
 use Rattle.sql_text.specs.declared.fault.Fault.TheVariants as fault
 use Rattle.sql_text.specs.declared.token.ValueStart.{ValueStart}
 use Rattle.sql_text.specs.declared.token.ValueStart.TheVariants as start
@@ -119,13 +119,13 @@ compared a = do
 
 unfoldable pub null_test : List ℕ → Parser Predicate
 null_test name = do
-  negated ← may w.Not
-  the w.Null
+  negated ← take_fixed w.Not
+  expect_fixed w.Null
   pure (predicate.IsNull name negated)
 
 unfoldable pub named : List ℕ → Parser Predicate
 named name = do
-  is ← may w.Is
+  is ← take_fixed w.Is
   if is then null_test name else compared (term.Column name)
 
 unfoldable pub comparison : Parser Predicate
@@ -137,18 +137,18 @@ comparison = do
 module _ (neg : Parser Predicate) where
   unfoldable pub all_at : Parser Predicate
   all_at = do
-    parts ← items neg (may w.And)
+    parts ← items neg (take_fixed w.And)
     pure (predicate.All parts)
 
   unfoldable pub any_at : Parser Predicate
   any_at = do
-    parts ← items all_at (may w.Or)
+    parts ← items all_at (take_fixed w.Or)
     pure (predicate.Any parts)
 
   unfoldable pub group : Parser Predicate
   group = do
     x ← any_at
-    the w.Close
+    expect_fixed w.Close
     pure (predicate.Group x)
 
   unfoldable pub negation : Parser Predicate
@@ -179,10 +179,10 @@ predicate_at = any_at (neg_at 65)
 -- ---- lists
 
 unfoldable pub names_at : Parser (List (List ℕ))
-names_at = items name_at (may w.Comma)
+names_at = items name_at (take_fixed w.Comma)
 
 unfoldable pub values_at : Parser (List Literal)
-values_at = items value_at (may w.Comma)
+values_at = items value_at (take_fixed w.Comma)
 
 abbrev pub key_column : List ℕ × ℕ → DraftKey
 key_column n = record { name = n.0; left = n.1 }
@@ -193,7 +193,7 @@ key_column_at = do
   pure (key_column n)
 
 unfoldable pub key_at : Parser (List DraftKey)
-key_at = items key_column_at (may w.Comma)
+key_at = items key_column_at (take_fixed w.Comma)
 
 abbrev pub assignment : List ℕ → Sum → Assignment
 assignment n s = record { column = n; sum = s }
@@ -206,15 +206,15 @@ assignment_at = do
   pure (assignment n s)
 
 unfoldable pub assignments_at : Parser (List Assignment)
-assignments_at = items assignment_at (may w.Comma)
+assignments_at = items assignment_at (take_fixed w.Comma)
 
 -- ---- columns
 
 unfoldable pub length_within : Parser (ℕ × ℕ)
 length_within = do
-  the w.Open
+  expect_fixed w.Open
   n ← length_at
-  the w.Close
+  expect_fixed w.Close
   pure n
 
 abbrev pub type_by : TypeWord → Parser DraftType
@@ -231,8 +231,8 @@ type_at = type_word_at >>= type_by
 
 unfoldable pub nullable_at : Parser Bool
 nullable_at = do
-  bars ← may w.Not
-  if bars then (do the w.Null; pure false) else pure true
+  bars ← take_fixed w.Not
+  if bars then (do expect_fixed w.Null; pure false) else pure true
 
 abbrev pub definition : List ℕ × ℕ → DraftType → Bool → DraftColumn
 definition n c nullable = record { name = n.0; left = n.1; column_type = c; nullable = nullable }
@@ -247,8 +247,8 @@ definition_at = do
 -- whether a further column comes behind the comma, and not PRIMARY
 unfoldable pub another : Parser Bool
 another = do
-  the w.Comma
-  primary ← may w.Primary
+  expect_fixed w.Comma
+  primary ← take_fixed w.Primary
   pure (not primary)
 
 unfoldable pub definitions_at : Parser (List DraftColumn)
@@ -258,54 +258,54 @@ definitions_at = items definition_at another
 
 unfoldable pub listed_at : Parser Columns
 listed_at = do
-  opens ← may w.Open
-  if opens then (do names ← names_at; the w.Close; pure (columns.Named names)) else pure columns.All
+  opens ← take_fixed w.Open
+  if opens then (do names ← names_at; expect_fixed w.Close; pure (columns.Named names)) else pure columns.All
 
 unfoldable pub selected_at : Parser Columns
 selected_at = do
-  all ← may w.Star
+  all ← take_fixed w.Star
   if all then pure columns.All else (do names ← names_at; pure (columns.Named names))
 
 unfoldable pub filter_at : Parser (Option Predicate)
 filter_at = do
-  filters ← may w.Where
+  filters ← take_fixed w.Where
   if filters then (do p ← predicate_at; pure (Some p)) else pure None
 
 unfoldable pub create_at : Parser Draft
 create_at = do
-  the w.Table
+  expect_fixed w.Table
   table ← name_at
-  the w.Open
+  expect_fixed w.Open
   definitions ← definitions_at
-  the w.Key
-  the w.Open
+  expect_fixed w.Key
+  expect_fixed w.Open
   key ← key_at
-  the w.Close
-  the w.Close
+  expect_fixed w.Close
+  expect_fixed w.Close
   pure (draft.Create table definitions key)
 
 unfoldable pub insert_at : Parser Draft
 insert_at = do
-  the w.Into
+  expect_fixed w.Into
   table ← name_at
   listed ← listed_at
-  the w.Values
-  the w.Open
+  expect_fixed w.Values
+  expect_fixed w.Open
   values ← values_at
-  the w.Close
+  expect_fixed w.Close
   pure (draft.Insert table listed values)
 
 unfoldable pub update_at : Parser Draft
 update_at = do
   table ← name_at
-  the w.Set
+  expect_fixed w.Set
   assignments ← assignments_at
   filter ← filter_at
   pure (draft.Update table assignments filter)
 
 unfoldable pub delete_at : Parser Draft
 delete_at = do
-  the w.From
+  expect_fixed w.From
   table ← name_at
   filter ← filter_at
   pure (draft.Delete table filter)
@@ -313,7 +313,7 @@ delete_at = do
 unfoldable pub select_at : Parser Draft
 select_at = do
   selected ← selected_at
-  the w.From
+  expect_fixed w.From
   table ← name_at
   filter ← filter_at
   pure (draft.Select selected table filter)

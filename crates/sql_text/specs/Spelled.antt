@@ -10,17 +10,17 @@ pub use Rattle.sql_lex.specs.Spelling.{capitals}
 -- a number, with or without a '-'
 abbrev pub number_value : List ℕ → ℤ
 number_value [] = pos 0
-number_value (b ∷ z) = if b == 45 then neg_ℤ (pos (number_of z)) else pos (number_of (b ∷ z))
+number_value (b ∷ text) = if b == 45 then neg_ℤ (pos (number_of text)) else pos (number_of (b ∷ text))
 
 -- digits without a zero before them
 abbrev pub IsPlain : List ℕ → Type 0
-IsPlain z = AreDigits z × (slice_index z 0 ≡ 48 → length z ≡ 1)
+IsPlain text = AreDigits text × (slice_index text 0 ≡ 48 → length text ≡ 1)
 
 -- a text, in which a doubled quote is one
 abbrev pub undoubled : List ℕ → List ℕ
 undoubled [] = []
 undoubled (b ∷ []) = b ∷ []
-undoubled (a ∷ b ∷ z) = if a == 39 then a ∷ undoubled z else a ∷ undoubled (b ∷ z)
+undoubled (a ∷ b ∷ text) = if a == 39 then a ∷ undoubled text else a ∷ undoubled (b ∷ text)
 
 -- what a hexadecimal digit counts: '0' to '9', 'A' to 'F', 'a' to 'f'
 abbrev pub digit_value : ℕ → ℕ
@@ -28,7 +28,7 @@ digit_value b = if nat_lt b 58 then b - 48 else (if nat_lt b 71 then b - 55 else
 
 -- bytes, of two digits each
 abbrev pub bytes_of_pairs : List ℕ → List ℕ
-bytes_of_pairs (a ∷ b ∷ z) = (digit_value a * 16 + digit_value b) ∷ bytes_of_pairs z
+bytes_of_pairs (a ∷ b ∷ text) = (digit_value a * 16 + digit_value b) ∷ bytes_of_pairs text
 bytes_of_pairs _ = []
 
 -- the hexadecimal digit that counts n
@@ -38,7 +38,7 @@ hexadecimal_digit n = if nat_lt n 10 then n + 48 else n + 55
 -- two digits of each byte, as capitals
 abbrev pub pairs_of : List ℕ → List ℕ
 pairs_of [] = []
-pairs_of (b ∷ z) = hexadecimal_digit (b / 16) ∷ hexadecimal_digit (b % 16) ∷ pairs_of z
+pairs_of (b ∷ text) = hexadecimal_digit (b / 16) ∷ hexadecimal_digit (b % 16) ∷ pairs_of text
 
 -- the value of a literal
 pub data LiteralValue : Type 0 where
@@ -51,7 +51,7 @@ pub data LiteralValue : Type 0 where
 
 abbrev pub value_of_literal : Literal → LiteralValue
 value_of_literal literal.Null = Absent
-value_of_literal (literal.Number z) = Number (number_value z)
-value_of_literal (literal.Text z) = Text (undoubled z)
-value_of_literal (literal.Bytes z) = Bytes (bytes_of_pairs z)
+value_of_literal (literal.Number text) = Number (number_value text)
+value_of_literal (literal.Text text) = Text (undoubled text)
+value_of_literal (literal.Bytes text) = Bytes (bytes_of_pairs text)
 value_of_literal (literal.Marker n) = Bound n

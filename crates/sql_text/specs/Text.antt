@@ -4,7 +4,7 @@ use Rattle.sql_lex.specs.Markers.{markers_in}
 use Rattle.sql_lex.specs.Tokens.{tokens}
 use Rattle.sql_text.specs.Checks.{refusal_of}
 use Rattle.sql_text.specs.Plain.{command}
-use Rattle.sql_text.specs.Reading.{Outcome}
+use Rattle.sql_text.specs.Reading.{Parsed}
 use Rattle.sql_text.specs.Rules.{command_at}
 use Rattle.sql_text.specs.declared.check.Refusal.{Refusal}
 use Rattle.sql_text.specs.declared.check.Refusal.TheVariants as refusal
@@ -44,7 +44,7 @@ answer_by len markers c (Some r) = Err (refusal_error len r)
 unfoldable pub answer : List ℕ → Draft → Result Statement SqlError
 answer text c = answer_by (length text) (markers_in (tokens text)) c (refusal_of (markers_in (tokens text)) c)
 
-abbrev pub outcome_answer : List ℕ → Outcome Draft → Result Statement SqlError
+abbrev pub outcome_answer : List ℕ → Parsed Draft → Result Statement SqlError
 outcome_answer text (Ok x) = answer text x.0
 outcome_answer text (Err f) = Err (fault_error (length text) f)
 

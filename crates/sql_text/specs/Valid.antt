@@ -31,14 +31,14 @@ IsBigInt n = (AreDigits n × (number_of n < 2 ^ 63)) ⊎ ((digits : List ℕ) ×
 
 -- UTF-8, with each quote twice
 abbrev pub IsQuoted : List ℕ → Type 0
-IsQuoted z = IsUtf8 z × ((whole : List ℕ) × (z ≡ doubled whole))
+IsQuoted text = IsUtf8 text × ((whole : List ℕ) × (text ≡ doubled whole))
 
 -- in a statement of so many markers
 module _ (markers : ℕ) where
   abbrev pub IsValidLiteral : Literal → Type 0
   IsValidLiteral (literal.Number n) = IsBigInt n
-  IsValidLiteral (literal.Text z) = IsQuoted z
-  IsValidLiteral (literal.Bytes z) = ArePairs z
+  IsValidLiteral (literal.Text text) = IsQuoted text
+  IsValidLiteral (literal.Bytes text) = ArePairs text
   IsValidLiteral (literal.Marker before) = before < markers
   IsValidLiteral literal.Null = Unit {0}
 

@@ -7,6 +7,18 @@ ghost use Rattle.sql_text.specs.Checks as spec;
 use crate::draft::{Draft, DraftColumn, DraftKey, DraftType};
 use crate::tree::Columns;
 
+/// The most columns of a table.
+const MAX_COLUMNS: usize = 64;
+
+/// The most columns of a key.
+const MAX_KEY_COLUMNS: usize = 4;
+
+/// The most names that are selected.
+const MAX_SELECTED: usize = 64;
+
+/// The greatest length of a text or of bytes, in bytes.
+const MAX_LENGTH: usize = 2_000;
+
 /// Why a statement of the grammar is refused.
 #[derive(Clone, Copy, Debug, PartialEq, Eq)]
 pub(crate) enum Refusal {
@@ -23,7 +35,8 @@ fn is_too_long(column_type: DraftType) -> bool
     ensures { result ≡ spec.is_too_long column_type }
 {
     match column_type {
-        DraftType::VarChar { length, .. } | DraftType::VarBinary { length, .. } => length > 2000,
+        DraftType::VarChar { length, .. } | DraftType::VarBinary { length, .. } => length
+            > MAX_LENGTH,
         _ => false,
     }
 }
@@ -39,12 +52,14 @@ fn is_too_large(command: &Draft<'_>) -> bool
 {
     match command {
         Draft::Create { columns, key, .. } => {
-            columns.len() > 64 || key.len() > 4 || has_too_long(columns.as_slice())
+            columns.len() > MAX_COLUMNS
+                || key.len() > MAX_KEY_COLUMNS
+                || has_too_long(columns.as_slice())
         }
         Draft::Select {
             columns: Columns::Named(names),
             ..
-        } => names.len() > 64,
+        } => names.len() > MAX_SELECTED,
         _ => false,
     }
 }

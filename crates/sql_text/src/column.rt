@@ -2,12 +2,12 @@
 
 ghost use Rattle.std.specs.Prelude.{◌≡◌};
 ghost use Rattle.sql_lex.specs.Tokens.{tokens_ahead};
-ghost use Rattle.sql_text.specs.Reading.{Reads, Keeps};
+ghost use Rattle.sql_text.specs.Reading.{Yields, Keeps};
 ghost use Rattle.sql_text.specs.Rules as spec;
 
 use crate::draft::{DraftColumn, DraftType};
 use crate::fault::Fault;
-use crate::token::{TypeWord, eat, expect, length, placed_name, type_word};
+use crate::token::{TypeWord, expect, length, placed_name, take, type_word};
 use sql_lex::{Cursor, Terminal};
 
 /// A length in parentheses, and its place.
@@ -15,7 +15,7 @@ use sql_lex::{Cursor, Terminal};
 pub(crate) fn length_in_parentheses<'a>(
     cursor: Cursor<'a>,
 ) -> Result<((usize, usize), Cursor<'a>), Fault>
-    ensures value { Reads (spec.length_within (tokens_ahead cursor.entry)) result }
+    ensures value { Yields (spec.length_within (tokens_ahead cursor.entry)) result }
     ensures markers { Keeps cursor.entry result }
 {
     let rest = expect(Terminal::Open, cursor)?;
@@ -26,7 +26,7 @@ pub(crate) fn length_in_parentheses<'a>(
 
 #[tactic(auto, unfolding(crate::specs::Rules::type_at))]
 pub(crate) fn column_type<'a>(cursor: Cursor<'a>) -> Result<(DraftType, Cursor<'a>), Fault>
-    ensures value { Reads (spec.type_at (tokens_ahead cursor.entry)) result }
+    ensures value { Yields (spec.type_at (tokens_ahead cursor.entry)) result }
     ensures markers { Keeps cursor.entry result }
 {
     let (word, rest) = type_word(cursor)?;
@@ -46,10 +46,10 @@ pub(crate) fn column_type<'a>(cursor: Cursor<'a>) -> Result<(DraftType, Cursor<'
 /// Whether a column may be null: `NOT NULL` or nothing.
 #[tactic(auto, unfolding(crate::specs::Rules::nullable_at))]
 pub(crate) fn nullable<'a>(cursor: Cursor<'a>) -> Result<(bool, Cursor<'a>), Fault>
-    ensures value { Reads (spec.nullable_at (tokens_ahead cursor.entry)) result }
+    ensures value { Yields (spec.nullable_at (tokens_ahead cursor.entry)) result }
     ensures markers { Keeps cursor.entry result }
 {
-    let (bars, rest) = eat(Terminal::Not, cursor);
+    let (bars, rest) = take(Terminal::Not, cursor);
     if !bars {
         return Ok((true, rest));
     }
@@ -59,7 +59,7 @@ pub(crate) fn nullable<'a>(cursor: Cursor<'a>) -> Result<(bool, Cursor<'a>), Fau
 
 #[tactic(auto, unfolding(crate::specs::Rules::definition_at))]
 pub(crate) fn definition<'a>(cursor: Cursor<'a>) -> Result<(DraftColumn<'a>, Cursor<'a>), Fault>
-    ensures value { Reads (spec.definition_at (tokens_ahead cursor.entry)) result }
+    ensures value { Yields (spec.definition_at (tokens_ahead cursor.entry)) result }
     ensures markers { Keeps cursor.entry result }
 {
     let ((name, left), rest) = placed_name(cursor)?;
@@ -77,10 +77,10 @@ pub(crate) fn definition<'a>(cursor: Cursor<'a>) -> Result<(DraftColumn<'a>, Cur
 /// Whether a further column comes behind the comma, and not `PRIMARY`.
 #[tactic(auto, unfolding(crate::specs::Rules::another))]
 pub(crate) fn another<'a>(cursor: Cursor<'a>) -> Result<(bool, Cursor<'a>), Fault>
-    ensures value { Reads (spec.another (tokens_ahead cursor.entry)) result }
+    ensures value { Yields (spec.another (tokens_ahead cursor.entry)) result }
     ensures markers { Keeps cursor.entry result }
 {
     let rest = expect(Terminal::Comma, cursor)?;
-    let (primary, rest) = eat(Terminal::Primary, rest);
+    let (primary, rest) = take(Terminal::Primary, rest);
     Ok((!primary, rest))
 }

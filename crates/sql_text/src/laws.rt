@@ -25,20 +25,20 @@ pub fn names_are_compared_as_capitals()
 
 /// A text with each quote doubled stands for that text.
 pub fn doubled_quotes_are_undone()
-    ensures { (z : List ℕ) → undoubled (doubled z) ≡ z }
+    ensures { (text : List ℕ) → undoubled (doubled text) ≡ text }
 {}
 
 /// Pairs of hexadecimal digits stand for bytes, which written in capitals are these pairs.
 pub fn pairs_stand_for_bytes()
-    ensures bytes { (z : List ℕ) → ArePairs z → All (λ b. b < 256) (bytes_of_pairs z) }
-    ensures written { (z : List ℕ) → ArePairs z → pairs_of (bytes_of_pairs z) ≡ capitals z }
+    ensures bytes { (text : List ℕ) → ArePairs text → All (λ b. b < 256) (bytes_of_pairs text) }
+    ensures written { (text : List ℕ) → ArePairs text → pairs_of (bytes_of_pairs text) ≡ capitals text }
 {}
 
 /// Digits stand for the number that is written so, zeros before them count for nothing, and a `-`
 /// stands for its opposite. A number of a statement lies in BIGINT.
 pub fn digits_stand_for_numbers()
-    ensures zeros { (z : List ℕ) → number_of (48 ∷ z) ≡ number_of z }
-    ensures written { (z : List ℕ) → IsPlain z → number_of z < 2 ^ 64 → signed_decimal (number_value z) ≡ z }
-    ensures negative { (z : List ℕ) → IsPlain z → 0 < number_of z → number_of z < 2 ^ 64 → signed_decimal (number_value (45 ∷ z)) ≡ 45 ∷ z }
-    ensures fits { (z : List ℕ) → IsBigInt z → FitsSigned w64 (number_value z) }
+    ensures zeros { (text : List ℕ) → number_of (48 ∷ text) ≡ number_of text }
+    ensures written { (text : List ℕ) → IsPlain text → number_of text < 2 ^ 64 → signed_decimal (number_value text) ≡ text }
+    ensures negative { (text : List ℕ) → IsPlain text → 0 < number_of text → number_of text < 2 ^ 64 → signed_decimal (number_value (45 ∷ text)) ≡ 45 ∷ text }
+    ensures fits { (text : List ℕ) → IsBigInt text → FitsSigned w64 (number_value text) }
 {}

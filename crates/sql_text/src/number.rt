@@ -15,11 +15,14 @@ fn number_within(limit: u64, digits: &[u8]) -> u64
     number
 }
 
+/// As many digits as write no number beyond BIGINT, whichever they are.
+const FEW_DIGITS: usize = 17;
+
 /// Whether the digits are too few to write more than BIGINT holds.
 fn are_few(digits: &[u8]) -> bool
     ensures { result ≡ true → spec.number_of digits.now < 2 ^ 63 }
 {
-    digits.len() <= 17
+    digits.len() <= FEW_DIGITS
 }
 
 /// Whether the number that digits write lies in BIGINT.

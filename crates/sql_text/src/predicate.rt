@@ -2,13 +2,13 @@
 
 ghost use Rattle.std.specs.Prelude.{◌≡◌};
 ghost use Rattle.sql_lex.specs.Tokens.{tokens_ahead};
-ghost use Rattle.sql_text.specs.Reading.{Reads, Keeps};
+ghost use Rattle.sql_text.specs.Reading.{Yields, Keeps};
 ghost use Rattle.sql_text.specs.Rules as spec;
 
 use crate::fault::Fault;
 use crate::list::longest;
 use crate::sum::{term, value};
-use crate::token::{comparison, eat, expect};
+use crate::token::{comparison, expect, take};
 use crate::tree::{Predicate, Term};
 use sql_lex::{Cursor, Part, Terminal, Token};
 use sqlite_items::{Boxed, Items};
@@ -20,7 +20,7 @@ pub(crate) fn compared<'a>(
     a: Term<'a>,
     cursor: Cursor<'a>,
 ) -> Result<(Predicate<'a>, Cursor<'a>), Fault>
-    ensures value { Reads (spec.compared a.entry (tokens_ahead cursor.entry)) result }
+    ensures value { Yields (spec.compared a.entry (tokens_ahead cursor.entry)) result }
     ensures markers { Keeps cursor.entry result }
 {
     let (comparison, rest) = comparison(cursor)?;
@@ -34,10 +34,10 @@ pub(crate) fn null_test<'a>(
     name: Part<'a>,
     cursor: Cursor<'a>,
 ) -> Result<(Predicate<'a>, Cursor<'a>), Fault>
-    ensures value { Reads (spec.null_test name.entry (tokens_ahead cursor.entry)) result }
+    ensures value { Yields (spec.null_test name.entry (tokens_ahead cursor.entry)) result }
     ensures markers { Keeps cursor.entry result }
 {
-    let (negated, rest) = eat(Terminal::Not, cursor);
+    let (negated, rest) = take(Terminal::Not, cursor);
     let rest = expect(Terminal::Null, rest)?;
     Ok((Predicate::IsNull(name, negated), rest))
 }
@@ -48,10 +48,10 @@ pub(crate) fn named<'a>(
     name: Part<'a>,
     cursor: Cursor<'a>,
 ) -> Result<(Predicate<'a>, Cursor<'a>), Fault>
-    ensures value { Reads (spec.named name.entry (tokens_ahead cursor.entry)) result }
+    ensures value { Yields (spec.named name.entry (tokens_ahead cursor.entry)) result }
     ensures markers { Keeps cursor.entry result }
 {
-    let (is, rest) = eat(Terminal::Is, cursor);
+    let (is, rest) = take(Terminal::Is, cursor);
     if is {
         null_test(name, rest)
     } else {
@@ -64,7 +64,7 @@ pub(crate) fn named<'a>(
 pub(crate) fn comparison_of_value<'a>(
     cursor: Cursor<'a>,
 ) -> Result<(Predicate<'a>, Cursor<'a>), Fault>
-    ensures value { Reads (spec.comparison (tokens_ahead cursor.entry)) result }
+    ensures value { Yields (spec.comparison (tokens_ahead cursor.entry)) result }
     ensures markers { Keeps cursor.entry result }
 {
     let (value, rest) = value(cursor)?;
@@ -78,7 +78,7 @@ pub(crate) fn all<'a>(
     depth: usize,
     cursor: Cursor<'a>,
 ) -> Result<(Predicate<'a>, Cursor<'a>), Fault>
-    ensures value { Reads (spec.all_at (spec.neg_at depth) (tokens_ahead cursor.entry)) result }
+    ensures value { Yields (spec.all_at (spec.neg_at depth) (tokens_ahead cursor.entry)) result }
     ensures markers { Keeps cursor.entry result }
 {
     let turns = longest();
@@ -87,7 +87,7 @@ pub(crate) fn all<'a>(
     for _turn in 0..turns {
         let (item, after) = neg(alloc, depth, rest)?;
         found.push(item)?;
-        let (goes, after) = eat(Terminal::And, after);
+        let (goes, after) = take(Terminal::And, after);
         if !goes {
             return Ok((Predicate::All(found), after));
         }
@@ -103,7 +103,7 @@ pub(crate) fn any<'a>(
     depth: usize,
     cursor: Cursor<'a>,
 ) -> Result<(Predicate<'a>, Cursor<'a>), Fault>
-    ensures value { Reads (spec.any_at (spec.neg_at depth) (tokens_ahead cursor.entry)) result }
+    ensures value { Yields (spec.any_at (spec.neg_at depth) (tokens_ahead cursor.entry)) result }
     ensures markers { Keeps cursor.entry result }
 {
     let turns = longest();
@@ -112,7 +112,7 @@ pub(crate) fn any<'a>(
     for _turn in 0..turns {
         let (item, after) = all(alloc, depth, rest)?;
         found.push(item)?;
-        let (goes, after) = eat(Terminal::Or, after);
+        let (goes, after) = take(Terminal::Or, after);
         if !goes {
             return Ok((Predicate::Any(found), after));
         }
@@ -129,7 +129,7 @@ pub(crate) fn level<'a>(
     depth: usize,
     cursor: Cursor<'a>,
 ) -> Result<(Predicate<'a>, Cursor<'a>), Fault>
-    ensures value { Reads (spec.level (spec.neg_at depth) (tokens_ahead cursor.entry)) result }
+    ensures value { Yields (spec.level (spec.neg_at depth) (tokens_ahead cursor.entry)) result }
     ensures markers { Keeps cursor.entry result }
 {
     let Some((token, _, rest)) = cursor.next() else {
@@ -158,7 +158,7 @@ pub(crate) fn neg<'a>(
     depth: usize,
     cursor: Cursor<'a>,
 ) -> Result<(Predicate<'a>, Cursor<'a>), Fault>
-    ensures value { Reads (spec.neg_at depth (tokens_ahead cursor.entry)) result }
+    ensures value { Yields (spec.neg_at depth (tokens_ahead cursor.entry)) result }
     ensures markers { Keeps cursor.entry result }
 {
     if depth == 0 {
@@ -173,7 +173,7 @@ pub(crate) fn whole_predicate<'a>(
     alloc: Global,
     cursor: Cursor<'a>,
 ) -> Result<(Predicate<'a>, Cursor<'a>), Fault>
-    ensures value { Reads (spec.predicate_at (tokens_ahead cursor.entry)) result }
+    ensures value { Yields (spec.predicate_at (tokens_ahead cursor.entry)) result }
     ensures markers { Keeps cursor.entry result }
 {
     any(alloc, 65, cursor)

@@ -2,14 +2,14 @@
 
 ghost use Rattle.std.specs.Prelude.{◌≡◌};
 ghost use Rattle.sql_lex.specs.Tokens.{tokens_ahead};
-ghost use Rattle.sql_text.specs.Reading.{Reads, Keeps};
+ghost use Rattle.sql_text.specs.Reading.{Yields, Keeps};
 ghost use Rattle.sql_text.specs.Rules as spec;
 
 use crate::draft::{Draft, DraftColumn, DraftKey};
 use crate::fault::Fault;
 use crate::list::items;
 use crate::predicate::whole_predicate;
-use crate::token::{Verb, eat, end, expect, first_word, name};
+use crate::token::{Verb, end, expect, first_word, name, take};
 use crate::tree::{Assignment, Columns, Literal, Predicate};
 use sql_lex::{Cursor, Part, Terminal};
 use std::alloc::Global;
@@ -20,10 +20,10 @@ pub(crate) fn listed<'a>(
     alloc: Global,
     cursor: Cursor<'a>,
 ) -> Result<(Columns<'a>, Cursor<'a>), Fault>
-    ensures value { Reads (spec.listed_at (tokens_ahead cursor.entry)) result }
+    ensures value { Yields (spec.listed_at (tokens_ahead cursor.entry)) result }
     ensures markers { Keeps cursor.entry result }
 {
-    let (opens, rest) = eat(Terminal::Open, cursor);
+    let (opens, rest) = take(Terminal::Open, cursor);
     if !opens {
         return Ok((Columns::All, rest));
     }
@@ -38,10 +38,10 @@ pub(crate) fn selected<'a>(
     alloc: Global,
     cursor: Cursor<'a>,
 ) -> Result<(Columns<'a>, Cursor<'a>), Fault>
-    ensures value { Reads (spec.selected_at (tokens_ahead cursor.entry)) result }
+    ensures value { Yields (spec.selected_at (tokens_ahead cursor.entry)) result }
     ensures markers { Keeps cursor.entry result }
 {
-    let (all, rest) = eat(Terminal::Star, cursor);
+    let (all, rest) = take(Terminal::Star, cursor);
     if all {
         return Ok((Columns::All, rest));
     }
@@ -55,10 +55,10 @@ pub(crate) fn filter<'a>(
     alloc: Global,
     cursor: Cursor<'a>,
 ) -> Result<(Option<Predicate<'a>>, Cursor<'a>), Fault>
-    ensures value { Reads (spec.filter_at (tokens_ahead cursor.entry)) result }
+    ensures value { Yields (spec.filter_at (tokens_ahead cursor.entry)) result }
     ensures markers { Keeps cursor.entry result }
 {
-    let (filters, rest) = eat(Terminal::Where, cursor);
+    let (filters, rest) = take(Terminal::Where, cursor);
     if !filters {
         return Ok((None, rest));
     }
@@ -71,7 +71,7 @@ pub(crate) fn create<'a>(
     alloc: Global,
     cursor: Cursor<'a>,
 ) -> Result<(Draft<'a>, Cursor<'a>), Fault>
-    ensures value { Reads (spec.create_at (tokens_ahead cursor.entry)) result }
+    ensures value { Yields (spec.create_at (tokens_ahead cursor.entry)) result }
     ensures markers { Keeps cursor.entry result }
 {
     let rest = expect(Terminal::Table, cursor)?;
@@ -98,7 +98,7 @@ pub(crate) fn insert<'a>(
     alloc: Global,
     cursor: Cursor<'a>,
 ) -> Result<(Draft<'a>, Cursor<'a>), Fault>
-    ensures value { Reads (spec.insert_at (tokens_ahead cursor.entry)) result }
+    ensures value { Yields (spec.insert_at (tokens_ahead cursor.entry)) result }
     ensures markers { Keeps cursor.entry result }
 {
     let rest = expect(Terminal::Into, cursor)?;
@@ -123,7 +123,7 @@ pub(crate) fn update<'a>(
     alloc: Global,
     cursor: Cursor<'a>,
 ) -> Result<(Draft<'a>, Cursor<'a>), Fault>
-    ensures value { Reads (spec.update_at (tokens_ahead cursor.entry)) result }
+    ensures value { Yields (spec.update_at (tokens_ahead cursor.entry)) result }
     ensures markers { Keeps cursor.entry result }
 {
     let (table, rest) = name(cursor)?;
@@ -145,7 +145,7 @@ pub(crate) fn delete<'a>(
     alloc: Global,
     cursor: Cursor<'a>,
 ) -> Result<(Draft<'a>, Cursor<'a>), Fault>
-    ensures value { Reads (spec.delete_at (tokens_ahead cursor.entry)) result }
+    ensures value { Yields (spec.delete_at (tokens_ahead cursor.entry)) result }
     ensures markers { Keeps cursor.entry result }
 {
     let rest = expect(Terminal::From, cursor)?;
@@ -159,7 +159,7 @@ pub(crate) fn select<'a>(
     alloc: Global,
     cursor: Cursor<'a>,
 ) -> Result<(Draft<'a>, Cursor<'a>), Fault>
-    ensures value { Reads (spec.select_at (tokens_ahead cursor.entry)) result }
+    ensures value { Yields (spec.select_at (tokens_ahead cursor.entry)) result }
     ensures markers { Keeps cursor.entry result }
 {
     let (columns, rest) = selected(alloc, cursor)?;
@@ -182,7 +182,7 @@ pub(crate) fn by_verb<'a>(
     verb: Verb,
     cursor: Cursor<'a>,
 ) -> Result<(Draft<'a>, Cursor<'a>), Fault>
-    ensures value { Reads (spec.command_by verb (tokens_ahead cursor.entry)) result }
+    ensures value { Yields (spec.command_by verb (tokens_ahead cursor.entry)) result }
     ensures markers { Keeps cursor.entry result }
 {
     match verb {
@@ -200,7 +200,7 @@ pub(crate) fn whole_command<'a>(
     alloc: Global,
     cursor: Cursor<'a>,
 ) -> Result<(Draft<'a>, Cursor<'a>), Fault>
-    ensures value { Reads (spec.command_at (tokens_ahead cursor.entry)) result }
+    ensures value { Yields (spec.command_at (tokens_ahead cursor.entry)) result }
     ensures markers { Keeps cursor.entry result }
 {
     let (verb, rest) = first_word(cursor)?;

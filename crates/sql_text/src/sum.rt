@@ -2,7 +2,7 @@
 
 ghost use Rattle.std.specs.Prelude.{◌≡◌};
 ghost use Rattle.sql_lex.specs.Tokens.{tokens_ahead};
-ghost use Rattle.sql_text.specs.Reading.{Reads, Keeps};
+ghost use Rattle.sql_text.specs.Reading.{Yields, Keeps};
 ghost use Rattle.sql_text.specs.Rules as spec;
 
 use crate::fault::Fault;
@@ -18,7 +18,7 @@ pub(crate) fn value_behind<'a>(
     start: ValueStart<'a>,
     cursor: Cursor<'a>,
 ) -> Result<(Literal<'a>, Cursor<'a>), Fault>
-    ensures value { Reads (spec.value_by start.entry (tokens_ahead cursor.entry)) result }
+    ensures value { Yields (spec.value_by start.entry (tokens_ahead cursor.entry)) result }
     ensures markers { Keeps cursor.entry result }
 {
     match start {
@@ -32,7 +32,7 @@ pub(crate) fn value_behind<'a>(
 
 #[tactic(auto, unfolding(crate::specs::Rules::value_at))]
 pub(crate) fn value<'a>(cursor: Cursor<'a>) -> Result<(Literal<'a>, Cursor<'a>), Fault>
-    ensures value { Reads (spec.value_at (tokens_ahead cursor.entry)) result }
+    ensures value { Yields (spec.value_at (tokens_ahead cursor.entry)) result }
     ensures markers { Keeps cursor.entry result }
 {
     let (start, rest) = start(cursor)?;
@@ -42,7 +42,7 @@ pub(crate) fn value<'a>(cursor: Cursor<'a>) -> Result<(Literal<'a>, Cursor<'a>),
 /// A column where a name comes next, and else a value.
 #[tactic(auto, unfolding(crate::specs::Rules::term_at))]
 pub(crate) fn term<'a>(cursor: Cursor<'a>) -> Result<(Term<'a>, Cursor<'a>), Fault>
-    ensures value { Reads (spec.term_at (tokens_ahead cursor.entry)) result }
+    ensures value { Yields (spec.term_at (tokens_ahead cursor.entry)) result }
     ensures markers { Keeps cursor.entry result }
 {
     let (start, rest) = term_start(cursor)?;
@@ -60,7 +60,7 @@ pub(crate) fn addends<'a>(
     alloc: Global,
     cursor: Cursor<'a>,
 ) -> Result<(Items<Addend<'a>>, Cursor<'a>), Fault>
-    ensures value { Reads (spec.addends_at (tokens_ahead cursor.entry)) result }
+    ensures value { Yields (spec.addends_at (tokens_ahead cursor.entry)) result }
     ensures markers { Keeps cursor.entry result }
 {
     let turns = longest();
@@ -80,7 +80,7 @@ pub(crate) fn addends<'a>(
 
 #[tactic(auto, unfolding(crate::specs::Rules::sum_at))]
 pub(crate) fn sum<'a>(alloc: Global, cursor: Cursor<'a>) -> Result<(Sum<'a>, Cursor<'a>), Fault>
-    ensures value { Reads (spec.sum_at (tokens_ahead cursor.entry)) result }
+    ensures value { Yields (spec.sum_at (tokens_ahead cursor.entry)) result }
     ensures markers { Keeps cursor.entry result }
 {
     let (first, rest) = term(cursor)?;

@@ -4,7 +4,7 @@ ghost use Rattle.std.specs.Prelude.{◌≡◌, Ok, IfOk};
 ghost use Rattle.sql_lex.specs.Markers.{markers_of};
 ghost use Rattle.sql_lex.specs.Tokens.{tokens_ahead};
 ghost use Rattle.sql_text.specs.Reading as spec;
-ghost use Rattle.sql_text.specs.Reading.{Reads, Passes, Keeps};
+ghost use Rattle.sql_text.specs.Reading.{Yields, Passes, Keeps};
 
 use crate::draft::DraftType;
 use crate::fault::Fault;
@@ -50,7 +50,7 @@ pub(crate) enum Verb {
 
 /// The next token, and how many bytes there are from it on. At the end of the text no rule goes on.
 pub(crate) fn next<'a>(cursor: Cursor<'a>) -> Result<((Token<'a>, usize), Cursor<'a>), Fault>
-    ensures value { Reads (spec.next_at (tokens_ahead cursor.entry)) result }
+    ensures value { Yields (spec.next_at (tokens_ahead cursor.entry)) result }
     ensures markers { Keeps cursor.entry result }
 {
     match cursor.next() {
@@ -60,9 +60,9 @@ pub(crate) fn next<'a>(cursor: Cursor<'a>) -> Result<((Token<'a>, usize), Cursor
 }
 
 /// Takes this token, which has to come next.
-#[tactic(auto, unfolding(crate::specs::Reading::the))]
+#[tactic(auto, unfolding(crate::specs::Reading::expect_fixed))]
 pub(crate) fn expect<'a>(want: Terminal, cursor: Cursor<'a>) -> Result<Cursor<'a>, Fault>
-    ensures value { Passes (spec.the want (tokens_ahead cursor.entry)) result }
+    ensures value { Passes (spec.expect_fixed want (tokens_ahead cursor.entry)) result }
     ensures markers { IfOk result (λ rest. markers_of rest ≡ markers_of cursor.entry) }
 {
     let ((token, left), rest) = next(cursor)?;
@@ -73,9 +73,9 @@ pub(crate) fn expect<'a>(want: Terminal, cursor: Cursor<'a>) -> Result<Cursor<'a
 }
 
 /// Whether this token comes next, which is then taken.
-#[tactic(auto, unfolding(crate::specs::Reading::may))]
-pub(crate) fn eat<'a>(want: Terminal, cursor: Cursor<'a>) -> (bool, Cursor<'a>)
-    ensures value { spec.may want (tokens_ahead cursor.entry) ≡ Ok (result.0, tokens_ahead result.1) }
+#[tactic(auto, unfolding(crate::specs::Reading::take_fixed))]
+pub(crate) fn take<'a>(want: Terminal, cursor: Cursor<'a>) -> (bool, Cursor<'a>)
+    ensures value { spec.take_fixed want (tokens_ahead cursor.entry) ≡ Ok (result.0, tokens_ahead result.1) }
     ensures markers { markers_of result.1 ≡ markers_of cursor.entry }
 {
     let Some((token, _, rest)) = cursor.next() else {
@@ -89,7 +89,7 @@ pub(crate) fn eat<'a>(want: Terminal, cursor: Cursor<'a>) -> (bool, Cursor<'a>)
 
 #[tactic(auto, unfolding(crate::specs::Reading::name_at))]
 pub(crate) fn name<'a>(cursor: Cursor<'a>) -> Result<(Part<'a>, Cursor<'a>), Fault>
-    ensures value { Reads (spec.name_at (tokens_ahead cursor.entry)) result }
+    ensures value { Yields (spec.name_at (tokens_ahead cursor.entry)) result }
     ensures markers { Keeps cursor.entry result }
 {
     let ((token, left), rest) = next(cursor)?;
@@ -102,7 +102,7 @@ pub(crate) fn name<'a>(cursor: Cursor<'a>) -> Result<(Part<'a>, Cursor<'a>), Fau
 /// A name, and its place.
 #[tactic(auto, unfolding(crate::specs::Reading::placed_name_at))]
 pub(crate) fn placed_name<'a>(cursor: Cursor<'a>) -> Result<((Part<'a>, usize), Cursor<'a>), Fault>
-    ensures value { Reads (spec.placed_name_at (tokens_ahead cursor.entry)) result }
+    ensures value { Yields (spec.placed_name_at (tokens_ahead cursor.entry)) result }
     ensures markers { Keeps cursor.entry result }
 {
     let ((token, left), rest) = next(cursor)?;
@@ -114,7 +114,7 @@ pub(crate) fn placed_name<'a>(cursor: Cursor<'a>) -> Result<((Part<'a>, usize), 
 
 #[tactic(auto, unfolding(crate::specs::Reading::digits_at))]
 pub(crate) fn digits<'a>(cursor: Cursor<'a>) -> Result<(Part<'a>, Cursor<'a>), Fault>
-    ensures value { Reads (spec.digits_at (tokens_ahead cursor.entry)) result }
+    ensures value { Yields (spec.digits_at (tokens_ahead cursor.entry)) result }
     ensures markers { Keeps cursor.entry result }
 {
     let ((token, left), rest) = next(cursor)?;
@@ -127,7 +127,7 @@ pub(crate) fn digits<'a>(cursor: Cursor<'a>) -> Result<(Part<'a>, Cursor<'a>), F
 /// The length of a type, and its place.
 #[tactic(auto, unfolding(crate::specs::Reading::length_at))]
 pub(crate) fn length<'a>(cursor: Cursor<'a>) -> Result<((usize, usize), Cursor<'a>), Fault>
-    ensures value { Reads (spec.length_at (tokens_ahead cursor.entry)) result }
+    ensures value { Yields (spec.length_at (tokens_ahead cursor.entry)) result }
     ensures markers { Keeps cursor.entry result }
 {
     let ((token, left), rest) = next(cursor)?;
@@ -139,7 +139,7 @@ pub(crate) fn length<'a>(cursor: Cursor<'a>) -> Result<((usize, usize), Cursor<'
 
 #[tactic(auto, unfolding(crate::specs::Reading::comparison_at))]
 pub(crate) fn comparison<'a>(cursor: Cursor<'a>) -> Result<(Comparison, Cursor<'a>), Fault>
-    ensures value { Reads (spec.comparison_at (tokens_ahead cursor.entry)) result }
+    ensures value { Yields (spec.comparison_at (tokens_ahead cursor.entry)) result }
     ensures markers { Keeps cursor.entry result }
 {
     let ((token, left), rest) = next(cursor)?;
@@ -204,7 +204,7 @@ fn start_of<'a>(token: Token<'a>) -> Option<ValueStart<'a>>
 
 #[tactic(auto, unfolding(crate::specs::Reading::start_at))]
 pub(crate) fn start<'a>(cursor: Cursor<'a>) -> Result<(ValueStart<'a>, Cursor<'a>), Fault>
-    ensures value { Reads (spec.start_at (tokens_ahead cursor.entry)) result }
+    ensures value { Yields (spec.start_at (tokens_ahead cursor.entry)) result }
     ensures markers { Keeps cursor.entry result }
 {
     let ((token, left), rest) = next(cursor)?;
@@ -228,7 +228,7 @@ fn term_start_of<'a>(token: Token<'a>) -> Option<TermStart<'a>>
 
 #[tactic(auto, unfolding(crate::specs::Reading::term_start_at))]
 pub(crate) fn term_start<'a>(cursor: Cursor<'a>) -> Result<(TermStart<'a>, Cursor<'a>), Fault>
-    ensures value { Reads (spec.term_start_at (tokens_ahead cursor.entry)) result }
+    ensures value { Yields (spec.term_start_at (tokens_ahead cursor.entry)) result }
     ensures markers { Keeps cursor.entry result }
 {
     let ((token, left), rest) = next(cursor)?;
@@ -255,7 +255,7 @@ fn type_word_of(token: &Token<'_>) -> Option<TypeWord>
 
 #[tactic(auto, unfolding(crate::specs::Reading::type_word_at))]
 pub(crate) fn type_word<'a>(cursor: Cursor<'a>) -> Result<(TypeWord, Cursor<'a>), Fault>
-    ensures value { Reads (spec.type_word_at (tokens_ahead cursor.entry)) result }
+    ensures value { Yields (spec.type_word_at (tokens_ahead cursor.entry)) result }
     ensures markers { Keeps cursor.entry result }
 {
     let ((token, left), rest) = next(cursor)?;
@@ -280,7 +280,7 @@ fn verb_of(token: &Token<'_>) -> Option<Verb>
 
 #[tactic(auto, unfolding(crate::specs::Reading::verb_at))]
 pub(crate) fn first_word<'a>(cursor: Cursor<'a>) -> Result<(Verb, Cursor<'a>), Fault>
-    ensures value { Reads (spec.verb_at (tokens_ahead cursor.entry)) result }
+    ensures value { Yields (spec.verb_at (tokens_ahead cursor.entry)) result }
     ensures markers { Keeps cursor.entry result }
 {
     let ((token, left), rest) = next(cursor)?;

@@ -2,8 +2,8 @@ use Rattle.std.proofs.Common.{◌≡◌, ◌≤◌, length}
 use Rattle.sql_lex.specs.Tokens.{tokens_ahead}
 use Rattle.sql_lex.proofs.cursor.skip_blanks.Given as goal
 
-abbrev pub invariant-loop-z : goal.invariant-loop-z
-invariant-loop-z l = (tokens_ahead (l.fn.markers, l.z) ≡ tokens_ahead (l.fn.markers, l.initial.z)) × (length l.z ≤ length l.initial.z)
+abbrev pub invariant-loop-text : goal.invariant-loop-text
+invariant-loop-text l = (tokens_ahead (l.fn.markers, l.text) ≡ tokens_ahead (l.fn.markers, l.initial.text)) × (length l.text ≤ length l.initial.text)
 
-abbrev pub decreases-loop-z : goal.decreases-loop-z
-decreases-loop-z l = length l.z
+abbrev pub decreases-loop-text : goal.decreases-loop-text
+decreases-loop-text l = length l.text

@@ -6,6 +6,6 @@ use Rattle.sql_text.proofs.list.items.Given as goal
 
 abbrev pub invariant-loop-turn : goal.invariant-loop-turn
 invariant-loop-turn g l = record {
-  same : items g.T.Listed.item_at g.T.Listed.more_at (tokens_ahead l.fn.cursor) ≡ items_from g.T.Listed.item_at g.T.Listed.more_at (l.turns - l._turn) l.found (tokens_ahead l.rest);
+  same : items g.T.ListItem.item_at g.T.ListItem.more_at (tokens_ahead l.fn.cursor) ≡ items_from g.T.ListItem.item_at g.T.ListItem.more_at (l.turns - l._turn) l.found (tokens_ahead l.rest);
   markers : markers_of l.rest ≡ markers_of l.fn.cursor;
 }
