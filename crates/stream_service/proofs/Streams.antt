@@ -206,13 +206,13 @@ device DeviceFailed old now place input w0 w c = c
 
 -- ---- a conversation that was opened, served and lost
 
-number_there : (places : List Place) (i : ℕ) (x : Option Conversation) → slice_get (map shown places) i ≡ Some x → (n : ℕ) × (slice_get (map number_of places) i ≡ Some n)
+number_there : (places : List Slot) (i : ℕ) (x : Option Conversation) → slice_get (map shown places) i ≡ Some x → (n : ℕ) × (slice_get (map number_of places) i ≡ Some n)
 number_there [] i x is = absurd (cc is)
 number_there (p ∷ ps) zero x is = (number_of p, refl)
 number_there (p ∷ ps) (suc i) x is = number_there ps i x is
 
 -- what was opened is named
-pub named : (places : List Place) (old new : Machine) (before after : Register) (id : ConversationId) → old.row ≡ map shown places → before.numbers ≡ map number_of places → Opens old before id new after → Names new after id
+pub named : (places : List Slot) (old new : Machine) (before after : Register) (id : ConversationId) → old.row ≡ map shown places → before.numbers ≡ map number_of places → Opens old before id new after → Names new after id
 named places old new before after id rows numbers o =
     let free : slice_get (map shown places) id.place ≡ Some None = subst (λ (r : List (Option Conversation)). slice_get r id.place ≡ Some None) rows o.free in
     let had = number_there places id.place None free in
