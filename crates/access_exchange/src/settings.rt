@@ -4,6 +4,9 @@ use std::alloc::{AllocError, Global};
 use std::marker::Model;
 use thiserror::Error;
 
+/// The most bytes of a database's name (RDBNAM).
+const MAX_RDB_NAME_BYTES: usize = 18;
+
 /// Why there are no settings.
 #[derive(Debug, Drop, PartialEq, Eq, Error)]
 pub enum SettingsError {
@@ -55,7 +58,7 @@ fn are_printable(bytes: &[u8]) -> bool
 fn is_rdb_name(name: &str) -> bool
     ensures { result ≡ is_rdb_name name.now }
 {
-    1 <= name.len() && name.len() <= 18 && are_printable(name.as_bytes())
+    1 <= name.len() && name.len() <= MAX_RDB_NAME_BYTES && are_printable(name.as_bytes())
 }
 
 ghost use Rattle.std.specs.Prelude.{◌≡◌, ◌≤◌, length};

@@ -11,6 +11,12 @@ use access_exchange::Session;
 use dss_frames::{Dss, Format, Group, write_dss, written_dss_is_read};
 use exchanges::{Reply, ReplyKind};
 
+/// The severity from which on a reply breaks its chain (SVRCOD).
+const ERROR: u16 = 8;
+
+/// The severity that ends the conversation.
+const PERMANENT_DAMAGE: u16 = 64;
+
 /// Where a command stands in its chain.
 #[derive(Clone, Copy)]
 pub(crate) struct Link {
@@ -48,7 +54,7 @@ pub(crate) fn link_of(request: Dss<'_>, group: Group<'_>) -> Link
 fn breaks(severity: u16, format: Format) -> bool
     ensures { result ≡ spec.breaks severity format.byte }
 {
-    severity >= 64 || severity >= 8 && !format.continues_on_error()
+    severity >= PERMANENT_DAMAGE || severity >= ERROR && !format.continues_on_error()
 }
 
 /// How a conversation goes on behind replies of this severity.
@@ -57,7 +63,7 @@ pub(crate) fn behind(session: Session, link: Link, severity: u16) -> Session
 {
     Session {
         is_broken: link.is_chained && breaks(severity, link.format),
-        is_closed: session.is_closed || severity >= 64,
+        is_closed: session.is_closed || severity >= PERMANENT_DAMAGE,
         ..session
     }
 }

@@ -27,6 +27,9 @@ const LEAST_BLOCK: u32 = 512;
 
 const GREATEST_BLOCK: u32 = 10_485_760;
 
+/// The most data objects of a command.
+const MAX_DATA_OBJECTS: usize = 8;
+
 /// A command that is not refused, and what it brought.
 #[derive(Clone, Copy)]
 pub struct Accepted<'a> {
@@ -68,7 +71,7 @@ fn check_whole(command: Command, given: Given<'_>) -> Result<(), Refusal>
     if let Some(error) = given.first_fault(command) {
         return Err(Refusal::Syntax(error));
     }
-    if given.count() > 8 {
+    if given.count() > MAX_DATA_OBJECTS {
         return Err(Refusal::Syntax(SyntaxError::TooManyObjects));
     }
     Ok(())

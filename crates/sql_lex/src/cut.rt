@@ -10,6 +10,9 @@ use crate::part::Part;
 use crate::terminal::{Terminal, words};
 use crate::token::{Comparison, Token};
 
+/// The most bytes of a name.
+const MAX_NAME_BYTES: usize = 30;
+
 pub(crate) fn is_blank(b: u8) -> bool
     ensures { result ≡ spec.is_blank b }
 {
@@ -64,7 +67,7 @@ fn named(text: &[u8]) -> Token<'_>
 {
     match word(text) {
         Some(word) => Token::Fixed(word),
-        None if text.len() <= 30 => Token::Name(Part::new(text)),
+        None if text.len() <= MAX_NAME_BYTES => Token::Name(Part::new(text)),
         None => Token::Unknown,
     }
 }

@@ -10,6 +10,9 @@ ghost use Rattle.sql_meaning.specs.Values.{column_place, name_of};
 use row_values::Column;
 use std::alloc::{AllocError, Global};
 
+/// The most bytes of a table's name.
+const MAX_TABLE_NAME_BYTES: usize = 255;
+
 /// The place of the column of this name, in whatever case it is spelled.
 pub fn column_place(columns: &[Column], name: &[u8]) -> Option<usize>
     ensures { result ≡ column_place (map column_of columns.now) name.now }
@@ -36,7 +39,7 @@ pub fn table_name(alloc: Global, name: &[u8]) -> Result<String, AllocError>
     ensures { IfOk result (λ table. string_bytes table ≡ name_of name.now) }
 {
     let capitals = name.to_ascii_uppercase(alloc)?;
-    if capitals.len() > 255 {
+    if capitals.len() > MAX_TABLE_NAME_BYTES {
         return Ok(String::new(alloc));
     }
     match String::from_utf8(capitals) {

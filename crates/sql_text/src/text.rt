@@ -21,6 +21,9 @@ use sql_lex::Cursor;
 use sql_lex::laws::{markers_are_numbered, texts_are_utf8, tokens_are_spelled_so};
 use std::alloc::Global;
 
+/// The most bytes of a statement's text.
+const MAX_TEXT_BYTES: usize = 32_767;
+
 fn refusal_error(length: usize, refusal: Refusal) -> SqlError
     ensures { result ≡ spec.refusal_error length refusal }
 {
@@ -100,7 +103,7 @@ pub fn parse<'a>(alloc: Global, text: &'a str) -> Result<Statement<'a>, SqlError
     texts_are_utf8();
     markers_are_numbered();
     let bytes = text.as_bytes();
-    if bytes.len() > 32767 {
+    if bytes.len() > MAX_TEXT_BYTES {
         return Err(SqlError::Limit);
     }
     read(alloc, bytes)
