@@ -59,12 +59,14 @@ impl LaidRecord {
         Ok(LaidRecord { kind, bytes })
     }
 
+    /// Its kind.
     pub fn kind(&self) -> Kind
         ensures { result ≡ (entry_in self.now).kind }
     {
         self.kind
     }
 
+    /// Its body: the bytes behind the head, without the gate that follows.
     pub fn body(&self) -> &[u8]
         ensures { result.now ≡ (entry_in self.now).body }
     {
