@@ -5,6 +5,7 @@ pub mod Holds
 pub mod Readings
 pub mod Steps
 pub mod Wanting
+pub mod Fronts
 pub mod Settled
 pub mod Joins
 pub mod Commands

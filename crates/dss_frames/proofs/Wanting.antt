@@ -13,7 +13,7 @@ use Rattle.dss_frames.specs.Command.{IsCommand}
 use Rattle.dss_frames.specs.Fault.{IsUnfinished}
 use Rattle.dss_frames.specs.Judging.{judged}
 use Rattle.dss_frames.specs.Progress.{IsAt, HasCommand, header_length}
-use Rattle.dss_frames.specs.Lending.{KeepsToOne, IsWanted}
+use Rattle.dss_frames.specs.Lending.{IsWanted}
 use Rattle.dss_frames.proofs.Steps.{GoesOn, place_part, place_early, place_more, place_judged}
 
 -- less than the header
@@ -37,31 +37,6 @@ unfinished_by false bytes place e h lt =
 
 unfinished : (bytes : List ℕ) (place : Progress) → IsAt bytes place → length bytes < place.at + header_length place.expected → IsUnfinished bytes
 unfinished bytes place h lt = unfinished_by (ltb (length bytes) place.at) bytes place refl h lt
-
--- a command that ends before the last byte
-ends_before : (within : Bool) (bytes more front rest : List ℕ) (command : List Dss) (place : Progress) (n : ℕ) → ltb (length bytes) (length front) ≡ within
-    → IsAt bytes place → n ≡ max 1 (place.at + header_length place.expected - length bytes) → IsUnfinished bytes → length more ≤ n
-    → bytes ++ more ≡ front ++ rest → 1 ≤ length rest → IsCommand front command → ⊥
-ends_before false bytes more front rest command place n w h e un le same some is =
-    let short : length front ≤ length bytes = ltb-false _ _ w in
-    let first : take (length front) bytes ≡ front = sym (take-append-le (length front) bytes more short) ∙ ap (λ (b : List ℕ). take (length front) b) same ∙ take-append_seam front rest in
-    let parts : bytes ≡ front ++ drop (length front) bytes = sym (take-append-drop (length front) bytes) ∙ ap (λ (b : List ℕ). b ++ drop (length front) bytes) first in
-    un.no_command command (drop (length front) bytes) (front, parts, is)
-ends_before true bytes more front rest command place n w h e un le same some is =
-    let long : length bytes < length front = ltb-true _ _ w in
-    let count = length front - length bytes in
-    let sum : length bytes + count ≡ length front = omega arith in
-    let all : List ℕ = bytes ++ take count more in
-    let front_is : all ≡ front = sym (take-append-add bytes more count) ∙ ap (λ (m : ℕ). take m (bytes ++ more)) sum ∙ ap (λ (b : List ℕ). take (length front) b) same ∙ take-append_seam front rest in
-    let lengths : length bytes + length more ≡ length front + length rest = sym (length-append bytes more) ∙ ap length same ∙ length-append front rest in
-    let size : length all ≡ length front = ap length front_is in
-    let un_all = unfinished all place (place_more bytes (take count more) place h) (omega arith) in
-    un_all.no_command command [] (front, front_is ∙ sym (append-nil front), is)
-
-pub keeps_to_one : (bytes : List ℕ) (place : Progress) (n : ℕ) → IsAt bytes place → n ≡ max 1 (place.at + header_length place.expected - length bytes) → KeepsToOne bytes n
-keeps_to_one bytes place n h e more command [] un le begins = refl
-keeps_to_one bytes place n h e more command (x ∷ rest) un le begins =
-    absurd (ends_before (ltb (length bytes) (length begins.0)) bytes more begins.0 (x ∷ rest) command place n refl h e un le begins.1 (omega arith) begins.2)
 
 pub is_wanted : (bytes : List ℕ) (place : Progress) (n : ℕ) → IsAt bytes place → length bytes < place.at + header_length place.expected → n ≡ max 1 (place.at + header_length place.expected - length bytes) → IsWanted bytes n
 is_wanted bytes place n h lt e = record {

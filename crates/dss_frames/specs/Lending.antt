@@ -1,5 +1,5 @@
 -- What `Segments::next` hands out, and what the reader is when the borrow ends.
-use Rattle.std.specs.Prelude.{◌≡◌, ◌≤◌, ◌<◌, ℕ, Bool, true, false, List, [], ◌++◌, length, Option, Some, None, Result, Ok, Err}
+use Rattle.std.specs.Prelude.{◌≡◌, ◌⊎◌, ◌≤◌, ◌<◌, ℕ, Bool, true, false, List, [], ◌++◌, length, take, Option, Some, None, Result, Ok, Err}
 use Rattle.std.specs.Borrow.{MutBor, Fml}
 use Rattle.std.specs.Io.BufRead.{Rests}
 use Rattle.dss_frames.specs.contracts.segments.Segments.{the_row}
@@ -39,12 +39,6 @@ Takes old (Ok (Some group)) new = TakesCommand old (command_of group) new
 Takes old (Ok None) new = WaitsFor old new
 Takes old (Err fault) new = FailsAt old fault new
 
--- with at most so many bytes more, a command in front takes all of them
-abbrev pub KeepsToOne : List ℕ → ℕ → Type 0
-KeepsToOne bytes wanted =
-    (more : List ℕ) (command : List Dss) (rest : List ℕ) → IsUnfinished bytes → length more ≤ wanted
-    → BeginsWith (bytes ++ more) command rest → rest ≡ []
-
 -- the step behind `Takes`, before anything is lent
 abbrev pub TakesFront : Held → Result Bool FrameFault → Held → Type 0
 TakesFront old (Ok true) new = TakesCommand old new.last new
@@ -56,3 +50,13 @@ TakesFront old (Err fault) new = FailsAt old fault new
 pub record IsWanted (bytes : List ℕ) (wanted : ℕ) : Type 0 where
   pub less : (more : List ℕ) → length more < wanted → IsUnfinished (bytes ++ more)
   pub just : (more : List ℕ) → length more ≡ wanted → CanBeJudged (bytes ++ more)
+
+-- Behind unfinished bytes, no more of a piece than the first command or fault takes: with fewer of its bytes there is
+-- neither, and a command that is there with no more of them takes all of them.
+pub record KeepsToFirst (bytes piece : List ℕ) (count : ℕ) : Type 0 where
+  pub less : (fewer : ℕ) → fewer < count → IsUnfinished (bytes ++ take fewer piece)
+  pub alone : (many : ℕ) (command : List Dss) (rest : List ℕ) → many ≤ count → BeginsWith (bytes ++ take many piece) command rest → rest ≡ []
+
+-- and not less than can be judged, unless it is all of the piece
+abbrev pub GoesFar : List ℕ → List ℕ → ℕ → Type 0
+GoesFar bytes piece count = (count ≡ length piece) ⊎ CanBeJudged (bytes ++ take count piece)

@@ -1,4 +1,6 @@
-ghost use Rattle.std.specs.Prelude.{◌≡◌, ◌≤◌, ◌+◌, ◌-◌, max, length};
+ghost use Rattle.std.specs.Prelude.{◌≡◌, ◌⊎◌, ◌≤◌, ◌+◌, ◌-◌, ◌++◌, max, length, take};
+ghost use Rattle.dss_frames.specs.Fault.{IsUnfinished};
+ghost use Rattle.dss_frames.specs.Lending.{GoesFar, IsWanted, KeepsToFirst};
 ghost use Rattle.dss_frames.specs.Progress.{IsAt, Finds, header_length, found_at};
 
 use crate::fault::FrameFault;
@@ -18,7 +20,7 @@ fn header_length(expected: Expected) -> usize
 }
 
 /// How many bytes more the next header takes, or the rest of the command; one at the least.
-pub(crate) fn missing(place: Progress, bytes: &[u8]) -> usize
+fn missing(place: Progress, bytes: &[u8]) -> usize
     requires { place.at ≤ length bytes.now + 32767 }
     ensures { result ≡ max 1 (place.at + header_length place.expected - length bytes.now) }
 {
@@ -53,5 +55,48 @@ fn found(place: Progress) -> Found
     match place.expected {
         Expected::Header(Turn::Nothing) => Found::Command(place.at),
         _ => Found::Nothing(place),
+    }
+}
+
+/// How many bytes at the least are missing behind those that have come until the next header, segment or
+/// command can be judged: at least one.
+fn wanted(place: Progress, bytes: &[u8]) -> usize
+    requires { IsAt bytes.now place }
+    ensures some { 1 ≤ result }
+    ensures exact { IsUnfinished bytes.now → IsWanted bytes.now result }
+{
+    match look(place, bytes) {
+        Ok(Found::Nothing(place)) => missing(place, bytes),
+        Ok(Found::Command(_)) => 1,
+        Err(_) => 1,
+    }
+}
+
+/// How many bytes in front of a piece belong to the command of which these bytes have come, and where
+/// the next header stands behind them. A command that begins with the piece is judged there, once.
+pub(crate) fn front_of(place: Progress, bytes: &[u8], piece: &[u8]) -> (usize, Progress)
+    requires { IsAt bytes.now place }
+    ensures within { result.0 ≤ length piece.now }
+    ensures first { IsUnfinished bytes.now → KeepsToFirst bytes.now piece.now result.0 }
+    ensures far { IsUnfinished bytes.now → GoesFar bytes.now piece.now result.0 }
+    ensures place { IsAt (bytes.now ++ take result.0 piece.now) result.1 }
+{
+    if bytes.is_empty() {
+        match look(place, piece) {
+            Ok(Found::Command(size)) => return (size, behind_command(size)),
+            Ok(Found::Nothing(place)) => return (piece.len(), place),
+            Err(_) => {}
+        }
+    }
+    (wanted(place, bytes).min(piece.len()), place)
+}
+
+/// The place behind a whole command of so many bytes.
+fn behind_command(size: usize) -> Progress
+    ensures { result ≡ record { at = size; expected = Expected.Header Turn.Nothing } }
+{
+    Progress {
+        at: size,
+        expected: Expected::Header(Turn::Nothing),
     }
 }

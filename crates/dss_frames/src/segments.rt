@@ -1,7 +1,7 @@
 use crate::fault::FrameFault;
 use crate::group::Group;
 use crate::joining::join;
-use crate::looking::{look, missing};
+use crate::looking::{front_of, look};
 use crate::progress::{Expected, Found, Progress};
 use crate::turn::Turn;
 use std::alloc::Global;
@@ -37,11 +37,11 @@ impl Model for Segments {
 }
 
 impl Segments {
-    ghost use Rattle.std.specs.Prelude.{◌≡◌, ◌≤◌, ◌<◌, ◌++◌, ◌+◌, [], false, length, take, IsTrue};
+    ghost use Rattle.std.specs.Prelude.{◌≡◌, ◌⊎◌, ◌≤◌, ◌++◌, ◌+◌, [], false, length, take, IsTrue};
     ghost use Rattle.std.specs.Borrow.{sem};
     ghost use Rattle.dss_frames.specs.Group.{command_of};
     ghost use Rattle.dss_frames.specs.Fault.{IsUnfinished};
-    ghost use Rattle.dss_frames.specs.Lending.{EndsAs, Takes, TakesFront, TakesCommand, KeepsToOne, IsWanted};
+    ghost use Rattle.dss_frames.specs.Lending.{EndsAs, GoesFar, KeepsToFirst, Takes, TakesFront, TakesCommand};
     ghost use Rattle.dss_frames.specs.Progress.{HasCommand};
 
     /// A reader that holds nothing. It takes no memory before the first bytes come.
@@ -80,18 +80,29 @@ impl Segments {
         }
     }
 
-    /// How many bytes at the least are missing until the next header, segment or command can be
-    /// judged: at least one. A caller that feeds no more than these before it calls `next` never
-    /// has a byte of a second command here.
-    pub fn wanted(&self) -> usize
-        ensures some { 1 ≤ result }
-        ensures exact { IsUnfinished self.now.rest → IsWanted self.now.rest result }
-        ensures one_command { KeepsToOne self.now.rest result }
+    /// Takes the bytes in front of a piece that belong to the command under way, and says how many: up to
+    /// its end, or to the end of the next header where that is to be judged first, and all of the piece
+    /// where it ends before; none after a fault, and none where memory is refused. So no byte here stands
+    /// behind the first command or fault. What was lent before is forgotten.
+    pub fn feed_command(&mut self, piece: &[u8]) -> usize
+        ensures taken { self.new.rest ≡ self.old.rest ++ take result piece.now }
+        ensures within { result ≤ length piece.now }
+        ensures first { IsUnfinished self.old.rest → KeepsToFirst self.old.rest piece.now result }
+        ensures far { IsUnfinished self.old.rest → (result ≡ 0) ⊎ GoesFar self.old.rest piece.now result }
+        ensures at_fault { IsTrue self.old.at_fault → result ≡ 0 }
+        ensures fault_stays { self.new.at_fault ≡ self.old.at_fault }
     {
-        match look(self.place, self.rest()) {
-            Ok(Found::Nothing(place)) => missing(place, self.rest()),
-            Ok(Found::Command(_)) => 1,
-            Err(_) => 1,
+        if self.at_fault || piece.is_empty() {
+            return 0;
+        }
+        self.make_room();
+        let (count, place) = front_of(self.place, self.rest(), piece);
+        match self.buf.extend_from_slice(&piece[..count]) {
+            Ok(()) => {
+                self.place = place;
+                count
+            }
+            Err(_) => 0,
         }
     }
 

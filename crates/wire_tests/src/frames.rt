@@ -10,7 +10,12 @@ fn hear(segments: &mut Segments, piece: &[u8], out: &mut Vec<u8>) -> Result<bool
     if segments.feed(piece) < piece.len() {
         return Err(AllocError);
     }
-    for _ in 0..=piece.len() {
+    hear_held(segments, piece.len(), out)
+}
+
+/// Writes down what stands in front of the bytes that are held, at most so many commands and one.
+fn hear_held(segments: &mut Segments, most: usize, out: &mut Vec<u8>) -> Result<bool, AllocError> {
+    for _ in 0..=most {
         match segments.next() {
             Ok(None) => return Ok(true),
             Ok(Some(group)) => write_down(&group, out)?,
@@ -57,17 +62,17 @@ fn heard(alloc: Global, text: &[u8], first: usize, others: usize) -> Result<Vec<
     Ok(out)
 }
 
-/// What is heard of a text when each piece is just what was wanted.
-fn heard_as_wanted(alloc: Global, text: &[u8]) -> Result<Vec<u8>, AllocError> {
+/// What is heard of a text that is fed command by command.
+fn heard_by_command(alloc: Global, text: &[u8]) -> Result<Vec<u8>, AllocError> {
     let mut segments = Segments::new(alloc);
     let mut out = Vec::new(alloc);
     let mut rest = text;
     for _ in 0..text.len() {
-        let (piece, others) = rest.split_at(segments.wanted().min(rest.len()));
-        if !hear(&mut segments, piece, &mut out)? {
+        let count = segments.feed_command(rest);
+        if !hear_held(&mut segments, 0, &mut out)? {
             return Ok(out);
         }
-        rest = others;
+        rest = &rest[count..];
     }
     Ok(out)
 }
@@ -143,7 +148,7 @@ const STREAMS: [(&[u8], &[u8]); 24] = [
 #[test]
 fn short_streams_in_any_pieces(rt: HostRuntime) -> Result<(), Fail> {
     for (text, want) in STREAMS {
-        assert_eq!(rt; heard_as_wanted(rt.alloc(), text)?.as_slice(), want);
+        assert_eq!(rt; heard_by_command(rt.alloc(), text)?.as_slice(), want);
         assert_eq!(rt; heard(rt.alloc(), text, text.len(), 1)?.as_slice(), want);
         for first in 0..text.len() {
             assert_eq!(rt;
@@ -214,7 +219,7 @@ fn long_commands_are_joined(rt: HostRuntime) -> Result<(), Fail> {
             );
         }
         assert!(rt;
-            heard_as_wanted(rt.alloc(), &text)? == want,
+            heard_by_command(rt.alloc(), &text)? == want,
             "{segments} as wanted"
         );
     }
@@ -305,5 +310,5 @@ fn nothing_is_taken_behind_a_fault(rt: HostRuntime) {
     assert!(rt; segments.next().is_err());
     assert_eq!(rt; segments.feed(b"\x00\x0A"), 0);
     assert!(rt; segments.next().is_err());
-    assert!(rt; segments.wanted() >= 1);
+    assert_eq!(rt; segments.feed_command(b"\x00\x0A"), 0);
 }
