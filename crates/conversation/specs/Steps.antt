@@ -5,7 +5,7 @@ use Rattle.dss_frames.specs.Dss.{Dss}
 use Rattle.dss_frames.specs.declared.fault.FrameFault.{FrameFault}
 use Rattle.dss_frames.specs.Fault.{BeginsWith, FaultAt, IsUnfinished}
 use Rattle.dss_frames.specs.Reading.{End, unfinished, faulty, ReadsAs}
-pub use Rattle.dss_frames.specs.Lending.{KeepsToOne, IsWanted}
+pub use Rattle.dss_frames.specs.Lending.{GoesFar, KeepsToFirst}
 use Rattle.core_calls.specs.Call.{Call}
 use Rattle.core_calls.specs.Answer.{Answer}
 use Rattle.access_exchange.specs.declared.session.Session.{Session}

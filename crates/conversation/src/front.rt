@@ -43,10 +43,10 @@ impl Model for Front {
 }
 
 impl Front {
-    ghost use Rattle.std.specs.Prelude.{◌≡◌, ◌≤◌, ◌+◌, ◌++◌, [], IfOk, OnOk, IsTrue, false, length, take, vec_len, vec_capacity};
+    ghost use Rattle.std.specs.Prelude.{◌≡◌, ◌⊎◌, ◌≤◌, ◌+◌, ◌++◌, IfOk, IsTrue, length, take, vec_len, vec_capacity};
     ghost use Rattle.conversation.specs.Held.{newly_held};
     ghost use Rattle.dss_frames.specs.Fault.{IsUnfinished};
-    ghost use Rattle.conversation.specs.Steps.{Steps, KeepsToOne, IsWanted};
+    ghost use Rattle.conversation.specs.Steps.{Steps, GoesFar, KeepsToFirst};
 
     /// A conversation of which nothing has come.
     pub fn new(alloc: Global, settings: &Settings) -> Result<Front, AllocError>
@@ -77,28 +77,21 @@ impl Front {
         self.state.session.is_closed
     }
 
-    /// Takes the bytes that come next, and says how many it took: all of them, none once it is
-    /// closed, and fewer only for want of memory.
-    pub fn feed(&mut self, piece: &[u8]) -> usize
+    /// Takes the bytes in front of a piece that belong to the command under way, and says how many: up to
+    /// its end, or to the end of the next header where that is to be judged first, and all of the piece
+    /// where it ends before; none once it is closed, and none where memory is refused. So a caller that
+    /// feeds by this between two calls of `next` never has a byte of a second command here.
+    pub fn feed_command(&mut self, piece: &[u8]) -> usize
         ensures taken { self.new ≡ record self.old { rest = self.old.rest ++ take result piece.now } }
         ensures within { result ≤ length piece.now }
+        ensures first { IsUnfinished self.old.rest → KeepsToFirst self.old.rest piece.now result }
+        ensures far { IsUnfinished self.old.rest → (result ≡ 0) ⊎ GoesFar self.old.rest piece.now result }
         ensures closed { IsTrue self.old.session.is_closed → result ≡ 0 }
     {
         if self.is_closed() {
             return 0;
         }
-        self.segments.feed(piece)
-    }
-
-    /// How many bytes are missing until the next header, segment or command can be judged: at least
-    /// one, and of unfinished bytes exactly so many. A caller that feeds no more than these between
-    /// two calls of `next` never has a byte of a second command here.
-    pub fn wanted(&self) -> usize
-        ensures some { 1 ≤ result }
-        ensures exact { IsUnfinished self.now.rest → IsWanted self.now.rest result }
-        ensures one_command { KeepsToOne self.now.rest result }
-    {
-        self.segments.wanted()
+        self.segments.feed_command(piece)
     }
 
     /// Does the next command, where all of it has come, asks `asker` what it asks for, and appends its

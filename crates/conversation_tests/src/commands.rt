@@ -89,8 +89,12 @@ fn is_answered(alloc: Global, case: &Case) -> Option<bool> {
     let request = bytes_of(alloc, case.requests).ok()?;
     let reply = bytes_of(alloc, case.replies).ok()?;
     let mut out = Vec::new(alloc);
-    let _ = front.feed(&request);
-    push_answers(&mut front, &mut asker, &mut out)?;
+    let mut left = request.as_slice();
+    for _ in 0..=request.len() {
+        let count = front.feed_command(left);
+        push_answers(&mut front, &mut asker, &mut out)?;
+        left = &left[count..];
+    }
     Some(
         out.as_slice() == reply.as_slice()
             && asker.asked == case.asked

@@ -64,22 +64,6 @@ stops settings place old piece out taken between out' u = record {
 }
 
 module _ (settings : Settings) (place : ℕ) (fault_more : (bytes more : List ℕ) (fault : FrameFault) → FaultAt bytes fault → FaultAt (bytes ++ more) fault) where
-  left_later : (piece : List ℕ) (taken size count : ℕ) → taken ≤ length piece → 0 < min size (length piece - taken) ⊎ (piece ≡ []) → IsLeft count (take size (drop taken piece)) → IsLeft (taken + count) piece
-  left_later piece taken size count within (inr empty) more = inr empty
-  left_later piece taken size count within (inl some) (inl more) =
-      let of_take : length (take size (drop taken piece)) ≡ min size (length (drop taken piece)) = length-take size (drop taken piece) in
-      let of_drop : length (drop taken piece) ≡ length piece - taken = length-drop taken piece in
-      inl (omega (arith, of_take, of_drop, more, within))
-  left_later piece taken size count within (inl some) (inr none) =
-      let of_take : length (take size (drop taken piece)) ≡ min size (length (drop taken piece)) = length-take size (drop taken piece) in
-      let of_drop : length (drop taken piece) ≡ length piece - taken = length-drop taken piece in
-      let empty : length (take size (drop taken piece)) ≡ 0 = ap length none in
-      absurd (omega (arith, of_take, of_drop, empty, some))
-
-  some_wanted : (piece : List ℕ) (taken wanted size : ℕ) → size ≡ min wanted (length piece - taken) → IsLeft taken piece → 1 ≤ wanted → 0 < min size (length piece - taken) ⊎ (piece ≡ [])
-  some_wanted piece taken wanted size is (inl left) some = inl (omega (arith, is, left, some))
-  some_wanted piece taken wanted size is (inr empty) some = inr empty
-
   -- the bytes of a piece are read on where those of its front ended
   read_on : (a b : Attended) (piece : List ℕ) (taken size count : ℕ) (commands others : List (List Dss)) (rest : List ℕ) → count ≤ size → ReadsAs (a.rest ++ take taken piece) commands (unfinished b.rest)
       → ReadsAs (b.rest ++ take count (take size (drop taken piece))) others (unfinished rest) → ReadsAs (a.rest ++ take (taken + count) piece) (commands ++ others) (unfinished rest)
@@ -119,34 +103,28 @@ module _ (settings : Settings) (place : ℕ) (fault_more : (bytes more : List �
       let both : true ≡ false = sym h.closed ∙ sym (ap (λ (d : Attended). d.standing.session.is_closed) h.same) ∙ still_open in
       absurd (cc both)
 
-  few_taken : (piece : List ℕ) (taken size count : ℕ) → count ≤ length (take size (drop taken piece)) → count ≤ size
-  few_taken piece taken size count within =
-      let of_take : length (take size (drop taken piece)) ≡ min size (length (drop taken piece)) = length-take size (drop taken piece) in
-      omega (arith, of_take, within)
-
   -- one part further on, at the end
-  pub ends_so : (old between new : Attended) (piece out out1 out2 : List ℕ) (taken wanted size : ℕ) (fed : Fed) → IsUnderWay settings place old piece out taken between out1
-      → size ≡ min wanted (length piece - taken) → 1 ≤ wanted
-      → Takes settings place between (take size (drop taken piece)) out1 fed new out2 → (fed.state ≡ Open → taken + fed.taken ≡ length piece)
+  pub ends_so : (old between new : Attended) (piece out out1 out2 : List ℕ) (taken : ℕ) (fed : Fed) → IsUnderWay settings place old piece out taken between out1
+      → Takes settings place between (take fed.taken (drop taken piece)) out1 fed new out2 → (fed.state ≡ Later → fed.taken ≡ 0) → (fed.state ≡ Open → taken + fed.taken ≡ length piece)
       → Takes settings place old piece out (record { taken = taken + fed.taken; state = fed.state }) new out2
-  ends_so old between new piece out out1 out2 taken wanted size fed u is some takes all = record {
-    within = within_piece piece taken size fed.taken u.within takes.within;
-    told = told_more settings place fault_more old between new piece out out1 out2 taken size fed u.told takes;
+  ends_so old between new piece out out1 out2 taken fed u takes stuck all = record {
+    within = within_piece piece taken fed.taken fed.taken u.within takes.within;
+    told = told_more settings place fault_more old between new piece out out1 out2 taken fed.taken fed u.told takes;
     state = left_more fed.state taken fed.taken new takes.state;
     all = all;
-    later = λ e. left_later piece taken size fed.taken u.within (some_wanted piece taken wanted size is u.left some) (takes.later e);
-    closed = λ e is_open. closed_later old between piece (u.told.replies ++ []) taken size fed.taken u.told.hears u.still_open (few_taken piece taken size fed.taken takes.within) (takes.closed e u.still_open);
-    none = none_more settings place old between new piece out out1 out2 taken size fed u.told takes u.none;
+    later = λ e. let none = stuck e in let same : taken ≡ taken + fed.taken = omega (arith, none) in subst (λ (n : ℕ). IsLeft n piece) same u.left;
+    closed = λ e is_open. closed_later old between piece (u.told.replies ++ []) taken fed.taken fed.taken u.told.hears u.still_open (omega arith) (takes.closed e u.still_open);
+    none = none_more settings place old between new piece out out1 out2 taken fed.taken fed u.told takes u.none;
   }
 
   -- one part further on, with bytes left
-  pub goes_on : (old between new : Attended) (piece out out1 out2 : List ℕ) (taken size : ℕ) (fed : Fed) → IsUnderWay settings place old piece out taken between out1
-      → Takes settings place between (take size (drop taken piece)) out1 fed new out2 → fed.state ≡ Open → taken + fed.taken < length piece
+  pub goes_on : (old between new : Attended) (piece out out1 out2 : List ℕ) (taken : ℕ) (fed : Fed) → IsUnderWay settings place old piece out taken between out1
+      → Takes settings place between (take fed.taken (drop taken piece)) out1 fed new out2 → fed.state ≡ Open → taken + fed.taken < length piece
       → IsUnderWay settings place old piece out (taken + fed.taken) new out2
-  goes_on old between new piece out out1 out2 taken size fed u takes is more = record {
-    within = within_piece piece taken size fed.taken u.within takes.within;
-    told = subst (λ (s : FedState). Told settings place old (take (taken + fed.taken) piece) out (bytes_behind s) new out2) is (told_more settings place fault_more old between new piece out out1 out2 taken size fed u.told takes);
-    none = none_more settings place old between new piece out out1 out2 taken size fed u.told takes u.none;
+  goes_on old between new piece out out1 out2 taken fed u takes is more = record {
+    within = within_piece piece taken fed.taken fed.taken u.within takes.within;
+    told = subst (λ (s : FedState). Told settings place old (take (taken + fed.taken) piece) out (bytes_behind s) new out2) is (told_more settings place fault_more old between new piece out out1 out2 taken fed.taken fed u.told takes);
+    none = none_more settings place old between new piece out out1 out2 taken fed.taken fed u.told takes u.none;
     still_open = subst (λ (s : FedState). LeftAs s fed.taken new) is takes.state;
     left = inl more;
   }

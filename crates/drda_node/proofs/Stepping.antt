@@ -1,7 +1,7 @@
 -- One step of a conversation, and the next.
 use Rattle.std.proofs.Common.{◌≡◌, ◌⊎◌, ◌||◌, Bool, zero, suc, ◌≤◌, ◌<◌, ◌+◌, ◌-◌, ℕ, true, false, List, [], ◌∷◌, ◌++◌, length, take, drop, min, refl, sym, ap, subst, ◌∙◌, append_assoc, append-nil, inl, inr, arith}
 use Rattle.std.proofs.Math.Seq.{take-add}
-use Rattle.std.proofs.lemmas.List.{take-take, length-take-le, length-take, length-drop}
+use Rattle.std.proofs.lemmas.List.{nil_from_length, take_all, take-take, length-take-le, length-take, length-drop}
 use Rattle.dss_frames.specs.Dss.{Dss}
 use Rattle.dss_frames.specs.declared.fault.FrameFault.{FrameFault}
 use Rattle.dss_frames.specs.Fault.{BeginsWith, FaultAt, IsUnfinished}
@@ -15,13 +15,13 @@ use Rattle.conversation.specs.Replies.{fault_bytes}
 use Rattle.conversation.specs.Exchange.{excused}
 use Rattle.conversation.specs.Standing.{Standing, standing}
 use Rattle.conversation.specs.Done.{Does}
-use Rattle.conversation.specs.Steps.{Steps, Converses, KeepsToOne}
+use Rattle.conversation.specs.Steps.{Steps, Converses, KeepsToFirst}
 use Rattle.drda_node.specs.Asking.{AskedCore, asks}
 use Rattle.drda_node.specs.Hearing.{Attended, Hears}
 use Rattle.drda_node.specs.declared.fed.Fed.{Fed}
 use Rattle.drda_node.specs.declared.fed.FedState.{FedState}
 use Rattle.drda_node.specs.declared.fed.FedState.TheVariants.{Open, Later, Closed as is_shut, Short as is_short}
-use Rattle.drda_node.specs.Feeding.{IsBetweenCommands, KeepsToWanted, EndsAtFault, EndsWithCommand, Told, Takes, LeftAs, bytes_behind, state_for, with_core}
+use Rattle.drda_node.specs.Feeding.{IsBetweenCommands, EndsAtFault, EndsWithCommand, Told, Takes, LeftAs, bytes_behind, state_for, with_core}
 use Rattle.drda_node.proofs.Conversing.{hears_then, hears_closed}
 
 abbrev pub reply_behind : Need → List ℕ
@@ -52,6 +52,21 @@ some_came : (rest part : List ℕ) (command : List Dss) (remains : List ℕ) →
 some_came rest [] command remains unfinished_rest taken =
     absurd (unfinished_rest.no_command command remains (subst (λ (z : List ℕ). BeginsWith z command remains) (append-nil rest) taken))
 some_came rest (b ∷ part) command remains unfinished_rest taken = omega arith
+
+-- These bytes come behind unfinished ones, and no more of them than the first command or fault takes.
+pub record IsOfOne (rest part : List ℕ) : Type 0 where
+  pub less : (fewer : ℕ) → fewer < length part → IsUnfinished (rest ++ take fewer part)
+  pub alone : (command : List Dss) (remains : List ℕ) → BeginsWith (rest ++ part) command remains → remains ≡ []
+
+pub of_one : (rest piece : List ℕ) (count : ℕ) → count ≤ length piece → KeepsToFirst rest piece count → IsOfOne rest (take count piece)
+of_one rest piece count within keeps =
+    let all : length (take count piece) ≡ count = length-take-le count piece within in
+    record {
+      less = λ fewer few.
+          let below : fewer < count = omega (arith, few, all) in
+          subst (λ (z : List ℕ). IsUnfinished (rest ++ z)) (sym (take-take fewer count piece (omega (arith, below)))) (keeps.less fewer below);
+      alone = λ command remains begins. keeps.alone count command remains (omega arith) begins;
+    }
 
 -- a command that found no memory leaves the conversation open
 excused_open : (session : Session) (command : List Dss) → session.is_closed ≡ false → (excused session command).session.is_closed ≡ false
@@ -88,10 +103,10 @@ module _ (nothing : IsUnfinished []) (place : ℕ) where
     closed_there = shut;
   })
 
-  pub steps : (old : Held) (core : AskedCore) (part out : List ℕ) (wanted : ℕ) (need : Need) (new : Held) (core' : AskedCore) (out' : List ℕ) → IsBetweenCommands old
-      → (old.session.is_closed ≡ true → part ≡ []) → KeepsToOne old.rest wanted → length part ≤ wanted
+  pub steps : (old : Held) (core : AskedCore) (part out : List ℕ) (need : Need) (new : Held) (core' : AskedCore) (out' : List ℕ) → IsBetweenCommands old
+      → (old.session.is_closed ≡ true → part ≡ []) → (IsUnfinished old.rest → IsOfOne old.rest part)
       → Steps (asks place) (record old { rest = old.rest ++ part }) core out need new core' out' → Stepped place old core part out need new core' out'
-  steps old core part out wanted Bytes new core' out' settled none keeps few s =
+  steps old core part out Bytes new core' out' settled none keeps s =
       let rest : new.rest ≡ old.rest ++ part = ap (λ (h : Held). h.rest) s.same in
       let session : new.session ≡ old.session = ap (λ (h : Held). h.session) s.same in
       record {
@@ -119,8 +134,8 @@ module _ (nothing : IsUnfinished []) (place : ℕ) where
         state = ap (λ (t : Session). t.is_closed) session ∙ s.open_still;
         ended = λ e is_open. absurd (cc e);
       }
-  steps old core part out wanted Local new core' out' settled none keeps few (s, still_open) =
-      let alone : new.rest ≡ [] = keeps part s.command new.rest (settled s.open_still) few s.taken in
+  steps old core part out Local new core' out' settled none keeps (s, still_open) =
+      let alone : new.rest ≡ [] = (keeps (settled s.open_still)).alone s.command new.rest s.taken in
       record {
         told = record {
           replies = s.bytes;
@@ -136,8 +151,8 @@ module _ (nothing : IsUnfinished []) (place : ℕ) where
         state = still_open;
         ended = λ e is_open. absurd (cc e);
       }
-  steps old core part out wanted (Short bytes) new core' out' settled none keeps few s =
-      let alone : new.rest ≡ [] = keeps part s.command new.rest (settled s.open_still) few s.taken in
+  steps old core part out (Short bytes) new core' out' settled none keeps s =
+      let alone : new.rest ≡ [] = (keeps (settled s.open_still)).alone s.command new.rest s.taken in
       let still_open : new.session.is_closed ≡ false =
       ap (λ (t : Standing AskedCore). t.session.is_closed) s.excused.same ∙ excused_open old.session s.command s.open_still in
       record {
@@ -154,8 +169,8 @@ module _ (nothing : IsUnfinished []) (place : ℕ) where
         state = (some_came old.rest part s.command new.rest (settled s.open_still) s.taken, still_open);
         ended = λ e is_open. absurd (cc e);
       }
-  steps old core part out wanted Closed new core' out' settled none keeps few (inl (s, shut)) =
-      let alone : new.rest ≡ [] = keeps part s.command new.rest (settled s.open_still) few s.taken in
+  steps old core part out Closed new core' out' settled none keeps (inl (s, shut)) =
+      let alone : new.rest ≡ [] = (keeps (settled s.open_still)).alone s.command new.rest s.taken in
       record {
         told = record {
           replies = s.bytes;
@@ -171,7 +186,7 @@ module _ (nothing : IsUnfinished []) (place : ℕ) where
         state = shut;
         ended = λ e is_open. inr (some_came old.rest part s.command new.rest (settled s.open_still) s.taken, (s.command ∷ [], (new.rest, s.taken, (alone, nothing))));
       }
-  steps old core part out wanted Closed new core' out' settled none keeps few (inr (inl s)) =
+  steps old core part out Closed new core' out' settled none keeps (inr (inl s)) =
       let shut : new.session.is_closed ≡ true = ap (λ (t : Session). t.is_closed) s.session in
       record {
         told = record {
@@ -198,7 +213,7 @@ module _ (nothing : IsUnfinished []) (place : ℕ) where
         state = shut;
         ended = λ e is_open. inl (s.fault, s.there);
       }
-  steps old core part out wanted Closed new core' out' settled none keeps few (inr (inr s)) =
+  steps old core part out Closed new core' out' settled none keeps (inr (inr s)) =
       let rest : new.rest ≡ old.rest = ap (λ (h : Held). h.rest) s.same ∙ ap (λ (z : List ℕ). old.rest ++ z) (none s.closed_before) ∙ append-nil old.rest in
       let session : new.session ≡ old.session = ap (λ (h : Held). h.session) s.same in
       let shut : new.session.is_closed ≡ true = ap (λ (t : Session). t.is_closed) session ∙ s.closed_before in
@@ -218,14 +233,12 @@ module _ (nothing : IsUnfinished []) (place : ℕ) where
         ended = λ e is_open. let both : true ≡ false = sym s.closed_before ∙ is_open in absurd (cc both);
       }
 
-  -- the same of a piece of which so many bytes were taken
-  pub handed : (old fed : Held) (core : AskedCore) (part out : List ℕ) (count : ℕ) (need : Need) (new : Held) (core' : AskedCore) (out' : List ℕ) → IsBetweenCommands old → KeepsToOne old.rest (length part)
-      → fed ≡ record old { rest = old.rest ++ take count part } → count ≤ length part → (old.session.is_closed ≡ true → count ≡ 0)
-      → Steps (asks place) fed core out need new core' out' → Stepped place old core (take count part) out need new core' out'
-  handed old fed core part out count need new core' out' settled keeps is within none s =
-      let few : length (take count part) ≡ count = length-take-le count part within in
-      steps old core (take count part) out (length part) need new core' out' settled (λ shut. ap (λ (n : ℕ). take n part) (none shut)) keeps (omega (arith, few, within))
-      (subst (λ (h : Held). Steps (asks place) h core out need new core' out') is s)
+  -- the same of what was fed
+  pub handed : (old fed : Held) (core : AskedCore) (part out : List ℕ) (need : Need) (new : Held) (core' : AskedCore) (out' : List ℕ) → IsBetweenCommands old
+      → (IsUnfinished old.rest → IsOfOne old.rest part) → fed ≡ record old { rest = old.rest ++ part } → (old.session.is_closed ≡ true → part ≡ [])
+      → Steps (asks place) fed core out need new core' out' → Stepped place old core part out need new core' out'
+  handed old fed core part out need new core' out' settled keeps is none s =
+      steps old core part out need new core' out' settled none keeps (subst (λ (h : Held). Steps (asks place) h core out need new core' out') is s)
 
 module _ (settings : Settings) (place : ℕ) (fault_more : (bytes more : List ℕ) (fault : FrameFault) → FaultAt bytes fault → FaultAt (bytes ++ more) fault) where
   pub told_then : (a b c : Attended) (p q out extra out' out'' : List ℕ) → Told settings place a p out [] b out' → Told settings place b q out' extra c out'' → Told settings place a (p ++ q) out extra c out''
@@ -273,92 +286,102 @@ told_start place held core out settled = told_nothing place held core out (close
 pub more_taken : (piece : List ℕ) (taken size count : ℕ) → count ≤ size → take taken piece ++ take count (take size (drop taken piece)) ≡ take (taken + count) piece
 more_taken piece taken size count few = ap (λ (z : List ℕ). take taken piece ++ z) (take-take count size (drop taken piece) few) ∙ sym (take-add taken count piece)
 
--- what was taken is no byte where none was there
-taken_some : (count : ℕ) (part : List ℕ) → 0 < length (take count part) → 0 < count
-taken_some zero part some = some
-taken_some (suc count) part some = omega arith
-
 -- the last byte that was taken is the last one of the faulty header
-pub ends_at_fault : (before : Attended) (part : List ℕ) (count : ℕ) (fault : FrameFault) → count ≤ length part → IsUnfinished before.rest → KeepsToWanted before.rest (length part)
-    → FaultAt (before.rest ++ take count part) fault → EndsAtFault before part count
-ends_at_fault before part zero fault within unfinished_rest keeps there =
-    absurd (unfinished_rest.no_fault fault (subst (λ (z : List ℕ). FaultAt z fault) (append-nil before.rest) there))
-ends_at_fault before part (suc count) fault within unfinished_rest keeps there =
-    let (wanted, is_wanted, few) = keeps unfinished_rest in
-    let one_less : length (take (suc count - 1) part) ≡ min (suc count - 1) (length part) = length-take (suc count - 1) part in
-    record {
-      some = omega arith;
-      commands = [];
-      rest = before.rest ++ take (suc count - 1) part;
-      one_less = (refl, is_wanted.less (take (suc count - 1) part) (omega (arith, one_less, few, within)));
-    }
+ends_at_fault : (before : Attended) (part : List ℕ) (count : ℕ) (fault : FrameFault) → count ≡ length part → IsUnfinished before.rest → IsOfOne before.rest part
+    → FaultAt (before.rest ++ part) fault → EndsAtFault before part count
+ends_at_fault before part zero fault whole unfinished_rest keeps there =
+    let nothing : before.rest ++ part ≡ before.rest = ap (λ (z : List ℕ). before.rest ++ z) (nil_from_length part (sym whole)) ∙ append-nil before.rest in
+    absurd (unfinished_rest.no_fault fault (subst (λ (z : List ℕ). FaultAt z fault) nothing there))
+ends_at_fault before part (suc count) fault whole unfinished_rest keeps there = record {
+  some = omega arith;
+  commands = [];
+  rest = before.rest ++ take (suc count - 1) part;
+  one_less = (refl, keeps.less (suc count - 1) (omega (arith, whole)));
+}
 
 -- or of the command
-ends_now : (before : Attended) (part : List ℕ) (count : ℕ) → count ≤ length part → IsUnfinished before.rest → KeepsToWanted before.rest (length part)
-    → ((fault : FrameFault) × FaultAt (before.rest ++ take count part) fault) ⊎ ((0 < length (take count part)) × ((commands : List (List Dss)) × ReadsAs (before.rest ++ take count part) commands (unfinished [])))
+ends_now : (before : Attended) (part : List ℕ) (count : ℕ) → count ≡ length part → IsUnfinished before.rest → IsOfOne before.rest part
+    → ((fault : FrameFault) × FaultAt (before.rest ++ part) fault) ⊎ ((0 < length part) × ((commands : List (List Dss)) × ReadsAs (before.rest ++ part) commands (unfinished [])))
     → EndsAtFault before part count ⊎ EndsWithCommand before part count
-ends_now before part count within unfinished_rest keeps (inl (fault, there)) = inl (ends_at_fault before part count fault within unfinished_rest keeps there)
-ends_now before part count within unfinished_rest keeps (inr (some, (commands, whole))) =
-    inr (record { some = taken_some count part some; commands = commands; whole = whole })
+ends_now before part count whole unfinished_rest keeps (inl (fault, there)) = inl (ends_at_fault before part count fault whole unfinished_rest keeps there)
+ends_now before part count whole unfinished_rest keeps (inr (some, (commands, reads))) =
+    inr (record {
+      some = omega (arith, some, whole);
+      commands = commands;
+      whole = subst (λ (z : List ℕ). ReadsAs (before.rest ++ z) commands (unfinished [])) (sym (take_all count part (omega (arith, whole)))) reads;
+    })
 
--- the state, by whether all of the bytes were taken
-pub moved : (place : ℕ) (need : Need) (all : Bool) (old : Held) (core : AskedCore) (part out : List ℕ) (count : ℕ) (new : Held) (core' : AskedCore) (out' : List ℕ) → count ≤ length part → (all ≡ true → count ≡ length part)
-    → (all ≡ false → count < length part) → (old.session.is_closed ≡ true → count ≡ 0) → IsBetweenCommands old → KeepsToWanted old.rest (length part) → Stepped place old core (take count part) out need new core' out'
-    → Takes old.settings place (with_core old core) part out (record { taken = count; state = state_for need all }) (with_core new core') out'
-moved place Bytes true old core part out count new core' out' within whole few none settled keeps s = record {
-  within = within;
-  told = s.told;
+-- the state, by whether bytes were taken or there were none
+pub moved : (place : ℕ) (need : Need) (has_fed : Bool) (old : Held) (core : AskedCore) (part out : List ℕ) (count : ℕ) (new : Held) (core' : AskedCore) (out' : List ℕ) → count ≡ length part
+    → (has_fed ≡ false → count ≡ 0) → (old.session.is_closed ≡ true → count ≡ 0) → IsBetweenCommands old → (IsUnfinished old.rest → IsOfOne old.rest part)
+    → Told old.settings place (with_core old core) (take count part) out (reply_behind need) (with_core new core') out' → Stepped place old core part out need new core' out'
+    → Takes old.settings place (with_core old core) part out (record { taken = count; state = state_for need has_fed }) (with_core new core') out'
+moved place Bytes true old core part out count new core' out' whole few none settled keeps told s = record {
+  within = omega (arith, whole);
+  told = told;
   state = s.state;
-  all = λ e. whole refl;
+  all = λ e. whole;
   later = λ e. absurd (cc e);
   closed = λ e. absurd (cc e);
   none = none;
 }
-moved place Bytes false old core part out count new core' out' within whole few none settled keeps s = record {
-  within = within;
-  told = s.told;
+moved place Bytes false old core part out count new core' out' whole few none settled keeps told s = record {
+  within = omega (arith, whole);
+  told = told;
   state = s.state;
   all = λ e. absurd (cc e);
-  later = λ e. inl (few refl);
+  later = λ e. inr (nil_from_length part (sym whole ∙ few refl));
   closed = λ e. absurd (cc e);
   none = none;
 }
-moved place Local true old core part out count new core' out' within whole few none settled keeps s = record {
-  within = within;
-  told = s.told;
+moved place Local true old core part out count new core' out' whole few none settled keeps told s = record {
+  within = omega (arith, whole);
+  told = told;
   state = s.state;
-  all = λ e. whole refl;
+  all = λ e. whole;
   later = λ e. absurd (cc e);
   closed = λ e. absurd (cc e);
   none = none;
 }
-moved place Local false old core part out count new core' out' within whole few none settled keeps s = record {
-  within = within;
-  told = s.told;
+moved place Local false old core part out count new core' out' whole few none settled keeps told s = record {
+  within = omega (arith, whole);
+  told = told;
   state = s.state;
   all = λ e. absurd (cc e);
-  later = λ e. inl (few refl);
+  later = λ e. inr (nil_from_length part (sym whole ∙ few refl));
   closed = λ e. absurd (cc e);
   none = none;
 }
-moved place (Short bytes) all old core part out count new core' out' within whole few none settled keeps s = record {
-  within = within;
-  told = s.told;
-  state = (taken_some count part s.state.0, s.state.1);
-  all = λ e. absurd (cc e);
-  later = λ e. absurd (cc e);
-  closed = λ e. absurd (cc e);
-  none = none;
-}
-moved place Closed all old core part out count new core' out' within whole few none settled keeps s = record {
-  within = within;
-  told = s.told;
+moved place (Short bytes) has_fed old core part out count new core' out' whole few none settled keeps told s =
+    let some = s.state.0 in
+    record {
+      within = omega (arith, whole);
+      told = told;
+      state = (omega (arith, some, whole), s.state.1);
+      all = λ e. absurd (cc e);
+      later = λ e. absurd (cc e);
+      closed = λ e. absurd (cc e);
+      none = none;
+    }
+moved place Closed has_fed old core part out count new core' out' whole few none settled keeps told s = record {
+  within = omega (arith, whole);
+  told = told;
   state = s.state;
   all = λ e. absurd (cc e);
   later = λ e. absurd (cc e);
-  closed = λ e is_open. ends_now (with_core old core) part count within (settled is_open) keeps (s.ended refl is_open);
+  closed = λ e is_open. ends_now (with_core old core) part count whole (settled is_open) (keeps (settled is_open)) (s.ended refl is_open);
   none = none;
 }
+
+-- the same of bytes in front of a piece
+pub moved_on : (place : ℕ) (need : Need) (has_fed : Bool) (old : Held) (core : AskedCore) (piece out : List ℕ) (count : ℕ) (new : Held) (core' : AskedCore) (out' : List ℕ) → count ≤ length piece
+    → (has_fed ≡ false → count ≡ 0) → (old.session.is_closed ≡ true → count ≡ 0) → IsBetweenCommands old → (IsUnfinished old.rest → IsOfOne old.rest (take count piece))
+    → Stepped place old core (take count piece) out need new core' out'
+    → Takes old.settings place (with_core old core) (take count piece) out (record { taken = count; state = state_for need has_fed }) (with_core new core') out'
+moved_on place need has_fed old core piece out count new core' out' within few none settled keeps s =
+    let whole : length (take count piece) ≡ count = length-take-le count piece within in
+    moved place need has_fed old core (take count piece) out count new core' out' (sym whole) few none settled keeps
+    (subst (λ (z : List ℕ). Told old.settings place (with_core old core) z out (reply_behind need) (with_core new core') out') (sym (take-take count count piece (omega arith))) s.told) s
 
 -- a longer piece leaves a conversation alike
 pub left_more : (state : FedState) (before taken : ℕ) (after : Attended) → LeftAs state taken after → LeftAs state (before + taken) after

@@ -2,7 +2,6 @@
 use Rattle.std.specs.Prelude.{◌≡◌, ◌⊎◌, ◌≤◌, ◌<◌, ◌-◌, ℕ, Bool, true, false, List, [], ◌++◌, length, take, Some, slice_get, if◌then◌else◌}
 use Rattle.dss_frames.specs.Dss.{Dss}
 use Rattle.dss_frames.specs.Fault.{IsUnfinished}
-use Rattle.dss_frames.specs.Lending.{IsWanted}
 use Rattle.dss_frames.specs.Reading.{unfinished, ReadsAs}
 use Rattle.conversation.specs.declared.front.Need.{Need}
 use Rattle.conversation.specs.declared.front.Need.TheVariants.{Bytes, Local, Short as short, Closed as closed}
@@ -83,13 +82,9 @@ shown_held held = record { rest = held.rest; session = held.session; statements 
 abbrev pub with_core : Held → AskedCore → Attended
 with_core held core = record { rest = held.rest; standing = standing held core }
 
--- no more bytes than unfinished ones want
-abbrev pub KeepsToWanted : List ℕ → ℕ → Type 0
-KeepsToWanted bytes count = IsUnfinished bytes → (wanted : ℕ) × IsWanted bytes wanted × (count ≤ wanted)
-
--- how it stands after one step of the conversation, by whether all the bytes were taken
+-- how it stands after one step of the conversation, by whether bytes were taken or there were none
 abbrev pub state_for : Need → Bool → FedState
-state_for Bytes all = if all then Open else Later
-state_for Local all = if all then Open else Later
-state_for (short bytes) all = Short bytes
-state_for closed all = Closed
+state_for Bytes has_fed = if has_fed then Open else Later
+state_for Local has_fed = if has_fed then Open else Later
+state_for (short bytes) has_fed = Short bytes
+state_for closed has_fed = Closed

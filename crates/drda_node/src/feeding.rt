@@ -1,9 +1,9 @@
 //! One conversation and the bytes that come to it.
 
-ghost use Rattle.std.specs.Prelude.{◌≡◌, ◌≤◌, ◌+◌, length, vec_len, vec_capacity};
-ghost use Rattle.conversation.specs.Steps.{KeepsToOne};
+ghost use Rattle.std.specs.Prelude.{◌≡◌, ◌≤◌, ◌+◌, length, take, vec_len, vec_capacity};
 ghost use Rattle.drda_node.specs.Asking.{IsJournaled, IsSameAsker, core_of};
-ghost use Rattle.drda_node.specs.Feeding.{IsBetweenCommands, KeepsToWanted, Takes, state_for, with_core};
+ghost use Rattle.drda_node.specs.declared.fed.FedState.TheVariants as state;
+ghost use Rattle.drda_node.specs.Feeding.{IsBetweenCommands, Takes, state_for, with_core};
 
 use crate::asker::Asker;
 use crate::fed::{Fed, FedState};
@@ -12,8 +12,8 @@ use drda_disk::Disk;
 use dss_frames::stays_read;
 use durable_images::laws::calls_go_on;
 
-/// Gives a conversation bytes and does each command that is whole. It hands on no more bytes than the
-/// command under way still wants, so that what is taken was answered or belongs to one command.
+/// Gives a conversation bytes and does each command that is whole. It hands on no bytes behind the
+/// command under way, so that what is taken was answered or belongs to one command.
 pub(crate) fn converse<D: Disk>(
     front: &mut Front,
     asker: &mut Asker<'_, D>,
@@ -44,8 +44,7 @@ pub(crate) fn converse<D: Disk>(
                 state: FedState::Later,
             };
         };
-        let size = front.wanted().min(piece.len() - taken);
-        let fed = hand_on(front, asker, &piece[taken..taken + size], out);
+        let fed = hand_on(front, asker, &piece[taken..], out);
         taken += fed.taken;
         match fed.state {
             FedState::Open => {
@@ -61,39 +60,42 @@ pub(crate) fn converse<D: Disk>(
     }
 }
 
-// One step, with bytes that belong to one command.
+// One step, with the bytes in front that belong to one command: some of them, where there are any, or none
+// where memory is refused.
 fn hand_on<D: Disk>(
     front: &mut Front,
     asker: &mut Asker<'_, D>,
-    part: &[u8],
+    piece: &[u8],
     out: &mut Vec<u8>,
 ) -> Fed
     requires settled { IsBetweenCommands front.old }
     requires room { vec_len out.old + 21 ≤ vec_capacity out.old }
-    requires one_command { KeepsToOne front.old.rest (length part.now) }
-    requires wanted { KeepsToWanted front.old.rest (length part.now) }
     ensures settled { IsBetweenCommands front.new }
     ensures settings { front.new.settings ≡ front.old.settings }
     ensures same_asker { IsSameAsker asker.old asker.new }
-    ensures takes { Takes front.old.settings asker.old.conversation (with_core front.old (core_of asker.old)) part.now out.old.items result (with_core front.new (core_of asker.new)) out.new.items }
+    ensures within { result.taken ≤ length piece.now }
+    ensures takes { Takes front.old.settings asker.old.conversation (with_core front.old (core_of asker.old)) (take result.taken piece.now) out.old.items result (with_core front.new (core_of asker.new)) out.new.items }
+    ensures moves { result.state ≡ state.Open → 1 ≤ length piece.now → 1 ≤ result.taken }
+    ensures stuck { result.state ≡ state.Later → result.taken ≡ 0 }
     ensures journaled { IsJournaled D.is_modelled D.life asker.old.core.now asker.new.core.now }
 {
     stays_read();
     calls_go_on::<D>();
     asker.core.is_durable();
-    let taken = front.feed(part);
+    let taken = front.feed_command(piece);
     let need = front.next(asker, out);
     Fed {
         taken,
-        state: state_of(need, taken == part.len()),
+        state: state_of(need, taken > 0 || piece.is_empty()),
     }
 }
 
-fn state_of(need: Need, all: bool) -> FedState
-    ensures { result ≡ state_for need all }
+// How it stands behind one step, by whether bytes were taken or there were none.
+fn state_of(need: Need, has_fed: bool) -> FedState
+    ensures { result ≡ state_for need has_fed }
 {
     match need {
-        Need::Bytes | Need::Local => { if all { FedState::Open } else { FedState::Later } }
+        Need::Bytes | Need::Local => { if has_fed { FedState::Open } else { FedState::Later } }
         Need::Short(bytes) => FedState::Short(bytes),
         Need::Closed => FedState::Closed,
     }

@@ -50,10 +50,20 @@ pub fn answer_in_pieces(
         let (piece, others) = left.split_at(next.min(left.len()));
         left = others;
         next = size;
-        let _ = front.feed(piece);
-        push_answers(&mut front, &mut out)?;
+        push_answers_to(&mut front, piece, &mut out)?;
     }
     Some(out)
+}
+
+/// Feeds a piece, command by command, and writes down what is answered.
+fn push_answers_to(front: &mut Front, piece: &[u8], out: &mut Vec<u8>) -> Option<()> {
+    let mut left = piece;
+    for _ in 0..=piece.len() {
+        let count = front.feed_command(left);
+        push_answers(front, out)?;
+        left = &left[count..];
+    }
+    Some(())
 }
 
 const WHOLE: usize = 1_000_000;

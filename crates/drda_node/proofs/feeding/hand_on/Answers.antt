@@ -4,7 +4,7 @@ use Rattle.drda_node.specs.Asking.{core_of}
 use Rattle.drda_node.specs.Feeding.{Takes, with_core}
 use Rattle.drda_node.proofs.Askers.{over}
 use Rattle.drda_node.proofs.Journal.{at_most_one}
-use Rattle.drda_node.proofs.Stepping.{handed, moved}
+use Rattle.drda_node.proofs.Stepping.{handed, moved_on, of_one}
 use Rattle.drda_node.proofs.feeding.hand_on.Goals as goal
 
 fewer : (a b : ℕ) → a ≤ b → (a == b) ≡ false → a < b
@@ -12,21 +12,27 @@ fewer a b le apart = grind (arith, le, apart)
 
 pub returns-clause-settled : goal.returns-clause-settled
 returns-clause-settled g c =
-    let (asked, (same, once)) = over g.D.Disk.is_modelled g.D.Disk.life c.next-need.result c.feed-taken.new.self c.next-need.new.self c.args.asker.now c.next-need.new.asker c.args.out.now.items c.next-need.new.out.items c.next-need.ensures in
-    let step = handed c.stays_read.ensures.nothing c.args.asker.now.conversation c.args.front.now c.feed-taken.new.self (core_of c.args.asker.now) c.args.part.now c.args.out.now.items c.feed-taken.result c.next-need.result c.next-need.new.self
-    (core_of c.next-need.new.asker) c.next-need.new.out.items c.requires.settled c.requires.one_command c.feed-taken.ensures.taken c.feed-taken.ensures.within c.feed-taken.ensures.closed asked in
+    let (asked, (same, once)) = over g.D.Disk.is_modelled g.D.Disk.life c.next-need.result c.feed_command-taken.new.self c.next-need.new.self c.args.asker.now c.next-need.new.asker c.args.out.now.items c.next-need.new.out.items c.next-need.ensures in
+    let count = c.feed_command-taken.result in
+    let part = take count c.args.piece.now in
+    let step = handed c.stays_read.ensures.nothing c.args.asker.now.conversation c.args.front.now c.feed_command-taken.new.self (core_of c.args.asker.now) part c.args.out.now.items c.next-need.result c.next-need.new.self
+    (core_of c.next-need.new.asker) c.next-need.new.out.items c.requires.settled (λ un. of_one c.args.front.now.rest c.args.piece.now count c.feed_command-taken.ensures.within (c.feed_command-taken.ensures.first un))
+    c.feed_command-taken.ensures.taken (λ shut. ap (λ (n : ℕ). take n c.args.piece.now) (c.feed_command-taken.ensures.closed shut)) asked in
     step.settled
 
 pub returns-clause-settings : goal.returns-clause-settings
 returns-clause-settings g c =
-    let (asked, (same, once)) = over g.D.Disk.is_modelled g.D.Disk.life c.next-need.result c.feed-taken.new.self c.next-need.new.self c.args.asker.now c.next-need.new.asker c.args.out.now.items c.next-need.new.out.items c.next-need.ensures in
-    let step = handed c.stays_read.ensures.nothing c.args.asker.now.conversation c.args.front.now c.feed-taken.new.self (core_of c.args.asker.now) c.args.part.now c.args.out.now.items c.feed-taken.result c.next-need.result c.next-need.new.self
-    (core_of c.next-need.new.asker) c.next-need.new.out.items c.requires.settled c.requires.one_command c.feed-taken.ensures.taken c.feed-taken.ensures.within c.feed-taken.ensures.closed asked in
+    let (asked, (same, once)) = over g.D.Disk.is_modelled g.D.Disk.life c.next-need.result c.feed_command-taken.new.self c.next-need.new.self c.args.asker.now c.next-need.new.asker c.args.out.now.items c.next-need.new.out.items c.next-need.ensures in
+    let count = c.feed_command-taken.result in
+    let part = take count c.args.piece.now in
+    let step = handed c.stays_read.ensures.nothing c.args.asker.now.conversation c.args.front.now c.feed_command-taken.new.self (core_of c.args.asker.now) part c.args.out.now.items c.next-need.result c.next-need.new.self
+    (core_of c.next-need.new.asker) c.next-need.new.out.items c.requires.settled (λ un. of_one c.args.front.now.rest c.args.piece.now count c.feed_command-taken.ensures.within (c.feed_command-taken.ensures.first un))
+    c.feed_command-taken.ensures.taken (λ shut. ap (λ (n : ℕ). take n c.args.piece.now) (c.feed_command-taken.ensures.closed shut)) asked in
     step.settings
 
 pub returns-clause-same_asker : goal.returns-clause-same_asker
 returns-clause-same_asker g c =
-    let (asked, (same, once)) = over g.D.Disk.is_modelled g.D.Disk.life c.next-need.result c.feed-taken.new.self c.next-need.new.self c.args.asker.now c.next-need.new.asker c.args.out.now.items c.next-need.new.out.items c.next-need.ensures in
+    let (asked, (same, once)) = over g.D.Disk.is_modelled g.D.Disk.life c.next-need.result c.feed_command-taken.new.self c.next-need.new.self c.args.asker.now c.next-need.new.asker c.args.out.now.items c.next-need.new.out.items c.next-need.ensures in
     same
 
 pub returns-clause-takes : goal.returns-clause-takes
@@ -36,18 +42,18 @@ returns-clause-takes g c =
     let core = core_of c.args.asker.now in
     let core' = core_of c.next-need.new.asker in
     let place = c.args.asker.now.conversation in
-    let part = c.args.part.now in
+    let piece = c.args.piece.now in
     let out = c.args.out.now.items in
     let out' = c.next-need.new.out.items in
-    let count = c.feed-taken.result in
-    let (asked, (same, once)) = over g.D.Disk.is_modelled g.D.Disk.life c.next-need.result c.feed-taken.new.self new c.args.asker.now c.next-need.new.asker out out' c.next-need.ensures in
-    let step = handed c.stays_read.ensures.nothing place old c.feed-taken.new.self core part out count c.next-need.result new core' out'
-    c.requires.settled c.requires.one_command c.feed-taken.ensures.taken c.feed-taken.ensures.within c.feed-taken.ensures.closed asked in
-    subst (λ (s : FedState). Takes old.settings place (with_core old core) part out (record { taken = count; state = s }) (with_core new core') out') (sym c.state_of.ensures)
-    (moved place c.next-need.result (count == length part) old core part out count new core' out' c.feed-taken.ensures.within (λ e. search rules) (fewer count (length part) c.feed-taken.ensures.within) c.feed-taken.ensures.closed c.requires.settled
-    c.requires.wanted step)
+    let count = c.feed_command-taken.result in
+    let keeps = λ un. of_one old.rest piece count c.feed_command-taken.ensures.within (c.feed_command-taken.ensures.first un) in
+    let (asked, (same, once)) = over g.D.Disk.is_modelled g.D.Disk.life c.next-need.result c.feed_command-taken.new.self new c.args.asker.now c.next-need.new.asker out out' c.next-need.ensures in
+    let step = handed c.stays_read.ensures.nothing place old c.feed_command-taken.new.self core (take count piece) out c.next-need.result new core' out' c.requires.settled keeps c.feed_command-taken.ensures.taken
+    (λ shut. ap (λ (n : ℕ). take n piece) (c.feed_command-taken.ensures.closed shut)) asked in
+    subst (λ (s : FedState). Takes old.settings place (with_core old core) (take count piece) out (record { taken = count; state = s }) (with_core new core') out') (sym c.state_of.ensures)
+    (moved_on place c.next-need.result ? old core piece out count new core' out' c.feed_command-taken.ensures.within ? c.feed_command-taken.ensures.closed c.requires.settled keeps step)
 
 pub returns-clause-journaled : goal.returns-clause-journaled
 returns-clause-journaled g c =
-    let (asked, (same, once)) = over g.D.Disk.is_modelled g.D.Disk.life c.next-need.result c.feed-taken.new.self c.next-need.new.self c.args.asker.now c.next-need.new.asker c.args.out.now.items c.next-need.new.out.items c.next-need.ensures in
+    let (asked, (same, once)) = over g.D.Disk.is_modelled g.D.Disk.life c.next-need.result c.feed_command-taken.new.self c.next-need.new.self c.args.asker.now c.next-need.new.asker c.args.out.now.items c.next-need.new.out.items c.next-need.ensures in
     at_most_one g.D.Disk.is_modelled g.D.Disk.life c.calls_go_on.ensures c.args.asker.now c.next-need.new.asker c.is_durable.ensures once
