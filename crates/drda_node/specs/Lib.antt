@@ -5,6 +5,7 @@ pub mod Records
 pub mod Happening
 pub mod Reading
 pub mod Feeding
+pub mod Gathering
 pub mod Register
 pub mod Serving
 pub mod Sharing

@@ -1,5 +1,6 @@
 -- What reading an event from a stream gives.
-use Rattle.std.specs.Prelude.{◌≡◌, ◌<◌, ◌≤◌, ℕ, List, [], take, length, Option, Some, None, IfSome}
+use Rattle.std.specs.Prelude.{◌≡◌, ◌<◌, ◌≤◌, ℕ, nat_le, Bool, false, List, [], ◌∷◌, take, length, Option, Some, None, IfSome}
+use Rattle.std.specs.Int.{w32, from_be_bytes}
 use Rattle.std.specs.Io.KnownBytes.{Consumes, IsAtEnd}
 use Rattle.drda_node.specs.declared.event.Head.{Head}
 use Rattle.drda_node.specs.declared.event.Head.TheVariants.{Opens, Sends, Loses, Checkpoints}
@@ -60,3 +61,8 @@ IsWithin (event head) = size_of head ≤ 65536
 IsWithin Ended = Unit {0}
 IsWithin Bad = Unit {0}
 IsWithin Fault = Unit {0}
+
+-- a whole record stands in front, of whatever kind
+abbrev pub holds_record : List ℕ → Bool
+holds_record (kind ∷ number ∷ a ∷ b ∷ c ∷ d ∷ contents) = nat_le (from_be_bytes w32 (a ∷ b ∷ c ∷ d ∷ [])) (length contents)
+holds_record bytes = false

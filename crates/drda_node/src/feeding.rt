@@ -95,7 +95,13 @@ fn state_of(need: Need, has_fed: bool) -> FedState
     ensures { result ≡ state_for need has_fed }
 {
     match need {
-        Need::Bytes | Need::Local => { if has_fed { FedState::Open } else { FedState::Later } }
+        Need::Bytes | Need::Local => {
+            if has_fed {
+                FedState::Open
+            } else {
+                FedState::Later
+            }
+        }
         Need::Short(bytes) => FedState::Short(bytes),
         Need::Closed => FedState::Closed,
     }

@@ -7,9 +7,10 @@ ghost use Rattle.drda_node.specs.Serving.{Runs};
 
 use crate::answering::answer;
 use crate::event::MAX_DATA_BYTES;
+use crate::gathering::{finish, pass_on};
 use crate::node::Node;
 use crate::reading::{Incoming, read_event};
-use crate::writing::write_whole;
+use crate::ready::{Ready, holds_record};
 use drda_disk::Disk;
 use durable_images::laws::calls_go_on;
 use std::alloc::{AllocError, Global};
@@ -30,14 +31,16 @@ pub enum RunEnd {
     NoMemory,
 }
 
-/// Reads events, does each, and writes the records that answer it, and nothing else.
+/// Reads events, does each, and writes the records that answer it, and nothing else. The answers to
+/// records that came together are written together: where the next record is not ready, those before it
+/// are answered first, so that whoever waits for an answer has it.
 ///
 /// What is written is what the machine answers: on Ended to exactly the events of the input, and
 /// nothing stands behind them; on BadEvent to exactly the events in front of what is no event; on
 /// ReadFault and NoMemory to some events in front; on WriteFault a front of such answers. A crash at any
 /// moment leaves a disk that opens to the tables and the units in doubt after the first of the records
 /// that the events made due.
-pub fn run<D: Disk, R: Read, W: Write>(
+pub fn run<D: Disk, R: Read + Ready, W: Write>(
     alloc: Global,
     node: &mut Node<D>,
     reader: &mut R,
@@ -53,22 +56,24 @@ pub fn run<D: Disk, R: Read, W: Write>(
         return RunEnd::NoMemory;
     };
     let mut text = Vec::new(alloc);
+    let mut gathered = Vec::new(alloc);
     'events: for _ in 0..1u64 << 63 {
         match read_event(reader, &mut buffer) {
             Incoming::Event(head) => {
                 let Ok(()) = answer(node, head, &buffer, &mut text) else {
                     return RunEnd::NoMemory;
                 };
-                let Ok(()) = write_whole(writer, &text) else {
+                let waits = !holds_record(reader.ready());
+                let Ok(()) = pass_on(writer, &mut gathered, &text, waits) else {
                     return RunEnd::WriteFault;
                 };
             }
-            Incoming::Ended => return RunEnd::Ended,
-            Incoming::Bad => return RunEnd::BadEvent,
-            Incoming::Fault => return RunEnd::ReadFault,
+            Incoming::Ended => return finish(writer, &gathered, RunEnd::Ended),
+            Incoming::Bad => return finish(writer, &gathered, RunEnd::BadEvent),
+            Incoming::Fault => return finish(writer, &gathered, RunEnd::ReadFault),
         }
     }
-    RunEnd::ReadFault
+    finish(writer, &gathered, RunEnd::ReadFault)
 }
 
 ghost use Rattle.std.specs.Prelude.{◌≡◌, IfOk, vec_len, length};

@@ -1,5 +1,4 @@
 use Rattle.std.proofs.Common.{◌≡◌, ◌≤◌, ◌<◌, ◌+◌, ◌-◌, ℕ, List, length, take, drop, min, refl, sym, subst, ◌∙◌, arith}
-use Rattle.std.proofs.lemmas.List.{length-take}
 use Rattle.drda_node.specs.declared.fed.FedState.{FedState}
 use Rattle.drda_node.specs.declared.fed.FedState.TheVariants.{Later}
 use Rattle.drda_node.specs.Asking.{core_of}
@@ -35,18 +34,6 @@ returns-in_default-clause-takes g c =
     subst (λ (z : List ℕ). Takes settings place old c.args.piece.now c.args.out.now.items (record { taken = c.pieces.taken; state = Later }) between z) (sym c.reserve.ensures.items)
     (stops settings place old c.args.piece.now c.args.out.now.items c.pieces.taken between c.pieces.out.items c.pieces.invariant.under_way)
 
-pub hand_on-fed-requires-clause-one_command : goal.hand_on-fed-requires-clause-one_command
-hand_on-fed-requires-clause-one_command g c = λ more command rest unfinished few taken.
-    let size = c.pieces.taken + c.min-size.result - c.pieces.taken in
-    let of_take : length (take size (drop c.pieces.taken c.args.piece.now)) ≡ min size (length (drop c.pieces.taken c.args.piece.now)) = length-take size (drop c.pieces.taken c.args.piece.now) in
-    c.wanted.ensures.one_command more command rest unfinished (omega (arith, few, of_take, c.min-size.ensures)) taken
-
-pub hand_on-fed-requires-clause-wanted : goal.hand_on-fed-requires-clause-wanted
-hand_on-fed-requires-clause-wanted g c = λ unfinished.
-    let size = c.pieces.taken + c.min-size.result - c.pieces.taken in
-    let of_take : length (take size (drop c.pieces.taken c.args.piece.now)) ≡ min size (length (drop c.pieces.taken c.args.piece.now)) = length-take size (drop c.pieces.taken c.args.piece.now) in
-    (c.wanted.result, c.wanted.ensures.exact unfinished, omega (arith, of_take, c.min-size.ensures))
-
 pub returns-then-taken-piece-clause-takes : goal.returns-then-taken-piece-clause-takes
 returns-then-taken-piece-clause-takes g c =
     let old = with_core c.args.front.now (core_of c.args.asker.now) in
@@ -56,16 +43,14 @@ returns-then-taken-piece-clause-takes g c =
     let piece = c.args.piece.now in
     let fed = c.hand_on-fed.result in
     let settings = c.args.front.now.settings in
-    let size = c.pieces.taken + c.min-size.result - c.pieces.taken in
     let out = c.args.out.now.items in
     let out1 = c.reserve.new.self.items in
     let out2 = c.hand_on-fed.new.out.items in
-    let takes = subst (λ (v : Settings). Takes v place between (take size (drop c.pieces.taken piece)) out1 fed new out2) c.pieces.invariant.settings
-    (subst (λ (n : ℕ). Takes c.pieces.front.settings n between (take size (drop c.pieces.taken piece)) out1 fed new out2) c.pieces.invariant.same_asker.conversation c.hand_on-fed.ensures.takes) in
+    let takes = subst (λ (v : Settings). Takes v place between (take fed.taken (drop c.pieces.taken piece)) out1 fed new out2) c.pieces.invariant.settings
+    (subst (λ (n : ℕ). Takes c.pieces.front.settings n between (take fed.taken (drop c.pieces.taken piece)) out1 fed new out2) c.pieces.invariant.same_asker.conversation c.hand_on-fed.ensures.takes) in
     let under_way = subst (λ (z : List ℕ). IsUnderWay settings place old piece out c.pieces.taken between z) (sym c.reserve.ensures.items) c.pieces.invariant.under_way in
-    let size_is : size ≡ min c.wanted.result (length piece - c.pieces.taken) = omega (arith, c.min-size.ensures) in
     subst (λ (s : FedState). Takes settings place old piece out (record { taken = c.pieces.taken + fed.taken; state = s }) new out2) c.in-Open.is
-    (ends_so settings place c.stays_read.ensures.fault old between new piece out out1 out2 c.pieces.taken c.wanted.result size fed under_way size_is c.wanted.ensures.some takes (λ e. c.if-taken-piece.true))
+    (ends_so settings place c.stays_read.ensures.fault old between new piece out out1 out2 c.pieces.taken fed under_way takes c.hand_on-fed.ensures.stuck (λ e. c.if-taken-piece.true))
 
 pub pieces-preserved : goal.pieces-preserved
 pieces-preserved g c =
@@ -76,20 +61,19 @@ pieces-preserved g c =
     let piece = c.args.piece.now in
     let fed = c.hand_on-fed.result in
     let settings = c.args.front.now.settings in
-    let size = c.pieces.taken + c.min-size.result - c.pieces.taken in
     let out = c.args.out.now.items in
     let out1 = c.reserve.new.self.items in
     let out2 = c.hand_on-fed.new.out.items in
-    let takes = subst (λ (v : Settings). Takes v place between (take size (drop c.pieces.taken piece)) out1 fed new out2) c.pieces.invariant.settings
-    (subst (λ (n : ℕ). Takes c.pieces.front.settings n between (take size (drop c.pieces.taken piece)) out1 fed new out2) c.pieces.invariant.same_asker.conversation c.hand_on-fed.ensures.takes) in
+    let takes = subst (λ (v : Settings). Takes v place between (take fed.taken (drop c.pieces.taken piece)) out1 fed new out2) c.pieces.invariant.settings
+    (subst (λ (n : ℕ). Takes c.pieces.front.settings n between (take fed.taken (drop c.pieces.taken piece)) out1 fed new out2) c.pieces.invariant.same_asker.conversation c.hand_on-fed.ensures.takes) in
     let under_way = subst (λ (z : List ℕ). IsUnderWay settings place old piece out c.pieces.taken between z) (sym c.reserve.ensures.items) c.pieces.invariant.under_way in
     record {
       settled = c.hand_on-fed.ensures.settled;
       settings = c.hand_on-fed.ensures.settings ∙ c.pieces.invariant.settings;
       same_asker = same_then c.args.asker.now c.pieces.asker c.hand_on-fed.new.asker c.pieces.invariant.same_asker c.hand_on-fed.ensures.same_asker;
       journaled = more g.D.Disk.is_modelled g.D.Disk.life c.calls_go_on.ensures c.args.asker.now.core.now c.pieces.asker.core.now c.hand_on-fed.new.asker.core.now c.pieces.invariant.journaled c.hand_on-fed.ensures.journaled;
-      under_way = goes_on settings place c.stays_read.ensures.fault old between new piece out out1 out2 c.pieces.taken size fed under_way takes c.in-Open.is
-          (below (c.pieces.taken + fed.taken) (length piece) (within_piece piece c.pieces.taken size fed.taken c.pieces.invariant.under_way.within takes.within) c.if-taken-piece.false);
+      under_way = goes_on settings place c.stays_read.ensures.fault old between new piece out out1 out2 c.pieces.taken fed under_way takes c.in-Open.is
+          (below (c.pieces.taken + fed.taken) (length piece) (within_piece piece c.pieces.taken fed.taken fed.taken c.pieces.invariant.under_way.within takes.within) c.if-taken-piece.false);
     }
 
 pub returns-in_default-state : goal.returns-in_default-state
@@ -101,20 +85,18 @@ returns-in_default-state g c =
     let piece = c.args.piece.now in
     let fed = c.hand_on-fed.result in
     let settings = c.args.front.now.settings in
-    let size = c.pieces.taken + c.min-size.result - c.pieces.taken in
     let out = c.args.out.now.items in
     let out1 = c.reserve.new.self.items in
     let out2 = c.hand_on-fed.new.out.items in
-    let takes = subst (λ (v : Settings). Takes v place between (take size (drop c.pieces.taken piece)) out1 fed new out2) c.pieces.invariant.settings
-    (subst (λ (n : ℕ). Takes c.pieces.front.settings n between (take size (drop c.pieces.taken piece)) out1 fed new out2) c.pieces.invariant.same_asker.conversation c.hand_on-fed.ensures.takes) in
+    let takes = subst (λ (v : Settings). Takes v place between (take fed.taken (drop c.pieces.taken piece)) out1 fed new out2) c.pieces.invariant.settings
+    (subst (λ (n : ℕ). Takes c.pieces.front.settings n between (take fed.taken (drop c.pieces.taken piece)) out1 fed new out2) c.pieces.invariant.same_asker.conversation c.hand_on-fed.ensures.takes) in
     let under_way = subst (λ (z : List ℕ). IsUnderWay settings place old piece out c.pieces.taken between z) (sym c.reserve.ensures.items) c.pieces.invariant.under_way in
-    let size_is : size ≡ min c.wanted.result (length piece - c.pieces.taken) = omega (arith, c.min-size.ensures) in
     record {
       settled = c.hand_on-fed.ensures.settled;
       settings = c.hand_on-fed.ensures.settings ∙ c.pieces.invariant.settings;
       same_asker = same_then c.args.asker.now c.pieces.asker c.hand_on-fed.new.asker c.pieces.invariant.same_asker c.hand_on-fed.ensures.same_asker;
       journaled = more g.D.Disk.is_modelled g.D.Disk.life c.calls_go_on.ensures c.args.asker.now.core.now c.pieces.asker.core.now c.hand_on-fed.new.asker.core.now c.pieces.invariant.journaled c.hand_on-fed.ensures.journaled;
-      takes = ends_so settings place c.stays_read.ensures.fault old between new piece out out1 out2 c.pieces.taken c.wanted.result size fed under_way size_is c.wanted.ensures.some takes (λ e. absurd (c.in_default-state.not-Open e));
+      takes = ends_so settings place c.stays_read.ensures.fault old between new piece out out1 out2 c.pieces.taken fed under_way takes c.hand_on-fed.ensures.stuck (λ e. absurd (c.in_default-state.not-Open e));
     }
 
 pub returns-then-is_closed-clause-journaled : goal.returns-then-is_closed-clause-journaled

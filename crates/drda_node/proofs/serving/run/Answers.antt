@@ -1,11 +1,11 @@
 use Rattle.std.proofs.Common.{◌≡◌, ℕ, List, length, take, drop, ap, subst, ◌∙◌, arith}
-use Rattle.std.specs.Io.KnownBytes.{Appends}
 use Rattle.drda_node.specs.Register.{core_in, machine}
 use Rattle.drda_node.proofs.Journal.{more, none}
+use Rattle.drda_node.specs.Gathering.{PassesOn, WritesFront}
 use Rattle.drda_node.specs.Reading.{event_of}
 use Rattle.drda_node.specs.Happening.{Happens}
 use Rattle.drda_node.proofs.Written.{take_front}
-use Rattle.drda_node.proofs.Runs.{starts, one_more, is_bad, read_fault, no_memory, write_fault}
+use Rattle.drda_node.proofs.Runs.{starts, one_more, ends, is_bad, read_fault, no_memory, write_fault}
 use Rattle.drda_node.proofs.serving.run.Goals as goal
 
 pub returns-in_default-clause-runs : goal.returns-in_default-clause-runs
@@ -13,7 +13,7 @@ returns-in_default-clause-runs g c =
     let r = g.R.Read.remaining c.args.reader.now in
     let w = g.W.Write.contents c.args.writer.now in
     let m = machine c.args.node.now in
-    no_memory r r w w m m m (starts r w m)
+    no_memory r r w w m m m [] (starts r w m)
 
 pub answer-requires : goal.answer-requires
 answer-requires g c =
@@ -29,10 +29,10 @@ answer-requires g c =
 pub returns-in_default-answer-clause-runs : goal.returns-in_default-answer-clause-runs
 returns-in_default-answer-clause-runs g c =
     no_memory (g.R.Read.remaining c.args.reader.now) (g.R.Read.remaining c.events.reader) (g.W.Write.contents c.args.writer.now) (g.W.Write.contents c.events.writer) (machine c.args.node.now) (machine c.events.node) (machine c.answer.new.node)
-    c.events.invariant.so_far
+    c.events.gathered.items c.events.invariant.so_far
 
-pub returns-in_default-write_whole-clause-runs : goal.returns-in_default-write_whole-clause-runs
-returns-in_default-write_whole-clause-runs g c =
+pub returns-in_default-pass_on-clause-runs : goal.returns-in_default-pass_on-clause-runs
+returns-in_default-pass_on-clause-runs g c =
     let buffer = c.read_event.new.buffer in
     let behind = drop (length c.read_event.new.buffer) c.events.buffer.items in
     let lent : length c.deref_mut.result.now ≡ 65536 = ap length c.deref_mut.ensures.value ∙ c.events.invariant.room in
@@ -45,21 +45,31 @@ returns-in_default-write_whole-clause-runs g c =
     let r2 = g.R.Read.remaining c.read_event.new.reader in
     let w = g.W.Write.contents c.args.writer.now in
     let w1 = g.W.Write.contents c.events.writer in
-    let w2 = g.W.Write.contents c.write_whole.new.writer in
+    let w2 = g.W.Write.contents c.pass_on.new.writer in
     let first = machine c.args.node.now in
     let between = machine c.events.node in
     let last = machine c.answer.new.node in
     let text = c.answer.new.text.items in
     let event = event_of c.in-Event.head buffer in
     let happens = subst (λ (z : List ℕ). Happens between (event_of c.in-Event.head z) text last) same c.in-Ok-answer.ensures.happens in
-    let wrote = subst (λ (z : List ℕ). (count : ℕ) × Appends w1 w2 (take count z)) c.deref-in-Event.ensures.value c.in_default-write_whole.ensures.err in
-    write_fault r r1 r2 w w1 w2 first between last event text c.events.invariant.so_far c.in-Event.ensures.reads happens wrote
+    let gathered = c.events.gathered.items in
+    let wrote = subst (λ (z : List ℕ). WritesFront w1 w2 gathered z) c.deref-in-Event.ensures.value c.in_default-pass_on.ensures.err in
+    write_fault r r1 r2 w w1 w2 first between last event text gathered c.events.invariant.so_far c.in-Event.ensures.reads happens wrote
+
+pub returns-in-Ended-clause-runs : goal.returns-in-Ended-clause-runs
+returns-in-Ended-clause-runs g c =
+    ends (g.R.Read.remaining c.args.reader.now) (g.R.Read.remaining c.events.reader) (g.W.Write.contents c.args.writer.now) (g.W.Write.contents c.events.writer) (g.W.Write.contents c.finish.new.writer) (machine c.args.node.now) (machine c.events.node)
+    c.events.gathered.items c.finish.result c.events.invariant.so_far c.in-Ended.ensures.reads c.finish.ensures
 
 pub returns-in-Bad-clause-runs : goal.returns-in-Bad-clause-runs
-returns-in-Bad-clause-runs g c = is_bad (g.R.Read.remaining c.args.reader.now) (g.R.Read.remaining c.events.reader) (g.W.Write.contents c.args.writer.now) (g.W.Write.contents c.events.writer) (machine c.args.node.now) (machine c.events.node) c.events.invariant.so_far c.in-Bad.ensures.reads
+returns-in-Bad-clause-runs g c =
+    is_bad (g.R.Read.remaining c.args.reader.now) (g.R.Read.remaining c.events.reader) (g.W.Write.contents c.args.writer.now) (g.W.Write.contents c.events.writer) (g.W.Write.contents c.finish.new.writer) (machine c.args.node.now) (machine c.events.node)
+    c.events.gathered.items c.finish.result c.events.invariant.so_far c.in-Bad.ensures.reads c.finish.ensures
 
 pub returns-in-Fault-clause-runs : goal.returns-in-Fault-clause-runs
-returns-in-Fault-clause-runs g c = read_fault (g.R.Read.remaining c.args.reader.now) (g.R.Read.remaining c.events.reader) (g.W.Write.contents c.args.writer.now) (g.W.Write.contents c.events.writer) (machine c.args.node.now) (machine c.events.node) c.events.invariant.so_far
+returns-in-Fault-clause-runs g c =
+    read_fault (g.R.Read.remaining c.args.reader.now) (g.R.Read.remaining c.events.reader) (g.W.Write.contents c.args.writer.now) (g.W.Write.contents c.events.writer) (g.W.Write.contents c.finish.new.writer) (machine c.args.node.now) (machine c.events.node)
+    c.events.gathered.items c.finish.result c.events.invariant.so_far c.finish.ensures
 
 pub events-preserved : goal.events-preserved
 events-preserved g c =
@@ -75,22 +85,25 @@ events-preserved g c =
     let r2 = g.R.Read.remaining c.read_event.new.reader in
     let w = g.W.Write.contents c.args.writer.now in
     let w1 = g.W.Write.contents c.events.writer in
-    let w2 = g.W.Write.contents c.write_whole.new.writer in
+    let w2 = g.W.Write.contents c.pass_on.new.writer in
     let first = machine c.args.node.now in
     let between = machine c.events.node in
     let last = machine c.answer.new.node in
     let text = c.answer.new.text.items in
     let event = event_of c.in-Event.head buffer in
     let happens = subst (λ (z : List ℕ). Happens between (event_of c.in-Event.head z) text last) same c.in-Ok-answer.ensures.happens in
-    let wrote = subst (λ (z : List ℕ). Appends w1 w2 z) c.deref-in-Event.ensures.value c.in-Ok-write_whole.ensures.ok in
+    let gathered = c.events.gathered.items in
+    let passed = subst (λ (z : List ℕ). PassesOn w1 gathered z w2 c.pass_on.new.gathered.items) c.deref-in-Event.ensures.value c.in-Ok-pass_on.ensures.ok in
     record {
       room = ap length back ∙ full;
       journaled = more g.D.Disk.is_modelled g.D.Disk.life c.calls_go_on.ensures (core_in c.args.node.now) (core_in c.events.node) (core_in c.answer.new.node) c.events.invariant.journaled c.answer.ensures.journaled;
-      so_far = one_more r r1 r2 w w1 w2 first between last event text c.events.invariant.so_far c.in-Event.ensures.reads happens wrote;
+      so_far = one_more r r1 r2 w w1 w2 first between last event text gathered c.pass_on.new.gathered.items c.events.invariant.so_far c.in-Event.ensures.reads happens passed;
     }
 
 pub returns-clause-runs : goal.returns-clause-runs
-returns-clause-runs g c = read_fault (g.R.Read.remaining c.args.reader.now) (g.R.Read.remaining c.events.reader) (g.W.Write.contents c.args.writer.now) (g.W.Write.contents c.events.writer) (machine c.args.node.now) (machine c.events.node) c.events.invariant.so_far
+returns-clause-runs g c =
+    read_fault (g.R.Read.remaining c.args.reader.now) (g.R.Read.remaining c.events.reader) (g.W.Write.contents c.args.writer.now) (g.W.Write.contents c.events.writer) (g.W.Write.contents c.finish.new.writer) (machine c.args.node.now) (machine c.events.node)
+    c.events.gathered.items c.finish.result c.events.invariant.so_far c.finish.ensures
 
 pub returns-in_default-clause-journaled : goal.returns-in_default-clause-journaled
 returns-in_default-clause-journaled g c = none g.D.Disk.is_modelled g.D.Disk.life c.calls_go_on.ensures (core_in c.args.node.now) c.is_durable.ensures
@@ -98,8 +111,8 @@ returns-in_default-clause-journaled g c = none g.D.Disk.is_modelled g.D.Disk.lif
 pub returns-in_default-answer-clause-journaled : goal.returns-in_default-answer-clause-journaled
 returns-in_default-answer-clause-journaled g c = more g.D.Disk.is_modelled g.D.Disk.life c.calls_go_on.ensures (core_in c.args.node.now) (core_in c.events.node) (core_in c.answer.new.node) c.events.invariant.journaled c.answer.ensures.journaled
 
-pub returns-in_default-write_whole-clause-journaled : goal.returns-in_default-write_whole-clause-journaled
-returns-in_default-write_whole-clause-journaled g c = more g.D.Disk.is_modelled g.D.Disk.life c.calls_go_on.ensures (core_in c.args.node.now) (core_in c.events.node) (core_in c.answer.new.node) c.events.invariant.journaled c.answer.ensures.journaled
+pub returns-in_default-pass_on-clause-journaled : goal.returns-in_default-pass_on-clause-journaled
+returns-in_default-pass_on-clause-journaled g c = more g.D.Disk.is_modelled g.D.Disk.life c.calls_go_on.ensures (core_in c.args.node.now) (core_in c.events.node) (core_in c.answer.new.node) c.events.invariant.journaled c.answer.ensures.journaled
 
 pub events-init : goal.events-init
 events-init g c = record {

@@ -8,5 +8,5 @@ abbrev pub invariant-events : goal.invariant-events
 invariant-events g l = record {
   room : length l.buffer.items ≡ 65536;
   journaled : IsJournaled g.D.Disk.is_modelled g.D.Disk.life (core_in l.fn.node) (core_in l.node);
-  so_far : SoFar (machine l.fn.node) (g.R.Read.remaining l.fn.reader) (g.R.Read.remaining l.reader) (g.W.Write.contents l.fn.writer) (g.W.Write.contents l.writer) (machine l.node);
+  so_far : SoFar (machine l.fn.node) (g.R.Read.remaining l.fn.reader) (g.R.Read.remaining l.reader) (g.W.Write.contents l.fn.writer) (g.W.Write.contents l.writer) l.gathered.items (machine l.node);
 }

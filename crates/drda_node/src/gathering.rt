@@ -1,0 +1,49 @@
+//! Answers that are gathered while nobody waits for them.
+
+ghost use Rattle.std.specs.Prelude.{◌≡◌, ℕ, OnErr, OnOk};
+ghost use Rattle.drda_node.specs.Gathering.{Ends, PassesOn, WritesFront};
+
+use crate::serving::RunEnd;
+use crate::writing::write_whole;
+use std::io::{self, Write};
+
+/// The most bytes of answers that are gathered.
+pub(crate) const MAX_GATHERED_BYTES: usize = 65536;
+
+/// Writes an answer behind those that were gathered, or gathers it too: where `waits` is false and they
+/// are few bytes together.
+pub(crate) fn pass_on<W: Write>(
+    writer: &mut W,
+    gathered: &mut Vec<u8>,
+    answer: &[u8],
+    waits: bool,
+) -> io::Result<()>
+    ensures ok { OnOk result (PassesOn (W.contents writer.old) gathered.old.items answer.now (W.contents writer.new) gathered.new.items) }
+    ensures err { OnErr result (WritesFront (W.contents writer.old) (W.contents writer.new) gathered.old.items answer.now) }
+{
+    if !waits && gathers(gathered, answer) {
+        return Ok(());
+    }
+    write_whole(writer, gathered)?;
+    gathered.clear();
+    write_whole(writer, answer)
+}
+
+// Gathers an answer, where they are few bytes together, and there is memory.
+fn gathers(gathered: &mut Vec<u8>, answer: &[u8]) -> bool
+    ensures { gathered.new.items ≡ (if result then gathered.old.items ++ answer.now else gathered.old.items) }
+{
+    answer.len() <= MAX_GATHERED_BYTES
+        && gathered.len() <= MAX_GATHERED_BYTES - answer.len()
+        && gathered.extend_from_slice(answer).is_ok()
+}
+
+/// Writes what was gathered, and says how the run ends then.
+pub(crate) fn finish<W: Write>(writer: &mut W, gathered: &[u8], end: RunEnd) -> RunEnd
+    ensures { Ends (W.contents writer.old) gathered.now end result (W.contents writer.new) }
+{
+    match write_whole(writer, gathered) {
+        Ok(()) => end,
+        Err(_) => RunEnd::WriteFault,
+    }
+}
