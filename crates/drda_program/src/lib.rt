@@ -10,6 +10,8 @@ mod records;
 mod stores;
 mod streams;
 
+// What a stream tells of that is read.
+pub use drda_node::Ready;
 pub use fault::Fault;
 pub use files::{StoreFiles, SystemFiles};
 pub use program::run_words;

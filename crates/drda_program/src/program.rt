@@ -12,7 +12,7 @@ use crate::records::{answer_in_memory, answer_records, node_over};
 use crate::stores::{make_file, open_file};
 use crate::streams::flush;
 use command_line::{Job, job_of};
-use drda_node::write_whole;
+use drda_node::{Ready, write_whole};
 use std::alloc::Global;
 use std::convert::AsStr;
 use std::io::{Read, Write};
@@ -32,7 +32,7 @@ use std::net::Net;
 /// The status is 0 where the job was done; 1 where the words ask for none, or for a store of a size or
 /// name that none has; 2 where a file, a port or a stream failed, the last flush included; 3 where a file
 /// is no store or a damaged one; 4 where what came is no event; 5 where memory was refused.
-pub fn run_words<S: AsStr, F: StoreFiles, N: Net, R: Read, W: Write, E: Write>(
+pub fn run_words<S: AsStr, F: StoreFiles, N: Net, R: Read + Ready, W: Write, E: Write>(
     alloc: Global,
     words: &[S],
     files: &mut F,
@@ -55,7 +55,7 @@ pub fn run_words<S: AsStr, F: StoreFiles, N: Net, R: Read, W: Write, E: Write>(
 }
 
 // Does what the words say. What the parser of words has to say of a mistake is appended to `text`.
-fn try_words<S: AsStr, F: StoreFiles, N: Net, R: Read, W: Write>(
+fn try_words<S: AsStr, F: StoreFiles, N: Net, R: Read + Ready, W: Write>(
     alloc: Global,
     words: &[S],
     files: &mut F,
@@ -71,7 +71,7 @@ fn try_words<S: AsStr, F: StoreFiles, N: Net, R: Read, W: Write>(
     do_job(alloc, job, files, net, reader, out)
 }
 
-fn do_job<F: StoreFiles, N: Net, R: Read, W: Write>(
+fn do_job<F: StoreFiles, N: Net, R: Read + Ready, W: Write>(
     alloc: Global,
     job: Job<'_>,
     files: &mut F,

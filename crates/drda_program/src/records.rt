@@ -17,7 +17,7 @@ use crate::stores::fresh;
 use command_line::Login;
 use conversation::{Settings, SettingsError};
 use drda_disk::Disk;
-use drda_node::{Node, RunEnd, run};
+use drda_node::{Node, Ready, RunEnd, run};
 use durable_core::DurableCore;
 use std::alloc::Global;
 use std::io::{Read, Write};
@@ -59,7 +59,7 @@ fn result_of(end: RunEnd, is_flushed: bool) -> Result<(), Fault>
 }
 
 /// Runs a node over a core: event records come in on one stream, and go out on the other.
-pub(crate) fn answer_records<D: Disk + Drop, R: Read, W: Write>(
+pub(crate) fn answer_records<D: Disk + Drop, R: Read + Ready, W: Write>(
     alloc: Global,
     core: DurableCore<D>,
     login: Login<'_>,
@@ -79,7 +79,7 @@ pub(crate) fn answer_records<D: Disk + Drop, R: Read, W: Write>(
 }
 
 /// Runs a node over a store in memory that is just made.
-pub(crate) fn answer_in_memory<R: Read, W: Write>(
+pub(crate) fn answer_in_memory<R: Read + Ready, W: Write>(
     alloc: Global,
     rdb: &str,
     login: Login<'_>,

@@ -5,8 +5,8 @@ use drda_program::{Fault, SystemFiles, run_words};
 use std::io::BufReader;
 use std::process::ExitCode;
 
-/// The bytes that are read in one call of the system. Answers are written at once, record by record, so
-/// that whoever waits for one has it.
+/// The bytes that are read in one call of the system. Answers to records that came together are written
+/// together, and before more is waited for, so that whoever waits for one has it.
 const STREAM_BUFFER: usize = 65536;
 
 fn main(rt: HostRuntime) -> ExitCode {

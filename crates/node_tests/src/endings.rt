@@ -1,12 +1,12 @@
 //! How a node ends over a stream.
 
 use drda_disk::Disk;
-use drda_node::{Node, RunEnd, run};
+use drda_node::{Node, Ready, RunEnd, run};
 use std::alloc::Global;
 use std::io::Read;
 
 /// Whether a node ends so over a reader, and has written just this then.
-pub fn ends_so<D: Disk + Drop, R: Read>(
+pub fn ends_so<D: Disk + Drop, R: Read + Ready>(
     alloc: Global,
     node: &mut Node<D>,
     reader: &mut R,

@@ -4,7 +4,7 @@ use crate::endings::ends_so;
 use drda_disk::MemDisk;
 use drda_node::*;
 use std::alloc::Global;
-use std::io::{self, ErrorKind, Read, Write};
+use std::io::{self, BufReader, ErrorKind, Read, Write};
 use std::test::Fail;
 use test_bytes::{BARE_EXCSAT, BARE_EXCSATRD, bytes_of};
 use test_nodes::node_of;
@@ -326,6 +326,12 @@ struct OneByOne<'a> {
     bytes: &'a [u8],
 }
 
+impl Ready for OneByOne<'_> {
+    fn ready(&self) -> &[u8] {
+        &[]
+    }
+}
+
 impl Read for OneByOne<'_> {
     fn read(&mut self, buffer: &mut [u8]) -> io::Result<usize> {
         let size = buffer.len().min(1);
@@ -366,6 +372,12 @@ fn serves_thousands_of_events(rt: HostRuntime) -> Result<(), Fail> {
 #[derive(Drop)]
 struct Failing<'a> {
     bytes: &'a [u8],
+}
+
+impl Ready for Failing<'_> {
+    fn ready(&self) -> &[u8] {
+        &[]
+    }
 }
 
 impl Read for Failing<'_> {
@@ -436,6 +448,74 @@ fn tells_of_a_writer_that_fails(rt: HostRuntime) -> Result<(), Fail> {
     for room in 0..61 {
         let failed = fails_behind(rt.alloc(), &mut node, room);
         assert_eq!(rt; failed, Some(true), "{room}");
+    }
+    Ok(())
+}
+
+// A stream that gives so many bytes at a time.
+#[derive(Drop)]
+struct InPieces<'a> {
+    bytes: &'a [u8],
+    size: usize,
+}
+
+impl Read for InPieces<'_> {
+    fn read(&mut self, buffer: &mut [u8]) -> io::Result<usize> {
+        let size = buffer.len().min(self.size);
+        self.bytes.read(&mut buffer[..size])
+    }
+}
+
+// A stream that counts how often it is written to.
+#[derive(Drop)]
+struct Counting {
+    taken: Vec<u8>,
+    times: u32,
+}
+
+impl Write for Counting {
+    fn write(&mut self, bytes: &[u8]) -> io::Result<usize> {
+        self.times = self.times.saturating_add(1);
+        self.taken.extend_from_slice(bytes)?;
+        Ok(bytes.len())
+    }
+
+    fn flush(&mut self) -> io::Result<()> {
+        Ok(())
+    }
+}
+
+// How often the answers to four checkpoints are written that come in pieces of this size.
+fn times_written(alloc: Global, node: &mut Node<MemDisk>, size: usize) -> Option<u32> {
+    let input = [4_u8, 9, 0, 0, 0, 0].as_slice().repeat(alloc, 4).ok()?;
+    let answers = [4_u8, 9, 0, 0, 0, 1, 0].as_slice().repeat(alloc, 4).ok()?;
+    let pieces = InPieces {
+        bytes: &input,
+        size,
+    };
+    let mut reader = BufReader::with_capacity(alloc, 64, pieces).ok()?;
+    let mut writer = Counting {
+        taken: Vec::new(alloc),
+        times: 0,
+    };
+    let end = run(alloc, node, &mut reader, &mut writer);
+    if end == RunEnd::Ended && writer.taken == answers {
+        Some(writer.times)
+    } else {
+        None
+    }
+}
+
+// Records of six bytes: all at once; two at a time; one and a half; one; in two pieces each.
+const TIMES_WRITTEN: [(usize, u32); 5] = [(64, 1), (12, 2), (9, 3), (6, 4), (3, 4)];
+
+// Answers are written together where the next record is ready, and before it is waited for where not.
+#[test]
+fn writes_before_it_waits(rt: HostRuntime) -> Result<(), Fail> {
+    let mut node = node_of(rt.alloc()).ok_or("memory")?;
+    for (size, times) in TIMES_WRITTEN {
+        let written = times_written(rt.alloc(), &mut node, size);
+        assert_eq!(rt; written, Some(times), "{size}");
     }
     Ok(())
 }

@@ -2,7 +2,7 @@
 
 use crate::networks::Network;
 use crate::shelves::Shelf;
-use drda_program::run_words;
+use drda_program::{Ready, run_words};
 use std::alloc::Global;
 use std::io::{Read, Write};
 
@@ -44,7 +44,7 @@ pub fn run_over(alloc: Global, words: &[&str], input: &[u8]) -> Finished {
 }
 
 /// The status of the program over streams, and what it has to say.
-pub fn run_streams<R: Read, W: Write>(
+pub fn run_streams<R: Read + Ready, W: Write>(
     alloc: Global,
     words: &[&str],
     reader: &mut R,

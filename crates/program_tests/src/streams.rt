@@ -3,7 +3,7 @@
 use crate::networks::Network;
 use crate::programs::run_streams;
 use crate::shelves::Shelf;
-use drda_program::run_words;
+use drda_program::{Ready, run_words};
 use std::alloc::Global;
 use std::io::{self, ErrorKind, Read, Write};
 use std::test::Fail;
@@ -20,6 +20,12 @@ struct Broken;
 impl Read for Broken {
     fn read(&mut self, _buffer: &mut [u8]) -> io::Result<usize> {
         Err(io::Error::from(ErrorKind::Other))
+    }
+}
+
+impl Ready for Broken {
+    fn ready(&self) -> &[u8] {
+        &[]
     }
 }
 
@@ -51,7 +57,7 @@ impl Write for Unflushed {
 }
 
 // Whether the program tells of a fault of a stream.
-fn tells_of_fault<R: Read, W: Write>(
+fn tells_of_fault<R: Read + Ready, W: Write>(
     alloc: Global,
     words: &[&str],
     reader: &mut R,
