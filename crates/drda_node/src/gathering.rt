@@ -1,6 +1,7 @@
 //! Answers that are gathered while nobody waits for them.
 
-ghost use Rattle.std.specs.Prelude.{◌≡◌, ℕ, OnErr, OnOk};
+ghost use Rattle.std.specs.Prelude.{◌≡◌, ◌++◌, [], if◌then◌else◌, OnErr, OnOk};
+ghost use Rattle.std.specs.Io.KnownBytes.{Appends};
 ghost use Rattle.drda_node.specs.Gathering.{Ends, PassesOn, WritesFront};
 
 use crate::serving::RunEnd;
@@ -10,8 +11,8 @@ use std::io::{self, Write};
 /// The most bytes of answers that are gathered.
 pub(crate) const MAX_GATHERED_BYTES: usize = 65536;
 
-/// Writes an answer behind those that were gathered, or gathers it too: where `waits` is false and they
-/// are few bytes together.
+/// Writes an answer behind those that were gathered; or gathers it too, where that is few bytes together and
+/// nobody waits for it.
 pub(crate) fn pass_on<W: Write>(
     writer: &mut W,
     gathered: &mut Vec<u8>,
@@ -21,9 +22,21 @@ pub(crate) fn pass_on<W: Write>(
     ensures ok { OnOk result (PassesOn (W.contents writer.old) gathered.old.items answer.now (W.contents writer.new) gathered.new.items) }
     ensures err { OnErr result (WritesFront (W.contents writer.old) (W.contents writer.new) gathered.old.items answer.now) }
 {
-    if !waits && gathers(gathered, answer) {
-        return Ok(());
+    if waits && gathered.is_empty() || !gathers(gathered, answer) {
+        return write_both(writer, gathered, answer);
     }
+    if waits {
+        return write_both(writer, gathered, &[]);
+    }
+    Ok(())
+}
+
+// Writes what was gathered and an answer behind it.
+fn write_both<W: Write>(writer: &mut W, gathered: &mut Vec<u8>, answer: &[u8]) -> io::Result<()>
+    ensures ok { OnOk result (Appends (W.contents writer.old) (W.contents writer.new) (gathered.old.items ++ answer.now)) }
+    ensures none { OnOk result (gathered.new.items ≡ []) }
+    ensures err { OnErr result (WritesFront (W.contents writer.old) (W.contents writer.new) gathered.old.items answer.now) }
+{
     write_whole(writer, gathered)?;
     gathered.clear();
     write_whole(writer, answer)
