@@ -1,6 +1,7 @@
 //! The judge of commands, in the order of refusals.
 
-ghost use Rattle.std.specs.Prelude.{◌≡◌, ◌&&◌, ◌||◌, Some, IfOk};
+ghost use Rattle.std.specs.Prelude.{◌≡◌, ◌&&◌, ◌||◌, Some, None, Ok, Err, IfOk, MatchOption, if◌then◌else◌};
+ghost use Rattle.std.specs.Option.{option_or};
 ghost use Rattle.std.specs.List.{list_any};
 ghost use Rattle.drda_words.specs.Excuse.{Answers};
 ghost use Rattle.ddm_objects.specs.Source.{view};
@@ -102,42 +103,23 @@ fn is_twice_inside(form: Form, value: &[u8]) -> bool
     }
 }
 
-fn item_twice(given: &Given<'_>, item: Item) -> bool
-    ensures { result ≡ spec.item_twice (given_of given.now) item }
+// A statement of which neither text is present is no statement.
+fn has_no_text(form: Form, value: &[u8]) -> bool
+    ensures { result ≡ spec.has_no_text form value.now }
 {
-    match given.found(item.kind, item.code) {
-        Occurs::Never => false,
-        Occurs::Once(value) => is_twice_inside(item.form, value),
-        Occurs::Twice => true,
+    match form {
+        Form::ManagerLevels
+        | Form::AnyBytes
+        | Form::Bytes { .. }
+        | Form::BlockSize
+        | Form::Boolean
+        | Form::SqldaType
+        | Form::SyncType
+        | Form::DefinitionName
+        | Form::DefinitionOverrides
+        | Form::DescribedData => false,
+        Form::StatementTexts => text_in(value).is_none(),
     }
-}
-
-fn is_absent(form: Form, occurs: Occurs<'_>) -> bool
-    ensures { result ≡ spec.is_absent form (occurs_of occurs.entry) }
-{
-    match occurs {
-        Occurs::Never => true,
-        Occurs::Once(value) => match form {
-            Form::ManagerLevels
-            | Form::AnyBytes
-            | Form::Bytes { .. }
-            | Form::BlockSize
-            | Form::Boolean
-            | Form::SqldaType
-            | Form::SyncType
-            | Form::DefinitionName
-            | Form::DefinitionOverrides
-            | Form::DescribedData => false,
-            Form::StatementTexts => text_in(value).is_none(),
-        },
-        Occurs::Twice => false,
-    }
-}
-
-fn item_missing(given: &Given<'_>, item: Item) -> bool
-    ensures { result ≡ spec.item_missing (given_of given.now) item }
-{
-    item.is_required && is_absent(item.form, given.found(item.kind, item.code))
 }
 
 fn is_1208(occurs: Occurs<'_>) -> bool
@@ -205,54 +187,72 @@ fn is_supported(unicode: bool, form: Form, value: &[u8]) -> bool
     }
 }
 
-fn item_bad(unicode: bool, given: &Given<'_>, item: Item) -> bool
-    ensures { result ≡ spec.item_bad unicode (given_of given.now) item }
-{
-    match given.found(item.kind, item.code) {
-        Occurs::Once(value) => !is_supported(unicode, item.form, value),
-        Occurs::Never | Occurs::Twice => false,
-    }
+// What items are refused for.
+#[derive(Clone, Copy)]
+struct Faults {
+    is_twice: bool,
+    is_missing: bool,
+    /// The code point of the first item with a value that is not supported.
+    bad: Option<u16>,
 }
 
-fn any_twice(items: &[Item], given: &Given<'_>) -> bool
-    ensures { result ≡ list_any (spec.item_twice (given_of given.now)) items.now }
-{
-    items.iter().any(|item| item_twice(given, *item))
-}
-
-fn any_missing(items: &[Item], given: &Given<'_>) -> bool
-    ensures { result ≡ list_any (spec.item_missing (given_of given.now)) items.now }
-{
-    items.iter().any(|item| item_missing(given, *item))
-}
-
-fn check_twice(items: &[Item], given: &Given<'_>) -> Result<(), Refusal>
-    ensures { result ≡ spec.none_twice items.now (given_of given.now) }
-{
-    if any_twice(items, given) {
-        return Err(Refusal::Syntax(SyntaxError::Twice));
-    }
-    Ok(())
-}
-
-fn check_missing(items: &[Item], given: &Given<'_>) -> Result<(), Refusal>
-    ensures { result ≡ spec.none_missing items.now (given_of given.now) }
-{
-    if any_missing(items, given) {
-        return Err(Refusal::Syntax(SyntaxError::Missing));
-    }
-    Ok(())
-}
-
-fn check_values(unicode: bool, items: &[Item], given: &Given<'_>) -> Result<(), Refusal>
-    ensures { result ≡ spec.none_bad unicode items.now (given_of given.now) }
-{
-    for item in items {
-        if item_bad(unicode, given, *item) {
-            return Err(Refusal::ValueNotSupported(item.code));
+impl Faults {
+    // These, and those of what is judged after.
+    #[inline]
+    fn and(self, later: Faults) -> Faults
+        ensures twice { result.is_twice ≡ (self.is_twice || later.is_twice) }
+        ensures missing { result.is_missing ≡ (self.is_missing || later.is_missing) }
+        ensures bad { result.bad ≡ option_or self.bad later.bad }
+    {
+        Faults {
+            is_twice: self.is_twice || later.is_twice,
+            is_missing: self.is_missing || later.is_missing,
+            bad: self.bad.or(later.bad),
         }
     }
-    Ok(())
+}
+
+#[inline]
+fn item_faults(unicode: bool, item: Item, occurs: Occurs<'_>) -> Faults
+    ensures twice { result.is_twice ≡ spec.has_twice item.form (occurs_of occurs.entry) }
+    ensures missing { result.is_missing ≡ (item.is_required && spec.is_absent item.form (occurs_of occurs.entry)) }
+    ensures bad { result.bad ≡ (if spec.has_bad_value unicode item.form (occurs_of occurs.entry) then Some item.code else None) }
+{
+    match occurs {
+        Occurs::Never => Faults {
+            is_twice: false,
+            is_missing: item.is_required,
+            bad: None,
+        },
+        Occurs::Once(value) => Faults {
+            is_twice: is_twice_inside(item.form, value),
+            is_missing: item.is_required && has_no_text(item.form, value),
+            bad: (!is_supported(unicode, item.form, value)).then_some(item.code),
+        },
+        Occurs::Twice => Faults {
+            is_twice: true,
+            is_missing: false,
+            bad: None,
+        },
+    }
+}
+
+// Each item is found once.
+fn faults_of(unicode: bool, items: &[Item], given: &Given<'_>) -> Faults
+    ensures twice { result.is_twice ≡ list_any (spec.item_twice (given_of given.now)) items.now }
+    ensures missing { result.is_missing ≡ list_any (spec.item_missing (given_of given.now)) items.now }
+    ensures bad { MatchOption result.bad (spec.none_bad unicode items.now (given_of given.now) ≡ Ok tt) (λ code. spec.none_bad unicode items.now (given_of given.now) ≡ Err (Refusal.ValueNotSupported code)) }
+{
+    let mut faults = Faults {
+        is_twice: false,
+        is_missing: false,
+        bad: None,
+    };
+    for item in items {
+        let occurs = given.found(item.kind, item.code);
+        faults = faults.and(item_faults(unicode, *item, occurs));
+    }
+    faults
 }
 
 /// The command in a request DSS with these contents and these object DSSs behind it, or what it is
@@ -281,9 +281,15 @@ pub fn judge<'a>(
         objects,
     };
     check_whole(command, given)?;
-    let items = items_of(command);
-    check_twice(items, &given)?;
-    check_missing(items, &given)?;
-    check_values(unicode, items, &given)?;
+    let faults = faults_of(unicode, items_of(command), &given);
+    if faults.is_twice {
+        return Err(Refusal::Syntax(SyntaxError::Twice));
+    }
+    if faults.is_missing {
+        return Err(Refusal::Syntax(SyntaxError::Missing));
+    }
+    if let Some(code) = faults.bad {
+        return Err(Refusal::ValueNotSupported(code));
+    }
     Ok(Accepted { command, given })
 }
