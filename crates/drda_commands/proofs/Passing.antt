@@ -1,5 +1,5 @@
 -- One pass over the items of a command.
-use Rattle.std.proofs.Common.{ℕ, Option, Some, None, Result, Ok, Err}
+use Rattle.std.proofs.Common.{ℕ, Option, Some, None, Result, Err}
 use Rattle.drda_commands.specs.declared.refusal.Refusal.{Refusal}
 use Rattle.drda_commands.specs.declared.refusal.Refusal.TheVariants.{ValueNotSupported}
 

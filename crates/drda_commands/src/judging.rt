@@ -1,13 +1,13 @@
 //! The judge of commands, in the order of refusals.
 
-ghost use Rattle.std.specs.Prelude.{◌≡◌, ◌&&◌, ◌||◌, Some, None, Ok, Err, IfOk, MatchOption, if◌then◌else◌};
+ghost use Rattle.std.specs.Prelude.{◌≡◌, ◌&&◌, ◌||◌, Some, None, Ok, Err, IfOk, MatchOption, Bool, false, if◌then◌else◌};
 ghost use Rattle.std.specs.Option.{option_or};
 ghost use Rattle.std.specs.List.{list_any};
 ghost use Rattle.drda_words.specs.Excuse.{Answers};
 ghost use Rattle.ddm_objects.specs.Source.{view};
 ghost use Rattle.dss_frames.specs.Group.{command_of};
 ghost use Rattle.drda_commands.specs.Tables.{command_for};
-ghost use Rattle.drda_commands.specs.Given.{contents_of, found_inside};
+ghost use Rattle.drda_commands.specs.Given.{contents_of};
 ghost use Rattle.drda_commands.specs.Judge as spec;
 ghost use Rattle.drda_commands.specs.Needs.{Needs};
 ghost use Rattle.drda_commands.specs.Views.{occurs_of, given_of, accepted_of};
@@ -78,50 +78,14 @@ fn check_whole(command: Command, given: Given<'_>) -> Result<(), Refusal>
     Ok(())
 }
 
-// Whether one of two code points stands twice among the objects of a container.
-fn has_twice(value: &[u8], one: u16, other: u16) -> bool
-    ensures { result ≡ spec.is_twice (found_inside one value.now) || spec.is_twice (found_inside other value.now) }
+#[inline]
+fn is_twice(occurs: Occurs<'_>) -> bool
+    ensures { result ≡ spec.is_twice (occurs_of occurs.entry) }
 {
-    matches!(found_in(one, value), Occurs::Twice) || matches!(found_in(other, value), Occurs::Twice)
+    matches!(occurs, Occurs::Twice)
 }
 
-fn is_twice_inside(form: Form, value: &[u8]) -> bool
-    ensures { result ≡ spec.is_twice_inside form value.now }
-{
-    match form {
-        Form::ManagerLevels
-        | Form::AnyBytes
-        | Form::Bytes { .. }
-        | Form::BlockSize
-        | Form::Boolean
-        | Form::SqldaType
-        | Form::SyncType
-        | Form::DefinitionName
-        | Form::StatementTexts => false,
-        Form::DefinitionOverrides => has_twice(value, code_point::CCSIDSBC, code_point::CCSIDMBC),
-        Form::DescribedData => has_twice(value, code_point::FDODSC, code_point::FDODTA),
-    }
-}
-
-// A statement of which neither text is present is no statement.
-fn has_no_text(form: Form, value: &[u8]) -> bool
-    ensures { result ≡ spec.has_no_text form value.now }
-{
-    match form {
-        Form::ManagerLevels
-        | Form::AnyBytes
-        | Form::Bytes { .. }
-        | Form::BlockSize
-        | Form::Boolean
-        | Form::SqldaType
-        | Form::SyncType
-        | Form::DefinitionName
-        | Form::DefinitionOverrides
-        | Form::DescribedData => false,
-        Form::StatementTexts => text_in(value).is_none(),
-    }
-}
-
+#[inline]
 fn is_1208(occurs: Occurs<'_>) -> bool
     ensures { result ≡ spec.is_1208 (occurs_of occurs.entry) }
 {
@@ -168,22 +132,68 @@ fn is_sync_type(value: &[u8]) -> bool
     }
 }
 
-fn is_supported(unicode: bool, form: Form, value: &[u8]) -> bool
-    ensures { result ≡ spec.is_supported unicode form value.now }
+// What is judged of the value of an item that stands once.
+#[derive(Clone, Copy)]
+struct Judged {
+    is_twice_inside: bool,
+    has_no_text: bool,
+    is_supported: bool,
+}
+
+// The value of an item that holds neither objects nor texts.
+#[inline]
+fn plain(is_supported: bool) -> Judged
+    ensures { result ≡ record { is_twice_inside = false; has_no_text = false; is_supported = is_supported } }
+{
+    Judged {
+        is_twice_inside: false,
+        has_no_text: false,
+        is_supported,
+    }
+}
+
+// The value of TYPDEFOVR, by the two CCSIDs in it that are read.
+fn judge_ccsids(single: Occurs<'_>, mixed: Occurs<'_>) -> Judged
+    ensures twice { result.is_twice_inside ≡ (spec.is_twice (occurs_of single.entry) || spec.is_twice (occurs_of mixed.entry)) }
+    ensures text { result.has_no_text ≡ false }
+    ensures supported { result.is_supported ≡ (spec.is_1208 (occurs_of single.entry) && spec.is_1208 (occurs_of mixed.entry)) }
+{
+    Judged {
+        is_twice_inside: is_twice(single) || is_twice(mixed),
+        has_no_text: false,
+        is_supported: is_1208(single) && is_1208(mixed),
+    }
+}
+
+fn judge_value(unicode: bool, form: Form, value: &[u8]) -> Judged
+    ensures twice { result.is_twice_inside ≡ spec.is_twice_inside form value.now }
+    ensures text { result.has_no_text ≡ spec.has_no_text form value.now }
+    ensures supported { result.is_supported ≡ spec.is_supported unicode form value.now }
 {
     match form {
-        Form::ManagerLevels => value.len() % 4 == 0,
-        Form::AnyBytes | Form::StatementTexts | Form::DescribedData => true,
-        Form::Bytes { least, greatest } => least <= value.len() && value.len() <= greatest,
-        Form::BlockSize => is_block_size(number4(value)),
-        Form::Boolean => is_boolean(value),
-        Form::SqldaType => is_sqlda_type(value),
-        Form::SyncType => is_sync_type(value),
-        Form::DefinitionName => is_name(unicode, value, b"QTDSQLASC"),
-        Form::DefinitionOverrides => {
-            is_1208(found_in(code_point::CCSIDSBC, value))
-                && is_1208(found_in(code_point::CCSIDMBC, value))
-        }
+        Form::ManagerLevels => plain(value.len() % 4 == 0),
+        Form::AnyBytes => plain(true),
+        Form::Bytes { least, greatest } => plain(least <= value.len() && value.len() <= greatest),
+        Form::BlockSize => plain(is_block_size(number4(value))),
+        Form::Boolean => plain(is_boolean(value)),
+        Form::SqldaType => plain(is_sqlda_type(value)),
+        Form::SyncType => plain(is_sync_type(value)),
+        Form::DefinitionName => plain(is_name(unicode, value, b"QTDSQLASC")),
+        Form::DefinitionOverrides => judge_ccsids(
+            found_in(code_point::CCSIDSBC, value),
+            found_in(code_point::CCSIDMBC, value),
+        ),
+        Form::StatementTexts => Judged {
+            is_twice_inside: false,
+            has_no_text: text_in(value).is_none(),
+            is_supported: true,
+        },
+        Form::DescribedData => Judged {
+            is_twice_inside: is_twice(found_in(code_point::FDODSC, value))
+                || is_twice(found_in(code_point::FDODTA, value)),
+            has_no_text: false,
+            is_supported: true,
+        },
     }
 }
 
@@ -224,11 +234,14 @@ fn item_faults(unicode: bool, item: Item, occurs: Occurs<'_>) -> Faults
             is_missing: item.is_required,
             bad: None,
         },
-        Occurs::Once(value) => Faults {
-            is_twice: is_twice_inside(item.form, value),
-            is_missing: item.is_required && has_no_text(item.form, value),
-            bad: (!is_supported(unicode, item.form, value)).then_some(item.code),
-        },
+        Occurs::Once(value) => {
+            let judged = judge_value(unicode, item.form, value);
+            Faults {
+                is_twice: judged.is_twice_inside,
+                is_missing: item.is_required && judged.has_no_text,
+                bad: (!judged.is_supported).then_some(item.code),
+            }
+        }
         Occurs::Twice => Faults {
             is_twice: true,
             is_missing: false,
