@@ -165,6 +165,8 @@ fn judge_ccsids(single: Occurs<'_>, mixed: Occurs<'_>) -> Judged
     }
 }
 
+// Kept out of the loop over items, most of which a command does not bring.
+#[inline(never)]
 fn judge_value(unicode: bool, form: Form, value: &[u8]) -> Judged
     ensures twice { result.is_twice_inside ≡ spec.is_twice_inside form value.now }
     ensures text { result.has_no_text ≡ spec.has_no_text form value.now }
