@@ -2,3 +2,4 @@ mod Walked
 mod Counting
 mod Faults
 mod Required
+mod Passing

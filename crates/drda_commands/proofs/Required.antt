@@ -5,15 +5,14 @@ use Rattle.std.specs.List.{list_any}
 use Rattle.std.specs.Option.{option_and_then}
 use Rattle.ddm_objects.specs.declared.code_point.TheConstants.{PKGNAMCSN, QRYBLKSZ, SYNCTYPE, SQLSTT}
 use Rattle.drda_commands.specs.declared.refusal.Refusal.{Refusal}
-use Rattle.drda_commands.specs.declared.refusal.Refusal.TheVariants.{Syntax, ValueNotSupported}
-use Rattle.drda_commands.specs.declared.refusal.SyntaxError.TheVariants.{Missing, Twice}
+use Rattle.drda_commands.specs.declared.refusal.Refusal.TheVariants.{ValueNotSupported}
 use Rattle.drda_commands.specs.declared.table.Command.{Command}
 use Rattle.drda_commands.specs.declared.table.Command.TheVariants.{Excsat, Accsec, Secchk, Accrdb, Excsqlimm, Prpsqlstt, Dscsqlstt, Excsqlstt, Opnqry, Cntqry, Clsqry, Rdbcmm, Rdbrllbck, Syncctl}
 use Rattle.drda_commands.specs.declared.table.Form.{Form}
 use Rattle.drda_commands.specs.declared.table.Item.{Item}
 use Rattle.drda_commands.specs.declared.table.ItemKind.TheVariants.{Parameter, DataObject}
 use Rattle.drda_commands.specs.Given.{Given, Occurs, never, once, twice, value_of, found_at}
-use Rattle.drda_commands.specs.Judge.{has_twice, has_no_text, is_absent, is_block_size, is_sync_type, is_supported, has_bad_value, item_twice, item_missing, item_bad, none_twice, none_missing, none_bad}
+use Rattle.drda_commands.specs.Judge.{has_twice, has_no_text, is_absent, is_block_size, is_sync_type, is_supported, has_bad_value, item_twice, item_missing, item_bad, none_bad}
 use Rattle.drda_commands.specs.Needs.{HasSection, Needs}
 use Rattle.drda_commands.specs.Tables.{items_for}
 use Rattle.drda_commands.specs.Texts.{text_in}
@@ -124,10 +123,6 @@ needs_met unicode Rdbrllbck given all = tt
 needs_met unicode Syncctl given all = let it = all.0 refl in call_came given it.value it.is_once it.fits
 
 -- what passed the three checks of items has brought what it requires
-pub passed : (unicode : Bool) (command : Command) (given : Given) → none_twice (items_for command) given ≡ Ok tt → none_missing (items_for command) given ≡ Ok tt
+pub passed : (unicode : Bool) (command : Command) (given : Given) → list_any (item_twice given) (items_for command) ≡ false → list_any (item_missing given) (items_for command) ≡ false
     → none_bad unicode (items_for command) given ≡ Ok tt → Needs command given
-passed unicode command given lone present fit =
-    needs_met unicode command given
-    (all_came unicode given (items_for command)
-    (unless (list_any (item_twice given) (items_for command)) (Syntax Twice) (Ok tt) lone).0
-    (unless (list_any (item_missing given) (items_for command)) (Syntax Missing) (Ok tt) present).0 fit)
+passed unicode command given single present fit = needs_met unicode command given (all_came unicode given (items_for command) single present fit)

@@ -1,12 +1,13 @@
 //! The judge of commands, in the order of refusals.
 
-ghost use Rattle.std.specs.Prelude.{◌≡◌, ◌&&◌, ◌||◌, Some, IfOk};
+ghost use Rattle.std.specs.Prelude.{◌≡◌, ◌&&◌, ◌||◌, Some, None, Ok, Err, IfOk, MatchOption, Bool, false, if◌then◌else◌};
+ghost use Rattle.std.specs.Option.{option_or};
 ghost use Rattle.std.specs.List.{list_any};
 ghost use Rattle.drda_words.specs.Excuse.{Answers};
 ghost use Rattle.ddm_objects.specs.Source.{view};
 ghost use Rattle.dss_frames.specs.Group.{command_of};
 ghost use Rattle.drda_commands.specs.Tables.{command_for};
-ghost use Rattle.drda_commands.specs.Given.{contents_of, found_inside};
+ghost use Rattle.drda_commands.specs.Given.{contents_of};
 ghost use Rattle.drda_commands.specs.Judge as spec;
 ghost use Rattle.drda_commands.specs.Needs.{Needs};
 ghost use Rattle.drda_commands.specs.Views.{occurs_of, given_of, accepted_of};
@@ -77,69 +78,14 @@ fn check_whole(command: Command, given: Given<'_>) -> Result<(), Refusal>
     Ok(())
 }
 
-// Whether one of two code points stands twice among the objects of a container.
-fn has_twice(value: &[u8], one: u16, other: u16) -> bool
-    ensures { result ≡ spec.is_twice (found_inside one value.now) || spec.is_twice (found_inside other value.now) }
+#[inline]
+fn is_twice(occurs: Occurs<'_>) -> bool
+    ensures { result ≡ spec.is_twice (occurs_of occurs.entry) }
 {
-    matches!(found_in(one, value), Occurs::Twice) || matches!(found_in(other, value), Occurs::Twice)
+    matches!(occurs, Occurs::Twice)
 }
 
-fn is_twice_inside(form: Form, value: &[u8]) -> bool
-    ensures { result ≡ spec.is_twice_inside form value.now }
-{
-    match form {
-        Form::ManagerLevels
-        | Form::AnyBytes
-        | Form::Bytes { .. }
-        | Form::BlockSize
-        | Form::Boolean
-        | Form::SqldaType
-        | Form::SyncType
-        | Form::DefinitionName
-        | Form::StatementTexts => false,
-        Form::DefinitionOverrides => has_twice(value, code_point::CCSIDSBC, code_point::CCSIDMBC),
-        Form::DescribedData => has_twice(value, code_point::FDODSC, code_point::FDODTA),
-    }
-}
-
-fn item_twice(given: &Given<'_>, item: Item) -> bool
-    ensures { result ≡ spec.item_twice (given_of given.now) item }
-{
-    match given.found(item.kind, item.code) {
-        Occurs::Never => false,
-        Occurs::Once(value) => is_twice_inside(item.form, value),
-        Occurs::Twice => true,
-    }
-}
-
-fn is_absent(form: Form, occurs: Occurs<'_>) -> bool
-    ensures { result ≡ spec.is_absent form (occurs_of occurs.entry) }
-{
-    match occurs {
-        Occurs::Never => true,
-        Occurs::Once(value) => match form {
-            Form::ManagerLevels
-            | Form::AnyBytes
-            | Form::Bytes { .. }
-            | Form::BlockSize
-            | Form::Boolean
-            | Form::SqldaType
-            | Form::SyncType
-            | Form::DefinitionName
-            | Form::DefinitionOverrides
-            | Form::DescribedData => false,
-            Form::StatementTexts => text_in(value).is_none(),
-        },
-        Occurs::Twice => false,
-    }
-}
-
-fn item_missing(given: &Given<'_>, item: Item) -> bool
-    ensures { result ≡ spec.item_missing (given_of given.now) item }
-{
-    item.is_required && is_absent(item.form, given.found(item.kind, item.code))
-}
-
+#[inline]
 fn is_1208(occurs: Occurs<'_>) -> bool
     ensures { result ≡ spec.is_1208 (occurs_of occurs.entry) }
 {
@@ -186,73 +132,142 @@ fn is_sync_type(value: &[u8]) -> bool
     }
 }
 
-fn is_supported(unicode: bool, form: Form, value: &[u8]) -> bool
-    ensures { result ≡ spec.is_supported unicode form value.now }
+// What is judged of the value of an item that stands once.
+#[derive(Clone, Copy)]
+struct Judged {
+    is_twice_inside: bool,
+    has_no_text: bool,
+    is_supported: bool,
+}
+
+// The value of an item that holds neither objects nor texts.
+#[inline]
+fn plain(is_supported: bool) -> Judged
+    ensures { result ≡ record { is_twice_inside = false; has_no_text = false; is_supported = is_supported } }
+{
+    Judged {
+        is_twice_inside: false,
+        has_no_text: false,
+        is_supported,
+    }
+}
+
+// The value of TYPDEFOVR, by the two CCSIDs in it that are read.
+fn judge_ccsids(single: Occurs<'_>, mixed: Occurs<'_>) -> Judged
+    ensures twice { result.is_twice_inside ≡ (spec.is_twice (occurs_of single.entry) || spec.is_twice (occurs_of mixed.entry)) }
+    ensures text { result.has_no_text ≡ false }
+    ensures supported { result.is_supported ≡ (spec.is_1208 (occurs_of single.entry) && spec.is_1208 (occurs_of mixed.entry)) }
+{
+    Judged {
+        is_twice_inside: is_twice(single) || is_twice(mixed),
+        has_no_text: false,
+        is_supported: is_1208(single) && is_1208(mixed),
+    }
+}
+
+// Kept out of the loop over items, most of which a command does not bring.
+#[inline(never)]
+fn judge_value(unicode: bool, form: Form, value: &[u8]) -> Judged
+    ensures twice { result.is_twice_inside ≡ spec.is_twice_inside form value.now }
+    ensures text { result.has_no_text ≡ spec.has_no_text form value.now }
+    ensures supported { result.is_supported ≡ spec.is_supported unicode form value.now }
 {
     match form {
-        Form::ManagerLevels => value.len() % 4 == 0,
-        Form::AnyBytes | Form::StatementTexts | Form::DescribedData => true,
-        Form::Bytes { least, greatest } => least <= value.len() && value.len() <= greatest,
-        Form::BlockSize => is_block_size(number4(value)),
-        Form::Boolean => is_boolean(value),
-        Form::SqldaType => is_sqlda_type(value),
-        Form::SyncType => is_sync_type(value),
-        Form::DefinitionName => is_name(unicode, value, b"QTDSQLASC"),
-        Form::DefinitionOverrides => {
-            is_1208(found_in(code_point::CCSIDSBC, value))
-                && is_1208(found_in(code_point::CCSIDMBC, value))
+        Form::ManagerLevels => plain(value.len() % 4 == 0),
+        Form::AnyBytes => plain(true),
+        Form::Bytes { least, greatest } => plain(least <= value.len() && value.len() <= greatest),
+        Form::BlockSize => plain(is_block_size(number4(value))),
+        Form::Boolean => plain(is_boolean(value)),
+        Form::SqldaType => plain(is_sqlda_type(value)),
+        Form::SyncType => plain(is_sync_type(value)),
+        Form::DefinitionName => plain(is_name(unicode, value, b"QTDSQLASC")),
+        Form::DefinitionOverrides => judge_ccsids(
+            found_in(code_point::CCSIDSBC, value),
+            found_in(code_point::CCSIDMBC, value),
+        ),
+        Form::StatementTexts => Judged {
+            is_twice_inside: false,
+            has_no_text: text_in(value).is_none(),
+            is_supported: true,
+        },
+        Form::DescribedData => Judged {
+            is_twice_inside: is_twice(found_in(code_point::FDODSC, value))
+                || is_twice(found_in(code_point::FDODTA, value)),
+            has_no_text: false,
+            is_supported: true,
+        },
+    }
+}
+
+// What items are refused for.
+#[derive(Clone, Copy)]
+struct Faults {
+    is_twice: bool,
+    is_missing: bool,
+    /// The code point of the first item with a value that is not supported.
+    bad: Option<u16>,
+}
+
+impl Faults {
+    // These, and those of what is judged after.
+    #[inline]
+    fn and(self, later: Faults) -> Faults
+        ensures twice { result.is_twice ≡ (self.is_twice || later.is_twice) }
+        ensures missing { result.is_missing ≡ (self.is_missing || later.is_missing) }
+        ensures bad { result.bad ≡ option_or self.bad later.bad }
+    {
+        Faults {
+            is_twice: self.is_twice || later.is_twice,
+            is_missing: self.is_missing || later.is_missing,
+            bad: self.bad.or(later.bad),
         }
     }
 }
 
-fn item_bad(unicode: bool, given: &Given<'_>, item: Item) -> bool
-    ensures { result ≡ spec.item_bad unicode (given_of given.now) item }
+#[inline]
+fn item_faults(unicode: bool, item: Item, occurs: Occurs<'_>) -> Faults
+    ensures twice { result.is_twice ≡ spec.has_twice item.form (occurs_of occurs.entry) }
+    ensures missing { result.is_missing ≡ (item.is_required && spec.is_absent item.form (occurs_of occurs.entry)) }
+    ensures bad { result.bad ≡ (if spec.has_bad_value unicode item.form (occurs_of occurs.entry) then Some item.code else None) }
 {
-    match given.found(item.kind, item.code) {
-        Occurs::Once(value) => !is_supported(unicode, item.form, value),
-        Occurs::Never | Occurs::Twice => false,
+    match occurs {
+        Occurs::Never => Faults {
+            is_twice: false,
+            is_missing: item.is_required,
+            bad: None,
+        },
+        Occurs::Once(value) => {
+            let judged = judge_value(unicode, item.form, value);
+            Faults {
+                is_twice: judged.is_twice_inside,
+                is_missing: item.is_required && judged.has_no_text,
+                bad: (!judged.is_supported).then_some(item.code),
+            }
+        }
+        Occurs::Twice => Faults {
+            is_twice: true,
+            is_missing: false,
+            bad: None,
+        },
     }
 }
 
-fn any_twice(items: &[Item], given: &Given<'_>) -> bool
-    ensures { result ≡ list_any (spec.item_twice (given_of given.now)) items.now }
+// Each item is found once.
+fn faults_of(unicode: bool, items: &[Item], given: &Given<'_>) -> Faults
+    ensures twice { result.is_twice ≡ list_any (spec.item_twice (given_of given.now)) items.now }
+    ensures missing { result.is_missing ≡ list_any (spec.item_missing (given_of given.now)) items.now }
+    ensures bad { MatchOption result.bad (spec.none_bad unicode items.now (given_of given.now) ≡ Ok tt) (λ code. spec.none_bad unicode items.now (given_of given.now) ≡ Err (Refusal.ValueNotSupported code)) }
 {
-    items.iter().any(|item| item_twice(given, *item))
-}
-
-fn any_missing(items: &[Item], given: &Given<'_>) -> bool
-    ensures { result ≡ list_any (spec.item_missing (given_of given.now)) items.now }
-{
-    items.iter().any(|item| item_missing(given, *item))
-}
-
-fn check_twice(items: &[Item], given: &Given<'_>) -> Result<(), Refusal>
-    ensures { result ≡ spec.none_twice items.now (given_of given.now) }
-{
-    if any_twice(items, given) {
-        return Err(Refusal::Syntax(SyntaxError::Twice));
-    }
-    Ok(())
-}
-
-fn check_missing(items: &[Item], given: &Given<'_>) -> Result<(), Refusal>
-    ensures { result ≡ spec.none_missing items.now (given_of given.now) }
-{
-    if any_missing(items, given) {
-        return Err(Refusal::Syntax(SyntaxError::Missing));
-    }
-    Ok(())
-}
-
-fn check_values(unicode: bool, items: &[Item], given: &Given<'_>) -> Result<(), Refusal>
-    ensures { result ≡ spec.none_bad unicode items.now (given_of given.now) }
-{
+    let mut faults = Faults {
+        is_twice: false,
+        is_missing: false,
+        bad: None,
+    };
     for item in items {
-        if item_bad(unicode, given, *item) {
-            return Err(Refusal::ValueNotSupported(item.code));
-        }
+        let occurs = given.found(item.kind, item.code);
+        faults = faults.and(item_faults(unicode, *item, occurs));
     }
-    Ok(())
+    faults
 }
 
 /// The command in a request DSS with these contents and these object DSSs behind it, or what it is
@@ -281,9 +296,15 @@ pub fn judge<'a>(
         objects,
     };
     check_whole(command, given)?;
-    let items = items_of(command);
-    check_twice(items, &given)?;
-    check_missing(items, &given)?;
-    check_values(unicode, items, &given)?;
+    let faults = faults_of(unicode, items_of(command), &given);
+    if faults.is_twice {
+        return Err(Refusal::Syntax(SyntaxError::Twice));
+    }
+    if faults.is_missing {
+        return Err(Refusal::Syntax(SyntaxError::Missing));
+    }
+    if let Some(code) = faults.bad {
+        return Err(Refusal::ValueNotSupported(code));
+    }
     Ok(Accepted { command, given })
 }
