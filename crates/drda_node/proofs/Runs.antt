@@ -5,8 +5,8 @@ use Rattle.std.specs.List.{flat_map}
 use Rattle.std.specs.Io.KnownBytes.{Appends}
 use Rattle.std.proofs.KnownBytes.{Appends-nil, Appends-trans}
 use Rattle.std.proofs.lemmas.List.{flat_map_more}
-use Rattle.std.proofs.Math.Seq.{take-append-add}
 use Rattle.std.proofs.lemmas.List.Elements.{All-push}
+use Rattle.drda_node.proofs.Written.{appends_front}
 use Rattle.drda_node.specs.declared.serving.RunEnd.{RunEnd}
 use Rattle.drda_node.specs.declared.serving.RunEnd.TheVariants.{Ended, BadEvent, ReadFault, WriteFault, NoMemory}
 use Rattle.drda_node.specs.Machine.{Machine}
@@ -101,9 +101,6 @@ whole first now input left gathered w0 w w' so_far wrote = record {
   answered = so_far.answered;
   appended = subst (λ (z : List ℕ). Appends w0 w' z) (sym so_far.parts) (Appends-trans w0 w w' so_far.sent gathered so_far.appended wrote);
 }
-
-appends_front : (w0 w w' : Option (List ℕ)) (x y : List ℕ) (count : ℕ) → Appends w0 w x → Appends w w' (take count y) → Appends w0 w' (take (length x + count) (x ++ y))
-appends_front w0 w w' x y count p q = subst (λ (z : List ℕ). Appends w0 w' z) (sym (take-append-add x y count)) (Appends-trans w0 w w' x (take count y) p q)
 
 -- a front of it is written
 broken_off : (first now : Machine) (input left gathered : List ℕ) (w0 w w' : Option (List ℕ)) → Gathers first input w0 left w gathered now → (count : ℕ) × Appends w w' (take count gathered) → Runs first input w0 WriteFault w' now
