@@ -11,3 +11,4 @@ mod CursorObjects
 mod SyncObjects
 mod TreesOf
 mod Failing
+mod Feeding
