@@ -1,5 +1,5 @@
 -- Calls of the core over its disk, as those who ask it see them.
-use Rattle.std.proofs.Common.{◌≡◌, ℕ, Bool, true, false, List, [], ◌++◌, sym, ap, ◌∙◌, inl, inr, append-nil}
+use Rattle.std.proofs.Common.{◌≡◌, ℕ, Bool, true, false, [], ◌++◌, sym, ap, ◌∙◌, inl, inr, append-nil}
 use Rattle.std.specs.Prelude.{if◌then◌else◌}
 use Rattle.drda_disk.specs.Disk.{Life}
 use Rattle.core_calls.specs.Call.{Call}

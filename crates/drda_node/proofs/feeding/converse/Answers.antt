@@ -1,4 +1,5 @@
-use Rattle.std.proofs.Common.{◌≡◌, ◌≤◌, ◌<◌, ◌+◌, ◌-◌, ℕ, List, length, take, drop, min, refl, sym, subst, ◌∙◌, arith}
+use Rattle.std.proofs.Common.{◌≡◌, ◌≤◌, ◌<◌, ◌+◌, ℕ, List, length, take, drop, refl, sym, subst, ◌∙◌, arith}
+use Rattle.std.proofs.lemmas.List.{take_rest}
 use Rattle.drda_node.specs.declared.fed.FedState.{FedState}
 use Rattle.drda_node.specs.declared.fed.FedState.TheVariants.{Later}
 use Rattle.drda_node.specs.Asking.{core_of}
@@ -47,7 +48,7 @@ returns-then-taken-piece-clause-takes g c =
     let out1 = c.reserve.new.self.items in
     let out2 = c.hand_on-fed.new.out.items in
     let takes = subst (λ (v : Settings). Takes v place between (take fed.taken (drop c.pieces.taken piece)) out1 fed new out2) c.pieces.invariant.settings
-    (subst (λ (n : ℕ). Takes c.pieces.front.settings n between (take fed.taken (drop c.pieces.taken piece)) out1 fed new out2) c.pieces.invariant.same_asker.conversation c.hand_on-fed.ensures.takes) in
+    (subst (λ (n : ℕ). Takes c.pieces.front.settings n between (take fed.taken (drop c.pieces.taken piece)) out1 fed new out2) c.pieces.invariant.same_asker.conversation (rw take_rest at c.hand_on-fed.ensures.takes)) in
     let under_way = subst (λ (z : List ℕ). IsUnderWay settings place old piece out c.pieces.taken between z) (sym c.reserve.ensures.items) c.pieces.invariant.under_way in
     subst (λ (s : FedState). Takes settings place old piece out (record { taken = c.pieces.taken + fed.taken; state = s }) new out2) c.in-Open.is
     (ends_so settings place c.stays_read.ensures.fault old between new piece out out1 out2 c.pieces.taken fed under_way takes c.hand_on-fed.ensures.stuck (λ e. c.if-taken-piece.true))
@@ -65,7 +66,7 @@ pieces-preserved g c =
     let out1 = c.reserve.new.self.items in
     let out2 = c.hand_on-fed.new.out.items in
     let takes = subst (λ (v : Settings). Takes v place between (take fed.taken (drop c.pieces.taken piece)) out1 fed new out2) c.pieces.invariant.settings
-    (subst (λ (n : ℕ). Takes c.pieces.front.settings n between (take fed.taken (drop c.pieces.taken piece)) out1 fed new out2) c.pieces.invariant.same_asker.conversation c.hand_on-fed.ensures.takes) in
+    (subst (λ (n : ℕ). Takes c.pieces.front.settings n between (take fed.taken (drop c.pieces.taken piece)) out1 fed new out2) c.pieces.invariant.same_asker.conversation (rw take_rest at c.hand_on-fed.ensures.takes)) in
     let under_way = subst (λ (z : List ℕ). IsUnderWay settings place old piece out c.pieces.taken between z) (sym c.reserve.ensures.items) c.pieces.invariant.under_way in
     record {
       settled = c.hand_on-fed.ensures.settled;
@@ -89,7 +90,7 @@ returns-in_default-state g c =
     let out1 = c.reserve.new.self.items in
     let out2 = c.hand_on-fed.new.out.items in
     let takes = subst (λ (v : Settings). Takes v place between (take fed.taken (drop c.pieces.taken piece)) out1 fed new out2) c.pieces.invariant.settings
-    (subst (λ (n : ℕ). Takes c.pieces.front.settings n between (take fed.taken (drop c.pieces.taken piece)) out1 fed new out2) c.pieces.invariant.same_asker.conversation c.hand_on-fed.ensures.takes) in
+    (subst (λ (n : ℕ). Takes c.pieces.front.settings n between (take fed.taken (drop c.pieces.taken piece)) out1 fed new out2) c.pieces.invariant.same_asker.conversation (rw take_rest at c.hand_on-fed.ensures.takes)) in
     let under_way = subst (λ (z : List ℕ). IsUnderWay settings place old piece out c.pieces.taken between z) (sym c.reserve.ensures.items) c.pieces.invariant.under_way in
     record {
       settled = c.hand_on-fed.ensures.settled;

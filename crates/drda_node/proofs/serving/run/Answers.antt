@@ -1,11 +1,12 @@
-use Rattle.std.proofs.Common.{◌≡◌, ℕ, List, length, take, drop, ap, subst, ◌∙◌, arith}
+use Rattle.std.proofs.Common.{◌≡◌, ℕ, List, length, drop, ap, subst, ◌∙◌, arith, [], sym}
 use Rattle.drda_node.specs.Register.{core_in, machine}
 use Rattle.drda_node.proofs.Journal.{more, none}
-use Rattle.drda_node.specs.Gathering.{PassesOn, WritesFront}
+use Rattle.drda_node.specs.declared.serving.RunEnd.TheVariants.{Ended, BadEvent, ReadFault}
+use Rattle.drda_node.specs.Gathering.{Ends, PassesOn, WritesFront}
 use Rattle.drda_node.specs.Reading.{event_of}
 use Rattle.drda_node.specs.Happening.{Happens}
 use Rattle.drda_node.proofs.Written.{take_front}
-use Rattle.drda_node.proofs.Runs.{starts, one_more, ends, is_bad, read_fault, no_memory, write_fault}
+use Rattle.drda_node.proofs.Runs.{SoFar, starts, one_more, ends, is_bad, read_fault, no_memory, write_fault}
 use Rattle.drda_node.proofs.serving.run.Goals as goal
 
 pub returns-in_default-clause-runs : goal.returns-in_default-clause-runs
@@ -59,17 +60,20 @@ returns-in_default-pass_on-clause-runs g c =
 pub returns-in-Ended-clause-runs : goal.returns-in-Ended-clause-runs
 returns-in-Ended-clause-runs g c =
     ends (g.R.Read.remaining c.args.reader.now) (g.R.Read.remaining c.events.reader) (g.W.Write.contents c.args.writer.now) (g.W.Write.contents c.events.writer) (g.W.Write.contents c.finish.new.writer) (machine c.args.node.now) (machine c.events.node)
-    c.events.gathered.items c.finish.result c.events.invariant.so_far c.in-Ended.ensures.reads c.finish.ensures
+    c.events.gathered.items c.finish.result c.events.invariant.so_far c.in-Ended.ensures.reads
+    (subst (λ (z : List ℕ). Ends (g.W.Write.contents c.events.writer) z Ended c.finish.result (g.W.Write.contents c.finish.new.writer)) c.deref-in-Ended.ensures.value c.finish.ensures)
 
 pub returns-in-Bad-clause-runs : goal.returns-in-Bad-clause-runs
 returns-in-Bad-clause-runs g c =
-    is_bad (g.R.Read.remaining c.args.reader.now) (g.R.Read.remaining c.events.reader) (g.W.Write.contents c.args.writer.now) (g.W.Write.contents c.events.writer) (g.W.Write.contents c.finish.new.writer) (machine c.args.node.now) (machine c.events.node)
-    c.events.gathered.items c.finish.result c.events.invariant.so_far c.in-Bad.ensures.reads c.finish.ensures
+    is_bad (g.R.Read.remaining c.args.reader.now) (g.R.Read.remaining c.events.reader) (g.W.Write.contents c.args.writer.now) (g.W.Write.contents c.events.writer) (g.W.Write.contents c.finish-in-Bad.new.writer) (machine c.args.node.now) (machine c.events.node)
+    c.events.gathered.items c.finish-in-Bad.result c.events.invariant.so_far c.in-Bad.ensures.reads
+    (subst (λ (z : List ℕ). Ends (g.W.Write.contents c.events.writer) z BadEvent c.finish-in-Bad.result (g.W.Write.contents c.finish-in-Bad.new.writer)) c.deref-in-Bad.ensures.value c.finish-in-Bad.ensures)
 
 pub returns-in-Fault-clause-runs : goal.returns-in-Fault-clause-runs
 returns-in-Fault-clause-runs g c =
-    read_fault (g.R.Read.remaining c.args.reader.now) (g.R.Read.remaining c.events.reader) (g.W.Write.contents c.args.writer.now) (g.W.Write.contents c.events.writer) (g.W.Write.contents c.finish.new.writer) (machine c.args.node.now) (machine c.events.node)
-    c.events.gathered.items c.finish.result c.events.invariant.so_far c.finish.ensures
+    read_fault (g.R.Read.remaining c.args.reader.now) (g.R.Read.remaining c.events.reader) (g.W.Write.contents c.args.writer.now) (g.W.Write.contents c.events.writer) (g.W.Write.contents c.finish-in-Fault.new.writer) (machine c.args.node.now) (machine c.events.node)
+    c.events.gathered.items c.finish-in-Fault.result c.events.invariant.so_far
+    (subst (λ (z : List ℕ). Ends (g.W.Write.contents c.events.writer) z ReadFault c.finish-in-Fault.result (g.W.Write.contents c.finish-in-Fault.new.writer)) c.deref-in-Fault.ensures.value c.finish-in-Fault.ensures)
 
 pub events-preserved : goal.events-preserved
 events-preserved g c =
@@ -102,8 +106,9 @@ events-preserved g c =
 
 pub returns-clause-runs : goal.returns-clause-runs
 returns-clause-runs g c =
-    read_fault (g.R.Read.remaining c.args.reader.now) (g.R.Read.remaining c.events.reader) (g.W.Write.contents c.args.writer.now) (g.W.Write.contents c.events.writer) (g.W.Write.contents c.finish.new.writer) (machine c.args.node.now) (machine c.events.node)
-    c.events.gathered.items c.finish.result c.events.invariant.so_far c.finish.ensures
+    read_fault (g.R.Read.remaining c.args.reader.now) (g.R.Read.remaining c.events.reader) (g.W.Write.contents c.args.writer.now) (g.W.Write.contents c.events.writer) (g.W.Write.contents c.finish-2.new.writer) (machine c.args.node.now) (machine c.events.node)
+    c.events.gathered.items c.finish-2.result c.events.invariant.so_far
+    (subst (λ (z : List ℕ). Ends (g.W.Write.contents c.events.writer) z ReadFault c.finish-2.result (g.W.Write.contents c.finish-2.new.writer)) c.deref-2.ensures.value c.finish-2.ensures)
 
 pub returns-in_default-clause-journaled : goal.returns-in_default-clause-journaled
 returns-in_default-clause-journaled g c = none g.D.Disk.is_modelled g.D.Disk.life c.calls_go_on.ensures (core_in c.args.node.now) c.is_durable.ensures
@@ -118,5 +123,6 @@ pub events-init : goal.events-init
 events-init g c = record {
   room = c.in-Ok.ensures;
   journaled = none g.D.Disk.is_modelled g.D.Disk.life c.calls_go_on.ensures (core_in c.args.node.now) c.is_durable.ensures;
-  so_far = starts (g.R.Read.remaining c.args.reader.now) (g.W.Write.contents c.args.writer.now) (machine c.args.node.now);
+  so_far = subst (λ (z : List ℕ). SoFar (machine c.args.node.now) (g.R.Read.remaining c.args.reader.now) (g.R.Read.remaining c.args.reader.now) (g.W.Write.contents c.args.writer.now) (g.W.Write.contents c.args.writer.now) z (machine c.args.node.now)) (sym c.new-gathered.ensures.items)
+      (starts (g.R.Read.remaining c.args.reader.now) (g.W.Write.contents c.args.writer.now) (machine c.args.node.now));
 }
