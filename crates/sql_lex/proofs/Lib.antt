@@ -5,3 +5,4 @@ pub mod Parts
 pub mod Readable
 pub mod Spelled
 pub mod Terminals
+pub mod Words

@@ -7,7 +7,7 @@ ghost use Rattle.sql_lex.specs.Terminal as wordlist;
 ghost use Rattle.sql_lex.specs.Tokens as spec;
 
 use crate::part::Part;
-use crate::terminal::{Terminal, words};
+use crate::terminal::{Terminal, words_of};
 use crate::token::{Comparison, Token};
 
 /// The most bytes of a name.
@@ -55,10 +55,16 @@ fn is_spelled(text: &[u8], word: Terminal) -> bool
     text.eq_ignore_ascii_case(word.spelling())
 }
 
+fn spelled_among(words: &[Terminal], text: &[u8]) -> Option<Terminal>
+    ensures { result ≡ find (spec.is_spelled text.now) words.now }
+{
+    words.iter().copied().find(|w| is_spelled(text, *w))
+}
+
 fn word(text: &[u8]) -> Option<Terminal>
     ensures { result ≡ find (spec.is_spelled text.now) wordlist.words }
 {
-    words().iter().copied().find(|w| is_spelled(text, *w))
+    spelled_among(words_of(text.len()), text)
 }
 
 #[tactic(auto, unfolding(crate::specs::Tokens::named))]
@@ -77,15 +83,17 @@ fn closing(mut text: &[u8]) -> Option<usize>
     ensures value { result ≡ spec.closing false 0 text.entry.now }
     ensures within { IfSome result (λ end. end < length text.entry.now) }
 {
-    let mut is_second = false;
     let mut at = 0;
     while let [b, rest @ ..] = text {
-        if !is_second && *b == b'\'' && byte(rest, 0) != b'\'' {
+        if *b != b'\'' {
+            at += 1;
+            text = rest;
+        } else if let [b'\'', rest @ ..] = rest {
+            at += 2;
+            text = rest;
+        } else {
             return Some(at);
         }
-        is_second = !is_second && *b == b'\'';
-        at += 1;
-        text = rest;
     }
     None
 }

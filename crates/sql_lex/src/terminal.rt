@@ -1,6 +1,6 @@
 //! Tokens of one fixed spelling.
 
-ghost use Rattle.std.specs.Prelude.{◌≡◌, ◌↔◌, IsTrue};
+ghost use Rattle.std.specs.Prelude.{◌≡◌, ◌↔◌, ◌==◌, IsTrue, length, filter};
 ghost use Rattle.sql_lex.specs.Terminal as spec;
 
 /// A token of one fixed spelling: a word of the grammar, in letters of either case, or a sign.
@@ -42,39 +42,36 @@ pub enum Terminal {
     Plus,
 }
 
-/// The words of the grammar. None of them can be a name.
-pub const WORDS: [Terminal; 24] = [
-    Terminal::Create,
-    Terminal::Table,
-    Terminal::Primary,
-    Terminal::Key,
-    Terminal::Not,
-    Terminal::Null,
-    Terminal::SmallInt,
-    Terminal::Integer,
-    Terminal::Int,
-    Terminal::BigInt,
-    Terminal::VarChar,
-    Terminal::VarBinary,
-    Terminal::Insert,
-    Terminal::Into,
-    Terminal::Values,
-    Terminal::Update,
-    Terminal::Set,
-    Terminal::Where,
-    Terminal::Delete,
-    Terminal::From,
-    Terminal::Select,
-    Terminal::Or,
-    Terminal::And,
-    Terminal::Is,
-];
-
-/// The words, as a slice.
-pub(crate) fn words() -> &'static [Terminal]
-    ensures { result.now ≡ spec.words }
+/// The words of the grammar that have so many bytes. None of them can be a name.
+#[tactic(auto, unfolding(crate::specs::Terminal::words))]
+pub(crate) fn words_of(bytes: usize) -> &'static [Terminal]
+    ensures { result.now ≡ filter (λ w. length (spec.spelling w) == bytes) spec.words }
 {
-    &WORDS
+    match bytes {
+        2 => &[Terminal::Or, Terminal::Is],
+        3 => &[
+            Terminal::Key,
+            Terminal::Not,
+            Terminal::Int,
+            Terminal::Set,
+            Terminal::And,
+        ],
+        4 => &[Terminal::Null, Terminal::Into, Terminal::From],
+        5 => &[Terminal::Table, Terminal::Where],
+        6 => &[
+            Terminal::Create,
+            Terminal::BigInt,
+            Terminal::Insert,
+            Terminal::Values,
+            Terminal::Update,
+            Terminal::Delete,
+            Terminal::Select,
+        ],
+        7 => &[Terminal::Primary, Terminal::Integer, Terminal::VarChar],
+        8 => &[Terminal::SmallInt],
+        9 => &[Terminal::VarBinary],
+        _ => &[],
+    }
 }
 
 impl Terminal {
