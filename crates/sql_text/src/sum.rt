@@ -14,6 +14,7 @@ use sqlite_items::Items;
 use std::alloc::Global;
 
 /// The value that begins so.
+#[inline(always)]
 pub(crate) fn value_behind<'a>(
     start: ValueStart<'a>,
     cursor: Cursor<'a>,
@@ -31,6 +32,7 @@ pub(crate) fn value_behind<'a>(
 }
 
 #[tactic(auto, unfolding(crate::specs::Rules::value_at))]
+#[inline(always)]
 pub(crate) fn value<'a>(cursor: Cursor<'a>) -> Result<(Literal<'a>, Cursor<'a>), Fault>
     ensures value { Yields (spec.value_at (tokens_ahead cursor.entry)) result }
     ensures markers { Keeps cursor.entry result }

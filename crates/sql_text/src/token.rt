@@ -178,6 +178,7 @@ pub(crate) fn operation<'a>(cursor: Cursor<'a>) -> (Option<Operation>, Cursor<'a
     }
 }
 
+#[inline(always)]
 fn start_of<'a>(token: Token<'a>) -> Option<ValueStart<'a>>
     ensures { result ≡ spec.as_start token.entry }
 {
@@ -203,6 +204,7 @@ fn start_of<'a>(token: Token<'a>) -> Option<ValueStart<'a>>
 }
 
 #[tactic(auto, unfolding(crate::specs::Reading::start_at))]
+#[inline(always)]
 pub(crate) fn start<'a>(cursor: Cursor<'a>) -> Result<(ValueStart<'a>, Cursor<'a>), Fault>
     ensures value { Yields (spec.start_at (tokens_ahead cursor.entry)) result }
     ensures markers { Keeps cursor.entry result }
