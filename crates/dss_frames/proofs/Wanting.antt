@@ -1,15 +1,11 @@
 -- What a reader asks for is never more than the command under way.
-use Rattle.std.proofs.Common.{◌≡◌, ℕ, ◌+◌, ◌-◌, ◌≤◌, ◌<◌, max, Bool, true, false, List, [], ◌∷◌, ◌++◌, length, take, drop, None, Ok, refl, sym, ap, ◌∙◌, arith, length-append, length-drop, take-append-drop}
-use Rattle.std.proofs.lemmas.List.{append-nil, take-append-le}
-use Rattle.std.proofs.Math.Seq.{take-append_seam, take-append-add}
+use Rattle.std.proofs.Common.{◌≡◌, ℕ, ◌+◌, ◌-◌, ◌≤◌, ◌<◌, max, Bool, true, false, List, ◌∷◌, ◌++◌, length, take, drop, None, Ok, refl, sym, arith, length-append, length-drop, take-append-drop}
 use Rattle.std.proofs.Math.Dec.{ltb}
 use Rattle.std.proofs.lemmas.Bool.{ltb-true, ltb-false}
 use Rattle.dss_frames.specs.declared.turn.Turn.TheVariants.{Request, Object, Nothing}
 use Rattle.dss_frames.specs.declared.progress.Expected.{Expected}
 use Rattle.dss_frames.specs.declared.progress.Expected.TheVariants.{Header, Continuation}
 use Rattle.dss_frames.specs.declared.progress.Progress.{Progress}
-use Rattle.dss_frames.specs.Dss.{Dss}
-use Rattle.dss_frames.specs.Command.{IsCommand}
 use Rattle.dss_frames.specs.Fault.{IsUnfinished}
 use Rattle.dss_frames.specs.Judging.{judged}
 use Rattle.dss_frames.specs.Progress.{IsAt, HasCommand, header_length}

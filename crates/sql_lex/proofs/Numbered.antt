@@ -1,7 +1,7 @@
 -- Markers are numbered in the order of the text.
-use Rattle.std.proofs.Common.{◌≡◌, ℕ, zero, suc, ◌+◌, ◌-◌, Bool, true, false, cond, List, [], ◌∷◌, Some, None, refl, sym, ap, ◌∙◌, arith, slice_index, length}
+use Rattle.std.proofs.Common.{◌≡◌, ℕ, zero, suc, ◌+◌, ◌-◌, Bool, true, false, cond, List, [], ◌∷◌, refl, sym, ap, ◌∙◌, arith, length}
 use Rattle.sql_lex.proofs.Ahead.{ahead-all}
-use Rattle.sql_lex.proofs.Cases.{Cut, cut_token}
+use Rattle.sql_lex.proofs.Cases.{cut_token}
 use Rattle.sql_lex.specs.Markers.{markers_in, markers_of, HasNumber, AreNumbered}
 use Rattle.sql_lex.specs.Tokens.{Lexeme, token, tokens, tokens_from, tokens_ahead, is_blank, counted}
 use Rattle.sql_lex.specs.declared.token.Token.{Token}

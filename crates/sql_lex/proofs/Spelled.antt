@@ -1,5 +1,5 @@
 -- Each token is spelled as plain words say.
-use Rattle.std.proofs.Common.{◌≡◌, ◌≢◌, ◌⊎◌, inl, inr, ℕ, zero, suc, ◌+◌, ◌-◌, ◌≤◌, ◌<◌, ◌%◌, Bool, true, false, cond, not, ◌&&◌, ◌||◌, List, [], ◌∷◌, ◌++◌, length, take, drop, map, Option, Some, None, slice_index, refl, sym, ap, ◌∙◌, subst, arith, position, find, codes, length-drop}
+use Rattle.std.proofs.Common.{◌≡◌, ◌≢◌, ◌⊎◌, inl, inr, ℕ, zero, suc, ◌+◌, ◌-◌, ◌≤◌, ◌<◌, ◌%◌, Bool, true, false, cond, not, ◌&&◌, ◌||◌, List, [], ◌∷◌, ◌++◌, length, take, drop, map, Option, Some, None, slice_index, refl, sym, ap, ◌∙◌, subst, arith, position, find, length-drop}
 use Rattle.std.specs.Prelude.{◌==◌, nat_le, nat_lt}
 use Rattle.std.specs.Char.{is_ascii_digit, is_ascii_alphabetic, is_ascii_hexdigit, eq_ignore_ascii_case, to_ascii_lowercase, to_ascii_uppercase}
 use Rattle.std.specs.Int.{is_in_range}
@@ -10,7 +10,7 @@ use Rattle.std.proofs.lemmas.List.{take-append-drop}
 use Rattle.std.proofs.lemmas.List.Folds.{length-prefix_len}
 use Rattle.std.proofs.lemmas.Str.Ascii.{lowercase-uppercase}
 use Rattle.std.proofs.Math.Seq.{take-append_seam}
-use Rattle.sql_lex.specs.Spelling.{capitals, IsName, AreDigits, ArePairs, doubled, sign_of, Lengthens, IsSpelled, AllSpelled}
+use Rattle.sql_lex.specs.Spelling.{capitals, doubled, sign_of, Lengthens, IsSpelled, AllSpelled}
 use Rattle.sql_lex.specs.Terminal.{spelling, words, is_same}
 use Rattle.sql_lex.specs.Tokens.{Lexeme, token, tokens, tokens_from, is_blank, goes_on, is_spelled, closing, is_pairs, counted}
 use Rattle.sql_lex.specs.declared.terminal.Terminal.{Terminal}
@@ -19,7 +19,7 @@ use Rattle.sql_lex.specs.declared.token.Comparison.{Comparison}
 use Rattle.sql_lex.specs.declared.token.Comparison.TheVariants as is
 use Rattle.sql_lex.specs.declared.token.Token.{Token}
 use Rattle.sql_lex.specs.declared.token.Token.TheVariants as t
-use Rattle.sql_lex.proofs.Cases.{Cut, cut_token}
+use Rattle.sql_lex.proofs.Cases.{cut_token}
 use Rattle.sql_lex.proofs.Parts.{Rests, tail_rests}
 use Rattle.sql_lex.proofs.Terminals.{same_is}
 

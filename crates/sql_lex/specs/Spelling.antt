@@ -1,5 +1,5 @@
 -- How each token is spelled, in plain words.
-use Rattle.std.specs.Prelude.{◌≡◌, ◌≢◌, ◌⊎◌, ◌≤◌, ℕ, ◌+◌, ◌-◌, ◌%◌, ◌==◌, false, true, if◌then◌else◌, List, [], ◌∷◌, ◌++◌, length, drop, map, slice_index, None, Some, codes}
+use Rattle.std.specs.Prelude.{◌≡◌, ◌≢◌, ◌⊎◌, ◌≤◌, ℕ, ◌-◌, ◌%◌, ◌==◌, false, true, if◌then◌else◌, List, [], ◌∷◌, ◌++◌, length, drop, map, slice_index, None, Some, codes}
 use Rattle.std.specs.Char.{is_ascii_alphabetic, is_ascii_digit, is_ascii_hexdigit, to_ascii_uppercase}
 use Rattle.std.specs.List.{list_all}
 use Rattle.std.specs.Str.{IsUtf8}

@@ -1,6 +1,5 @@
-use Rattle.std.proofs.Common.{◌≡◌, ◌++◌, List, ℕ, [], take, length, sym, subst}
-use Rattle.dss_frames.specs.Fault.{IsUnfinished}
-use Rattle.dss_frames.specs.Lending.{GoesFar, KeepsToFirst}
+use Rattle.std.proofs.Common.{List, ℕ, [], length, sym, subst}
+use Rattle.dss_frames.specs.Lending.{KeepsToFirst}
 use Rattle.dss_frames.specs.Progress.{IsAt}
 use Rattle.dss_frames.proofs.Fronts.{none, as_far_as_wanted, as_wanted, behind_command, with_command, without_command}
 use Rattle.dss_frames.proofs.Steps.{place_more}
