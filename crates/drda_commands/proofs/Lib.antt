@@ -3,3 +3,4 @@ mod Counting
 mod Faults
 mod Required
 mod Passing
+mod Alone

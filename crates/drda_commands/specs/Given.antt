@@ -24,6 +24,10 @@ pub record Given : Type 0 where
   pub parameters : List ℕ
   pub objects : List (List ℕ)
 
+-- a command that comes alone
+abbrev pub nothing : Given
+nothing = record { parameters = []; objects = [] }
+
 -- how often a code point stands there, and its data where it stands once
 pub data Occurs : Type 0 where
   never : Occurs

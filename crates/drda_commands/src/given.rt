@@ -1,9 +1,9 @@
 //! What a command brought.
 
-ghost use Rattle.std.specs.Prelude.{◌≡◌, ◌&&◌, option_copied, ◌==◌, if◌then◌else◌, ◌+◌, ◌^◌, ◌-◌, List, ℕ, min, length};
+ghost use Rattle.std.specs.Prelude.{◌≡◌, ◌↔◌, IsTrue, ◌&&◌, option_copied, ◌==◌, if◌then◌else◌, ◌+◌, ◌^◌, ◌-◌, List, ℕ, min, length};
 ghost use Rattle.ddm_objects.specs.Reading.{walk};
 ghost use Rattle.dss_frames.specs.Group.{command_of};
-ghost use Rattle.drda_commands.specs.Given.{contents_of, value_of, seen_again, seen_in, seen_in_texts, found_at, count_in, is_at, objects_fault, own_fault, fault_inside, fault_in, fault_in_texts, first_fault, never};
+ghost use Rattle.drda_commands.specs.Given.{contents_of, value_of, seen_again, seen_in, seen_in_texts, found_at, nothing, count_in, is_at, objects_fault, own_fault, fault_inside, fault_in, fault_in_texts, first_fault, never};
 ghost use Rattle.ddm_objects.specs.Source.{view};
 ghost use Rattle.drda_commands.specs.Views.{occurs_of, given_of};
 
@@ -75,12 +75,18 @@ fn seen_in<'a>(code: u16, before: Occurs<'a>, text: &'a [u8]) -> Occurs<'a>
 }
 
 /// How often a code point stands in a text of objects.
+#[inline(always)]
+#[tactic(auto, unfolding(ddm_objects::specs::Reading::walk))]
 pub(crate) fn found_in(code: u16, text: &[u8]) -> Occurs<'_>
     ensures { occurs_of result ≡ seen_in code never (walk text.now).objects }
 {
+    if text.is_empty() {
+        return Occurs::Never;
+    }
     seen_in(code, Occurs::Never, text)
 }
 
+#[inline(always)]
 fn found_in_dsss<'a>(code: u16, objects: Group<'a>) -> Occurs<'a>
     ensures { occurs_of result ≡ seen_in_texts code never (contents_of (command_of objects.entry)) }
 {
@@ -192,7 +198,16 @@ fn count_of(text: &[u8]) -> usize
 }
 
 impl<'a> Given<'a> {
+    /// Whether nothing came, no parameter and no object DSS.
+    #[inline(always)]
+    pub(crate) fn is_empty(&self) -> bool
+        ensures { IsTrue result ↔ (given_of self.now ≡ nothing) }
+    {
+        self.parameters.is_empty() && self.objects.is_empty()
+    }
+
     /// How often a code point stands at this place, and its data where it stands once.
+    #[inline(always)]
     pub fn found(&self, kind: ItemKind, code: u16) -> Occurs<'a>
         ensures { occurs_of result ≡ found_at kind code (given_of self.now) }
     {

@@ -51,6 +51,7 @@ fn command_object(contents: &[u8]) -> Result<Object<'_>, Refusal>
     }
 }
 
+#[inline(always)]
 fn check_due(command: Command, stage: Stage) -> Result<(), Refusal>
     ensures { result ≡ spec.due_or_refused command stage }
 {
@@ -66,9 +67,14 @@ fn check_due(command: Command, stage: Stage) -> Result<(), Refusal>
     }
 }
 
+#[inline(always)]
+#[tactic(auto, unfolding(ddm_objects::specs::Reading::walk))]
 fn check_whole(command: Command, given: Given<'_>) -> Result<(), Refusal>
     ensures { result ≡ spec.whole_or_refused command (given_of given.entry) }
 {
+    if given.is_empty() {
+        return Ok(());
+    }
     if let Some(error) = given.first_fault(command) {
         return Err(Refusal::Syntax(error));
     }
@@ -252,12 +258,31 @@ fn item_faults(unicode: bool, item: Item, occurs: Occurs<'_>) -> Faults
     }
 }
 
-// Each item is found once.
+fn is_any_required(items: &[Item]) -> bool
+    ensures { result ≡ list_any (λ item. item.is_required) items.now }
+{
+    for item in items {
+        if item.is_required {
+            return true;
+        }
+    }
+    false
+}
+
+// Each item is found once. A command that comes alone, as a commit does, only wants what it requires.
+#[inline(always)]
 fn faults_of(unicode: bool, items: &[Item], given: &Given<'_>) -> Faults
     ensures twice { result.is_twice ≡ list_any (spec.item_twice (given_of given.now)) items.now }
     ensures missing { result.is_missing ≡ list_any (spec.item_missing (given_of given.now)) items.now }
     ensures bad { MatchOption result.bad (spec.none_bad unicode items.now (given_of given.now) ≡ Ok tt) (λ code. spec.none_bad unicode items.now (given_of given.now) ≡ Err (Refusal.ValueNotSupported code)) }
 {
+    if given.is_empty() {
+        return Faults {
+            is_twice: false,
+            is_missing: is_any_required(items),
+            bad: None,
+        };
+    }
     let mut faults = Faults {
         is_twice: false,
         is_missing: false,
