@@ -31,7 +31,7 @@ unfinished_by false bytes place e h lt =
     let short = short_header place.expected (drop place.at bytes) tail in
     place_part bytes place h le short.0 short.1
 
-unfinished : (bytes : List ℕ) (place : Progress) → IsAt bytes place → length bytes < place.at + header_length place.expected → IsUnfinished bytes
+pub unfinished : (bytes : List ℕ) (place : Progress) → IsAt bytes place → length bytes < place.at + header_length place.expected → IsUnfinished bytes
 unfinished bytes place h lt = unfinished_by (ltb (length bytes) place.at) bytes place refl h lt
 
 pub is_wanted : (bytes : List ℕ) (place : Progress) (n : ℕ) → IsAt bytes place → length bytes < place.at + header_length place.expected → n ≡ max 1 (place.at + header_length place.expected - length bytes) → IsWanted bytes n

@@ -19,7 +19,7 @@ pub struct Group<'a> {
 }
 
 impl<'a> Group<'a> {
-    ghost use Rattle.std.specs.Prelude.{◌≡◌, [], ◌∷◌, MatchOption, slice_get, length};
+    ghost use Rattle.std.specs.Prelude.{◌≡◌, ◌↔◌, [], ◌∷◌, IsTrue, MatchOption, slice_get, length};
     ghost use Rattle.std.specs.Option.{option_map};
     ghost use Rattle.dss_frames.specs.Group.{command_of, dss_of};
 
@@ -40,6 +40,7 @@ impl<'a> Group<'a> {
 
     /// The first DSS and those behind it; none where no DSS is left. So a walk over the command is
     /// linear.
+    #[inline(always)]
     pub fn split_first(&self) -> Option<(Dss<'a>, Group<'a>)>
         ensures { MatchOption result (command_of self.now ≡ []) (λ x. command_of self.now ≡ dss_of x.0 ∷ command_of x.1) }
     {
@@ -54,6 +55,14 @@ impl<'a> Group<'a> {
                 text: &text[behind..],
             },
         ))
+    }
+
+    /// Whether no DSS is left.
+    #[inline(always)]
+    pub fn is_empty(&self) -> bool
+        ensures { IsTrue result ↔ (command_of self.now ≡ []) }
+    {
+        self.split_first().is_none()
     }
 
     /// How many DSSs the command has.
@@ -75,6 +84,7 @@ ghost use Rattle.std.specs.Option.{option_map};
 ghost use Rattle.dss_frames.specs.Group.{dss_of, first_dss};
 
 /// The DSS that lies at a place of a group's text.
+#[inline(always)]
 fn dss_at(text: &[u8], at: usize) -> Option<Dss<'_>>
     requires { at ≤ length text.now }
     ensures value { option_map dss_of result ≡ first_dss (drop at text.now) }

@@ -14,6 +14,7 @@ use crate::turn::Turn;
 const MAX_DSS_BYTES: usize = 1_048_576;
 
 /// The length of a segment, its own header counted.
+#[inline(always)]
 pub(crate) fn segment_length(high: u8, low: u8) -> usize
     ensures { result ≡ segment_length high low }
 {
@@ -22,12 +23,14 @@ pub(crate) fn segment_length(high: u8, low: u8) -> usize
 }
 
 /// Whether a continuation follows the segment.
+#[inline(always)]
 pub(crate) fn is_continued(high: u8, low: u8) -> bool
     ensures { result ≡ is_continued high low }
 {
     u16::from_be_bytes([high, low]) >= 32768
 }
 
+#[inline(always)]
 fn turn_after(format: Format, correlator: u16) -> Turn
     ensures { result ≡ turn_after format.byte correlator }
 {
@@ -38,6 +41,7 @@ fn turn_after(format: Format, correlator: u16) -> Turn
     }
 }
 
+#[inline(always)]
 fn is_due(turn: Turn, format: Format, correlator: u16) -> bool
     ensures { result ≡ is_due turn format.byte correlator }
 {
@@ -48,6 +52,7 @@ fn is_due(turn: Turn, format: Format, correlator: u16) -> bool
     }
 }
 
+#[inline(always)]
 fn header_fault(
     turn: Turn,
     high: u8,
@@ -87,6 +92,7 @@ fn continuation_fault(declared: usize, high: u8, low: u8) -> Option<SyntaxCode>
     }
 }
 
+#[inline(always)]
 fn after_segment(more: bool, format: Format, correlator: u16, declared: usize) -> Expected
     ensures { result ≡ after_segment more format.byte correlator declared }
 {
@@ -97,6 +103,7 @@ fn after_segment(more: bool, format: Format, correlator: u16, declared: usize) -
     }
 }
 
+#[inline(always)]
 fn judge_header(turn: Turn, bytes: &[u8]) -> Result<Option<(Expected, usize)>, FrameFault>
     requires { turn ≢ Turn.Nothing }
     ensures { result ≡ judged (Expected.Header turn) bytes.now }
@@ -141,6 +148,7 @@ fn judge_continuation(
 
 /// Judges the header in front as soon as it has come: what is expected behind its segment, and how
 /// long the segment is.
+#[inline(always)]
 pub(crate) fn judge(
     expected: Expected,
     bytes: &[u8],

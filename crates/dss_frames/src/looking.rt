@@ -8,7 +8,8 @@ use crate::judging::judge;
 use crate::progress::{Expected, Found, Progress};
 use crate::turn::Turn;
 
-fn header_length(expected: Expected) -> usize
+#[inline(always)]
+pub(crate) fn header_length(expected: Expected) -> usize
     ensures exact { result ≡ header_length expected }
     ensures small { result ≤ 6 }
 {
@@ -20,6 +21,7 @@ fn header_length(expected: Expected) -> usize
 }
 
 /// How many bytes more the next header takes, or the rest of the command; one at the least.
+#[inline(always)]
 fn missing(place: Progress, bytes: &[u8]) -> usize
     requires { place.at ≤ length bytes.now + 32767 }
     ensures { result ≡ max 1 (place.at + header_length place.expected - length bytes.now) }
@@ -29,6 +31,7 @@ fn missing(place: Progress, bytes: &[u8]) -> usize
 }
 
 /// Judges the headers that have come, from a place on.
+#[inline(always)]
 pub(crate) fn look(place: Progress, bytes: &[u8]) -> Result<Found, FrameFault>
     requires { IsAt bytes.now place }
     ensures { Finds bytes.now result }
@@ -49,6 +52,7 @@ pub(crate) fn look(place: Progress, bytes: &[u8]) -> Result<Found, FrameFault>
     Ok(Found::Nothing(place))
 }
 
+#[inline(always)]
 fn found(place: Progress) -> Found
     ensures { result ≡ found_at place }
 {
@@ -60,7 +64,8 @@ fn found(place: Progress) -> Found
 
 /// How many bytes at the least are missing behind those that have come until the next header, segment or
 /// command can be judged: at least one.
-fn wanted(place: Progress, bytes: &[u8]) -> usize
+#[inline(always)]
+pub(crate) fn wanted(place: Progress, bytes: &[u8]) -> usize
     requires { IsAt bytes.now place }
     ensures some { 1 ≤ result }
     ensures exact { IsUnfinished bytes.now → IsWanted bytes.now result }
@@ -74,6 +79,7 @@ fn wanted(place: Progress, bytes: &[u8]) -> usize
 
 /// How many bytes in front of a piece belong to the command of which these bytes have come, and where
 /// the next header stands behind them. A command that begins with the piece is judged there, once.
+#[inline]
 pub(crate) fn front_of(place: Progress, bytes: &[u8], piece: &[u8]) -> (usize, Progress)
     requires { IsAt bytes.now place }
     ensures within { result.0 ≤ length piece.now }
@@ -92,6 +98,7 @@ pub(crate) fn front_of(place: Progress, bytes: &[u8], piece: &[u8]) -> (usize, P
 }
 
 /// The place behind a whole command of so many bytes.
+#[inline(always)]
 fn behind_command(size: usize) -> Progress
     ensures { result ≡ record { at = size; expected = Expected.Header Turn.Nothing } }
 {

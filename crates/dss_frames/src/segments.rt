@@ -1,7 +1,7 @@
 use crate::fault::FrameFault;
 use crate::group::Group;
 use crate::joining::join;
-use crate::looking::{front_of, look};
+use crate::looking::{front_of, header_length, look, wanted};
 use crate::progress::{Expected, Found, Progress};
 use crate::turn::Turn;
 use std::alloc::Global;
@@ -83,7 +83,7 @@ impl Segments {
     /// Takes the bytes in front of a piece that belong to the command under way, and says how many: up to
     /// its end, or to the end of the next header where that is to be judged first, and all of the piece
     /// where it ends before; none after a fault, and none where memory is refused. So no byte here stands
-    /// behind the first command or fault. What was lent before is forgotten.
+    /// behind the first command or fault. Where nothing is held, what was lent before is forgotten.
     pub fn feed_command(&mut self, piece: &[u8]) -> usize
         ensures taken { self.new.rest ≡ self.old.rest ++ take result piece.now }
         ensures within { result ≤ length piece.now }
@@ -95,7 +95,24 @@ impl Segments {
         if self.at_fault || piece.is_empty() {
             return 0;
         }
-        self.make_room();
+        if self.rest().is_empty() {
+            self.make_room();
+            self.feed_first(piece)
+        } else {
+            self.feed_more(piece)
+        }
+    }
+
+    // The first bytes of a command.
+    #[inline(always)]
+    fn feed_first(&mut self, piece: &[u8]) -> usize
+        requires { self.old.at_fault ≡ false }
+        ensures taken { self.new.rest ≡ self.old.rest ++ take result piece.now }
+        ensures within { result ≤ length piece.now }
+        ensures first { IsUnfinished self.old.rest → KeepsToFirst self.old.rest piece.now result }
+        ensures far { IsUnfinished self.old.rest → (result ≡ 0) ⊎ GoesFar self.old.rest piece.now result }
+        ensures fault_stays { self.new.at_fault ≡ self.old.at_fault }
+    {
         let (count, place) = front_of(self.place, self.rest(), piece);
         match self.buf.extend_from_slice(&piece[..count]) {
             Ok(()) => {
@@ -106,12 +123,33 @@ impl Segments {
         }
     }
 
+    // More of a command under way: the place of its next header stays.
+    #[inline(always)]
+    fn feed_more(&mut self, piece: &[u8]) -> usize
+        requires { self.old.at_fault ≡ false }
+        ensures taken { self.new.rest ≡ self.old.rest ++ take result piece.now }
+        ensures within { result ≤ length piece.now }
+        ensures first { IsUnfinished self.old.rest → KeepsToFirst self.old.rest piece.now result }
+        ensures far { IsUnfinished self.old.rest → (result ≡ 0) ⊎ GoesFar self.old.rest piece.now result }
+        ensures fault_stays { self.new.at_fault ≡ self.old.at_fault }
+    {
+        let count = wanted(self.place, self.rest()).min(piece.len());
+        let Ok(()) = self.buf.extend_from_slice(&piece[..count]) else {
+            return 0;
+        };
+        count
+    }
+
     /// The next command, where all of it has come; none, where more bytes have to come; or the
     /// first fault, which stays. It takes no memory. The command lies in the buffer until the
     /// reader is used again.
+    #[inline(always)]
     pub fn next(&mut self) -> Result<Option<Group<'_>>, FrameFault>
         ensures* after { sem 𝓛 (EndsAs self.entry (λ n. Takes self.old result n)) }
     {
+        if self.waits() {
+            return Ok(None);
+        }
         if self.take_command()? {
             Ok(Some(self.last()))
         } else {
@@ -149,6 +187,16 @@ impl Segments {
         self.lent_size = 0;
     }
 
+    // Whether the next header has not come yet.
+    #[inline(always)]
+    fn waits(&self) -> bool
+        ensures unfinished { IsTrue result → IsUnfinished self.now.rest }
+        ensures no_fault { IsTrue result → self.now.at_fault ≡ false }
+    {
+        self.rest().len() < self.place.at + header_length(self.place.expected)
+    }
+
+    #[inline(never)]
     fn take_command(&mut self) -> Result<bool, FrameFault>
         ensures { TakesFront self.old result self.new }
     {

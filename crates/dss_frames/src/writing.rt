@@ -34,15 +34,20 @@ pub fn write_dss(
 }
 
 /// How many bytes a DSS with so many bytes of contents takes.
+#[inline(always)]
 pub fn written_length(count: usize) -> usize
     requires { written_length count < 2 ^ 64 }
     ensures { result ≡ written_length count }
 {
+    if count <= FIRST_SIZE as usize {
+        return 6 + count;
+    }
     let others = count.saturating_sub(FIRST_SIZE as usize);
     6 + count + 2 * others.div_ceil(NEXT_SIZE as usize)
 }
 
 /// The header of a DSS with so many bytes of contents.
+#[inline(always)]
 fn header(format: Format, correlator: u16, count: usize) -> [u8; 6]
     ensures { result ≡ length_bytes 6 first_size count ++ (0xD0 ∷ format.byte ∷ []) ++ to_be_bytes w16 correlator }
 {
@@ -52,6 +57,7 @@ fn header(format: Format, correlator: u16, count: usize) -> [u8; 6]
 }
 
 /// The length of a segment that holds the first bytes of some, at most so many.
+#[inline(always)]
 fn length_bytes(header: u16, size: u16, count: usize) -> [u8; 2]
     requires { header + size < 32768 }
     ensures { result ≡ length_bytes header size count }
@@ -64,6 +70,7 @@ fn length_bytes(header: u16, size: u16, count: usize) -> [u8; 2]
 }
 
 /// Appends bytes for which there is room.
+#[inline(always)]
 fn append(out: &mut Vec<u8>, bytes: &[u8])
     requires { vec_len out.old + length bytes.now ≤ vec_capacity out.old }
     ensures items { out.new.items ≡ out.old.items ++ bytes.now }

@@ -29,12 +29,13 @@ fn hear_held(segments: &mut Segments, most: usize, out: &mut Vec<u8>) -> Result<
     Ok(true)
 }
 
-/// Each DSS is looked up by its place and found by walking.
+/// Each DSS is looked up by its place and found by walking, and nothing is left behind the last one.
 fn write_down(group: &Group<'_>, out: &mut Vec<u8>) -> Result<(), AllocError> {
     out.extend_from_slice(b"C")?;
     let mut rest = *group;
     for i in 0..group.count() {
-        if let Some(dss) = group.dss(i)
+        if !rest.is_empty()
+            && let Some(dss) = group.dss(i)
             && let Some((first, others)) = rest.split_first()
         {
             out.extend_from_slice(&[b'D', dss.format.byte])?;
@@ -42,6 +43,9 @@ fn write_down(group: &Group<'_>, out: &mut Vec<u8>) -> Result<(), AllocError> {
             out.extend_from_slice(dss.contents)?;
             rest = others;
         }
+    }
+    if !rest.is_empty() {
+        out.extend_from_slice(b"more")?;
     }
     Ok(())
 }
