@@ -27,6 +27,7 @@ pub struct Answer {
     pub severity: u16,
 }
 
+#[inline(always)]
 fn known_from(stage: Stage) -> Stage
     ensures { result ≡ spec.known_from stage }
 {
@@ -36,6 +37,7 @@ fn known_from(stage: Stage) -> Stage
     }
 }
 
+#[inline(always)]
 fn agreed_anew(agreed: Agreed, asked: Option<&[u8]>) -> Agreed
     ensures { result ≡ spec.agreed_anew agreed (option_copied asked.entry) }
 {
@@ -45,6 +47,7 @@ fn agreed_anew(agreed: Agreed, asked: Option<&[u8]>) -> Agreed
     }
 }
 
+#[inline(always)]
 fn excsat(session: Session, asked: Option<&[u8]>, text: &mut Vec<u8>) -> Result<Answer, AllocError>
     ensures { IfOk result (λ a. answer_of a text.new.items ≡ spec.excsat_done session (option_copied asked.entry)) }
 {

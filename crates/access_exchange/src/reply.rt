@@ -1,6 +1,6 @@
 //! The texts of replies.
 
-ghost use Rattle.std.specs.Prelude.{◌≡◌, ◌++◌, [], OnOk, map, codes, Some};
+ghost use Rattle.std.specs.Prelude.{◌≡◌, ◌++◌, [], OnOk, map, codes, None, Some};
 ghost use Rattle.std.specs.Option.{option_copied};
 ghost use Rattle.ddm_objects.specs.Writing.{spelled};
 ghost use Rattle.ebcdic_500.specs.CodePage.{byte_for};
@@ -98,12 +98,9 @@ pub(crate) fn write_rdb_not_found(text: &mut Vec<u8>, name: &[u8]) -> Result<(),
     reply_message(text, ReplyMessage::RdbNotFound(name))
 }
 
-fn write_levels(text: &mut Vec<u8>, asked: Option<&[u8]>) -> Result<(), AllocError>
-    ensures { OnOk result (text.new.items ≡ text.old.items ++ levels_part (option_copied asked.entry)) }
+fn write_levels(text: &mut Vec<u8>, asked: &[u8]) -> Result<(), AllocError>
+    ensures { OnOk result (text.new.items ≡ text.old.items ++ levels_part (Some asked.now)) }
 {
-    let Some(asked) = asked else {
-        return Ok(());
-    };
     let container = open(text, code_point::MGRLVLLS)?;
     push_levels(text, asked)?;
     close(text, container)
@@ -130,16 +127,43 @@ fn write_server_names(text: &mut Vec<u8>) -> Result<(), AllocError>
     text.extend_from_slice(&SERVER_NAMES)
 }
 
-/// Writes EXCSATRD in place of what the text was.
-pub(crate) fn write_excsatrd(text: &mut Vec<u8>, asked: Option<&[u8]>) -> Result<(), AllocError>
-    ensures { OnOk result (text.new.items ≡ (excsatrd (option_copied asked.entry)).text) }
+// EXCSATRD where no levels were asked.
+const EXCSATRD_WITHOUT_LEVELS: [u8; 43] = [
+    0x00, 0x2B, 0x14, 0x43, 0x00, 0x09, 0x11, 0x5E, 0x84, 0x99, 0x84, 0x81, 0x84, 0x00, 0x09, 0x11,
+    0x47, 0xC4, 0xD9, 0xC4, 0xC1, 0xC4, 0x00, 0x09, 0x11, 0x6D, 0x84, 0x99, 0x84, 0x81, 0x84, 0x00,
+    0x0C, 0x11, 0x5A, 0xD9, 0xC4, 0xC1, 0xF0, 0xF1, 0xF0, 0xF0, 0xF0,
+];
+
+#[inline(always)]
+fn write_without_levels(text: &mut Vec<u8>) -> Result<(), AllocError>
+    requires { text.old.items ≡ [] }
+    ensures { OnOk result (text.new.items ≡ (excsatrd None).text) }
 {
-    text.clear();
+    text.extend_from_slice(&EXCSATRD_WITHOUT_LEVELS)
+}
+
+#[inline(never)]
+fn write_with_levels(text: &mut Vec<u8>, asked: &[u8]) -> Result<(), AllocError>
+    requires { text.old.items ≡ [] }
+    ensures { OnOk result (text.new.items ≡ (excsatrd (Some asked.now)).text) }
+{
     let container = open(text, code_point::EXCSATRD)?;
     write_external_name(text)?;
     write_levels(text, asked)?;
     write_server_names(text)?;
     close(text, container)
+}
+
+/// Writes EXCSATRD in place of what the text was.
+#[inline(always)]
+pub(crate) fn write_excsatrd(text: &mut Vec<u8>, asked: Option<&[u8]>) -> Result<(), AllocError>
+    ensures { OnOk result (text.new.items ≡ (excsatrd (option_copied asked.entry)).text) }
+{
+    text.clear();
+    match asked {
+        Some(asked) => write_with_levels(text, asked),
+        None => write_without_levels(text),
+    }
 }
 
 fn mechanism_code(mechanism: Mechanism) -> u16

@@ -1,0 +1,7 @@
+use Rattle.std.proofs.Common.{rules}
+use Rattle.ddm_objects.specs.Writing.{spelled}
+use Rattle.access_exchange.proofs.reply.write_without_levels.Goals as goal
+
+pub returns : goal.returns
+unfolding spelled
+returns c = search rules
