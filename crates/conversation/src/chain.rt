@@ -1,7 +1,7 @@
 //! Chains of commands, and the DSSs of replies.
 
 ghost use Rattle.std.specs.Prelude.{◌≡◌, ◌≤◌, ◌+◌, ◌++◌, ◌∷◌, [], length, vec_capacity, vec_len};
-ghost use Rattle.dss_frames.specs.Group.{command_of};
+ghost use Rattle.dss_frames.specs.Group.{command_of, dss_of};
 ghost use Rattle.dss_frames.specs.Writing.{written, written_length};
 ghost use Rattle.exchanges.specs.Kind.{dss_type_of};
 ghost use Rattle.exchanges.specs.Sizes.{written_lengths};
@@ -27,12 +27,14 @@ pub(crate) struct Link {
     pub is_chained: bool,
 }
 
-/// Whether another command of the chain follows.
-fn goes_on(group: Group<'_>) -> bool
-    ensures { result ≡ spec.goes_on (command_of group.entry) }
+/// Whether another command of the chain follows these object DSSs; `before` says what the DSS in front of
+/// them says.
+#[inline(always)]
+fn goes_on(before: bool, objects: Group<'_>) -> bool
+    ensures { result ≡ spec.goes_on_behind before (command_of objects.entry) }
 {
-    let mut is_chained = false;
-    let mut left = group;
+    let mut is_chained = before;
+    let mut left = objects;
     'dsss: while let Some((dss, more)) = left.split_first() {
         is_chained = dss.format.is_chained();
         left = more;
@@ -40,17 +42,19 @@ fn goes_on(group: Group<'_>) -> bool
     is_chained
 }
 
-/// Where a command stands in its chain that has this request and is this group.
-pub(crate) fn link_of(request: Dss<'_>, group: Group<'_>) -> Link
-    ensures { result ≡ record { format = request.entry.format; correlator = request.entry.correlator; is_chained = spec.goes_on (command_of group.entry) } }
+/// Where a command stands in its chain that has this request and these object DSSs.
+#[inline(always)]
+pub(crate) fn link_of(request: Dss<'_>, objects: Group<'_>) -> Link
+    ensures { result ≡ spec.link_of (dss_of request.entry) (command_of objects.entry) }
 {
     Link {
         format: request.format,
         correlator: request.correlator,
-        is_chained: goes_on(group),
+        is_chained: goes_on(request.format.is_chained(), objects),
     }
 }
 
+#[inline(always)]
 fn breaks(severity: u16, format: Format) -> bool
     ensures { result ≡ spec.breaks severity format.byte }
 {
@@ -58,6 +62,7 @@ fn breaks(severity: u16, format: Format) -> bool
 }
 
 /// How a conversation goes on behind replies of this severity.
+#[inline(always)]
 pub(crate) fn behind(session: Session, link: Link, severity: u16) -> Session
     ensures { result ≡ spec.behind session link severity }
 {
@@ -82,6 +87,7 @@ pub(crate) fn worst(replies: &[Reply]) -> u16
 }
 
 /// The format of a reply before these others of its command.
+#[inline(always)]
 pub(crate) fn format_before(others: &[Reply], kind: ReplyKind, is_chained: bool) -> Format
     ensures { result.byte ≡ spec.chain_bits is_chained others.now + dss_type_of kind }
 {

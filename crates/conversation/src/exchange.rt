@@ -57,6 +57,7 @@ fn no_memory(format: Format, correlator: u16) -> [u8; 16]
 }
 
 // Appends the one reply of a command, whose text stands in the state. Out of memory nothing is appended.
+#[inline(always)]
 fn send_one(
     state: &mut State,
     answer: Answer,
@@ -92,6 +93,7 @@ fn write_database_name(
 
 // Does a command on the database and appends its replies. Out of memory nothing is asked, and nothing
 // appended. The memory that its replies take is there before anything is asked.
+#[inline(never)]
 fn run<A: Ask>(
     alloc: Global,
     settings: &Settings,
@@ -127,6 +129,7 @@ fn run<A: Ask>(
 }
 
 // Answers a refused command. Out of memory nothing is appended.
+#[inline(never)]
 fn refuse(
     settings: &Settings,
     state: &mut State,
@@ -145,6 +148,7 @@ fn refuse(
 }
 
 // Does a command of which the judge says this. Out of memory nothing is asked, and nothing appended.
+#[inline(always)]
 fn answer<A: Ask>(
     alloc: Global,
     settings: &Settings,
@@ -184,7 +188,7 @@ pub(crate) fn do_command<A: Ask>(
     let Some((request, objects)) = group.split_first() else {
         return Exchanged::Done;
     };
-    let link = link_of(request, group);
+    let link = link_of(request, objects);
     let session = state.session;
     if session.is_broken {
         state.session.is_broken = link.is_chained;

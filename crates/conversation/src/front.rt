@@ -71,6 +71,7 @@ impl Front {
     }
 
     /// Whether a fault of the framing, or of who is asked, closed the conversation.
+    #[inline(always)]
     pub fn is_closed(&self) -> bool
         ensures { result ≡ self.now.session.is_closed }
     {
@@ -81,6 +82,7 @@ impl Front {
     /// its end, or to the end of the next header where that is to be judged first, and all of the piece
     /// where it ends before; none once it is closed, and none where memory is refused. So a caller that
     /// feeds by this between two calls of `next` never has a byte of a second command here.
+    #[inline(always)]
     pub fn feed_command(&mut self, piece: &[u8]) -> usize
         ensures taken { self.new ≡ record self.old { rest = self.old.rest ++ take result piece.now } }
         ensures within { result ≤ length piece.now }
@@ -149,6 +151,7 @@ fn fresh_state(alloc: Global) -> State
 }
 
 // What a conversation needs behind a command.
+#[inline(always)]
 fn behind_command(session: Session) -> Need
     ensures { result ≡ (if session.is_closed then Need.Closed else Need.Local) }
 {

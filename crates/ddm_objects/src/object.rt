@@ -27,6 +27,7 @@ impl<'a> Object<'a> {
     /// A fault means that the source begins with no object, the empty source too. A length that can't
     /// be is told from its two bytes: without the high bit `LengthBelowFour`, with it `ExtendedLength`.
     /// Else the object runs `PastContainer`, that is past the end of the source.
+    #[inline(always)]
     pub fn parse(source: &'a [u8]) -> Result<(Object<'a>, &'a [u8]), ObjFault>
         // What is taken from the front is an object.
         ensures found { IfOk result (λ x. (front : List ℕ) × IsObject front (view x.0) × (source.now ≡ front ++ x.1.now)) }
@@ -60,6 +61,7 @@ impl<'a> Object<'a> {
 }
 
 // The object whose data begin at a place and have a size, in what follows its heading.
+#[inline(always)]
 fn value_of(code: u16, at: usize, size: u64, bytes: &[u8]) -> Result<(Object<'_>, &[u8]), ObjFault>
     ensures exact { Answers (λ x. (view x.0, x.1.now)) Some result (value_at code size bytes.now) }
     ensures place { IfOk result (λ x. x.0.at ≡ at) }
@@ -73,6 +75,7 @@ fn value_of(code: u16, at: usize, size: u64, bytes: &[u8]) -> Result<(Object<'_>
     Ok((Object { code, at, value }, rest))
 }
 
+#[inline(always)]
 #[tactic(auto, unfolding(crate::specs::Reading::plain_at))]
 fn plain_of(size: u16, source: &[u8]) -> Result<(Object<'_>, &[u8]), ObjFault>
     ensures exact { Answers (λ x. (view x.0, x.1.now)) Some result (plain_at size source.now) }
@@ -124,6 +127,7 @@ fn extended8_of(source: &[u8]) -> Result<(Object<'_>, &[u8]), ObjFault>
     value_of(u16::from_be_bytes([*c, *d]), 12, size, rest)
 }
 
+#[inline(always)]
 #[tactic(auto, unfolding(crate::specs::Reading::object_at))]
 fn object_of(source: &[u8]) -> Result<(Object<'_>, &[u8]), ObjFault>
     ensures exact { Answers (λ x. (view x.0, x.1.now)) Some result (object_at source.now) }
