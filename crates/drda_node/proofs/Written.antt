@@ -4,8 +4,6 @@ use Rattle.std.proofs.lemmas.List.{take-append-le}
 use Rattle.std.specs.Io.KnownBytes.{Appends}
 use Rattle.std.proofs.KnownBytes.{Appends-trans}
 use Rattle.std.proofs.Math.Seq.{take-add, take-append-add}
-use Rattle.std.specs.Prelude.{Result, Ok, Err, OnErr}
-use Rattle.drda_node.specs.Gathering.{WritesFront}
 
 pub wrote_more : (u v w : Option (List ℕ)) (bytes : List ℕ) (a n : ℕ) → Appends u v (take a bytes) → Appends v w (take n (drop a bytes)) → Appends u w (take (a + n) bytes)
 wrote_more u v w bytes a n p q = subst (λ (z : List ℕ). Appends u w z) (sym (take-add a n bytes)) (Appends-trans u v w (take a bytes) (take n (drop a bytes)) p q)
@@ -16,7 +14,3 @@ take_front n xs ys e = take-append-le n xs ys (omega (arith, e)) ∙ take_all n 
 -- a front of a second text, behind the first
 pub appends_front : (w0 w w' : Option (List ℕ)) (x y : List ℕ) (count : ℕ) → Appends w0 w x → Appends w w' (take count y) → Appends w0 w' (take (length x + count) (x ++ y))
 appends_front w0 w w' x y count p q = subst (λ (z : List ℕ). Appends w0 w' z) (sym (take-append-add x y count)) (Appends-trans w0 w w' x (take count y) p q)
-
-pub front_behind : {E : Type 0} (r : Result (Unit {0}) E) (u v w : Option (List ℕ)) (x y : List ℕ) → Appends u v x → OnErr r ((count : ℕ) × Appends v w (take count y)) → OnErr r (WritesFront u w x y)
-front_behind (Ok done) u v w x y p q = tt
-front_behind (Err error) u v w x y p (count, wrote) = (length x + count, appends_front u v w x y count p wrote)

@@ -62,6 +62,7 @@ pub(crate) fn converse<D: Disk>(
 
 // One step, with the bytes in front that belong to one command: some of them, where there are any, or none
 // where memory is refused.
+#[inline(always)]
 fn hand_on<D: Disk>(
     front: &mut Front,
     asker: &mut Asker<'_, D>,
@@ -91,6 +92,7 @@ fn hand_on<D: Disk>(
 }
 
 // How it stands behind one step, by whether bytes were taken or there were none.
+#[inline(always)]
 fn state_of(need: Need, has_fed: bool) -> FedState
     ensures { result ≡ state_for need has_fed }
 {

@@ -6,19 +6,24 @@ ghost use Rattle.drda_node.specs.Gathering.{Ends, PassesOn, WritesFront};
 
 use crate::serving::RunEnd;
 use crate::writing::write_whole;
-use std::io::{self, Write};
+use std::io::Write;
 
 /// The most bytes of answers that are gathered.
 pub(crate) const MAX_GATHERED_BYTES: usize = 65536;
 
+/// Writing failed.
+#[derive(Clone, Copy)]
+pub(crate) struct Unwritten;
+
 /// Writes an answer behind those that were gathered; or gathers it too, where that is few bytes together and
 /// nobody waits for it.
+#[inline(always)]
 pub(crate) fn pass_on<W: Write>(
     writer: &mut W,
     gathered: &mut Vec<u8>,
     answer: &[u8],
     waits: bool,
-) -> io::Result<()>
+) -> Result<(), Unwritten>
     ensures ok { OnOk result (PassesOn (W.contents writer.old) gathered.old.items answer.now (W.contents writer.new) gathered.new.items) }
     ensures err { OnErr result (WritesFront (W.contents writer.old) (W.contents writer.new) gathered.old.items answer.now) }
 {
@@ -32,17 +37,28 @@ pub(crate) fn pass_on<W: Write>(
 }
 
 // Writes what was gathered and an answer behind it.
-fn write_both<W: Write>(writer: &mut W, gathered: &mut Vec<u8>, answer: &[u8]) -> io::Result<()>
+#[inline(never)]
+fn write_both<W: Write>(
+    writer: &mut W,
+    gathered: &mut Vec<u8>,
+    answer: &[u8],
+) -> Result<(), Unwritten>
     ensures ok { OnOk result (Appends (W.contents writer.old) (W.contents writer.new) (gathered.old.items ++ answer.now)) }
     ensures none { OnOk result (gathered.new.items ≡ []) }
     ensures err { OnErr result (WritesFront (W.contents writer.old) (W.contents writer.new) gathered.old.items answer.now) }
 {
-    write_whole(writer, gathered)?;
+    let Ok(()) = write_whole(writer, gathered) else {
+        return Err(Unwritten);
+    };
     gathered.clear();
-    write_whole(writer, answer)
+    let Ok(()) = write_whole(writer, answer) else {
+        return Err(Unwritten);
+    };
+    Ok(())
 }
 
 // Gathers an answer, where they are few bytes together, and there is memory.
+#[inline(always)]
 fn gathers(gathered: &mut Vec<u8>, answer: &[u8]) -> bool
     ensures { gathered.new.items ≡ (if result then gathered.old.items ++ answer.now else gathered.old.items) }
 {
