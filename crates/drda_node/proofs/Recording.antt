@@ -1,7 +1,9 @@
 -- The text of an event's record, and what is none.
-use Rattle.std.proofs.Common.{◌≡◌, ◌≤◌, ◌<◌, ◌+◌, ℕ, zero, suc, List, [], ◌∷◌, ◌++◌, length, take, drop, slice_index, Option, Some, None, refl, sym, ap, subst, ◌∙◌, arith, length-append, append-nil}
+use Rattle.std.proofs.Common.{◌≡◌, ◌≤◌, ◌<◌, ◌+◌, ℕ, zero, suc, List, [], ◌∷◌, ◌++◌, length, take, drop, slice_index, Option, Some, None, refl, sym, ap, subst, ◌∙◌, arith, length-append, append-nil, take-append-drop, take-take, take-add}
 use Rattle.std.specs.Prelude.{IfSome}
 use Rattle.std.specs.Int.{w32, to_be_bytes, from_be_bytes}
+use Rattle.std.specs.Io.{StartsWith}
+use Rattle.std.specs.Io.BufRead.{DropsConsumable}
 use Rattle.std.specs.Io.KnownBytes.{Consumes, IsAtEnd}
 use Rattle.std.proofs.KnownBytes.{Consumes-trans}
 use Rattle.std.proofs.lemmas.List.{length-take-le}
@@ -135,16 +137,41 @@ small_four a b c d (suc (suc (suc zero))) p q r t = t
 small_four a b c d (suc (suc (suc (suc i)))) p q r t = omega arith
 
 -- the head of an event, and its bytes
+received_whole : (r0 r1 : Option (List ℕ)) (head : Head) (k n a b c d size : ℕ) (bytes part : List ℕ) → Consumes r0 r1 (k ∷ n ∷ a ∷ b ∷ c ∷ d ∷ part)
+    → IsHead k n size (Some head) → to_be_bytes w32 size ≡ a ∷ b ∷ c ∷ d ∷ [] → size_of head ≤ length bytes → take (size_of head) bytes ≡ part
+    → Receives r0 r1 (event_of head bytes)
+received_whole r0 r1 head k n a b c d size bytes part took is length_is fits same =
+    let text : event_text (event_of head bytes) ≡ k ∷ n ∷ a ∷ b ∷ c ∷ d ∷ part =
+    head_is_text head k n size bytes is fits ∙ ap (λ (z : List ℕ). k ∷ n ∷ z ++ take (size_of head) bytes) length_is ∙ ap (λ (z : List ℕ). k ∷ n ∷ a ∷ b ∷ c ∷ d ∷ z) same in
+    record { allowed = head_allowed head k n size bytes is fits; consumed = subst (λ (z : List ℕ). Consumes r0 r1 z) (sym text) took }
+
+-- they were read one behind the other
 pub received : (r0 r1 r2 : Option (List ℕ)) (head : Head) (k n a b c d size : ℕ) (bytes part : List ℕ) → Consumes r0 r1 (k ∷ n ∷ a ∷ b ∷ c ∷ d ∷ []) → Consumes r1 r2 part
     → IsHead k n size (Some head) → to_be_bytes w32 size ≡ a ∷ b ∷ c ∷ d ∷ [] → size_of head ≤ length bytes → take (size_of head) bytes ≡ part
     → Receives r0 r2 (event_of head bytes)
-received r0 r1 r2 head k n a b c d size bytes part first second is length_is fits same =
-    let text : event_text (event_of head bytes) ≡ (k ∷ n ∷ a ∷ b ∷ c ∷ d ∷ []) ++ part =
-    head_is_text head k n size bytes is fits ∙ ap (λ (z : List ℕ). k ∷ n ∷ z ++ take (size_of head) bytes) length_is ∙ ap (λ (z : List ℕ). k ∷ n ∷ a ∷ b ∷ c ∷ d ∷ z) same in
-    record {
-      allowed = head_allowed head k n size bytes is fits;
-      consumed = subst (λ (z : List ℕ). Consumes r0 r2 z) (sym text) (Consumes-trans r0 r1 r2 (k ∷ n ∷ a ∷ b ∷ c ∷ d ∷ []) part first second);
-    }
+received r0 r1 r2 head k n a b c d size bytes part first second =
+    received_whole r0 r2 head k n a b c d size bytes part (Consumes-trans r0 r1 r2 (k ∷ n ∷ a ∷ b ∷ c ∷ d ∷ []) part first second)
+
+-- bytes that were shown and then taken away are read
+skipped : (r0 r1 : Option (List ℕ)) (shown : List ℕ) (count : ℕ) → count ≤ length shown → IfSome r0 (λ left. StartsWith left shown) → DropsConsumable r0 r1 (Some (length shown)) count → Consumes r0 r1 (take count shown)
+skipped None r1 shown count within front drops = tt
+skipped (Some left) r1 shown count within front drops = at r1 (drops within)
+  where
+    at : (r : Option (List ℕ)) → r ≡ Some (drop count left) → Consumes (Some left) r (take count shown)
+    at r e = rw e (sym (take-append-drop count left) ∙ ap (λ (z : List ℕ). z ++ drop count left) (sym (take-take count (length shown) left within) ∙ ap (take count) front))
+
+-- they lay ready as a whole
+pub received_ready : (r0 r1 : Option (List ℕ)) (head : Head) (shown : List ℕ) (size : ℕ) (bytes : List ℕ) → 6 + size ≤ length shown → IfSome r0 (λ left. StartsWith left shown) → DropsConsumable r0 r1 (Some (length shown)) (6 + size)
+    → IsHead (slice_index shown 0) (slice_index shown 1) size (Some head) → to_be_bytes w32 size ≡ slice_index shown 2 ∷ slice_index shown 3 ∷ slice_index shown 4 ∷ slice_index shown 5 ∷ [] → size_of head ≤ length bytes
+    → take (size_of head) bytes ≡ take size (drop 6 shown) → Receives r0 r1 (event_of head bytes)
+received_ready r0 r1 head [] size bytes within front drops = absurd (omega arith)
+received_ready r0 r1 head (k ∷ []) size bytes within front drops = absurd (omega arith)
+received_ready r0 r1 head (k ∷ n ∷ []) size bytes within front drops = absurd (omega arith)
+received_ready r0 r1 head (k ∷ n ∷ a ∷ []) size bytes within front drops = absurd (omega arith)
+received_ready r0 r1 head (k ∷ n ∷ a ∷ b ∷ []) size bytes within front drops = absurd (omega arith)
+received_ready r0 r1 head (k ∷ n ∷ a ∷ b ∷ c ∷ []) size bytes within front drops = absurd (omega arith)
+received_ready r0 r1 head (k ∷ n ∷ a ∷ b ∷ c ∷ d ∷ others) size bytes within front drops = received_whole r0 r1 head k n a b c d size bytes (take size others)
+    (subst (λ (z : List ℕ). Consumes r0 r1 z) (take-add 6 size (k ∷ n ∷ a ∷ b ∷ c ∷ d ∷ others)) (skipped r0 r1 (k ∷ n ∷ a ∷ b ∷ c ∷ d ∷ others) (6 + size) within front drops))
 
 pub no_bytes : (head : Head) → ((n size : ℕ) → head ≡ Sends n size → ⊥) → size_of head ≡ 0
 no_bytes (Opens n) none = refl

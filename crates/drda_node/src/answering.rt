@@ -9,7 +9,7 @@ ghost use Rattle.drda_node.specs.Happening.{Happens, refusal, closing};
 ghost use Rattle.drda_node.specs.Asking.{IsJournaled};
 ghost use Rattle.drda_node.specs.Register.{core_in, machine};
 
-use crate::event::{Head, push_record};
+use crate::event::{HEAD_SIZE, Head, push_record};
 use crate::fed::FedState;
 use crate::node::{Done, Node};
 use drda_disk::Disk;
@@ -29,9 +29,6 @@ const CHECKPOINTED: u8 = 4;
 const CLOSED: u8 = 5;
 
 const REFUSED: u8 = 6;
-
-/// What stands in front of a record's bytes: its kind, its number and its size.
-const HEAD_SIZE: usize = 6;
 
 /// Why an event is refused.
 const CANNOT_OPEN: u8 = 1;

@@ -7,6 +7,9 @@ ghost use Rattle.drda_node.specs.Records.{record_text};
 
 use std::alloc::AllocError;
 
+/// What stands in front of a record's bytes: its kind, its number and its size.
+pub(crate) const HEAD_SIZE: usize = 6;
+
 /// The most bytes that one record brings.
 pub(crate) const MAX_DATA_BYTES: usize = 65536;
 

@@ -1,9 +1,10 @@
 //! Reading events from a stream of records.
 
-ghost use Rattle.std.specs.Prelude.{◌≡◌, length};
-ghost use Rattle.drda_node.specs.Reading.{Fills, IsWithin, ReadsEvent};
+ghost use Rattle.std.specs.Prelude.{◌≡◌, ◌≤◌, None, IfSome, length};
+ghost use Rattle.drda_node.specs.Reading.{Fills, IsWithin, Receives, ReadsEvent, event_of, size_of};
 
-use crate::event::{Head, head_of, number_in};
+use crate::event::{HEAD_SIZE, Head, head_of, number_in};
+use crate::ready::Ready;
 use std::io::Read;
 
 /// How a buffer was filled.
@@ -48,13 +49,45 @@ fn fill<R: Read>(reader: &mut R, buffer: &mut [u8]) -> Filled
     Filled::Fault
 }
 
-/// Reads an event. A record is judged by its first six bytes, before its others are read.
-pub(crate) fn read_event<R: Read>(reader: &mut R, buffer: &mut [u8]) -> Incoming
+/// Reads an event. One whose record lies ready is taken at once; of any other the first six bytes are
+/// judged before its others are read.
+pub(crate) fn read_event<R: Ready>(reader: &mut R, buffer: &mut [u8]) -> Incoming
     requires { length buffer.old ≡ 65536 }
     ensures reads { ReadsEvent (R.remaining reader.old) (R.remaining reader.new) result buffer.new }
     ensures within { IsWithin result }
 {
-    let mut front = [0u8; 6];
+    match take_ready(reader, buffer) {
+        Some(head) => Incoming::Event(head),
+        None => await_event(reader, buffer),
+    }
+}
+
+// Takes an event whose record lies ready, its bytes to the front of the buffer; where there is none, nothing.
+#[inline(always)]
+fn take_ready<R: Ready>(reader: &mut R, buffer: &mut [u8]) -> Option<Head>
+    requires { length buffer.old ≡ 65536 }
+    ensures takes { IfSome result (λ head. Receives (R.remaining reader.old) (R.remaining reader.new) (event_of head buffer.new)) }
+    ensures within { IfSome result (λ head. size_of head ≤ 65536) }
+    ensures none { result ≡ None → R.remaining reader.new ≡ R.remaining reader.old }
+{
+    let [kind, number, a, b, c, d, data @ ..] = reader.ready() else {
+        return None;
+    };
+    let size = number_in(*a, *b, *c, *d) as usize;
+    let head = head_of(*kind, *number, size)?;
+    let bytes = data.get(..size)?;
+    buffer[..size].copy_from_slice(bytes);
+    reader.skip(HEAD_SIZE + size);
+    Some(head)
+}
+
+// Reads an event, and waits for its bytes.
+fn await_event<R: Read>(reader: &mut R, buffer: &mut [u8]) -> Incoming
+    requires { length buffer.old ≡ 65536 }
+    ensures reads { ReadsEvent (R.remaining reader.old) (R.remaining reader.new) result buffer.new }
+    ensures within { IsWithin result }
+{
+    let mut front = [0u8; HEAD_SIZE];
     match fill(reader, &mut front) {
         Filled::Whole => {}
         Filled::Ended(0) => return Incoming::Ended,

@@ -14,7 +14,7 @@ use crate::ready::{Ready, holds_record};
 use drda_disk::Disk;
 use durable_images::laws::calls_go_on;
 use std::alloc::{AllocError, Global};
-use std::io::{Read, Write};
+use std::io::Write;
 
 /// How a run ended.
 #[derive(Clone, Copy, Debug, PartialEq, Eq)]
@@ -40,7 +40,7 @@ pub enum RunEnd {
 /// ReadFault and NoMemory to some events in front; on WriteFault a front of such answers. A crash at any
 /// moment leaves a disk that opens to the tables and the units in doubt after the first of the records
 /// that the events made due.
-pub fn run<D: Disk, R: Read + Ready, W: Write>(
+pub fn run<D: Disk, R: Ready, W: Write>(
     alloc: Global,
     node: &mut Node<D>,
     reader: &mut R,

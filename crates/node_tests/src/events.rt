@@ -330,6 +330,8 @@ impl Ready for OneByOne<'_> {
     fn ready(&self) -> &[u8] {
         &[]
     }
+
+    fn skip(&mut self, _count: usize) {}
 }
 
 impl Read for OneByOne<'_> {
@@ -378,6 +380,8 @@ impl Ready for Failing<'_> {
     fn ready(&self) -> &[u8] {
         &[]
     }
+
+    fn skip(&mut self, _count: usize) {}
 }
 
 impl Read for Failing<'_> {

@@ -27,6 +27,8 @@ impl Ready for Broken {
     fn ready(&self) -> &[u8] {
         &[]
     }
+
+    fn skip(&mut self, _count: usize) {}
 }
 
 impl Write for Broken {

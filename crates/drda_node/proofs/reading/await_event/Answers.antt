@@ -6,7 +6,7 @@ use Rattle.drda_node.specs.declared.event.Head.TheVariants.{Sends}
 use Rattle.drda_node.specs.Reading.{IsHead}
 use Rattle.drda_node.proofs.Written.{take_front}
 use Rattle.drda_node.proofs.Recording.{bad_tail, front_read, received, no_bytes, head_size, head_small}
-use Rattle.drda_node.proofs.reading.read_event.Goals as goal
+use Rattle.drda_node.proofs.reading.await_event.Goals as goal
 
 pub returns-in-Ended-fill-clause-reads : goal.returns-in-Ended-fill-clause-reads
 returns-in-Ended-fill-clause-reads g c =
