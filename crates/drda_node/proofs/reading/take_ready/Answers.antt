@@ -1,4 +1,4 @@
-use Rattle.std.proofs.Common.{◌≡◌, ◌≤◌, ◌+◌, ◌-◌, ◌++◌, ℕ, List, length, take, drop, slice_index, ◌∙◌, ap, arith, rules, take_all, length-drop, le_of_eq}
+use Rattle.std.proofs.Common.{◌≡◌, ◌≤◌, ◌+◌, ◌-◌, ◌++◌, ℕ, length, take, drop, slice_index, ◌∙◌, ap, arith, rules, take_all, length-drop, le_of_eq}
 use Rattle.drda_node.specs.Reading.{size_of}
 use Rattle.drda_node.proofs.Written.{take_front}
 use Rattle.drda_node.proofs.Recording.{received_ready, head_size}
@@ -16,7 +16,7 @@ returns-clause-takes g c =
     let whole : take (length shown - 6) (drop 6 shown) ≡ drop 6 shown = take_all (length shown - 6) (drop 6 shown) (le_of_eq (length-drop 6 shown)) in
     let none : size - 0 ≡ size = omega arith in
     let taken : part ≡ take size (drop 6 shown) =
-        c.copy_from_slice.ensures.after ∙ c.in_ok-bytes.ensures.lookup.0.2 ∙ ap (λ (n : ℕ). take n (take (length shown - 6) (drop 6 shown))) none ∙ ap (take size) whole in
+    c.copy_from_slice.ensures.after ∙ c.in_ok-bytes.ensures.lookup.0.2 ∙ ap (λ (n : ℕ). take n (take (length shown - 6) (drop 6 shown))) none ∙ ap (take size) whole in
     let count : length part ≡ size = search rules in
     let fits : size_of head ≤ length (part ++ behind) = search rules in
     received_ready (g.R.Read.remaining c.args.reader.now) (g.R.Read.remaining c.skip.new.self) head shown size (part ++ behind) within c.ready.ensures.front (search rules) c.in_ok-head.ensures c.number_in-size.ensures.spells fits
