@@ -27,6 +27,10 @@ written format correlator contents =
     length_bytes 6 first_size (length contents) ++ (0xD0 ∷ format ∷ []) ++ to_be_bytes w16 correlator
     ++ take first_size contents ++ continuations (length contents) (drop first_size contents)
 
+-- the bytes where the header of a DSS will stand
+abbrev pub unset : List ℕ
+unset = 0 ∷ 0 ∷ 0 ∷ 0 ∷ 0 ∷ 0 ∷ []
+
 -- how many bytes the continuations take that hold so many
 abbrev pub continued_length : ℕ → ℕ
 continued_length count = count + 2 * ((count + (next_size - 1)) / next_size)

@@ -2,6 +2,7 @@ use crate::fault::FrameFault;
 use crate::group::Group;
 use crate::joining::join;
 use crate::looking::{front_of, header_length, look, wanted};
+use crate::overwriting::{append, overwrite};
 use crate::progress::{Expected, Found, Progress};
 use crate::turn::Turn;
 use std::alloc::Global;
@@ -62,6 +63,16 @@ impl Segments {
         }
     }
 
+    /// Forgets all that it holds and knows, and gives its memory back. All of that memory is overwritten
+    /// first, since a password may stand in it.
+    pub fn restart(&mut self, alloc: Global)
+        ensures rest { self.new.rest ≡ [] }
+        ensures no_fault { self.new.at_fault ≡ false }
+    {
+        overwrite(&mut self.buf);
+        *self = Segments::new(alloc);
+    }
+
     /// Takes the bytes that come next, and says how many it took: all of them, none after a fault,
     /// and fewer only where memory is refused. What was lent before is forgotten.
     pub fn feed(&mut self, piece: &[u8]) -> usize
@@ -74,7 +85,7 @@ impl Segments {
             return 0;
         }
         self.make_room();
-        match self.buf.extend_from_slice(piece) {
+        match append(&mut self.buf, piece) {
             Ok(()) => piece.len(),
             Err(_) => 0,
         }
@@ -114,7 +125,7 @@ impl Segments {
         ensures fault_stays { self.new.at_fault ≡ self.old.at_fault }
     {
         let (count, place) = front_of(self.place, self.rest(), piece);
-        match self.buf.extend_from_slice(&piece[..count]) {
+        match append(&mut self.buf, &piece[..count]) {
             Ok(()) => {
                 self.place = place;
                 count
@@ -134,7 +145,7 @@ impl Segments {
         ensures fault_stays { self.new.at_fault ≡ self.old.at_fault }
     {
         let count = wanted(self.place, self.rest()).min(piece.len());
-        let Ok(()) = self.buf.extend_from_slice(&piece[..count]) else {
+        let Ok(()) = append(&mut self.buf, &piece[..count]) else {
             return 0;
         };
         count

@@ -1,8 +1,8 @@
-ghost use Rattle.std.specs.Prelude.{◌≡◌, ◌≤◌, ◌<◌, ◌^◌, ◌+◌, ◌++◌, ◌∷◌, [], ℕ, List, length, IsOk, OnOk, OnErr, vec_len, vec_capacity};
+ghost use Rattle.std.specs.Prelude.{◌≡◌, ◌≤◌, ◌<◌, ◌^◌, ◌+◌, ◌++◌, ◌∷◌, [], ℕ, List, length, take, drop, IsOk, IfOk, OnOk, OnErr, vec_len, vec_capacity};
 ghost use Rattle.std.specs.Int.{to_be_bytes, w16};
 ghost use Rattle.dss_frames.specs.Dss.{IsDss};
 ghost use Rattle.dss_frames.specs.Length.{dss_limit};
-ghost use Rattle.dss_frames.specs.Writing.{written, written_length, first_size, length_bytes, continuations, continued_length};
+ghost use Rattle.dss_frames.specs.Writing.{written, written_length, first_size, length_bytes, continuations, continued_length, unset};
 
 use crate::format::Format;
 use std::alloc::AllocError;
@@ -11,6 +11,9 @@ use std::alloc::AllocError;
 const FIRST_SIZE: u16 = 32_761;
 
 const NEXT_SIZE: u16 = 32_765;
+
+/// What stands in front of the contents of a DSS.
+const HEADER_SIZE: usize = 6;
 
 /// Appends a DSS: full segments, and the last one short. Where memory is refused nothing is appended;
 /// where the list has room for `written_length`, that does not happen.
@@ -31,6 +34,68 @@ pub fn write_dss(
     append(out, first);
     append_continuations(out, rest);
     Ok(())
+}
+
+/// A DSS whose contents are still to be appended.
+#[derive(Clone, Copy, Debug)]
+pub struct OpenedDss {
+    /// How many bytes stand in front of it.
+    pub at: usize,
+}
+
+/// Appends six bytes in which the header of a DSS will stand; what is appended from then on are its
+/// contents, until it is closed. Where memory is refused, nothing is appended.
+#[inline(always)]
+pub fn open_dss(out: &mut Vec<u8>) -> Result<OpenedDss, AllocError>
+    ensures ok { OnOk result (out.new.items ≡ out.old.items ++ unset) }
+    ensures opened { IfOk result (λ dss. dss.at ≡ vec_len out.old) }
+    ensures err { OnErr result (out.new.items ≡ out.old.items) }
+    ensures capacity { vec_capacity out.old ≤ vec_capacity out.new }
+{
+    let at = out.len();
+    out.extend_from_slice(&[0; HEADER_SIZE])?;
+    Ok(OpenedDss { at })
+}
+
+/// Ends a DSS: what stands behind its six bytes becomes its contents. Contents that take more than one
+/// segment are copied, which may want memory; where it is refused, the DSS is taken away.
+#[inline(always)]
+pub fn close_dss(
+    out: &mut Vec<u8>,
+    dss: OpenedDss,
+    format: Format,
+    correlator: u16,
+) -> Result<(), AllocError>
+    requires { dss.at + 6 ≤ vec_len out.old }
+    ensures ok { OnOk result (out.new.items ≡ take dss.at out.old.items ++ written format.byte correlator (drop (dss.at + 6) out.old.items)) }
+    ensures err { OnErr result (out.new.items ≡ take dss.at out.old.items) }
+    ensures capacity { vec_capacity out.old ≤ vec_capacity out.new }
+{
+    let begin = dss.at + HEADER_SIZE;
+    let count = out.len() - begin;
+    if count > FIRST_SIZE as usize {
+        return close_long(out, dss, format, correlator);
+    }
+    out[dss.at..begin].copy_from_slice(&header(format, correlator, count));
+    Ok(())
+}
+
+// Writes a DSS of more than one segment anew.
+#[inline(never)]
+fn close_long(
+    out: &mut Vec<u8>,
+    dss: OpenedDss,
+    format: Format,
+    correlator: u16,
+) -> Result<(), AllocError>
+    requires { dss.at + 6 ≤ vec_len out.old }
+    ensures ok { OnOk result (out.new.items ≡ take dss.at out.old.items ++ written format.byte correlator (drop (dss.at + 6) out.old.items)) }
+    ensures err { OnErr result (out.new.items ≡ take dss.at out.old.items) }
+    ensures capacity { vec_capacity out.old ≤ vec_capacity out.new }
+{
+    let contents = out.split_off(dss.at + HEADER_SIZE);
+    out.truncate(dss.at);
+    write_dss(out, format, correlator, &contents?)
 }
 
 /// How many bytes a DSS with so many bytes of contents takes.
