@@ -1,10 +1,10 @@
 //! Access to the database: ACCSEC, SECCHK and ACCRDB.
 
-ghost use Rattle.std.specs.Prelude.{◌≡◌, IfOk};
+ghost use Rattle.std.specs.Prelude.{◌≡◌, IfOk, OnErr, take, vec_len};
 ghost use Rattle.access_exchange.specs.Access as spec;
 ghost use Rattle.access_exchange.specs.Replies.{rdb_not_found};
 ghost use Rattle.drda_commands.specs.Views.{occurs_of};
-ghost use Rattle.access_exchange.specs.Views.{answer_of};
+ghost use Rattle.access_exchange.specs.Views.{IsAppended};
 
 use crate::answer::Answer;
 use crate::reply::{
@@ -52,10 +52,11 @@ fn mechanism_for(value: &[u8]) -> Option<Mechanism>
     None
 }
 
-fn not_found(session: Session, name: Occurs<'_>, text: &mut Vec<u8>) -> Result<Answer, AllocError>
-    ensures { IfOk result (λ a. answer_of a text.new.items ≡ record { session = session; reply = rdb_not_found (spec.bytes_of (occurs_of name.entry)) }) }
+fn not_found(session: Session, name: Occurs<'_>, out: &mut Vec<u8>) -> Result<Answer, AllocError>
+    ensures ok { IfOk result (λ a. IsAppended a out.old.items out.new.items (record { session = session; reply = rdb_not_found (spec.bytes_of (occurs_of name.entry)) })) }
+    ensures err { OnErr result (take (vec_len out.old) out.new.items ≡ out.old.items) }
 {
-    write_rdb_not_found(text, bytes_of(name))?;
+    write_rdb_not_found(out, bytes_of(name))?;
     Ok(Answer {
         session,
         kind: ReplyKind::Message,
@@ -66,20 +67,21 @@ fn not_found(session: Session, name: Occurs<'_>, text: &mut Vec<u8>) -> Result<A
 fn asked_for(
     session: Session,
     mechanism: Option<Mechanism>,
-    text: &mut Vec<u8>,
+    out: &mut Vec<u8>,
 ) -> Result<Answer, AllocError>
-    ensures { IfOk result (λ a. answer_of a text.new.items ≡ spec.asked_for session mechanism) }
+    ensures ok { IfOk result (λ a. IsAppended a out.old.items out.new.items (spec.asked_for session mechanism)) }
+    ensures err { OnErr result (take (vec_len out.old) out.new.items ≡ out.old.items) }
 {
     let session = match mechanism {
         Some(mechanism) => {
-            write_accsecrd(text, mechanism)?;
+            write_accsecrd(out, mechanism)?;
             Session {
                 stage: Stage::Asked(mechanism),
                 ..session
             }
         }
         None => {
-            write_accsecrd_refused(text)?;
+            write_accsecrd_refused(out)?;
             session
         }
     };
@@ -97,14 +99,15 @@ pub(crate) fn accsec(
     session: Session,
     mechanism: Occurs<'_>,
     rdb: Occurs<'_>,
-    text: &mut Vec<u8>,
+    out: &mut Vec<u8>,
 ) -> Result<Answer, AllocError>
-    ensures { IfOk result (λ a. answer_of a text.new.items ≡ spec.accsec_done settings.now session (occurs_of mechanism.entry) (occurs_of rdb.entry)) }
+    ensures ok { IfOk result (λ a. IsAppended a out.old.items out.new.items (spec.accsec_done settings.now session (occurs_of mechanism.entry) (occurs_of rdb.entry))) }
+    ensures err { OnErr result (take (vec_len out.old) out.new.items ≡ out.old.items) }
 {
     if is_ours(settings, session.agreed.unicode, rdb) {
-        asked_for(session, mechanism_for(bytes_of(mechanism)), text)
+        asked_for(session, mechanism_for(bytes_of(mechanism)), out)
     } else {
-        not_found(session, rdb, text)
+        not_found(session, rdb, out)
     }
 }
 
@@ -185,10 +188,11 @@ pub(crate) fn check_code(
 }
 
 /// SECCHK with its code: where it is 00 the user is checked, and else the stage stays.
-pub(crate) fn checked(session: Session, code: u8, text: &mut Vec<u8>) -> Result<Answer, AllocError>
-    ensures { IfOk result (λ a. answer_of a text.new.items ≡ spec.checked_with session code) }
+pub(crate) fn checked(session: Session, code: u8, out: &mut Vec<u8>) -> Result<Answer, AllocError>
+    ensures ok { IfOk result (λ a. IsAppended a out.old.items out.new.items (spec.checked_with session code)) }
+    ensures err { OnErr result (take (vec_len out.old) out.new.items ≡ out.old.items) }
 {
-    write_secchkrm(text, code)?;
+    write_secchkrm(out, code)?;
     let stage = if code == 0 {
         Stage::Checked
     } else {
@@ -206,14 +210,15 @@ pub(crate) fn accrdb(
     settings: &Settings,
     session: Session,
     rdb: Occurs<'_>,
-    text: &mut Vec<u8>,
+    out: &mut Vec<u8>,
 ) -> Result<Answer, AllocError>
-    ensures { IfOk result (λ a. answer_of a text.new.items ≡ spec.accrdb_done settings.now session (occurs_of rdb.entry)) }
+    ensures ok { IfOk result (λ a. IsAppended a out.old.items out.new.items (spec.accrdb_done settings.now session (occurs_of rdb.entry))) }
+    ensures err { OnErr result (take (vec_len out.old) out.new.items ≡ out.old.items) }
 {
     if !is_ours(settings, session.agreed.unicode, rdb) {
-        return not_found(session, rdb, text);
+        return not_found(session, rdb, out);
     }
-    write_accrdbrm(text, session.agreed.unicode)?;
+    write_accrdbrm(out, session.agreed.unicode)?;
     Ok(Answer {
         session: Session {
             stage: Stage::Opened,

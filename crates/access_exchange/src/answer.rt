@@ -1,10 +1,10 @@
 //! Commands that are answered at once: those that come before SQL's, and refused ones.
 
-ghost use Rattle.std.specs.Prelude.{◌≡◌, IfOk};
-ghost use Rattle.std.specs.Option.{option_copied, option_map};
+ghost use Rattle.std.specs.Prelude.{◌≡◌, IfOk, OnErr, take, vec_len};
+ghost use Rattle.std.specs.Option.{option_copied};
 ghost use Rattle.drda_commands.specs.Views.{given_of};
 ghost use Rattle.access_exchange.specs.Access as spec;
-ghost use Rattle.access_exchange.specs.Views.{answer_of};
+ghost use Rattle.access_exchange.specs.Views.{IsAppended, IsAppendedIfDue};
 
 use crate::access::{accrdb, accsec, check_code, checked};
 use crate::levels::agreed_by;
@@ -48,10 +48,11 @@ fn agreed_anew(agreed: Agreed, asked: Option<&[u8]>) -> Agreed
 }
 
 #[inline(always)]
-fn excsat(session: Session, asked: Option<&[u8]>, text: &mut Vec<u8>) -> Result<Answer, AllocError>
-    ensures { IfOk result (λ a. answer_of a text.new.items ≡ spec.excsat_done session (option_copied asked.entry)) }
+fn excsat(session: Session, asked: Option<&[u8]>, out: &mut Vec<u8>) -> Result<Answer, AllocError>
+    ensures ok { IfOk result (λ a. IsAppended a out.old.items out.new.items (spec.excsat_done session (option_copied asked.entry))) }
+    ensures err { OnErr result (take (vec_len out.old) out.new.items ≡ out.old.items) }
 {
-    write_excsatrd(text, asked)?;
+    write_excsatrd(out, asked)?;
     Ok(Answer {
         session: Session {
             stage: known_from(session.stage),
@@ -64,13 +65,14 @@ fn excsat(session: Session, asked: Option<&[u8]>, text: &mut Vec<u8>) -> Result<
 }
 
 // MGRDEPRM for a SYNCCTL, where no level of XAMGR is agreed on.
-fn unless_agreed(session: Session, text: &mut Vec<u8>) -> Result<Option<Answer>, AllocError>
-    ensures { IfOk result (λ a. option_map (λ x. answer_of x text.new.items) a ≡ spec.unless_agreed session) }
+fn unless_agreed(session: Session, out: &mut Vec<u8>) -> Result<Option<Answer>, AllocError>
+    ensures ok { IfOk result (λ a. IsAppendedIfDue a out.old.items out.new.items (spec.unless_agreed session)) }
+    ensures err { OnErr result (take (vec_len out.old) out.new.items ≡ out.old.items) }
 {
     if session.agreed.xa != 0 {
         return Ok(None);
     }
-    write_manager_missing(text)?;
+    write_manager_missing(out)?;
     Ok(Some(Answer {
         session,
         kind: ReplyKind::Message,
@@ -78,58 +80,61 @@ fn unless_agreed(session: Session, text: &mut Vec<u8>) -> Result<Option<Answer>,
     }))
 }
 
-/// What is answered without the database, with the text of the answer in place of what `text` was: the
-/// commands that open it, and a SYNCCTL without an agreement on XAMGR (MGRDEPRM). None of any other command.
+/// What is answered without the database, with the text of the answer appended to `out`: the commands that
+/// open it, and a SYNCCTL without an agreement on XAMGR (MGRDEPRM). None of any other command, and then
+/// nothing is appended.
 ///
 /// EXCSAT agrees on levels. ACCSEC agrees on a mechanism, or lists those that there are. SECCHK has checked the
 /// user exactly where its code is 00. ACCRDB opens the database. A name of another database is RDBNFNRM, and
-/// leaves what is remembered. AllocError where memory is refused; what `text` then holds is not said.
+/// leaves what is remembered. AllocError where memory is refused; some of the text may have been appended.
 pub fn answered_at_once(
     settings: &Settings,
     session: Session,
     accepted: Accepted<'_>,
-    text: &mut Vec<u8>,
+    out: &mut Vec<u8>,
 ) -> Result<Option<Answer>, AllocError>
-    ensures { IfOk result (λ a. option_map (λ x. answer_of x text.new.items) a ≡ spec.access_done settings.now session accepted.entry.command (given_of accepted.entry.given)) }
+    ensures ok { IfOk result (λ a. IsAppendedIfDue a out.old.items out.new.items (spec.access_done settings.now session accepted.entry.command (given_of accepted.entry.given))) }
+    ensures err { OnErr result (take (vec_len out.old) out.new.items ≡ out.old.items) }
 {
     let given = accepted.given;
     match accepted.command {
         Command::Excsat => {
             let asked = given.found(ItemKind::Parameter, code_point::MGRLVLLS);
-            Ok(Some(excsat(session, asked.value(), text)?))
+            Ok(Some(excsat(session, asked.value(), out)?))
         }
         Command::Accsec => {
             let mechanism = given.found(ItemKind::Parameter, code_point::SECMEC);
             let rdb = given.found(ItemKind::Parameter, code_point::RDBNAM);
-            Ok(Some(accsec(settings, session, mechanism, rdb, text)?))
+            Ok(Some(accsec(settings, session, mechanism, rdb, out)?))
         }
         Command::Secchk => {
             let mechanism = given.found(ItemKind::Parameter, code_point::SECMEC);
             let user = given.found(ItemKind::Parameter, code_point::USRID);
             let password = given.found(ItemKind::Parameter, code_point::PASSWORD);
             let code = check_code(settings, session, mechanism, user, password);
-            Ok(Some(checked(session, code, text)?))
+            Ok(Some(checked(session, code, out)?))
         }
         Command::Accrdb => {
             let rdb = given.found(ItemKind::Parameter, code_point::RDBNAM);
-            Ok(Some(accrdb(settings, session, rdb, text)?))
+            Ok(Some(accrdb(settings, session, rdb, out)?))
         }
-        Command::Syncctl => unless_agreed(session, text),
+        Command::Syncctl => unless_agreed(session, out),
         _ => Ok(None),
     }
 }
 
 /// The answer to a refused command, its message of severity ERROR, with its text in place of what `text` was.
-/// It leaves what is remembered. AllocError where memory is refused; what `text` then holds is not said.
+/// It leaves what is remembered. AllocError where memory is refused; some of the text may have been appended.
 pub fn refused(
     settings: &Settings,
     session: Session,
     refusal: Refusal,
-    text: &mut Vec<u8>,
+    out: &mut Vec<u8>,
 ) -> Result<Answer, AllocError>
-    ensures { IfOk result (λ a. answer_of a text.new.items ≡ spec.refused settings.now session refusal) }
+    ensures ok { IfOk result (λ a. IsAppended a out.old.items out.new.items (spec.refused settings.now session refusal)) }
+    ensures err { OnErr result (take (vec_len out.old) out.new.items ≡ out.old.items) }
 {
-    write_refusal(text, settings, session.agreed.unicode, refusal)?;
+    write_refusal(out, settings, session.agreed.unicode, refusal)?;
     Ok(Answer {
         session,
         kind: ReplyKind::Message,

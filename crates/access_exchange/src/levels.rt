@@ -1,6 +1,6 @@
 //! Manager levels.
 
-ghost use Rattle.std.specs.Prelude.{◌≡◌, ◌<◌, ◌++◌, OnOk, IfSome, MatchOption, length};
+ghost use Rattle.std.specs.Prelude.{◌≡◌, ◌<◌, ◌++◌, OnErr, OnOk, IfSome, MatchOption, length, take, vec_len};
 ghost use Rattle.access_exchange.specs.Levels.{highest, level_for, levels_for, agreed_on, agreed_after, nothing_agreed};
 
 use crate::session::Agreed;
@@ -44,7 +44,8 @@ fn level_of(manager: u16, asked: u16) -> u16
 /// Appends the levels that are answered to those that were asked, and leaves out what is no whole
 /// entry at their end.
 pub(crate) fn push_levels(out: &mut Vec<u8>, asked: &[u8]) -> Result<(), AllocError>
-    ensures { OnOk result (out.new.items ≡ out.old.items ++ levels_for asked.now) }
+    ensures ok { OnOk result (out.new.items ≡ out.old.items ++ levels_for asked.now) }
+    ensures err { OnErr result (take (vec_len out.old) out.new.items ≡ out.old.items) }
 {
     let mut left = asked;
     'entries: while let [a, b, c, d, more @ ..] = left {

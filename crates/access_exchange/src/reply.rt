@@ -1,6 +1,6 @@
 //! The texts of replies.
 
-ghost use Rattle.std.specs.Prelude.{◌≡◌, ◌++◌, [], OnOk, map, codes, None, Some};
+ghost use Rattle.std.specs.Prelude.{◌≡◌, ◌++◌, OnErr, OnOk, map, codes, take, vec_len, None, Some};
 ghost use Rattle.std.specs.Option.{option_copied};
 ghost use Rattle.ddm_objects.specs.Writing.{spelled};
 ghost use Rattle.ebcdic_500.specs.CodePage.{byte_for};
@@ -34,76 +34,78 @@ pub fn names_in_code_page_500()
     ensures release_level { map byte_for (codes "RDA01000") ≡ map Some RELEASE_LEVEL }
 {}
 
-fn write_rdb(text: &mut Vec<u8>, settings: &Settings, unicode: bool) -> Result<(), AllocError>
-    ensures { OnOk result (text.new.items ≡ text.old.items ++ spelled RDBNAM (padded_in unicode settings.now.rdb)) }
+fn write_rdb(out: &mut Vec<u8>, settings: &Settings, unicode: bool) -> Result<(), AllocError>
+    ensures ok { OnOk result (out.new.items ≡ out.old.items ++ spelled RDBNAM (padded_in unicode settings.now.rdb)) }
+    ensures err { OnErr result (take (vec_len out.old) out.new.items ≡ out.old.items) }
 {
-    let container = open(text, code_point::RDBNAM)?;
-    push_padded(text, unicode, settings.rdb())?;
-    close(text, container)
+    let container = open(out, code_point::RDBNAM)?;
+    push_padded(out, unicode, settings.rdb())?;
+    close(out, container)
 }
 
 // The name is encoded where it stands in the message, which takes no buffer for it.
 fn write_rdb_error(
-    text: &mut Vec<u8>,
+    out: &mut Vec<u8>,
     code: u16,
     settings: &Settings,
     unicode: bool,
 ) -> Result<(), AllocError>
-    requires { text.old.items ≡ [] }
-    ensures { OnOk result (text.new.items ≡ (rdb_error code (padded_in unicode settings.now.rdb)).text) }
+    ensures ok { OnOk result (out.new.items ≡ out.old.items ++ (rdb_error code (padded_in unicode settings.now.rdb)).text) }
+    ensures err { OnErr result (take (vec_len out.old) out.new.items ≡ out.old.items) }
 {
-    let container = open(text, code)?;
-    put(text, code_point::SVRCOD, &[0, 8])?;
-    write_rdb(text, settings, unicode)?;
-    close(text, container)
+    let container = open(out, code)?;
+    put(out, code_point::SVRCOD, &[0, 8])?;
+    write_rdb(out, settings, unicode)?;
+    close(out, container)
 }
 
-/// Writes the message of a refusal in place of what the text was.
+/// Appends the message of a refusal.
 pub(crate) fn write_refusal(
-    text: &mut Vec<u8>,
+    out: &mut Vec<u8>,
     settings: &Settings,
     unicode: bool,
     refusal: Refusal,
 ) -> Result<(), AllocError>
-    ensures { OnOk result (text.new.items ≡ (refusal_reply settings.now unicode refusal).text) }
+    ensures ok { OnOk result (out.new.items ≡ out.old.items ++ (refusal_reply settings.now unicode refusal).text) }
+    ensures err { OnErr result (take (vec_len out.old) out.new.items ≡ out.old.items) }
 {
-    text.clear();
     match refusal {
-        Refusal::Syntax(fault) => reply_message(text, ReplyMessage::Syntax(fault.synerrcd())),
-        Refusal::OutOfTurn => reply_message(text, ReplyMessage::OutOfTurn),
-        Refusal::RdbAccessed => write_rdb_error(text, code_point::RDBACCRM, settings, unicode),
-        Refusal::RdbNotAccessed => write_rdb_error(text, code_point::RDBNACRM, settings, unicode),
+        Refusal::Syntax(fault) => reply_message(out, ReplyMessage::Syntax(fault.synerrcd())),
+        Refusal::OutOfTurn => reply_message(out, ReplyMessage::OutOfTurn),
+        Refusal::RdbAccessed => write_rdb_error(out, code_point::RDBACCRM, settings, unicode),
+        Refusal::RdbNotAccessed => write_rdb_error(out, code_point::RDBNACRM, settings, unicode),
         Refusal::CommandNotSupported(code) => {
-            reply_message(text, ReplyMessage::CommandNotSupported(code))
+            reply_message(out, ReplyMessage::CommandNotSupported(code))
         }
         Refusal::ValueNotSupported(code) => {
-            reply_message(text, ReplyMessage::ValueNotSupported(code))
+            reply_message(out, ReplyMessage::ValueNotSupported(code))
         }
     }
 }
 
-/// Writes MGRDEPRM in place of what the text was.
-pub(crate) fn write_manager_missing(text: &mut Vec<u8>) -> Result<(), AllocError>
-    ensures { OnOk result (text.new.items ≡ manager_missing.text) }
+/// Appends MGRDEPRM.
+pub(crate) fn write_manager_missing(out: &mut Vec<u8>) -> Result<(), AllocError>
+    ensures ok { OnOk result (out.new.items ≡ out.old.items ++ manager_missing.text) }
+    ensures err { OnErr result (take (vec_len out.old) out.new.items ≡ out.old.items) }
 {
-    text.clear();
-    reply_message(text, ReplyMessage::ManagerDependency)
+    reply_message(out, ReplyMessage::ManagerDependency)
 }
 
-/// Writes RDBNFNRM, with the name as it came, in place of what the text was.
-pub(crate) fn write_rdb_not_found(text: &mut Vec<u8>, name: &[u8]) -> Result<(), AllocError>
-    ensures { OnOk result (text.new.items ≡ (rdb_not_found name.now).text) }
+/// Appends RDBNFNRM, with the name as it came.
+pub(crate) fn write_rdb_not_found(out: &mut Vec<u8>, name: &[u8]) -> Result<(), AllocError>
+    ensures ok { OnOk result (out.new.items ≡ out.old.items ++ (rdb_not_found name.now).text) }
+    ensures err { OnErr result (take (vec_len out.old) out.new.items ≡ out.old.items) }
 {
-    text.clear();
-    reply_message(text, ReplyMessage::RdbNotFound(name))
+    reply_message(out, ReplyMessage::RdbNotFound(name))
 }
 
-fn write_levels(text: &mut Vec<u8>, asked: &[u8]) -> Result<(), AllocError>
-    ensures { OnOk result (text.new.items ≡ text.old.items ++ levels_part (Some asked.now)) }
+fn write_levels(out: &mut Vec<u8>, asked: &[u8]) -> Result<(), AllocError>
+    ensures ok { OnOk result (out.new.items ≡ out.old.items ++ levels_part (Some asked.now)) }
+    ensures err { OnErr result (take (vec_len out.old) out.new.items ≡ out.old.items) }
 {
-    let container = open(text, code_point::MGRLVLLS)?;
-    push_levels(text, asked)?;
-    close(text, container)
+    let container = open(out, code_point::MGRLVLLS)?;
+    push_levels(out, asked)?;
+    close(out, container)
 }
 
 // EXTNAM with the server's name, as an object.
@@ -115,16 +117,18 @@ const SERVER_NAMES: [u8; 30] = [
     0x81, 0x84, 0x00, 0x0C, 0x11, 0x5A, 0xD9, 0xC4, 0xC1, 0xF0, 0xF1, 0xF0, 0xF0, 0xF0,
 ];
 
-fn write_external_name(text: &mut Vec<u8>) -> Result<(), AllocError>
-    ensures { OnOk result (text.new.items ≡ text.old.items ++ spelled EXTNAM SERVER_NAME) }
+fn write_external_name(out: &mut Vec<u8>) -> Result<(), AllocError>
+    ensures ok { OnOk result (out.new.items ≡ out.old.items ++ spelled EXTNAM SERVER_NAME) }
+    ensures err { OnErr result (take (vec_len out.old) out.new.items ≡ out.old.items) }
 {
-    text.extend_from_slice(&EXTERNAL_NAME)
+    out.extend_from_slice(&EXTERNAL_NAME)
 }
 
-fn write_server_names(text: &mut Vec<u8>) -> Result<(), AllocError>
-    ensures { OnOk result (text.new.items ≡ text.old.items ++ spelled SRVCLSNM SERVER_CLASS ++ spelled SRVNAM SERVER_NAME ++ spelled SRVRLSLV RELEASE_LEVEL) }
+fn write_server_names(out: &mut Vec<u8>) -> Result<(), AllocError>
+    ensures ok { OnOk result (out.new.items ≡ out.old.items ++ spelled SRVCLSNM SERVER_CLASS ++ spelled SRVNAM SERVER_NAME ++ spelled SRVRLSLV RELEASE_LEVEL) }
+    ensures err { OnErr result (take (vec_len out.old) out.new.items ≡ out.old.items) }
 {
-    text.extend_from_slice(&SERVER_NAMES)
+    out.extend_from_slice(&SERVER_NAMES)
 }
 
 // EXCSATRD where no levels were asked.
@@ -135,34 +139,34 @@ const EXCSATRD_WITHOUT_LEVELS: [u8; 43] = [
 ];
 
 #[inline(always)]
-fn write_without_levels(text: &mut Vec<u8>) -> Result<(), AllocError>
-    requires { text.old.items ≡ [] }
-    ensures { OnOk result (text.new.items ≡ (excsatrd None).text) }
+fn write_without_levels(out: &mut Vec<u8>) -> Result<(), AllocError>
+    ensures ok { OnOk result (out.new.items ≡ out.old.items ++ (excsatrd None).text) }
+    ensures err { OnErr result (take (vec_len out.old) out.new.items ≡ out.old.items) }
 {
-    text.extend_from_slice(&EXCSATRD_WITHOUT_LEVELS)
+    out.extend_from_slice(&EXCSATRD_WITHOUT_LEVELS)
 }
 
 #[inline(never)]
-fn write_with_levels(text: &mut Vec<u8>, asked: &[u8]) -> Result<(), AllocError>
-    requires { text.old.items ≡ [] }
-    ensures { OnOk result (text.new.items ≡ (excsatrd (Some asked.now)).text) }
+fn write_with_levels(out: &mut Vec<u8>, asked: &[u8]) -> Result<(), AllocError>
+    ensures ok { OnOk result (out.new.items ≡ out.old.items ++ (excsatrd (Some asked.now)).text) }
+    ensures err { OnErr result (take (vec_len out.old) out.new.items ≡ out.old.items) }
 {
-    let container = open(text, code_point::EXCSATRD)?;
-    write_external_name(text)?;
-    write_levels(text, asked)?;
-    write_server_names(text)?;
-    close(text, container)
+    let container = open(out, code_point::EXCSATRD)?;
+    write_external_name(out)?;
+    write_levels(out, asked)?;
+    write_server_names(out)?;
+    close(out, container)
 }
 
-/// Writes EXCSATRD in place of what the text was.
+/// Appends EXCSATRD.
 #[inline(always)]
-pub(crate) fn write_excsatrd(text: &mut Vec<u8>, asked: Option<&[u8]>) -> Result<(), AllocError>
-    ensures { OnOk result (text.new.items ≡ (excsatrd (option_copied asked.entry)).text) }
+pub(crate) fn write_excsatrd(out: &mut Vec<u8>, asked: Option<&[u8]>) -> Result<(), AllocError>
+    ensures ok { OnOk result (out.new.items ≡ out.old.items ++ (excsatrd (option_copied asked.entry)).text) }
+    ensures err { OnErr result (take (vec_len out.old) out.new.items ≡ out.old.items) }
 {
-    text.clear();
     match asked {
-        Some(asked) => write_with_levels(text, asked),
-        None => write_without_levels(text),
+        Some(asked) => write_with_levels(out, asked),
+        None => write_without_levels(out),
     }
 }
 
@@ -175,29 +179,29 @@ fn mechanism_code(mechanism: Mechanism) -> u16
     }
 }
 
-/// Writes ACCSECRD with the mechanism that is agreed on, in place of what the text was.
-pub(crate) fn write_accsecrd(text: &mut Vec<u8>, mechanism: Mechanism) -> Result<(), AllocError>
-    ensures { OnOk result (text.new.items ≡ (accsecrd mechanism).text) }
+/// Appends ACCSECRD with the mechanism that is agreed on.
+pub(crate) fn write_accsecrd(out: &mut Vec<u8>, mechanism: Mechanism) -> Result<(), AllocError>
+    ensures ok { OnOk result (out.new.items ≡ out.old.items ++ (accsecrd mechanism).text) }
+    ensures err { OnErr result (take (vec_len out.old) out.new.items ≡ out.old.items) }
 {
-    text.clear();
-    let container = open(text, code_point::ACCSECRD)?;
+    let container = open(out, code_point::ACCSECRD)?;
     put(
-        text,
+        out,
         code_point::SECMEC,
         &mechanism_code(mechanism).to_be_bytes(),
     )?;
-    close(text, container)
+    close(out, container)
 }
 
-/// Writes ACCSECRD with the mechanisms that there are, in place of what the text was.
-pub(crate) fn write_accsecrd_refused(text: &mut Vec<u8>) -> Result<(), AllocError>
-    ensures { OnOk result (text.new.items ≡ accsecrd_refused.text) }
+/// Appends ACCSECRD with the mechanisms that there are.
+pub(crate) fn write_accsecrd_refused(out: &mut Vec<u8>) -> Result<(), AllocError>
+    ensures ok { OnOk result (out.new.items ≡ out.old.items ++ accsecrd_refused.text) }
+    ensures err { OnErr result (take (vec_len out.old) out.new.items ≡ out.old.items) }
 {
-    text.clear();
-    let container = open(text, code_point::ACCSECRD)?;
-    put(text, code_point::SECMEC, &[0, 3, 0, 4])?;
-    put(text, code_point::SECCHKCD, &[0x01])?;
-    close(text, container)
+    let container = open(out, code_point::ACCSECRD)?;
+    put(out, code_point::SECMEC, &[0, 3, 0, 4])?;
+    put(out, code_point::SECCHKCD, &[0x01])?;
+    close(out, container)
 }
 
 /// The severity of SECCHKRM: INFO where the check succeeded, ERROR where not.
@@ -207,43 +211,45 @@ pub(crate) fn severity_of(code: u8) -> u16
     if code == 0 { 0 } else { 8 }
 }
 
-/// Writes SECCHKRM with a code in place of what the text was.
-pub(crate) fn write_secchkrm(text: &mut Vec<u8>, code: u8) -> Result<(), AllocError>
-    ensures { OnOk result (text.new.items ≡ (secchkrm code).text) }
+/// Appends SECCHKRM with a code.
+pub(crate) fn write_secchkrm(out: &mut Vec<u8>, code: u8) -> Result<(), AllocError>
+    ensures ok { OnOk result (out.new.items ≡ out.old.items ++ (secchkrm code).text) }
+    ensures err { OnErr result (take (vec_len out.old) out.new.items ≡ out.old.items) }
 {
-    text.clear();
-    let container = open(text, code_point::SECCHKRM)?;
-    put(text, code_point::SVRCOD, &severity_of(code).to_be_bytes())?;
-    put(text, code_point::SECCHKCD, &[code])?;
-    close(text, container)
+    let container = open(out, code_point::SECCHKRM)?;
+    put(out, code_point::SVRCOD, &severity_of(code).to_be_bytes())?;
+    put(out, code_point::SECCHKCD, &[code])?;
+    close(out, container)
 }
 
-fn write_ccsids(text: &mut Vec<u8>) -> Result<(), AllocError>
-    ensures { OnOk result (text.new.items ≡ text.old.items ++ spelled TYPDEFOVR ccsids) }
+fn write_ccsids(out: &mut Vec<u8>) -> Result<(), AllocError>
+    ensures ok { OnOk result (out.new.items ≡ out.old.items ++ spelled TYPDEFOVR ccsids) }
+    ensures err { OnErr result (take (vec_len out.old) out.new.items ≡ out.old.items) }
 {
-    let container = open(text, code_point::TYPDEFOVR)?;
-    put(text, code_point::CCSIDSBC, &[0x04, 0xB8])?;
-    put(text, code_point::CCSIDMBC, &[0x04, 0xB8])?;
-    close(text, container)
+    let container = open(out, code_point::TYPDEFOVR)?;
+    put(out, code_point::CCSIDSBC, &[0x04, 0xB8])?;
+    put(out, code_point::CCSIDMBC, &[0x04, 0xB8])?;
+    close(out, container)
 }
 
-fn write_name(text: &mut Vec<u8>, code: u16, unicode: bool, name: &[u8]) -> Result<(), AllocError>
-    ensures { OnOk result (text.new.items ≡ text.old.items ++ spelled code (in_encoding unicode name.now)) }
+fn write_name(out: &mut Vec<u8>, code: u16, unicode: bool, name: &[u8]) -> Result<(), AllocError>
+    ensures ok { OnOk result (out.new.items ≡ out.old.items ++ spelled code (in_encoding unicode name.now)) }
+    ensures err { OnErr result (take (vec_len out.old) out.new.items ≡ out.old.items) }
 {
-    let container = open(text, code)?;
-    push_name(text, unicode, name)?;
-    close(text, container)
+    let container = open(out, code)?;
+    push_name(out, unicode, name)?;
+    close(out, container)
 }
 
-/// Writes ACCRDBRM in place of what the text was.
-pub(crate) fn write_accrdbrm(text: &mut Vec<u8>, unicode: bool) -> Result<(), AllocError>
-    ensures { OnOk result (text.new.items ≡ (accrdbrm unicode).text) }
+/// Appends ACCRDBRM.
+pub(crate) fn write_accrdbrm(out: &mut Vec<u8>, unicode: bool) -> Result<(), AllocError>
+    ensures ok { OnOk result (out.new.items ≡ out.old.items ++ (accrdbrm unicode).text) }
+    ensures err { OnErr result (take (vec_len out.old) out.new.items ≡ out.old.items) }
 {
-    text.clear();
-    let container = open(text, code_point::ACCRDBRM)?;
-    put(text, code_point::SVRCOD, &[0, 0])?;
-    write_name(text, code_point::PRDID, unicode, b"RDA01000")?;
-    write_name(text, code_point::TYPDEFNAM, unicode, b"QTDSQLASC")?;
-    write_ccsids(text)?;
-    close(text, container)
+    let container = open(out, code_point::ACCRDBRM)?;
+    put(out, code_point::SVRCOD, &[0, 0])?;
+    write_name(out, code_point::PRDID, unicode, b"RDA01000")?;
+    write_name(out, code_point::TYPDEFNAM, unicode, b"QTDSQLASC")?;
+    write_ccsids(out)?;
+    close(out, container)
 }

@@ -1,6 +1,6 @@
 //! One command of a conversation.
 
-ghost use Rattle.std.specs.Prelude.{◌≡◌, ◌≤◌, ◌++◌, ◌∷◌, [], IfOk, OnErr, OnOk, length};
+ghost use Rattle.std.specs.Prelude.{◌≡◌, ◌≤◌, ◌+◌, ◌++◌, ◌∷◌, [], IfOk, OnErr, OnOk, length, take, drop, vec_len};
 ghost use Rattle.dss_frames.specs.Group.{command_of};
 ghost use Rattle.dss_frames.specs.Writing.{written};
 ghost use Rattle.drda_commands.specs.Needs.{Needs};
@@ -18,7 +18,7 @@ use access_exchange::{Answer, Settings, answered_at_once, refused};
 use database_commands::{do_command as do_on_database, most_length};
 use drda_commands::{Accepted, Refusal, judge};
 use drda_names::push_padded;
-use dss_frames::{Format, Group, write_dss};
+use dss_frames::{Format, Group, OpenedDss, close_dss, open_dss};
 use exchanges::{Ask, ReplyKind};
 use std::alloc::{AllocError, Global};
 
@@ -56,24 +56,27 @@ fn no_memory(format: Format, correlator: u16) -> [u8; 16]
     ]
 }
 
-// Appends the one reply of a command, whose text stands in the state. Out of memory nothing is appended.
+// Sends the one reply of a command, whose text stands in a DSS that was opened for it. Out of memory the DSS
+// is taken away.
 #[inline(always)]
 fn send_one(
     state: &mut State,
     answer: Answer,
     link: Link,
+    dss: OpenedDss,
     out: &mut Vec<u8>,
 ) -> Result<(), AllocError>
-    ensures session { OnOk result (state.new.session ≡ (spec.sent link answer.session ((answer_of answer state.old.text.items).reply ∷ [])).session) }
-    ensures bytes { OnOk result (out.new.items ≡ out.old.items ++ (spec.sent link answer.session ((answer_of answer state.old.text.items).reply ∷ [])).bytes) }
+    requires { dss.at + 6 ≤ vec_len out.old }
+    ensures session { OnOk result (state.new.session ≡ (spec.sent link answer.session ((answer_of answer (drop (dss.at + 6) out.old.items)).reply ∷ [])).session) }
+    ensures bytes { OnOk result (out.new.items ≡ take dss.at out.old.items ++ (spec.sent link answer.session ((answer_of answer (drop (dss.at + 6) out.old.items)).reply ∷ [])).bytes) }
     ensures statements { state.new.statements ≡ state.old.statements }
     ensures err_session { OnErr result (state.new.session ≡ state.old.session) }
-    ensures err_out { OnErr result (out.new.items ≡ out.old.items) }
+    ensures err_out { OnErr result (out.new.items ≡ take dss.at out.old.items) }
 {
     let session = behind(answer.session, link, answer.severity);
     let is_chained = link.is_chained && !session.is_broken;
     let format = format_before(&[], answer.kind, is_chained);
-    write_dss(out, format, link.correlator, &state.text)?;
+    close_dss(out, dss, format, link.correlator)?;
     state.session = session;
     Ok(())
 }
@@ -143,8 +146,14 @@ fn refuse(
     ensures err_session { OnErr result (state.new.session ≡ state.old.session) }
     ensures err_out { OnErr result (out.new.items ≡ out.old.items) }
 {
-    let answer = refused(settings, state.session, refusal, &mut state.text)?;
-    send_one(state, answer, link, out)
+    let dss = open_dss(out)?;
+    match refused(settings, state.session, refusal, out) {
+        Ok(answer) => send_one(state, answer, link, dss, out),
+        Err(error) => {
+            out.truncate(dss.at);
+            Err(error)
+        }
+    }
 }
 
 // Does a command of which the judge says this. Out of memory nothing is asked, and nothing appended.
@@ -167,9 +176,17 @@ fn answer<A: Ask>(
         Ok(accepted) => accepted,
         Err(refusal) => return refuse(settings, state, refusal, link, out),
     };
-    match answered_at_once(settings, state.session, accepted, &mut state.text)? {
-        Some(answer) => send_one(state, answer, link, out),
-        None => run(alloc, settings, state, accepted, link, asker, out),
+    let dss = open_dss(out)?;
+    match answered_at_once(settings, state.session, accepted, out) {
+        Ok(Some(answer)) => send_one(state, answer, link, dss, out),
+        Ok(None) => {
+            out.truncate(dss.at);
+            run(alloc, settings, state, accepted, link, asker, out)
+        }
+        Err(error) => {
+            out.truncate(dss.at);
+            Err(error)
+        }
     }
 }
 

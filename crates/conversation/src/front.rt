@@ -61,12 +61,13 @@ impl Front {
     }
 
     /// Begins anew, with the same settings: what came, what was agreed on and what was kept for its
-    /// statements is forgotten, and its memory given back.
+    /// statements is forgotten, and its memory given back; that of the bytes that came, in which a password
+    /// may stand, is overwritten first.
     pub fn restart(&mut self, alloc: Global)
         ensures { self.new ≡ newly_held self.old.settings }
     {
         self.alloc = alloc;
-        self.segments = Segments::new(alloc);
+        self.segments.restart(alloc);
         self.state = fresh_state(alloc);
     }
 

@@ -8,7 +8,7 @@ use exchanges::{Reply, Statements};
 pub(crate) struct State {
     pub session: Session,
     pub statements: Statements,
-    /// The text of a reply, or the database's name as it is answered.
+    /// The database's name as it is answered.
     pub text: Vec<u8>,
     pub replies: Vec<Reply>,
 }

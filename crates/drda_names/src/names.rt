@@ -1,7 +1,6 @@
 //! Names on the wire.
 
-ghost use Rattle.std.specs.Prelude.{◌≡◌};
-ghost use Rattle.std.specs.Prelude.{◌++◌, OnOk, replicate};
+ghost use Rattle.std.specs.Prelude.{◌≡◌, ◌++◌, OnErr, OnOk, replicate, take, vec_len};
 ghost use Rattle.std.specs.List.{list_all};
 ghost use Rattle.drda_names.specs.Names.{is_ascii, stands_for, spells, spells_padded, is_name, is_padded_name, is_blank, byte_in, in_encoding, padded_in};
 ghost use Rattle.drda_names.specs.Names as spec;
@@ -81,9 +80,10 @@ fn byte_in(unicode: bool, character: u8) -> u8
 }
 
 /// Appends a text of printable ASCII in the encoding of names that are answered: UTF-8, or code page
-/// 500.
+/// 500; or some of it, where memory is refused.
 pub fn push_name(out: &mut Vec<u8>, unicode: bool, text: &[u8]) -> Result<(), AllocError>
-    ensures { OnOk result (out.new.items ≡ out.old.items ++ in_encoding unicode text.now) }
+    ensures ok { OnOk result (out.new.items ≡ out.old.items ++ in_encoding unicode text.now) }
+    ensures err { OnErr result (take (vec_len out.old) out.new.items ≡ out.old.items) }
 {
     for character in text {
         out.push(byte_in(unicode, *character))?;
@@ -92,7 +92,8 @@ pub fn push_name(out: &mut Vec<u8>, unicode: bool, text: &[u8]) -> Result<(), Al
 }
 
 fn push_blanks(out: &mut Vec<u8>, unicode: bool, count: usize) -> Result<(), AllocError>
-    ensures { OnOk result (out.new.items ≡ out.old.items ++ replicate count (byte_in unicode 0x20)) }
+    ensures ok { OnOk result (out.new.items ≡ out.old.items ++ replicate count (byte_in unicode 0x20)) }
+    ensures err { OnErr result (take (vec_len out.old) out.new.items ≡ out.old.items) }
 {
     for _ in 0..count {
         out.push(byte_in(unicode, b' '))?;
@@ -100,9 +101,11 @@ fn push_blanks(out: &mut Vec<u8>, unicode: bool, count: usize) -> Result<(), All
     Ok(())
 }
 
-/// Appends a database's name, with blanks behind it up to 18 bytes.
+/// Appends a database's name, with blanks behind it up to 18 bytes; or some of that, where memory is
+/// refused.
 pub fn push_padded(out: &mut Vec<u8>, unicode: bool, name: &[u8]) -> Result<(), AllocError>
-    ensures { OnOk result (out.new.items ≡ out.old.items ++ padded_in unicode name.now) }
+    ensures ok { OnOk result (out.new.items ≡ out.old.items ++ padded_in unicode name.now) }
+    ensures err { OnErr result (take (vec_len out.old) out.new.items ≡ out.old.items) }
 {
     push_name(out, unicode, name)?;
     push_blanks(out, unicode, 18_usize.saturating_sub(name.len()))

@@ -5,7 +5,7 @@ use Rattle.std.specs.Int.{to_be_bytes, w16}
 use Rattle.std.specs.List.{concat}
 use Rattle.std.proofs.lemmas.Nat.{from_be_bytes-to_be_bytes_2}
 use Rattle.std.proofs.lemmas.Bool.{ltb-true, ltb-false, lt-ltb, le-ltb, le-leb, lt-leb}
-use Rattle.std.proofs.lemmas.List.{take_min}
+use Rattle.std.proofs.lemmas.List.{append-nil, drop_all, take_all, take_min}
 use Rattle.std.proofs.Math.ListN.{drop_of_length-le}
 use Rattle.drda_words.specs.Number.{word}
 use Rattle.dss_frames.specs.Length.{is_continued, segment_length, dss_limit}
@@ -283,3 +283,19 @@ written_parts out header mark correlator_bytes front rest contents format correl
 
 pub length_bytes_length : (count : ℕ) → length (length_bytes 2 next_size count) ≡ 2
 length_bytes_length count = ap length (length_is 2 next_size count (lit< tt)).are
+
+-- ---- a DSS of one segment
+
+continues_nothing : (most : ℕ) → continuations most [] ≡ []
+continues_nothing zero = refl
+continues_nothing (suc most) = refl
+
+-- contents that one segment holds stand behind the header as they are
+pub written_short : (format correlator : ℕ) (contents : List ℕ) → length contents ≤ first_size
+    → written format correlator contents ≡ (length_bytes 6 first_size (length contents) ++ (0xD0 ∷ format ∷ []) ++ to_be_bytes w16 correlator) ++ contents
+written_short format correlator contents le =
+    let header : List ℕ = length_bytes 6 first_size (length contents) ++ (0xD0 ∷ format ∷ []) ++ to_be_bytes w16 correlator in
+    ap (λ (b : List ℕ). header ++ b ++ continuations (length contents) (drop first_size contents)) (take_all first_size contents le)
+    ∙ ap (λ (b : List ℕ). header ++ contents ++ continuations (length contents) b) (drop_all first_size contents le)
+    ∙ ap (λ (b : List ℕ). header ++ contents ++ b) (continues_nothing (length contents))
+    ∙ append-nil (header ++ contents)

@@ -32,7 +32,7 @@ pub(crate) fn append(bytes: &mut Vec<u8>, more: &[u8]) -> Result<(), AllocError>
 fn move_to_larger(bytes: &mut Vec<u8>, more: usize) -> Result<(), AllocError>
     ensures { bytes.new.items ≡ bytes.old.items }
 {
-    let size = (bytes.len() + more).max(2 * bytes.capacity());
+    let size = bytes.len().saturating_add(more).max(2 * bytes.capacity());
     let mut larger = Vec::with_capacity(*bytes.allocator(), size)?;
     larger.extend_from_slice(bytes)?;
     mem::swap(bytes, &mut larger);

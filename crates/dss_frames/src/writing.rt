@@ -71,13 +71,22 @@ pub fn close_dss(
     ensures err { OnErr result (out.new.items ≡ take dss.at out.old.items) }
     ensures capacity { vec_capacity out.old ≤ vec_capacity out.new }
 {
-    let begin = dss.at + HEADER_SIZE;
-    let count = out.len() - begin;
+    let count = out.len() - (dss.at + HEADER_SIZE);
     if count > FIRST_SIZE as usize {
         return close_long(out, dss, format, correlator);
     }
-    out[dss.at..begin].copy_from_slice(&header(format, correlator, count));
+    set_header(out, dss, &header(format, correlator, count));
     Ok(())
+}
+
+// Writes the header of a DSS that was opened.
+#[inline(always)]
+fn set_header(out: &mut Vec<u8>, dss: OpenedDss, header: &[u8; HEADER_SIZE])
+    requires { dss.at + 6 ≤ vec_len out.old }
+    ensures items { out.new.items ≡ take dss.at out.old.items ++ header.now ++ drop (dss.at + 6) out.old.items }
+    ensures capacity { vec_capacity out.old ≤ vec_capacity out.new }
+{
+    out[dss.at..dss.at + HEADER_SIZE].copy_from_slice(header);
 }
 
 // Writes a DSS of more than one segment anew.

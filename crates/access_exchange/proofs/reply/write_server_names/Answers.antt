@@ -17,5 +17,5 @@ ok_so : {X E A B : Type 0} (r : Result X E) → (A → B) → OnOk r A → OnOk 
 ok_so (Ok x) f p = f p
 ok_so (Err e) f p = p
 
-pub returns : goal.returns
-returns c = ok_so c.extend_from_slice.result (parts c.args.text.now.items c.extend_from_slice.new.self.items) (search rules)
+pub returns-clause-ok : goal.returns-clause-ok
+returns-clause-ok c = ok_so c.extend_from_slice.result (parts c.args.out.now.items c.extend_from_slice.new.self.items) (search rules)

@@ -2,6 +2,6 @@ use Rattle.std.proofs.Common.{rules}
 use Rattle.ddm_objects.specs.Writing.{spelled}
 use Rattle.access_exchange.proofs.reply.write_without_levels.Goals as goal
 
-pub returns : goal.returns
+pub returns-clause-ok : goal.returns-clause-ok
 unfolding spelled
-returns c = search rules
+returns-clause-ok c = search rules
