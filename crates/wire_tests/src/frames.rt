@@ -1,6 +1,8 @@
 //! Streams as the standard spells them, however they are cut.
 
-use dss_frames::{DssType, Format, Group, Segments, SyntaxCode, write_dss, written_length};
+use dss_frames::{
+    DssType, Format, Group, Segments, SyntaxCode, close_dss, open_dss, write_dss, written_length,
+};
 use std::alloc::{AllocError, Global};
 use std::test::Fail;
 
@@ -275,6 +277,16 @@ fn written(
     Ok(out)
 }
 
+/// The same DSS, whose contents are appended where they stand.
+fn written_in_place(alloc: Global, front: &[u8], contents: &[u8]) -> Result<Vec<u8>, AllocError> {
+    let mut out = Vec::new(alloc);
+    out.extend_from_slice(front)?;
+    let dss = open_dss(&mut out)?;
+    out.extend_from_slice(contents)?;
+    close_dss(&mut out, dss, Format { byte: 0x01 }, 0x1234)?;
+    Ok(out)
+}
+
 #[test]
 fn what_is_written_is_read(rt: HostRuntime) -> Result<(), Fail> {
     for (count, places) in LENGTHS {
@@ -293,6 +305,7 @@ fn what_is_written_is_read(rt: HostRuntime) -> Result<(), Fail> {
         // In room that is set aside, what stood there stays.
         let behind = written(rt.alloc(), b"\x07", 100_000, &contents)?;
         assert_eq!(rt; behind.get(1..), Some(text.as_slice()));
+        assert_eq!(rt; written_in_place(rt.alloc(), b"\x07", &contents)?, behind);
     }
     Ok(())
 }
