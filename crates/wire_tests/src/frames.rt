@@ -328,4 +328,7 @@ fn nothing_is_taken_behind_a_fault(rt: HostRuntime) {
     assert_eq!(rt; segments.feed(b"\x00\x0A"), 0);
     assert!(rt; segments.next().is_err());
     assert_eq!(rt; segments.feed_command(b"\x00\x0A"), 0);
+    segments.restart(rt.alloc());
+    assert_eq!(rt; segments.feed(b"\x00\x06\xD0\x01\x00\x01"), 6);
+    assert!(rt; segments.next().is_ok());
 }
