@@ -1,9 +1,13 @@
 -- Commands that are answered at once, and the judge's word.
-use Rattle.std.proofs.Common.{◌≡◌, ◌++◌, ℕ, false, List, [], ◌∷◌, Option, Some, Result, Ok, Err, OnOk, refl, sym, ap, ◌∙◌, subst, inr}
+use Rattle.std.proofs.Common.{◌≡◌, ◌++◌, ℕ, ◌+◌, false, List, [], ◌∷◌, length, take, drop, Option, Some, None, Result, Ok, Err, OnOk, OnErr, refl, sym, ap, ◌∙◌, subst, inr, append_assoc, arith, length-append}
+use Rattle.std.specs.Prelude.{vec_len}
+use Rattle.std.specs.Global.{Vec}
+use Rattle.std.proofs.lemmas.List.{drop_at, take-take, take_at}
 use Rattle.core_calls.specs.Call.{Call}
 use Rattle.core_calls.specs.Answer as core
 use Rattle.drda_words.specs.Excuse.{Answers}
 use Rattle.dss_frames.specs.Dss.{Dss}
+use Rattle.dss_frames.specs.Writing.{unset}
 use Rattle.drda_commands.specs.declared.judging.Accepted as rust_accepted
 use Rattle.drda_commands.specs.declared.refusal.Refusal.{Refusal}
 use Rattle.drda_commands.specs.Judge.{Accepted}
@@ -12,11 +16,66 @@ use Rattle.exchanges.specs.declared.statements.Statements.{Statements}
 use Rattle.conversation.specs.declared.chain.Link.{Link}
 use Rattle.access_exchange.specs.declared.session.Session.{Session}
 use Rattle.access_exchange.specs.Access.{Answer, access_done, refused}
+use Rattle.access_exchange.specs.declared.answer.Answer as rust_answer
+use Rattle.access_exchange.specs.Views.{IsAppended, IsAppendedIfDue, answer_of}
 use Rattle.conversation.specs.Exchange.{Plan, at_once, at_once_or, link_of, plan, plan_for, sent, database_plan}
 use Rattle.conversation.specs.Done.{Exchanges}
 use Rattle.access_exchange.specs.Settings.{Settings}
 use Rattle.conversation.specs.Standing.{Standing}
 use Rattle.conversation.specs.Views.{Appends, verdict_of}
+
+-- ---- a text that was appended in a DSS that was opened for it
+
+text_behind : (old mid text : List ℕ) (at : ℕ) → at ≡ length old → mid ≡ (old ++ unset) ++ text → drop (at + 6) mid ≡ text
+text_behind old mid text at place is = ap (drop (at + 6)) is ∙ drop_at (old ++ unset) text (at + 6) (omega (arith, length-append old unset, place))
+
+front_before : (old mid more : List ℕ) (at : ℕ) → at ≡ length old → mid ≡ old ++ more → take at mid ≡ old
+front_before old mid more at place is = ap (take at) is ∙ take_at old more at (sym place)
+
+pub record IsSent {T E : Type 0} (r : Result T E) (link : Link) (due : Answer) (session : Session) (old new : List ℕ) : Type 0 where
+  pub session_is : OnOk r (session ≡ (sent link due.session (due.reply ∷ [])).session)
+  pub bytes_are : OnOk r (new ≡ old ++ (sent link due.session (due.reply ∷ [])).bytes)
+
+-- the DSS was closed behind an answer that is due
+pub sent_in_place : {T E : Type 0} (r : Result T E) (link : Link) (answer : rust_answer.Answer) (due : Answer) (at : ℕ) (session : Session) (old mid new : List ℕ)
+    → at ≡ length old → IsAppended answer (old ++ unset) mid due
+    → OnOk r (session ≡ (sent link answer.session ((answer_of answer (drop (at + 6) mid)).reply ∷ [])).session)
+    → OnOk r (new ≡ take at mid ++ (sent link answer.session ((answer_of answer (drop (at + 6) mid)).reply ∷ [])).bytes)
+    → IsSent r link due session old new
+sent_in_place r link answer due at session old mid new place (is, made) goes bytes =
+    let text : drop (at + 6) mid ≡ due.reply.text = text_behind old mid due.reply.text at place made in
+    let front : take at mid ≡ old = front_before old mid (unset ++ due.reply.text) at place (made ∙ append_assoc old unset due.reply.text) in
+    let same : answer_of answer (drop (at + 6) mid) ≡ due = ap (answer_of answer) text ∙ is in
+    let S : Answer → Type 0 = λ a. OnOk r (session ≡ (sent link a.session (a.reply ∷ [])).session) in
+    let B : Answer → Type 0 = λ a. OnOk r (new ≡ take at mid ++ (sent link a.session (a.reply ∷ [])).bytes) in
+    record {
+      session_is = subst S same goes;
+      bytes_are = subst (λ (f : List ℕ). OnOk r (new ≡ f ++ (sent link due.session (due.reply ∷ [])).bytes)) front (subst B same bytes);
+    }
+
+-- and it is taken away where there is no memory, behind an answer or in the middle of it
+pub taken_away : {T E : Type 0} (r : Result T E) (answer : rust_answer.Answer) (due : Answer) (at : ℕ) (old mid new : List ℕ)
+    → at ≡ length old → IsAppended answer (old ++ unset) mid due → OnErr r (new ≡ take at mid) → OnErr r (new ≡ old)
+taken_away (Ok x) answer due at old mid new place (is, made) cut = tt
+taken_away (Err e) answer due at old mid new place (is, made) cut = cut ∙ front_before old mid (unset ++ due.reply.text) at place (made ∙ append_assoc old unset due.reply.text)
+
+pub taken_back : (v w : Vec ℕ) (at : ℕ) (next : List ℕ) → at ≡ vec_len v → w.items ≡ v.items ++ unset → take (vec_len w) next ≡ w.items → take at next ≡ v.items
+taken_back v w at next place opened kept =
+    let long = ap length opened ∙ length-append v.items unset in
+    let here : at ≡ length v.items = omega (arith, place, v.ok.0) in
+    sym (take-take at (vec_len w) next (omega (arith, long, here, w.ok.0))) ∙ ap (take at) kept ∙ front_before v.items w.items unset at here opened
+
+pub nothing_sent : (at : ℕ) (old mid : List ℕ) → at ≡ length old → mid ≡ old ++ unset → take at mid ≡ old
+nothing_sent at old mid place is = front_before old mid unset at place is
+
+-- the answer that is due
+pub due_of : (answer : rust_answer.Answer) (out out' : List ℕ) (o : Option Answer) → IsAppendedIfDue (Some answer) out out' o → (due : Answer) × (o ≡ Some due) × IsAppended answer out out' due
+due_of answer out out' None h = absurd h
+due_of answer out out' (Some due) h = (due, refl, h)
+
+pub none_due : (out out' : List ℕ) (o : Option Answer) → IsAppendedIfDue None out out' o → (o ≡ None) × (out' ≡ out)
+none_due out out' None h = (refl, h)
+none_due out out' (Some due) h = absurd h
 
 pub verdict_is : (r : Result rust_accepted.Accepted Refusal) (v : Result Accepted Refusal) → Answers accepted_of Some r v → verdict_of r ≡ v
 verdict_is (Ok x) v h = sym h
@@ -55,6 +114,18 @@ module _ {A : Type 0} (asks : A → Call → core.Answer → A → Type 0) where
       → OnOk r (Appends asks (plan settings s.session s.statements v) link s out (record { session = session; statements = statements; asked = s.asked }) out')
   refused_once r settings s link refusal v session statements out out' is goes bytes kept =
       once r s link (refused settings s.session refusal) (plan settings s.session s.statements v) session statements out out' (sym (ap (plan settings s.session s.statements) is)) goes bytes kept
+
+  -- a command on the database
+  pub on_database : {T E : Type 0} (r : Result T E) (settings : Settings) (s s' : Standing A) (link : Link) (accepted : Accepted) (v : Result Accepted Refusal) (out front out' : List ℕ)
+      → v ≡ Ok accepted → access_done settings s.session accepted.command accepted.given ≡ None → front ≡ out
+      → OnOk r (Appends asks (database_plan settings s.session s.statements accepted.command accepted.given) link s front s' out')
+      → OnOk r (Appends asks (plan settings s.session s.statements v) link s out s' out')
+  on_database (Err e) settings s s' link accepted v out front out' is none same done = tt
+  on_database (Ok x) settings s s' link accepted v out front out' is none same done =
+      let otherwise : Plan = database_plan settings s.session s.statements accepted.command accepted.given in
+      let here : plan settings s.session s.statements v ≡ otherwise =
+      ap (plan settings s.session s.statements) is ∙ ap (λ (f : Option Answer). at_once_or s.statements f otherwise) none in
+      subst (λ (p : Plan). Appends asks p link s out s' out') (sym here) (subst (λ (f : List ℕ). Appends asks otherwise link s f s' out') same done)
 
   -- a plan that was followed is the exchange
   pub turned : (settings : Settings) (s s' : Standing A) (command : List Dss) (request : Dss) (objects : List Dss) (link : Link) (p : Plan) (out out' : List ℕ)
