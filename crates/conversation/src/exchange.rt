@@ -112,13 +112,13 @@ fn run<A: Ask>(
     ensures out { OnErr result (out.new.items ≡ out.old.items) }
 {
     let unicode = state.session.agreed.unicode;
-    write_database_name(settings, unicode, &mut state.text)?;
+    write_database_name(settings, unicode, &mut state.database_name)?;
     state.replies.clear();
     out.reserve(most_length(&accepted, &state.statements))?;
     do_on_database(
         alloc,
         accepted,
-        &state.text,
+        &state.database_name,
         unicode,
         &mut state.statements,
         asker,

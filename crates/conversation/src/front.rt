@@ -146,7 +146,7 @@ fn fresh_state(alloc: Global) -> State
     State {
         session: fresh_session(),
         statements: Statements::new(alloc),
-        text: Vec::new(alloc),
+        database_name: Vec::new(alloc),
         replies: Vec::new(alloc),
     }
 }

@@ -9,6 +9,6 @@ pub(crate) struct State {
     pub session: Session,
     pub statements: Statements,
     /// The database's name as it is answered.
-    pub text: Vec<u8>,
+    pub database_name: Vec<u8>,
     pub replies: Vec<Reply>,
 }
