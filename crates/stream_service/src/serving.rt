@@ -100,6 +100,7 @@ fn converse<D: Disk, R: Read, W: Write>(
         };
         replies.clear();
         let heard = feed_all(node, id, &buffer[..count], &mut replies);
+        overwrite(&mut buffer, count);
         let Ok(()) = write_whole(writer, &replies) else {
             return Served::WriteFault;
         };
@@ -115,7 +116,16 @@ fn converse<D: Disk, R: Read, W: Write>(
     Served::ReadFault
 }
 
-ghost use Rattle.std.specs.Prelude.{IfOk, length};
+ghost use Rattle.std.specs.Prelude.{◌≤◌, ◌++◌, IfOk, drop, length, replicate};
+
+// Overwrites so many bytes at the front, since a password may stand in what was heard.
+#[inline(never)]
+fn overwrite(bytes: &mut [u8], count: usize)
+    requires { count ≤ length bytes.old }
+    ensures { bytes.new ≡ replicate count 0 ++ drop count bytes.old }
+{
+    bytes[..count].fill(0);
+}
 
 // Room for the bytes of one read.
 fn room_for_a_piece(alloc: Global) -> Result<Vec<u8>, AllocError>

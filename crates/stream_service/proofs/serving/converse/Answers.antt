@@ -1,4 +1,4 @@
-use Rattle.std.proofs.Common.{◌≡◌, ℕ, List, [], length, take, drop, ap, sym, subst, ◌∙◌, arith}
+use Rattle.std.proofs.Common.{◌≡◌, ℕ, List, [], ◌++◌, length, take, drop, ap, sym, subst, ◌∙◌, arith}
 use Rattle.std.specs.Prelude.{IsTrue, false}
 use Rattle.durable_images.specs.Journaled.{IsDurable, OnDisk, shown_on}
 use Rattle.std.specs.Io.KnownBytes.{Appends, Consumes}
@@ -207,8 +207,10 @@ talking-preserved g c =
     subst (λ (z : List ℕ). HearsAll mid place (take n buffer) z new out') c.clear.ensures.items
     (subst (λ (z : List ℕ). HearsAll mid place (take n z) out new out') same c.in-Open.ensures.hears) in
     let wrote : Appends w w' out' = subst (λ (z : List ℕ). Appends w w' z) c.deref-in-talking.ensures.value c.in-Ok-write_whole.ensures.ok in
+    let kept : length c.overwrite.new.bytes ≡ 65536 = omega (arith, lent, full, size) in
+    let still = take_front c.talking.buffer.len c.overwrite.new.bytes (drop (length c.overwrite.new.bytes) (take c.talking.buffer.len (buffer ++ behind))) (omega (arith, kept, full, size)) in
     record {
-      room = ap length back ∙ full;
+      room = ap length still ∙ kept;
       named = c.feed_all-heard.ensures.named;
       journaled = more g.D.Disk.is_modelled g.D.Disk.life c.calls_go_on.ensures (core_in c.args.node.now) (core_in c.talking.node) (core_in c.feed_all-heard.new.node) c.talking.invariant.journaled c.feed_all-heard.ensures.journaled;
       so_far = goes_on more_fault old mid new place (take n buffer) out' r0 r r' w0 w w' c.talking.invariant.so_far took here wrote;
