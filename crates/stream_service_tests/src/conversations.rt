@@ -1,7 +1,7 @@
 //! Conversations that are heard whole, one after the other.
 
 use crate::sentences::*;
-use crate::streams::OneByOne;
+use crate::streams::{Looking, OneByOne};
 use drda_disk::MemDisk;
 use std::alloc::Global;
 use std::test::Fail;
@@ -93,5 +93,20 @@ fn half_a_command_is_not_done(rt: HostRuntime) -> Result<(), Fail> {
     }
     let inserted = is_done(rt.alloc(), &mut node, false, TALKS[2]);
     assert_eq!(rt; inserted, Some(true));
+    Ok(())
+}
+
+// A password may stand in it.
+#[test]
+fn what_was_heard_is_overwritten(rt: HostRuntime) -> Result<(), Fail> {
+    let mut node = node_of(rt.alloc()).ok_or("memory")?;
+    let input = bytes_of(rt.alloc(), &CONNECT)?;
+    let mut reader = Looking {
+        bytes: &input,
+        finds: false,
+    };
+    let mut out = Vec::new(rt.alloc());
+    let served = serve_one(rt.alloc(), &mut node, &mut reader, &mut out);
+    assert_eq!(rt; (served, reader.finds), (Served::Done, false));
     Ok(())
 }

@@ -1,4 +1,4 @@
-//! Streams that give little at a time, and that fail.
+//! Streams that give little at a time, that fail, and that look into the buffers they are handed.
 
 use std::io::{self, ErrorKind, Read, Write};
 
@@ -15,6 +15,21 @@ impl Read for OneByOne<'_> {
             return Err(io::Error::from(ErrorKind::Other));
         }
         let size = buffer.len().min(1);
+        self.bytes.read(&mut buffer[..size])
+    }
+}
+
+/// A stream that gives seven bytes at a time, and remembers whether a buffer held any before.
+#[derive(Drop)]
+pub struct Looking<'a> {
+    pub bytes: &'a [u8],
+    pub finds: bool,
+}
+
+impl Read for Looking<'_> {
+    fn read(&mut self, buffer: &mut [u8]) -> io::Result<usize> {
+        self.finds |= buffer.iter().any(|byte| *byte != 0);
+        let size = buffer.len().min(7);
         self.bytes.read(&mut buffer[..size])
     }
 }
