@@ -68,14 +68,23 @@ taken_back v w at next place opened kept =
 pub nothing_sent : (at : ℕ) (old mid : List ℕ) → at ≡ length old → mid ≡ old ++ unset → take at mid ≡ old
 nothing_sent at old mid place is = front_before old mid unset at place is
 
--- the answer that is due
-pub due_of : (answer : rust_answer.Answer) (out out' : List ℕ) (o : Option Answer) → IsAppendedIfDue (Some answer) out out' o → (due : Answer) × (o ≡ Some due) × IsAppended answer out out' due
-due_of answer out out' None h = absurd h
-due_of answer out out' (Some due) h = (due, refl, h)
+-- the answer that is due, or that none is, where room for a DSS's header was left first
+found_in : (answer : rust_answer.Answer) (out out' : List ℕ) (o : Option Answer) → IsAppendedIfDue (Some answer) out out' o → (due : Answer) × (o ≡ Some due) × IsAppended answer out out' due
+found_in answer out out' None h = absurd h
+found_in answer out out' (Some due) h = (due, refl, h)
 
-pub none_due : (out out' : List ℕ) (o : Option Answer) → IsAppendedIfDue None out out' o → (o ≡ None) × (out' ≡ out)
-none_due out out' None h = (refl, h)
-none_due out out' (Some due) h = absurd h
+pub due_of : {made : Option rust_answer.Answer} (answer : rust_answer.Answer) (old opened mid : List ℕ) (o : Option Answer)
+    → made ≡ Some answer → opened ≡ old ++ unset → IsAppendedIfDue made opened mid o → (due : Answer) × (o ≡ Some due) × IsAppended answer (old ++ unset) mid due
+due_of answer old opened mid o is room h =
+    let told : IsAppendedIfDue (Some answer) opened mid o = subst (λ (m : Option rust_answer.Answer). IsAppendedIfDue m opened mid o) is h in
+    found_in answer (old ++ unset) mid o (subst (λ (f : List ℕ). IsAppendedIfDue (Some answer) f mid o) room told)
+
+none_in : (out out' : List ℕ) (o : Option Answer) → IsAppendedIfDue None out out' o → (o ≡ None) × (out' ≡ out)
+none_in out out' None h = (refl, h)
+none_in out out' (Some due) h = absurd h
+
+pub none_due : {made : Option rust_answer.Answer} (out out' : List ℕ) (o : Option Answer) → made ≡ None → IsAppendedIfDue made out out' o → (o ≡ None) × (out' ≡ out)
+none_due out out' o is h = none_in out out' o (subst (λ (m : Option rust_answer.Answer). IsAppendedIfDue m out out' o) is h)
 
 pub verdict_is : (r : Result rust_accepted.Accepted Refusal) (v : Result Accepted Refusal) → Answers accepted_of Some r v → verdict_of r ≡ v
 verdict_is (Ok x) v h = sym h
