@@ -16,12 +16,12 @@ use Rattle.drda_commands.specs.Refusals.{synerrcd_for}
 use Rattle.drda_names.specs.Names.{in_encoding, padded_in}
 use Rattle.sqlam_replies.specs.declared.message.ReplyMessage.TheVariants as says
 use Rattle.sqlam_replies.specs.Message.{error, info, message_of, scalar}
-use Rattle.access_exchange.specs.declared.reply.TheConstants.{SERVER_NAME, SERVER_CLASS, RELEASE_LEVEL}
-use Rattle.access_exchange.specs.declared.session.Session.{Session}
-use Rattle.access_exchange.specs.Access.{Answer, access_done, asked_for, bytes_of, check_code, is_ours, mechanism_for}
-use Rattle.access_exchange.specs.Levels.{levels_for}
-use Rattle.access_exchange.specs.Replies.{manager_missing, refusal_reply, rdb_error, rdb_not_found, excsatrd, accsecrd, accsecrd_refused, mechanism_code, check_severity, accrdbrm, ccsids}
-use Rattle.access_exchange.specs.Settings.{Settings}
+use Rattle.session_commands.specs.declared.reply.TheConstants.{SERVER_NAME, SERVER_CLASS, RELEASE_LEVEL}
+use Rattle.session_commands.specs.declared.session.Session.{Session}
+use Rattle.session_commands.specs.Access.{Answer, access_done, asked_for, bytes_of, check_code, is_ours, mechanism_for}
+use Rattle.session_commands.specs.Levels.{levels_for}
+use Rattle.session_commands.specs.Replies.{manager_missing, refusal_reply, rdb_error, rdb_not_found, excsatrd, accsecrd, accsecrd_refused, mechanism_code, check_severity, accrdbrm, ccsids}
+use Rattle.session_commands.specs.Settings.{Settings}
 use Rattle.conversation.specs.Laws.{is_access}
 use Rattle.conversation.proofs.SentObjects.{IsTree, container_tree, message_of_trees, message_tree}
 

@@ -7,20 +7,20 @@ use Rattle.drda_commands.specs.declared.refusal.Refusal.{Refusal}
 use Rattle.drda_commands.specs.declared.refusal.Refusal.TheVariants.{RdbNotAccessed}
 use Rattle.drda_commands.specs.declared.stage.Mechanism.{Mechanism}
 use Rattle.drda_commands.specs.declared.stage.Stage.{Stage}
-use Rattle.drda_commands.specs.declared.stage.Stage.TheVariants.{Fresh, Known, Asked, Checked, Opened}
+use Rattle.drda_commands.specs.declared.stage.Stage.TheVariants.{Fresh, Known, MechanismChosen, Checked, Opened}
 use Rattle.drda_commands.specs.declared.table.Command.{Command}
 use Rattle.drda_commands.specs.declared.table.Command.TheVariants.{Excsat, Accsec, Secchk, Accrdb, Excsqlimm, Prpsqlstt, Dscsqlstt, Excsqlstt, Opnqry, Cntqry, Clsqry, Rdbcmm, Rdbrllbck, Syncctl}
 use Rattle.drda_commands.specs.Given.{Given, contents_of}
 use Rattle.drda_commands.specs.Judge.{Accepted, ◌>>=◌, command_object, known_or_refused, due_or_refused, whole_or_refused, none_twice, none_missing, none_bad, judged}
 use Rattle.drda_commands.specs.Tables.{command_for, items_for}
-use Rattle.exchanges.specs.Done.{WasDone}
-use Rattle.access_exchange.specs.declared.session.Session.{Session}
+use Rattle.command_kit.specs.Done.{WasDone}
+use Rattle.session_commands.specs.declared.session.Session.{Session}
 use Rattle.conversation.specs.declared.chain.Link.{Link}
 use Rattle.conversation.specs.Done.{Exchanges, IsExcused, IsFollowed}
-use Rattle.access_exchange.specs.Access.{Answer, access_done, refused}
+use Rattle.session_commands.specs.Access.{Answer, access_done, refused}
 use Rattle.conversation.specs.Exchange.{Plan, at_once, at_once_or, plan, plan_for, database_plan}
 use Rattle.conversation.specs.Laws.{AsksOnlyWhenOpened, verdict}
-use Rattle.access_exchange.specs.Settings.{Settings}
+use Rattle.session_commands.specs.Settings.{Settings}
 use Rattle.conversation.specs.Standing.{Standing}
 
 -- ---- what is accepted was due
@@ -49,11 +49,11 @@ accepted_due stage unicode contents objects accepted e =
 
 -- ---- an SQL command is due only where the database is opened
 
-by_stage : (command : Command) → due_or_refused command Fresh ≡ Err RdbNotAccessed → due_or_refused command Known ≡ Err RdbNotAccessed → ((m : Mechanism) → due_or_refused command (Asked m) ≡ Err RdbNotAccessed)
+by_stage : (command : Command) → due_or_refused command Fresh ≡ Err RdbNotAccessed → due_or_refused command Known ≡ Err RdbNotAccessed → ((m : Mechanism) → due_or_refused command (MechanismChosen m) ≡ Err RdbNotAccessed)
     → due_or_refused command Checked ≡ Err RdbNotAccessed → (stage : Stage) → due_or_refused command stage ≡ Ok tt → stage ≡ Opened
 by_stage command a b c d Fresh e = let clash : Err RdbNotAccessed ≡ Ok tt = sym a ∙ e in absurd (cc clash)
 by_stage command a b c d Known e = let clash : Err RdbNotAccessed ≡ Ok tt = sym b ∙ e in absurd (cc clash)
-by_stage command a b c d (Asked m) e = let clash : Err RdbNotAccessed ≡ Ok tt = sym (c m) ∙ e in absurd (cc clash)
+by_stage command a b c d (MechanismChosen m) e = let clash : Err RdbNotAccessed ≡ Ok tt = sym (c m) ∙ e in absurd (cc clash)
 by_stage command a b c d Checked e = let clash : Err RdbNotAccessed ≡ Ok tt = sym d ∙ e in absurd (cc clash)
 by_stage command a b c d Opened e = refl
 

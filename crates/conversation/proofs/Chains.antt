@@ -6,7 +6,7 @@ use Rattle.dss_frames.specs.Dss.{Dss}
 use Rattle.conversation.specs.Done.{Does, DoesAll, Exchanges, IsExcused}
 use Rattle.conversation.specs.Exchange.{goes_on, passed_over}
 use Rattle.conversation.specs.Laws.{BrokenChainsAreSilent, AllGoOn}
-use Rattle.access_exchange.specs.Settings.{Settings}
+use Rattle.session_commands.specs.Settings.{Settings}
 use Rattle.conversation.specs.Standing.{Standing}
 
 both : {P : Type 0} (b : Bool) → b ≡ true → b ≡ false → P

@@ -8,19 +8,19 @@ use Rattle.dss_frames.specs.Writing.{written}
 use Rattle.drda_commands.specs.declared.refusal.Refusal.{Refusal}
 use Rattle.drda_commands.specs.declared.stage.Mechanism.{Mechanism}
 use Rattle.drda_commands.specs.declared.stage.Stage.{Stage}
-use Rattle.drda_commands.specs.declared.stage.Stage.TheVariants.{Fresh, Known, Asked, Checked, Opened}
+use Rattle.drda_commands.specs.declared.stage.Stage.TheVariants.{Fresh, Known, MechanismChosen, Checked, Opened}
 use Rattle.drda_commands.specs.declared.table.Command.{Command}
 use Rattle.drda_commands.specs.declared.table.Command.TheVariants.{Excsat, Accsec, Secchk, Accrdb, Syncctl}
 use Rattle.drda_commands.specs.declared.table.ItemKind.TheVariants.{Parameter}
 use Rattle.drda_commands.specs.Given.{Given, contents_of, found_at}
 use Rattle.drda_commands.specs.Judge.{Accepted, due_or_refused}
-use Rattle.access_exchange.specs.declared.session.Session.{Session}
+use Rattle.session_commands.specs.declared.session.Session.{Session}
 use Rattle.conversation.specs.Done.{Does, DoesAll, Exchanges, IsExcused, IsFollowed}
-use Rattle.access_exchange.specs.Access.{Answer, access_done, asked_for, bytes_of, check_code, is_ours, known_from, mechanism_for, refused}
+use Rattle.session_commands.specs.Access.{Answer, access_done, asked_for, bytes_of, check_code, is_ours, known_from, mechanism_for, refused}
 use Rattle.conversation.specs.Exchange.{Plan, at_once, at_once_or, link_of, plan, plan_for, database_plan}
 use Rattle.conversation.specs.Laws.{OpenedBehindACheck, ChecksTheUser, HasCheckedTheUser, verdict}
-use Rattle.access_exchange.specs.Replies.{manager_missing, secchkrm, rdb_not_found}
-use Rattle.access_exchange.specs.Settings.{Settings}
+use Rattle.session_commands.specs.Replies.{manager_missing, secchkrm, rdb_not_found}
+use Rattle.session_commands.specs.Settings.{Settings}
 use Rattle.conversation.specs.Standing.{Standing, beginning}
 use Rattle.conversation.proofs.Asking.{accepted_due}
 use Rattle.conversation.proofs.Single.{at_once_sent, at_once_session, one_format}
@@ -29,7 +29,7 @@ use Rattle.conversation.proofs.Single.{at_once_sent, at_once_session, one_format
 abbrev is_checked : Stage → Bool
 is_checked Fresh = false
 is_checked Known = false
-is_checked (Asked mechanism) = false
+is_checked (MechanismChosen mechanism) = false
 is_checked Checked = true
 is_checked Opened = true
 
@@ -40,7 +40,7 @@ both b so not = let clash : true ≡ false = sym so ∙ not in absurd (cc clash)
 accrdb_due : (stage : Stage) → due_or_refused Accrdb stage ≡ Ok tt → is_checked stage ≡ true
 accrdb_due Fresh e = absurd (cc e)
 accrdb_due Known e = absurd (cc e)
-accrdb_due (Asked mechanism) e = absurd (cc e)
+accrdb_due (MechanismChosen mechanism) e = absurd (cc e)
 accrdb_due Checked e = refl
 accrdb_due Opened e = absurd (cc e)
 
@@ -53,7 +53,7 @@ either session false x y p q = q
 known_unchecked : (stage : Stage) → is_checked stage ≡ false → is_checked (known_from stage) ≡ false
 known_unchecked Fresh e = refl
 known_unchecked Known e = e
-known_unchecked (Asked mechanism) e = e
+known_unchecked (MechanismChosen mechanism) e = e
 known_unchecked Checked e = e
 known_unchecked Opened e = e
 

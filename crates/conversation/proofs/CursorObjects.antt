@@ -19,11 +19,11 @@ use Rattle.sql_text.specs.declared.tree.Statement.{Statement}
 use Rattle.sqlam_replies.specs.Message.{error, held_mark, info, scalar, warning}
 use Rattle.sqlam_replies.specs.Rows.{rows_text}
 use Rattle.drda_commands.specs.Values.{DescribedData}
-use Rattle.exchanges.specs.declared.statements.Statements.{Statements}
-use Rattle.exchanges.specs.Reply.{Reply}
-use Rattle.cursor_exchange.specs.Blocks.{rows_in_block}
-use Rattle.cursor_exchange.specs.Commands as does
-use Rattle.cursor_exchange.specs.Replies.{end_of_query, open_failed, query_not_open, query_open, query_opened, rows_description, some_rows}
+use Rattle.command_kit.specs.declared.statements.Statements.{Statements}
+use Rattle.command_kit.specs.Reply.{Reply}
+use Rattle.cursor_commands.specs.Blocks.{rows_in_block}
+use Rattle.cursor_commands.specs.Commands as does
+use Rattle.cursor_commands.specs.Replies.{end_of_query, open_failed, query_not_open, query_open, query_opened, rows_description, some_rows}
 use Rattle.conversation.specs.Laws.{Rows, RowsDescription}
 use Rattle.conversation.proofs.SentObjects.{AllSent, IsSent, SendsObjects, both_sent, card_sent, either_sent, fault_sent, message_tree, not_done_sent, null_sent, values_sent}
 

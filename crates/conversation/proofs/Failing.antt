@@ -27,17 +27,17 @@ use Rattle.drda_commands.specs.Given.{Given, Occurs, found_at}
 use Rattle.drda_commands.specs.Judge.{Accepted}
 use Rattle.drda_commands.specs.Values.{DescribedData, block_size_in, described_data_in, query_instance_in, side_in}
 use Rattle.std.specs.Prelude.{nat_le, length, unwrap_or}
-use Rattle.exchanges.specs.declared.statements.Statements.{Statements}
-use Rattle.exchanges.specs.Doing.{Doing, answered, asking, finished}
-use Rattle.exchanges.specs.Done.{WasDone}
-use Rattle.exchanges.specs.NotDone.{not_done}
-use Rattle.exchanges.specs.Reply.{Reply, agent_failed, changed_card, count_card, description, fault_card, not_found_card, rdb_updated}
-use Rattle.exchanges.specs.Text.{is_select, statement_of, values_of}
-use Rattle.sql_exchange.specs.Commands as sql_does
-use Rattle.cursor_exchange.specs.Blocks.{rows_in_block}
-use Rattle.cursor_exchange.specs.Commands as cursors_do
-use Rattle.cursor_exchange.specs.Replies.{query_opened, rows_description, some_rows}
-use Rattle.xa_exchange.specs.SyncControl as xa_does
+use Rattle.command_kit.specs.declared.statements.Statements.{Statements}
+use Rattle.command_kit.specs.Doing.{Doing, answered, asking, finished}
+use Rattle.command_kit.specs.Done.{WasDone}
+use Rattle.command_kit.specs.NotDone.{not_done}
+use Rattle.command_kit.specs.Reply.{Reply, agent_failed, changed_card, count_card, description, fault_card, not_found_card, rdb_updated}
+use Rattle.command_kit.specs.Text.{is_select, statement_of, values_of}
+use Rattle.sql_commands.specs.Commands as sql_does
+use Rattle.cursor_commands.specs.Blocks.{rows_in_block}
+use Rattle.cursor_commands.specs.Commands as cursors_do
+use Rattle.cursor_commands.specs.Replies.{query_opened, rows_description, some_rows}
+use Rattle.xa_commands.specs.SyncControl as xa_does
 use Rattle.database_commands.specs.Commands.{doing}
 use Rattle.xa_calls.specs.declared.request.Request.{Request}
 use Rattle.xa_calls.specs.declared.request.Request.TheVariants as request
@@ -46,13 +46,13 @@ use Rattle.sections.specs.Blocks.{ends_behind}
 use Rattle.sections.specs.declared.fault.OpenFault.{OpenFault}
 use Rattle.sections.specs.declared.fault.OpenFault.TheVariants as unopened
 use Rattle.conversation.specs.declared.chain.Link.{Link}
-use Rattle.access_exchange.specs.declared.session.Session.{Session}
+use Rattle.session_commands.specs.declared.session.Session.{Session}
 use Rattle.conversation.specs.Done.{Exchanges, IsExcused, IsFollowed}
-use Rattle.access_exchange.specs.Access.{Answer, access_done, asked_for, bytes_of, check_code, is_ours, mechanism_for, refused}
+use Rattle.session_commands.specs.Access.{Answer, access_done, asked_for, bytes_of, check_code, is_ours, mechanism_for, refused}
 use Rattle.conversation.specs.Exchange.{Plan, at_once, at_once_or, breaks, chain_bits, closes, excused, link_of, plan, plan_for, sent, database_plan, worst}
 use Rattle.conversation.specs.Laws.{OnlyFailureCloses, verdict}
-use Rattle.access_exchange.specs.Replies.{manager_missing, accrdbrm, rdb_not_found, refusal_reply}
-use Rattle.access_exchange.specs.Settings.{Settings}
+use Rattle.session_commands.specs.Replies.{manager_missing, accrdbrm, rdb_not_found, refusal_reply}
+use Rattle.session_commands.specs.Settings.{Settings}
 use Rattle.conversation.specs.Standing.{Standing}
 use Rattle.conversation.proofs.Single.{at_once_session, one_format, one_sent}
 

@@ -12,15 +12,15 @@ use Rattle.drda_commands.specs.declared.judging.Accepted as rust_accepted
 use Rattle.drda_commands.specs.declared.refusal.Refusal.{Refusal}
 use Rattle.drda_commands.specs.Judge.{Accepted}
 use Rattle.drda_commands.specs.Views.{accepted_of}
-use Rattle.exchanges.specs.declared.statements.Statements.{Statements}
+use Rattle.command_kit.specs.declared.statements.Statements.{Statements}
 use Rattle.conversation.specs.declared.chain.Link.{Link}
-use Rattle.access_exchange.specs.declared.session.Session.{Session}
-use Rattle.access_exchange.specs.Access.{Answer, access_done, refused}
-use Rattle.access_exchange.specs.declared.answer.Answer as rust_answer
-use Rattle.access_exchange.specs.Views.{IsAppended, IsAppendedIfDue, answer_of}
+use Rattle.session_commands.specs.declared.session.Session.{Session}
+use Rattle.session_commands.specs.Access.{Answer, access_done, refused}
+use Rattle.session_commands.specs.declared.answer.Answer as rust_answer
+use Rattle.session_commands.specs.Views.{IsAppended, IsAppendedIfDue, answer_of}
 use Rattle.conversation.specs.Exchange.{Plan, at_once, at_once_or, link_of, plan, plan_for, sent, database_plan}
 use Rattle.conversation.specs.Done.{Exchanges}
-use Rattle.access_exchange.specs.Settings.{Settings}
+use Rattle.session_commands.specs.Settings.{Settings}
 use Rattle.conversation.specs.Standing.{Standing}
 use Rattle.conversation.specs.Views.{Appends, verdict_of}
 

@@ -13,10 +13,10 @@ use Rattle.core_calls.specs.SqlFault.{diagnosis}
 use Rattle.core_calls.specs.declared.sql_fault.SqlFault.{SqlFault}
 use Rattle.sqlam_replies.specs.Message.{Message, error, objects, permanent_damage}
 use Rattle.sqlam_replies.specs.Sqlcard.{sqlca, sqlcard}
-use Rattle.exchanges.specs.Doing.{Doing, asking, finished}
-use Rattle.exchanges.specs.NotDone.{not_done}
-use Rattle.exchanges.specs.Reply.{Reply, agent_failed, fault_card, message, null_card, object, resource_limit}
-use Rattle.exchanges.specs.declared.statements.Statements.{Statements}
+use Rattle.command_kit.specs.Doing.{Doing, asking, finished}
+use Rattle.command_kit.specs.NotDone.{not_done}
+use Rattle.command_kit.specs.Reply.{Reply, agent_failed, fault_card, message, null_card, object, resource_limit}
+use Rattle.command_kit.specs.declared.statements.Statements.{Statements}
 use Rattle.conversation.specs.Exchange.{chain_bits, in_dsss}
 use Rattle.conversation.specs.Laws.{AreSentObjects, Card, IsOneTree, SentContainer, SentMessage, SentObject, SentValues, Values, bits_before, code_point, sent_bytes, tree_of, type_of}
 

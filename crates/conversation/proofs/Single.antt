@@ -3,12 +3,12 @@ use Rattle.std.proofs.Common.{◌≡◌, ◌+◌, ◌&&◌, ℕ, not, List, [], 
 use Rattle.core_calls.specs.Call.{Call}
 use Rattle.core_calls.specs.Answer as core
 use Rattle.dss_frames.specs.Writing.{written}
-use Rattle.exchanges.specs.Done.{WasDone}
-use Rattle.exchanges.specs.Reply.{Reply}
+use Rattle.command_kit.specs.Done.{WasDone}
+use Rattle.command_kit.specs.Reply.{Reply}
 use Rattle.conversation.specs.declared.chain.Link.{Link}
-use Rattle.access_exchange.specs.declared.session.Session.{Session}
+use Rattle.session_commands.specs.declared.session.Session.{Session}
 use Rattle.conversation.specs.Done.{IsFollowed}
-use Rattle.access_exchange.specs.Access.{Answer}
+use Rattle.session_commands.specs.Access.{Answer}
 use Rattle.conversation.specs.Exchange.{Plan, at_once, behind, chain_bits, sent, worst}
 use Rattle.conversation.specs.Standing.{Standing}
 

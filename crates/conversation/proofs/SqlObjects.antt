@@ -21,11 +21,11 @@ use Rattle.drda_commands.specs.declared.table.Command.{Command}
 use Rattle.drda_commands.specs.declared.table.Command.TheVariants.{Excsqlimm, Prpsqlstt, Dscsqlstt, Excsqlstt, Rdbcmm, Rdbrllbck}
 use Rattle.drda_commands.specs.Given.{Given}
 use Rattle.drda_commands.specs.Values.{DescribedData, described_data_in, side_in}
-use Rattle.exchanges.specs.Doing.{answered, asking, finished}
-use Rattle.exchanges.specs.Reply.{Reply, changed_card, command_violation, count_card, description, fault_card, not_found_card, parameter_columns, rdb_updated, unit_ended}
-use Rattle.exchanges.specs.Text.{is_select, statement_of, values_of}
-use Rattle.exchanges.specs.declared.statements.Statements.{Statements}
-use Rattle.sql_exchange.specs.Commands as does
+use Rattle.command_kit.specs.Doing.{answered, asking, finished}
+use Rattle.command_kit.specs.Reply.{Reply, changed_card, command_violation, count_card, description, fault_card, not_found_card, parameter_columns, rdb_updated, unit_ended}
+use Rattle.command_kit.specs.Text.{is_select, statement_of, values_of}
+use Rattle.command_kit.specs.declared.statements.Statements.{Statements}
+use Rattle.sql_commands.specs.Commands as does
 use Rattle.conversation.specs.Laws.{Description}
 use Rattle.conversation.proofs.SentObjects.{AllSent, IsSent, SendsObjects, card_sent, either_doing, either_sent, fault_sent, message_tree, not_done_sent, null_sent, values_sent}
 

@@ -13,8 +13,8 @@ use Rattle.xa_calls.specs.declared.code.XaCode.TheVariants.{Done}
 use Rattle.xa_calls.specs.declared.request.Request.{Request}
 use Rattle.xa_calls.specs.declared.request.Request.TheVariants.{Branch, Recover}
 use Rattle.sqlam_replies.specs.Message.{scalar}
-use Rattle.exchanges.specs.declared.statements.Statements.{Statements}
-use Rattle.xa_exchange.specs.SyncControl as does
+use Rattle.command_kit.specs.declared.statements.Statements.{Statements}
+use Rattle.xa_commands.specs.SyncControl as does
 use Rattle.conversation.proofs.SentObjects.{AllSent, IsSent, SendsObjects, container_tree, not_done_sent, objects_are_trees, trees_in}
 
 abbrev returned : XaCode → Obj

@@ -16,15 +16,15 @@ use Rattle.drda_names.specs.Names.{padded_in}
 use Rattle.sections.specs.Cursors.{meant_cursor, opening_fault}
 use Rattle.sqlam_replies.specs.declared.message.ReplyMessage.TheVariants as says
 use Rattle.sqlam_replies.specs.Message.{Message, message_of}
-use Rattle.exchanges.specs.declared.statements.Statements.{Statements}
-use Rattle.exchanges.specs.Doing.{Doing, asking, finished}
-use Rattle.exchanges.specs.Done.{WasDone}
-use Rattle.exchanges.specs.Reply.{Reply, message, resource_limit}
-use Rattle.access_exchange.specs.declared.session.Session.{Session}
-use Rattle.access_exchange.specs.Access.{Answer, access_done, refused}
-use Rattle.access_exchange.specs.Settings.{Settings}
-use Rattle.cursor_exchange.specs.Commands.{name_in}
-use Rattle.xa_exchange.specs.SyncControl.{request_of}
+use Rattle.command_kit.specs.declared.statements.Statements.{Statements}
+use Rattle.command_kit.specs.Doing.{Doing, asking, finished}
+use Rattle.command_kit.specs.Done.{WasDone}
+use Rattle.command_kit.specs.Reply.{Reply, message, resource_limit}
+use Rattle.session_commands.specs.declared.session.Session.{Session}
+use Rattle.session_commands.specs.Access.{Answer, access_done, refused}
+use Rattle.session_commands.specs.Settings.{Settings}
+use Rattle.cursor_commands.specs.Commands.{name_in}
+use Rattle.xa_commands.specs.SyncControl.{request_of}
 use Rattle.database_commands.specs.Commands.{doing}
 use Rattle.conversation.specs.declared.chain.Link.{Link}
 use Rattle.conversation.specs.Done.{Exchanges, IsExcused, IsFollowed}

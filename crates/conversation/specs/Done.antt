@@ -4,11 +4,11 @@ use Rattle.std.specs.Prelude.{◌≡◌, ◌⊎◌, ℕ, Bool, true, false, List
 use Rattle.dss_frames.specs.Dss.{Dss}
 use Rattle.core_calls.specs.Call.{Call}
 use Rattle.core_calls.specs.Answer.{Answer}
-use Rattle.exchanges.specs.Done.{WasDone}
-use Rattle.exchanges.specs.Reply.{Reply}
+use Rattle.command_kit.specs.Done.{WasDone}
+use Rattle.command_kit.specs.Reply.{Reply}
 use Rattle.conversation.specs.declared.chain.Link.{Link}
 use Rattle.conversation.specs.Exchange.{Plan, excused, goes_on, link_of, passed_over, plan_for, sent}
-use Rattle.access_exchange.specs.Settings.{Settings}
+use Rattle.session_commands.specs.Settings.{Settings}
 use Rattle.conversation.specs.Standing.{Standing}
 
 -- it belongs to a broken chain: nothing is done, asked or sent

@@ -1,11 +1,11 @@
 -- What a conversation holds between two calls: what the server was started with, the bytes that came
 -- after its last completed command, what is remembered, and what is kept for its statements.
 use Rattle.std.specs.Prelude.{ℕ, List, []}
-use Rattle.exchanges.specs.declared.statements.Statements.{Statements}
-use Rattle.exchanges.specs.Statements.{fresh as no_statements}
-use Rattle.access_exchange.specs.declared.session.Session.{Session}
-use Rattle.access_exchange.specs.Session.{fresh}
-use Rattle.access_exchange.specs.Settings.{Settings}
+use Rattle.command_kit.specs.declared.statements.Statements.{Statements}
+use Rattle.command_kit.specs.Statements.{fresh as no_statements}
+use Rattle.session_commands.specs.declared.session.Session.{Session}
+use Rattle.session_commands.specs.Session.{fresh}
+use Rattle.session_commands.specs.Settings.{Settings}
 
 pub record Held : Type 0 where
   pub settings : Settings

@@ -13,10 +13,10 @@ use Rattle.drda_commands.specs.declared.table.Command.{Command}
 use Rattle.drda_commands.specs.declared.table.Command.TheVariants.{Excsat, Accsec, Secchk, Accrdb}
 use Rattle.drda_commands.specs.Given.{contents_of}
 use Rattle.drda_commands.specs.Judge.{Accepted, judged}
-use Rattle.exchanges.specs.Reply.{agent_failed}
-use Rattle.access_exchange.specs.declared.session.Session.{Session}
-use Rattle.access_exchange.specs.Replies.{secchkrm}
-use Rattle.access_exchange.specs.Settings.{Settings}
+use Rattle.command_kit.specs.Reply.{agent_failed}
+use Rattle.session_commands.specs.declared.session.Session.{Session}
+use Rattle.session_commands.specs.Replies.{secchkrm}
+use Rattle.session_commands.specs.Settings.{Settings}
 use Rattle.conversation.specs.Exchange.{goes_on}
 use Rattle.conversation.specs.Standing.{Standing, beginning}
 use Rattle.conversation.specs.Done.{Does, DoesAll}

@@ -1,8 +1,8 @@
 -- How a conversation stands with who is asked.
-use Rattle.exchanges.specs.declared.statements.Statements.{Statements}
-use Rattle.exchanges.specs.Statements.{fresh as no_statements}
-use Rattle.access_exchange.specs.declared.session.Session.{Session}
-use Rattle.access_exchange.specs.Session.{fresh}
+use Rattle.command_kit.specs.declared.statements.Statements.{Statements}
+use Rattle.command_kit.specs.Statements.{fresh as no_statements}
+use Rattle.session_commands.specs.declared.session.Session.{Session}
+use Rattle.session_commands.specs.Session.{fresh}
 use Rattle.conversation.specs.Held.{Held}
 
 -- what is remembered, what is kept for its statements, and who is asked

@@ -8,11 +8,11 @@ use Rattle.dss_frames.specs.Reading.{End, unfinished, faulty, ReadsAs}
 pub use Rattle.dss_frames.specs.Lending.{GoesFar, KeepsToFirst}
 use Rattle.core_calls.specs.Call.{Call}
 use Rattle.core_calls.specs.Answer.{Answer}
-use Rattle.access_exchange.specs.declared.session.Session.{Session}
+use Rattle.session_commands.specs.declared.session.Session.{Session}
 use Rattle.conversation.specs.declared.front.Need.{Need}
 use Rattle.conversation.specs.declared.front.Need.TheVariants.{Bytes, Local, Short, Closed}
 use Rattle.conversation.specs.Replies.{fault_bytes}
-use Rattle.access_exchange.specs.Settings.{Settings}
+use Rattle.session_commands.specs.Settings.{Settings}
 use Rattle.conversation.specs.Held.{Held}
 use Rattle.conversation.specs.Standing.{Standing, standing}
 pub use Rattle.conversation.specs.Done.{Does, DoesAll, Exchanges, IsExcused}

@@ -13,7 +13,7 @@ use Rattle.conversation.specs.declared.exchange.Exchanged.TheVariants.{Done, Sho
 use Rattle.conversation.specs.declared.state.State.{State}
 use Rattle.conversation.specs.Exchange.{Plan}
 use Rattle.conversation.specs.Done.{Exchanges, IsExcused, IsFollowed}
-use Rattle.access_exchange.specs.Settings.{Settings}
+use Rattle.session_commands.specs.Settings.{Settings}
 use Rattle.conversation.specs.Standing.{Standing}
 
 -- what the judge says

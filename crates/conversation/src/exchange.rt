@@ -6,20 +6,20 @@ ghost use Rattle.dss_frames.specs.Writing.{written};
 ghost use Rattle.drda_commands.specs.Needs.{Needs};
 ghost use Rattle.drda_commands.specs.Views.{given_of};
 ghost use Rattle.drda_names.specs.Names.{padded_in};
-ghost use Rattle.exchanges.specs.Reply.{resource_limit};
-ghost use Rattle.access_exchange.specs.Access as answers;
-ghost use Rattle.access_exchange.specs.Views.{answer_of};
+ghost use Rattle.command_kit.specs.Reply.{resource_limit};
+ghost use Rattle.session_commands.specs.Access as answers;
+ghost use Rattle.session_commands.specs.Views.{answer_of};
 ghost use Rattle.conversation.specs.Exchange as spec;
 ghost use Rattle.conversation.specs.Views.{standing_of, verdict_of, Appends, ComesTo};
 
 use crate::chain::{Link, append_replies, behind, format_before, link_of, worst};
 use crate::state::State;
-use access_exchange::{Answer, Settings, answered_at_once, refused};
+use command_kit::{Ask, ReplyKind};
 use database_commands::{do_command as do_on_database, most_length};
 use drda_commands::{Accepted, Refusal, judge};
 use drda_names::push_padded;
 use dss_frames::{Format, Group, OpenedDss, close_dss, open_dss};
-use exchanges::{Ask, ReplyKind};
+use session_commands::{Answer, Settings, answered_at_once, refused};
 use std::alloc::{AllocError, Global};
 
 /// What became of a command.

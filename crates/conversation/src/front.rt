@@ -2,9 +2,9 @@
 
 use crate::exchange::{Exchanged, do_command};
 use crate::state::State;
-use access_exchange::{Session, Settings, fresh_session};
+use command_kit::{Ask, Statements};
 use dss_frames::{Format, FrameFault, Segments, write_dss};
-use exchanges::{Ask, Statements};
+use session_commands::{Session, Settings, fresh_session};
 use std::alloc::{AllocError, Global};
 use std::marker::Model;
 
@@ -134,9 +134,9 @@ impl Front {
 
 ghost use Rattle.std.specs.Prelude.{◌≡◌, ◌≤◌, ◌+◌, ◌++◌, if◌then◌else◌, vec_len, vec_capacity};
 ghost use Rattle.conversation.specs.Replies.{fault_bytes};
-ghost use Rattle.access_exchange.specs.Session.{fresh};
+ghost use Rattle.session_commands.specs.Session.{fresh};
 ghost use Rattle.conversation.specs.Steps as steps;
-ghost use Rattle.exchanges.specs.Statements as statements;
+ghost use Rattle.command_kit.specs.Statements as statements;
 
 // The state of a conversation of which nothing has come. Takes no memory.
 fn fresh_state(alloc: Global) -> State

@@ -4,7 +4,7 @@ ghost use Rattle.conversation.specs.Laws.{AsksOnlyWhenOpened, BrokenChainsAreSil
 ghost use Rattle.conversation.specs.Replies.{fault_bytes};
 ghost use Rattle.dss_frames.specs.declared.fault.FrameFault.{FrameFault};
 
-use exchanges::Ask;
+use command_kit::Ask;
 
 /// No command closes a conversation but one that is answered by AGNPRMRM alone, in no chain. What else closes
 /// one is a fault of the framing.

@@ -9,6 +9,6 @@ mod front;
 pub mod laws;
 mod state;
 
-pub use access_exchange::{Agreed, Session, Settings, SettingsError};
 pub use drda_commands::{Mechanism, Stage};
 pub use front::{Front, Need};
+pub use session_commands::{Agreed, Session, Settings, SettingsError};

@@ -1,7 +1,7 @@
 //! What the commands of a conversation work on.
 
-use access_exchange::Session;
-use exchanges::{Reply, Statements};
+use command_kit::{Reply, Statements};
+use session_commands::Session;
 
 /// What is remembered of a conversation, and room for its replies.
 #[derive(Drop)]

@@ -2,8 +2,8 @@
 
 ghost use Rattle.std.specs.Prelude.{⊤};
 
+use command_kit::Ask;
 use core_calls::{Answer, CoreCall};
-use exchanges::Ask;
 
 /// A core in which every statement changes one row and every unit ends; or one that is lost. It counts how
 /// often it was asked.
@@ -21,7 +21,7 @@ impl Ask for Scripted {
         match call {
             _ if self.is_lost => Answer::Closed,
             CoreCall::Run { .. } => Answer::Count(1),
-            CoreCall::Commit | CoreCall::Rollback => Answer::Done,
+            CoreCall::Commit | CoreCall::RollBack => Answer::Done,
             _ => Answer::NoMemory,
         }
     }

@@ -24,6 +24,6 @@ call_of (core.Run statement parameters) = run statement.now (map value_of parame
 call_of (core.Query statement parameters) = query statement.now (map value_of parameters.now)
 call_of (core.Describe statement side) = describe statement.now side
 call_of core.Commit = commit
-call_of core.Rollback = roll_back
+call_of core.RollBack = roll_back
 call_of (core.Xa request) = xa (result_ok request)
 call_of core.Lost = lost

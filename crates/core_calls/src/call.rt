@@ -41,7 +41,7 @@ pub enum CoreCall<'a, 't> {
     /// The local unit is committed (DDM RDBCMM).
     Commit,
     /// The local unit is rolled back (DDM RDBRLLBCK).
-    Rollback,
+    RollBack,
     /// An XA call, as `Request::read` reads a SYNCCTL: one that names no call is answered here too.
     Xa(Result<Request, InvalidRequest>),
     /// The conversation is lost.

@@ -18,7 +18,7 @@ fn counts(call: &CoreCall<'_, '_>) -> (usize, usize) {
             parameters,
         } => (statement.markers, parameters.len()),
         CoreCall::Describe { statement, .. } => (statement.markers, 0),
-        CoreCall::Commit | CoreCall::Rollback | CoreCall::Xa(_) | CoreCall::Lost => (0, 0),
+        CoreCall::Commit | CoreCall::RollBack | CoreCall::Xa(_) | CoreCall::Lost => (0, 0),
     }
 }
 

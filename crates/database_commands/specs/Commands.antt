@@ -4,11 +4,11 @@ use Rattle.std.specs.Prelude.{Bool, ℕ, List}
 use Rattle.drda_commands.specs.declared.table.Command.{Command}
 use Rattle.drda_commands.specs.declared.table.Command.TheVariants.{Clsqry, Cntqry, Opnqry, Syncctl}
 use Rattle.drda_commands.specs.Given.{Given}
-use Rattle.exchanges.specs.declared.statements.Statements.{Statements}
-use Rattle.exchanges.specs.Doing.{Doing}
-use Rattle.sql_exchange.specs.Commands as sql
-use Rattle.cursor_exchange.specs.Commands as cursors
-use Rattle.xa_exchange.specs.SyncControl as xa
+use Rattle.command_kit.specs.declared.statements.Statements.{Statements}
+use Rattle.command_kit.specs.Doing.{Doing}
+use Rattle.sql_commands.specs.Commands as sql
+use Rattle.cursor_commands.specs.Commands as cursors
+use Rattle.xa_commands.specs.SyncControl as xa
 
 -- unicode, the database's name as it is answered, the command, what it brought and what is kept; a command that
 -- needs no open database does nothing here

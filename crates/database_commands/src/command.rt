@@ -3,13 +3,13 @@
 ghost use Rattle.std.specs.Prelude.{◌≡◌, ◌≤◌, ◌+◌, OnErr, OnOk, length};
 ghost use Rattle.drda_commands.specs.Needs.{Needs};
 ghost use Rattle.drda_commands.specs.Views.{given_of};
-ghost use Rattle.exchanges.specs.Done.{WasDone};
-ghost use Rattle.exchanges.specs.Sizes.{written_lengths};
+ghost use Rattle.command_kit.specs.Done.{WasDone};
+ghost use Rattle.command_kit.specs.Sizes.{written_lengths};
 ghost use Rattle.database_commands.specs.Commands as commands;
 ghost use Rattle.database_commands.specs.Sizes as sizes;
 
+use command_kit::{Ask, Reply, Statements};
 use drda_commands::{Accepted, Command};
-use exchanges::{Ask, Reply, Statements};
 use std::alloc::{AllocError, Global};
 
 /// Does a command on an open database, which brings what it requires, as `judge` says; of a command that needs
@@ -35,9 +35,9 @@ pub fn do_command<A: Ask>(
 {
     match accepted.command {
         Command::Opnqry | Command::Cntqry | Command::Clsqry => {
-            cursor_exchange::do_command(alloc, accepted, rdb, statements, asker, replies)
+            cursor_commands::do_command(alloc, accepted, rdb, statements, asker, replies)
         }
-        Command::Syncctl => { xa_exchange::do_command(alloc, accepted, statements, asker, replies) }
-        _ => sql_exchange::do_command(alloc, accepted, rdb, unicode, statements, asker, replies),
+        Command::Syncctl => { xa_commands::do_command(alloc, accepted, statements, asker, replies) }
+        _ => sql_commands::do_command(alloc, accepted, rdb, unicode, statements, asker, replies),
     }
 }

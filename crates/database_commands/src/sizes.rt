@@ -4,12 +4,12 @@ ghost use Rattle.std.specs.Prelude.{◌≡◌};
 ghost use Rattle.drda_commands.specs.Views.{given_of};
 ghost use Rattle.database_commands.specs.Sizes as spec;
 
+use command_kit::Statements;
 use drda_commands::Accepted;
-use exchanges::Statements;
 
 /// The most bytes that the replies to a command take as DSSs: room for them is made before it is done.
 pub fn most_length(accepted: &Accepted<'_>, statements: &Statements) -> usize
     ensures { result ≡ spec.most_length accepted.now.command (given_of accepted.now.given) statements.now }
 {
-    cursor_exchange::most_length(accepted, statements).max(xa_exchange::MAX_REPLIES_LENGTH)
+    cursor_commands::most_length(accepted, statements).max(xa_commands::MAX_REPLIES_LENGTH)
 }

@@ -13,7 +13,7 @@ use Rattle.drda_commands.specs.declared.refusal.SyntaxError.TheVariants.{InObjec
 use Rattle.drda_commands.specs.declared.table.Command.{Command}
 use Rattle.drda_commands.specs.declared.table.Command.TheVariants.{Excsat, Accsec, Secchk, Accrdb}
 use Rattle.drda_commands.specs.declared.stage.Stage.{Stage}
-use Rattle.drda_commands.specs.declared.stage.Stage.TheVariants.{Known, Asked, Checked, Opened}
+use Rattle.drda_commands.specs.declared.stage.Stage.TheVariants.{Known, MechanismChosen, Checked, Opened}
 use Rattle.drda_commands.specs.declared.table.Item.{Item}
 use Rattle.drda_commands.specs.declared.table.Form.{Form}
 use Rattle.drda_commands.specs.declared.table.Form.TheVariants.{ManagerLevels, AnyBytes, Bytes, BlockSize, Boolean, SqldaType, SyncType, DefinitionName, DefinitionOverrides, StatementTexts, DescribedData}
@@ -49,10 +49,10 @@ known_or_refused code None = Err (CommandNotSupported code)
 abbrev pub due_or_refused : Command → Stage → Result (Unit {0}) Refusal
 due_or_refused Excsat stage = Ok tt
 due_or_refused Accsec Known = Ok tt
-due_or_refused Accsec (Asked mechanism) = Ok tt
+due_or_refused Accsec (MechanismChosen mechanism) = Ok tt
 due_or_refused Accsec Checked = Ok tt
 due_or_refused Accsec stage = Err OutOfTurn
-due_or_refused Secchk (Asked mechanism) = Ok tt
+due_or_refused Secchk (MechanismChosen mechanism) = Ok tt
 due_or_refused Secchk stage = Err OutOfTurn
 due_or_refused Accrdb Checked = Ok tt
 due_or_refused Accrdb Opened = Err RdbAccessed

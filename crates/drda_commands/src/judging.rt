@@ -57,8 +57,8 @@ fn check_due(command: Command, stage: Stage) -> Result<(), Refusal>
 {
     match (command, stage) {
         (Command::Excsat, _) => Ok(()),
-        (Command::Accsec, Stage::Known | Stage::Asked(_) | Stage::Checked) => Ok(()),
-        (Command::Secchk, Stage::Asked(_)) => Ok(()),
+        (Command::Accsec, Stage::Known | Stage::MechanismChosen(_) | Stage::Checked) => Ok(()),
+        (Command::Secchk, Stage::MechanismChosen(_)) => Ok(()),
         (Command::Accrdb, Stage::Checked) => Ok(()),
         (Command::Accrdb, Stage::Opened) => Err(Refusal::RdbAccessed),
         (Command::Accsec | Command::Secchk | Command::Accrdb, _) => Err(Refusal::OutOfTurn),

@@ -8,7 +8,7 @@ pub enum Stage {
     /// The servers' attributes were exchanged.
     Known,
     /// A security mechanism was agreed on.
-    Asked(Mechanism),
+    MechanismChosen(Mechanism),
     /// The user was checked.
     Checked,
     /// The database was accessed: commands that need it may come.

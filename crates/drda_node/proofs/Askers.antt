@@ -2,13 +2,13 @@
 use Rattle.std.proofs.Common.{◌≡◌, ◌⊎◌, ℕ, Bool, List, [], ◌∷◌, refl, ap, ◌∙◌, inl, inr}
 use Rattle.drda_disk.specs.Disk.{Life}
 use Rattle.dss_frames.specs.Dss.{Dss}
-use Rattle.exchanges.specs.Reply.{Reply}
-use Rattle.exchanges.specs.declared.statements.Statements.{Statements}
-use Rattle.exchanges.specs.Doing.{Doing, asking, finished}
-use Rattle.exchanges.specs.Done.{WasDone}
+use Rattle.command_kit.specs.Reply.{Reply}
+use Rattle.command_kit.specs.declared.statements.Statements.{Statements}
+use Rattle.command_kit.specs.Doing.{Doing, asking, finished}
+use Rattle.command_kit.specs.Done.{WasDone}
 use Rattle.conversation.specs.declared.front.Need.{Need}
 use Rattle.conversation.specs.declared.front.Need.TheVariants.{Bytes, Local, Short, Closed}
-use Rattle.access_exchange.specs.Settings.{Settings}
+use Rattle.session_commands.specs.Settings.{Settings}
 use Rattle.conversation.specs.Held.{Held}
 use Rattle.conversation.specs.Standing.{Standing}
 use Rattle.conversation.specs.Done.{Exchanges, IsExcused}

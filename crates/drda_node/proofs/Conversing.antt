@@ -4,7 +4,7 @@ use Rattle.dss_frames.specs.Dss.{Dss}
 use Rattle.dss_frames.specs.declared.fault.FrameFault.{FrameFault}
 use Rattle.dss_frames.specs.Fault.{BeginsWith, FaultAt}
 use Rattle.dss_frames.specs.Reading.{End, unfinished, faulty, ReadsAs}
-use Rattle.access_exchange.specs.Settings.{Settings}
+use Rattle.session_commands.specs.Settings.{Settings}
 use Rattle.conversation.specs.Standing.{Standing}
 use Rattle.conversation.specs.Done.{DoesAll}
 use Rattle.conversation.specs.Steps.{Converses, Ends, ReadsAll}

@@ -4,7 +4,7 @@ use Rattle.dss_frames.specs.Dss.{Dss}
 use Rattle.dss_frames.specs.declared.fault.FrameFault.{FrameFault}
 use Rattle.dss_frames.specs.Fault.{FaultAt}
 use Rattle.dss_frames.specs.Reading.{unfinished, ReadsAs}
-use Rattle.access_exchange.specs.Settings.{Settings}
+use Rattle.session_commands.specs.Settings.{Settings}
 use Rattle.conversation.specs.Held.{Held}
 use Rattle.drda_node.specs.Hearing.{Attended, Hears}
 use Rattle.drda_node.specs.declared.fed.Fed.{Fed}

@@ -5,7 +5,7 @@ use Rattle.drda_node.specs.declared.slot.Slot.{Slot}
 use Rattle.std.specs.List.{list_all}
 use Rattle.drda_node.specs.Machine.{Conversation, Machine}
 use Rattle.drda_node.specs.Asking.{AskedCore}
-use Rattle.access_exchange.specs.Settings.{Settings}
+use Rattle.session_commands.specs.Settings.{Settings}
 use Rattle.drda_node.specs.Feeding.{shown_held}
 use Rattle.drda_node.specs.Register.{shown, Register}
 

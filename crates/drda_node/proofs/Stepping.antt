@@ -6,10 +6,10 @@ use Rattle.dss_frames.specs.Dss.{Dss}
 use Rattle.dss_frames.specs.declared.fault.FrameFault.{FrameFault}
 use Rattle.dss_frames.specs.Fault.{BeginsWith, FaultAt, IsUnfinished}
 use Rattle.dss_frames.specs.Reading.{unfinished, faulty, ReadsAs}
-use Rattle.access_exchange.specs.declared.session.Session.{Session}
+use Rattle.session_commands.specs.declared.session.Session.{Session}
 use Rattle.conversation.specs.declared.front.Need.{Need}
 use Rattle.conversation.specs.declared.front.Need.TheVariants.{Bytes, Local, Short, Closed}
-use Rattle.access_exchange.specs.Settings.{Settings}
+use Rattle.session_commands.specs.Settings.{Settings}
 use Rattle.conversation.specs.Held.{Held}
 use Rattle.conversation.specs.Replies.{fault_bytes}
 use Rattle.conversation.specs.Exchange.{excused}

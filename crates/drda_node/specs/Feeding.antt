@@ -5,7 +5,7 @@ use Rattle.dss_frames.specs.Fault.{IsUnfinished}
 use Rattle.dss_frames.specs.Reading.{unfinished, ReadsAs}
 use Rattle.conversation.specs.declared.front.Need.{Need}
 use Rattle.conversation.specs.declared.front.Need.TheVariants.{Bytes, Local, Short as short, Closed as closed}
-use Rattle.access_exchange.specs.Settings.{Settings}
+use Rattle.session_commands.specs.Settings.{Settings}
 use Rattle.conversation.specs.Held.{Held}
 use Rattle.conversation.specs.Standing.{standing}
 use Rattle.drda_node.specs.Asking.{AskedCore}

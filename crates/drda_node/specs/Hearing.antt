@@ -1,6 +1,6 @@
 -- What a conversation answers to bytes, and what it makes of the core that it asks.
 use Rattle.std.specs.Prelude.{◌≡◌, ◌⊎◌, ℕ, true, false, List, [], ◌++◌, Some, slice_get, slice_set}
-use Rattle.access_exchange.specs.Settings.{Settings}
+use Rattle.session_commands.specs.Settings.{Settings}
 use Rattle.conversation.specs.Standing.{Standing}
 use Rattle.conversation.specs.Steps.{Converses}
 use Rattle.drda_node.specs.Asking.{AskedCore, asks}

@@ -4,13 +4,13 @@
 use Rattle.std.specs.Prelude.{◌≡◌, ℕ, List, [], Option, Some, None, Bool, slice_get, slice_set, is_some, replicate}
 use Rattle.std.specs.List.{list_all}
 use Rattle.unit_journal.specs.Record.{Entry}
-use Rattle.core_steps.specs.Step.{CoreState}
+use Rattle.core_model.specs.Step.{CoreState}
 use Rattle.drda_node.specs.Asking.{AskedCore, left_by}
-use Rattle.exchanges.specs.Statements.{fresh as no_statements}
-use Rattle.exchanges.specs.declared.statements.Statements.{Statements}
-use Rattle.access_exchange.specs.declared.session.Session.{Session}
-use Rattle.access_exchange.specs.Settings.{Settings}
-use Rattle.access_exchange.specs.Session.{fresh}
+use Rattle.command_kit.specs.Statements.{fresh as no_statements}
+use Rattle.command_kit.specs.declared.statements.Statements.{Statements}
+use Rattle.session_commands.specs.declared.session.Session.{Session}
+use Rattle.session_commands.specs.Settings.{Settings}
+use Rattle.session_commands.specs.Session.{fresh}
 
 -- what is left of a conversation between two events: the bytes that came after its last completed
 -- command, what is remembered of it, and what is kept for its statements

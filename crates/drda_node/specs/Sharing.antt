@@ -1,7 +1,7 @@
 -- All places of a node serve alike.
 use Rattle.std.specs.Prelude.{◌≡◌, List}
 use Rattle.std.specs.List.{All}
-use Rattle.access_exchange.specs.Settings.{Settings}
+use Rattle.session_commands.specs.Settings.{Settings}
 use Rattle.drda_node.specs.declared.slot.Slot.{Slot}
 
 abbrev pub ServesWith : Settings → Slot → Type 0

@@ -1,9 +1,9 @@
 //! Who is asked.
 
+use command_kit::Ask;
 use core_calls::{Answer, CoreCall};
 use drda_disk::Disk;
 use durable_core::DurableCore;
-use exchanges::Ask;
 
 /// The core, asked for one conversation, which it knows by its place in the row.
 #[derive(Drop)]

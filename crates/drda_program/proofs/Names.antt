@@ -1,7 +1,7 @@
 -- A name that a store may have is one that a database may have.
 use Rattle.std.proofs.Common.{◌≡◌, refl, ℕ, Bool, true, false, ◌&&◌, nat_le, List, length}
 use Rattle.std.specs.List.{list_all}
-use Rattle.access_exchange.specs.Settings.{is_printable, is_rdb_name}
+use Rattle.session_commands.specs.Settings.{is_printable, is_rdb_name}
 use Rattle.half_store.specs.Fresh.{is_name, is_store_of}
 use Rattle.half_store.specs.Layout.{is_store_size}
 

@@ -1,9 +1,9 @@
 -- Event records over a store that is just made.
 use Rattle.std.proofs.Common.{◌≡◌, ◌∙◌, refl, sym, ap₂, inl, inr, ℕ, Bool, true, false, List, Option, Result, Ok, Err}
-use Rattle.core_steps.specs.Step.{CoreState}
-use Rattle.access_exchange.specs.Settings.{Settings, is_rdb_name}
+use Rattle.core_model.specs.Step.{CoreState}
+use Rattle.session_commands.specs.Settings.{Settings, is_rdb_name}
 use Rattle.half_store.specs.Fresh.{is_name}
-use Rattle.durable_units.specs.Durable.{fresh}
+use Rattle.recovery.specs.Durable.{fresh}
 use Rattle.durable_images.specs.Journaled.{OnDisk}
 use Rattle.durable_core.specs.Opening.{IsOpenedTo}
 use Rattle.drda_node.specs.Asking.{AskedCore, asked_of}

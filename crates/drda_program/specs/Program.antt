@@ -2,9 +2,9 @@
 use Rattle.std.specs.Prelude.{◌≡◌, ◌≢◌, ◌⊎◌, ℕ, Bool, true, false, List, [], ◌∷◌, ◌++◌, take, codes, Option, Some, None, IfErr, IfSome, Result, Ok, Err}
 use Rattle.std.specs.Fmt.{decimal}
 use Rattle.std.specs.Io.KnownBytes.{Appends}
-use Rattle.access_exchange.specs.Settings.{Settings, is_rdb_name}
+use Rattle.session_commands.specs.Settings.{Settings, is_rdb_name}
 use Rattle.half_store.specs.Fresh.{is_store_of}
-use Rattle.durable_units.specs.Durable.{fresh}
+use Rattle.recovery.specs.Durable.{fresh}
 use Rattle.durable_steps.specs.Part.{opened}
 use Rattle.drda_node.specs.Asking.{AskedCore}
 use Rattle.drda_node.specs.Machine.{Machine, at_start}

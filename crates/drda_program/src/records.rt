@@ -1,8 +1,8 @@
 //! Event records on two streams.
 
 ghost use Rattle.std.specs.Prelude.{◌≡◌, IfErr, IfOk, List, ℕ, true};
-ghost use Rattle.access_exchange.specs.Settings.{is_rdb_name};
-ghost use Rattle.durable_units.specs.Durable.{fresh as fresh_store};
+ghost use Rattle.session_commands.specs.Settings.{is_rdb_name};
+ghost use Rattle.recovery.specs.Durable.{fresh as fresh_store};
 ghost use Rattle.durable_core.specs.Opening.{IsOpenedTo};
 ghost use Rattle.drda_node.specs.Asking.{asked_of};
 ghost use Rattle.drda_node.specs.Machine.{at_start};

@@ -3,7 +3,7 @@
 ghost use Rattle.std.specs.Prelude.{IfErr, IsTrue, List, ℕ, OnOk};
 ghost use Rattle.drda_disk.specs.Disk.{Only};
 ghost use Rattle.half_store.specs.Fresh.{IsFresh};
-ghost use Rattle.durable_units.specs.Durable.{fresh as fresh_store};
+ghost use Rattle.recovery.specs.Durable.{fresh as fresh_store};
 ghost use Rattle.durable_images.specs.Opens.{OpensTo};
 ghost use Rattle.durable_core.specs.Reads.{IsExcused};
 ghost use Rattle.drda_program.specs.Stores.{BeginsFresh, FindsFresh, IsOfDevice, IsOfStore, MakesFile, MakesNamed};

@@ -4,8 +4,8 @@ use Rattle.drda_disk.specs.Disk.{Life}
 use Rattle.drda_disk.specs.Region.{end_of}
 use Rattle.unit_journal.specs.Journal.{held_of, region_of, room_of}
 use Rattle.unit_journal.specs.Record.{laid}
-use Rattle.durable_units.specs.Durable.{Durable}
-use Rattle.durable_units.specs.Laws.{held_for}
+use Rattle.recovery.specs.Durable.{Durable}
+use Rattle.recovery.specs.Laws.{held_for}
 use Rattle.durable_steps.specs.Part.{opened}
 use Rattle.durable_images.specs.Journaled.{OnDisk}
 use Rattle.durable_images.specs.Laws.{OpensToOne}

@@ -8,9 +8,9 @@ use Rattle.half_store.specs.Layout.{half_len, offset_of}
 use Rattle.unit_journal.specs.Laws.{OneReading}
 use Rattle.unit_journal.specs.Record.{Entry, laid}
 use Rattle.unit_journal.specs.Stands.{DamagedFrom, Stands, StandsFrom}
-use Rattle.durable_units.specs.Durable.{Durable, fresh, next}
-use Rattle.durable_units.specs.Journal.{HasNoPlace, Leads, LeadsOn, OneState}
-use Rattle.durable_units.specs.Laws.{held_for}
+use Rattle.recovery.specs.Durable.{Durable, fresh, next}
+use Rattle.recovery.specs.Journal.{HasNoPlace, Leads, LeadsOn, OneState}
+use Rattle.recovery.specs.Laws.{held_for}
 use Rattle.durable_images.specs.Laws.{IsThere, OpensThere}
 use Rattle.durable_images.proofs.Reading.{one_store}
 use Rattle.durable_core.specs.Damage.{DamageOpensNot, HasPages, IsBadJournal, OneDamage, PreparesOne}

@@ -14,13 +14,13 @@ use Rattle.xa_manager.specs.declared.branch.Branch.{Branch}
 use Rattle.xa_manager.specs.declared.branch.BranchState.{BranchState}
 use Rattle.xa_manager.specs.declared.branch.BranchState.TheVariants.{Prepared}
 use Rattle.xa_manager.specs.Branch.{in_doubt_count, in_doubt_xids, state_of, with_branch}
-use Rattle.core_steps.specs.Units.{Work, global, has_work, idle, unit_of}
-use Rattle.core_steps.specs.Step.{CoreState}
-use Rattle.core_steps.proofs.Owners.{unit_of_other}
-use Rattle.durable_units.specs.Durable.{Doubts}
-use Rattle.durable_units.specs.Replay.{doubt_in, doubts_in}
-use Rattle.durable_units.specs.Sound.{IsSound}
-use Rattle.durable_units.specs.declared.prepared.PreparedUnit.{PreparedUnit}
+use Rattle.core_model.specs.Units.{Work, global, has_work, idle, unit_of}
+use Rattle.core_model.specs.Step.{CoreState}
+use Rattle.core_model.proofs.Owners.{unit_of_other}
+use Rattle.recovery.specs.Durable.{Doubts}
+use Rattle.recovery.specs.Replay.{doubt_in, doubts_in}
+use Rattle.recovery.specs.Sound.{IsSound}
+use Rattle.recovery.specs.declared.prepared.PreparedUnit.{PreparedUnit}
 use Rattle.durable_steps.specs.Part.{doubt_branches, doubt_units, opened}
 use Rattle.durable_steps.proofs.Doubts.{xids_count}
 use Rattle.rdb_core.specs.Restored.{RestoresUnit, with_in_doubt}

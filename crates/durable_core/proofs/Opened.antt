@@ -4,14 +4,14 @@ use Rattle.drda_disk.specs.Disk.{Life}
 use Rattle.drda_disk.specs.Region.{end_of}
 use Rattle.unit_journal.specs.Journal.{IsSettled, held_of, region_of}
 use Rattle.unit_journal.specs.declared.journal.Journal.{Journal}
-use Rattle.durable_units.specs.Durable.{Durable}
-use Rattle.durable_units.specs.Laws.{held_for}
-use Rattle.core_steps.specs.Step.{CoreState}
+use Rattle.recovery.specs.Durable.{Durable}
+use Rattle.recovery.specs.Laws.{held_for}
+use Rattle.core_model.specs.Step.{CoreState}
 use Rattle.durable_steps.specs.Kept.{IsKept}
 use Rattle.durable_steps.specs.Laws.{OpeningsAreKept}
 use Rattle.durable_steps.specs.Part.{durable_part, opened}
-use Rattle.disk_recorder.specs.Recording.{disk_of, journal_of}
-use Rattle.disk_recorder.specs.declared.recorder.DiskRecorder.{DiskRecorder}
+use Rattle.journal_recorder.specs.Recording.{disk_of, journal_of}
+use Rattle.journal_recorder.specs.declared.recorder.DiskRecorder.{DiskRecorder}
 use Rattle.durable_images.specs.Opens.{Holds}
 use Rattle.durable_core.specs.Recorded.{IsOnDisk, IsRecorded}
 use Rattle.durable_core.specs.Found.{IsFound, durable_in, name_in}

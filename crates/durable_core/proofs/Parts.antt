@@ -8,9 +8,9 @@ use Rattle.unit_journal.specs.declared.journal.Journal.{Journal}
 use Rattle.unit_journal.specs.Laws.{OneReading}
 use Rattle.unit_journal.specs.Record.{Entry, laid}
 use Rattle.unit_journal.specs.Stands.{Stands}
-use Rattle.durable_units.specs.Durable.{Doubts, Durable, fresh}
-use Rattle.durable_units.specs.Journal.{Leads, OneState}
-use Rattle.durable_units.specs.Laws.{held_for}
+use Rattle.recovery.specs.Durable.{Doubts, Durable, fresh}
+use Rattle.recovery.specs.Journal.{Leads, OneState}
+use Rattle.recovery.specs.Laws.{held_for}
 use Rattle.durable_images.specs.Opens.{Holds, IsJournal, OpensTo}
 use Rattle.durable_images.specs.Laws.{IsBehindPages, IsThere, OpensThere, OpensToOne}
 use Rattle.durable_core.specs.Reads.{IsHead, IsPlain}

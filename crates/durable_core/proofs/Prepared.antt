@@ -16,7 +16,7 @@ use Rattle.tables.specs.ChangeView.{change_of}
 use Rattle.xa_manager.specs.declared.due.Decision.{Decision}
 use Rattle.unit_locks.specs.Claim.{Claim}
 use Rattle.unit_locks.specs.Claims.{all_added}
-use Rattle.core_steps.specs.Units.{Work}
+use Rattle.core_model.specs.Units.{Work}
 use Rattle.unit_journal.specs.Record.{Entry, entry_of}
 use Rattle.unit_journal.specs.declared.record.Record.{Record}
 use Rattle.unit_records.specs.Laws.{OneReading}
@@ -24,10 +24,10 @@ use Rattle.unit_records.specs.Read.{ReadsRecord}
 use Rattle.unit_records.specs.Records.{IsRecord, UnitRecord, committed, decided, prepared}
 use Rattle.unit_records.specs.declared.record.UnitRecord.{UnitRecord as CodeRecord}
 use Rattle.unit_records.specs.declared.record.UnitRecord.TheVariants.{Commit, Decide, Prepare}
-use Rattle.durable_units.specs.Durable.{Doubts, Durable, decide, doubt_of, fresh, have_places, is_claimed, is_free, next, without_doubt}
-use Rattle.durable_units.specs.Journal.{Leads}
-use Rattle.durable_units.specs.Laws.{held_for}
-use Rattle.durable_units.proofs.Holding.{if_some}
+use Rattle.recovery.specs.Durable.{Doubts, Durable, decide, doubt_of, fresh, have_places, is_claimed, is_free, next, without_doubt}
+use Rattle.recovery.specs.Journal.{Leads}
+use Rattle.recovery.specs.Laws.{held_for}
+use Rattle.recovery.proofs.Holding.{if_some}
 use Rattle.durable_core.specs.Damage.{PreparesOne}
 use Rattle.durable_core.specs.Prepares.{IsLastPrepare, IsPrepare, NonePrepares}
 

@@ -11,19 +11,19 @@ use Rattle.unit_journal.specs.Record.{laid}
 use Rattle.unit_journal.specs.Stands.{Stands}
 use Rattle.unit_records.specs.Records.{UnitRecord, entry_of}
 use Rattle.unit_records.specs.Room.{held, released, taken}
-use Rattle.durable_units.specs.Durable.{Durable, next}
-use Rattle.durable_units.specs.Laws.{HeldForDoubts, held_for}
+use Rattle.recovery.specs.Durable.{Durable, next}
+use Rattle.recovery.specs.Laws.{HeldForDoubts, held_for}
 use Rattle.core_calls.specs.Call.{Call}
 use Rattle.core_calls.specs.Answer.{Answer, closed, no_memory}
-use Rattle.core_steps.specs.Step.{CoreState, answer, step_state}
+use Rattle.core_model.specs.Step.{CoreState, answer, step_state}
 use Rattle.recording.specs.Due.{record_due}
 use Rattle.recording.specs.declared.record_error.RecordError.{RecordError}
 use Rattle.recording.specs.declared.record_error.RecordError.TheVariants as error
 use Rattle.durable_steps.specs.Part.{durable_part}
 use Rattle.durable_steps.specs.Kept.{IsKept}
 use Rattle.durable_steps.specs.Laws.{DecisionsAreOfDoubts, RecordsLead, SilentStepsStay, StepsKeep}
-use Rattle.disk_recorder.specs.Recording.{Allows, Fails, IsLeftOpen, Records, disk_of, has_failed, journal_of, made_of}
-use Rattle.disk_recorder.specs.declared.recorder.DiskRecorder.{DiskRecorder}
+use Rattle.journal_recorder.specs.Recording.{Allows, Fails, IsLeftOpen, Records, disk_of, has_failed, journal_of, made_of}
+use Rattle.journal_recorder.specs.declared.recorder.DiskRecorder.{DiskRecorder}
 use Rattle.durable_images.specs.Opens.{Holds}
 use Rattle.durable_images.specs.Laws.{RecordsStay}
 use Rattle.durable_images.specs.Journaled.{FaultsAfter, IsDurable, IsUnchanged, IsUntouched, Journaled, OneCallIsMade, shown_on}

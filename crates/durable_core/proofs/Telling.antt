@@ -15,9 +15,9 @@ use Rattle.unit_journal.specs.Stands.{IsDamagedAt as HasNoRecord, Stands}
 use Rattle.unit_journal.specs.declared.journal.Journal.{Journal}
 use Rattle.unit_journal.specs.declared.record.Record.{Record}
 use Rattle.unit_journal.proofs.Spelling.{length-laid-cons}
-use Rattle.durable_units.specs.Durable.{Doubts, Durable, fresh}
-use Rattle.durable_units.specs.Journal.{Leads, StopsAt}
-use Rattle.durable_units.specs.Laws.{held_for}
+use Rattle.recovery.specs.Durable.{Doubts, Durable, fresh}
+use Rattle.recovery.specs.Journal.{Leads, StopsAt}
+use Rattle.recovery.specs.Laws.{held_for}
 use Rattle.durable_core.specs.Damage.{HasJournal, HasNoRoom, HasPages, IsDamagedAt, IsMisplaced, PreparesOne}
 use Rattle.durable_core.specs.Prepares.{NonePrepares, TellsLast}
 use Rattle.durable_core.specs.Reads.{IsHead, TellsDamage, TellsStore}

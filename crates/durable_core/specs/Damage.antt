@@ -9,9 +9,9 @@ use Rattle.half_store.specs.Layout.{half_len, offset_of}
 use Rattle.unit_journal.specs.Record.{Entry, laid}
 use Rattle.unit_journal.specs.Stands.{IsDamagedAt as HasNoRecord, Stands}
 use Rattle.unit_records.specs.Records.{IsRecord, prepared}
-use Rattle.durable_units.specs.Durable.{Doubts, Durable, doubt_of, fresh}
-use Rattle.durable_units.specs.Journal.{HasNoPlace, Leads}
-use Rattle.durable_units.specs.Laws.{held_for}
+use Rattle.recovery.specs.Durable.{Doubts, Durable, doubt_of, fresh}
+use Rattle.recovery.specs.Journal.{HasNoPlace, Leads}
+use Rattle.recovery.specs.Laws.{held_for}
 use Rattle.durable_images.specs.Opens.{IsJournal, OpensTo}
 
 -- the head is damaged there, or the header page of a half

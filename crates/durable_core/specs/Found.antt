@@ -5,10 +5,10 @@ use Rattle.drda_disk.specs.Region.{end_of}
 use Rattle.unit_journal.specs.Journal.{IsSettled, held_of, region_of}
 use Rattle.unit_journal.specs.Record.{Entry}
 use Rattle.table_store.specs.TableStore.{store_in}
-use Rattle.durable_units.specs.Durable.{Durable}
-use Rattle.durable_units.specs.Laws.{held_for}
-use Rattle.durable_units.specs.Replay.{doubts_in}
-use Rattle.durable_units.specs.Sound.{IsSound}
+use Rattle.recovery.specs.Durable.{Durable}
+use Rattle.recovery.specs.Laws.{held_for}
+use Rattle.recovery.specs.Replay.{doubts_in}
+use Rattle.recovery.specs.Sound.{IsSound}
 use Rattle.durable_images.specs.Opens.{Holds}
 use Rattle.durable_core.specs.declared.reading.Found.{Found}
 

@@ -2,8 +2,8 @@
 use Rattle.std.specs.Prelude.{◌≡◌, ℕ, ◌+◌, false, List, [], length, Result, Ok, Err}
 use Rattle.drda_disk.specs.declared.region.Region.{Region}
 use Rattle.unit_journal.specs.Record.{Entry, laid}
-use Rattle.durable_units.specs.Durable.{Durable}
-use Rattle.durable_units.specs.Laws.{held_for}
+use Rattle.recovery.specs.Durable.{Durable}
+use Rattle.recovery.specs.Laws.{held_for}
 use Rattle.durable_steps.specs.Part.{opened}
 use Rattle.durable_images.specs.Opens.{Holds}
 use Rattle.durable_images.specs.Journaled.{OnDisk}

@@ -7,7 +7,7 @@ use Rattle.unit_journal.specs.Record.{entry_of}
 use Rattle.unit_journal.specs.declared.record.Record.{Record}
 use Rattle.unit_records.specs.declared.record.UnitRecord.{UnitRecord as CodeRecord}
 use Rattle.unit_records.specs.declared.record.UnitRecord.TheVariants.{Commit, Decide, Prepare}
-use Rattle.durable_units.specs.Durable.{Doubts, doubt_of}
+use Rattle.recovery.specs.Durable.{Doubts, doubt_of}
 use Rattle.durable_core.specs.Damage.{PreparesOne}
 
 -- of what was read of a record: it prepared one of the units, or not

@@ -4,12 +4,12 @@ use Rattle.drda_disk.specs.Disk.{Life}
 use Rattle.drda_disk.specs.Region.{end_of}
 use Rattle.unit_journal.specs.Journal.{IsSettled, held_of, region_of, room_of}
 use Rattle.unit_journal.specs.Record.{Entry}
-use Rattle.durable_units.specs.Laws.{held_for}
-use Rattle.core_steps.specs.Step.{CoreState}
+use Rattle.recovery.specs.Laws.{held_for}
+use Rattle.core_model.specs.Step.{CoreState}
 use Rattle.durable_steps.specs.Kept.{IsKept}
 use Rattle.durable_steps.specs.Part.{durable_part}
-use Rattle.disk_recorder.specs.Recording.{disk_of, has_failed, journal_of, made_of}
-use Rattle.disk_recorder.specs.declared.recorder.DiskRecorder.{DiskRecorder}
+use Rattle.journal_recorder.specs.Recording.{disk_of, has_failed, journal_of, made_of}
+use Rattle.journal_recorder.specs.declared.recorder.DiskRecorder.{DiskRecorder}
 use Rattle.durable_images.specs.Opens.{Holds}
 use Rattle.durable_images.specs.Journaled.{OnDisk}
 

@@ -8,13 +8,13 @@ ghost use Rattle.durable_images.specs.Journaled.{IsDurable, Journaled, shown_on}
 ghost use Rattle.durable_core.specs.Steps.{Loses, Steps};
 
 use core_calls::{Answer, CoreCall};
-use disk_recorder::DiskRecorder;
 use drda_disk::Disk;
 use durable_images::laws::{calls_make_records, records_stay};
 use durable_steps::laws::steps_are_recorded;
-use durable_units::laws::doubts_hold_their_decisions;
+use journal_recorder::DiskRecorder;
 use plain_state::PlainState;
 use rdb_core::Core;
+use recovery::laws::doubts_hold_their_decisions;
 use std::alloc::AllocError;
 use std::marker::Model;
 use xa_manager::Xids;

@@ -2,14 +2,14 @@
 
 ghost use Rattle.std.specs.Prelude.{◌≡◌, ◌+◌, ◌<◌, ◌≤◌, OnOk};
 ghost use Rattle.unit_journal.specs.Journal.{held_of, next_of, region_of, room_of};
-ghost use Rattle.durable_units.specs.Laws.{held_for};
-ghost use Rattle.durable_units.specs.Replay.{doubts_in};
+ghost use Rattle.recovery.specs.Laws.{held_for};
+ghost use Rattle.recovery.specs.Replay.{doubts_in};
 ghost use Rattle.durable_core.specs.Prepares.{TellsLast};
 ghost use Rattle.durable_core.specs.Reads.{Counts, IsPlain, TellsDamage};
 
 use crate::errors::OpenError;
 use crate::preparing::last_prepare;
-use durable_units::PreparedUnit;
+use recovery::PreparedUnit;
 use std::alloc::Global;
 use unit_journal::{Journal, Record};
 use unit_records::held_for_decision;

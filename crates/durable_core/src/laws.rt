@@ -3,7 +3,7 @@
 ghost use Rattle.durable_core.specs.Damage.{DamageOpensNot, OneDamage};
 
 use durable_images::laws::images_open_there;
-use durable_units::laws::records_lead_one_way;
+use recovery::laws::records_lead_one_way;
 use unit_journal::a_region_has_one_reading;
 
 /// A damaged image opens to nothing.

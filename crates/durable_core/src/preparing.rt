@@ -3,12 +3,12 @@
 ghost use Rattle.std.specs.Prelude.{◌≡◌, ◌↔◌, IfOk, IsTrue, bytes_eq, is_some};
 ghost use Rattle.std.specs.List.{list_any};
 ghost use Rattle.unit_journal.specs.Record.{entry_of};
-ghost use Rattle.durable_units.specs.Durable.{doubt_of};
-ghost use Rattle.durable_units.specs.Replay.{doubts_in};
+ghost use Rattle.recovery.specs.Durable.{doubt_of};
+ghost use Rattle.recovery.specs.Replay.{doubts_in};
 ghost use Rattle.durable_core.specs.Damage.{PreparesOne};
 ghost use Rattle.durable_core.specs.Prepares.{IsPrepare, TellsLast};
 
-use durable_units::PreparedUnit;
+use recovery::PreparedUnit;
 use std::alloc::{AllocError, Global};
 use unit_journal::Record;
 use unit_records::laws::records_have_one_reading;

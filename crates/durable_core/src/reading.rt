@@ -6,14 +6,14 @@ ghost use Rattle.unit_journal.specs.Journal.{held_of, region_of};
 ghost use Rattle.unit_journal.specs.Opened.{IsOpened};
 ghost use Rattle.unit_journal.specs.Record.{Entry, entries_of};
 ghost use Rattle.unit_journal.specs.Stands.{IsDamagedAt, Stands};
-ghost use Rattle.durable_units.specs.Durable.{Durable, fresh};
-ghost use Rattle.durable_units.specs.Journal.{Leads, StopsAt};
-ghost use Rattle.durable_units.specs.Replay.{durable_of};
+ghost use Rattle.recovery.specs.Durable.{Durable, fresh};
+ghost use Rattle.recovery.specs.Journal.{Leads, StopsAt};
+ghost use Rattle.recovery.specs.Replay.{durable_of};
 ghost use Rattle.durable_core.specs.Reads.{Counts, IsInside, IsPlain, TellsDamage};
 
 use crate::errors::OpenError;
 use drda_disk::{Disk, Region};
-use durable_units::{PreparedUnit, Replay, ReplayError, replay};
+use recovery::{PreparedUnit, Replay, ReplayError, replay};
 use std::alloc::Global;
 use table_store::TableStore;
 use unit_journal::{Journal, Record};

@@ -1,14 +1,14 @@
 //! Units in doubt, prepared again.
 
 ghost use Rattle.std.specs.Prelude.{◌≡◌, OnOk, []};
-ghost use Rattle.durable_units.specs.Replay.{doubts_in};
-ghost use Rattle.durable_units.specs.Sound.{IsSound};
+ghost use Rattle.recovery.specs.Replay.{doubts_in};
+ghost use Rattle.recovery.specs.Sound.{IsSound};
 ghost use Rattle.durable_steps.specs.Part.{opened};
 ghost use Rattle.rdb_core.specs.State.{recorder_of, state_of};
 
-use durable_units::PreparedUnit;
 use rdb_core::Core;
 use recording::Recorder;
+use recovery::PreparedUnit;
 use std::alloc::AllocError;
 use xa_manager::RestoreError;
 

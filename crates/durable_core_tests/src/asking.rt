@@ -109,7 +109,7 @@ pub fn ask_one<D: Disk>(
         Ask::Query(text) => query(alloc, core, conversation, text),
         Ask::Xa(verb, number) => xa(core, conversation, verb, number),
         Ask::Commit => Some(plain(core.step(conversation, &CoreCall::Commit))),
-        Ask::RollBack => Some(plain(core.step(conversation, &CoreCall::Rollback))),
+        Ask::RollBack => Some(plain(core.step(conversation, &CoreCall::RollBack))),
         Ask::Lost => Some(plain(core.step(conversation, &CoreCall::Lost))),
     }
 }

@@ -7,9 +7,9 @@ use Rattle.unit_journal.specs.Stands.{Stands}
 use Rattle.unit_journal.proofs.Spelling.{length-laid-push}
 use Rattle.unit_records.specs.Laws.{WrittenIsRead}
 use Rattle.unit_records.specs.Records.{entry_of}
-use Rattle.durable_units.specs.Durable.{Durable, fresh}
-use Rattle.durable_units.specs.Journal.{Leads, LeadsOn}
-use Rattle.durable_units.specs.Laws.{held_for}
+use Rattle.recovery.specs.Durable.{Durable, fresh}
+use Rattle.recovery.specs.Journal.{Leads, LeadsOn}
+use Rattle.recovery.specs.Laws.{held_for}
 use Rattle.durable_images.specs.Laws.{RecordsOpen, RecordsStay}
 use Rattle.durable_images.specs.Opens.{Holds, IsJournal}
 use Rattle.durable_images.proofs.Outside.{active_outside}

@@ -8,8 +8,8 @@ use Rattle.drda_disk.specs.Disk.{Life}
 use Rattle.drda_disk.proofs.Moments.{and_stays, and_then, no_call, Stays-refl, Stays-trans}
 use Rattle.unit_journal.specs.Record.{Entry}
 use Rattle.unit_records.specs.Records.{IsGood, UnitRecord, entry_of}
-use Rattle.durable_units.specs.Durable.{Durable, replayed_from}
-use Rattle.durable_units.specs.Laws.{GoesOn}
+use Rattle.recovery.specs.Durable.{Durable, replayed_from}
+use Rattle.recovery.specs.Laws.{GoesOn}
 use Rattle.durable_steps.specs.Part.{durable_part}
 use Rattle.durable_images.specs.Opens.{OpensTo}
 use Rattle.durable_images.specs.Journaled.{CallsGoOn, IsDurable, FaultsAfter, IsUnchanged, IsUntouched, Journaled, Made, OpensAfterSome, Shown, StaysFailed, shown_on}

@@ -9,8 +9,8 @@ use Rattle.unit_journal.specs.Stands.{IsBeforeOrAfter}
 use Rattle.unit_records.specs.Laws.{WrittenIsRead}
 use Rattle.unit_records.specs.Records.{IsGood, UnitRecord, entry_of}
 use Rattle.unit_records.specs.Room.{taken}
-use Rattle.durable_units.specs.Durable.{Durable, next, replayed_from}
-use Rattle.durable_units.specs.Laws.{held_for}
+use Rattle.recovery.specs.Durable.{Durable, next, replayed_from}
+use Rattle.recovery.specs.Laws.{held_for}
 use Rattle.durable_steps.specs.Part.{durable_part}
 use Rattle.durable_images.specs.Opens.{Holds, OpensTo}
 use Rattle.durable_images.specs.Journaled.{FaultsAfter, IsDurable, IsUnchanged, Made, OnDisk, OneCallIsMade, OpensAfterSome, Shown, StaysFailed, shown_on}

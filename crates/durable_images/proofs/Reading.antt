@@ -11,8 +11,8 @@ use Rattle.unit_journal.specs.Laws.{OneReading}
 use Rattle.unit_journal.specs.Record.{Entry}
 use Rattle.unit_journal.specs.Stands.{Stands, StandsFrom}
 use Rattle.unit_journal.proofs.Spelling.{byte_part}
-use Rattle.durable_units.specs.Durable.{fresh}
-use Rattle.durable_units.specs.Journal.{Leads, OneState}
+use Rattle.recovery.specs.Durable.{fresh}
+use Rattle.recovery.specs.Journal.{Leads, OneState}
 use Rattle.durable_images.specs.Laws.{FreshStoresOpen, OpensThere, OpensToOne}
 use Rattle.durable_images.specs.Opens.{IsJournal}
 

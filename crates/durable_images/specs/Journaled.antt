@@ -8,9 +8,9 @@ use Rattle.unit_journal.specs.Record.{Entry, laid}
 use Rattle.unit_journal.specs.Stands.{IsBeforeOrAfter}
 use Rattle.unit_records.specs.Records.{IsGood, UnitRecord, entry_of}
 use Rattle.unit_records.specs.Room.{taken}
-use Rattle.durable_units.specs.Durable.{Durable, next, replayed_from}
-use Rattle.durable_units.specs.Laws.{held_for}
-use Rattle.core_steps.specs.Step.{CoreState}
+use Rattle.recovery.specs.Durable.{Durable, next, replayed_from}
+use Rattle.recovery.specs.Laws.{held_for}
+use Rattle.core_model.specs.Step.{CoreState}
 use Rattle.durable_steps.specs.Part.{durable_part}
 use Rattle.durable_images.specs.Opens.{Holds, OpensTo}
 

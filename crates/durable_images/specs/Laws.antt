@@ -9,8 +9,8 @@ use Rattle.unit_journal.specs.Record.{Entry, laid}
 use Rattle.unit_journal.specs.Stands.{IsBeforeOrAfter, Stands}
 use Rattle.unit_records.specs.Records.{IsGood, UnitRecord, entry_of}
 use Rattle.unit_records.specs.Room.{taken}
-use Rattle.durable_units.specs.Durable.{Durable, fresh, next}
-use Rattle.durable_units.specs.Laws.{held_for}
+use Rattle.recovery.specs.Durable.{Durable, fresh, next}
+use Rattle.recovery.specs.Laws.{held_for}
 use Rattle.durable_images.specs.Opens.{Holds, OpensTo}
 
 -- an image opens to one state at most, under one name

@@ -6,9 +6,9 @@ use Rattle.half_store.specs.Active.{Store, active_of}
 use Rattle.half_store.specs.Layout.{half_len, offset_of}
 use Rattle.unit_journal.specs.Record.{Entry, laid}
 use Rattle.unit_journal.specs.Stands.{Stands}
-use Rattle.durable_units.specs.Durable.{Durable, fresh}
-use Rattle.durable_units.specs.Journal.{Leads}
-use Rattle.durable_units.specs.Laws.{held_for}
+use Rattle.recovery.specs.Durable.{Durable, fresh}
+use Rattle.recovery.specs.Journal.{Leads}
+use Rattle.recovery.specs.Laws.{held_for}
 
 -- the journal of a store without pages: what is left of its half behind the header
 pub record IsJournal (size : ℕ) (store : Store) (region : Region) : Type 0 where

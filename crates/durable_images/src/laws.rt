@@ -4,7 +4,7 @@ ghost use Rattle.durable_images.specs.Journaled.{CallsGoOn, OneCallIsMade};
 ghost use Rattle.durable_images.specs.Laws.{FreshStoresOpen, OpensThere, OpensToOne, RecordsOpen, RecordsStay};
 
 use drda_disk::Disk;
-use durable_units::laws::{records_follow_one_another, records_lead_one_way};
+use recovery::laws::{records_follow_one_another, records_lead_one_way};
 use unit_journal::a_region_has_one_reading;
 use unit_records::laws::records_have_one_reading;
 

@@ -10,14 +10,14 @@ use Rattle.unit_locks.specs.Claim.{Claim}
 use Rattle.unit_locks.specs.Claims.{AddsClaims, all_added}
 use Rattle.unit_locks.specs.Clash.{clash}
 use Rattle.core_calls.specs.Answer.{Answer}
-use Rattle.core_steps.specs.Units.{Held, Owner, Work, clashes, left_of, others, same_owner, set_unit, unit_of, view}
-use Rattle.core_steps.specs.Asked.{Done, Question, answer_to, changes_by, claims_of, kept, unfit}
-use Rattle.core_steps.specs.Events.{Ask, Base, bare, happens_asked}
-use Rattle.core_steps.proofs.Asking.{all_apart, through}
-use Rattle.core_steps.proofs.Owners.{both, others_has, owners_same, same_self, unit_of_other, unit_of_set, which}
+use Rattle.core_model.specs.Units.{Held, Owner, Work, clashes, left_of, others, same_owner, set_unit, unit_of, view}
+use Rattle.core_model.specs.Asked.{Done, Question, answer_to, changes_by, claims_of, kept, unfit}
+use Rattle.core_model.specs.Events.{Ask, Base, bare, happens_asked}
+use Rattle.core_model.proofs.Asking.{all_apart, through}
+use Rattle.core_model.proofs.Owners.{both, others_has, owners_same, same_self, unit_of_other, unit_of_set, which}
 use Rattle.unit_records.specs.Records.{IsChange}
-use Rattle.durable_units.specs.Durable.{creates_none, have_places, names_claim}
-use Rattle.durable_units.specs.Places.{PlacesGoOn}
+use Rattle.recovery.specs.Durable.{creates_none, have_places, names_claim}
+use Rattle.recovery.specs.Places.{PlacesGoOn}
 use Rattle.sql_places.specs.Places.{ArePlaced, ChangesHavePlaces, CreationsClaimNames}
 use Rattle.durable_steps.proofs.Claiming.{ClaimsNames, claimed_if, either_creates, names_in, names_more, none_created, once_all}
 use Rattle.durable_steps.proofs.Safe.{IsSafe, IsUnit, stores_kept}

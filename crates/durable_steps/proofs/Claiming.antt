@@ -6,8 +6,8 @@ use Rattle.drda_words.proofs.Precedes.{bytes_eq-refl}
 use Rattle.tables.specs.Change.{Change, create, put, remove}
 use Rattle.unit_locks.specs.Claim.{Claim, claim_bytes}
 use Rattle.unit_locks.specs.Claims.{AddsClaims, In, added, all_added, has, is_same}
-use Rattle.core_steps.proofs.Owners.{which}
-use Rattle.durable_units.specs.Durable.{creates_none, is_claimed, names_claim}
+use Rattle.core_model.proofs.Owners.{which}
+use Rattle.recovery.specs.Durable.{creates_none, is_claimed, names_claim}
 
 -- ---- each claim once
 

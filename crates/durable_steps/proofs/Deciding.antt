@@ -10,9 +10,9 @@ use Rattle.xa_manager.specs.declared.branch.BranchState.{BranchState}
 use Rattle.xa_manager.specs.declared.branch.BranchState.TheVariants.{Prepared}
 use Rattle.xa_manager.specs.Branch.{is_in_doubt, state_of, with_state, without}
 use Rattle.xa_manager.proofs.Rising.{Above, Rises, with_state_above, without_above}
-use Rattle.core_steps.specs.Units.{Work}
-use Rattle.core_steps.proofs.Owners.{both, which}
-use Rattle.durable_units.specs.Durable.{Doubts, doubt_of, with_doubt, without_doubt}
+use Rattle.core_model.specs.Units.{Work}
+use Rattle.core_model.proofs.Owners.{both, which}
+use Rattle.recovery.specs.Durable.{Doubts, doubt_of, with_doubt, without_doubt}
 use Rattle.durable_steps.proofs.Doubts.{first_state, pairs, pairs_in, pairs_out, state_rest}
 
 -- an XID comes before each branch that is known behind it

@@ -6,12 +6,12 @@ use Rattle.drda_words.proofs.Precedes.{bytes_eq-refl, same_bytes}
 use Rattle.xa_manager.specs.declared.branch.Branch.{Branch}
 use Rattle.xa_manager.specs.declared.branch.BranchState.{BranchState}
 use Rattle.xa_manager.specs.declared.branch.BranchState.TheVariants.{Prepared}
-use Rattle.xa_manager.specs.Branch.{in_doubt_count, in_doubt_xids, is_in_doubt, is_last_joined_by, state_of, with_branch, with_state, without, without_those_of}
+use Rattle.xa_manager.specs.Branch.{in_doubt_count, in_doubt_xids, is_in_doubt, is_lost_with, state_of, with_branch, with_state, without, without_those_of}
 use Rattle.xa_manager.specs.Counts.{weight}
 use Rattle.xa_manager.proofs.Rising.{Above, Rises, counted, state_of_above}
-use Rattle.core_steps.specs.Units.{Held, Work, global, unit_of}
-use Rattle.core_steps.proofs.Owners.{both, which}
-use Rattle.durable_units.specs.Durable.{Doubts}
+use Rattle.core_model.specs.Units.{Held, Work, global, unit_of}
+use Rattle.core_model.proofs.Owners.{both, which}
+use Rattle.recovery.specs.Durable.{Doubts}
 use Rattle.durable_steps.specs.Part.{doubts_in}
 use Rattle.durable_steps.proofs.Keeping.{is_it}
 
@@ -97,7 +97,7 @@ xids_without bs x old rise known out =
 
 -- those that a lost conversation takes with it
 pub xids_lost : (bs : List Branch) (c : ℕ) → Rises bs → in_doubt_xids (without_those_of bs c) ≡ in_doubt_xids bs
-xids_lost bs c rise = xids_kept (λ (b : Branch). not (is_last_joined_by c b.state)) bs rise (λ b doubt there. ap (λ (s : BranchState). not (is_last_joined_by c s)) (is_it b.state doubt))
+xids_lost bs c rise = xids_kept (λ (b : Branch). not (is_lost_with c b.state)) bs rise (λ b doubt there. ap (λ (s : BranchState). not (is_lost_with c s)) (is_it b.state doubt))
 
 -- one begins
 pub xids_begun : (bs : List Branch) (new : Branch) → is_in_doubt new.state ≡ false → in_doubt_xids (with_branch bs new) ≡ in_doubt_xids bs

@@ -13,20 +13,20 @@ use Rattle.xa_manager.specs.declared.branch.BranchState.TheVariants.{Active, Idl
 use Rattle.xa_manager.specs.declared.due.Action.{Action}
 use Rattle.xa_manager.specs.declared.due.Action.TheVariants as action
 use Rattle.xa_manager.specs.declared.due.Work.{Work as Facts}
-use Rattle.xa_manager.specs.Branch.{IsTable, is_in_doubt, is_last_joined_by, joined_xid, state_of}
+use Rattle.xa_manager.specs.Branch.{IsTable, is_in_doubt, is_lost_with, joined_xid, state_of}
 use Rattle.xa_manager.specs.Due.{after, facts_of, left_by}
 use Rattle.xa_manager.specs.Laws.{ActionsFit, FitsAction, JoinedIsActive}
 use Rattle.xa_manager.proofs.Rising.{table_branch, table_filter, table_state}
 use Rattle.core_calls.specs.Call as call
 use Rattle.core_calls.specs.Call.{Call}
-use Rattle.core_steps.specs.Units.{Owner, global, idle, local, unit_of, without}
-use Rattle.core_steps.specs.Asked.{Question, describing, querying, running}
-use Rattle.core_steps.specs.Events.{Ask, Base, Commit, Event, Leave, bare, bare_run}
-use Rattle.core_steps.specs.Step.{CoreState, due_in, events, facts, lost_xids, next, owner_of, step_state}
-use Rattle.core_steps.specs.Laws.{Ends, InDoubtWait}
-use Rattle.core_steps.proofs.Keeping.{NoAsks, of_commit, of_lost, of_roll_back, of_xa}
-use Rattle.core_steps.proofs.Owners.{both, unit_of_gone, which}
-use Rattle.durable_units.specs.Places.{ChangesKeepTables, PlacesGoOn, RowsKeepPlaces, TablesGivePlaces}
+use Rattle.core_model.specs.Units.{Owner, global, idle, local, unit_of, without}
+use Rattle.core_model.specs.Asked.{Question, describing, querying, running}
+use Rattle.core_model.specs.Events.{Ask, Base, Commit, Event, Leave, bare, bare_run}
+use Rattle.core_model.specs.Step.{CoreState, due_in, events, facts, lost_xids, next, owner_of, step_state}
+use Rattle.core_model.specs.Laws.{Ends, InDoubtWait}
+use Rattle.core_model.proofs.Keeping.{NoAsks, of_commit, of_lost, of_roll_back, of_xa}
+use Rattle.core_model.proofs.Owners.{both, unit_of_gone, which}
+use Rattle.recovery.specs.Places.{ChangesKeepTables, PlacesGoOn, RowsKeepPlaces, TablesGivePlaces}
 use Rattle.sql_places.specs.Places.{ChangesHavePlaces, CreationsClaimNames}
 use Rattle.durable_steps.specs.Kept.{IsKept, is_in_doubt_in, waits}
 use Rattle.durable_steps.specs.Laws.{StepsKeep}
@@ -60,7 +60,7 @@ table_next fits bs b c call.roll_back t = t
 table_next fits bs b c (call.xa None) t = t
 table_next fits bs b c (call.xa (Some request.Recover)) t = t
 table_next fits bs b c (call.xa (Some (request.Branch verb xid))) t = table_after bs c xid (due_in bs b c verb xid).action (facts b c xid) (fits bs c verb xid (facts b c xid)) t
-table_next fits bs b c call.lost t = table_filter (λ (r : Branch). not (is_last_joined_by c r.state)) bs t
+table_next fits bs b c call.lost t = table_filter (λ (r : Branch). not (is_lost_with c r.state)) bs t
 
 -- ---- units in doubt
 

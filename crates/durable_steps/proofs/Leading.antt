@@ -20,14 +20,14 @@ use Rattle.xa_manager.specs.Laws.{ActionsFit, FitsAction}
 use Rattle.xa_manager.proofs.Rising.{Rises, rises, rises_filter}
 use Rattle.core_calls.specs.Call as call
 use Rattle.core_calls.specs.Call.{Call}
-use Rattle.core_steps.specs.Units.{Held, Owner, Work, apply_all, global, local, unit_of, view}
-use Rattle.core_steps.specs.Units as units
-use Rattle.core_steps.specs.Events.{Base, Commit, Leave, bare, bare_run}
-use Rattle.core_steps.specs.Step.{CoreState, action_events, due_in, facts, step_state, unless_joined}
+use Rattle.core_model.specs.Units.{Held, Owner, Work, apply_all, global, local, unit_of, view}
+use Rattle.core_model.specs.Units as units
+use Rattle.core_model.specs.Events.{Base, Commit, Leave, bare, bare_run}
+use Rattle.core_model.specs.Step.{CoreState, action_events, due_in, facts, step_state, unless_joined}
 use Rattle.unit_records.specs.Records.{UnitRecord, committed, decided, prepared}
 use Rattle.unit_records.specs.Room.{released}
-use Rattle.durable_units.specs.Durable.{Doubts, Durable, decide, doubt_of, have_places, is_claimed, is_free, next, with_doubt, without_doubt}
-use Rattle.durable_units.specs.Laws.{HeldForDoubts, held_for}
+use Rattle.recovery.specs.Durable.{Doubts, Durable, decide, doubt_of, have_places, is_claimed, is_free, next, with_doubt, without_doubt}
+use Rattle.recovery.specs.Laws.{HeldForDoubts, held_for}
 use Rattle.recording.specs.Due.{action_due, commit_due}
 use Rattle.durable_steps.specs.Kept.{IsKept, is_in_doubt_in, waits}
 use Rattle.durable_steps.specs.Laws.{DecisionsAreOfDoubts, RecordsLead}

@@ -11,10 +11,10 @@ use Rattle.xa_manager.specs.declared.branch.Branch.{Branch}
 use Rattle.xa_manager.specs.declared.branch.BranchState.TheVariants.{Prepared}
 use Rattle.xa_manager.specs.Branch.{IsTable, in_doubt_xids}
 use Rattle.xa_manager.proofs.Rising.{Above, Rises, rising}
-use Rattle.core_steps.specs.Units.{Owner, Work, global, idle, local, same_owner, unit_of}
-use Rattle.core_steps.proofs.Owners.{both, owners_same, unit_of_other, unit_of_set, which}
-use Rattle.durable_units.specs.Durable.{Doubts, Durable, creates_none, have_places}
-use Rattle.durable_units.specs.Sound.{IsGoodDoubt, IsSound}
+use Rattle.core_model.specs.Units.{Owner, Work, global, idle, local, same_owner, unit_of}
+use Rattle.core_model.proofs.Owners.{both, owners_same, unit_of_other, unit_of_set, which}
+use Rattle.recovery.specs.Durable.{Doubts, Durable, creates_none, have_places}
+use Rattle.recovery.specs.Sound.{IsGoodDoubt, IsSound}
 use Rattle.durable_steps.specs.Kept.{is_in_doubt_in, waits}
 use Rattle.durable_steps.specs.Laws.{OpeningsAreKept}
 use Rattle.durable_steps.specs.Part.{doubt_branches, doubt_units, opened}

@@ -6,12 +6,12 @@ use Rattle.tables.specs.Change.{Change, create, is_change, put, remove}
 use Rattle.tables.specs.Laws.{StoresAreKept}
 use Rattle.tables.specs.Tables.{Store, apply}
 use Rattle.tables.specs.View.{is_sound, is_store}
-use Rattle.core_steps.specs.Units.{Held, Owner, Work, apply_all, idle, same_owner, unit_of, view, without}
-use Rattle.core_steps.specs.Events.{Base, Commit, Leave, bare}
-use Rattle.core_steps.proofs.Owners.{both, owners_same, unit_of_gone, unit_of_without, which}
+use Rattle.core_model.specs.Units.{Held, Owner, Work, apply_all, idle, same_owner, unit_of, view, without}
+use Rattle.core_model.specs.Events.{Base, Commit, Leave, bare}
+use Rattle.core_model.proofs.Owners.{both, owners_same, unit_of_gone, unit_of_without, which}
 use Rattle.unit_records.specs.Records.{IsChange}
-use Rattle.durable_units.specs.Durable.{creates_none, have_places, is_claimed}
-use Rattle.durable_units.specs.Places.{ChangesKeepTables, KeepsSchemas, RowsKeepPlaces, SameTables, TablesGivePlaces}
+use Rattle.recovery.specs.Durable.{creates_none, have_places, is_claimed}
+use Rattle.recovery.specs.Places.{ChangesKeepTables, KeepsSchemas, RowsKeepPlaces, SameTables, TablesGivePlaces}
 use Rattle.durable_steps.proofs.Claiming.{IsOnce}
 
 -- what holds of each unit by itself

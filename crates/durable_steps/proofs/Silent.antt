@@ -11,22 +11,22 @@ use Rattle.xa_manager.specs.declared.branch.BranchState.TheVariants.{Active, Idl
 use Rattle.xa_manager.specs.declared.due.Action.{Action}
 use Rattle.xa_manager.specs.declared.due.Action.TheVariants as action
 use Rattle.xa_manager.specs.declared.due.Work.{Work as Facts}
-use Rattle.xa_manager.specs.Branch.{in_doubt_xids, is_in_doubt, is_last_joined_by, joined_xid, state_of, without, without_those_of}
+use Rattle.xa_manager.specs.Branch.{in_doubt_xids, is_in_doubt, is_lost_with, joined_xid, state_of, without, without_those_of}
 use Rattle.xa_manager.specs.Due.{after, facts_of, left_by}
 use Rattle.xa_manager.specs.Laws.{ActionsFit, FitsAction, JoinedIsActive}
 use Rattle.xa_manager.proofs.Rising.{Above, Rises, rises, rises_filter}
 use Rattle.core_calls.specs.Call as call
 use Rattle.core_calls.specs.Call.{Call}
-use Rattle.core_steps.specs.Units.{Held, Owner, Work, global, local, same_owner, unit_of, view}
-use Rattle.core_steps.specs.Units as units
-use Rattle.core_steps.specs.Asked.{Question, describing, querying, running}
-use Rattle.core_steps.specs.Events.{Ask, Base, Commit, Leave, asked_of, bare, bare_run, happens_asked}
-use Rattle.core_steps.specs.Step.{CoreState, action_events, due_in, facts, lost_xids, owner_of, step_state, unless_joined}
-use Rattle.core_steps.specs.Laws.{InXids}
-use Rattle.core_steps.proofs.Losing.{lost_leaves_nothing}
-use Rattle.core_steps.proofs.Happening.{others_stay, store_stays}
-use Rattle.core_steps.proofs.Owners.{both, owners_same, unit_of_without, which}
-use Rattle.durable_units.specs.Durable.{Doubts, Durable}
+use Rattle.core_model.specs.Units.{Held, Owner, Work, global, local, same_owner, unit_of, view}
+use Rattle.core_model.specs.Units as units
+use Rattle.core_model.specs.Asked.{Question, describing, querying, running}
+use Rattle.core_model.specs.Events.{Ask, Base, Commit, Leave, asked_of, bare, bare_run, happens_asked}
+use Rattle.core_model.specs.Step.{CoreState, action_events, due_in, facts, lost_xids, owner_of, step_state, unless_joined}
+use Rattle.core_model.specs.Laws.{InXids}
+use Rattle.core_model.proofs.Losing.{lost_leaves_nothing}
+use Rattle.core_model.proofs.Happening.{others_stay, store_stays}
+use Rattle.core_model.proofs.Owners.{both, owners_same, unit_of_without, which}
+use Rattle.recovery.specs.Durable.{Doubts, Durable}
 use Rattle.recording.specs.Due.{action_due, commit_due}
 use Rattle.durable_steps.specs.Kept.{IsKept, is_in_doubt_in, waits}
 use Rattle.durable_steps.specs.Laws.{SilentStepsStay}
@@ -143,11 +143,11 @@ module _ (s : CoreState) (c : ℕ) (x : List ℕ) (w : Facts) (kept : IsKept s) 
 
 abbrev last_of : ℕ → Option BranchState → Bool
 last_of c None = false
-last_of c (Some s) = is_last_joined_by c s
+last_of c (Some s) = is_lost_with c s
 
 module _ (c : ℕ) (y : List ℕ) where
   abbrev lost_by : Bool → Branch → List Branch → List (List ℕ)
-  lost_by t b bs = map (λ (r : Branch). r.xid) (if t then b ∷ filter (λ (r : Branch). is_last_joined_by c r.state) bs else filter (λ (r : Branch). is_last_joined_by c r.state) bs)
+  lost_by t b bs = map (λ (r : Branch). r.xid) (if t then b ∷ filter (λ (r : Branch). is_lost_with c r.state) bs else filter (λ (r : Branch). is_lost_with c r.state) bs)
 
   first_or_later : (t : Bool) (b : Branch) (bs : List Branch) → InXids y (lost_by t b bs) → ((t ≡ true) × (y ≡ b.xid)) ⊎ InXids y (lost_xids bs c)
   first_or_later true b bs (inl e) = inl (refl, e)
@@ -160,19 +160,19 @@ module _ (c : ℕ) (y : List ℕ) where
       ⊎_elim
       (λ here. both (bytes_eq y b.xid) (ap (bytes_eq y) (sym here.1) ∙ bytes_eq-refl y) (precedes_other y b.xid above.0))
       (λ later. none_behind bs above.1 later)
-      (first_or_later (is_last_joined_by c b.state) b bs i)
+      (first_or_later (is_lost_with c b.state) b bs i)
 
   -- a prepared branch is not lost
   not_lost : (bs : List Branch) → Rises bs → state_of bs y ≡ Some Prepared → InXids y (lost_xids bs c) → ⊥
   not_lost [] rise known i = i
   not_lost (b ∷ bs) rise known i =
       ⊎_elim
-      (λ here. both (is_last_joined_by c b.state) here.0 (ap (last_of c) (sym (state_here b bs) ∙ ap (state_of (b ∷ bs)) (sym here.1) ∙ known)))
+      (λ here. both (is_lost_with c b.state) here.0 (ap (last_of c) (sym (state_here b bs) ∙ ap (state_of (b ∷ bs)) (sym here.1) ∙ known)))
       (λ later. ⊎_elim
       (λ so. none_behind bs (subst (λ (z : List ℕ). Above z bs) (same_bytes b.xid y so) rise.0) later)
       (λ n. not_lost bs rise.1 (sym (state_rest b bs y n) ∙ known) later)
       (which (bytes_eq b.xid y)))
-      (first_or_later (is_last_joined_by c b.state) b bs i)
+      (first_or_later (is_lost_with c b.state) b bs i)
 
 lost_stays : (s : CoreState) (c : ℕ) → IsKept s → durable_part (step_state s c call.lost) ≡ durable_part s
 lost_stays s c kept =

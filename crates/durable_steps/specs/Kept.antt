@@ -6,11 +6,11 @@ use Rattle.xa_manager.specs.declared.branch.BranchState.{BranchState}
 use Rattle.xa_manager.specs.Branch.{IsTable, is_in_doubt, state_of}
 use Rattle.tables.specs.View.{is_store}
 use Rattle.unit_locks.specs.Claims.{all_added}
-use Rattle.core_steps.specs.Units.{Owner, global, local, same_owner, unit_of}
-use Rattle.core_steps.specs.Step.{CoreState}
+use Rattle.core_model.specs.Units.{Owner, global, local, same_owner, unit_of}
+use Rattle.core_model.specs.Step.{CoreState}
 use Rattle.unit_records.specs.Records.{IsChange}
-use Rattle.durable_units.specs.Durable.{have_places, is_claimed}
-use Rattle.durable_units.specs.Places.{creates_none}
+use Rattle.recovery.specs.Durable.{have_places, is_claimed}
+use Rattle.recovery.specs.Places.{creates_none}
 
 abbrev pub waits : Option BranchState → Bool
 waits None = false

@@ -1,12 +1,12 @@
 -- Steps of the core, and what is durable of it.
 use Rattle.std.specs.Prelude.{◌≡◌, ◌≤◌, ℕ, Some, None}
 use Rattle.core_calls.specs.Call.{Call}
-use Rattle.core_steps.specs.Step.{CoreState, step_state}
+use Rattle.core_model.specs.Step.{CoreState, step_state}
 use Rattle.unit_records.specs.Records.{UnitRecord}
 use Rattle.unit_records.specs.Room.{released}
-use Rattle.durable_units.specs.Durable.{Durable, next}
-use Rattle.durable_units.specs.Laws.{held_for}
-use Rattle.durable_units.specs.Sound.{IsSound}
+use Rattle.recovery.specs.Durable.{Durable, next}
+use Rattle.recovery.specs.Laws.{held_for}
+use Rattle.recovery.specs.Sound.{IsSound}
 use Rattle.recording.specs.Due.{record_due}
 use Rattle.durable_steps.specs.Part.{durable_part, opened}
 use Rattle.durable_steps.specs.Kept.{IsKept}

@@ -3,9 +3,9 @@ use Rattle.std.specs.Prelude.{ℕ, List, [], ◌∷◌, map}
 use Rattle.xa_manager.specs.declared.branch.Branch.{Branch}
 use Rattle.xa_manager.specs.declared.branch.BranchState.TheVariants.{Prepared}
 use Rattle.xa_manager.specs.Branch.{in_doubt_xids}
-use Rattle.core_steps.specs.Units.{Held, Work, global, set_unit, unit_of}
-use Rattle.core_steps.specs.Step.{CoreState}
-use Rattle.durable_units.specs.Durable.{Doubts, Durable}
+use Rattle.core_model.specs.Units.{Held, Work, global, set_unit, unit_of}
+use Rattle.core_model.specs.Step.{CoreState}
+use Rattle.recovery.specs.Durable.{Doubts, Durable}
 
 -- the units of the branches in doubt, in the order of their XIDs' bytes
 abbrev pub doubts_in : List Branch → List Held → Doubts

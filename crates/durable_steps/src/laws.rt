@@ -2,8 +2,8 @@
 
 ghost use Rattle.durable_steps.specs.Laws.{DecisionsAreOfDoubts, OpeningsAreKept, RecordsLead, SilentStepsStay, StepsKeep};
 
-use core_steps::laws::units_in_doubt_wait;
-use durable_units::laws::{doubts_hold_their_decisions, places_depend_on_tables};
+use core_model::laws::units_in_doubt_wait;
+use recovery::laws::{doubts_hold_their_decisions, places_depend_on_tables};
 use sql_places::laws::changes_have_places;
 use tables::laws::changes_are_local;
 use unit_locks::adding;

@@ -22,7 +22,7 @@ pub struct PlainState {
 
 impl Model for PlainState {
     ghost use Rattle.std.specs.Prelude.{map};
-    ghost use Rattle.core_steps.specs.Step.{CoreState};
+    ghost use Rattle.core_model.specs.Step.{CoreState};
     ghost use Rattle.unit_table.specs.Plain.{held_of};
     ghost use Rattle.plain_state.specs.State.{state_in};
 

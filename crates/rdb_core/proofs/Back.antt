@@ -3,10 +3,10 @@ use Rattle.std.proofs.Common.{◌≡◌, ⊎_elim, true, false, List, [], ◌∷
 use Rattle.std.specs.Prelude.{◌||◌}
 use Rattle.tables.specs.Change.{Change}
 use Rattle.unit_locks.specs.Claim.{Claim}
-use Rattle.core_steps.specs.Units.{Held, Owner, Work, has_any, has_work, idle, same_owner, set_unit, unit_of, without}
-use Rattle.core_steps.specs.Laws.{AreListed}
-use Rattle.core_steps.proofs.Listing.{listed_set, listed_without, one_listing}
-use Rattle.core_steps.proofs.Owners.{both, owners_same, unit_of_gone, unit_of_other, unit_of_without, which}
+use Rattle.core_model.specs.Units.{Held, Owner, Work, has_any, has_work, idle, same_owner, set_unit, unit_of, without}
+use Rattle.core_model.specs.Laws.{AreListed}
+use Rattle.core_model.proofs.Listing.{listed_set, listed_without, one_listing}
+use Rattle.core_model.proofs.Owners.{both, owners_same, unit_of_gone, unit_of_other, unit_of_without, which}
 
 no_work : (xs : List Change) (cs : List Claim) → (has_any xs || has_any cs) ≡ false → record { changes = xs; claims = cs } ≡ idle
 no_work [] [] h = refl

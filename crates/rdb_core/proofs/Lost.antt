@@ -2,16 +2,16 @@
 use Rattle.std.proofs.Common.{◌≡◌, ◌<◌, ◌≤◌, ◌+◌, ℕ, zero, suc, Bool, true, false, List, [], ◌∷◌, length, drop, get_or, refl, sym, ◌∙◌, ap, arith}
 use Rattle.std.specs.Prelude.{if◌then◌else◌, filter, map}
 use Rattle.xa_manager.specs.declared.branch.Branch.{Branch}
-use Rattle.xa_manager.specs.Branch.{is_last_joined_by}
-use Rattle.core_steps.specs.Units.{Held, global, without}
-use Rattle.core_steps.specs.Events.{Leave, bare_run}
-use Rattle.core_steps.specs.Step.{lost_xids}
+use Rattle.xa_manager.specs.Branch.{is_lost_with}
+use Rattle.core_model.specs.Units.{Held, global, without}
+use Rattle.core_model.specs.Events.{Leave, bare_run}
+use Rattle.core_model.specs.Step.{lost_xids}
 use Rattle.tables.specs.Tables.{Store}
 use Rattle.rdb_core.specs.Steps.{left_units}
 
 module _ (c : ℕ) where
   abbrev goes : Branch → Bool
-  goes b = is_last_joined_by c b.state
+  goes b = is_lost_with c b.state
 
   abbrev xids_if : Bool → Branch → List Branch → List (List ℕ)
   xids_if t b bs = map (λ (b : Branch). b.xid) (if t then b ∷ filter goes bs else filter goes bs)
@@ -30,7 +30,7 @@ next_at (x ∷ bs) (suc n) b lt is =
     let q : suc (n + 1) ≡ suc n + 1 = omega arith in
     next_at bs n b (omega (arith, lt)) is ∙ ap (λ (k : ℕ). b ∷ drop k (x ∷ bs)) q
 
-pub gone_at : (c : ℕ) (bs : List Branch) (at : ℕ) (b : Branch) (us vs : List Held) → at < length bs → b ≡ get_or bs at b → vs ≡ (if is_last_joined_by c b.state then without (global b.xid) us else us)
+pub gone_at : (c : ℕ) (bs : List Branch) (at : ℕ) (b : Branch) (us vs : List Held) → at < length bs → b ≡ get_or bs at b → vs ≡ (if is_lost_with c b.state then without (global b.xid) us else us)
     → left_units (lost_xids (drop (at + 1) bs) c) vs ≡ left_units (lost_xids (drop at bs) c) us
 gone_at c bs at b us vs lt read is =
     one_gone c b (drop (at + 1) bs) us vs is ∙ ap (λ (l : List Branch). left_units (lost_xids l c) us) (sym (next_at bs at b lt read))

@@ -5,10 +5,10 @@ use Rattle.sql_text.specs.declared.tree.Statement.{Statement}
 use Rattle.sql_text.specs.declared.tree.Command.{Command}
 use Rattle.sql_text.specs.declared.tree.Command.TheVariants as command
 use Rattle.unit_locks.specs.declared.access.Access.TheVariants.{Read}
-use Rattle.sql_meaning.specs.Scope.{claim, claims, scope, table_name}
+use Rattle.sql_semantics.specs.Scope.{claim, claims, scope, table_name}
 use Rattle.core_calls.specs.declared.call.Side.{Side}
 use Rattle.core_calls.specs.declared.sql_fault.SqlFault.TheVariants as fault
-use Rattle.core_steps.specs.Asked.{describing, is_create, unfit}
+use Rattle.core_model.specs.Asked.{describing, is_create, unfit}
 
 by_kind : (b : Bool) → (if b then Some fault.NotPrepared else None) ≡ None → b ≡ false
 by_kind true e = absurd cc

@@ -4,8 +4,8 @@ use Rattle.tables.specs.ChangeView.{change_of}
 use Rattle.tables.specs.Tables.{Store}
 use Rattle.unit_locks.specs.Claim.{Claim}
 use Rattle.core_calls.specs.Answer.{answer_of}
-use Rattle.core_steps.specs.Units.{clashes}
-use Rattle.core_steps.specs.Asked.{Question, answer_to, changes_by, claims_of}
+use Rattle.core_model.specs.Units.{clashes}
+use Rattle.core_model.specs.Asked.{Question, answer_to, changes_by, claims_of}
 use Rattle.rdb_core.specs.declared.asking.Found.{Found}
 
 -- what the question claims, is answered and changes; no claim clashes with those of the other units

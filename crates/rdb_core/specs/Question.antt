@@ -4,9 +4,9 @@ use Rattle.sql_text.specs.declared.tree.Command.{Command}
 use Rattle.row_values.specs.Value.{value_of}
 use Rattle.row_values.specs.Schema.{Schema}
 use Rattle.unit_locks.specs.Claim.{Claim}
-use Rattle.sql_meaning.specs.Scope.{claims, table_name}
+use Rattle.sql_semantics.specs.Scope.{claims, table_name}
 use Rattle.core_calls.specs.Call.{Call, describe, query, run}
-use Rattle.core_steps.specs.Asked.{Question, described_claims, describing, querying, running}
+use Rattle.core_model.specs.Asked.{Question, described_claims, describing, querying, running}
 use Rattle.rdb_core.specs.declared.question.Question.{Question as CodeQuestion}
 use Rattle.rdb_core.specs.declared.question.Question.TheVariants as code
 

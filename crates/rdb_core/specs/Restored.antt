@@ -3,8 +3,8 @@ use Rattle.std.specs.Prelude.{Result, Ok, Err, List, [], ℕ}
 use Rattle.tables.specs.Change.{Change}
 use Rattle.unit_locks.specs.Claim.{Claim}
 use Rattle.unit_locks.specs.Claims.{all_added}
-use Rattle.core_steps.specs.Units.{global, set_unit}
-use Rattle.core_steps.specs.Step.{CoreState}
+use Rattle.core_model.specs.Units.{global, set_unit}
+use Rattle.core_model.specs.Step.{CoreState}
 use Rattle.xa_manager.specs.Branch.{with_branch}
 use Rattle.xa_manager.specs.declared.branch.BranchState.TheVariants.{Prepared}
 use Rattle.xa_manager.specs.declared.branch.Branch.{Branch}

@@ -1,6 +1,6 @@
 -- The state of a core, as its step has it.
 use Rattle.std.specs.Prelude.{[]}
-use Rattle.core_steps.specs.Step.{CoreState}
+use Rattle.core_model.specs.Step.{CoreState}
 use Rattle.rdb_core.specs.declared.engine.Core.{Core}
 use Rattle.rdb_core.specs.Base.{base_of}
 

@@ -12,10 +12,10 @@ use Rattle.recording.specs.declared.record_error.RecordError.{RecordError}
 use Rattle.core_calls.specs.Call as call
 use Rattle.core_calls.specs.Call.{Call}
 use Rattle.core_calls.specs.Answer.{Answer}
-use Rattle.core_steps.specs.Units.{Held, Owner, global, has_any, local, set_unit, unit_of, without}
+use Rattle.core_model.specs.Units.{Held, Owner, global, has_any, local, set_unit, unit_of, without}
 use Rattle.core_calls.specs.declared.sql_fault.SqlFault.{SqlFault}
-use Rattle.core_steps.specs.Asked.{Clashes, Done, Outcome, TooMany, Unfit, describing, querying, running, unfit}
-use Rattle.core_steps.specs.Step.{CoreState, answer, due_in, step_state}
+use Rattle.core_model.specs.Asked.{Clashes, Done, Outcome, TooMany, Unfit, describing, querying, running, unfit}
+use Rattle.core_model.specs.Step.{CoreState, answer, due_in, step_state}
 use Rattle.rdb_core.specs.Recorded.{IsRecorded, Refuses, refusal_answer}
 
 -- the answer and the state behind it are those of the step

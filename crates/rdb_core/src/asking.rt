@@ -4,9 +4,9 @@ ghost use Rattle.std.specs.Prelude.{◌≡◌, IfOk, IsTrue, None, OnErr, OnOk, 
 ghost use Rattle.tables.specs.ChangeView.{change_of};
 ghost use Rattle.table_store.specs.TableStore.{store_in};
 ghost use Rattle.core_calls.specs.Answer.{answer_of};
-ghost use Rattle.core_steps.specs.Asked.{answer_in, outcome, unfit};
-ghost use Rattle.core_steps.specs.Events.{asked_of, happens_asked};
-ghost use Rattle.core_steps.specs.Units.{apply_all, clashes, left_of, others, unit_of, view};
+ghost use Rattle.core_model.specs.Asked.{answer_in, outcome, unfit};
+ghost use Rattle.core_model.specs.Events.{asked_of, happens_asked};
+ghost use Rattle.core_model.specs.Units.{apply_all, clashes, left_of, others, unit_of, view};
 ghost use Rattle.unit_table.specs.Owner.{plain_owner};
 ghost use Rattle.rdb_core.specs.Base.{base_of};
 ghost use Rattle.rdb_core.specs.Found.{Finds};

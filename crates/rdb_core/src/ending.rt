@@ -5,16 +5,16 @@ ghost use Rattle.tables.specs.ChangeView.{change_of};
 ghost use Rattle.table_store.specs.TableStore.{IsReserved, store_in};
 ghost use Rattle.unit_records.specs.Records.{UnitRecord, decided};
 ghost use Rattle.recording.specs.Due.{action_due, commit_due};
-ghost use Rattle.xa_manager.specs.Branch.{is_last_joined_by};
-ghost use Rattle.core_steps.specs.Units.{global, unit_of, without};
-ghost use Rattle.core_steps.specs.Events.{Commit, Leave, bare, bare_run};
-ghost use Rattle.core_steps.specs.Step.{action_events, lost_xids};
+ghost use Rattle.xa_manager.specs.Branch.{is_lost_with};
+ghost use Rattle.core_model.specs.Units.{global, unit_of, without};
+ghost use Rattle.core_model.specs.Events.{Commit, Leave, bare, bare_run};
+ghost use Rattle.core_model.specs.Step.{action_events, lost_xids};
 ghost use Rattle.unit_table.specs.Owner.{plain_owner};
 ghost use Rattle.rdb_core.specs.Base.{base_of};
 ghost use Rattle.rdb_core.specs.Recorded.{IsRecorded, Refuses};
 ghost use Rattle.rdb_core.specs.Steps.{left_units};
 
-use recording::{RecordError, Recorder, Saying};
+use recording::{RecordContents, RecordError, Recorder};
 use std::alloc::{AllocError, Global};
 use table_store::TableStore;
 use tables::Change;
@@ -47,7 +47,7 @@ pub(crate) fn commit_unit<R: Recorder>(
         Ok(()) => {}
         Err(AllocError) => return Err(RecordError::NoMemory),
     }
-    let recorded = recorder.record(Saying::Commit {
+    let recorded = recorder.record(RecordContents::Commit {
         changes: units.changes(owner),
     });
     finish(store, units, owner, recorded)
@@ -73,7 +73,7 @@ fn commit_decided<R: Recorder>(
         Ok(()) => {}
         Err(AllocError) => return Err(RecordError::NoMemory),
     }
-    let recorded = recorder.record(Saying::Decide {
+    let recorded = recorder.record(RecordContents::Decide {
         xid,
         decision: Decision::Commit,
     });
@@ -93,7 +93,7 @@ fn roll_back_decided<R: Recorder>(
     ensures kept { OnErr result (units.new ≡ units.old) }
     ensures refused { IfErr result (λ error. Refuses R.fails (Some (decided xid.now Decision.RollBack)) error recorder.old recorder.new) }
 {
-    recorder.record(Saying::Decide {
+    recorder.record(RecordContents::Decide {
         xid,
         decision: Decision::RollBack,
     })?;
@@ -160,7 +160,7 @@ pub(crate) fn do_due<R: Recorder>(
     let owner = Owner::Global(*xid);
     match action {
         Action::Nothing | Action::Start | Action::Join | Action::End(_) => Ok(()),
-        Action::Prepare => recorder.record(Saying::Prepare {
+        Action::Prepare => recorder.record(RecordContents::Prepare {
             xid,
             changes: units.changes(&owner),
             claims: units.claims(&owner),
@@ -189,9 +189,9 @@ pub(crate) fn end_lost(units: &mut Units, branches: &[Branch], conversation: u64
 
 // The unit of the branch ends, if the conversation takes the branch with it.
 fn end_if_lost(units: &mut Units, branch: &Branch, conversation: u64)
-    ensures { units.new ≡ (if is_last_joined_by conversation branch.now.state then without (global branch.now.xid) units.old else units.old) }
+    ensures { units.new ≡ (if is_lost_with conversation branch.now.state then without (global branch.now.xid) units.old else units.old) }
 {
-    if branch.state.is_last_joined_by(conversation) {
+    if branch.state.is_lost_with(conversation) {
         let _changes = units.end(&Owner::Global(branch.xid));
     }
 }

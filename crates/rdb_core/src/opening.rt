@@ -3,7 +3,7 @@
 ghost use Rattle.std.specs.Prelude.{◌≡◌, IfOk, OnErr, OnOk, [], false};
 ghost use Rattle.table_store.specs.TableStore.{store_in};
 ghost use Rattle.xa_manager.specs.Branch.{in_doubt_xids};
-ghost use Rattle.core_steps.specs.Units.{global, has_work, unit_of};
+ghost use Rattle.core_model.specs.Units.{global, has_work, unit_of};
 ghost use Rattle.rdb_core.specs.Restored.{RestoresUnit, with_in_doubt};
 ghost use Rattle.rdb_core.specs.State.{recorder_of, state_of};
 

@@ -2,7 +2,7 @@
 
 ghost use Rattle.std.specs.Prelude.{◌≡◌, map};
 ghost use Rattle.row_values.specs.Value.{value_of};
-ghost use Rattle.core_steps.specs.Asked.{describing, is_select, number_fault, querying, running, unfit};
+ghost use Rattle.core_model.specs.Asked.{describing, is_select, number_fault, querying, running, unfit};
 ghost use Rattle.rdb_core.specs.Question.{command_of, question_of};
 
 use core_calls::{Side, SqlFault};

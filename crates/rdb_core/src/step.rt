@@ -6,7 +6,7 @@ ghost use Rattle.unit_records.specs.Records.{UnitRecord};
 ghost use Rattle.recording.specs.Due.{record_due};
 ghost use Rattle.core_calls.specs.Answer.{answer_of};
 ghost use Rattle.core_calls.specs.Call.{call_of, describe, query, run};
-ghost use Rattle.core_steps.specs.Asked.{unfit};
+ghost use Rattle.core_model.specs.Asked.{unfit};
 ghost use Rattle.rdb_core.specs.Question.{call_asking, question_of};
 ghost use Rattle.rdb_core.specs.State.{recorder_of, state_of};
 ghost use Rattle.rdb_core.specs.Steps.{Steps, Takes, is_fit, may_want_any};
@@ -42,7 +42,7 @@ impl<R: Recorder> Core<R> {
             } => self.query(conversation, statement, parameters),
             CoreCall::Describe { statement, side } => self.describe(conversation, statement, *side),
             CoreCall::Commit => self.commit(conversation),
-            CoreCall::Rollback => self.roll_back(conversation),
+            CoreCall::RollBack => self.roll_back(conversation),
             CoreCall::Xa(request) => self.xa(conversation, request),
             CoreCall::Lost => self.lose(conversation),
         }

@@ -2,7 +2,7 @@
 
 use core_calls::Answer;
 use rdb_core::Core;
-use recording::{RecordError, Recorder, Saying};
+use recording::{RecordContents, RecordError, Recorder};
 use sql_text::{SqlError, Statement, parse};
 use std::alloc::Global;
 use std::test::Fail;
@@ -20,7 +20,7 @@ impl Recorder for Few {
 
     ghost fails = { λ _ _ _ _. Unit {0} };
 
-    fn record(&mut self, _saying: Saying<'_>) -> Result<(), RecordError> {
+    fn record(&mut self, _saying: RecordContents<'_>) -> Result<(), RecordError> {
         if self.left == 0 {
             return Err(RecordError::Full { need: 9, room: 8 });
         }

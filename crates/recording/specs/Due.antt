@@ -9,9 +9,9 @@ use Rattle.xa_manager.specs.declared.due.Action.TheVariants as action
 use Rattle.xa_manager.specs.Branch.{joined_xid}
 use Rattle.core_calls.specs.Call as call
 use Rattle.core_calls.specs.Call.{Call}
-use Rattle.core_steps.specs.Units.{Work, global, local, unit_of}
-use Rattle.core_steps.specs.Events.{Base}
-use Rattle.core_steps.specs.Step.{CoreState, due_in, unless_joined}
+use Rattle.core_model.specs.Units.{Work, global, local, unit_of}
+use Rattle.core_model.specs.Events.{Base}
+use Rattle.core_model.specs.Step.{CoreState, due_in, unless_joined}
 use Rattle.unit_records.specs.Records.{UnitRecord, committed, decided, prepared}
 
 -- a commit's record; a unit that has changed nothing needs none

@@ -2,10 +2,10 @@
 use Rattle.std.specs.Prelude.{map}
 use Rattle.tables.specs.ChangeView.{change_of}
 use Rattle.unit_records.specs.Records.{UnitRecord, committed, decided, prepared}
-use Rattle.recording.specs.declared.saying.Saying.{Saying}
-use Rattle.recording.specs.declared.saying.Saying.TheVariants.{Commit, Decide, Prepare}
+use Rattle.recording.specs.declared.saying.RecordContents.{RecordContents}
+use Rattle.recording.specs.declared.saying.RecordContents.TheVariants.{Commit, Decide, Prepare}
 
-abbrev pub said_by : Saying → UnitRecord
+abbrev pub said_by : RecordContents → UnitRecord
 said_by (Commit changes) = committed (map change_of changes.now)
 said_by (Prepare xid changes claims) = prepared xid.now (map change_of changes.now) claims.now
 said_by (Decide xid decision) = decided xid.now decision

@@ -9,4 +9,4 @@ mod saying;
 pub use memory::NoRecords;
 pub use record_error::RecordError;
 pub use recorder::Recorder;
-pub use saying::Saying;
+pub use saying::RecordContents;

@@ -2,7 +2,7 @@
 
 use crate::record_error::RecordError;
 use crate::recorder::Recorder;
-use crate::saying::Saying;
+use crate::saying::RecordContents;
 
 /// Records nothing: for tables that end with the program.
 #[derive(Clone, Copy, Debug, PartialEq, Eq)]
@@ -17,7 +17,7 @@ impl Recorder for NoRecords {
 
     ghost fails = { λ _ _ _ _. ⊥ };
 
-    fn record(&mut self, _saying: Saying<'_>) -> Result<(), RecordError> {
+    fn record(&mut self, _saying: RecordContents<'_>) -> Result<(), RecordError> {
         Ok(())
     }
 }

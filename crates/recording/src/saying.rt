@@ -7,7 +7,7 @@ use xa_manager::Decision;
 
 /// What becomes of a unit of work, as its record says it. Contracts see it by `said_by`.
 #[derive(Clone, Copy, Debug)]
-pub enum Saying<'a> {
+pub enum RecordContents<'a> {
     /// A unit commits, with these changes in their order.
     Commit {
         changes: &'a [Change],

@@ -112,7 +112,7 @@ impl Sections {
     /// Whether a cursor can be opened in the section of this name: no memory is taken then, so nothing
     /// has to be made room for. `NotPrepared` comes first, then `QueryOpen`, and `NoInstance` once 2^64 - 1
     /// cursors have been opened.
-    pub fn reserve_cursor(&self, name: &[u8]) -> Result<(), OpenFault>
+    pub fn check_opening(&self, name: &[u8]) -> Result<(), OpenFault>
         ensures ok { OnOk result (opening_fault name.now self.now ≡ None) }
         ensures err { IfErr result (λ fault. opening_fault name.now self.now ≡ Some fault) }
     {
@@ -131,7 +131,7 @@ impl Sections {
         }
     }
 
-    /// Opens a cursor over these rows where `reserve_cursor` allows it, and gives its instance number
+    /// Opens a cursor over these rows where `check_opening` allows it, and gives its instance number
     /// (QRYINSID): the conversation's first cursor has 1. Takes no memory.
     pub fn open_reserved(&mut self, name: &[u8], rows: RowList, block_size: u32) -> u64
         requires { opening_fault name.now self.old ≡ None }
@@ -144,7 +144,7 @@ impl Sections {
         instance
     }
 
-    /// Opens a cursor over these rows, or says why none can be opened (`reserve_cursor`); then nothing
+    /// Opens a cursor over these rows, or says why none can be opened (`check_opening`); then nothing
     /// changes. Takes no memory.
     pub fn open_cursor(
         &mut self,
@@ -154,7 +154,7 @@ impl Sections {
     ) -> Result<u64, OpenFault>
         ensures { Opens self.old name.now rows block_size result self.new }
     {
-        match self.reserve_cursor(name) {
+        match self.check_opening(name) {
             Ok(()) => Ok(self.open_reserved(name, rows, block_size)),
             Err(fault) => Err(fault),
         }

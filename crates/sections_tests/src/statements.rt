@@ -40,9 +40,9 @@ fn names_differ_in_each_byte(rt: HostRuntime) -> Result<(), Fail> {
 fn reserved_is_not_prepared(rt: HostRuntime) -> Result<(), Fail> {
     let mut sections = Sections::new(rt.alloc());
     sections.reserve_prepare(&name(1), QUERY, false)?;
-    let before = sections.reserve_cursor(&name(1));
+    let before = sections.check_opening(&name(1));
     sections.prepare_reserved();
-    let after = sections.reserve_cursor(&name(1));
+    let after = sections.check_opening(&name(1));
     sections.reserve_prepare(&name(1), INSERT, false)?;
     sections.drop_reserved();
     sections.prepare_reserved();

@@ -7,9 +7,9 @@ use Rattle.row_values.specs.Value.{Value}
 use Rattle.row_values.specs.Schema.{Schema}
 use Rattle.tables.specs.Tables.{Store, rows_of, schema_of}
 use Rattle.core_calls.specs.declared.sql_fault.SqlFault.TheVariants as fault
-use Rattle.sql_meaning.specs.Create.{defined_schema}
-use Rattle.sql_meaning.specs.Meaning.{Answer, Refused, answer, answered, create_answer, meaning}
-use Rattle.sql_meaning.specs.Values.{name_of}
+use Rattle.sql_semantics.specs.Create.{defined_schema}
+use Rattle.sql_semantics.specs.Meaning.{Answer, Refused, answer, answered, create_answer, meaning}
+use Rattle.sql_semantics.specs.Values.{name_of}
 
 module _ (params : List Value) (left : ℕ) (table : List ℕ) (definitions : List Definition) (key : List KeyColumn) (s : Store) where
   by_schema : (o : Option Schema) → schema_of s (name_of table) ≡ o → meaning params left (command.Create table definitions key) s ≡ answer params left (command.Create table definitions key) o (rows_of s (name_of table)) (length s)

@@ -23,13 +23,13 @@ use Rattle.core_calls.specs.declared.sql_fault.SqlFault.TheVariants as fault
 use Rattle.sql_literals.specs.Refused.{fault_of}
 use Rattle.sql_literals.specs.declared.error.StatementError.{StatementError}
 use Rattle.sql_literals.specs.declared.error.StatementError.TheVariants as statement
-use Rattle.sql_meaning.specs.Checked.{Checked, if_none}
-use Rattle.sql_meaning.specs.Classes.{filter_fault}
-use Rattle.sql_meaning.specs.Frame.{CoveredIsEnough, rows_covered, tables_covered}
-use Rattle.sql_meaning.specs.Meaning.{Answer, Refused, answer, answered, meaning, delete_answer, within_room}
-use Rattle.sql_meaning.specs.Scope.{filter_key, scope, scope_by}
-use Rattle.sql_meaning.specs.Truth.{counts}
-use Rattle.sql_meaning.specs.Values.{name_of}
+use Rattle.sql_semantics.specs.Checked.{Checked, if_none}
+use Rattle.sql_semantics.specs.Classes.{filter_fault}
+use Rattle.sql_semantics.specs.Frame.{CoveredIsEnough, rows_covered, tables_covered}
+use Rattle.sql_semantics.specs.Meaning.{Answer, Refused, answer, answered, meaning, delete_answer, within_room}
+use Rattle.sql_semantics.specs.Scope.{filter_key, scope, scope_by}
+use Rattle.sql_semantics.specs.Truth.{matches}
+use Rattle.sql_semantics.specs.Values.{name_of}
 use Rattle.small_sql.specs.Plan.{Plans, no_selection, rows_found}
 use Rattle.small_sql.specs.declared.plan.Plan.{Plan}
 use Rattle.small_sql.proofs.Selecting.{found_same}
@@ -81,7 +81,7 @@ module _ (params : List Value) (left : ℕ) (table : List ℕ) (where_ : Option 
   delete_absent none = ap (λ (o : Option Schema). answer params left (command.Delete table where_) o (rows_of s (name_of table)) (length s)) none
 
   abbrev counted_rows : Schema → List (List ℕ)
-  counted_rows schema = filter (λ row. counts params schema.columns (values_in schema row) where_) (rows_covered (scope_by (filter_key params schema where_)) (name_of table) s)
+  counted_rows schema = filter (λ row. matches params schema.columns (values_in schema row) where_) (rows_covered (scope_by (filter_key params schema where_)) (name_of table) s)
 
   delete_found : CoveredIsEnough → is_store s ≡ true → (schema : Schema) → schema_of s (name_of table) ≡ Some schema
       → meaning params left (command.Delete table where_) s ≡ answered (delete_answer left params (name_of table) schema where_ (counted_rows schema))

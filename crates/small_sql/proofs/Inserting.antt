@@ -19,13 +19,13 @@ use Rattle.sql_literals.specs.declared.error.StatementError.{StatementError}
 use Rattle.sql_literals.specs.declared.error.StatementError.TheVariants as statement
 use Rattle.sql_changes.specs.Given.{values_given}
 use Rattle.sql_changes.specs.declared.given.GivenRow.{GivenRow}
-use Rattle.sql_meaning.specs.Checked.{Checked, and_then}
-use Rattle.sql_meaning.specs.Frame.{CoveredIsEnough, RowsHaveTheirKeys, rows_covered, tables_covered}
-use Rattle.sql_meaning.specs.Insert.{fitting_key, given_key, given_row}
-use Rattle.sql_meaning.specs.Keys.{key_of_values}
-use Rattle.sql_meaning.specs.Meaning.{Answer, Refused, answer, answered, has_key, meaning, put_answer}
-use Rattle.sql_meaning.specs.Scope.{scope, scope_by}
-use Rattle.sql_meaning.specs.Values.{literal_value, name_of}
+use Rattle.sql_semantics.specs.Checked.{Checked, and_then}
+use Rattle.sql_semantics.specs.Frame.{CoveredIsEnough, RowsHaveTheirKeys, rows_covered, tables_covered}
+use Rattle.sql_semantics.specs.Insert.{fitting_key, given_key, given_row}
+use Rattle.sql_semantics.specs.Keys.{key_of_values}
+use Rattle.sql_semantics.specs.Meaning.{Answer, Refused, answer, answered, has_key, meaning, put_answer}
+use Rattle.sql_semantics.specs.Scope.{scope, scope_by}
+use Rattle.sql_semantics.specs.Values.{literal_value, name_of}
 use Rattle.small_sql.specs.Keyed.{rows_of_key}
 use Rattle.small_sql.proofs.Deleting.{no_schema}
 

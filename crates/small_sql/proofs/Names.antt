@@ -5,7 +5,7 @@ use Rattle.std.specs.Option.{option_and_then}
 use Rattle.std.proofs.lemmas.Bool.{leb-true}
 use Rattle.row_values.specs.Row.{utf8_in}
 use Rattle.sql_text.specs.Spelled.{capitals}
-use Rattle.sql_meaning.specs.Values.{name_of, short_name}
+use Rattle.sql_semantics.specs.Values.{name_of, short_name}
 
 by_length : (bytes : List ℕ) (b : Bool) → nat_le (length bytes) 255 ≡ b → length (unwrap_or (if b then Some bytes else None) []) < 2 ^ 8
 by_length bytes true is = let few = leb-true (length bytes) 255 is in omega arith

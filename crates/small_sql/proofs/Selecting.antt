@@ -12,13 +12,13 @@ use Rattle.tables.specs.Tables.{Store, rows_of, schema_of}
 use Rattle.tables.specs.View.{is_store}
 use Rattle.core_calls.specs.declared.sql_fault.SqlFault.{SqlFault}
 use Rattle.core_calls.specs.declared.sql_fault.SqlFault.TheVariants as fault
-use Rattle.sql_meaning.specs.Checked.{Checked, and_then, if_none}
-use Rattle.sql_meaning.specs.Classes.{filter_fault, selected_places}
-use Rattle.sql_meaning.specs.Frame.{CoveredIsEnough, rows_covered, tables_covered}
-use Rattle.sql_meaning.specs.Meaning.{Answer, Refused, Rows, answer, answered, meaning}
-use Rattle.sql_meaning.specs.Scope.{filter_key, scope, scope_by}
-use Rattle.sql_meaning.specs.Truth.{counts}
-use Rattle.sql_meaning.specs.Values.{name_of}
+use Rattle.sql_semantics.specs.Checked.{Checked, and_then, if_none}
+use Rattle.sql_semantics.specs.Classes.{filter_fault, selected_places}
+use Rattle.sql_semantics.specs.Frame.{CoveredIsEnough, rows_covered, tables_covered}
+use Rattle.sql_semantics.specs.Meaning.{Answer, Refused, Rows, answer, answered, meaning}
+use Rattle.sql_semantics.specs.Scope.{filter_key, scope, scope_by}
+use Rattle.sql_semantics.specs.Truth.{matches}
+use Rattle.sql_semantics.specs.Values.{name_of}
 use Rattle.sql_filters.specs.Test.{passes}
 use Rattle.drda_words.specs.Excuse.{Answers}
 use Rattle.sql_literals.specs.Refused.{fault_of}
@@ -42,15 +42,15 @@ pub filter_same : (f g : List ℕ → Bool) → ((row : List ℕ) → f row ≡ 
 filter_same f g same [] = refl
 filter_same f g same (row ∷ rows) = rw (same row, filter_same f g same rows) refl
 
--- what a plan finds is what the WHERE counts
+-- what a plan finds is what the WHERE matches
 pub found_same : (params : List Value) (schema : Schema) (where_ : Option Predicate) (p : Plan) (table : List ℕ) (s : Store) → Plans params schema where_ p
-    → rows_found p table s ≡ filter (λ row. counts params schema.columns (values_in schema row) where_) (rows_covered (scope_by (filter_key params schema where_)) table s)
+    → rows_found p table s ≡ filter (λ row. matches params schema.columns (values_in schema row) where_) (rows_covered (scope_by (filter_key params schema where_)) table s)
 found_same params schema where_ p table s plans =
     let of : p.list.schema ≡ schema = ap (λ (l : RowList). l.schema) plans.fresh in
-    filter_same (λ row. passes p.filter (values_in p.list.schema row)) (λ row. counts params schema.columns (values_in schema row) where_)
+    filter_same (λ row. passes p.filter (values_in p.list.schema row)) (λ row. matches params schema.columns (values_in schema row) where_)
     (λ row. ap (λ (sh : Schema). passes p.filter (values_in sh row)) of ∙ plans.tests (values_in schema row))
     (rows_covered (scope_by (option_map (λ key. key.items) p.key)) table s)
-    ∙ ap (λ (key : Option (List ℕ)). filter (λ row. counts params schema.columns (values_in schema row) where_) (rows_covered (scope_by key) table s)) plans.fixes
+    ∙ ap (λ (key : Option (List ℕ)). filter (λ row. matches params schema.columns (values_in schema row) where_) (rows_covered (scope_by key) table s)) plans.fixes
 
 module _ (params : List Value) (left : ℕ) (named : Columns) (table : List ℕ) (where_ : Option Predicate) (s : Store) where
   pub select_absent : schema_of s (name_of table) ≡ None → meaning params left (command.Select named table where_) s ≡ Refused fault.TableUnknown
@@ -58,7 +58,7 @@ module _ (params : List Value) (left : ℕ) (named : Columns) (table : List ℕ)
   select_absent none = ap (λ (o : Option Schema). answer params left (command.Select named table where_) o (rows_of s (name_of table)) (length s)) none
 
   abbrev counted_list : Schema → List ℕ → RowList
-  counted_list schema places = record { schema = schema; selected = places; rows = filter (λ row. counts params schema.columns (values_in schema row) where_) (rows_covered (scope_by (filter_key params schema where_)) (name_of table) s) }
+  counted_list schema places = record { schema = schema; selected = places; rows = filter (λ row. matches params schema.columns (values_in schema row) where_) (rows_covered (scope_by (filter_key params schema where_)) (name_of table) s) }
 
   select_found : CoveredIsEnough → is_store s ≡ true → (schema : Schema) → schema_of s (name_of table) ≡ Some schema
       → meaning params left (command.Select named table where_) s ≡ answer_from (counted_list schema) (selection params schema named where_)

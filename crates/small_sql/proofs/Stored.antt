@@ -14,8 +14,8 @@ use Rattle.tables.specs.RowList.{RowList}
 use Rattle.tables.specs.Tables.{Store, Table, is_row_at, row_of, schema_of, table_of}
 use Rattle.tables.specs.View.{is_entry, is_store, is_table}
 use Rattle.tables.specs.Laws.{FoundAreRows, TablesAreTables}
-use Rattle.sql_meaning.specs.Frame.{rows_covered}
-use Rattle.sql_meaning.specs.Scope.{scope_by}
+use Rattle.sql_semantics.specs.Frame.{rows_covered}
+use Rattle.sql_semantics.specs.Scope.{scope_by}
 use Rattle.small_sql.specs.Reading.{DamagedBy}
 
 first_true : (a b : Bool) → (a && b) ≡ true → a ≡ true

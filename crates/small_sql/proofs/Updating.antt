@@ -16,14 +16,14 @@ use Rattle.core_calls.specs.declared.sql_fault.SqlFault.TheVariants as fault
 use Rattle.sql_literals.specs.Refused.{fault_of}
 use Rattle.sql_literals.specs.declared.error.StatementError.{StatementError}
 use Rattle.sql_literals.specs.declared.error.StatementError.TheVariants as statement
-use Rattle.sql_meaning.specs.Checked.{Checked, and_then, fault_in, if_none}
-use Rattle.sql_meaning.specs.Classes.{filter_fault}
-use Rattle.sql_meaning.specs.Frame.{CoveredIsEnough, rows_covered, tables_covered}
-use Rattle.sql_meaning.specs.Meaning.{Answer, Refused, answer, answered, meaning, within_room}
-use Rattle.sql_meaning.specs.Scope.{filter_key, scope, scope_by}
-use Rattle.sql_meaning.specs.Truth.{counts}
-use Rattle.sql_meaning.specs.Update.{targets, updated_rows}
-use Rattle.sql_meaning.specs.Values.{name_of}
+use Rattle.sql_semantics.specs.Checked.{Checked, and_then, fault_in, if_none}
+use Rattle.sql_semantics.specs.Classes.{filter_fault}
+use Rattle.sql_semantics.specs.Frame.{CoveredIsEnough, rows_covered, tables_covered}
+use Rattle.sql_semantics.specs.Meaning.{Answer, Refused, answer, answered, meaning, within_room}
+use Rattle.sql_semantics.specs.Scope.{filter_key, scope, scope_by}
+use Rattle.sql_semantics.specs.Truth.{matches}
+use Rattle.sql_semantics.specs.Update.{targets, updated_rows}
+use Rattle.sql_semantics.specs.Values.{name_of}
 use Rattle.sql_filters.specs.Binding.{RefusedFor}
 use Rattle.sql_updates.specs.Assigned.{StandFor}
 use Rattle.sql_updates.specs.declared.target.Targets.{Targets}
@@ -54,7 +54,7 @@ module _ (params : List Value) (left : ℕ) (table : List ℕ) (assignments : Li
   update_absent none = ap (λ (o : Option Schema). answer params left (command.Update table assignments where_) o (rows_of s (name_of table)) (length s)) none
 
   abbrev counted_rows : Schema → List (List ℕ)
-  counted_rows schema = filter (λ row. counts params schema.columns (values_in schema row) where_) (rows_covered (scope_by (filter_key params schema where_)) (name_of table) s)
+  counted_rows schema = filter (λ row. matches params schema.columns (values_in schema row) where_) (rows_covered (scope_by (filter_key params schema where_)) (name_of table) s)
 
   abbrev targets_in : Schema → Checked (List (ℕ × Sum))
   targets_in schema = targets params schema.columns schema.key [] assignments

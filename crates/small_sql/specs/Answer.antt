@@ -1,7 +1,7 @@
 -- What a statement is answered, as its meaning says it.
 use Rattle.std.specs.Prelude.{map}
 use Rattle.tables.specs.ChangeView.{change_of}
-use Rattle.sql_meaning.specs.Meaning.{Answer, Refused, Changes, Rows}
+use Rattle.sql_semantics.specs.Meaning.{Answer, Refused, Changes, Rows}
 use Rattle.small_sql.specs.declared.answer.Answer.{Answer as CodeAnswer}
 use Rattle.small_sql.specs.declared.answer.Answer.TheVariants as code
 

@@ -2,7 +2,7 @@
 use Rattle.std.specs.Prelude.{Result, Ok, Err}
 use Rattle.core_calls.specs.Answer.{Answer}
 use Rattle.core_calls.specs.declared.sql_fault.SqlFault.{SqlFault}
-use Rattle.sql_meaning.specs.Checked.{Checked}
+use Rattle.sql_semantics.specs.Checked.{Checked}
 use Rattle.sql_descriptions.specs.Description.{answer_of}
 use Rattle.sql_descriptions.specs.declared.description.Description.{Description}
 

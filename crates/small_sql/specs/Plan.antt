@@ -6,11 +6,11 @@ use Rattle.row_values.specs.Value.{Value}
 use Rattle.row_values.specs.Schema.{Schema}
 use Rattle.row_values.specs.Row.{values_in}
 use Rattle.tables.specs.Tables.{Store}
-use Rattle.sql_meaning.specs.Checked.{Checked, and_then, if_none}
-use Rattle.sql_meaning.specs.Classes.{filter_fault, selected_places}
-use Rattle.sql_meaning.specs.Frame.{rows_covered}
-use Rattle.sql_meaning.specs.Scope.{filter_key, scope_by}
-use Rattle.sql_meaning.specs.Truth.{counts}
+use Rattle.sql_semantics.specs.Checked.{Checked, and_then, if_none}
+use Rattle.sql_semantics.specs.Classes.{filter_fault, selected_places}
+use Rattle.sql_semantics.specs.Frame.{rows_covered}
+use Rattle.sql_semantics.specs.Scope.{filter_key, scope_by}
+use Rattle.sql_semantics.specs.Truth.{matches}
 use Rattle.sql_filters.specs.Test.{passes}
 use Rattle.small_sql.specs.declared.plan.Plan.{Plan}
 
@@ -22,10 +22,10 @@ selection params schema named where_ = and_then (selected_places schema.columns 
 abbrev pub no_selection : List Value → Schema → Option Predicate → Checked (List ℕ)
 no_selection params schema where_ = if_none (filter_fault params schema.columns where_) (Ok [])
 
--- the plan finds the rows that a WHERE counts
+-- the plan finds the rows that a WHERE matches
 pub record Plans (params : List Value) (schema : Schema) (where_ : Option Predicate) (p : Plan) : Type 0 where
   pub fresh : p.list ≡ record { schema = schema; selected = p.list.selected; rows = [] }
-  pub tests : (values : List Value) → passes p.filter values ≡ counts params schema.columns values where_
+  pub tests : (values : List Value) → passes p.filter values ≡ matches params schema.columns values where_
   pub fixes : option_map (λ key. key.items) p.key ≡ filter_key params schema where_
 
 -- what is found by a plan in a table of a store

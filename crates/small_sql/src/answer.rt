@@ -2,7 +2,7 @@
 
 ghost use Rattle.std.specs.Prelude.{◌≡◌, ◌∷◌, [], IfOk};
 ghost use Rattle.tables.specs.ChangeView.{change_of};
-ghost use Rattle.sql_meaning.specs.Meaning as meaning;
+ghost use Rattle.sql_semantics.specs.Meaning as meaning;
 ghost use Rattle.small_sql.specs.Answer.{answer_of};
 
 use core_calls::SqlFault;

@@ -3,9 +3,9 @@
 ghost use Rattle.std.specs.Prelude.{◌≡◌, ◌≤◌, ◌∷◌, [], IfOk, None, Some, length, map, option_map};
 ghost use Rattle.std.specs.Option.{option_copied};
 ghost use Rattle.row_values.specs.Value.{value_of};
-ghost use Rattle.sql_meaning.specs.Scope as scope;
-ghost use Rattle.sql_meaning.specs.Insert.{given_key};
-ghost use Rattle.sql_meaning.specs.Values.{literal_value, name_of};
+ghost use Rattle.sql_semantics.specs.Scope as scope;
+ghost use Rattle.sql_semantics.specs.Insert.{given_key};
+ghost use Rattle.sql_semantics.specs.Values.{literal_value, name_of};
 ghost use Rattle.unit_locks.specs.Claim.{key_or_empty};
 ghost use Rattle.unit_locks.specs.declared.access.Access.TheVariants.{Read, Write};
 
@@ -114,7 +114,7 @@ fn absent_claimed(alloc: Global, command: &Command<'_>) -> Result<Vec<Claim>, Al
 /// statement claims to read all of a table that is not there. Of one that is there it claims the row of
 /// the key that its WHERE fixes or that it gives, else all of the table: a SELECT to read it, the others
 /// to write it.
-#[tactic(auto, unfolding(sql_meaning::specs::Scope::claims, sql_meaning::specs::Scope::scope))]
+#[tactic(auto, unfolding(sql_semantics::specs::Scope::claims, sql_semantics::specs::Scope::scope))]
 pub fn claims(
     alloc: Global,
     command: &Command<'_>,

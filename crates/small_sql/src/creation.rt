@@ -3,8 +3,8 @@
 ghost use Rattle.std.specs.Prelude.{◌≡◌, IfErr, IfOk, IsTrue, List, false};
 ghost use Rattle.row_values.specs.Value.{Value};
 ghost use Rattle.sql_text.specs.declared.tree.Command.TheVariants as command;
-ghost use Rattle.sql_meaning.specs.Create.{defined_schema};
-ghost use Rattle.sql_meaning.specs.Meaning.{answered, create_answer, meaning};
+ghost use Rattle.sql_semantics.specs.Create.{defined_schema};
+ghost use Rattle.sql_semantics.specs.Meaning.{answered, create_answer, meaning};
 ghost use Rattle.small_sql.specs.Answer.{answer_of};
 
 use crate::answer::{Answer, one_change};

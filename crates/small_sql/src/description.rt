@@ -2,8 +2,8 @@
 
 ghost use Rattle.std.specs.Prelude.{◌≡◌, IfErr, IfOk, IsTrue, false};
 ghost use Rattle.tables.specs.Tables.{schema_of};
-ghost use Rattle.sql_meaning.specs.Describe.{described};
-ghost use Rattle.sql_meaning.specs.Scope as scope;
+ghost use Rattle.sql_semantics.specs.Describe.{described};
+ghost use Rattle.sql_semantics.specs.Scope as scope;
 ghost use Rattle.small_sql.specs.Described.{described_as};
 
 use crate::read::no_memory;

@@ -4,7 +4,7 @@ ghost use Rattle.std.specs.Prelude.{◌≡◌, ◌==◌, IfErr, IfOk, IsTrue, Li
 ghost use Rattle.row_values.specs.Schema.{is_name};
 ghost use Rattle.row_values.specs.Value.{value_of};
 ghost use Rattle.sql_text.specs.declared.tree.Command.TheVariants as command;
-ghost use Rattle.sql_meaning.specs.Meaning.{answered, meaning, put_answer};
+ghost use Rattle.sql_semantics.specs.Meaning.{answered, meaning, put_answer};
 ghost use Rattle.sql_changes.specs.Given.{values_given};
 ghost use Rattle.small_sql.specs.Answer.{answer_of};
 ghost use Rattle.small_sql.specs.Keyed.{rows_of_key};
@@ -16,7 +16,7 @@ use row_values::{Schema, Value, is_name};
 use sql_changes::GivenRow;
 use sql_lex::Part;
 use sql_literals::{StatementError, table_name};
-use sql_meaning::laws::statements_are_framed;
+use sql_semantics::laws::statements_are_framed;
 use sql_text::{Columns, Literal};
 use std::alloc::{AllocError, Global};
 use tables::TableView;

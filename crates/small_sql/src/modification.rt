@@ -6,9 +6,9 @@ ghost use Rattle.row_values.specs.Schema.{is_name};
 ghost use Rattle.row_values.specs.Value.{Value as SqlValue, value_of};
 ghost use Rattle.sql_text.specs.declared.tree.Command.TheVariants as command;
 ghost use Rattle.sql_text.specs.declared.tree.Sum.{Sum as SqlSum};
-ghost use Rattle.sql_meaning.specs.Checked.{and_then};
-ghost use Rattle.sql_meaning.specs.Meaning.{answered, meaning, within_room};
-ghost use Rattle.sql_meaning.specs.Update.{updated_rows};
+ghost use Rattle.sql_semantics.specs.Checked.{and_then};
+ghost use Rattle.sql_semantics.specs.Meaning.{answered, meaning, within_room};
+ghost use Rattle.sql_semantics.specs.Update.{updated_rows};
 ghost use Rattle.sql_updates.specs.Assigned.{StandFor};
 ghost use Rattle.small_sql.specs.Answer.{answer_of};
 
@@ -19,7 +19,7 @@ use core_calls::SqlFault;
 use row_values::{Value, is_name};
 use sql_lex::Part;
 use sql_literals::{StatementError, table_name};
-use sql_meaning::laws::statements_are_framed;
+use sql_semantics::laws::statements_are_framed;
 use sql_text::{Assignment, Predicate};
 use sql_updates::{Targets, updates};
 use std::alloc::{AllocError, Global};
@@ -44,7 +44,7 @@ fn updated(
 }
 
 /// What an UPDATE is answered, where so many bytes of changes are left: the changes that put the rows
-/// that its WHERE counts, with what is assigned, in the order of their keys. A sum reads its row as it
+/// that its WHERE matches, with what is assigned, in the order of their keys. A sum reads its row as it
 /// was before the statement. Where the WHERE fixes the whole key, one row is read. It is refused where
 /// no table has the name, then for the first fault of its assignments, and then of its WHERE; then, row
 /// by row, where a partial sum leaves BIGINT, where a value does not fit its column, and where a row

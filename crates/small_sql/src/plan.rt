@@ -7,8 +7,8 @@ ghost use Rattle.drda_words.specs.Excuse.{Answers};
 ghost use Rattle.row_values.specs.Value.{value_of};
 ghost use Rattle.tables.specs.RowList.{is_selection};
 ghost use Rattle.sql_literals.specs.Refused.{fault_of};
-ghost use Rattle.sql_meaning.specs.Checked.{if_none};
-ghost use Rattle.sql_meaning.specs.Classes.{filter_fault};
+ghost use Rattle.sql_semantics.specs.Checked.{if_none};
+ghost use Rattle.sql_semantics.specs.Classes.{filter_fault};
 ghost use Rattle.small_sql.specs.Plan.{Plans, no_selection, selection};
 
 use row_values::{Schema, Value};

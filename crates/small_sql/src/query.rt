@@ -4,7 +4,7 @@ ghost use Rattle.std.specs.Prelude.{◌≡◌, ℕ, IfErr, IfOk, IsTrue, false, 
 ghost use Rattle.std.specs.Option.{option_copied};
 ghost use Rattle.row_values.specs.Value.{value_of};
 ghost use Rattle.sql_text.specs.declared.tree.Command.TheVariants as command;
-ghost use Rattle.sql_meaning.specs.Meaning.{meaning};
+ghost use Rattle.sql_semantics.specs.Meaning.{meaning};
 ghost use Rattle.small_sql.specs.Answer.{answer_of};
 
 use crate::answer::Answer;
@@ -14,12 +14,12 @@ use core_calls::SqlFault;
 use row_values::Value;
 use sql_lex::Part;
 use sql_literals::{StatementError, table_name};
-use sql_meaning::laws::statements_are_framed;
+use sql_semantics::laws::statements_are_framed;
 use sql_text::{Columns, Predicate};
 use std::alloc::{AllocError, Global};
 use tables::TableView;
 
-/// What a SELECT is answered: the rows that its WHERE counts, in the order of their keys, with the
+/// What a SELECT is answered: the rows that its WHERE matches, in the order of their keys, with the
 /// places of the columns that it asks for. Where the WHERE fixes the whole key, one row is read. It
 /// is refused where no table has the name, and then for the first fault of its columns, and then of
 /// its WHERE. The view tells of no change.

@@ -5,8 +5,8 @@ ghost use Rattle.std.specs.List.{list_all};
 ghost use Rattle.row_values.specs.Row.{is_row, values_in};
 ghost use Rattle.tables.specs.Tables.{schema_of};
 ghost use Rattle.tables.specs.View.{is_store};
-ghost use Rattle.sql_meaning.specs.Frame.{rows_covered};
-ghost use Rattle.sql_meaning.specs.Scope.{scope_by};
+ghost use Rattle.sql_semantics.specs.Frame.{rows_covered};
+ghost use Rattle.sql_semantics.specs.Scope.{scope_by};
 ghost use Rattle.sql_filters.specs.Test.{passes};
 ghost use Rattle.small_sql.specs.Plan.{rows_found};
 ghost use Rattle.small_sql.specs.Reading.{DamagedBy};
@@ -18,13 +18,13 @@ use std::alloc::{AllocError, Global};
 use tables::laws::stores_hold_tables;
 use tables::{RowList, Rows, TableView};
 
-// Whether a row counts. Bytes that are no row of the schema are damaged.
-fn counts(schema: &Schema, row: &[u8], filter: &Filter) -> Result<bool, Damaged>
-    ensures counts { IfOk result (λ b. b ≡ passes filter.now (values_in schema.now row.now)) }
+// Whether a row matches. Bytes that are no row of the schema are damaged.
+fn matches(schema: &Schema, row: &[u8], filter: &Filter) -> Result<bool, Damaged>
+    ensures matches { IfOk result (λ b. b ≡ passes filter.now (values_in schema.now row.now)) }
     ensures judged { is_ok result ≡ is_row schema.now row.now }
 {
     let row = RowRef::parse(schema, row)?;
-    Ok(filter.counts(&row))
+    Ok(filter.matches(&row))
 }
 
 // Adds the row where it counts. Bytes that are no row of the schema are damaged.
@@ -32,7 +32,7 @@ fn add_counted(list: &mut RowList, row: &[u8], wanted: &Filter) -> Result<(), Re
     ensures added { OnOk result (list.new ≡ (if passes wanted.now (values_in list.old.schema row.now) then record list.old { rows = list.old.rows ++ row.now ∷ [] } else list.old)) }
     ensures damaged { DamagedBy list.old.schema (row.now ∷ []) result }
 {
-    match counts(list.schema(), row, wanted) {
+    match matches(list.schema(), row, wanted) {
         Ok(true) => list.push(row)?,
         Ok(false) => {}
         Err(Damaged) => return Err(ReadError::Damaged),

@@ -7,7 +7,7 @@ ghost use Rattle.row_values.specs.Schema.{is_name};
 ghost use Rattle.row_values.specs.Value.{value_of};
 ghost use Rattle.tables.specs.Change.{remove as remove_change};
 ghost use Rattle.sql_text.specs.declared.tree.Command.TheVariants as command;
-ghost use Rattle.sql_meaning.specs.Meaning.{answered, meaning, within_room};
+ghost use Rattle.sql_semantics.specs.Meaning.{answered, meaning, within_room};
 ghost use Rattle.small_sql.specs.Answer.{answer_of};
 
 use crate::answer::Answer;
@@ -17,7 +17,7 @@ use core_calls::SqlFault;
 use row_values::{Value, is_name};
 use sql_lex::Part;
 use sql_literals::{StatementError, table_name};
-use sql_meaning::laws::statements_are_framed;
+use sql_semantics::laws::statements_are_framed;
 use sql_text::Predicate;
 use std::alloc::{AllocError, Global};
 use tables::{RowList, TableView};
@@ -35,7 +35,7 @@ fn removed(alloc: Global, table: &str, rows: &RowList, left: usize) -> Result<An
 }
 
 /// What a DELETE is answered, where so many bytes of changes are left: the changes that remove the rows
-/// that its WHERE counts, in the order of their keys. Where the WHERE fixes the whole key, one row is
+/// that its WHERE matches, in the order of their keys. Where the WHERE fixes the whole key, one row is
 /// read. It is refused where no table has the name, and then for the first fault of its WHERE, and
 /// where its changes have more bytes than are left. The view itself does not change.
 pub fn delete<V: TableView>(

@@ -2,7 +2,7 @@
 
 ghost use Rattle.std.specs.Prelude.{◌≡◌, IfErr, IfOk, IsTrue, false, map};
 ghost use Rattle.row_values.specs.Value.{value_of};
-ghost use Rattle.sql_meaning.specs.Meaning.{meaning};
+ghost use Rattle.sql_semantics.specs.Meaning.{meaning};
 ghost use Rattle.small_sql.specs.Answer.{answer_of};
 
 use crate::answer::Answer;
@@ -17,7 +17,7 @@ use std::alloc::Global;
 use tables::TableView;
 
 /// What a statement is answered, with these values for its markers and where so many bytes of changes
-/// are left: exactly what it means over the store of the view (`sql_meaning`). It is refused for the
+/// are left: exactly what it means over the store of the view (`sql_semantics`). It is refused for the
 /// first fault in the order of the checks, and then changes nothing; the changes that it makes are
 /// given and not made: the view itself does not change. A fault of the view is passed on.
 pub fn run<V: TableView>(

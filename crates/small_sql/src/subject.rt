@@ -4,8 +4,8 @@ ghost use Rattle.std.specs.Prelude.{◌≡◌, IfErr, IfOk, IsTrue, false, optio
 ghost use Rattle.std.specs.Arc.{arc_value};
 ghost use Rattle.tables.specs.Tables.{schema_of};
 ghost use Rattle.tables.specs.View.{is_store};
-ghost use Rattle.sql_meaning.specs.Scope as scope;
-ghost use Rattle.sql_meaning.specs.Values.{name_of};
+ghost use Rattle.sql_semantics.specs.Scope as scope;
+ghost use Rattle.sql_semantics.specs.Values.{name_of};
 
 use crate::read::no_memory;
 use row_values::Schema;

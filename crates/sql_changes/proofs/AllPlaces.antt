@@ -1,7 +1,7 @@
 -- The places of all columns, one after another.
 use Rattle.std.proofs.Common.{◌≡◌, ◌≤◌, ◌<◌, ℕ, zero, suc, ◌+◌, List, [], ◌∷◌, ◌++◌, length, drop, arith, refl, sym, ap, ◌∙◌, append_assoc}
 use Rattle.std.proofs.lemmas.List.{append-nil}
-use Rattle.sql_meaning.specs.Values.{all_places}
+use Rattle.sql_semantics.specs.Values.{all_places}
 
 place_next : {A : Type 0} → (xs : List A) (i k : ℕ) → i < length xs → all_places k (drop i xs) ≡ k ∷ all_places (k + 1) (drop (suc i) xs)
 place_next [] i k h = absurd (omega arith)

@@ -8,10 +8,10 @@ ghost use Rattle.row_values.specs.Schema.{is_schema};
 ghost use Rattle.tables.specs.ChangeView.{change_of};
 ghost use Rattle.core_calls.specs.declared.sql_fault.SqlFault.TheVariants as sql_fault;
 ghost use Rattle.sql_text.specs.Checks.{same_name};
-ghost use Rattle.sql_meaning.specs.Checked.{unless};
-ghost use Rattle.sql_meaning.specs.Create as create;
-ghost use Rattle.sql_meaning.specs.Meaning.{Changes, create_answer};
-ghost use Rattle.sql_meaning.specs.Values as values;
+ghost use Rattle.sql_semantics.specs.Checked.{unless};
+ghost use Rattle.sql_semantics.specs.Create as create;
+ghost use Rattle.sql_semantics.specs.Meaning.{Changes, create_answer};
+ghost use Rattle.sql_semantics.specs.Values as values;
 ghost use Rattle.sql_literals.specs.Refused.{fault_of};
 
 use core_calls::SqlFault;
@@ -53,7 +53,7 @@ pub fn create(
 }
 
 // The schema, where it is one.
-#[tactic(auto, unfolding(sql_meaning::specs::Create::defined_schema))]
+#[tactic(auto, unfolding(sql_semantics::specs::Create::defined_schema))]
 fn defined_schema(
     alloc: Global,
     definitions: &[Definition<'_>],

@@ -7,10 +7,10 @@ ghost use Rattle.row_values.specs.Column.{column_of};
 ghost use Rattle.row_values.specs.Schema.{is_name, picked};
 ghost use Rattle.row_values.specs.Value.{value_of};
 ghost use Rattle.tables.specs.ChangeView.{change_of};
-ghost use Rattle.sql_meaning.specs.Insert as insert;
-ghost use Rattle.sql_meaning.specs.Keys.{key_of_values};
-ghost use Rattle.sql_meaning.specs.Meaning.{Changes, insert_answer, put_answer};
-ghost use Rattle.sql_meaning.specs.Values.{literal_value};
+ghost use Rattle.sql_semantics.specs.Insert as insert;
+ghost use Rattle.sql_semantics.specs.Keys.{key_of_values};
+ghost use Rattle.sql_semantics.specs.Meaning.{Changes, insert_answer, put_answer};
+ghost use Rattle.sql_semantics.specs.Values.{literal_value};
 ghost use Rattle.sql_literals.specs.Constant.{constant_value};
 ghost use Rattle.sql_literals.specs.Refused.{fault_of};
 ghost use Rattle.sql_changes.specs.Given.{values_given};
@@ -34,7 +34,7 @@ impl GivenRow {
     /// The row of these values for these columns, NULL in each other one. The columns are judged
     /// from left to right: one that the table has not is unknown, one that stands twice is a syntax
     /// error; and so is another number of values than of columns.
-    #[tactic(auto, unfolding(sql_meaning::specs::Insert::given_row))]
+    #[tactic(auto, unfolding(sql_semantics::specs::Insert::given_row))]
     pub fn bind(
         alloc: Global,
         schema: &Schema,
@@ -53,7 +53,7 @@ impl GivenRow {
     }
 
     /// The key of the row, at most 8,012 bytes, where the values of its columns fit them.
-    #[tactic(auto, unfolding(sql_meaning::specs::Keys::key_of_values))]
+    #[tactic(auto, unfolding(sql_semantics::specs::Keys::key_of_values))]
     pub fn key(&self, alloc: Global, schema: &Schema) -> Result<Option<Vec<u8>>, AllocError>
         ensures key { IfOk result (λ key. option_map (λ k. k.items) key ≡ key_of_values schema.now (picked (values_given self.now) schema.now.key)) }
         ensures short { IfOk result (λ key. IfSome key (λ k. length k.items ≤ 8012)) }

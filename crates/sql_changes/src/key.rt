@@ -2,8 +2,8 @@
 
 ghost use Rattle.std.specs.Prelude.{◌≡◌, ◌≤◌, IfOk, IfSome, length, map, option_map};
 ghost use Rattle.row_values.specs.Value.{value_of};
-ghost use Rattle.sql_meaning.specs.Insert as insert;
-ghost use Rattle.sql_meaning.specs.Values.{literal_value};
+ghost use Rattle.sql_semantics.specs.Insert as insert;
+ghost use Rattle.sql_semantics.specs.Values.{literal_value};
 
 use crate::given::GivenRow;
 use row_values::{Schema, Value};
@@ -13,7 +13,7 @@ use std::alloc::{AllocError, Global};
 
 /// The key of the row that an INSERT gives, where its names and the number of its values pass, and
 /// the values of the key's columns fit them. It has at most 8,012 bytes.
-#[tactic(auto, unfolding(sql_meaning::specs::Insert::given_key))]
+#[tactic(auto, unfolding(sql_semantics::specs::Insert::given_key))]
 pub fn given_key(
     alloc: Global,
     schema: &Schema,

@@ -4,8 +4,8 @@ ghost use Rattle.std.specs.Prelude.{◌≡◌, ◌==◌, [], IfOk, map, nat_eq};
 ghost use Rattle.std.specs.List.{list_any, position};
 ghost use Rattle.drda_words.specs.Excuse.{Answers};
 ghost use Rattle.row_values.specs.Column.{column_of};
-ghost use Rattle.sql_meaning.specs.Values as values;
-ghost use Rattle.sql_meaning.specs.Insert as insert;
+ghost use Rattle.sql_semantics.specs.Values as values;
+ghost use Rattle.sql_semantics.specs.Insert as insert;
 ghost use Rattle.sql_literals.specs.Refused.{fault_of};
 
 use core_calls::SqlFault;

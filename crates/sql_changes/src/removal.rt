@@ -7,7 +7,7 @@ ghost use Rattle.row_values.specs.RowView.{row_in, schema_in};
 ghost use Rattle.row_values.specs.Schema.{is_name};
 ghost use Rattle.tables.specs.Change.{remove as remove_change};
 ghost use Rattle.tables.specs.ChangeView.{change_of};
-ghost use Rattle.sql_meaning.specs.Meaning.{Changes, within_room};
+ghost use Rattle.sql_semantics.specs.Meaning.{Changes, within_room};
 ghost use Rattle.sql_literals.specs.Refused.{fault_of};
 
 use crate::room::have_room;

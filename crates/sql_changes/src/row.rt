@@ -4,8 +4,8 @@ ghost use Rattle.std.specs.Prelude.{◌≡◌, ◌≤◌, IfOk, length, map};
 ghost use Rattle.drda_words.specs.Excuse.{Answers};
 ghost use Rattle.row_values.specs.Column.{column_of};
 ghost use Rattle.row_values.specs.Value.{value_of};
-ghost use Rattle.sql_meaning.specs.Checked as checked;
-ghost use Rattle.sql_meaning.specs.Insert as insert;
+ghost use Rattle.sql_semantics.specs.Checked as checked;
+ghost use Rattle.sql_semantics.specs.Insert as insert;
 ghost use Rattle.sql_literals.specs.Constant.{constant_value};
 ghost use Rattle.sql_literals.specs.Refused.{fault_of};
 

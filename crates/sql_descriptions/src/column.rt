@@ -5,7 +5,7 @@ ghost use Rattle.drda_words.specs.Excuse.{Answers};
 ghost use Rattle.row_values.specs.Schema.{picked};
 ghost use Rattle.tables.specs.RowList.{is_selection};
 ghost use Rattle.sql_literals.specs.Refused.{fault_of};
-ghost use Rattle.sql_meaning.specs.Describe as describe;
+ghost use Rattle.sql_semantics.specs.Describe as describe;
 
 use row_values::Schema;
 use sql_filters::{Filter, selected_places};

@@ -5,7 +5,7 @@ ghost use Rattle.std.specs.Arc.{arc_value};
 ghost use Rattle.drda_words.specs.Excuse.{Answers};
 ghost use Rattle.core_calls.specs.Answer as answer;
 ghost use Rattle.sql_literals.specs.Refused.{fault_of};
-ghost use Rattle.sql_meaning.specs.Describe as describe;
+ghost use Rattle.sql_semantics.specs.Describe as describe;
 ghost use Rattle.sql_descriptions.specs.Description.{answer_of};
 
 use crate::column::described_places;

@@ -4,7 +4,7 @@ ghost use Rattle.std.specs.Prelude.{◌≡◌, ◌++◌, IfOk, OnOk, map};
 ghost use Rattle.std.specs.List.{flat_map};
 ghost use Rattle.std.specs.Option.{option_copied};
 ghost use Rattle.row_values.specs.Column.{column_of};
-ghost use Rattle.sql_meaning.specs.Describe as describe;
+ghost use Rattle.sql_semantics.specs.Describe as describe;
 
 use crate::predicate::add_predicate;
 use crate::types::{column_types, first_type, named_type};
@@ -76,7 +76,7 @@ fn add_addends(
     Ok(())
 }
 
-#[tactic(auto, unfolding(sql_meaning::specs::Describe::sum_types))]
+#[tactic(auto, unfolding(sql_semantics::specs::Describe::sum_types))]
 fn add_sum(
     types: &mut Vec<ParameterType>,
     given_as: ParameterType,
@@ -89,7 +89,7 @@ fn add_sum(
 }
 
 // Each marker of the sum has the type of the column that it is assigned to.
-#[tactic(auto, unfolding(sql_meaning::specs::Describe::assignment_types))]
+#[tactic(auto, unfolding(sql_semantics::specs::Describe::assignment_types))]
 fn add_assignment(
     types: &mut Vec<ParameterType>,
     columns: &[Column],

@@ -2,7 +2,7 @@
 
 ghost use Rattle.std.specs.Prelude.{◌≡◌, ◌++◌, OnOk, map};
 ghost use Rattle.row_values.specs.Column.{column_of};
-ghost use Rattle.sql_meaning.specs.Describe as describe;
+ghost use Rattle.sql_semantics.specs.Describe as describe;
 
 use crate::parameter::add_term;
 use crate::types::term_type;
@@ -26,7 +26,7 @@ fn add_comparison(
 /// Adds the types of a predicate's markers: each has that of the column that it is compared with,
 /// BIGINT where it is compared with none.
 #[cycle(walk)]
-#[tactic(auto, unfolding(sql_meaning::specs::Describe::predicate_types))]
+#[tactic(auto, unfolding(sql_semantics::specs::Describe::predicate_types))]
 pub(crate) fn add_predicate<'a, 'b>(
     types: &mut Vec<ParameterType>,
     columns: &'a [Column],

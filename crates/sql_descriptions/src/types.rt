@@ -3,7 +3,7 @@
 ghost use Rattle.std.specs.Prelude.{◌≡◌, ◌∷◌, ◌++◌, IfOk, List, None, map};
 ghost use Rattle.row_values.specs.Column.{column_of};
 ghost use Rattle.sql_text.specs.declared.tree.Literal.{Literal as TreeLiteral};
-ghost use Rattle.sql_meaning.specs.Describe as describe;
+ghost use Rattle.sql_semantics.specs.Describe as describe;
 
 use core_calls::ParameterType;
 use row_values::{Column, Kind};
@@ -33,7 +33,7 @@ fn type_of(column: &Column) -> ParameterType
 }
 
 /// The type of the column of this name, BIGINT where there is none.
-#[tactic(auto, unfolding(sql_meaning::specs::Describe::named_type))]
+#[tactic(auto, unfolding(sql_semantics::specs::Describe::named_type))]
 pub(crate) fn named_type(columns: &[Column], name: &[u8]) -> ParameterType
     ensures { result ≡ describe.named_type (map column_of columns.now) name.now }
 {

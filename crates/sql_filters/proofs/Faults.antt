@@ -4,8 +4,8 @@ use Rattle.std.specs.Prelude.{◌||◌, ◌==◌, if◌then◌else◌}
 use Rattle.sql_text.specs.declared.tree.Term.{Term}
 use Rattle.row_values.specs.Value.{Value}
 use Rattle.row_values.specs.Column.{Column}
-use Rattle.sql_meaning.specs.Checked.{Checked, and_then, fault_in}
-use Rattle.sql_meaning.specs.Classes.{comparison_fault, same_class, term_class}
+use Rattle.sql_semantics.specs.Checked.{Checked, and_then, fault_in}
+use Rattle.sql_semantics.specs.Classes.{comparison_fault, same_class, term_class}
 use Rattle.core_calls.specs.declared.sql_fault.SqlFault.{SqlFault}
 use Rattle.core_calls.specs.declared.sql_fault.SqlFault.TheVariants as fault
 

@@ -4,7 +4,7 @@ use Rattle.std.proofs.Math.Seq.{drop-cons}
 use Rattle.sql_text.specs.declared.tree.Predicate.{Predicate}
 use Rattle.row_values.specs.Value.{Value}
 use Rattle.row_values.specs.Column.{Column}
-use Rattle.sql_meaning.specs.Scope.{all_fixed, cons_some, fixed}
+use Rattle.sql_semantics.specs.Scope.{all_fixed, cons_some, fixed}
 
 module _ (params : List Value) (cs : List Column) where
   fixing_goes : (done : List Value) (v : Value) (o whole : Option (List Value)) → option_map (λ vs. done ++ vs) (cons_some params cs (Some v) o) ≡ whole → option_map (λ vs. (done ++ v ∷ []) ++ vs) o ≡ whole

@@ -7,8 +7,8 @@ use Rattle.sql_text.specs.declared.tree.Predicate.TheOpen.{Predicate-F}
 use Rattle.sql_text.specs.declared.tree.Predicate.TheFolds.{fold-Predicate, fold-roll-Predicate}
 use Rattle.sql_text.specs.declared.tree.Predicate.TheVariants as predicate
 use Rattle.sql_text.specs.declared.tree.Predicate.TheVariants.{rolls-All, rolls-Any, rolls-Group, rolls-Not}
-use Rattle.sql_meaning.specs.Truth.{all_of, any_of, layer_truth, negated, truth}
-use Rattle.sql_meaning.specs.declared.truth.Truth.{Truth}
+use Rattle.sql_semantics.specs.Truth.{all_of, any_of, layer_truth, negated, truth}
+use Rattle.sql_semantics.specs.declared.truth.Truth.{Truth}
 use Rattle.sql_filters.specs.declared.test.Test.{Test}
 use Rattle.sql_filters.specs.declared.test.Test.TheOpen.{Test-F}
 use Rattle.sql_filters.specs.declared.test.Test.TheFolds.{fold-Test, fold-roll-Test}

@@ -15,9 +15,9 @@ use Rattle.row_values.specs.declared.column.Kind.TheVariants.{SmallInt}
 use Rattle.tables.specs.RowList.{is_selection}
 use Rattle.sql_literals.specs.declared.error.StatementError.{StatementError}
 use Rattle.sql_literals.specs.Refused.{fault_of}
-use Rattle.sql_meaning.specs.Checked.{and_then}
-use Rattle.sql_meaning.specs.Classes.{known_place, named_places}
-use Rattle.sql_meaning.specs.Values.{all_places, column_place}
+use Rattle.sql_semantics.specs.Checked.{and_then}
+use Rattle.sql_semantics.specs.Classes.{known_place, named_places}
+use Rattle.sql_semantics.specs.Values.{all_places, column_place}
 use Rattle.sql_text.specs.Checks.{same_name}
 use Rattle.sql_filters.specs.Test.{value_at}
 

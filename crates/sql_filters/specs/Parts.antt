@@ -3,7 +3,7 @@ use Rattle.std.specs.Prelude.{ℕ, Bool, List, Option}
 use Rattle.sql_text.specs.declared.tree.Predicate.{Predicate, out-Predicate}
 use Rattle.row_values.specs.Value.{Value}
 use Rattle.row_values.specs.Column.{Column}
-use Rattle.sql_meaning.specs.Scope.{fixed_by, is_plain_part, parts_in_all}
+use Rattle.sql_semantics.specs.Scope.{fixed_by, is_plain_part, parts_in_all}
 
 -- the part is a comparison, or a test for NULL
 abbrev pub is_plain : Predicate → Bool

@@ -2,8 +2,8 @@
 use Rattle.std.specs.Prelude.{ℕ, Bool, true, not, if◌then◌else◌, List, Option, Some, None, unwrap_or}
 use Rattle.std.specs.List.{slice_get}
 use Rattle.row_values.specs.Value.{Value, null}
-use Rattle.sql_meaning.specs.Truth.{all_of, any_of, compared, holds, is_null, negated, truth_of}
-use Rattle.sql_meaning.specs.declared.truth.Truth.{Truth}
+use Rattle.sql_semantics.specs.Truth.{all_of, any_of, compared, holds, is_null, negated, truth_of}
+use Rattle.sql_semantics.specs.declared.truth.Truth.{Truth}
 use Rattle.sql_literals.specs.Constant.{constant_value}
 use Rattle.sql_filters.specs.declared.filter.Filter.{Filter}
 use Rattle.sql_filters.specs.declared.operand.Operand.{Operand}
@@ -30,7 +30,7 @@ module _ (values : List Value) where
   unfoldable pub met : Test → Truth
   met = fold-Test Truth layer_met
 
-  -- a row counts where there is no test, or its test is met
+  -- a row matches where there is no test, or its test is met
   abbrev pub passes_test : Option Test → Bool
   passes_test None = true
   passes_test (Some t) = holds (met t)

@@ -3,10 +3,10 @@
 ghost use Rattle.std.specs.Prelude.{◌≡◌, IfOk, List, map};
 ghost use Rattle.row_values.specs.Column.{column_of};
 ghost use Rattle.row_values.specs.Value.{Value as SqlValue, value_of};
-ghost use Rattle.sql_meaning.specs.Checked.{first_fault};
-ghost use Rattle.sql_meaning.specs.Classes.{comparison_fault, predicate_fault};
-ghost use Rattle.sql_meaning.specs.Truth.{compared, truth};
-ghost use Rattle.sql_meaning.specs.Values.{term_value};
+ghost use Rattle.sql_semantics.specs.Checked.{first_fault};
+ghost use Rattle.sql_semantics.specs.Classes.{comparison_fault, predicate_fault};
+ghost use Rattle.sql_semantics.specs.Truth.{compared, truth};
+ghost use Rattle.sql_semantics.specs.Values.{term_value};
 ghost use Rattle.sql_filters.specs.Binding.{RefusedFor};
 ghost use Rattle.sql_filters.specs.Test.{met};
 
@@ -43,7 +43,7 @@ fn comparison(
 /// A predicate with its names and literals resolved. It is refused for the first fault from left to
 /// right: a name that is no column, or terms of two classes.
 #[cycle(bind)]
-#[tactic(auto, unfolding(crate::specs::Test::met, sql_meaning::specs::Truth::truth, sql_meaning::specs::Classes::predicate_fault))]
+#[tactic(auto, unfolding(crate::specs::Test::met, sql_semantics::specs::Truth::truth, sql_semantics::specs::Classes::predicate_fault))]
 pub(crate) fn bound<'a, 'b, 'v>(
     alloc: Global,
     columns: &'a [Column],

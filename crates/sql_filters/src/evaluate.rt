@@ -4,14 +4,14 @@ ghost use Rattle.std.specs.Prelude.{◌≡◌, map};
 ghost use Rattle.row_values.specs.Row.{values_in};
 ghost use Rattle.row_values.specs.RowView.{row_in, schema_in};
 ghost use Rattle.row_values.specs.Value.{value_of};
-ghost use Rattle.sql_meaning.specs.Truth as spec;
+ghost use Rattle.sql_semantics.specs.Truth as spec;
 ghost use Rattle.sql_filters.specs.Test.{met};
 
 use crate::operand::value_at;
 use crate::test::Test;
 use row_values::{RowRef, Value};
 use sql_lex::Comparison;
-use sql_meaning::Truth;
+use sql_semantics::Truth;
 
 fn negated(truth: Truth) -> Truth
     ensures { result ≡ spec.negated truth }
@@ -60,7 +60,7 @@ fn is_null(value: &Value<'_>) -> bool
 }
 
 // With NULL a comparison is unknown.
-#[tactic(auto, unfolding(sql_meaning::specs::Truth::compared))]
+#[tactic(auto, unfolding(sql_semantics::specs::Truth::compared))]
 fn compared(comparison: Comparison, a: &Value<'_>, b: &Value<'_>) -> Truth
     ensures { result ≡ spec.compared comparison (value_of a.now) (value_of b.now) }
 {

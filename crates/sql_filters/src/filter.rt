@@ -5,8 +5,8 @@ ghost use Rattle.std.specs.Option.{option_copied};
 ghost use Rattle.row_values.specs.Row.{values_in};
 ghost use Rattle.row_values.specs.RowView.{row_in, schema_in};
 ghost use Rattle.row_values.specs.Value.{Value as SqlValue, value_of};
-ghost use Rattle.sql_meaning.specs.Classes.{filter_fault};
-ghost use Rattle.sql_meaning.specs.Truth.{counts};
+ghost use Rattle.sql_semantics.specs.Classes.{filter_fault};
+ghost use Rattle.sql_semantics.specs.Truth.{matches};
 ghost use Rattle.sql_filters.specs.Binding.{RefusedFor};
 ghost use Rattle.sql_filters.specs.Test.{passes};
 
@@ -15,7 +15,7 @@ use crate::evaluate::met;
 use crate::test::Test;
 use row_values::{RowRef, Schema, Value};
 use sql_literals::StatementError;
-use sql_meaning::Truth;
+use sql_semantics::Truth;
 use sql_text::Predicate;
 use std::alloc::Global;
 
@@ -49,7 +49,7 @@ impl Filter {
         }
     }
 
-    /// Whether a row counts: no WHERE, or one that is true of it. Takes no memory, compares no name,
+    /// Whether a row matches: no WHERE, or one that is true of it. Takes no memory, compares no name,
     /// and reads a value only where a part of the WHERE needs it: behind an AND that has failed, or an
     /// OR that holds, nothing is read.
     pub fn counts<'a>(&'a self, row: &RowRef<'a>) -> bool

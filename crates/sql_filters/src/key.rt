@@ -6,10 +6,10 @@ ghost use Rattle.std.specs.Option.{option_copied};
 ghost use Rattle.row_values.specs.Column.{column_of};
 ghost use Rattle.row_values.specs.Value.{value_of};
 ghost use Rattle.sql_literals.specs.Constant.{constant_value};
-ghost use Rattle.sql_meaning.specs.Keys.{key_of_values};
-ghost use Rattle.sql_meaning.specs.Scope as scope;
-ghost use Rattle.sql_meaning.specs.Scope.{filter_key};
-ghost use Rattle.sql_meaning.specs.Values.{literal_value};
+ghost use Rattle.sql_semantics.specs.Keys.{key_of_values};
+ghost use Rattle.sql_semantics.specs.Scope as scope;
+ghost use Rattle.sql_semantics.specs.Scope.{filter_key};
+ghost use Rattle.sql_semantics.specs.Values.{literal_value};
 ghost use Rattle.sql_filters.specs.Parts.{fixed_in, is_plain, plain_in_all};
 
 use row_values::{Column, Schema, Value, are_key, encode_key};
@@ -43,7 +43,7 @@ fn plain_in_all<'a, 'b>(predicate: &'a Predicate<'b>) -> &'a [Predicate<'b>]
 }
 
 // The parts of a conjunction without parentheses, OR and NOT; of any other predicate none.
-#[tactic(auto, unfolding(sql_meaning::specs::Scope::conjuncts))]
+#[tactic(auto, unfolding(sql_semantics::specs::Scope::conjuncts))]
 fn conjuncts<'a, 'b>(predicate: &'a Predicate<'b>) -> &'a [Predicate<'b>]
     ensures { result.now ≡ scope.conjuncts predicate.now }
 {
@@ -155,7 +155,7 @@ fn all_fixed(
 }
 
 // The key of these values, where each fits its column.
-#[tactic(auto, unfolding(sql_meaning::specs::Keys::key_of_values))]
+#[tactic(auto, unfolding(sql_semantics::specs::Keys::key_of_values))]
 fn key_of_values(
     alloc: Global,
     schema: &Schema,
@@ -181,7 +181,7 @@ fn borrowed(alloc: Global, constants: &[Constant]) -> Result<Vec<Value<'_>>, All
     Ok(values)
 }
 
-#[tactic(auto, unfolding(sql_meaning::specs::Scope::fixed_key))]
+#[tactic(auto, unfolding(sql_semantics::specs::Scope::fixed_key))]
 fn predicate_key(
     alloc: Global,
     schema: &Schema,

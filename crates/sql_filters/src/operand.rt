@@ -6,8 +6,8 @@ ghost use Rattle.row_values.specs.Column.{column_of};
 ghost use Rattle.row_values.specs.Row.{values_in};
 ghost use Rattle.row_values.specs.RowView.{row_in, schema_in};
 ghost use Rattle.row_values.specs.Value.{Value as SqlValue, class_of, value_of};
-ghost use Rattle.sql_meaning.specs.Classes.{column_class, column_named, kind_class, term_class};
-ghost use Rattle.sql_meaning.specs.Values.{named_value, term_value};
+ghost use Rattle.sql_semantics.specs.Classes.{column_class, column_named, kind_class, term_class};
+ghost use Rattle.sql_semantics.specs.Values.{named_value, term_value};
 ghost use Rattle.sql_literals.specs.Refused.{fault_of};
 ghost use Rattle.sql_filters.specs.Test.{operand_value, value_at};
 

@@ -3,8 +3,8 @@
 ghost use Rattle.std.specs.Prelude.{◌≡◌, ◌≤◌, IfOk, [], length, map, true};
 ghost use Rattle.drda_words.specs.Excuse.{Answers};
 ghost use Rattle.row_values.specs.Column.{column_of};
-ghost use Rattle.sql_meaning.specs.Classes as classes;
-ghost use Rattle.sql_meaning.specs.Values as values;
+ghost use Rattle.sql_semantics.specs.Classes as classes;
+ghost use Rattle.sql_semantics.specs.Values as values;
 ghost use Rattle.sql_literals.specs.Refused.{fault_of};
 ghost use Rattle.tables.specs.RowList.{is_selection};
 

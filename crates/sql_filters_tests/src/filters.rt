@@ -34,7 +34,7 @@ fn does_count(
 ) -> Result<bool, Fail> {
     let bytes = row(alloc, schema, values)?;
     match RowRef::parse(schema, bytes.as_slice()) {
-        Ok(row) => Ok(filter.counts(&row)),
+        Ok(row) => Ok(filter.matches(&row)),
         Err(_) => Err(Fail::from("no row")),
     }
 }

@@ -8,7 +8,7 @@ use Rattle.std.proofs.lemmas.List.{take_rest}
 use Rattle.row_values.specs.Value.{null, number}
 use Rattle.sql_text.specs.Number.{number_of}
 use Rattle.sql_text.specs.Spelled.{number_value}
-use Rattle.sql_meaning.specs.Values.{number_given}
+use Rattle.sql_semantics.specs.Values.{number_given}
 
 abbrev Told : ℕ → Type 0
 Told k = ((leb k 9223372036854775807 ≡ true) × (k ≤ 9223372036854775807)) ⊎ ((leb k 9223372036854775807 ≡ false) × (9223372036854775807 < k))

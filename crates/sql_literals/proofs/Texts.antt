@@ -8,7 +8,7 @@ use Rattle.std.specs.Str.{IsUtf8, is_utf8}
 use Rattle.std.specs.Option.{option_and_then}
 use Rattle.sql_lex.specs.Spelling.{capitals}
 use Rattle.row_values.specs.Value.{Value, null, text}
-use Rattle.sql_meaning.specs.Values.{text_given, text_or_null, name_of, short_name}
+use Rattle.sql_semantics.specs.Values.{text_given, text_or_null, name_of, short_name}
 
 pub told : (z : List ℕ) → ∥ IsUtf8 z ∥₁ → is_utf8 z ≡ true
 told z h = ∥∥₁_elim h (Bool-set _ _) (is_utf8-from_IsUtf8 z)

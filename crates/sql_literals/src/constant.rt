@@ -2,7 +2,7 @@
 
 ghost use Rattle.std.specs.Prelude.{◌≡◌, IfOk, map};
 ghost use Rattle.row_values.specs.Value.{null, value_of};
-ghost use Rattle.sql_meaning.specs.Values.{literal_value, text_given, bytes_given};
+ghost use Rattle.sql_semantics.specs.Values.{literal_value, text_given, bytes_given};
 ghost use Rattle.sql_text.specs.Spelled.{bytes_of_pairs, undoubled};
 ghost use Rattle.sql_literals.specs.Constant.{constant_value};
 

@@ -5,7 +5,7 @@ ghost use Rattle.std.specs.List.{position};
 ghost use Rattle.std.specs.String.{string_bytes};
 ghost use Rattle.row_values.specs.Column.{column_of};
 ghost use Rattle.sql_text.specs.Checks.{same_name};
-ghost use Rattle.sql_meaning.specs.Values.{column_place, name_of};
+ghost use Rattle.sql_semantics.specs.Values.{column_place, name_of};
 
 use row_values::Column;
 use std::alloc::{AllocError, Global};
@@ -34,7 +34,7 @@ fn is_named(column: &Column, name: &[u8]) -> bool
 
 /// A name in capitals. What is no UTF-8, or longer than 255 bytes, stands in no parsed text, and
 /// gives the empty name, which no table has.
-#[tactic(auto, unfolding(sql_meaning::specs::Values::name_of))]
+#[tactic(auto, unfolding(sql_semantics::specs::Values::name_of))]
 pub fn table_name(alloc: Global, name: &[u8]) -> Result<String, AllocError>
     ensures { IfOk result (λ table. string_bytes table ≡ name_of name.now) }
 {

@@ -3,7 +3,7 @@
 ghost use Rattle.std.specs.Prelude.{◌≡◌, ◌+◌, ◌^◌, min, pos, neg_ℤ};
 ghost use Rattle.sql_text.specs.Number.{number_of};
 ghost use Rattle.sql_text.specs.Spelled.{number_value};
-ghost use Rattle.sql_meaning.specs.Values.{number_given};
+ghost use Rattle.sql_semantics.specs.Values.{number_given};
 ghost use Rattle.sql_literals.specs.Constant.{constant_value};
 
 use crate::constant::Constant;
@@ -39,7 +39,7 @@ fn magnitude(digits: &[u8]) -> u64
     number
 }
 
-#[tactic(auto, unfolding(sql_meaning::specs::Values::number_given))]
+#[tactic(auto, unfolding(sql_semantics::specs::Values::number_given))]
 fn positive(magnitude: u64) -> Constant
     ensures { constant_value result ≡ number_given (pos magnitude) }
 {
@@ -49,7 +49,7 @@ fn positive(magnitude: u64) -> Constant
     Constant::Number(magnitude as i64)
 }
 
-#[tactic(auto, unfolding(sql_meaning::specs::Values::number_given))]
+#[tactic(auto, unfolding(sql_semantics::specs::Values::number_given))]
 fn negative(magnitude: u64) -> Constant
     ensures { constant_value result ≡ number_given (neg_ℤ (pos magnitude)) }
 {

@@ -16,15 +16,15 @@ use Rattle.tables.specs.Tables.{Store, rows_of, schema_of}
 use Rattle.tables.specs.View.{is_sound}
 use Rattle.core_calls.specs.declared.sql_fault.SqlFault.{SqlFault}
 use Rattle.core_calls.specs.declared.sql_fault.SqlFault.TheVariants as fault
-use Rattle.sql_meaning.specs.Values.{literal_value, name_of}
-use Rattle.sql_meaning.specs.Checked.{Checked, and_then, if_none, unless}
-use Rattle.sql_meaning.specs.Classes.{filter_fault, selected_places}
-use Rattle.sql_meaning.specs.Insert.{first_misfit, given_row, new_row}
-use Rattle.sql_meaning.specs.Update.{targets, updated_row, updated_rows}
-use Rattle.sql_meaning.specs.Create.{defined_schema}
-use Rattle.sql_meaning.specs.Scope.{table_name}
-use Rattle.sql_meaning.specs.Meaning.{Answer, Changes, answer, answer_by, answered, concerns, absent_answer, create_answer, delete_answer, found_answer, meaning, put_answer, select_answer, update_answer, within_room}
-use Rattle.sql_meaning.specs.Frame.{In, changes_of}
+use Rattle.sql_semantics.specs.Values.{literal_value, name_of}
+use Rattle.sql_semantics.specs.Checked.{Checked, and_then, if_none, unless}
+use Rattle.sql_semantics.specs.Classes.{filter_fault, selected_places}
+use Rattle.sql_semantics.specs.Insert.{first_misfit, given_row, new_row}
+use Rattle.sql_semantics.specs.Update.{targets, updated_row, updated_rows}
+use Rattle.sql_semantics.specs.Create.{defined_schema}
+use Rattle.sql_semantics.specs.Scope.{table_name}
+use Rattle.sql_semantics.specs.Meaning.{Answer, Changes, answer, answer_by, answered, concerns, absent_answer, create_answer, delete_answer, found_answer, meaning, put_answer, select_answer, update_answer, within_room}
+use Rattle.sql_semantics.specs.Frame.{In, changes_of}
 
 abbrev Sounds : List Change → Type 0
 Sounds xs = (x : Change) → In x xs → is_sound x ≡ true

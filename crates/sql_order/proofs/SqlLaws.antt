@@ -12,10 +12,10 @@ use Rattle.tables.specs.Laws.{Created, NamesChange, Put, Removed, StoresAreKept,
 use Rattle.unit_locks.specs.Claim.{Claim}
 use Rattle.unit_locks.specs.Clash.{IsSymmetric, clash}
 use Rattle.unit_locks.specs.Claims.{AddsClaims, In as InClaims, all_added}
-use Rattle.sql_meaning.specs.Scope.{claims, scope, table_name}
-use Rattle.sql_meaning.specs.Meaning.{meaning}
-use Rattle.sql_meaning.specs.Frame.{Agree, FrameLaw, HasKey, InWrite, Lies, Same, Within as LiesIn, changes_of, claims_in}
-use Rattle.unit_order.specs.Words.{AllWithin, Fewer, In, Laws, apply_all}
+use Rattle.sql_semantics.specs.Scope.{claims, scope, table_name}
+use Rattle.sql_semantics.specs.Meaning.{meaning}
+use Rattle.sql_semantics.specs.Frame.{Agree, FrameLaw, HasKey, InWrite, Lies, Same, Within as LiesIn, changes_of, claims_in}
+use Rattle.serializability.specs.Words.{AllWithin, Fewer, In, Laws, apply_all}
 use Rattle.sql_order.specs.SqlWords.{Call, Describe, Run, Seen, Told, Unfit, Within, bytes_left, call_answer, call_changes, call_claims, described_claims, sql_words}
 use Rattle.sql_order.proofs.Steady.{Grows, Shows, foreign_change, grows_apply, of_frame, own_change, same_bytes, to_frame, which}
 use Rattle.sql_order.proofs.Sound.{meaning_sound}

@@ -12,9 +12,9 @@ use Rattle.tables.specs.Laws.{Created, NamesChange, Put, Removed, TableCreated, 
 use Rattle.unit_locks.specs.Claim.{Claim}
 use Rattle.unit_locks.specs.Clash.{overlap}
 use Rattle.unit_locks.specs.declared.access.Access.TheVariants.{Write}
-use Rattle.sql_meaning.specs.Scope.{claim, star}
-use Rattle.sql_meaning.specs.Frame.{Covered, HasKey, In as InFrame, InWrite, Same, Within as LiesIn}
-use Rattle.unit_order.specs.Words.{Apart, In}
+use Rattle.sql_semantics.specs.Scope.{claim, star}
+use Rattle.sql_semantics.specs.Frame.{Covered, HasKey, In as InFrame, InWrite, Same, Within as LiesIn}
+use Rattle.serializability.specs.Words.{Apart, In}
 use Rattle.sql_order.specs.SqlWords.{sql_words}
 
 pub itself : (a : List ℕ) → bytes_eq a a ≡ true

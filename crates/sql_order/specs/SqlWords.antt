@@ -12,10 +12,10 @@ use Rattle.unit_locks.specs.Clash.{clash}
 use Rattle.unit_locks.specs.Claims.{all_added}
 use Rattle.unit_locks.specs.declared.access.Access.TheVariants.{Read}
 use Rattle.core_calls.specs.declared.sql_fault.SqlFault.{SqlFault}
-use Rattle.sql_meaning.specs.Scope.{claim, table_name}
-use Rattle.sql_meaning.specs.Meaning.{Answer as Meant, Refused, meaning}
-use Rattle.sql_meaning.specs.Frame.{Within as LiesIn, changes_of, claims_in}
-use Rattle.unit_order.specs.Words.{Words}
+use Rattle.sql_semantics.specs.Scope.{claim, table_name}
+use Rattle.sql_semantics.specs.Meaning.{Answer as Meant, Refused, meaning}
+use Rattle.sql_semantics.specs.Frame.{Within as LiesIn, changes_of, claims_in}
+use Rattle.serializability.specs.Words.{Words}
 
 pub data Call : Type 0 where
   -- a statement with the values of its markers

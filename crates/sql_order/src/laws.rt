@@ -1,12 +1,12 @@
 //! Laws of the definitions. The functions do nothing: their contracts are the laws.
 
-ghost use Rattle.unit_order.specs.Serial.{SerialOrder};
-ghost use Rattle.unit_order.specs.Steps.{EventsKeep, LogsAreBeside, SerialOrderOf};
-ghost use Rattle.unit_order.specs.Prepared.{prepared_units};
-ghost use Rattle.unit_order.specs.UnitList.{unit_list};
+ghost use Rattle.serializability.specs.Serial.{SerialOrder};
+ghost use Rattle.serializability.specs.Steps.{EventsKeep, LogsAreBeside, SerialOrderOf};
+ghost use Rattle.serializability.specs.Prepared.{prepared_units};
+ghost use Rattle.serializability.specs.UnitList.{unit_list};
 ghost use Rattle.sql_order.specs.SqlWords.{sql_words};
 
-use sql_meaning::laws::statements_are_framed;
+use sql_semantics::laws::statements_are_framed;
 use tables::laws::{changes_are_local, changes_make_tables};
 use unit_locks::{adding, clash_is_symmetric};
 

@@ -11,13 +11,13 @@ use Rattle.row_values.proofs.ValueLaws.{both_true, first_true, second_true}
 use Rattle.tables.specs.Laws.{FoundAreRows, Put, Removed, TablesAreTables}
 use Rattle.tables.specs.Tables.{Store, schema_of}
 use Rattle.tables.specs.View.{is_store}
-use Rattle.sql_meaning.specs.Values.{literal_value, name_of}
-use Rattle.sql_meaning.specs.Classes.{filter_fault, selected_places}
-use Rattle.sql_meaning.specs.Create.{defined_schema}
-use Rattle.sql_meaning.specs.Scope.{scope, table_name}
-use Rattle.sql_meaning.specs.Meaning.{answer, concerns}
-use Rattle.sql_meaning.specs.Frame.{changes_of, covered_answer, rows_covered, tables_covered}
-use Rattle.core_steps.specs.Asked.{running, querying, describing}
+use Rattle.sql_semantics.specs.Values.{literal_value, name_of}
+use Rattle.sql_semantics.specs.Classes.{filter_fault, selected_places}
+use Rattle.sql_semantics.specs.Create.{defined_schema}
+use Rattle.sql_semantics.specs.Scope.{scope, table_name}
+use Rattle.sql_semantics.specs.Meaning.{answer, concerns}
+use Rattle.sql_semantics.specs.Frame.{changes_of, covered_answer, rows_covered, tables_covered}
+use Rattle.core_model.specs.Asked.{running, querying, describing}
 use Rattle.sql_places.specs.Places.{ArePlaced, ChangesHavePlaces}
 use Rattle.sql_places.proofs.Stores.{covered_rows, schema_good, table_named}
 use Rattle.sql_places.proofs.Checking.{make_none, make_then, nothing}

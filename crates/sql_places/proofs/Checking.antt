@@ -4,9 +4,9 @@ use Rattle.std.specs.Prelude.{nat_le}
 use Rattle.std.specs.List.{flat_map}
 use Rattle.tables.specs.Change.{Change, change_bytes}
 use Rattle.tables.specs.Tables.{Store}
-use Rattle.sql_meaning.specs.Checked.{Checked, and_then, if_none, unless}
-use Rattle.sql_meaning.specs.Meaning.{Answer, Changes, answered, within_room}
-use Rattle.sql_meaning.specs.Frame.{changes_of}
+use Rattle.sql_semantics.specs.Checked.{Checked, and_then, if_none, unless}
+use Rattle.sql_semantics.specs.Meaning.{Answer, Changes, answered, within_room}
+use Rattle.sql_semantics.specs.Frame.{changes_of}
 use Rattle.core_calls.specs.declared.sql_fault.SqlFault.{SqlFault}
 use Rattle.core_calls.specs.declared.sql_fault.SqlFault.TheVariants as fault
 use Rattle.sql_places.specs.Places.{ArePlaced}

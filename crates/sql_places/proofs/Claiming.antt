@@ -9,10 +9,10 @@ use Rattle.tables.specs.View.{is_store}
 use Rattle.unit_locks.specs.Claim.{Claim}
 use Rattle.unit_locks.specs.Claims.{In}
 use Rattle.unit_locks.specs.declared.access.Access.TheVariants.{Write}
-use Rattle.sql_meaning.specs.Scope.{claim, star}
-use Rattle.sql_meaning.specs.Frame.{In as Among, CoveredIsEnough, Lies, changes_of, claims_in, covered_answer}
-use Rattle.core_steps.specs.Asked.{running, querying, describing}
-use Rattle.durable_units.specs.Places.{creates_none}
+use Rattle.sql_semantics.specs.Scope.{claim, star}
+use Rattle.sql_semantics.specs.Frame.{In as Among, CoveredIsEnough, Lies, changes_of, claims_in, covered_answer}
+use Rattle.core_model.specs.Asked.{running, querying, describing}
+use Rattle.recovery.specs.Places.{creates_none}
 use Rattle.sql_places.specs.Places.{CreationsClaimNames}
 
 -- some change creates a table

@@ -5,10 +5,10 @@ use Rattle.row_values.specs.Schema.{Schema, is_name, is_schema}
 use Rattle.row_values.proofs.ValueLaws.{both_true}
 use Rattle.tables.specs.Change.{create}
 use Rattle.tables.specs.Tables.{Store, schema_of}
-use Rattle.sql_meaning.specs.Meaning.{create_answer, within_room}
-use Rattle.sql_meaning.specs.Checked.{unless}
+use Rattle.sql_semantics.specs.Meaning.{create_answer, within_room}
+use Rattle.sql_semantics.specs.Checked.{unless}
 use Rattle.core_calls.specs.declared.sql_fault.SqlFault.TheVariants as fault
-use Rattle.durable_units.specs.Durable.{has_place}
+use Rattle.recovery.specs.Durable.{has_place}
 use Rattle.sql_places.specs.Places.{ArePlaced}
 use Rattle.sql_places.proofs.Checking.{Makes, make_if, make_room}
 

@@ -10,8 +10,8 @@ use Rattle.row_values.proofs.ValueLaws.{first_true, second_true}
 use Rattle.tables.specs.Change.{remove}
 use Rattle.tables.specs.Laws.{Put, Removed}
 use Rattle.tables.specs.Tables.{Store, schema_of}
-use Rattle.sql_meaning.specs.Classes.{filter_fault}
-use Rattle.sql_meaning.specs.Meaning.{delete_answer}
+use Rattle.sql_semantics.specs.Classes.{filter_fault}
+use Rattle.sql_semantics.specs.Meaning.{delete_answer}
 use Rattle.sql_places.proofs.Rows.{key_length, key_of_row}
 use Rattle.sql_places.proofs.Placing.{OfTable, rows_placed}
 use Rattle.sql_places.proofs.Checking.{Makes, make_none, make_room}

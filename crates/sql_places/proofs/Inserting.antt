@@ -8,9 +8,9 @@ use Rattle.row_values.specs.Row.{all_fit, is_row, row_bytes}
 use Rattle.tables.specs.Change.{put}
 use Rattle.tables.specs.Laws.{Put, Removed}
 use Rattle.tables.specs.Tables.{Store, schema_of}
-use Rattle.sql_meaning.specs.Checked.{unless}
-use Rattle.sql_meaning.specs.Insert.{first_misfit, given_row, new_row}
-use Rattle.sql_meaning.specs.Meaning.{insert_answer, put_answer, within_room}
+use Rattle.sql_semantics.specs.Checked.{unless}
+use Rattle.sql_semantics.specs.Insert.{first_misfit, given_row, new_row}
+use Rattle.sql_semantics.specs.Meaning.{insert_answer, put_answer, within_room}
 use Rattle.core_calls.specs.declared.sql_fault.SqlFault.TheVariants as fault
 use Rattle.sql_places.proofs.Rows.{row_good}
 use Rattle.sql_places.proofs.Placing.{rows_placed}

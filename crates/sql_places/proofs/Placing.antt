@@ -10,7 +10,7 @@ use Rattle.tables.specs.Change.{Change, create, put, remove}
 use Rattle.tables.specs.Tables.{Store, apply, schema_of}
 use Rattle.tables.specs.Laws.{Put, Removed}
 use Rattle.unit_records.specs.Records.{IsChange}
-use Rattle.durable_units.specs.Durable.{fits_in, has_place, have_places}
+use Rattle.recovery.specs.Durable.{fits_in, has_place, have_places}
 use Rattle.sql_places.specs.Places.{ArePlaced}
 use Rattle.sql_places.proofs.Rows.{row_length}
 

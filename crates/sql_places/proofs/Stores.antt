@@ -16,8 +16,8 @@ use Rattle.tables.specs.View.{is_entry, is_store, is_table}
 use Rattle.tables.specs.Laws.{FoundAreRows, TablesAreTables}
 use Rattle.tables.proofs.Finding.{same_bytes}
 use Rattle.tables.proofs.Keeping.{parts}
-use Rattle.sql_meaning.specs.Scope.{All, Names, One, Scope}
-use Rattle.sql_meaning.specs.Frame.{rows_covered}
+use Rattle.sql_semantics.specs.Scope.{All, Names, One, Scope}
+use Rattle.sql_semantics.specs.Frame.{rows_covered}
 
 -- ---- its name
 

@@ -10,10 +10,10 @@ use Rattle.row_values.specs.Row.{is_row, values_in}
 use Rattle.tables.specs.Change.{Change, put}
 use Rattle.tables.specs.Laws.{Put, Removed}
 use Rattle.tables.specs.Tables.{Store, schema_of}
-use Rattle.sql_meaning.specs.Classes.{filter_fault}
-use Rattle.sql_meaning.specs.Insert.{new_row}
-use Rattle.sql_meaning.specs.Update.{set_all, targets, updated_row, updated_rows}
-use Rattle.sql_meaning.specs.Meaning.{update_answer, within_room}
+use Rattle.sql_semantics.specs.Classes.{filter_fault}
+use Rattle.sql_semantics.specs.Insert.{new_row}
+use Rattle.sql_semantics.specs.Update.{set_all, targets, updated_row, updated_rows}
+use Rattle.sql_semantics.specs.Meaning.{update_answer, within_room}
 use Rattle.sql_places.proofs.Placing.{OfTable, rows_placed}
 use Rattle.sql_places.proofs.Checking.{Makes, make_none, make_room, make_then, ok_inside, then_ok}
 use Rattle.sql_places.proofs.Inserting.{new_row_good}

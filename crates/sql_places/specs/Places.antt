@@ -6,11 +6,11 @@ use Rattle.tables.specs.Tables.{Store}
 use Rattle.tables.specs.View.{is_store}
 use Rattle.unit_locks.specs.Claims.{In}
 use Rattle.unit_locks.specs.declared.access.Access.TheVariants.{Write}
-use Rattle.sql_meaning.specs.Scope.{claim, star}
-use Rattle.core_steps.specs.Asked.{Question, changes_by, claims_of}
+use Rattle.sql_semantics.specs.Scope.{claim, star}
+use Rattle.core_model.specs.Asked.{Question, changes_by, claims_of}
 use Rattle.unit_records.specs.Records.{IsChange}
-use Rattle.durable_units.specs.Durable.{have_places}
-use Rattle.durable_units.specs.Places.{creates_none}
+use Rattle.recovery.specs.Durable.{have_places}
+use Rattle.recovery.specs.Places.{creates_none}
 
 -- what a question changes has its places in what it sees, and can be written
 pub record ArePlaced (changes : List Change) (v : Store) : Type 0 where

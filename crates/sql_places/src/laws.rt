@@ -2,7 +2,7 @@
 
 ghost use Rattle.sql_places.specs.Places.{ChangesHavePlaces, CreationsClaimNames};
 
-use sql_meaning::laws::statements_are_framed;
+use sql_semantics::laws::statements_are_framed;
 use tables::laws::{changes_are_local, stores_hold_tables};
 
 /// Each change that a question of a unit makes has its place behind those before it, in the store that it

@@ -8,9 +8,9 @@ use Rattle.sql_text.specs.declared.tree.Assignment.{Assignment}
 use Rattle.row_values.specs.Value.{Value}
 use Rattle.row_values.specs.Column.{Column}
 use Rattle.core_calls.specs.declared.sql_fault.SqlFault.{SqlFault}
-use Rattle.sql_meaning.specs.Checked.{Checked, and_then, fault_in, if_none}
-use Rattle.sql_meaning.specs.Values.{column_place}
-use Rattle.sql_meaning.specs.Update.{new_target, place_fault, set_all, sum_fault, sum_value, targets}
+use Rattle.sql_semantics.specs.Checked.{Checked, and_then, fault_in, if_none}
+use Rattle.sql_semantics.specs.Values.{column_place}
+use Rattle.sql_semantics.specs.Update.{new_target, place_fault, set_all, sum_fault, sum_value, targets}
 use Rattle.sql_updates.specs.Assigned.{all_set, assigned, places, total}
 use Rattle.sql_updates.specs.declared.sum.BoundSum.{BoundSum}
 use Rattle.sql_updates.specs.declared.target.Target.{Target}

@@ -1,7 +1,7 @@
 -- Checks in their order.
 use Rattle.std.proofs.Common.{◌≡◌, List, [], ◌∷◌, ◌++◌, Option, Some, None, Ok, Err, refl, ap, append_assoc}
 use Rattle.core_calls.specs.declared.sql_fault.SqlFault.{SqlFault}
-use Rattle.sql_meaning.specs.Checked.{Checked, and_then, fault_in, if_none}
+use Rattle.sql_semantics.specs.Checked.{Checked, and_then, fault_in, if_none}
 
 pub then_then : (A B C : Type 0) (f : A → Checked B) (g : B → Checked C) (r : Checked A) → and_then {A = B} {B = C} (and_then {A = A} {B = B} r f) g ≡ and_then {A = A} {B = C} r (λ x. and_then {A = B} {B = C} (f x) g)
 then_then A B C f g (Ok x) = refl

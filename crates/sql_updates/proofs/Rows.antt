@@ -16,8 +16,8 @@ use Rattle.core_calls.specs.declared.sql_fault.SqlFault.{SqlFault}
 use Rattle.sql_literals.specs.declared.error.StatementError.{StatementError}
 use Rattle.sql_literals.specs.declared.error.StatementError.TheVariants as statement
 use Rattle.sql_literals.specs.Refused.{fault_of}
-use Rattle.sql_meaning.specs.Checked.{Checked, and_then}
-use Rattle.sql_meaning.specs.Update.{updated_row, updated_rows}
+use Rattle.sql_semantics.specs.Checked.{Checked, and_then}
+use Rattle.sql_semantics.specs.Update.{updated_row, updated_rows}
 use Rattle.sql_updates.specs.Assigned.{StandFor}
 use Rattle.sql_updates.specs.declared.target.Targets.{Targets}
 use Rattle.sql_updates.proofs.Checks.{joins, then_then}

@@ -12,10 +12,10 @@ use Rattle.core_calls.specs.declared.sql_fault.SqlFault.{SqlFault}
 use Rattle.core_calls.specs.declared.sql_fault.SqlFault.TheVariants as fault
 use Rattle.sql_filters.specs.declared.operand.Operand.{Operand}
 use Rattle.sql_filters.specs.Test.{operand_value}
-use Rattle.sql_meaning.specs.Checked.{Checked, and_then, fault_in, first_fault}
-use Rattle.sql_meaning.specs.Classes.{column_class, same_class, term_class}
-use Rattle.sql_meaning.specs.Values.{term_value}
-use Rattle.sql_meaning.specs.Update.{class_fault, number_class, sum_fault, sum_from, summed}
+use Rattle.sql_semantics.specs.Checked.{Checked, and_then, fault_in, first_fault}
+use Rattle.sql_semantics.specs.Classes.{column_class, same_class, term_class}
+use Rattle.sql_semantics.specs.Values.{term_value}
+use Rattle.sql_semantics.specs.Update.{class_fault, number_class, sum_fault, sum_from, summed}
 use Rattle.sql_updates.specs.Assigned.{summed_from}
 use Rattle.sql_updates.specs.Faults.{addend_terms, classes_fault, names_fault, type_fault}
 use Rattle.sql_updates.specs.declared.sum.BoundAddend.{BoundAddend}

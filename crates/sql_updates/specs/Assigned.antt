@@ -4,8 +4,8 @@ use Rattle.std.specs.List.{slice_get}
 use Rattle.sql_text.specs.declared.tree.Sum.{Sum}
 use Rattle.row_values.specs.Value.{Value}
 use Rattle.row_values.specs.Column.{Column}
-use Rattle.sql_meaning.specs.Checked.{Checked, and_then, if_none}
-use Rattle.sql_meaning.specs.Update.{place_fault, set_all, summed}
+use Rattle.sql_semantics.specs.Checked.{Checked, and_then, if_none}
+use Rattle.sql_semantics.specs.Update.{place_fault, set_all, summed}
 use Rattle.sql_filters.specs.Test.{operand_value}
 use Rattle.sql_updates.specs.declared.sum.BoundAddend.{BoundAddend}
 use Rattle.sql_updates.specs.declared.sum.BoundSum.{BoundSum}

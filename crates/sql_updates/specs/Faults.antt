@@ -4,9 +4,9 @@ use Rattle.sql_text.specs.declared.tree.Term.{Term}
 use Rattle.sql_text.specs.declared.tree.Addend.{Addend}
 use Rattle.row_values.specs.Value.{Value}
 use Rattle.row_values.specs.Column.{Column}
-use Rattle.sql_meaning.specs.Checked.{fault_in, first_fault}
-use Rattle.sql_meaning.specs.Classes.{term_class}
-use Rattle.sql_meaning.specs.Update.{number_class}
+use Rattle.sql_semantics.specs.Checked.{fault_in, first_fault}
+use Rattle.sql_semantics.specs.Classes.{term_class}
+use Rattle.sql_semantics.specs.Update.{number_class}
 use Rattle.core_calls.specs.declared.sql_fault.SqlFault.{SqlFault}
 use Rattle.core_calls.specs.declared.sql_fault.SqlFault.TheVariants as fault
 

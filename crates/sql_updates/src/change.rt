@@ -8,9 +8,9 @@ ghost use Rattle.row_values.specs.Value.{Value as SqlValue};
 ghost use Rattle.sql_text.specs.declared.tree.Sum.{Sum as SqlSum};
 ghost use Rattle.tables.specs.Change.{put as put_change};
 ghost use Rattle.tables.specs.ChangeView.{change_of};
-ghost use Rattle.sql_meaning.specs.Checked.{and_then};
-ghost use Rattle.sql_meaning.specs.Meaning.{Changes, within_room};
-ghost use Rattle.sql_meaning.specs.Update.{updated_row, updated_rows};
+ghost use Rattle.sql_semantics.specs.Checked.{and_then};
+ghost use Rattle.sql_semantics.specs.Meaning.{Changes, within_room};
+ghost use Rattle.sql_semantics.specs.Update.{updated_row, updated_rows};
 ghost use Rattle.sql_literals.specs.Refused.{fault_of};
 ghost use Rattle.sql_updates.specs.Assigned.{StandFor};
 

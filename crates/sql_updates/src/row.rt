@@ -7,7 +7,7 @@ ghost use Rattle.row_values.specs.Column.{column_of};
 ghost use Rattle.row_values.specs.Row.{values_in};
 ghost use Rattle.row_values.specs.RowView.{row_in, schema_in};
 ghost use Rattle.row_values.specs.Value.{value_of};
-ghost use Rattle.sql_meaning.specs.Update as update;
+ghost use Rattle.sql_semantics.specs.Update as update;
 ghost use Rattle.sql_literals.specs.Refused.{fault_of};
 ghost use Rattle.sql_updates.specs.Assigned.{all_set, assigned};
 

@@ -4,8 +4,8 @@ ghost use Rattle.std.specs.Prelude.{◌≡◌, ◌&&◌, ◌||◌, ◌==◌, IfO
 ghost use Rattle.std.specs.List.{slice_get};
 ghost use Rattle.row_values.specs.Column.{column_of};
 ghost use Rattle.row_values.specs.Value.{Value as SqlValue, value_of};
-ghost use Rattle.sql_meaning.specs.Classes.{column_class};
-ghost use Rattle.sql_meaning.specs.Update as update;
+ghost use Rattle.sql_semantics.specs.Classes.{column_class};
+ghost use Rattle.sql_semantics.specs.Update as update;
 ghost use Rattle.sql_filters.specs.Binding.{RefusedFor};
 ghost use Rattle.sql_updates.specs.Assigned.{summed_from, total};
 ghost use Rattle.sql_updates.specs.Faults.{addend_terms, classes_fault, names_fault, type_fault};

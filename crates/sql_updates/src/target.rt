@@ -5,8 +5,8 @@ ghost use Rattle.std.specs.List.{list_any};
 ghost use Rattle.row_values.specs.Column.{column_of};
 ghost use Rattle.row_values.specs.Value.{value_of};
 ghost use Rattle.sql_text.specs.declared.tree.Sum.{Sum as SqlSum};
-ghost use Rattle.sql_meaning.specs.Checked.{fault_in};
-ghost use Rattle.sql_meaning.specs.Update as update;
+ghost use Rattle.sql_semantics.specs.Checked.{fault_in};
+ghost use Rattle.sql_semantics.specs.Update as update;
 ghost use Rattle.sql_filters.specs.Binding.{RefusedFor};
 ghost use Rattle.sql_updates.specs.Assigned.{StandFor, places};
 

@@ -13,8 +13,8 @@ use Rattle.row_values.specs.Key.{is_key, key_cmp, row_key}
 use Rattle.row_values.proofs.KeyOrder.{key_by_values, key_exact, key_itself}
 use Rattle.row_values.proofs.ValueLaws.{values_at-is}
 use Rattle.ordered_rows.specs.Slots.{by_bytes, by_key}
-use Rattle.sort_forms.specs.SortForm.{KeysKeepOrder, sort_form}
-use Rattle.sort_forms.proofs.Values.{keys_keep_order}
+use Rattle.sortable_keys.specs.SortForm.{KeysKeepOrder, sort_form}
+use Rattle.sortable_keys.proofs.Values.{keys_keep_order}
 use Rattle.tables.proofs.Finding.{itself, same_bytes}
 use Rattle.table_store.specs.Stored.{HaveForms, IsFormOf, at_keys}
 

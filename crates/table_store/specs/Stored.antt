@@ -7,7 +7,7 @@ use Rattle.ordered_rows.specs.Slots.{HasRoom, Slots, rows_of}
 use Rattle.row_values.specs.Schema.{Schema}
 use Rattle.row_values.specs.Row.{is_row}
 use Rattle.row_values.specs.Key.{is_key, row_key}
-use Rattle.sort_forms.specs.SortForm.{sort_form}
+use Rattle.sortable_keys.specs.SortForm.{sort_form}
 use Rattle.tables.specs.Tables.{Table}
 
 -- a table that is created, or that is held ready to be

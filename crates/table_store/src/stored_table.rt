@@ -10,7 +10,7 @@ ghost use Rattle.table_store.specs.Stored.{FormsKey, FormsRow, HasRoomFor, IsFor
 
 use ordered_rows::OrderedRows;
 use row_values::{RowRef, Schema, is_key};
-use sort_forms::sort_form;
+use sortable_keys::sort_form;
 use std::alloc::{AllocError, Global};
 use std::marker::Model;
 use std::sync::Arc;

@@ -6,7 +6,7 @@ use Rattle.std.specs.Cmp.{eq_by_cmp_equiv}
 use Rattle.row_values.specs.Schema.{Schema}
 use Rattle.row_values.specs.Key.{is_key, key_cmp}
 use Rattle.row_values.specs.Laws.{KeysAreOrdered}
-use Rattle.sort_forms.specs.SortForm.{KeysKeepOrder, sort_form}
+use Rattle.sortable_keys.specs.SortForm.{KeysKeepOrder, sort_form}
 use Rattle.ordered_rows.specs.Slots.{by_key}
 use Rattle.key_map.specs.Merging.{Changes, InOrder, MergedAt, MergedInOrder, Rows, changed}
 use Rattle.unit_changes.specs.UnitTable.{IsKey, all_changed}

@@ -8,7 +8,7 @@ use Rattle.row_values.specs.Schema.{Schema, are_columns, can_be_key, is_key_of, 
 use Rattle.row_values.specs.Value.{Value}
 use Rattle.row_values.specs.Row.{is_row, value_at, values_at}
 use Rattle.row_values.specs.Key.{row_key}
-use Rattle.sort_forms.specs.SortForm.{sort_form}
+use Rattle.sortable_keys.specs.SortForm.{sort_form}
 use Rattle.key_map.specs.Merging.{Changes}
 use Rattle.key_map.specs.Overlay.{said}
 use Rattle.unit_changes.specs.declared.key_change.KeyChange.{KeyChange}

@@ -14,7 +14,7 @@ use key_map::Overlay;
 use key_map::laws::changes_win;
 use row_values::Schema;
 use row_values::laws::keys_are_ordered;
-use sort_forms::laws::forms_keep_order;
+use sortable_keys::laws::forms_keep_order;
 use std::alloc::{AllocError, Global};
 use std::sync::Arc;
 use tables::laws::{changes_are_local, changes_make_tables};

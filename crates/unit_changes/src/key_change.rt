@@ -10,7 +10,7 @@ ghost use Rattle.unit_changes.specs.UnitTable.{SaysKeys, said_by};
 
 use crate::bytes::see_bytes;
 use row_values::{RowRef, Schema, is_key};
-use sort_forms::sort_form;
+use sortable_keys::sort_form;
 use std::alloc::{AllocError, Global};
 use tables::{Action, Change};
 

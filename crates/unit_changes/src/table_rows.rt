@@ -3,7 +3,7 @@
 ghost use Rattle.std.specs.Prelude.{◌≡◌, ◌++◌, IfOk, List, OnOk, map, ℕ};
 ghost use Rattle.std.specs.Map.{values_of};
 ghost use Rattle.row_values.specs.Key.{row_key};
-ghost use Rattle.sort_forms.specs.SortForm.{sort_form};
+ghost use Rattle.sortable_keys.specs.SortForm.{sort_form};
 ghost use Rattle.key_map.specs.Merging.{InOrder, keyed};
 ghost use Rattle.key_map.specs.Overlay.{changes_of, said};
 ghost use Rattle.unit_changes.specs.UnitTable.{IsKey};
@@ -12,7 +12,7 @@ ghost use Rattle.unit_changes.specs.TableRows.{HaveRowKeys, by_forms, formed_of,
 use crate::bytes::see_bytes;
 use key_map::Overlay;
 use row_values::{RowRef, Schema};
-use sort_forms::sort_form;
+use sortable_keys::sort_form;
 use std::alloc::{AllocError, Global};
 use tables::Rows;
 

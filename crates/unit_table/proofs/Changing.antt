@@ -5,11 +5,11 @@ use Rattle.std.specs.List.{insert, remove}
 use Rattle.tables.specs.Change.{Change}
 use Rattle.unit_locks.specs.Claim.{Claim}
 use Rattle.unit_locks.specs.Claims.{all_added, claims_of}
-use Rattle.core_steps.specs.Units.{Held, Owner, Work, has_any, has_work, idle, is_full, set_unit, unit_of, with_unit, without}
-use Rattle.core_steps.specs.Asked.{kept}
-use Rattle.core_steps.specs.Laws.{AreListed}
-use Rattle.core_steps.proofs.Owners.{both, which}
-use Rattle.core_steps.proofs.Listing.{listed_set, listed_without}
+use Rattle.core_model.specs.Units.{Held, Owner, Work, has_any, has_work, idle, is_full, set_unit, unit_of, with_unit, without}
+use Rattle.core_model.specs.Asked.{kept}
+use Rattle.core_model.specs.Laws.{AreListed}
+use Rattle.core_model.proofs.Owners.{both, which}
+use Rattle.core_model.proofs.Listing.{listed_set, listed_without}
 use Rattle.unit_table.specs.declared.entry.Entry.{Entry}
 use Rattle.unit_table.specs.declared.keep_error.KeepError.{KeepError}
 use Rattle.unit_table.specs.declared.keep_error.KeepError.TheVariants as error

@@ -5,9 +5,9 @@ use Rattle.std.specs.List.{insert, remove}
 use Rattle.std.proofs.lemmas.Bool.{eqb-true}
 use Rattle.unit_locks.specs.Claim.{Claim}
 use Rattle.unit_locks.specs.Claims.{claims_of}
-use Rattle.core_steps.specs.Units.{Held, Owner, comes_before, with_unit, without}
-use Rattle.core_steps.specs.Laws.{AreListed, ComesFirst}
-use Rattle.core_steps.proofs.Owners.{both, which}
+use Rattle.core_model.specs.Units.{Held, Owner, comes_before, with_unit, without}
+use Rattle.core_model.specs.Laws.{AreListed, ComesFirst}
+use Rattle.core_model.proofs.Owners.{both, which}
 use Rattle.unit_table.specs.declared.entry.Entry.{Entry}
 use Rattle.unit_table.specs.Owner.{plain_owner}
 use Rattle.unit_table.specs.Table.{AreNumbered, IsAt, IsGapFor, held, held_by, is_given}

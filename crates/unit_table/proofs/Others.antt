@@ -6,10 +6,10 @@ use Rattle.std.proofs.lemmas.List.Folds.{list_any-append}
 use Rattle.unit_locks.specs.Claim.{Claim}
 use Rattle.unit_locks.specs.Claims.{ClashesWith, ClashesWithNone, claims_of}
 use Rattle.unit_locks.specs.Clash.{clash}
-use Rattle.core_steps.specs.Units.{Owner, others, same_owner}
-use Rattle.core_steps.specs.Laws.{AreListed, ComesFirst}
-use Rattle.core_steps.proofs.Owners.{both, which}
-use Rattle.core_steps.proofs.Listing.{not_first}
+use Rattle.core_model.specs.Units.{Owner, others, same_owner}
+use Rattle.core_model.specs.Laws.{AreListed, ComesFirst}
+use Rattle.core_model.proofs.Owners.{both, which}
+use Rattle.core_model.proofs.Listing.{not_first}
 use Rattle.unit_table.specs.declared.entry.Entry.{Entry}
 use Rattle.unit_table.specs.Owner.{plain_owner}
 use Rattle.unit_table.specs.Table.{AreKept, AreNumbered, IsAt, IsGapFor, IsNumberOf, held, is_given}

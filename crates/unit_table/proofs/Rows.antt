@@ -3,10 +3,10 @@ use Rattle.std.proofs.Common.{◌≡◌, ◌<◌, ◌≤◌, ℕ, zero, suc, tru
 use Rattle.std.specs.Prelude.{if◌then◌else◌}
 use Rattle.std.specs.List.{insert, remove}
 use Rattle.unit_locks.specs.Claim.{Claim}
-use Rattle.core_steps.specs.Units.{Held, Owner, comes_before, idle, same_owner, unit_of, with_unit, without}
-use Rattle.core_steps.specs.Laws.{AreListed, ComesFirst}
-use Rattle.core_steps.proofs.Owners.{owners_same}
-use Rattle.core_steps.proofs.Listing.{first_through, none_of_first, not_first}
+use Rattle.core_model.specs.Units.{Held, Owner, comes_before, idle, same_owner, unit_of, with_unit, without}
+use Rattle.core_model.specs.Laws.{AreListed, ComesFirst}
+use Rattle.core_model.proofs.Owners.{owners_same}
+use Rattle.core_model.proofs.Listing.{first_through, none_of_first, not_first}
 use Rattle.unit_table.specs.declared.entry.Entry.{Entry}
 use Rattle.unit_table.specs.Owner.{plain_owner}
 use Rattle.unit_table.specs.Table.{IsAt, IsGapFor, held, held_by}

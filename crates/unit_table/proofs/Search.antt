@@ -1,6 +1,6 @@
 -- The search for the place of an owner's unit, from the front on.
 use Rattle.std.proofs.Common.{◌≡◌, ℕ, suc, ◌+◌, ◌≤◌, false, true, zero, List, [], ◌∷◌, length, drop, get_or, refl, sym, ◌∙◌, ap, subst, arith, ◌<◌}
-use Rattle.core_steps.specs.Units.{Owner, comes_before, same_owner}
+use Rattle.core_model.specs.Units.{Owner, comes_before, same_owner}
 use Rattle.unit_table.specs.declared.entry.Entry.{Entry}
 use Rattle.unit_table.specs.Owner.{plain_owner}
 use Rattle.unit_table.specs.Table.{IsAt, IsGapFor}

@@ -3,8 +3,8 @@ use Rattle.std.specs.Prelude.{◌≡◌, true, false, List, Result, Ok, Err}
 use Rattle.tables.specs.Change.{Change}
 use Rattle.unit_locks.specs.Claim.{Claim}
 use Rattle.unit_locks.specs.Claims.{all_added}
-use Rattle.core_steps.specs.Units.{Held, Owner, is_full, set_unit, unit_of}
-use Rattle.core_steps.specs.Asked.{kept}
+use Rattle.core_model.specs.Units.{Held, Owner, is_full, set_unit, unit_of}
+use Rattle.core_model.specs.Asked.{kept}
 use Rattle.unit_table.specs.declared.keep_error.KeepError.{KeepError}
 use Rattle.unit_table.specs.declared.keep_error.KeepError.TheVariants as error
 

@@ -1,7 +1,7 @@
 -- A unit as plain lists.
 use Rattle.std.specs.Prelude.{map}
 use Rattle.tables.specs.ChangeView.{change_of}
-use Rattle.core_steps.specs.Units.{Held}
+use Rattle.core_model.specs.Units.{Held}
 use Rattle.unit_table.specs.Owner.{plain_owner}
 use Rattle.unit_table.specs.declared.plain.PlainUnit.{PlainUnit}
 

@@ -2,8 +2,8 @@
 use Rattle.std.specs.Prelude.{◌≡◌, ℕ, zero, suc, ◌==◌, ◌||◌, Bool, true, false, List, [], ◌∷◌, map}
 use Rattle.unit_locks.specs.Claim.{Claim}
 use Rattle.unit_locks.specs.Claims.{claims_of}
-use Rattle.core_steps.specs.Units.{Held, Owner, comes_before, same_owner}
-use Rattle.core_steps.specs.Laws.{AreListed}
+use Rattle.core_model.specs.Units.{Held, Owner, comes_before, same_owner}
+use Rattle.core_model.specs.Laws.{AreListed}
 use Rattle.unit_table.specs.declared.entry.Entry.{Entry}
 use Rattle.unit_table.specs.Owner.{plain_owner}
 

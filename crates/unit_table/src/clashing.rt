@@ -3,7 +3,7 @@
 ghost use Rattle.std.specs.Prelude.{◌≡◌};
 ghost use Rattle.std.specs.List.{list_any};
 ghost use Rattle.unit_locks.specs.Clash.{clash};
-ghost use Rattle.core_steps.specs.Units.{clashes, others};
+ghost use Rattle.core_model.specs.Units.{clashes, others};
 ghost use Rattle.unit_table.specs.Owner.{plain_owner};
 ghost use Rattle.unit_table.specs.Table.{AreKept, IsNumberOf, held};
 

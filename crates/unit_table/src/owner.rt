@@ -1,7 +1,7 @@
 //! Who owns a unit.
 
 ghost use Rattle.std.specs.Prelude.{◌≡◌};
-ghost use Rattle.core_steps.specs.Units.{comes_before, same_owner};
+ghost use Rattle.core_model.specs.Units.{comes_before, same_owner};
 ghost use Rattle.unit_table.specs.Owner.{plain_owner};
 
 use xa_calls::Xid;

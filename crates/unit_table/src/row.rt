@@ -4,7 +4,7 @@ ghost use Rattle.std.specs.Prelude.{◌≡◌, ◌≤◌, ◌⊎◌, [], true, O
 ghost use Rattle.std.specs.List.{insert};
 ghost use Rattle.tables.specs.ChangeView.{change_of};
 ghost use Rattle.unit_locks.specs.Claims.{all_added};
-ghost use Rattle.core_steps.specs.Units.{has_any, set_unit, unit_of, without};
+ghost use Rattle.core_model.specs.Units.{has_any, set_unit, unit_of, without};
 ghost use Rattle.unit_table.specs.Owner.{plain_owner};
 ghost use Rattle.unit_table.specs.Table.{AreKept, IsAt, IsGapFor, held};
 ghost use Rattle.unit_table.specs.Keeping.{Keeps};

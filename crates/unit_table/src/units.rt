@@ -3,8 +3,8 @@
 ghost use Rattle.std.specs.Prelude.{◌≡◌, IfOk, OnErr, OnOk, [], false, map, option_map, unwrap_or};
 ghost use Rattle.tables.specs.ChangeView.{change_of};
 ghost use Rattle.unit_locks.specs.Claims.{all_added, claims_of};
-ghost use Rattle.core_steps.specs.Laws.{AreListed};
-ghost use Rattle.core_steps.specs.Units.{clashes, global, has_any, has_work, left_of, others, set_unit, unit_of, without};
+ghost use Rattle.core_model.specs.Laws.{AreListed};
+ghost use Rattle.core_model.specs.Units.{clashes, global, has_any, has_work, left_of, others, set_unit, unit_of, without};
 ghost use Rattle.unit_table.specs.Keeping.{Keeps};
 ghost use Rattle.unit_table.specs.Owner.{plain_owner};
 ghost use Rattle.unit_table.specs.Plain.{held_of};
@@ -37,7 +37,7 @@ pub struct Units {
 
 impl Model for Units {
     ghost use Rattle.std.specs.Prelude.{List};
-    ghost use Rattle.core_steps.specs.Units.{Held};
+    ghost use Rattle.core_model.specs.Units.{Held};
     ghost use Rattle.unit_table.specs.Table.{AreKept, held};
 
     ghost Value = { List Held };

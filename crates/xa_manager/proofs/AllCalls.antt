@@ -19,7 +19,7 @@ use Rattle.xa_manager.specs.declared.due.Action.{Action}
 use Rattle.xa_manager.specs.declared.due.Action.TheVariants as action
 use Rattle.xa_manager.specs.declared.due.Due.{Due}
 use Rattle.xa_manager.specs.declared.due.Facts.{Facts}
-use Rattle.xa_manager.specs.Branch.{is_joined_by, is_last_joined_by, count_of, state_of, joined_xid, with_branch, with_state, without, without_those_of}
+use Rattle.xa_manager.specs.Branch.{is_joined_by, is_lost_with, count_of, state_of, joined_xid, with_branch, with_state, without, without_those_of}
 use Rattle.xa_manager.specs.Due.{due_at, due_of_new, due_of_free, due_of_join, due_of_end, due_of_prepare, due_of_commit, due_of_one_phase, due_of_roll_back, refused, done, facts_of, IsDue, left_by, next_state, after}
 use Rattle.xa_manager.specs.Laws.{is_decision, is_refusal, FitsAction, action_of, RefusalsDoNothing, ActionsFit, MovesOne, PreparedStays, PreparedOutlives, OnlyPreparedDecided, JoinedIsActive, OneEach, OneEachStays, OneEachOutlives}
 use Rattle.xa_manager.proofs.Rising.{Above, Rises, rises, state_of_above, unknown_parts, count_of-with_branch, count_of-with_state, count_of-filter, counted}
@@ -295,7 +295,7 @@ prepared_outlives (b ∷ bs) c x known =
     let known_behind : state_of bs x ≡ Some Prepared = rw e at known in
     let rest = prepared_outlives bs c x known_behind in
     let kept : state_of (b ∷ without_those_of bs c) x ≡ Some Prepared = rw e rest in
-    elim (is_last_joined_by c b.state) as (λ t. state_of (cond (not t) (b ∷ without_those_of bs c) (without_those_of bs c)) x ≡ Some Prepared) [ true ↦ rest | false ↦ kept ] in
+    elim (is_lost_with c b.state) as (λ t. state_of (cond (not t) (b ∷ without_those_of bs c) (without_those_of bs c)) x ≡ Some Prepared) [ true ↦ rest | false ↦ kept ] in
     elim (bytes_eq b.xid x) as (λ t. bytes_eq b.xid x ≡ t → state_of (without_those_of (b ∷ bs) c) x ≡ Some Prepared) [ true ↦ here | false ↦ behind ] refl
 
 -- ---- the branch that a conversation is joined to
@@ -375,4 +375,4 @@ one_each_stays bs c v x work h one =
     one_after bs c x (action_of bs c v x work) f (rises bs h) one fit begun
 
 pub one_each_outlives : OneEachOutlives
-one_each_outlives bs c one d = omega (arith, one d, count_of-filter (is_joined_by d) (λ b. not (is_last_joined_by c b.state)) bs)
+one_each_outlives bs c one d = omega (arith, one d, count_of-filter (is_joined_by d) (λ b. not (is_lost_with c b.state)) bs)

@@ -22,11 +22,11 @@ is_active (RollbackOnly _) = false
 is_active Prepared = false
 
 -- the conversation was the last to start or join it, and it is not prepared
-abbrev pub is_last_joined_by : ℕ → BranchState → Bool
-is_last_joined_by conversation (Active last) = last == conversation
-is_last_joined_by conversation (Idle last) = last == conversation
-is_last_joined_by conversation (RollbackOnly last) = last == conversation
-is_last_joined_by conversation Prepared = false
+abbrev pub is_lost_with : ℕ → BranchState → Bool
+is_lost_with conversation (Active last) = last == conversation
+is_lost_with conversation (Idle last) = last == conversation
+is_lost_with conversation (RollbackOnly last) = last == conversation
+is_lost_with conversation Prepared = false
 
 -- it waits for a decision
 abbrev pub is_in_doubt : BranchState → Bool
@@ -73,7 +73,7 @@ without bs xid = filter (λ b. not (bytes_eq b.xid xid)) bs
 
 -- without the branches that live as long as a conversation
 abbrev pub without_those_of : List Branch → ℕ → List Branch
-without_those_of bs conversation = filter (λ b. not (is_last_joined_by conversation b.state)) bs
+without_those_of bs conversation = filter (λ b. not (is_lost_with conversation b.state)) bs
 
 -- what holds of every table: each XID once, by rising bytes; 1,024 branches at most, of which 256 are in doubt
 pub record IsTable (bs : List Branch) : Type 0 where

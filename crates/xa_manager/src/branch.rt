@@ -1,7 +1,7 @@
 //! A transaction branch that the table knows.
 
 ghost use Rattle.std.specs.Prelude.{◌≡◌};
-ghost use Rattle.xa_manager.specs.Branch.{is_joined_by, is_active, is_last_joined_by, is_in_doubt};
+ghost use Rattle.xa_manager.specs.Branch.{is_joined_by, is_active, is_lost_with, is_in_doubt};
 
 use xa_calls::Xid;
 
@@ -42,8 +42,8 @@ impl BranchState {
 
     /// Whether the branch lives as long as the conversation: it was the last to start or join it,
     /// and the branch is not prepared.
-    pub fn is_last_joined_by(self, conversation: u64) -> bool
-        ensures { result ≡ is_last_joined_by conversation self }
+    pub fn is_lost_with(self, conversation: u64) -> bool
+        ensures { result ≡ is_lost_with conversation self }
     {
         match self {
             BranchState::Active(last) => last == conversation,

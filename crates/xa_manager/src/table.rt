@@ -158,7 +158,7 @@ impl XaTable {
     }
 
     /// The conversation is lost: every branch that it was the last to start or join, and that is not
-    /// prepared, has been rolled back (`BranchState::is_last_joined_by` tells which).
+    /// prepared, has been rolled back (`BranchState::is_lost_with` tells which).
     pub fn lost(&mut self, conversation: u64)
         ensures { self.new ≡ without_those_of self.old conversation }
     {
@@ -234,5 +234,5 @@ impl XaTable {
 fn keep_others(branches: &mut Vec<Branch>, conversation: u64)
     ensures { branches.new.items ≡ without_those_of branches.old.items conversation }
 {
-    branches.retain(|branch| !branch.state.is_last_joined_by(conversation));
+    branches.retain(|branch| !branch.state.is_lost_with(conversation));
 }

@@ -1,5 +1,5 @@
 use Rattle.std.proofs.Common.{◌≡◌, ◌≤◌, ◌+◌, ◌++◌, length, vec_capacity, vec_len}
-use Rattle.exchanges.specs.Sizes.{written_lengths}
+use Rattle.command_kit.specs.Sizes.{written_lengths}
 use Rattle.conversation.specs.Exchange.{in_dsss}
 use Rattle.conversation.proofs.chain.append_replies.Given as goal
 

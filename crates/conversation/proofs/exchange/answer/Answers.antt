@@ -1,6 +1,6 @@
 use Rattle.std.proofs.Common.{◌≡◌, ℕ, List, length, ap, ◌∙◌, arith}
 use Rattle.drda_commands.specs.Views.{accepted_of}
-use Rattle.access_exchange.specs.Access.{Answer, access_done}
+use Rattle.session_commands.specs.Access.{Answer, access_done}
 use Rattle.conversation.specs.Views.{standing_of, verdict_of}
 use Rattle.conversation.proofs.Sending.{access_once, due_of, none_due, nothing_sent, on_database, refused_once, sent_in_place, taken_away, taken_back}
 use Rattle.conversation.proofs.exchange.answer.Goals as goal

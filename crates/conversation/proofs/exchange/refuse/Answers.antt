@@ -1,7 +1,7 @@
 use Rattle.std.proofs.Common.{◌≡◌, ℕ, List, ◌++◌, length, subst, ◌∙◌, arith}
 use Rattle.dss_frames.specs.Writing.{unset}
-use Rattle.access_exchange.specs.Access as answers
-use Rattle.access_exchange.specs.Views.{IsAppended}
+use Rattle.session_commands.specs.Access as answers
+use Rattle.session_commands.specs.Views.{IsAppended}
 use Rattle.conversation.proofs.Sending.{sent_in_place, taken_back}
 use Rattle.conversation.proofs.exchange.refuse.Goals as goal
 

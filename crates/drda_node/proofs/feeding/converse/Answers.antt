@@ -4,7 +4,7 @@ use Rattle.drda_node.specs.declared.fed.FedState.{FedState}
 use Rattle.drda_node.specs.declared.fed.FedState.TheVariants.{Later}
 use Rattle.drda_node.specs.Asking.{core_of}
 use Rattle.drda_node.specs.Feeding.{Takes, with_core}
-use Rattle.access_exchange.specs.Settings.{Settings}
+use Rattle.session_commands.specs.Settings.{Settings}
 use Rattle.drda_node.proofs.Askers.{same_self, same_then}
 use Rattle.drda_node.proofs.Journal.{more, none}
 use Rattle.drda_node.proofs.Pieces.{IsUnderWay, starts, stays_closed, stops, ends_so, goes_on}

@@ -1,4 +1,4 @@
-use Rattle.durable_units.specs.Durable.{fresh}
+use Rattle.recovery.specs.Durable.{fresh}
 use Rattle.drda_program.proofs.stores.open_disk.Goals as goal
 
 pub returns-in-Ok-clause-opens : goal.returns-in-Ok-clause-opens

@@ -1,7 +1,7 @@
 use Rattle.std.proofs.Common.{◌≡◌, ◌+◌, ◌≤◌, length}
 use Rattle.unit_journal.specs.Journal.{held_of, next_of, region_of}
-use Rattle.durable_units.specs.Laws.{held_for}
-use Rattle.durable_units.specs.Replay.{doubts_in}
+use Rattle.recovery.specs.Laws.{held_for}
+use Rattle.recovery.specs.Replay.{doubts_in}
 use Rattle.durable_core.proofs.holding.hold_all.Given as goal
 
 -- what is held with what is still to be held is all

@@ -1,9 +1,9 @@
 use Rattle.std.proofs.Common.{◌≡◌, ◌∙◌, ap}
-use Rattle.durable_units.specs.Replay.{doubts_in}
-use Rattle.core_steps.specs.Step.{CoreState}
+use Rattle.recovery.specs.Replay.{doubts_in}
+use Rattle.core_model.specs.Step.{CoreState}
 use Rattle.durable_steps.specs.Part.{opened}
-use Rattle.disk_recorder.specs.Recording.{disk_of, journal_of}
-use Rattle.disk_recorder.specs.declared.recorder.DiskRecorder.{DiskRecorder}
+use Rattle.journal_recorder.specs.Recording.{disk_of, journal_of}
+use Rattle.journal_recorder.specs.declared.recorder.DiskRecorder.{DiskRecorder}
 use Rattle.rdb_core.specs.State.{recorder_of, state_of}
 use Rattle.durable_core.proofs.Opened.{is_recorded}
 use Rattle.durable_core.proofs.opening.begin.Goals as goal

@@ -3,11 +3,11 @@ use Rattle.unit_journal.specs.Journal.{room_of}
 use Rattle.unit_journal.specs.Record.{entries_of}
 use Rattle.unit_journal.specs.declared.record.Record.{Record}
 use Rattle.unit_journal.specs.Stands.{IsDamagedAt as HasNoRecord, Stands}
-use Rattle.durable_units.specs.Durable.{Doubts, fresh}
-use Rattle.durable_units.specs.Journal.{Leads, StopsAt}
-use Rattle.durable_units.specs.Laws.{held_for}
-use Rattle.durable_units.specs.Replay.{doubts_in, durable_of}
-use Rattle.durable_units.specs.declared.prepared.PreparedUnit.{PreparedUnit}
+use Rattle.recovery.specs.Durable.{Doubts, fresh}
+use Rattle.recovery.specs.Journal.{Leads, StopsAt}
+use Rattle.recovery.specs.Laws.{held_for}
+use Rattle.recovery.specs.Replay.{doubts_in, durable_of}
+use Rattle.recovery.specs.declared.prepared.PreparedUnit.{PreparedUnit}
 use Rattle.durable_core.specs.Prepares.{TellsLast}
 use Rattle.durable_core.specs.Reads.{TellsDamage}
 use Rattle.durable_core.proofs.Parts.{held_plain, journal_plain, passed_on, units_plain}

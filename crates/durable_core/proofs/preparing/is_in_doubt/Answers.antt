@@ -1,7 +1,7 @@
 use Rattle.std.proofs.Common.{◌∙◌}
 use Rattle.std.specs.Prelude.{bytes_eq}
 use Rattle.tables.proofs.Places.{any_found}
-use Rattle.durable_units.specs.Replay.{doubt_in}
+use Rattle.recovery.specs.Replay.{doubt_in}
 use Rattle.durable_core.proofs.preparing.is_in_doubt.Goals as goal
 
 pub returns : goal.returns

@@ -2,7 +2,7 @@
 use Rattle.std.proofs.Common.{rules, ◌≡◌, List, inl, true, false, sym, ◌∙◌, subst}
 use Rattle.unit_journal.specs.declared.record.Record.{Record}
 use Rattle.unit_records.proofs.Lengths.{first_left}
-use Rattle.durable_units.specs.Replay.{doubts_in}
+use Rattle.recovery.specs.Replay.{doubts_in}
 use Rattle.durable_core.specs.Prepares.{IsLastPrepare, NonePrepares}
 use Rattle.durable_core.proofs.Prepared.{last_behind, last_here}
 use Rattle.durable_core.proofs.preparing.last_prepare.Goals as goal

@@ -1,6 +1,6 @@
 -- The last one of what is left is that of all records; where none is left that prepared a unit, it is known.
 use Rattle.std.proofs.Common.{ℕ, length}
-use Rattle.durable_units.specs.Replay.{doubts_in}
+use Rattle.recovery.specs.Replay.{doubts_in}
 use Rattle.durable_core.specs.Prepares.{IsLastPrepare, NonePrepares, TellsLast}
 use Rattle.durable_core.proofs.preparing.last_prepare.Given as goal
 

@@ -1,7 +1,7 @@
 use Rattle.std.proofs.Common.{ℕ, List, subst}
 use Rattle.unit_journal.specs.Record.{entry_of}
 use Rattle.unit_records.specs.Read.{ReadsRecord}
-use Rattle.durable_units.specs.Replay.{doubts_in}
+use Rattle.recovery.specs.Replay.{doubts_in}
 use Rattle.durable_core.proofs.Prepared.{prepares}
 use Rattle.durable_core.proofs.preparing.prepares_one.Goals as goal
 

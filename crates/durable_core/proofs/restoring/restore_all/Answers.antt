@@ -1,5 +1,5 @@
 use Rattle.std.proofs.Common.{◌∙◌}
-use Rattle.durable_units.specs.Replay.{doubts_in}
+use Rattle.recovery.specs.Replay.{doubts_in}
 use Rattle.rdb_core.specs.State.{state_of}
 use Rattle.durable_core.proofs.Doubted.{goes_on, is_idle, not_known, told_known}
 use Rattle.durable_core.proofs.restoring.restore_all.Goals as goal

@@ -1,5 +1,5 @@
 use Rattle.std.proofs.Common.{◌≡◌, length}
-use Rattle.durable_units.specs.Replay.{doubts_in}
+use Rattle.recovery.specs.Replay.{doubts_in}
 use Rattle.rdb_core.specs.State.{recorder_of, state_of}
 use Rattle.durable_core.proofs.Doubted.{IsUnderWay}
 use Rattle.durable_core.proofs.restoring.restore_all.Given as goal

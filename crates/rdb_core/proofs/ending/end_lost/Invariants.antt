@@ -1,5 +1,5 @@
 use Rattle.std.proofs.Common.{◌≡◌, drop}
-use Rattle.core_steps.specs.Step.{lost_xids}
+use Rattle.core_model.specs.Step.{lost_xids}
 use Rattle.rdb_core.specs.Steps.{left_units}
 use Rattle.rdb_core.proofs.ending.end_lost.Given as goal
 

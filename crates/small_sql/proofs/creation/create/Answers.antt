@@ -1,6 +1,6 @@
 use Rattle.std.proofs.Common.{◌≡◌, ap, length, rules, ◌∙◌}
 use Rattle.std.specs.Arc.{arc_value}
-use Rattle.sql_meaning.specs.Values.{name_of}
+use Rattle.sql_semantics.specs.Values.{name_of}
 use Rattle.small_sql.specs.Answer.{answer_of}
 use Rattle.small_sql.proofs.Creating.{new_at, there_at}
 use Rattle.small_sql.proofs.creation.create.Goals as goal

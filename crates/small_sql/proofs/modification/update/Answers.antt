@@ -3,7 +3,7 @@ use Rattle.std.specs.Arc.{arc_value}
 use Rattle.std.specs.Option.{option_copied}
 use Rattle.row_values.specs.Schema.{is_name}
 use Rattle.row_values.specs.Value.{value_of}
-use Rattle.sql_meaning.specs.Values.{name_of}
+use Rattle.sql_semantics.specs.Values.{name_of}
 use Rattle.small_sql.specs.Answer.{answer_of}
 use Rattle.small_sql.proofs.Updating.{absent_at, refused_at, rows_at, targets_refused_at, unnamed_at}
 use Rattle.small_sql.proofs.modification.update.Goals as goal

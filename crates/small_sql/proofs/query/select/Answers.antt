@@ -2,7 +2,7 @@ use Rattle.std.proofs.Common.{◌≡◌, None, ap, map, option_map, rules, ◌�
 use Rattle.std.specs.Arc.{arc_value}
 use Rattle.std.specs.Option.{option_copied}
 use Rattle.row_values.specs.Value.{value_of}
-use Rattle.sql_meaning.specs.Values.{name_of}
+use Rattle.sql_semantics.specs.Values.{name_of}
 use Rattle.small_sql.proofs.Selecting.{absent_at, refused_at, rows_at}
 use Rattle.small_sql.proofs.query.select.Goals as goal
 

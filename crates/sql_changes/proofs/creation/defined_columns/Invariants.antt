@@ -1,6 +1,6 @@
 use Rattle.std.proofs.Common.{◌≡◌, ◌++◌, length, map}
 use Rattle.row_values.specs.Column.{column_of}
-use Rattle.sql_meaning.specs.Create.{defined_column}
+use Rattle.sql_semantics.specs.Create.{defined_column}
 use Rattle.sql_changes.proofs.creation.defined_columns.Given as goal
 
 abbrev pub invariant-definitions : goal.invariant-definitions

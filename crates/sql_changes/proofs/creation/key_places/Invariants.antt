@@ -1,7 +1,7 @@
 use Rattle.std.proofs.Common.{◌≡◌, ◌++◌, length, map}
 use Rattle.std.specs.List.{filter_map}
 use Rattle.row_values.specs.Column.{column_of}
-use Rattle.sql_meaning.specs.Values.{column_place}
+use Rattle.sql_semantics.specs.Values.{column_place}
 use Rattle.sql_changes.proofs.creation.key_places.Given as goal
 
 abbrev pub invariant-key : goal.invariant-key

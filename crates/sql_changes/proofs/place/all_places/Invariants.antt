@@ -1,6 +1,6 @@
 use Rattle.std.proofs.Common.{◌≡◌, ◌++◌, drop, map}
 use Rattle.row_values.specs.Column.{column_of}
-use Rattle.sql_meaning.specs.Values.{all_places}
+use Rattle.sql_semantics.specs.Values.{all_places}
 use Rattle.sql_changes.proofs.place.all_places.Given as goal
 
 abbrev pub invariant-loop-i : goal.invariant-loop-i

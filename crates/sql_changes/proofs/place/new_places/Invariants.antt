@@ -1,6 +1,6 @@
 use Rattle.std.proofs.Common.{◌≡◌, [], length, map}
 use Rattle.row_values.specs.Column.{column_of}
-use Rattle.sql_meaning.specs.Insert.{new_places}
+use Rattle.sql_semantics.specs.Insert.{new_places}
 use Rattle.sql_changes.proofs.place.new_places.Given as goal
 
 abbrev pub invariant-names : goal.invariant-names

@@ -1,7 +1,7 @@
 use Rattle.std.proofs.Common.{◌≡◌, length, map}
 use Rattle.row_values.specs.Column.{column_of}
 use Rattle.row_values.specs.Value.{value_of}
-use Rattle.sql_meaning.specs.Insert.{first_misfit}
+use Rattle.sql_semantics.specs.Insert.{first_misfit}
 use Rattle.sql_changes.proofs.row.first_misfit.Given as goal
 
 abbrev pub invariant-columns : goal.invariant-columns

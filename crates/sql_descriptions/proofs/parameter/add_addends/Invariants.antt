@@ -1,7 +1,7 @@
 -- The types of the terms so far, and of those that are left.
 use Rattle.std.proofs.Common.{◌≡◌, ◌++◌, length}
 use Rattle.std.specs.List.{flat_map}
-use Rattle.sql_meaning.specs.Describe as describe
+use Rattle.sql_semantics.specs.Describe as describe
 use Rattle.sql_descriptions.proofs.parameter.add_addends.Given as goal
 
 abbrev pub invariant-addends : goal.invariant-addends

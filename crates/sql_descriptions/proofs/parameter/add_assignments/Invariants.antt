@@ -2,7 +2,7 @@
 use Rattle.std.proofs.Common.{◌≡◌, ◌++◌, length, map}
 use Rattle.std.specs.List.{flat_map}
 use Rattle.row_values.specs.Column.{column_of}
-use Rattle.sql_meaning.specs.Describe as describe
+use Rattle.sql_semantics.specs.Describe as describe
 use Rattle.sql_descriptions.proofs.parameter.add_assignments.Given as goal
 
 abbrev pub invariant-assignments : goal.invariant-assignments

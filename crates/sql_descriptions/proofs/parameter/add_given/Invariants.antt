@@ -1,6 +1,6 @@
 -- The types of the values so far, and of those that are left.
 use Rattle.std.proofs.Common.{◌≡◌, ◌++◌, length}
-use Rattle.sql_meaning.specs.Describe as describe
+use Rattle.sql_semantics.specs.Describe as describe
 use Rattle.sql_descriptions.proofs.parameter.add_given.Given as goal
 
 abbrev pub invariant-values : goal.invariant-values

@@ -1,7 +1,7 @@
 -- The types of the parts so far, and of those that are left.
 use Rattle.std.proofs.Common.{◌≡◌, ◌++◌, drop, map}
 use Rattle.row_values.specs.Column.{column_of}
-use Rattle.sql_meaning.specs.Describe as describe
+use Rattle.sql_semantics.specs.Describe as describe
 use Rattle.sql_descriptions.proofs.predicate.+walk.Given as goal
 
 abbrev pub invariant-add_parts-loop-part : goal.invariant-add_parts-loop-part

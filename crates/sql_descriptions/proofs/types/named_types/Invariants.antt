@@ -1,7 +1,7 @@
 -- The types so far, and of the names that are left.
 use Rattle.std.proofs.Common.{◌≡◌, ◌++◌, length, map}
 use Rattle.row_values.specs.Column.{column_of}
-use Rattle.sql_meaning.specs.Describe as describe
+use Rattle.sql_semantics.specs.Describe as describe
 use Rattle.sql_descriptions.proofs.types.named_types.Given as goal
 
 abbrev pub invariant-names : goal.invariant-names

@@ -2,9 +2,9 @@
 use Rattle.std.proofs.Common.{◌≡◌, List, map, drop, take}
 use Rattle.row_values.specs.Column.{column_of}
 use Rattle.row_values.specs.Value.{Value, value_of}
-use Rattle.sql_meaning.specs.Checked.{first_fault}
-use Rattle.sql_meaning.specs.Classes.{predicate_fault}
-use Rattle.sql_meaning.specs.Truth.{truth}
+use Rattle.sql_semantics.specs.Checked.{first_fault}
+use Rattle.sql_semantics.specs.Classes.{predicate_fault}
+use Rattle.sql_semantics.specs.Truth.{truth}
 use Rattle.sql_filters.specs.Test.{met}
 use Rattle.sql_filters.proofs.bind.+bind.Given as goal
 

@@ -2,7 +2,7 @@
 use Rattle.std.proofs.Common.{◌≡◌, map, drop}
 use Rattle.row_values.specs.Row.{values_in}
 use Rattle.row_values.specs.RowView.{row_in, schema_in}
-use Rattle.sql_meaning.specs.Truth.{all_of, any_of, both, either}
+use Rattle.sql_semantics.specs.Truth.{all_of, any_of, both, either}
 use Rattle.sql_filters.specs.Test.{met}
 use Rattle.sql_filters.proofs.evaluate.+met.Given as goal
 

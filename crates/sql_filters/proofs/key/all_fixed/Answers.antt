@@ -4,7 +4,7 @@ use Rattle.std.proofs.lemmas.List.{map-append}
 use Rattle.row_values.specs.Column.{column_of}
 use Rattle.row_values.specs.Value.{value_of}
 use Rattle.sql_literals.specs.Constant.{constant_value}
-use Rattle.sql_meaning.specs.Scope.{all_fixed, fixed}
+use Rattle.sql_semantics.specs.Scope.{all_fixed, fixed}
 use Rattle.sql_filters.proofs.Fixing.{fixing_step}
 use Rattle.sql_filters.proofs.key.all_fixed.Goals as goal
 

@@ -3,7 +3,7 @@ use Rattle.std.proofs.Common.{◌≡◌, ◌++◌, map, drop, option_map}
 use Rattle.row_values.specs.Column.{column_of}
 use Rattle.row_values.specs.Value.{value_of}
 use Rattle.sql_literals.specs.Constant.{constant_value}
-use Rattle.sql_meaning.specs.Scope as scope
+use Rattle.sql_semantics.specs.Scope as scope
 use Rattle.sql_filters.proofs.key.all_fixed.Given as goal
 
 abbrev pub invariant-loop-place : goal.invariant-loop-place

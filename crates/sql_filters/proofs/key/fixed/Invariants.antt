@@ -1,7 +1,7 @@
 use Rattle.std.proofs.Common.{◌≡◌, map, drop}
 use Rattle.row_values.specs.Column.{column_of}
 use Rattle.row_values.specs.Value.{value_of}
-use Rattle.sql_meaning.specs.Scope as scope
+use Rattle.sql_semantics.specs.Scope as scope
 use Rattle.sql_filters.proofs.key.fixed.Given as goal
 
 abbrev pub invariant-loop-part : goal.invariant-loop-part

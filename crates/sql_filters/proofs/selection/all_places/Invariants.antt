@@ -1,6 +1,6 @@
 use Rattle.std.proofs.Common.{◌≡◌, ◌++◌, map, drop}
 use Rattle.row_values.specs.Column.{column_of}
-use Rattle.sql_meaning.specs.Values as values
+use Rattle.sql_semantics.specs.Values as values
 use Rattle.sql_filters.proofs.selection.all_places.Given as goal
 
 abbrev pub invariant-loop-place : goal.invariant-loop-place

@@ -1,6 +1,6 @@
 use Rattle.std.proofs.Common.{◌≡◌, [], map, drop}
 use Rattle.row_values.specs.Column.{column_of}
-use Rattle.sql_meaning.specs.Classes as classes
+use Rattle.sql_semantics.specs.Classes as classes
 use Rattle.sql_filters.proofs.selection.named_places.Given as goal
 
 abbrev pub invariant-loop-name : goal.invariant-loop-name

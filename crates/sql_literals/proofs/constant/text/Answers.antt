@@ -3,7 +3,7 @@ use Rattle.std.proofs.lemmas.Bool.{false≢true}
 use Rattle.std.specs.Str.{IsUtf8}
 use Rattle.std.specs.String.{string_bytes}
 use Rattle.sql_text.specs.Spelled.{undoubled}
-use Rattle.sql_meaning.specs.Values.{text_given}
+use Rattle.sql_semantics.specs.Values.{text_given}
 use Rattle.sql_literals.proofs.Texts.{is_text, no_text, told}
 use Rattle.sql_literals.proofs.constant.text.Goals as goal
 

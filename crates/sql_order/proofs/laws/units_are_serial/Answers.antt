@@ -1,12 +1,12 @@
-use Rattle.unit_order.specs.Words.{Laws}
-use Rattle.unit_order.specs.Events.{UnitMap, UnitMapLaws}
-use Rattle.unit_order.specs.UnitList.{unit_list}
-use Rattle.unit_order.specs.Prepared.{prepared_units}
-use Rattle.unit_order.proofs.Running.{serial_order}
-use Rattle.unit_order.proofs.UnitList.{list_laws}
-use Rattle.unit_order.proofs.Bare.{forget_run, serial_order_of}
-use Rattle.unit_order.proofs.Keeping.{events_keep}
-use Rattle.unit_order.proofs.Prepared.{prepared_laws}
+use Rattle.serializability.specs.Words.{Laws}
+use Rattle.serializability.specs.Events.{UnitMap, UnitMapLaws}
+use Rattle.serializability.specs.UnitList.{unit_list}
+use Rattle.serializability.specs.Prepared.{prepared_units}
+use Rattle.serializability.proofs.Running.{serial_order}
+use Rattle.serializability.proofs.UnitList.{list_laws}
+use Rattle.serializability.proofs.Bare.{forget_run, serial_order_of}
+use Rattle.serializability.proofs.Keeping.{events_keep}
+use Rattle.serializability.proofs.Prepared.{prepared_laws}
 use Rattle.sql_order.specs.SqlWords.{sql_words}
 use Rattle.sql_order.proofs.SqlLaws.{sql_laws}
 use Rattle.sql_order.proofs.laws.units_are_serial.Goals as goal

@@ -3,8 +3,8 @@ use Rattle.std.proofs.Common.{◌≡◌, ℕ, List, ◌++◌, Ok, drop, map}
 use Rattle.sql_text.specs.declared.tree.Sum.{Sum}
 use Rattle.row_values.specs.Value.{Value}
 use Rattle.tables.specs.ChangeView.{change_of}
-use Rattle.sql_meaning.specs.Checked.{and_then}
-use Rattle.sql_meaning.specs.Update.{updated_rows}
+use Rattle.sql_semantics.specs.Checked.{and_then}
+use Rattle.sql_semantics.specs.Update.{updated_rows}
 use Rattle.sql_updates.specs.Assigned.{StandFor}
 use Rattle.sql_updates.proofs.change.puts.Given as goal
 

@@ -4,8 +4,8 @@ use Rattle.std.specs.Prelude.{if◌then◌else◌}
 use Rattle.core_calls.specs.declared.sql_fault.SqlFault.TheVariants as fault
 use Rattle.row_values.specs.Column.{column_of}
 use Rattle.row_values.specs.Value.{Value, value_of}
-use Rattle.sql_meaning.specs.Checked.{and_then}
-use Rattle.sql_meaning.specs.Update as update
+use Rattle.sql_semantics.specs.Checked.{and_then}
+use Rattle.sql_semantics.specs.Update as update
 use Rattle.sql_updates.specs.Assigned.{summed_from}
 use Rattle.sql_updates.specs.Faults.{addend_terms, classes_fault, names_fault}
 use Rattle.sql_updates.proofs.sum.bound_addends.Given as goal

@@ -1,5 +1,5 @@
 use Rattle.std.proofs.Common.{◌≡◌, false, List, refl, sym, ◌∙◌, ap, subst}
-use Rattle.core_steps.specs.Units.{Work}
+use Rattle.core_model.specs.Units.{Work}
 use Rattle.unit_locks.specs.Claims.{claims_of}
 use Rattle.unit_table.specs.Owner.{plain_owner}
 use Rattle.unit_table.specs.Table.{AreKept, held, is_given}

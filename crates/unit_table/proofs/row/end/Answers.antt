@@ -1,5 +1,5 @@
 use Rattle.std.proofs.Common.{List, sym, ◌∙◌, ap, subst, arith}
-use Rattle.core_steps.specs.Units.{Work}
+use Rattle.core_model.specs.Units.{Work}
 use Rattle.unit_table.specs.declared.entry.Entry.{Entry}
 use Rattle.unit_table.specs.Owner.{plain_owner}
 use Rattle.unit_table.specs.Table.{AreKept, held}

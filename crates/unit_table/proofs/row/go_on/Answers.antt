@@ -2,7 +2,7 @@ use Rattle.std.proofs.Common.{◌≡◌, List, length, take, slice_set, refl, �
 use Rattle.tables.specs.ChangeView.{change_of}
 use Rattle.unit_locks.specs.Claim.{Claim}
 use Rattle.unit_locks.specs.Claims.{claims_of}
-use Rattle.core_steps.specs.Units.{Work}
+use Rattle.core_model.specs.Units.{Work}
 use Rattle.std.specs.Prelude.{map}
 use Rattle.unit_table.specs.Owner.{plain_owner}
 use Rattle.unit_table.specs.Table.{held}

@@ -1,6 +1,6 @@
 use Rattle.std.proofs.Common.{◌≡◌, false, List, refl, sym, ◌∙◌, ap, subst}
-use Rattle.core_steps.specs.Units.{Work, set_unit}
-use Rattle.core_steps.specs.Asked.{kept}
+use Rattle.core_model.specs.Units.{Work, set_unit}
+use Rattle.core_model.specs.Asked.{kept}
 use Rattle.unit_table.specs.Owner.{plain_owner}
 use Rattle.unit_table.specs.Table.{AreKept, held, is_given}
 use Rattle.unit_table.specs.declared.entry.Entry.{Entry}

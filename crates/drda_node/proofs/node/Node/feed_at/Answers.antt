@@ -1,5 +1,5 @@
 use Rattle.std.proofs.Common.{◌≡◌, Some, refl, ap, ◌∙◌, sym, subst}
-use Rattle.access_exchange.specs.Settings.{Settings}
+use Rattle.session_commands.specs.Settings.{Settings}
 use Rattle.drda_node.specs.Feeding.{shown_held, Takes, with_core}
 use Rattle.drda_node.specs.Asking.{asked_of, core_of}
 use Rattle.drda_node.specs.declared.slot.Slot.{Slot}

@@ -1,8 +1,8 @@
 use Rattle.std.proofs.Common.{◌≡◌, List, refl, sym, ◌∙◌, ap}
 use Rattle.xa_manager.specs.declared.branch.Branch.{Branch}
-use Rattle.core_steps.specs.Units.{Held, local, without}
-use Rattle.core_steps.specs.Events.{Base}
-use Rattle.core_steps.specs.Step.{lost_xids}
+use Rattle.core_model.specs.Units.{Held, local, without}
+use Rattle.core_model.specs.Events.{Base}
+use Rattle.core_model.specs.Step.{lost_xids}
 use Rattle.table_store.specs.TableStore.{store_in}
 use Rattle.rdb_core.specs.Steps.{left_units}
 use Rattle.rdb_core.proofs.Lost.{as_events}

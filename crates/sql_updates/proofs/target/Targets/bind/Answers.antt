@@ -1,7 +1,7 @@
 use Rattle.std.proofs.Common.{◌≡◌, List, None, Ok, map, rules}
 use Rattle.row_values.specs.Value.{Value, value_of}
-use Rattle.sql_meaning.specs.Update.{new_target, sum_fault, sum_value}
-use Rattle.sql_meaning.specs.Values.{column_place}
+use Rattle.sql_semantics.specs.Update.{new_target, sum_fault, sum_value}
+use Rattle.sql_semantics.specs.Values.{column_place}
 use Rattle.sql_updates.specs.Assigned.{places, total}
 use Rattle.sql_updates.proofs.Binding.{goes_on}
 use Rattle.sql_updates.proofs.target.Targets.bind.Goals as goal

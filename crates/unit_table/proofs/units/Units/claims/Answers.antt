@@ -1,5 +1,5 @@
 use Rattle.std.proofs.Common.{List, sym, ◌∙◌, ap, arith}
-use Rattle.core_steps.specs.Units.{Held, Work, unit_of}
+use Rattle.core_model.specs.Units.{Held, Work, unit_of}
 use Rattle.unit_table.specs.Owner.{plain_owner}
 use Rattle.unit_table.specs.Table.{IsAt, IsGapFor}
 use Rattle.unit_table.proofs.Rows.{at_inside, gap_idle}

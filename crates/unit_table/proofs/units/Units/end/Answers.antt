@@ -1,5 +1,5 @@
 use Rattle.std.proofs.Common.{◌≡◌, List, sym, ◌∙◌, ap, subst}
-use Rattle.core_steps.specs.Units.{Held, Work, unit_of, without}
+use Rattle.core_model.specs.Units.{Held, Work, unit_of, without}
 use Rattle.unit_table.specs.Owner.{plain_owner}
 use Rattle.unit_table.specs.Table.{IsGapFor}
 use Rattle.unit_table.proofs.Rows.{gap_idle, gap_lacks}

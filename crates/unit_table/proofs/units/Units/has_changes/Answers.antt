@@ -1,6 +1,6 @@
 use Rattle.std.proofs.Common.{◌≡◌, ◌==◌, List, [], ◌∷◌, length, not, refl, sym, ◌∙◌, ap, arith}
 use Rattle.tables.specs.Change.{Change}
-use Rattle.core_steps.specs.Units.{Held, Work, has_any, unit_of}
+use Rattle.core_model.specs.Units.{Held, Work, has_any, unit_of}
 use Rattle.unit_table.specs.Owner.{plain_owner}
 use Rattle.unit_table.specs.Table.{IsAt, IsGapFor}
 use Rattle.unit_table.proofs.Rows.{at_inside, gap_idle}

@@ -1,5 +1,5 @@
 use Rattle.std.proofs.Common.{List, ◌∙◌, ap}
-use Rattle.core_steps.specs.Units.{Held, has_work, unit_of}
+use Rattle.core_model.specs.Units.{Held, has_work, unit_of}
 use Rattle.unit_table.specs.Owner.{plain_owner}
 use Rattle.unit_table.proofs.Changing.{has_place}
 use Rattle.unit_table.proofs.units.Units.has_work.Goals as goal

@@ -6,7 +6,7 @@ use Rattle.unit_locks.proofs.ListRows.{no_items}
 use Rattle.tables.specs.declared.change.Change.{Change as CodeChange}
 use Rattle.tables.specs.ChangeView.{change_of}
 use Rattle.unit_table.specs.Keeping.{KeepsAll}
-use Rattle.core_steps.specs.Units.{Held}
+use Rattle.core_model.specs.Units.{Held}
 use Rattle.unit_table.specs.Owner.{plain_owner}
 use Rattle.unit_table.specs.Table.{IsGapFor}
 use Rattle.unit_table.proofs.Changing.{nothing_kept}

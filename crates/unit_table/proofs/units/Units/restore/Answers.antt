@@ -4,7 +4,7 @@ use Rattle.tables.specs.Change.{Change}
 use Rattle.unit_locks.specs.Claim.{Claim}
 use Rattle.unit_locks.specs.Claims.{all_added}
 use Rattle.unit_locks.proofs.ListRows.{no_items}
-use Rattle.core_steps.specs.Units.{Held, Owner, global, has_work, set_unit, unit_of}
+use Rattle.core_model.specs.Units.{Held, Owner, global, has_work, set_unit, unit_of}
 use Rattle.unit_table.specs.Table.{IsAt, IsGapFor}
 use Rattle.unit_table.proofs.Rows.{gap_lacks}
 use Rattle.unit_table.proofs.Changing.{works_at}

@@ -1,0 +1,207 @@
+-- All rows of a table, from its pages into those of an image.
+use Rattle.std.proofs.Common.{◌≡◌, ◌⊎◌, inl, inr, ⊎_elim, ℕ, suc, ◌+◌, ◌-◌, ◌*◌, ◌^◌, ◌≤◌, List, [], ◌∷◌, ◌++◌, length, map, Bool, true, refl, sym, ap, ap₂, subst, ◌∙◌, arith, append_assoc, append-nil}
+use Rattle.std.specs.Prelude.{IsTrue, Result, Err}
+use Rattle.std.specs.Global.{Vec}
+use Rattle.std.specs.List.{AllByRecursion}
+use Rattle.drda_disk.specs.Disk.{Torn}
+use Rattle.drda_disk.proofs.Parts.{part_outside}
+use Rattle.row_pages.specs.Page.{IsPage}
+use Rattle.row_pages.specs.Keeping.{AreRead, Kept}
+use Rattle.row_pages.specs.Laying.{AreFilled, HasSome, IsLaid, IsShort, Laying, laid, laid_behind, rows_over}
+use Rattle.row_pages.specs.declared.page.PageKind.{PageKind}
+use Rattle.row_pages.specs.declared.page.PageKind.TheVariants as kind
+use Rattle.key_map.specs.Merging.{InOrder, MergedInOrder, Rows}
+use Rattle.key_map.specs.Overlay.{changes_of}
+use Rattle.half_store.specs.Layout.{offset_of}
+use Rattle.half_store.specs.Writing.{from_of, half_bytes_of, next_of}
+use Rattle.half_store.specs.declared.image.ImageWriter.{ImageWriter}
+use Rattle.half_store.specs.declared.layout.Half.{Half}
+use Rattle.half_store.specs.declared.layout.Half.TheVariants.{First, Second}
+use Rattle.table_map.specs.Cursor.{GoesOn, IsLeft}
+use Rattle.table_map.specs.Keyed.{first_keys, keyed_rows}
+use Rattle.table_map.specs.Stored.{AreAt, IsStored}
+use Rattle.table_map.specs.Table.{Table, rows_of_table, without_keys}
+use Rattle.table_map.specs.declared.cursor.RowCursor.{RowCursor}
+use Rattle.checkpoint_writer.specs.Errors.{TellsFull}
+use Rattle.checkpoint_writer.specs.declared.errors.ImageError.{ImageError}
+use Rattle.checkpoint_writer.specs.declared.errors.ImageError.TheVariants.{NoMemory, DeviceFailed, Damaged, Full}
+use Rattle.checkpoint_writer.specs.Adding.{end_of_half}
+use Rattle.checkpoint_writer.specs.Laying.{StandAt, has_none}
+use Rattle.checkpoint_writer.specs.Stored.{HaveKeys, IsImageOf, LieApart}
+use Rattle.checkpoint_writer.specs.Writing.{HasLaid}
+use Rattle.checkpoint_writer.proofs.Told.{all_behind}
+use Rattle.checkpoint_writer.specs.declared.merging.TableWriter.{TableWriter}
+
+-- these were given, and with those that are left they are all
+pub record IsGiven (key_of : List ℕ → List ℕ) (file : List ℕ) (cursor : RowCursor) (given all : List (List ℕ)) : Type 0 where
+  pub left : Rows
+  pub is : IsLeft key_of file cursor left
+  pub same : given ++ without_keys left ≡ all
+
+-- the rows that were given are laid
+pub record Merges (modelled : Bool) (key_of : List ℕ → List ℕ) (table : Table) (cache : Kept) (first : List ℕ) (begun : ImageWriter) (file : List ℕ) (image : ImageWriter) (writer : TableWriter) (cursor : RowCursor) : Type 0 where
+  pub rows : List (List ℕ)
+  pub laid : HasLaid modelled key_of file (next_of begun) image writer rows
+  pub given : (pages : List (List (List ℕ))) → IsTrue modelled → AreRead cache first → IsStored key_of table.places pages first → LieApart table.places begun → IsGiven key_of file cursor rows (without_keys (rows_of_table key_of table pages))
+
+-- ---- pages that stay where they are
+
+at_moves : (old new : List ℕ) (from n at : ℕ) (pages : List (List (List ℕ))) → Torn from n old new → (at + 8192 * length pages ≤ from) ⊎ (from + n ≤ at) → AreAt old at pages → AreAt new at pages
+at_moves old new from n at [] torn away stand = tt
+at_moves old new from n at (p ∷ pages) torn away stand = (
+  subst (λ (l : List ℕ). IsPage (record { kind = kind.Rows; rows = p }) l) (sym (part_outside from n at 8192 old new torn (⊎_elim (λ low. inl (omega (arith, low))) (λ high. inr high) away))) stand.0,
+  at_moves old new from n (at + 8192) pages torn (⊎_elim (λ low. inl (omega (arith, low))) (λ high. inr (omega (arith, high))) away) stand.1,
+)
+
+left_moves : (key_of : List ℕ → List ℕ) (old new : List ℕ) (from n : ℕ) (cursor : RowCursor) (left : Rows) → Torn from n old new → (cursor.base.at + 8192 * cursor.base.pages ≤ from) ⊎ (from + n ≤ cursor.base.at) → IsLeft key_of old cursor left → IsLeft key_of new cursor left
+left_moves key_of old new from n cursor left torn away held = record {
+  pages = held.pages;
+  stand = at_moves old new from n cursor.base.at held.pages torn (⊎_elim (λ low. inl (omega (arith, low, held.many))) (λ high. inr high) away) held.stand;
+  many = held.many;
+  order = held.order;
+  rising = held.rising;
+  same = held.same;
+}
+
+-- ---- at the beginning
+
+pub begins : (modelled : Bool) (key_of : List ℕ → List ℕ) (file : List ℕ) (image : ImageWriter) (writer : TableWriter) → writer.rows.page ≡ record { kind = kind.Rows; rows = [] } → writer.rows.is_empty ≡ true → writer.first_keys.items ≡ [] → HasLaid modelled key_of file (next_of image) image writer []
+begins modelled key_of file image writer page empty keys = record {
+  laying = record {
+    full = [];
+    stand = λ honest. tt;
+    next = omega arith;
+    same = λ rest. ap (λ p. laid_behind p.rows rest) (sym page);
+    empty = empty ∙ ap (λ p. has_none p.rows) (sym page);
+    short = tt;
+  };
+  kind = ap (λ p. p.kind) page;
+  keys = ap (λ (l : List (Vec ℕ)). map (λ key. key.items) l) keys;
+}
+
+-- ---- a row
+
+pub told_so : (T S : Type 0) (e : ImageError) (end at : ℕ) → TellsFull {T = T} (Err e) end at → TellsFull {T = S} (Err e) end at
+told_so T S NoMemory end at tells = tt
+told_so T S DeviceFailed end at tells = tt
+told_so T S Damaged end at tells = tt
+told_so T S (Full full) end at tells = tells
+
+module _ (modelled : Bool) (key_of : List ℕ → List ℕ) (table : Table) (cache : Kept) (first : List ℕ) (begun : ImageWriter) (file : List ℕ) (image : ImageWriter) (writer : TableWriter) (cursor : RowCursor)
+    (held : Merges modelled key_of table cache first begun file image writer cursor) where
+  -- the rows are laid in what is read now, too
+  pub same_file : (now : List ℕ) → now ≡ file → HasLaid modelled key_of now (next_of begun) image writer held.rows
+  same_file now same = subst (λ (f : List ℕ). HasLaid modelled key_of f (next_of begun) image writer held.rows) (sym same) held.laid
+
+  -- a row that was given and laid
+  pub one_more : (mid new : List ℕ) (after : ImageWriter) (more : TableWriter) (next : RowCursor) (row now : List ℕ) → mid ≡ file → now ≡ row
+      → HasLaid modelled key_of new (next_of begun) after more (held.rows ++ now ∷ []) → Torn (next_of image) (end_of_half image - next_of image) mid new
+      → from_of image ≡ from_of begun → half_bytes_of image ≡ half_bytes_of begun → next.base.at + 8192 * next.base.pages ≡ table.places.at + 8192 * length table.places.keys → table.places.at ≤ next.base.at
+      → ((left : Rows) → IsTrue modelled → AreRead cache first → IsLeft key_of file cursor left → GoesOn key_of file left row next)
+      → Merges modelled key_of table cache first begun new after more next
+  one_more mid new after more next row now same is_row laid torn from half end forward gives = record {
+    rows = held.rows ++ now ∷ [];
+    laid = laid;
+    given = λ pages honest read is apart.
+        let so = held.given pages honest read is apart in
+        let goes = gives so.left honest read so.is in
+        record {
+          left = goes.more;
+          is = left_moves key_of mid new (next_of image) (end_of_half image - next_of image) next goes.more torn
+              (⊎_elim (λ low. inl (omega (arith, low, end, from))) (λ high. inr (omega (arith, high, forward, from, half, image.fits))) apart)
+              (subst (λ (f : List ℕ). IsLeft key_of f next goes.more) (sym same) goes.is);
+          same =
+              append_assoc held.rows (now ∷ []) (without_keys goes.more)
+              ∙ ap (λ (r : List ℕ). held.rows ++ r ∷ without_keys goes.more) is_row
+              ∙ ap (λ (l : Rows). held.rows ++ without_keys l) (sym goes.same)
+              ∙ so.same;
+        };
+  }
+
+  -- where a page has no room, all pages have none
+  told_all : {S : Type 0} (e : ImageError) (result : Result S ImageError) (rows all : List (List ℕ)) → result ≡ Err e → from_of image ≡ from_of begun → half_bytes_of image ≡ half_bytes_of begun → rows ≡ all
+      → TellsFull {T = Unit {0}} (Err e) (end_of_half image) (next_of begun + 8192 * length (laid rows)) → TellsFull result (end_of_half begun) (next_of begun + 8192 * length (laid all))
+  told_all {S = S} e result rows all is_err from half same tells =
+      subst (λ (r : Result S ImageError). TellsFull r (end_of_half begun) (next_of begun + 8192 * length (laid all))) (sym is_err)
+      (subst (λ n. TellsFull {T = S} (Err e) n (next_of begun + 8192 * length (laid all))) (ap₂ (λ a b. a + b) from half)
+      (subst (λ (l : List (List ℕ)). TellsFull {T = S} (Err e) (end_of_half image) (next_of begun + 8192 * length (laid l))) same (told_so (Unit {0}) S e (end_of_half image) (next_of begun + 8192 * length (laid rows)) tells)))
+
+  pub full_before : {S : Type 0} (e : ImageError) (now row : List ℕ) (next : RowCursor) → now ≡ row → from_of image ≡ from_of begun → half_bytes_of image ≡ half_bytes_of begun
+      → ((left : Rows) → IsTrue modelled → AreRead cache first → IsLeft key_of file cursor left → GoesOn key_of file left row next)
+      → ((rest : List (List ℕ)) → TellsFull {T = Unit {0}} (Err e) (end_of_half image) (next_of begun + 8192 * length (laid (held.rows ++ now ∷ rest))))
+      → (result : Result S ImageError) → result ≡ Err e
+      → (pages : List (List (List ℕ))) → IsTrue modelled → AreRead cache first → IsStored key_of table.places pages first → LieApart table.places begun
+      → TellsFull result (end_of_half begun) (next_of begun + 8192 * length (laid (without_keys (rows_of_table key_of table pages))))
+  full_before e now row next is_row from half gives tells result is_err pages honest read is apart =
+      let so = held.given pages honest read is apart in
+      let goes = gives so.left honest read so.is in
+      told_all e result (held.rows ++ now ∷ without_keys goes.more) (without_keys (rows_of_table key_of table pages)) is_err from half
+      (ap (λ (r : List ℕ). held.rows ++ r ∷ without_keys goes.more) is_row ∙ ap (λ (l : Rows). held.rows ++ without_keys l) (sym goes.same) ∙ so.same)
+      (tells (without_keys goes.more))
+
+  -- where all rows are short, one that was given is
+  pub short_row : (now row : List ℕ) (next : RowCursor) → now ≡ row → ((left : Rows) → IsTrue modelled → AreRead cache first → IsLeft key_of file cursor left → GoesOn key_of file left row next)
+      → (pages : List (List (List ℕ))) → IsTrue modelled → AreRead cache first → IsStored key_of table.places pages first → LieApart table.places begun → AllByRecursion IsShort (without_keys (rows_of_table key_of table pages)) → IsShort now
+  short_row now row next is_row gives pages honest read is apart short =
+      let so = held.given pages honest read is apart in
+      let goes = gives so.left honest read so.is in
+      let all = subst (λ (l : List (List ℕ)). AllByRecursion IsShort l) (sym so.same) short in
+      subst (λ (b : List ℕ). IsShort b) (sym is_row) (subst (λ (l : Rows). AllByRecursion IsShort (without_keys l)) goes.same (all_behind IsShort held.rows (without_keys so.left) all)).0
+
+  -- ---- at the end
+
+  -- all were given
+  pub all_given : ((left : Rows) → IsTrue modelled → AreRead cache first → IsLeft key_of file cursor left → left ≡ []) → (pages : List (List (List ℕ))) → IsTrue modelled → AreRead cache first → IsStored key_of table.places pages first → LieApart table.places begun
+      → held.rows ≡ without_keys (rows_of_table key_of table pages)
+  all_given none pages honest read is apart =
+      let so = held.given pages honest read is apart in
+      sym (append-nil held.rows) ∙ ap (λ (l : Rows). held.rows ++ without_keys l) (sym (none so.left honest read so.is)) ∙ so.same
+
+  pub full_last : {S : Type 0} (e : ImageError) → from_of image ≡ from_of begun → half_bytes_of image ≡ half_bytes_of begun → ((left : Rows) → IsTrue modelled → AreRead cache first → IsLeft key_of file cursor left → left ≡ [])
+      → TellsFull {T = Unit {0}} (Err e) (end_of_half image) (next_of begun + 8192 * length (laid held.rows)) → (result : Result S ImageError) → result ≡ Err e
+      → (pages : List (List (List ℕ))) → IsTrue modelled → AreRead cache first → IsStored key_of table.places pages first → LieApart table.places begun
+      → TellsFull result (end_of_half begun) (next_of begun + 8192 * length (laid (without_keys (rows_of_table key_of table pages))))
+  full_last e from half none tells result is_err pages honest read is apart =
+      told_all e result held.rows (without_keys (rows_of_table key_of table pages)) is_err from half (all_given none pages honest read is apart) tells
+
+-- ---- the table that was written
+
+rows_stand : (file : List ℕ) (at : ℕ) (pages : List (List (List ℕ))) → StandAt kind.Rows file at pages → AreAt file at pages
+rows_stand file at [] stand = tt
+rows_stand file at (p ∷ pages) stand = (stand.0, rows_stand file (at + 8192) pages stand.1)
+
+some_rows : (pages : List (List (List ℕ))) → AreFilled pages → AllByRecursion HasSome pages
+some_rows [] all = tt
+some_rows (p ∷ pages) all = (all.0, some_rows pages all.3)
+
+pub many_keys : (key_of : List ℕ → List ℕ) (pages : List (List (List ℕ))) → length (first_keys key_of pages) ≡ length pages
+many_keys key_of [] = refl
+many_keys key_of (p ∷ pages) = ap suc (many_keys key_of pages)
+
+pub stored : Laying → MergedInOrder → (key_of : List ℕ → List ℕ) (table : Table) (pages : List (List (List ℕ))) (first file : List ℕ) (start : ℕ) (k : PageKind) (keys : List (List ℕ)) (rows : List (List ℕ))
+    → IsStored key_of table.places pages first → HaveKeys key_of (rows_of_table key_of table pages) → rows ≡ without_keys (rows_of_table key_of table pages)
+    → k ≡ kind.Rows → StandAt k file start (laid rows) → keys ≡ first_keys key_of (laid rows) → AllByRecursion IsShort rows
+    → IsImageOf key_of (rows_of_table key_of table pages) (record { at = start; keys = keys }) file
+stored law merging key_of table pages first file start k keys rows is own same kind_is stand are short =
+    let all = without_keys (rows_of_table key_of table pages) in
+    let shorts : AllByRecursion IsShort all = subst (λ (l : List (List ℕ)). AllByRecursion IsShort l) same short in
+    let laying : IsLaid all (laid all) = law all shorts in
+    let back : keyed_rows key_of (rows_over (laid all)) ≡ rows_of_table key_of table pages = ap (λ (l : List (List ℕ)). keyed_rows key_of l) laying.same ∙ own in
+    record {
+      stored = record {
+        stand = subst (λ (l : List (List ℕ)). AreAt file start (laid l)) same (rows_stand file start (laid rows) (subst (λ (k : PageKind). StandAt k file start (laid rows)) kind_is stand));
+        some = some_rows (laid all) laying.filled;
+        first = are ∙ ap (λ (l : List (List ℕ)). first_keys key_of (laid l)) same;
+        order = subst (λ (r : Rows). InOrder r) (sym back) (merging (keyed_rows key_of (rows_over pages)) (changes_of table.overlay) is.order);
+      };
+      same = back;
+      short = shorts;
+    }
+
+offset_low : (h : ℕ) (half : Half) → offset_of h half ≤ 8192 + h
+offset_low h First = omega arith
+offset_low h Second = omega arith
+
+-- a half ends below 2 ^ 40
+pub end_small : (w : ImageWriter) → end_of_half w ≤ 2 ^ 32
+end_small w = omega (arith, w.small, offset_low w.half_bytes w.half)

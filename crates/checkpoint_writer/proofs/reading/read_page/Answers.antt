@@ -1,0 +1,12 @@
+use Rattle.std.specs.Borrow.{Bor}
+use Rattle.row_pages.specs.Page.{Page}
+use Rattle.drda_words.specs.Place.{part}
+use Rattle.checkpoint_writer.proofs.ReadEntries.{not_read}
+use Rattle.checkpoint_writer.proofs.reading.read_page.Goals as goal
+
+pub returns-in-Ok-clause-told : goal.returns-in-Ok-clause-told
+returns-in-Ok-clause-told g c honest read = c.push_page.ensures.told (part (g.D.Disk.life c.args.disk.now).seen c.args.at 8192) (c.in-Ok.ensures.page honest read)
+
+pub returns-in-Err-clause-told : goal.returns-in-Err-clause-told
+returns-in-Err-clause-told g c honest read =
+    not_read (Bor Page) (Unit {0}) (part (g.D.Disk.life c.args.disk.now).seen c.args.at 8192) c.args.at c.args.tables.now.items c.in-Err.fault (c.in-Err.ensures.damaged honest) c.error_at.result c.error_at.ensures

@@ -1,0 +1,130 @@
+//! Writing all rows of a table into an image.
+ghost use Rattle.std.specs.Prelude.{◌≡◌, ◌+◌, ◌*◌, ◌≤◌, ◌++◌, ◌∷◌, [], ℕ, List, true, IsTrue, OnOk, IfOk, length};
+ghost use Rattle.row_pages.specs.Keeping.{AreRead};
+ghost use Rattle.row_pages.specs.Laying.{IsShort, laid};
+ghost use Rattle.std.specs.List.{AllByRecursion};
+ghost use Rattle.half_store.specs.Writing.{from_of, half_bytes_of, next_of};
+ghost use Rattle.table_map.specs.Stored.{IsStored};
+ghost use Rattle.table_map.specs.Table.{rows_of_table, without_keys};
+ghost use Rattle.checkpoint_writer.specs.Adding.{AddsPages, end_of_half};
+ghost use Rattle.checkpoint_writer.specs.Errors.{CountsImage, DamagedWhere, TellsFull};
+ghost use Rattle.checkpoint_writer.specs.Stored.{LieApart, HaveKeys, IsImageOf};
+
+use crate::ImageError;
+use crate::rows::RowWriter;
+use drda_disk::Disk;
+use half_store::ImageWriter;
+use key_map::laws::changes_win;
+use row_pages::{PageCache, PageKind, one_laying};
+use std::alloc::{AllocError, Global};
+use table_map::{RowKeys, TableMap, TablePages};
+
+/// The bytes of the longest row that stands in a page.
+const LONGEST_ROW_BYTES: usize = 8_187;
+
+/// Lays the rows of a table, and keeps the key of each page's first row.
+#[derive(Drop)]
+pub(crate) struct TableWriter {
+    pub(crate) rows: RowWriter,
+    pub(crate) first_keys: Vec<Vec<u8>>,
+}
+
+/// Puts a key behind others.
+fn push_key(keys: &mut Vec<Vec<u8>>, key: Vec<u8>) -> Result<(), AllocError>
+    ensures { OnOk result (keys.new.items ≡ keys.old.items ++ key ∷ []) }
+{
+    match keys.push(key) {
+        Ok(()) => Ok(()),
+        Err(_) => Err(AllocError),
+    }
+}
+
+impl TableWriter {
+    ghost use Rattle.checkpoint_writer.specs.Writing.{HasLaid};
+
+    /// No rows yet.
+    fn new(alloc: Global) -> Result<TableWriter, AllocError>
+        ensures rows { IfOk result (λ writer. writer.rows.page ≡ record { kind = PageKind.Rows; rows = [] }) }
+        ensures empty { IfOk result (λ writer. writer.rows.is_empty ≡ true) }
+        ensures keys { IfOk result (λ writer. writer.first_keys.items ≡ []) }
+    {
+        Ok(TableWriter {
+            rows: RowWriter::new(alloc, PageKind::Rows)?,
+            first_keys: Vec::new(alloc),
+        })
+    }
+
+    /// Lays a row behind the others. One that is too long for a page is damaged.
+    fn add<K: RowKeys, D: Disk>(
+        &mut self,
+        alloc: Global,
+        keys: &K,
+        cache: &mut PageCache,
+        disk: &mut D,
+        image: &mut ImageWriter,
+        row: &[u8],
+    ) -> Result<(), ImageError>
+        requires inside { from_of image.old + half_bytes_of image.old ≤ length (D.life disk.old).seen }
+        ensures adds { AddsPages D.is_modelled (D.life disk.old) (D.life disk.new) image.old image.new }
+        ensures laid { (start : ℕ) (rows : List (List ℕ)) → HasLaid D.is_modelled (K.key_of keys.now) (D.life disk.old).seen start image.old self.old rows
+            → OnOk result (HasLaid D.is_modelled (K.key_of keys.now) (D.life disk.new).seen start image.new self.new (rows ++ row.now ∷ [])) }
+        ensures full { (start : ℕ) (rows rest : List (List ℕ)) → HasLaid D.is_modelled (K.key_of keys.now) (D.life disk.old).seen start image.old self.old rows
+            → TellsFull result (end_of_half image.old) (start + 8192 * length (laid (rows ++ row.now ∷ rest))) }
+        ensures kept { IsTrue D.is_modelled → AreRead cache.old (D.life disk.old).seen → AreRead cache.new (D.life disk.new).seen }
+        ensures damaged { DamagedWhere (IsShort row.now → ⊥) result }
+        ensures cause { CountsImage result (D.life disk.old).faults (D.life disk.new).faults }
+    {
+        if row.len() > LONGEST_ROW_BYTES {
+            return Err(ImageError::Damaged);
+        }
+        if self.rows.add(alloc, cache, disk, image, row)? {
+            push_key(&mut self.first_keys, keys.key(alloc, row)?)?;
+        }
+        Ok(())
+    }
+}
+
+/// Writes all rows of a table, in the order of their keys, into pages behind those that the image has,
+/// so that a page ends only where the next row does not fit. No rows take no page. Where the pages
+/// lie then is returned, with the key of each one's first row.
+///
+/// `Full` is told only where the half has no room for all of the pages and a gate behind them. Of a
+/// table whose pages stand there `Damaged` is told only where one of all rows is too long for a page;
+/// of another one where a page that is read is none or has no rows, too. After a fault some of the pages may have been written. At any moment the active half stays what it is.
+pub fn merge_into<K: RowKeys, D: Disk>(
+    alloc: Global,
+    keys: &K,
+    table: &TableMap,
+    cache: &mut PageCache,
+    disk: &mut D,
+    image: &mut ImageWriter,
+) -> Result<TablePages, ImageError>
+    requires table { table.now.places.at + 8192 * length table.now.places.keys ≤ length (D.life disk.old).seen }
+    requires inside { from_of image.old + half_bytes_of image.old ≤ length (D.life disk.old).seen }
+    ensures adds { AddsPages D.is_modelled (D.life disk.old) (D.life disk.new) image.old image.new }
+    ensures at { IfOk result (λ written. written.at ≡ next_of image.old) }
+    ensures pages { IfOk result (λ written. next_of image.new ≡ written.at + 8192 * length written.keys) }
+    ensures rows { (pages : List (List (List ℕ))) → IsTrue D.is_modelled → AreRead cache.old (D.life disk.old).seen → IsStored (K.key_of keys.now) table.now.places pages (D.life disk.old).seen
+        → LieApart table.now.places image.old → HaveKeys (K.key_of keys.now) (rows_of_table (K.key_of keys.now) table.now pages)
+        → IfOk result (λ written. IsImageOf (K.key_of keys.now) (rows_of_table (K.key_of keys.now) table.now pages) written (D.life disk.new).seen) }
+    ensures full { (pages : List (List (List ℕ))) → IsTrue D.is_modelled → AreRead cache.old (D.life disk.old).seen → IsStored (K.key_of keys.now) table.now.places pages (D.life disk.old).seen
+        → LieApart table.now.places image.old
+        → TellsFull result (end_of_half image.old) (next_of image.old + 8192 * length (laid (without_keys (rows_of_table (K.key_of keys.now) table.now pages)))) }
+    ensures kept { IsTrue D.is_modelled → AreRead cache.old (D.life disk.old).seen → AreRead cache.new (D.life disk.new).seen }
+    ensures damaged { (pages : List (List (List ℕ))) → IsTrue D.is_modelled → AreRead cache.old (D.life disk.old).seen → IsStored (K.key_of keys.now) table.now.places pages (D.life disk.old).seen
+        → LieApart table.now.places image.old
+        → DamagedWhere (AllByRecursion IsShort (without_keys (rows_of_table (K.key_of keys.now) table.now pages)) → ⊥) result }
+    ensures cause { CountsImage result (D.life disk.old).faults (D.life disk.new).faults }
+{
+    one_laying();
+    changes_win();
+    let at = image.finish_pages().at;
+    let mut cursor = table.rows(alloc);
+    let mut writer = TableWriter::new(alloc)?;
+    while let Some(row) = cursor.next(alloc, keys, cache, disk)? {
+        writer.add(alloc, keys, cache, disk, image, &row)?;
+    }
+    let TableWriter { rows, first_keys } = writer;
+    rows.finish(cache, disk, image)?;
+    Ok(TablePages::new(at, first_keys))
+}

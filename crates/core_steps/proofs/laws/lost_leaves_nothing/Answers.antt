@@ -1,5 +1,0 @@
-use Rattle.core_steps.proofs.Losing.{lost_leaves_nothing}
-use Rattle.core_steps.proofs.laws.lost_leaves_nothing.Goals as goal
-
-pub returns : goal.returns
-returns c = lost_leaves_nothing

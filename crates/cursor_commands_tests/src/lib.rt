@@ -1,0 +1,7 @@
+//! Tests of cursor_commands.
+#![tactic(auto)]
+
+#[cfg(test)]
+mod cursors;
+#[cfg(test)]
+mod fixtures;

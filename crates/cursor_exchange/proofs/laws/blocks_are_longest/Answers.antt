@@ -1,8 +1,0 @@
-use Rattle.cursor_exchange.proofs.Counting.{is_block, one_block}
-use Rattle.cursor_exchange.proofs.laws.blocks_are_longest.Goals as goal
-
-pub returns-clause-block : goal.returns-clause-block
-returns-clause-block c = is_block
-
-pub returns-clause-one : goal.returns-clause-one
-returns-clause-one c = one_block

@@ -1,5 +1,0 @@
-//! Tests of disk_recorder.
-#![tactic(auto)]
-
-#[cfg(test)]
-mod records;

@@ -1,5 +1,0 @@
-use Rattle.durable_units.proofs.Holding.{held_for_doubts}
-use Rattle.durable_units.proofs.laws.doubts_hold_their_decisions.Goals as goal
-
-pub returns : goal.returns
-returns c = held_for_doubts

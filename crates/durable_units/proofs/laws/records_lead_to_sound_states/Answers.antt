@@ -1,5 +1,0 @@
-use Rattle.durable_units.proofs.Sounding.{leads_are_sound}
-use Rattle.durable_units.proofs.laws.records_lead_to_sound_states.Goals as goal
-
-pub returns : goal.returns
-returns c = leads_are_sound c.states_stay_sound.ensures

@@ -1,5 +1,0 @@
-//! Tests of durable_units.
-#![tactic(auto)]
-
-#[cfg(test)]
-mod journals;

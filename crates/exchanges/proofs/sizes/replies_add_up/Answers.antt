@@ -1,6 +1,0 @@
--- By induction on the first replies.
-use Rattle.exchanges.proofs.Sums.{add_up}
-use Rattle.exchanges.proofs.sizes.replies_add_up.Goals as goal
-
-pub returns-clause-sum : goal.returns-clause-sum
-returns-clause-sum c = add_up

@@ -1,0 +1,76 @@
+-- What becomes of a disk and its journal where a unit is recorded.
+use Rattle.std.specs.Prelude.{◌≡◌, ℕ, ◌+◌, ◌-◌, ◌^◌, ◌<◌, ◌≤◌, Bool, true, false, List, [], ◌∷◌, ◌++◌, length, min}
+use Rattle.drda_disk.specs.Disk.{LeavesOnly, Life}
+use Rattle.drda_disk.specs.Region.{SameOutside, end_of}
+use Rattle.unit_journal.specs.declared.journal.Journal.{Journal}
+use Rattle.unit_journal.specs.Journal.{IsSettled, held_of, region_of, room_of}
+use Rattle.unit_journal.specs.Record.{Entry}
+use Rattle.unit_journal.specs.Stands.{IsBeforeOrAfter}
+use Rattle.unit_records.specs.Records.{IsGood, UnitRecord, entry_of}
+use Rattle.unit_records.specs.Room.{held, released, taken}
+use Rattle.recording.specs.declared.record_error.RecordError.{RecordError}
+use Rattle.recording.specs.declared.record_error.RecordError.TheVariants.{DeviceFailed, Full, NoMemory}
+use Rattle.journal_recorder.specs.declared.recorder.DiskRecorder.{DiskRecorder}
+
+abbrev pub journal_of : {D : Type 0} → DiskRecorder D → Journal
+journal_of r = r.journal
+
+abbrev pub disk_of : {D : Type 0} → DiskRecorder D → D
+disk_of r = r.disk
+
+-- the device has failed
+abbrev pub has_failed : {D : Type 0} → DiskRecorder D → Bool
+has_failed r = r.is_failed
+
+-- the records that it made, or began where the device failed, in their order
+abbrev pub made_of : {D : Type 0} → DiskRecorder D → List Entry
+made_of r = r.made.entries
+
+module _ {D : Type 0} (modelled : Bool) (life : D → Life) where
+  abbrev pub life_of : DiskRecorder D → Life
+  life_of r = life (disk_of r)
+
+  -- it can record: the device has not failed, and what is released is held
+  pub record Allows (r : DiskRecorder D) (said : UnitRecord) : Type 0 where
+    pub going : has_failed r ≡ false
+    pub inside : end_of (region_of (journal_of r)) ≤ length (life_of r).seen
+    pub released_is_held : released said ≤ held_of (journal_of r)
+
+  -- a crash at any moment leaves the records from before, with this one or without
+  abbrev pub LeavesOneMore : DiskRecorder D → UnitRecord → DiskRecorder D → Type 0
+  LeavesOneMore old said new = (es : List Entry) → IsSettled modelled (life_of old) (journal_of old) es
+      → LeavesOnly (life_of old) (life_of new) (IsBeforeOrAfter (region_of (journal_of old)) (life_of old).seen es (entry_of said))
+
+  pub record Records (old : DiskRecorder D) (said : UnitRecord) (new : DiskRecorder D) : Type 0 where
+    pub good : IsGood said
+    pub settled : (es : List Entry) → IsSettled modelled (life_of old) (journal_of old) es → IsSettled modelled (life_of new) (journal_of new) (es ++ entry_of said ∷ [])
+    pub moments : LeavesOneMore old said new
+    pub others : SameOutside (region_of (journal_of old)) (life_of old).seen (life_of new).seen
+    pub region : region_of (journal_of new) ≡ region_of (journal_of old)
+    pub room : room_of (journal_of new) + (taken said + held said) ≡ room_of (journal_of old) + released said
+    pub held : held_of (journal_of new) + released said ≡ held_of (journal_of old) + held said
+    pub faults : (life_of new).faults ≡ (life_of old).faults
+    pub going : has_failed new ≡ false
+    pub made : made_of new ≡ made_of old ++ entry_of said ∷ []
+
+  -- the record and what it holds back are longer than the room and what it releases; what is needed stops at 2^64 - 1
+  pub record HasNoRoom (old : DiskRecorder D) (said : UnitRecord) (need room : ℕ) : Type 0 where
+    pub need_is : need ≡ min (taken said + held said - released said) (2 ^ 64 - 1)
+    pub room_is : room ≡ room_of (journal_of old)
+    pub less : room_of (journal_of old) + released said < taken said + held said
+
+  -- whether the record is there shows when the store is opened again
+  pub record IsLeftOpen (old : DiskRecorder D) (said : UnitRecord) (new : DiskRecorder D) : Type 0 where
+    pub good : IsGood said
+    pub fits : taken said + held said ≤ room_of (journal_of old) + released said
+    pub moments : LeavesOneMore old said new
+    pub others : SameOutside (region_of (journal_of old)) (life_of old).seen (life_of new).seen
+    pub journal : journal_of new ≡ journal_of old
+    pub faults : (life_of new).faults ≡ (life_of old).faults + 1
+    pub failed : has_failed new ≡ true
+    pub made : made_of new ≡ made_of old ++ entry_of said ∷ []
+
+  abbrev pub Fails : DiskRecorder D → UnitRecord → RecordError → DiskRecorder D → Type 0
+  Fails old said NoMemory new = new ≡ old
+  Fails old said (Full need room) new = (new ≡ old) × HasNoRoom old said need room
+  Fails old said DeviceFailed new = IsLeftOpen old said new

@@ -1,0 +1,201 @@
+//! Who records in a journal.
+
+ghost use Rattle.std.specs.Prelude.{◌≡◌, ◌+◌, ◌<◌, ◌≤◌, ◌^◌, false, [], IfErr, OnOk, length, map};
+ghost use Rattle.drda_disk.specs.Region.{end_of};
+ghost use Rattle.tables.specs.ChangeView.{change_of};
+ghost use Rattle.unit_journal.specs.Journal.{held_of, region_of, room_of};
+ghost use Rattle.unit_journal.specs.LaidRecord.{entry_in};
+ghost use Rattle.unit_records.specs.Records.{UnitRecord, committed, decided, prepared};
+ghost use Rattle.journal_recorder.specs.Kinds.{kind_for};
+
+use crate::laying::{lay_commit, lay_decide, lay_prepare};
+use crate::made::MadeRecords;
+use drda_disk::{Disk, Region};
+use recording::{RecordContents, RecordError, Recorder};
+use std::alloc::Global;
+use tables::Change;
+use unit_journal::{AppendError, Journal, Kind, LaidRecord};
+use unit_locks::Claim;
+use unit_records::held_for_decision;
+use xa_calls::Xid;
+use xa_manager::Decision;
+
+/// Records in the journal of a disk, each record by four device calls: write, sync, gate, sync. A
+/// prepare holds the bytes of its decision back, so that a decision always has room. Once the device
+/// has failed nothing is recorded any more, and no device call is made.
+#[derive(Drop)]
+pub struct DiskRecorder<D> {
+    alloc: Global,
+    disk: D,
+    journal: Journal,
+    is_failed: bool,
+    made: MadeRecords,
+}
+
+impl<D: Disk> DiskRecorder<D> {
+    ghost use Rattle.journal_recorder.specs.Laying.{Says};
+    ghost use Rattle.journal_recorder.specs.Recording.{Allows, Fails, Records, disk_of, has_failed, journal_of, made_of};
+
+    /// Records in this journal of this disk, whose device has not failed.
+    pub fn new(alloc: Global, disk: D, journal: Journal) -> DiskRecorder<D>
+        ensures disk { disk_of result ≡ disk }
+        ensures journal { journal_of result ≡ journal }
+        ensures going { has_failed result ≡ false }
+        ensures made { made_of result ≡ [] }
+    {
+        DiskRecorder {
+            alloc,
+            disk,
+            journal,
+            is_failed: false,
+            made: MadeRecords::none(),
+        }
+    }
+
+    /// The disk.
+    pub fn disk(&self) -> &D
+        ensures { result.now ≡ disk_of self.now }
+    {
+        &self.disk
+    }
+
+    /// Whether the device has failed in a record.
+    pub fn is_failed(&self) -> bool
+        ensures { result ≡ has_failed self.now }
+    {
+        self.is_failed
+    }
+
+    /// The part of the disk that the journal has.
+    pub fn region(&self) -> Region
+        ensures { result ≡ region_of (journal_of self.now) }
+    {
+        self.journal.region()
+    }
+
+    /// How many bytes of the journal are left for records.
+    pub fn room(&self) -> usize
+        ensures { result ≡ room_of (journal_of self.now) }
+    {
+        self.journal.room()
+    }
+
+    /// How many bytes of the journal are held back for decisions.
+    pub fn held(&self) -> usize
+        ensures { result ≡ held_of (journal_of self.now) }
+    {
+        self.journal.held()
+    }
+
+    /// The disk, when nothing more is to be recorded.
+    pub fn into_disk(self) -> D
+        ensures { result ≡ disk_of self }
+    {
+        self.disk
+    }
+
+    // The room, which is below 2^32 as a journal's region is at most that long.
+    fn small_room(&self) -> usize
+        ensures value { result ≡ room_of (journal_of self.now) }
+        ensures small { result < 2 ^ 32 }
+    {
+        self.journal.room()
+    }
+
+    fn commit(&mut self, changes: &[Change]) -> Result<(), RecordError>
+        requires { Allows D.is_modelled D.life self.old (committed (map change_of changes.now)) }
+        ensures ok { OnOk result (Records D.is_modelled D.life self.old (committed (map change_of changes.now)) self.new) }
+        ensures err { IfErr result (λ error. Fails D.is_modelled D.life self.old (committed (map change_of changes.now)) error self.new) }
+    {
+        match lay_commit(self.alloc, changes, self.small_room()) {
+            Ok(laid) => self.append(&laid, 0, 0),
+            Err(error) => Err(error),
+        }
+    }
+
+    fn prepare(
+        &mut self,
+        xid: &Xid,
+        changes: &[Change],
+        claims: &[Claim],
+    ) -> Result<(), RecordError>
+        requires { Allows D.is_modelled D.life self.old (prepared xid.now (map change_of changes.now) claims.now) }
+        ensures ok { OnOk result (Records D.is_modelled D.life self.old (prepared xid.now (map change_of changes.now) claims.now) self.new) }
+        ensures err { IfErr result (λ error. Fails D.is_modelled D.life self.old (prepared xid.now (map change_of changes.now) claims.now) error self.new) }
+    {
+        match lay_prepare(self.alloc, xid, changes, claims, self.small_room()) {
+            Ok(laid) => self.append(&laid, held_for_decision(xid), 0),
+            Err(error) => Err(error),
+        }
+    }
+
+    fn decide(&mut self, xid: &Xid, decision: Decision) -> Result<(), RecordError>
+        requires { Allows D.is_modelled D.life self.old (decided xid.now decision) }
+        ensures ok { OnOk result (Records D.is_modelled D.life self.old (decided xid.now decision) self.new) }
+        ensures err { IfErr result (λ error. Fails D.is_modelled D.life self.old (decided xid.now decision) error self.new) }
+    {
+        match lay_decide(self.alloc, xid, decision, self.small_room()) {
+            Ok(laid) => self.append(&laid, 0, held_for_decision(xid)),
+            Err(_) => Err(RecordError::NoMemory),
+        }
+    }
+
+    // Adds a record that fits; a failure of the device is remembered.
+    fn append(&mut self, laid: &LaidRecord, hold: usize, release: usize) -> Result<(), RecordError>
+        requires going { has_failed self.old ≡ false }
+        requires inside { end_of (region_of (journal_of self.old)) ≤ length (D.life (disk_of self.old)).seen }
+        requires released { release ≤ held_of (journal_of self.old) }
+        requires fits { 6 + length (entry_in laid.now).body + hold ≤ room_of (journal_of self.old) + release }
+        ensures ok { (said : UnitRecord) → Says said (entry_in laid.now) hold release → OnOk result (Records D.is_modelled D.life self.old said self.new) }
+        ensures err { (said : UnitRecord) → Says said (entry_in laid.now) hold release → IfErr result (λ error. Fails D.is_modelled D.life self.old said error self.new) }
+    {
+        match self.journal.append(&mut self.disk, laid, hold, release) {
+            Ok(()) => {
+                self.made.note(&[number_of(laid.kind())], laid.body());
+                Ok(())
+            }
+            Err(AppendError::Full(full)) => Err(RecordError::Full {
+                need: full.need as u64,
+                room: full.room as u64,
+            }),
+            Err(AppendError::DeviceFailed) => {
+                self.is_failed = true;
+                self.made.note(&[number_of(laid.kind())], laid.body());
+                Err(RecordError::DeviceFailed)
+            }
+        }
+    }
+}
+
+// The number that a kind is noted by.
+fn number_of(kind: Kind) -> u8
+    ensures { kind_for result ≡ kind }
+{
+    match kind {
+        Kind::Commit => 1,
+        Kind::Prepare => 2,
+        Kind::Decide => 3,
+    }
+}
+
+impl<D: Disk> Recorder for DiskRecorder<D> {
+    ghost use Rattle.journal_recorder.specs.Recording.{Allows, Fails, Records};
+
+    ghost allows = { λ old said. Allows D.is_modelled D.life old said };
+
+    ghost records = { λ old said new. Records D.is_modelled D.life old said new };
+
+    ghost fails = { λ old said error new. Fails D.is_modelled D.life old said error new };
+
+    fn record(&mut self, saying: RecordContents<'_>) -> Result<(), RecordError> {
+        match saying {
+            RecordContents::Commit { changes } => self.commit(changes),
+            RecordContents::Prepare {
+                xid,
+                changes,
+                claims,
+            } => self.prepare(xid, changes, claims),
+            RecordContents::Decide { xid, decision } => self.decide(xid, decision),
+        }
+    }
+}

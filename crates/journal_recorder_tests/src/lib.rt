@@ -1,0 +1,5 @@
+//! Tests of journal_recorder.
+#![tactic(auto)]
+
+#[cfg(test)]
+mod records;

@@ -1,0 +1,30 @@
+-- Changes have their places one behind another.
+use Rattle.std.proofs.Common.{◌≡◌, ℕ, List, [], ◌∷◌, ◌++◌, Bool, true, false, ◌&&◌, refl, sym, ap, ◌∙◌, append_assoc}
+use Rattle.row_values.specs.declared.row.ReadError.{ReadError}
+use Rattle.row_values.specs.declared.row.ReadError.TheVariants.{Damaged, NoMemory}
+use Rattle.tables.specs.Change.{Change}
+use Rattle.tables.specs.Tables.{Store, apply}
+use Rattle.core_model.specs.Units.{apply_all}
+use Rattle.recovery.specs.Durable.{has_place, have_places}
+use Rattle.recovery.specs.Replay.{Fails}
+
+one_behind : (xs : List Change) (x : Change) (s : Store) → apply_all (xs ++ x ∷ []) s ≡ apply x (apply_all xs s)
+one_behind [] x s = refl
+one_behind (y ∷ xs) x s = one_behind xs x (apply y s)
+
+-- the next change of those that are left
+module _ (unit left rest : List Change) (x : Change) (s now : Store) (is : left ≡ x ∷ rest) (same : now ≡ s) where
+  pub all_more : (more all : List Change) → more ≡ unit ++ x ∷ [] → unit ++ left ≡ all → more ++ rest ≡ all
+  all_more more all one whole = ap (λ (l : List Change). l ++ rest) one ∙ append_assoc unit (x ∷ []) rest ∙ sym (ap (λ (l : List Change). unit ++ l) is) ∙ whole
+
+  pub placed_more : (more : List Change) (all : Bool) → more ≡ unit ++ x ∷ [] → has_place x (apply_all unit now) ≡ true → have_places left (apply_all unit s) ≡ all → have_places rest (apply_all more s) ≡ all
+  placed_more more all one placed whole =
+      let here : has_place x (apply_all unit s) ≡ true = sym (ap (λ (t : Store). has_place x (apply_all unit t)) same) ∙ placed in
+      ap (λ (u : List Change). have_places rest (apply_all u s)) one ∙ ap (have_places rest) (one_behind unit x s)
+      ∙ sym (ap (λ (b : Bool). b && have_places rest (apply x (apply_all unit s))) here) ∙ sym (ap (λ (l : List Change). have_places l (apply_all unit s)) is) ∙ whole
+
+  pub not_placed : (error : ReadError) (all : Bool) → Fails error (has_place x (apply_all unit now)) → have_places left (apply_all unit s) ≡ all → Fails error all
+  not_placed Damaged all none whole =
+      let here : has_place x (apply_all unit s) ≡ false = sym (ap (λ (t : Store). has_place x (apply_all unit t)) same) ∙ none in
+      sym whole ∙ ap (λ (l : List Change). have_places l (apply_all unit s)) is ∙ ap (λ (b : Bool). b && have_places rest (apply x (apply_all unit s))) here
+  not_placed NoMemory all none whole = tt

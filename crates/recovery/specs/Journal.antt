@@ -1,0 +1,80 @@
+-- What the records of a journal lead to, by their bytes.
+use Rattle.std.specs.Prelude.{◌≡◌, ℕ, List, [], ◌∷◌, ◌++◌, map, Option, Some, None, Result, Ok, Err}
+use Rattle.std.specs.List.{AllByRecursion}
+use Rattle.row_values.specs.declared.row.ReadError.{ReadError}
+use Rattle.row_values.specs.declared.row.ReadError.TheVariants as read
+use Rattle.unit_journal.specs.Record.{Entry, entries_of, entry_of}
+use Rattle.unit_journal.specs.declared.record.Record.{Record}
+use Rattle.unit_records.specs.Records.{IsGood, IsRecord, UnitRecord, entry_of as written}
+use Rattle.recovery.specs.Durable.{Durable, fresh, next, replayed_from}
+use Rattle.recovery.specs.declared.steps.Replay.{Replay}
+use Rattle.recovery.specs.Replay.{durable_of}
+use Rattle.recovery.specs.declared.journal.ReplayError.{ReplayError}
+use Rattle.recovery.specs.declared.journal.ReplayError.TheVariants.{Damaged, NoMemory}
+
+-- an entry says something that leads from a state to another
+pub record LeadsOn (d : Durable) (e : Entry) (f : Durable) : Type 0 where
+  pub said : UnitRecord
+  pub is : IsRecord e.kind e.body said
+  pub step : next d said ≡ Some f
+
+-- so do all of them, one after another
+abbrev pub Leads : Durable → List Entry → Durable → Type 0
+Leads d [] f = d ≡ f
+Leads d (e ∷ es) f = (g : Durable) × LeadsOn d e g × Leads g es f
+
+-- what an entry says has no place in a state, or it says nothing
+abbrev pub HasNoPlace : Durable → Entry → Type 0
+HasNoPlace d e = (said : UnitRecord) → IsRecord e.kind e.body said → next d said ≡ None
+
+-- the first records lead to a state, and there the next one has no place, whose gate is at this offset
+pub record StopsAt (d : Durable) (records : List Record) (at : ℕ) : Type 0 where
+  pub before : List Record
+  pub here : Record
+  pub behind : List Record
+  pub whole : records ≡ before ++ (here ∷ behind)
+  pub state : Durable
+  pub leads : Leads d (entries_of before) state
+  pub no_place : HasNoPlace state (entry_of here)
+  pub place : at ≡ here.at
+
+-- what is told of an entry: the state to which it leads, or that it has no place
+abbrev pub Goes : {X : Type 0} → Durable → Entry → Result X ReadError → Durable → Type 0
+Goes d e (Ok x) f = LeadsOn d e f
+Goes d e (Err read.Damaged) f = HasNoPlace d e
+Goes d e (Err read.NoMemory) f = Unit {0}
+
+-- what a replay answers: the state that the records lead to, or where they are damaged. Want of memory may
+-- come in place of either.
+abbrev pub Replays : List Record → Result Replay ReplayError → Type 0
+Replays records (Ok r) = Leads fresh (entries_of records) (durable_of r)
+Replays records (Err (Damaged at)) = StopsAt fresh records at
+Replays records (Err NoMemory) = Unit {0}
+
+-- this state is found, or there is no memory
+abbrev pub Finds : Durable → Result Replay ReplayError → Type 0
+Finds d (Ok r) = durable_of r ≡ d
+Finds d (Err (Damaged at)) = ⊥
+Finds d (Err NoMemory) = Unit {0}
+
+-- ---- laws
+
+-- records of which each can be written
+abbrev pub AreGood : List UnitRecord → Type 0
+AreGood rs = AllByRecursion IsGood rs
+
+-- entries lead to one state at most
+abbrev pub OneState : Type 0
+OneState = (d e f : Durable) (es : List Entry) → Leads d es e → Leads d es f → e ≡ f
+
+-- and not to one where they stop
+abbrev pub NoStop : Type 0
+NoStop = (d e : Durable) (records : List Record) (at : ℕ) → Leads d (entries_of records) e → StopsAt d records at → ⊥
+
+-- records that can be written lead to what they are replayed to
+abbrev pub WrittenLead : Type 0
+WrittenLead = (d e : Durable) (rs : List UnitRecord) → AreGood rs → replayed_from d rs ≡ Some e → Leads d (map written rs) e
+
+-- and back
+abbrev pub LeadingWereWritten : Type 0
+LeadingWereWritten = (d e : Durable) (es : List Entry) → Leads d es e → (rs : List UnitRecord) × AreGood rs × (es ≡ map written rs) × (replayed_from d rs ≡ Some e)

@@ -1,0 +1,36 @@
+-- What holds of every state that records lead to.
+use Rattle.std.specs.Prelude.{◌≡◌, ◌≤◌, ℕ, true, List, [], length, Some}
+use Rattle.std.specs.List.{AllByRecursion}
+use Rattle.std.specs.Ordering.{nat_cmp}
+use Rattle.std.specs.Cmp.Lexicographic.{slice_cmp}
+use Rattle.std.specs.Map.{keys_of}
+use Rattle.drda_words.specs.Order.{rises}
+use Rattle.tables.specs.View.{is_store}
+use Rattle.core_model.specs.Units.{Work}
+use Rattle.unit_locks.specs.Claims.{all_added}
+use Rattle.unit_journal.specs.Record.{Entry}
+use Rattle.unit_records.specs.Records.{IsGood, UnitRecord, prepared}
+use Rattle.recovery.specs.Durable.{Durable, fresh, is_claimed, next}
+use Rattle.recovery.specs.Journal.{Leads}
+
+-- a unit in doubt whose prepare can be written, and that has claimed all names where it creates a table
+pub record IsGoodDoubt (e : List ℕ × Work) : Type 0 where
+  pub good : IsGood (prepared e.0 e.1.changes e.1.claims)
+  pub claimed : is_claimed e.1.changes e.1.claims ≡ true
+  -- each claim once
+  pub once : all_added [] e.1.claims ≡ e.1.claims
+
+-- the committed store is one; the XIDs in doubt rise, 256 at most, each with a unit that can be written
+pub record IsSound (d : Durable) : Type 0 where
+  pub store : is_store d.store ≡ true
+  pub rising : rises (slice_cmp nat_cmp) (keys_of d.doubts) ≡ true
+  pub few : length d.doubts ≤ 256
+  pub good : AllByRecursion IsGoodDoubt d.doubts
+
+-- a record that can be written keeps a state sound
+abbrev pub StatesStaySound : Type 0
+StatesStaySound = (d e : Durable) (r : UnitRecord) → IsGood r → next d r ≡ Some e → IsSound d → IsSound e
+
+-- so entries lead from a store that was just made to a sound state
+abbrev pub LeadsAreSound : Type 0
+LeadsAreSound = (d : Durable) (es : List Entry) → Leads fresh es d → IsSound d

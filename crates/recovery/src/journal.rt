@@ -1,0 +1,62 @@
+//! The records of a journal, replayed.
+
+ghost use Rattle.std.specs.Prelude.{◌≡◌, IfErr};
+ghost use Rattle.unit_journal.specs.Record.{entries_of, entry_of};
+ghost use Rattle.unit_records.specs.Records.{UnitRecord as RecordIs};
+ghost use Rattle.recovery.specs.Durable.{Durable, fresh};
+ghost use Rattle.recovery.specs.Replay.{durable_of};
+ghost use Rattle.recovery.specs.Journal.{Finds, Goes, Leads, Replays};
+
+use crate::laws::records_lead_one_way;
+use crate::steps::Replay;
+use row_values::ReadError;
+use std::alloc::Global;
+use thiserror::Error;
+use unit_journal::Record;
+use unit_records::UnitRecord;
+use unit_records::laws::records_have_one_reading;
+
+/// Why records were not replayed.
+#[derive(Clone, Copy, Debug, PartialEq, Eq, Error)]
+pub enum ReplayError {
+    #[error("no memory")]
+    NoMemory,
+    /// The record whose gate is at this offset of the disk has no place among those before it, or its
+    /// body says nothing.
+    #[error("damaged at {at}")]
+    Damaged { at: usize },
+}
+
+/// The committed tables and the units in doubt that the records of a journal lead to, from its first
+/// on. `Damaged` exactly where a record has no place among those before it (as `Replay::step` tells; so
+/// a prepare that creates a table and does not claim all names has none), or its body is none of its
+/// kind: at the first such record's gate.
+pub fn replay(alloc: Global, records: &[Record]) -> Result<Replay, ReplayError>
+    ensures replays { Replays records.now result }
+    ensures finds { (d : Durable) → Leads fresh (entries_of records.now) d → Finds d result }
+{
+    records_lead_one_way();
+    let mut state = Replay::new(alloc);
+    let mut left = records;
+    while let [entry, rest @ ..] = left {
+        match read_and_step(&mut state, alloc, entry) {
+            Ok(()) => {}
+            Err(ReadError::Damaged) => return Err(ReplayError::Damaged { at: entry.at }),
+            Err(ReadError::NoMemory) => return Err(ReplayError::NoMemory),
+        }
+        left = rest;
+    }
+    Ok(state)
+}
+
+// Reads a record and makes it good.
+fn read_and_step(state: &mut Replay, alloc: Global, entry: &Record) -> Result<(), ReadError>
+    ensures { Goes (durable_of state.old) (entry_of entry.now) result (durable_of state.new) }
+{
+    records_have_one_reading();
+    let said = match UnitRecord::read(alloc, entry.kind, entry.body.as_slice()) {
+        Ok(said) => said,
+        Err(error) => return Err(error),
+    };
+    state.step(alloc, said)
+}

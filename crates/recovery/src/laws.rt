@@ -1,0 +1,61 @@
+//! Laws of the states that records stand for. The functions do nothing: their contracts are the laws.
+
+ghost use Rattle.recovery.specs.Laws.{FrontsStand, GoesOn, HeldForDoubts, OneMore};
+ghost use Rattle.recovery.specs.Journal.{LeadingWereWritten, NoStop, OneState, WrittenLead};
+ghost use Rattle.recovery.specs.Places.{ChangesKeepTables, PlacesGoOn, RowsKeepPlaces, TablesGivePlaces};
+ghost use Rattle.recovery.specs.Sound.{LeadsAreSound, StatesStaySound};
+
+use tables::laws::{changes_are_local, changes_make_tables};
+use unit_records::laws::records_have_one_reading;
+
+/// Records are replayed one after another: what follows others goes on from where they led, and where
+/// all have their places, so has each front of them.
+pub fn records_follow_one_another()
+    ensures goes_on { GoesOn }
+    ensures one_more { OneMore }
+    ensures fronts { FrontsStand }
+{}
+
+/// The entries of a journal lead to one state at most, and nowhere where they are damaged. They are
+/// the records that can be written, and lead to what these are replayed to.
+pub fn records_lead_one_way()
+    ensures one { OneState }
+    ensures damage { NoStop }
+    ensures written { WrittenLead }
+    ensures back { LeadingWereWritten }
+{
+    records_have_one_reading();
+}
+
+/// What is held back in a journal is what the decisions of the units in doubt take.
+pub fn doubts_hold_their_decisions()
+    ensures { HeldForDoubts }
+{}
+
+/// When changes that have their places keep them: changes of rows wherever the tables are kept, and all
+/// changes where no table is created besides. A change creates a table or leaves all of them.
+pub fn places_depend_on_tables()
+    ensures go_on { PlacesGoOn }
+    ensures rows { RowsKeepPlaces }
+    ensures tables { TablesGivePlaces }
+    ensures kept { ChangesKeepTables }
+{
+    changes_are_local();
+    changes_make_tables();
+}
+
+/// Each record that can be written keeps a state sound: a store, and XIDs in doubt that rise, 256 at
+/// most, each with a unit that can be written, that has each claim once, and that has claimed all names
+/// where it creates a table.
+pub fn states_stay_sound()
+    ensures { StatesStaySound }
+{
+    changes_are_local();
+}
+
+/// The state that entries lead to from a store that was just made is sound.
+pub fn records_lead_to_sound_states()
+    ensures { LeadsAreSound }
+{
+    states_stay_sound();
+}

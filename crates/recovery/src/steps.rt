@@ -1,0 +1,127 @@
+//! Records made good, one after another.
+
+ghost use Rattle.std.specs.Prelude.{◌≡◌, OnErr, OnOk, is_some, false, map};
+ghost use Rattle.tables.specs.ChangeView.{change_of};
+ghost use Rattle.unit_records.specs.Records.{committed, decided, prepared};
+ghost use Rattle.unit_records.specs.Read.{record_of};
+ghost use Rattle.recovery.specs.Durable.{fresh, next};
+
+use crate::claimed::is_claimed;
+use crate::gathered::{gather, make};
+use crate::prepared::{PreparedUnit, add, is_known, place_of, take_at};
+use row_values::ReadError;
+use std::alloc::Global;
+use table_store::TableStore;
+use tables::Change;
+use unit_locks::Claim;
+use unit_records::UnitRecord;
+use xa_calls::Xid;
+use xa_manager::{Decision, MAX_IN_DOUBT};
+
+/// The committed tables and the units in doubt that the records so far stand for.
+#[derive(Debug, Drop)]
+pub struct Replay {
+    store: TableStore,
+    units: Vec<PreparedUnit>,
+}
+
+impl Replay {
+    ghost use Rattle.recovery.specs.Replay.{Steps, durable_of, doubts_in};
+    ghost use Rattle.table_store.specs.TableStore.{store_in};
+
+    /// No tables and no units: what no record stands for. Takes no memory.
+    pub fn new(alloc: Global) -> Replay
+        ensures { durable_of result ≡ fresh }
+    {
+        Replay {
+            store: TableStore::new(alloc),
+            units: Vec::new(alloc),
+        }
+    }
+
+    /// Makes the next record good. `Damaged` exactly where it has no place among those before it: a
+    /// change of a commit or of a prepare is of no table, or of another form than its table's, or
+    /// creates a table that is there or the 1,001st; a prepare creates a table and does not claim all
+    /// names; its XID is in doubt already, or 256 are; the XID of a decision is not in doubt. A claim
+    /// that a prepare repeats counts once. After an error the replay is not used again.
+    pub fn step(&mut self, alloc: Global, said: UnitRecord) -> Result<(), ReadError>
+        ensures { Steps result (next (durable_of self.old) (record_of said)) (durable_of self.new) }
+    {
+        match said {
+            UnitRecord::Commit { changes } => self.commit(alloc, changes),
+            UnitRecord::Prepare {
+                xid,
+                changes,
+                claims,
+            } => self.prepare(alloc, xid, changes, claims),
+            UnitRecord::Decide { xid, decision } => self.decide(alloc, &xid, decision),
+        }
+    }
+
+    /// The committed tables, and the units in doubt in the order of their XIDs' bytes.
+    pub fn into_parts(self) -> (TableStore, Vec<PreparedUnit>)
+        ensures store { store_in result.0 ≡ (durable_of self).store }
+        ensures units { doubts_in result.1.items ≡ (durable_of self).doubts }
+    {
+        let Replay { store, units } = self;
+        (store, units)
+    }
+
+    fn commit(&mut self, alloc: Global, changes: Vec<Change>) -> Result<(), ReadError>
+        ensures { Steps result (next (durable_of self.old) (committed (map change_of changes.items))) (durable_of self.new) }
+    {
+        let unit = match gather(&mut self.store, alloc, changes) {
+            Ok(unit) => unit,
+            Err(error) => return Err(error),
+        };
+        make(&mut self.store, alloc, unit)?;
+        Ok(())
+    }
+
+    fn prepare(
+        &mut self,
+        alloc: Global,
+        xid: Xid,
+        changes: Vec<Change>,
+        claims: Vec<Claim>,
+    ) -> Result<(), ReadError>
+        ensures { Steps result (next (durable_of self.old) (prepared xid (map change_of changes.items) claims.items)) (durable_of self.new) }
+    {
+        let changes = match gather(&mut self.store, alloc, changes) {
+            Ok(unit) => unit,
+            Err(error) => return Err(error),
+        };
+        if !is_claimed(changes.as_slice(), claims.as_slice()) {
+            return Err(ReadError::Damaged);
+        }
+        if is_known(self.units.as_slice(), &xid) || self.units.len() >= MAX_IN_DOUBT {
+            return Err(ReadError::Damaged);
+        }
+        add(
+            &mut self.units,
+            PreparedUnit {
+                xid,
+                changes,
+                claims,
+            },
+        )?;
+        Ok(())
+    }
+
+    fn decide(&mut self, alloc: Global, xid: &Xid, decision: Decision) -> Result<(), ReadError>
+        ensures { Steps result (next (durable_of self.old) (decided xid.now decision)) (durable_of self.new) }
+    {
+        let place = match place_of(self.units.as_slice(), xid) {
+            Some(place) => place,
+            None => return Err(ReadError::Damaged),
+        };
+        let unit = take_at(&mut self.units, xid, place);
+        match decision {
+            Decision::Commit => {
+                make(&mut self.store, alloc, unit.changes)?;
+                Ok(())
+            }
+            Decision::RollBack => Ok(()),
+        }
+    }
+}

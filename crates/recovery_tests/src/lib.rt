@@ -1,0 +1,5 @@
+//! Tests of recovery.
+#![tactic(auto)]
+
+#[cfg(test)]
+mod journals;

@@ -1,0 +1,7 @@
+use Rattle.std.proofs.Common.{rules}
+use Rattle.ddm_objects.specs.Writing.{spelled}
+use Rattle.session_commands.proofs.reply.write_without_levels.Goals as goal
+
+pub returns-clause-ok : goal.returns-clause-ok
+unfolding spelled
+returns-clause-ok c = search rules

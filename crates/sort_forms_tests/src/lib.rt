@@ -1,5 +1,0 @@
-//! Tests of sort_forms.
-#![tactic(auto)]
-
-#[cfg(test)]
-mod forms;

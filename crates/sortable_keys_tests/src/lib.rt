@@ -1,0 +1,5 @@
+//! Tests of sortable_keys.
+#![tactic(auto)]
+
+#[cfg(test)]
+mod forms;

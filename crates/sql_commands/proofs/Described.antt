@@ -1,0 +1,31 @@
+-- What a section's statement and its parameters are described by.
+use Rattle.std.proofs.Common.{◌≡◌, ◌≤◌, ℕ, Bool, true, List, [], ◌∷◌, Option, Some, None, length, nat_le, refl, ap, arith}
+use Rattle.std.specs.Prelude.{option_map}
+use Rattle.std.specs.List.{list_all}
+use Rattle.std.proofs.lemmas.Bool.Decides.{nat_tests}
+use Rattle.std.proofs.lemmas.List.{length-map}
+use Rattle.row_values.specs.Column.{Column}
+use Rattle.row_values.proofs.ValueLaws.{both_true}
+use Rattle.core_calls.specs.declared.call.Side.{Side}
+use Rattle.core_calls.specs.declared.described.ParameterType.{ParameterType}
+use Rattle.sections.specs.Kept.{Section}
+use Rattle.sqlam_replies.specs.Sqldard.{are_described}
+use Rattle.sql_commands.specs.Commands.{described_as, described_in}
+use Rattle.command_kit.specs.Reply.{parameter_column, parameter_columns}
+use Rattle.command_kit.specs.declared.statements.Statements.{Statements}
+use Rattle.command_kit.specs.Text.{statement_of}
+
+-- a parameter has no name
+names_short : (types : List ParameterType) → list_all (λ (c : Column). nat_le (length c.name) 30) (parameter_columns types) ≡ true
+names_short [] = refl
+names_short (t ∷ ts) = names_short ts
+
+pub parameters_described : (types : List ParameterType) → length types ≤ 128 → are_described (parameter_columns types) ≡ true
+parameters_described types few =
+    let count : length (parameter_columns types) ≡ length types = length-map types parameter_column in
+    let within : nat_le (length (parameter_columns types)) 128 ≡ true = grind (arith, nat_tests) in
+    both_true _ _ within (names_short types)
+
+pub in_section : (unicode : Bool) (k : Statements) (which : Side) (o : Option Section) (text : List ℕ) → option_map (λ (s : Section). s.text) o ≡ Some text → described_in unicode k which o ≡ described_as unicode k which (statement_of text)
+in_section unicode k which None text is = absurd cc
+in_section unicode k which (Some s) text is = let same : s.text ≡ text = cc in ap (λ (t : List ℕ). described_as unicode k which (statement_of t)) same

@@ -1,0 +1,199 @@
+//! DSCSQLSTT, and what describes the statement of PRPSQLSTT.
+
+ghost use Rattle.std.specs.Prelude.{◌≡◌, ◌≤◌, ◌+◌, [], OnErr, OnOk, if◌then◌else◌, length, map, true, vec_capacity, vec_len};
+ghost use Rattle.row_values.specs.Column.{column_of};
+ghost use Rattle.drda_commands.specs.Views.{given_of};
+ghost use Rattle.sql_commands.specs.Commands as commands;
+ghost use Rattle.command_kit.specs.Done.{WasDone};
+ghost use Rattle.command_kit.specs.Reply as spec;
+ghost use Rattle.command_kit.specs.Sizes.{written_lengths};
+ghost use Rattle.command_kit.specs.declared.statements.Statements as kept;
+ghost use Rattle.sections.specs.Cursors.{section_of};
+ghost use Rattle.command_kit.specs.Text.{statement_of};
+
+use crate::brought::{section_name, side_for};
+use crate::replying::{MAX_REPLIES_LENGTH, add_short};
+use command_kit::{Ask, Reply, Statements, not_done, refuse, statement_of};
+use core_calls::{Answer, CoreCall, MAX_PARAMETERS, ParameterType, Side, SqlFault};
+use drda_commands::Accepted;
+use row_values::Column;
+use sections::NotPrepared;
+use sql_literals::StatementError;
+use sql_text::{Command, Statement};
+use sqlam_replies::MAX_SQLDARD_LENGTH;
+use std::alloc::{AllocError, Global};
+
+fn is_create(command: &Command<'_>) -> bool
+    ensures { result ≡ commands.is_create command.now }
+{
+    match command {
+        Command::Create { .. } => true,
+        Command::Insert { .. }
+        | Command::Update { .. }
+        | Command::Delete { .. }
+        | Command::Select { .. } => false,
+    }
+}
+
+fn parameter_column(alloc: Global, parameter: ParameterType) -> Column
+    ensures { column_of result ≡ spec.parameter_column parameter }
+{
+    Column {
+        name: String::new(alloc),
+        kind: parameter.kind,
+        is_nullable: true,
+        length: parameter.limit,
+    }
+}
+
+// The columns that parameters are described as, in a list of none that has room for them.
+fn parameter_columns(alloc: Global, types: &[ParameterType], columns: Vec<Column>) -> Vec<Column>
+    requires empty { columns.items ≡ [] }
+    requires room { length types.now ≤ vec_capacity columns }
+    ensures { map column_of result.items ≡ spec.parameter_columns types.now }
+{
+    let mut columns = columns;
+    for i in 0..types.len() {
+        match columns.push(parameter_column(alloc, types[i])) {
+            Ok(()) => {}
+            Err(_) => unreachable!(),
+        }
+    }
+    columns
+}
+
+// Describes the columns or the parameters of a statement, by lists of no bytes and of no columns that have room
+// for any; whether it was described.
+pub(crate) fn describe_statement<A: Ask>(
+    alloc: Global,
+    statement: &Statement<'_>,
+    side: Side,
+    unicode: bool,
+    text: Vec<u8>,
+    columns: Vec<Column>,
+    asker: &mut A,
+    replies: &mut Vec<Reply>,
+) -> bool
+    requires text { text.items ≡ [] }
+    requires text_room { MAX_SQLDARD_LENGTH ≤ vec_capacity text }
+    requires columns { columns.items ≡ [] }
+    requires columns_room { MAX_PARAMETERS ≤ vec_capacity columns }
+    requires room { vec_len replies.old + 1 ≤ vec_capacity replies.old }
+    ensures done { (k prepared : kept.Statements) → WasDone A.asks (commands.describing unicode k prepared statement.now side) asker.old asker.new (if result then prepared else k) replies.old.items replies.new.items }
+    ensures size { written_lengths replies.new.items ≤ written_lengths replies.old.items + MAX_REPLIES_LENGTH }
+{
+    if is_create(&statement.command) {
+        add_short(replies, Reply::of_columns(text, unicode, &[]));
+        return true;
+    }
+    match asker.ask(&CoreCall::Describe { statement, side }) {
+        Answer::Output(selection) => {
+            add_short(replies, Reply::of_selection(text, unicode, &selection));
+            true
+        }
+        Answer::Input(types) => {
+            let columns = parameter_columns(alloc, types.as_slice(), columns);
+            add_short(replies, Reply::of_columns(text, unicode, &columns));
+            true
+        }
+        answer => {
+            add_short(replies, not_done(answer, text));
+            false
+        }
+    }
+}
+
+fn describe_prepared<A: Ask>(
+    alloc: Global,
+    statement: &Statement<'_>,
+    side: Side,
+    unicode: bool,
+    statements: &Statements,
+    asker: &mut A,
+    replies: &mut Vec<Reply>,
+) -> Result<(), AllocError>
+    ensures ok { OnOk result (WasDone A.asks (commands.describing unicode statements.now statements.now statement.now side) asker.old asker.new statements.now replies.old.items replies.new.items) }
+    ensures size { OnOk result (written_lengths replies.new.items ≤ written_lengths replies.old.items + MAX_REPLIES_LENGTH) }
+    ensures asker { OnErr result (asker.new ≡ asker.old) }
+    ensures replies { OnErr result (replies.new.items ≡ replies.old.items) }
+{
+    let text: Vec<u8> = Vec::with_capacity(alloc, MAX_SQLDARD_LENGTH)?;
+    let columns: Vec<Column> = Vec::with_capacity(alloc, MAX_PARAMETERS)?;
+    replies.reserve(1)?;
+    describe_statement(
+        alloc, statement, side, unicode, text, columns, asker, replies,
+    );
+    Ok(())
+}
+
+fn describe_text<A: Ask>(
+    alloc: Global,
+    text: &[u8],
+    side: Side,
+    unicode: bool,
+    statements: &Statements,
+    asker: &mut A,
+    replies: &mut Vec<Reply>,
+) -> Result<(), AllocError>
+    ensures ok { OnOk result (WasDone A.asks (commands.described_as unicode statements.now side (statement_of text.now)) asker.old asker.new statements.now replies.old.items replies.new.items) }
+    ensures size { OnOk result (written_lengths replies.new.items ≤ written_lengths replies.old.items + MAX_REPLIES_LENGTH) }
+    ensures asker { OnErr result (asker.new ≡ asker.old) }
+    ensures replies { OnErr result (replies.new.items ≡ replies.old.items) }
+{
+    match statement_of(alloc, text) {
+        Ok(statement) => {
+            describe_prepared(alloc, &statement, side, unicode, statements, asker, replies)
+        }
+        Err(StatementError::Fault(fault)) => refuse(alloc, fault, replies),
+        Err(StatementError::NoMemory) => Err(AllocError),
+    }
+}
+
+fn describe_section<A: Ask>(
+    alloc: Global,
+    name: &[u8],
+    side: Side,
+    unicode: bool,
+    statements: &Statements,
+    asker: &mut A,
+    replies: &mut Vec<Reply>,
+) -> Result<(), AllocError>
+    ensures ok { OnOk result (WasDone A.asks (commands.described_in unicode statements.now side (section_of name.now statements.now.sections)) asker.old asker.new statements.now replies.old.items replies.new.items) }
+    ensures size { OnOk result (written_lengths replies.new.items ≤ written_lengths replies.old.items + MAX_REPLIES_LENGTH) }
+    ensures asker { OnErr result (asker.new ≡ asker.old) }
+    ensures replies { OnErr result (replies.new.items ≡ replies.old.items) }
+{
+    match statements.sections.statement(name) {
+        Ok(text) => describe_text(
+            alloc,
+            text.as_bytes(),
+            side,
+            unicode,
+            statements,
+            asker,
+            replies,
+        ),
+        Err(NotPrepared) => refuse(alloc, SqlFault::NotPrepared, replies),
+    }
+}
+
+/// Describes the statement of a section (DSCSQLSTT), its columns or its parameters: an SQLDARD, which has no
+/// columns for a CREATE TABLE; or the SQLCARD of why it was refused, -518 where the section has no statement.
+/// Names are answered as UTF-8 with `unicode`, else in code page 500. Out of memory, nothing is asked.
+pub fn describe<A: Ask>(
+    alloc: Global,
+    accepted: Accepted<'_>,
+    unicode: bool,
+    statements: &Statements,
+    asker: &mut A,
+    replies: &mut Vec<Reply>,
+) -> Result<(), AllocError>
+    ensures ok { OnOk result (WasDone A.asks (commands.describing_section unicode statements.now (given_of accepted.entry.given)) asker.old asker.new statements.now replies.old.items replies.new.items) }
+    ensures size { OnOk result (written_lengths replies.new.items ≤ written_lengths replies.old.items + MAX_REPLIES_LENGTH) }
+    ensures asker { OnErr result (asker.new ≡ asker.old) }
+    ensures replies { OnErr result (replies.new.items ≡ replies.old.items) }
+{
+    let name = section_name(&accepted);
+    let side = side_for(accepted.side());
+    describe_section(alloc, name, side, unicode, statements, asker, replies)
+}

@@ -1,0 +1,184 @@
+//! PRPSQLSTT.
+
+ghost use Rattle.std.specs.Prelude.{◌≡◌, ◌≤◌, ◌+◌, ◌++◌, ◌∷◌, [], None, OnErr, OnOk, Some, true};
+ghost use Rattle.std.specs.Str.{is_utf8};
+ghost use Rattle.drda_commands.specs.Views.{given_of};
+ghost use Rattle.command_kit.specs.Done.{WasDone};
+ghost use Rattle.command_kit.specs.Reply.{null_card};
+ghost use Rattle.command_kit.specs.Sizes.{written_lengths};
+ghost use Rattle.command_kit.specs.Text.{statement_of};
+ghost use Rattle.sql_commands.specs.Commands as commands;
+ghost use Rattle.sql_commands.specs.Sent.{preparation_of};
+
+use crate::attributes::is_held;
+use crate::brought::{section_name, statement_text, wanted_side};
+use crate::describing::describe_statement;
+use crate::replying::{MAX_REPLIES_LENGTH, add_short};
+use command_kit::{Ask, Reply, Statements, refuse, statement_of};
+use core_calls::{MAX_PARAMETERS, Side};
+use drda_commands::Accepted;
+use row_values::Column;
+use sql_literals::StatementError;
+use sql_text::Statement;
+use sqlam_replies::{MAX_SQLDARD_LENGTH, NULL_SQLCARD_LENGTH, texts_have_lengths};
+use std::alloc::{AllocError, Global};
+
+/// What is to be prepared.
+#[derive(Clone, Copy)]
+pub(crate) struct Preparing<'a> {
+    name: &'a [u8],
+    text: &'a str,
+    is_held: bool,
+}
+
+// The text of a statement that was read, which is UTF-8.
+fn utf8_of(text: &[u8]) -> &str
+    requires { is_utf8 text.now ≡ true }
+    ensures { result.now ≡ text.now }
+{
+    match str::from_utf8(text) {
+        Ok(text) => text,
+        Err(_) => unreachable!(),
+    }
+}
+
+// Prepares a text, of which nothing is to be told.
+fn prepare_alone(
+    alloc: Global,
+    preparing: Preparing<'_>,
+    statements: &mut Statements,
+    replies: &mut Vec<Reply>,
+) -> Result<(), AllocError>
+    ensures statements { OnOk result (statements.new ≡ commands.with_prepared statements.old (preparation_of preparing.entry)) }
+    ensures replies { OnOk result (replies.new.items ≡ replies.old.items ++ null_card ∷ []) }
+    ensures size { OnOk result (written_lengths replies.new.items ≤ written_lengths replies.old.items + MAX_REPLIES_LENGTH) }
+    ensures kept_statements { OnErr result (statements.new ≡ statements.old) }
+    ensures kept_replies { OnErr result (replies.new.items ≡ replies.old.items) }
+{
+    texts_have_lengths();
+    let card: Vec<u8> = Vec::with_capacity(alloc, NULL_SQLCARD_LENGTH)?;
+    replies.reserve(1)?;
+    statements
+        .sections
+        .prepare(preparing.name, preparing.text, preparing.is_held)?;
+    add_short(replies, Reply::of_null_card(card));
+    Ok(())
+}
+
+// Prepares a text and describes its statement, if that is not refused.
+fn prepare_described<A: Ask>(
+    alloc: Global,
+    preparing: Preparing<'_>,
+    statement: &Statement<'_>,
+    side: Side,
+    unicode: bool,
+    statements: &mut Statements,
+    asker: &mut A,
+    replies: &mut Vec<Reply>,
+) -> Result<(), AllocError>
+    ensures ok { OnOk result (WasDone A.asks (commands.prepared_as unicode statements.old (preparation_of preparing.entry) (Some side) statement.now) asker.old asker.new statements.new replies.old.items replies.new.items) }
+    ensures size { OnOk result (written_lengths replies.new.items ≤ written_lengths replies.old.items + MAX_REPLIES_LENGTH) }
+    ensures asker { OnErr result (asker.new ≡ asker.old) }
+    ensures statements { OnErr result (statements.new ≡ statements.old) }
+    ensures replies { OnErr result (replies.new.items ≡ replies.old.items) }
+{
+    let text: Vec<u8> = Vec::with_capacity(alloc, MAX_SQLDARD_LENGTH)?;
+    let columns: Vec<Column> = Vec::with_capacity(alloc, MAX_PARAMETERS)?;
+    replies.reserve(1)?;
+    statements
+        .sections
+        .reserve_prepare(preparing.name, preparing.text, preparing.is_held)?;
+    let is_described = describe_statement(
+        alloc, statement, side, unicode, text, columns, asker, replies,
+    );
+    if is_described {
+        statements.sections.prepare_reserved();
+    } else {
+        statements.sections.drop_reserved();
+    }
+    Ok(())
+}
+
+fn prepare_statement<A: Ask>(
+    alloc: Global,
+    preparing: Preparing<'_>,
+    wanted: Option<Side>,
+    statement: &Statement<'_>,
+    unicode: bool,
+    statements: &mut Statements,
+    asker: &mut A,
+    replies: &mut Vec<Reply>,
+) -> Result<(), AllocError>
+    ensures ok { OnOk result (WasDone A.asks (commands.prepared_as unicode statements.old (preparation_of preparing.entry) wanted statement.now) asker.old asker.new statements.new replies.old.items replies.new.items) }
+    ensures size { OnOk result (written_lengths replies.new.items ≤ written_lengths replies.old.items + MAX_REPLIES_LENGTH) }
+    ensures asker { OnErr result (asker.new ≡ asker.old) }
+    ensures statements { OnErr result (statements.new ≡ statements.old) }
+    ensures replies { OnErr result (replies.new.items ≡ replies.old.items) }
+{
+    match wanted {
+        None => prepare_alone(alloc, preparing, statements, replies),
+        Some(side) => prepare_described(
+            alloc, preparing, statement, side, unicode, statements, asker, replies,
+        ),
+    }
+}
+
+fn prepare_text<A: Ask>(
+    alloc: Global,
+    name: &[u8],
+    text: &[u8],
+    is_held: bool,
+    wanted: Option<Side>,
+    unicode: bool,
+    statements: &mut Statements,
+    asker: &mut A,
+    replies: &mut Vec<Reply>,
+) -> Result<(), AllocError>
+    ensures ok { OnOk result (WasDone A.asks (commands.prepared_by unicode statements.old (record { name = name.now; text = text.now; is_held = is_held }) wanted (statement_of text.now)) asker.old asker.new statements.new replies.old.items replies.new.items) }
+    ensures size { OnOk result (written_lengths replies.new.items ≤ written_lengths replies.old.items + MAX_REPLIES_LENGTH) }
+    ensures asker { OnErr result (asker.new ≡ asker.old) }
+    ensures statements { OnErr result (statements.new ≡ statements.old) }
+    ensures replies { OnErr result (replies.new.items ≡ replies.old.items) }
+{
+    match statement_of(alloc, text) {
+        Ok(statement) => {
+            let preparing = Preparing {
+                name,
+                text: utf8_of(text),
+                is_held,
+            };
+            prepare_statement(
+                alloc, preparing, wanted, &statement, unicode, statements, asker, replies,
+            )
+        }
+        Err(StatementError::Fault(fault)) => refuse(alloc, fault, replies),
+        Err(StatementError::NoMemory) => Err(AllocError),
+    }
+}
+
+/// Prepares the text that the command brings in its section (PRPSQLSTT), WITH HOLD where SQLATTR says so.
+/// The reply is a null SQLCARD, or with RTNSQLDA the SQLDARD of the statement's columns or parameters; or
+/// why it was refused, and then the section is as it was. Names are answered as UTF-8 with `unicode`, else
+/// in code page 500. Out of memory, nothing is asked and nothing changes.
+pub fn prepare<A: Ask>(
+    alloc: Global,
+    accepted: Accepted<'_>,
+    unicode: bool,
+    statements: &mut Statements,
+    asker: &mut A,
+    replies: &mut Vec<Reply>,
+) -> Result<(), AllocError>
+    ensures ok { OnOk result (WasDone A.asks (commands.preparing unicode statements.old (given_of accepted.entry.given)) asker.old asker.new statements.new replies.old.items replies.new.items) }
+    ensures size { OnOk result (written_lengths replies.new.items ≤ written_lengths replies.old.items + MAX_REPLIES_LENGTH) }
+    ensures asker { OnErr result (asker.new ≡ asker.old) }
+    ensures statements { OnErr result (statements.new ≡ statements.old) }
+    ensures replies { OnErr result (replies.new.items ≡ replies.old.items) }
+{
+    let name = section_name(&accepted);
+    let text = statement_text(&accepted);
+    let is_held = is_held(&accepted);
+    let wanted = wanted_side(&accepted);
+    prepare_text(
+        alloc, name, text, is_held, wanted, unicode, statements, asker, replies,
+    )
+}

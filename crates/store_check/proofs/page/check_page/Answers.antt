@@ -1,0 +1,13 @@
+use Rattle.std.specs.Borrow.{Bor}
+use Rattle.drda_words.specs.Place.{part}
+use Rattle.row_pages.specs.Page.{Page}
+use Rattle.store_check.proofs.Judged.{bytes_judged, not_read}
+use Rattle.store_check.proofs.page.check_page.Goals as goal
+
+pub returns-in-Ok-clause-judged : goal.returns-in-Ok-clause-judged
+returns-in-Ok-clause-judged g c honest read =
+    bytes_judged c.one_page.ensures c.args.schema.now (g.K.RowKeys.key_of c.args.keys.now) c.args.at (part (g.D.Disk.life c.args.disk.now).seen c.args.at 8192) c.in-Ok.page.now c.args.last.now c.judge.new.last c.judge.result (c.in-Ok.ensures.page honest read) c.judge.ensures.judged
+
+pub returns-in-Err-clause-judged : goal.returns-in-Err-clause-judged
+returns-in-Err-clause-judged g c honest read =
+    not_read (Bor Page) c.args.schema.now (g.K.RowKeys.key_of c.args.keys.now) c.args.at (part (g.D.Disk.life c.args.disk.now).seen c.args.at 8192) c.args.last.now c.in-Err.fault (c.in-Err.ensures.damaged honest) c.error_at.result c.error_at.ensures

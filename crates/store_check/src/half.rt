@@ -1,0 +1,170 @@
+//! All that a half has.
+ghost use Rattle.std.specs.Prelude.{◌≡◌, ◌+◌, ◌*◌, ◌^◌, ◌≤◌, ◌++◌, ◌∷◌, [], ℕ, List, true, IsTrue, IfErr, OnOk, IfOk, length, map};
+ghost use Rattle.std.specs.List.{AllByRecursion};
+ghost use Rattle.drda_disk.specs.Disk.{Stays};
+ghost use Rattle.row_pages.specs.Keeping.{AreRead};
+ghost use Rattle.checkpoint_writer.specs.Catalogue.{entry_of};
+ghost use Rattle.store_check.specs.Errors.{CountsCheck};
+ghost use Rattle.store_check.specs.Whole.{ChecksTable};
+ghost use Rattle.store_check.specs.Listed.{are_listed};
+ghost use Rattle.store_check.specs.Half.{ChecksHalf, LiesBelow, catalogue_end, page_at, pages_of};
+ghost use Rattle.store_check.specs.Halving.{ChecksRows, ListsHalf};
+ghost use Rattle.store_check.specs.declared.errors.CheckError.TheVariants.{NoMemory};
+
+use crate::keys::KeysOf;
+use crate::{CheckError, KeysBySchema, check_catalogue, check_table};
+use checkpoint_writer::StoredTable;
+use drda_disk::Disk;
+use half_store::Active;
+use row_pages::{PAGE_BYTES, PageCache};
+use std::alloc::Global;
+use table_map::TablePages;
+
+/// A table of a half that was checked, and where its pages lie, with the key of each one's first row.
+#[derive(Drop)]
+pub struct CheckedTable {
+    pub table: StoredTable,
+    pub pages: TablePages,
+}
+
+/// The offset of a half's first page.
+fn pages_at(active: &Active) -> usize
+    requires { 8192 * active.now.pages ≤ active.now.region.at }
+    ensures { result ≡ (pages_of active.now).at }
+{
+    active.region.at - PAGE_BYTES * active.pages as usize
+}
+
+/// The tables of a half's catalogue, which are its last pages.
+fn listed_tables<D: Disk>(
+    alloc: Global,
+    cache: &mut PageCache,
+    disk: &mut D,
+    active: &Active,
+) -> Result<Vec<StoredTable>, CheckError>
+    requires pages { 8192 * active.now.pages ≤ active.now.region.at }
+    requires small { active.now.region.at ≤ 2 ^ 40 }
+    requires inside { active.now.region.at ≤ length (D.life disk.old).seen }
+    ensures told { IsTrue D.is_modelled → AreRead cache.old (D.life disk.old).seen → ListsHalf (D.life disk.old).seen (pages_of active.now) result }
+    ensures last { OnOk result (catalogue_end (pages_of active.now) ≡ active.now.pages) }
+    ensures listed { IfOk result (λ tables. are_listed active.now.first_catalogue (map entry_of tables.items) ≡ true) }
+    ensures kept { IsTrue D.is_modelled → AreRead cache.old (D.life disk.old).seen → AreRead cache.new (D.life disk.new).seen }
+    ensures stays { Stays (D.life disk.old) (D.life disk.new) }
+    ensures cause { CountsCheck result (D.life disk.old).faults (D.life disk.new).faults }
+{
+    let at = pages_at(active);
+    let count = active.pages as usize;
+    let first = active.first_catalogue as usize;
+    let pages = active.catalogue_pages as usize;
+    if first + pages != count {
+        let at = at + PAGE_BYTES * count.min(first + pages);
+        return Err(CheckError::Damaged { at });
+    }
+    check_catalogue(alloc, cache, disk, at + PAGE_BYTES * first, pages, first)
+}
+
+/// Checks the pages of a table of a half whose first page lies at an offset.
+fn check_stored<K: KeysBySchema, D: Disk>(
+    alloc: Global,
+    keys: &K,
+    cache: &mut PageCache,
+    disk: &mut D,
+    at: usize,
+    table: &StoredTable,
+) -> Result<TablePages, CheckError>
+    requires small { at + 8192 * (table.now.first_page + table.now.pages) ≤ 2 ^ 40 }
+    requires inside { at + 8192 * (table.now.first_page + table.now.pages) ≤ length (D.life disk.old).seen }
+    ensures at { IfOk result (λ pages. pages.at ≡ page_at at table.now.first_page) }
+    ensures count { IfOk result (λ pages. length pages.keys ≡ table.now.pages) }
+    ensures told { IsTrue D.is_modelled → AreRead cache.old (D.life disk.old).seen → ChecksTable table.now.schema (K.key_of keys.now table.now.schema) (D.life disk.old).seen (page_at at table.now.first_page) table.now.pages result }
+    ensures kept { IsTrue D.is_modelled → AreRead cache.old (D.life disk.old).seen → AreRead cache.new (D.life disk.new).seen }
+    ensures stays { Stays (D.life disk.old) (D.life disk.new) }
+    ensures cause { CountsCheck result (D.life disk.old).faults (D.life disk.new).faults }
+{
+    let schema = &table.schema;
+    check_table(
+        alloc,
+        &KeysOf { keys, schema },
+        schema,
+        cache,
+        disk,
+        at + PAGE_BYTES * table.first_page as usize,
+        table.pages as usize,
+    )
+}
+
+/// Puts a table behind others.
+fn push_table(list: &mut Vec<CheckedTable>, table: CheckedTable) -> Result<(), CheckError>
+    ensures items { OnOk result (list.new.items ≡ list.old.items ++ table ∷ []) }
+    ensures cause { (n : ℕ) → CountsCheck result n n }
+    ensures fault { IfErr result (λ e. e ≡ NoMemory) }
+{
+    match list.push(table) {
+        Ok(()) => Ok(()),
+        Err(_) => Err(CheckError::NoMemory),
+    }
+}
+
+/// Checks the pages of tables, which lie from an offset on and in front of the catalogue's first page.
+fn check_rows<K: KeysBySchema, D: Disk>(
+    alloc: Global,
+    keys: &K,
+    cache: &mut PageCache,
+    disk: &mut D,
+    at: usize,
+    first: usize,
+    tables: Vec<StoredTable>,
+) -> Result<Vec<CheckedTable>, CheckError>
+    requires listed { are_listed first (map entry_of tables.items) ≡ true }
+    requires small { at + 8192 * first ≤ 2 ^ 40 }
+    requires inside { at + 8192 * first ≤ length (D.life disk.old).seen }
+    ensures inside { IfOk result (λ checked. AllByRecursion (LiesBelow (page_at at first)) checked.items) }
+    ensures told { IsTrue D.is_modelled → AreRead cache.old (D.life disk.old).seen → ChecksRows (K.key_of keys.now) (D.life disk.old).seen at first (map entry_of tables.items) result }
+    ensures kept { IsTrue D.is_modelled → AreRead cache.old (D.life disk.old).seen → AreRead cache.new (D.life disk.new).seen }
+    ensures stays { Stays (D.life disk.old) (D.life disk.new) }
+    ensures cause { CountsCheck result (D.life disk.old).faults (D.life disk.new).faults }
+{
+    let mut checked = Vec::new(alloc);
+    let mut next = 0;
+    for table in tables {
+        let pages = check_stored(alloc, keys, cache, disk, at, &table)?;
+        next += table.pages as usize;
+        push_table(&mut checked, CheckedTable { table, pages })?;
+    }
+    if next == first {
+        Ok(checked)
+    } else {
+        let at = at + PAGE_BYTES * next;
+        Err(CheckError::Damaged { at })
+    }
+}
+
+/// Checks all pages of the active half of a store: its last ones are those of a catalogue
+/// (`check_catalogue`), and those in front of it are the pages of the catalogue's tables
+/// (`check_table`), each by the keys of its schema. The tables are returned in their order.
+///
+/// `Damaged` comes exactly where the half is not so, and tells where its first bad page lies. Where
+/// the catalogue does not end with the half, that is the first page that lies in front of one of the
+/// two ends alone; else, where the catalogue is bad, its first bad page; else the first bad one of the
+/// pages in front of it: of a table, or the one behind the last table's. Nothing is written.
+pub fn check_half<K: KeysBySchema, D: Disk>(
+    alloc: Global,
+    keys: &K,
+    cache: &mut PageCache,
+    disk: &mut D,
+    active: &Active,
+) -> Result<Vec<CheckedTable>, CheckError>
+    requires pages { 8192 * active.now.pages ≤ active.now.region.at }
+    requires small { active.now.region.at ≤ 2 ^ 40 }
+    requires inside { active.now.region.at ≤ length (D.life disk.old).seen }
+    ensures inside { IfOk result (λ checked. AllByRecursion (LiesBelow active.now.region.at) checked.items) }
+    ensures told { IsTrue D.is_modelled → AreRead cache.old (D.life disk.old).seen → ChecksHalf (K.key_of keys.now) (D.life disk.old).seen (pages_of active.now) result }
+    ensures kept { IsTrue D.is_modelled → AreRead cache.old (D.life disk.old).seen → AreRead cache.new (D.life disk.new).seen }
+    ensures stays { Stays (D.life disk.old) (D.life disk.new) }
+    ensures cause { CountsCheck result (D.life disk.old).faults (D.life disk.new).faults }
+{
+    let tables = listed_tables(alloc, cache, disk, active)?;
+    let at = pages_at(active);
+    let first = active.first_catalogue as usize;
+    check_rows(alloc, keys, cache, disk, at, first, tables)
+}

@@ -1,0 +1,85 @@
+//! Laws of whole and of damaged pages.
+ghost use Rattle.store_check.specs.Half.{OneFirstBadOfHalf, OneWholeHalf, WholeHalfIsNotBad};
+ghost use Rattle.store_check.specs.Listed.{ListedIsNotBad};
+ghost use Rattle.store_check.specs.Written.{WrittenHalfIsWhole, WrittenIsListed, WrittenIsWhole};
+ghost use Rattle.store_check.specs.Whole.{OneFirstBad, OneWhole, WholeIsNotBad, WholeIsStored};
+
+use checkpoint_writer::catalogues_are_read;
+use row_pages::{one_laying, one_page};
+
+/// Pages that are whole have no first bad one.
+pub fn whole_is_not_bad()
+    ensures { WholeIsNotBad }
+{
+    one_page();
+}
+
+/// Pages have one first bad one at most.
+pub fn one_first_bad()
+    ensures { OneFirstBad }
+{
+    one_page();
+}
+
+/// Pages are whole with one list of rows at most.
+pub fn one_whole()
+    ensures { OneWhole }
+{
+    one_page();
+}
+
+/// Pages that are whole are a table's, as its map asks for them.
+pub fn whole_is_stored()
+    ensures { WholeIsStored }
+{}
+
+/// The pages of a catalogue have no first bad one.
+pub fn listed_is_not_bad()
+    ensures { ListedIsNotBad }
+{
+    one_page();
+}
+
+/// A table that was written is whole, where its rows are rows of the schema.
+pub fn written_is_whole()
+    ensures { WrittenIsWhole }
+{
+    one_laying();
+}
+
+/// A catalogue that was written is whole, where the names of its tables rise and their pages lie one
+/// behind another.
+pub fn written_is_listed()
+    ensures { WrittenIsListed }
+{
+    catalogues_are_read();
+}
+
+/// A half that is whole has no first bad page.
+pub fn whole_half_is_not_bad()
+    ensures { WholeHalfIsNotBad }
+{
+    one_page();
+}
+
+/// A half has one first bad page at most.
+pub fn one_first_bad_of_half()
+    ensures { OneFirstBadOfHalf }
+{
+    one_page();
+}
+
+/// A half is whole with one list of tables and rows at most.
+pub fn one_whole_half()
+    ensures { OneWholeHalf }
+{
+    one_page();
+}
+
+/// A half is whole into which tables were written one behind another, and behind them their catalogue.
+pub fn written_half_is_whole()
+    ensures { WrittenHalfIsWhole }
+{
+    one_laying();
+    catalogues_are_read();
+}

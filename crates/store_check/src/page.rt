@@ -1,0 +1,68 @@
+//! One page of a table.
+ghost use Rattle.std.specs.Prelude.{◌≡◌, ◌+◌, ◌≤◌, ℕ, List, IsTrue, length};
+ghost use Rattle.drda_words.specs.Place.{part};
+ghost use Rattle.drda_disk.specs.Disk.{Stays};
+ghost use Rattle.row_pages.specs.Keeping.{AreRead};
+ghost use Rattle.store_check.specs.Errors.{CountsCheck};
+ghost use Rattle.store_check.specs.Judging.{JudgesBytes, JudgesPage};
+
+use crate::CheckError;
+use crate::errors::error_at;
+use crate::rows::{are_rows, first_in};
+use drda_disk::Disk;
+use row_pages::{KeptPage, PageCache, PageKind, one_page};
+use row_values::Schema;
+use std::alloc::Global;
+use table_map::RowKeys;
+
+/// The key of the first row of a page that lies at an offset. Its rows go on behind the last key, or
+/// it is damaged.
+fn judge<K: RowKeys>(
+    alloc: Global,
+    keys: &K,
+    schema: &Schema,
+    page: &KeptPage,
+    at: usize,
+    last: &mut Option<Vec<u8>>,
+) -> Result<Vec<u8>, CheckError>
+    ensures judged { JudgesPage schema.now (K.key_of keys.now) at page.now last.old result last.new }
+    ensures cause { (n : ℕ) → CountsCheck result n n }
+{
+    if page.page_ref().kind() != PageKind::Rows {
+        return Err(CheckError::Damaged { at });
+    }
+    let key = match first_in(alloc, keys, page) {
+        Ok(Some(key)) => key,
+        Ok(None) => return Err(CheckError::Damaged { at }),
+        Err(_) => return Err(CheckError::NoMemory),
+    };
+    match are_rows(alloc, keys, schema, page, last) {
+        Ok(true) => Ok(key),
+        Ok(false) => Err(CheckError::Damaged { at }),
+        Err(_) => Err(CheckError::NoMemory),
+    }
+}
+
+/// The key of the first row of the page at an offset. Its rows go on behind the last key, or it is
+/// damaged.
+pub(crate) fn check_page<K: RowKeys, D: Disk>(
+    alloc: Global,
+    keys: &K,
+    schema: &Schema,
+    cache: &mut PageCache,
+    disk: &mut D,
+    at: usize,
+    last: &mut Option<Vec<u8>>,
+) -> Result<Vec<u8>, CheckError>
+    requires { at + 8192 ≤ length (D.life disk.old).seen }
+    ensures judged { IsTrue D.is_modelled → AreRead cache.old (D.life disk.old).seen → JudgesBytes schema.now (K.key_of keys.now) at (part (D.life disk.old).seen at 8192) last.old result last.new }
+    ensures kept { IsTrue D.is_modelled → AreRead cache.old (D.life disk.old).seen → AreRead cache.new (D.life disk.new).seen }
+    ensures stays { Stays (D.life disk.old) (D.life disk.new) }
+    ensures cause { CountsCheck result (D.life disk.old).faults (D.life disk.new).faults }
+{
+    one_page();
+    match cache.page(alloc, disk, at) {
+        Ok(page) => judge(alloc, keys, schema, page, at, last),
+        Err(fault) => Err(error_at(at, fault)),
+    }
+}

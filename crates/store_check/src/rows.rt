@@ -1,0 +1,65 @@
+//! The rows of one page.
+ghost use Rattle.std.specs.Prelude.{◌≡◌, Ok, true, IfOk};
+ghost use Rattle.table_map.specs.Keyed.{copied, first_of};
+ghost use Rattle.store_check.specs.Judging.{go_on, is_behind, last_key};
+
+use row_pages::KeptPage;
+use row_values::{RowRef, Schema};
+use std::alloc::{AllocError, Global};
+use std::cmp::Ordering;
+use table_map::RowKeys;
+
+/// Whether a key comes behind the last one, where there is one.
+fn is_behind(last: &Option<Vec<u8>>, key: &[u8]) -> bool
+    ensures { result ≡ is_behind (copied last.now) key.now }
+{
+    match last {
+        Some(last) => match last.as_slice().cmp(key) {
+            Ordering::Less => true,
+            Ordering::Equal => false,
+            Ordering::Greater => false,
+        },
+        None => true,
+    }
+}
+
+/// The key of the first row of a page, if it has one.
+pub(crate) fn first_in<K: RowKeys>(
+    alloc: Global,
+    keys: &K,
+    page: &KeptPage,
+) -> Result<Option<Vec<u8>>, AllocError>
+    ensures { IfOk result (λ key. copied key ≡ first_of (K.key_of keys.now) page.now.rows) }
+{
+    let mut rows = page.page_ref().rows();
+    match rows.next() {
+        Some(row) => Ok(Some(keys.key(alloc, row)?)),
+        None => Ok(None),
+    }
+}
+
+/// Whether the rows of a page are rows of the schema whose keys rise behind the last key, which then
+/// is that of the page's last row.
+pub(crate) fn are_rows<K: RowKeys>(
+    alloc: Global,
+    keys: &K,
+    schema: &Schema,
+    page: &KeptPage,
+    last: &mut Option<Vec<u8>>,
+) -> Result<bool, AllocError>
+    ensures good { IfOk result (λ good. good ≡ go_on schema.now (K.key_of keys.now) (copied last.old) page.now.rows) }
+    ensures last { result ≡ Ok true → copied last.new ≡ last_key (K.key_of keys.now) (copied last.old) page.now.rows }
+{
+    let mut rows = page.page_ref().rows();
+    while let Some(row) = rows.next() {
+        if RowRef::parse(schema, row).is_err() {
+            return Ok(false);
+        }
+        let key = keys.key(alloc, row)?;
+        if !is_behind(last, &key) {
+            return Ok(false);
+        }
+        *last = Some(key);
+    }
+    Ok(true)
+}

@@ -1,0 +1,61 @@
+//! All pages of a table.
+ghost use Rattle.std.specs.Prelude.{◌≡◌, ◌+◌, ◌*◌, ◌^◌, ◌≤◌, ◌++◌, ◌∷◌, [], ℕ, List, IsTrue, IfErr, IfOk, OnOk, length};
+ghost use Rattle.drda_disk.specs.Disk.{Stays};
+ghost use Rattle.row_pages.specs.Keeping.{AreRead};
+ghost use Rattle.store_check.specs.Errors.{CountsCheck};
+ghost use Rattle.store_check.specs.Whole.{ChecksTable};
+ghost use Rattle.store_check.specs.declared.errors.CheckError.TheVariants.{NoMemory};
+
+use crate::CheckError;
+use crate::page::check_page;
+use drda_disk::Disk;
+use row_pages::{PAGE_BYTES, PageCache};
+use row_values::Schema;
+use std::alloc::Global;
+use table_map::{RowKeys, TablePages};
+
+/// Puts bytes behind others.
+fn push_bytes(list: &mut Vec<Vec<u8>>, bytes: Vec<u8>) -> Result<(), CheckError>
+    ensures items { OnOk result (list.new.items ≡ list.old.items ++ bytes ∷ []) }
+    ensures cause { (n : ℕ) → CountsCheck result n n }
+    ensures fault { IfErr result (λ e. e ≡ NoMemory) }
+{
+    match list.push(bytes) {
+        Ok(()) => Ok(()),
+        Err(_) => Err(CheckError::NoMemory),
+    }
+}
+
+/// Checks the pages of a table, so many from an offset on: each is a page of rows and has some, all
+/// rows are rows of the schema, and their keys rise from row to row and from page to page. Where the
+/// pages lie is returned then, with the key of each one's first row, as the table's map asks for it.
+///
+/// `Damaged` comes exactly where the pages are not so, and tells where the first bad one of them
+/// lies: with the pages in front of it it is not so, and without it it is. Nothing is written.
+pub fn check_table<K: RowKeys, D: Disk>(
+    alloc: Global,
+    keys: &K,
+    schema: &Schema,
+    cache: &mut PageCache,
+    disk: &mut D,
+    at: usize,
+    count: usize,
+) -> Result<TablePages, CheckError>
+    requires small { at + 8192 * count ≤ 2 ^ 40 }
+    requires inside { at + 8192 * count ≤ length (D.life disk.old).seen }
+    ensures at { IfOk result (λ pages. pages.at ≡ at) }
+    ensures count { IfOk result (λ pages. length pages.keys ≡ count) }
+    ensures told { IsTrue D.is_modelled → AreRead cache.old (D.life disk.old).seen → ChecksTable schema.now (K.key_of keys.now) (D.life disk.old).seen at count result }
+    ensures kept { IsTrue D.is_modelled → AreRead cache.old (D.life disk.old).seen → AreRead cache.new (D.life disk.new).seen }
+    ensures stays { Stays (D.life disk.old) (D.life disk.new) }
+    ensures cause { CountsCheck result (D.life disk.old).faults (D.life disk.new).faults }
+{
+    let mut first_keys = Vec::new(alloc);
+    let mut last = None;
+    for page in 0..count {
+        let here = at + PAGE_BYTES * page;
+        let key = check_page(alloc, keys, schema, cache, disk, here, &mut last)?;
+        push_bytes(&mut first_keys, key)?;
+    }
+    Ok(TablePages::new(at, first_keys))
+}

@@ -1,5 +1,0 @@
-use Rattle.table_image.proofs.ReadEntries.{catalogue_back}
-use Rattle.table_image.proofs.reading.catalogues_are_read.Goals as goal
-
-pub returns : goal.returns
-returns c = catalogue_back c.one_laying.ensures.laid
