@@ -1,7 +1,7 @@
 -- The bytes of replies add up.
 use Rattle.std.proofs.Common.{◌≡◌, ◌+◌, List, [], ◌∷◌, ◌++◌, length, sym, ap, ◌∙◌, add_assoc, zero-add}
 use Rattle.dss_frames.specs.Writing.{written_length}
-use Rattle.command_kit.specs.Reply.{Reply}
+use Rattle.sqlam_replies.specs.Reply.{Reply}
 use Rattle.command_kit.specs.Sizes.{written_lengths}
 
 pub add_up : (replies others : List Reply) → written_lengths (replies ++ others) ≡ written_lengths replies + written_lengths others

@@ -2,7 +2,7 @@
 use Rattle.std.specs.Prelude.{List}
 use Rattle.core_calls.specs.Call.{Call}
 use Rattle.core_calls.specs.Answer.{Answer}
-use Rattle.command_kit.specs.Reply.{Reply}
+use Rattle.sqlam_replies.specs.Reply.{Reply}
 use Rattle.command_kit.specs.Statements.{Statements}
 
 -- the replies in their order, and what is kept then

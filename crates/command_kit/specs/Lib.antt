@@ -1,5 +1,4 @@
 pub mod Reply
-pub mod Kind
 pub mod Sizes
 pub mod Text
 pub mod Values

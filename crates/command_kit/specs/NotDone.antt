@@ -2,7 +2,8 @@
 use Rattle.std.specs.Prelude.{[], ◌∷◌}
 use Rattle.core_calls.specs.Answer.{Answer, full, no_memory, refused}
 use Rattle.core_calls.specs.Refusal.{fault_of}
-use Rattle.command_kit.specs.Reply.{Reply, agent_failed, fault_card, resource_limit}
+use Rattle.sqlam_replies.specs.Reply.{Reply}
+use Rattle.command_kit.specs.Reply.{agent_failed, fault_card, resource_limit}
 use Rattle.command_kit.specs.Statements.{Statements}
 use Rattle.command_kit.specs.Doing.{Done, answered}
 

@@ -3,25 +3,14 @@
 use Rattle.std.specs.Prelude.{ℕ, pos, neg_ℤ, ◌==◌, Bool, true, if◌then◌else◌, codes, List, [], ◌∷◌, map}
 use Rattle.ddm_objects.specs.declared.code_point.TheConstants.{RDBNAM, UOWDSP, RSCLMTRM, AGNPRMRM, CMDVLTRM, ENDUOWRM, RDBUPDRM}
 use Rattle.sqlam_replies.specs.declared.message.UnitEnd.{UnitEnd}
-use Rattle.sqlam_replies.specs.Message.{Message, disposition, error, info, message_text, permanent_damage, scalar, warning}
+use Rattle.sqlam_replies.specs.Message.{disposition, error, info, permanent_damage, scalar, warning}
+use Rattle.sqlam_replies.specs.Reply.{Reply, message, object}
 use Rattle.sqlam_replies.specs.Sqlcard.{null_sqlcard, sqlcard}
 use Rattle.sqlam_replies.specs.Sqldard.{sqldard}
 use Rattle.row_values.specs.Column.{Column}
 use Rattle.core_calls.specs.SqlFault.{diagnosis}
 use Rattle.core_calls.specs.declared.sql_fault.SqlFault.{SqlFault}
 use Rattle.core_calls.specs.declared.described.ParameterType.{ParameterType}
-
--- its DSS type (2 a reply message, 3 an object), its severity (0 where it has none), its text
-pub record Reply : Type 0 where
-  pub dss_type : ℕ
-  pub severity : ℕ
-  pub text : List ℕ
-
-abbrev pub message : Message → Reply
-message m = record { dss_type = 2; severity = m.severity; text = message_text m }
-
-abbrev pub object : List ℕ → Reply
-object text = record { dss_type = 3; severity = 0; text = text }
 
 -- ---- reply messages; rdb is the database's name as it is answered
 

@@ -1,7 +1,7 @@
 -- How many bytes replies take as DSSs, each in one of its own (DRDA V5 volume 3, "Data Stream Structures").
 use Rattle.std.specs.Prelude.{◌≡◌, ◌≤◌, ℕ, ◌+◌, List, [], ◌∷◌, ◌++◌, length}
 use Rattle.dss_frames.specs.Writing.{first_size, written_length}
-use Rattle.command_kit.specs.Reply.{Reply}
+use Rattle.sqlam_replies.specs.Reply.{Reply}
 
 abbrev pub written_lengths : List Reply → ℕ
 written_lengths [] = 0

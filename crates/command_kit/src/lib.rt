@@ -12,7 +12,7 @@ mod values;
 
 pub use answer::{add, not_done, refuse};
 pub use ask::Ask;
-pub use reply::{Reply, ReplyKind};
+pub use reply::Reply;
 pub use sizes::replies_add_up;
 pub use statements::Statements;
 pub use text::{is_select, statement_of};

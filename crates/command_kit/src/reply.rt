@@ -6,24 +6,16 @@ ghost use Rattle.row_values.specs.Column.{column_of};
 ghost use Rattle.sqlam_replies.specs.Sqldard.{are_described};
 ghost use Rattle.sqlam_replies.specs.Message.{has_short_values, message_of};
 ghost use Rattle.sqlam_replies.specs.Sqlcard.{null_sqlcard, sqlcard};
+ghost use Rattle.sqlam_replies.specs.Reply as texts;
 ghost use Rattle.command_kit.specs.Reply as spec;
 
 use core_calls::{OutputColumns, SqlFault};
 use row_values::Column;
 use sqlam_replies::{
-    MAX_MESSAGE_LENGTH, MAX_SQLDARD_LENGTH, ReplyMessage, SQLCARD_LENGTH, null_sqlcard,
+    MAX_MESSAGE_LENGTH, MAX_SQLDARD_LENGTH, ReplyKind, ReplyMessage, SQLCARD_LENGTH, null_sqlcard,
     reply_message, selected_sqldard, sqlcard, sqldard, texts_have_lengths,
 };
 use std::marker::Model;
-
-/// The kind of DSS that a reply goes in.
-#[derive(Clone, Copy, Debug, PartialEq, Eq)]
-pub enum ReplyKind {
-    /// A reply message: DSS type 2.
-    Message,
-    /// A reply data object: DSS type 3.
-    Object,
-}
 
 /// One reply, an object of the DDM architecture that goes in a DSS of its own.
 #[derive(Debug, Drop)]
@@ -34,8 +26,8 @@ pub struct Reply {
 }
 
 impl Model for Reply {
-    ghost use Rattle.command_kit.specs.Reply.{Reply};
-    ghost use Rattle.command_kit.specs.Kind.{dss_type_of};
+    ghost use Rattle.sqlam_replies.specs.Reply.{Reply};
+    ghost use Rattle.sqlam_replies.specs.Kind.{dss_type_of};
 
     ghost Value = { Reply };
 
@@ -43,7 +35,7 @@ impl Model for Reply {
 }
 
 impl Reply {
-    ghost use Rattle.command_kit.specs.Kind.{dss_type_of};
+    ghost use Rattle.sqlam_replies.specs.Kind.{dss_type_of};
 
     /// The kind of its DSS.
     pub fn kind(&self) -> ReplyKind
@@ -71,7 +63,7 @@ impl Reply {
         requires empty { text.items ≡ [] }
         requires room { MAX_MESSAGE_LENGTH ≤ vec_capacity text }
         requires short { has_short_values message ≡ true }
-        ensures reply { result ≡ spec.message (message_of message.entry) }
+        ensures reply { result ≡ texts.message (message_of message.entry) }
         ensures short { length result.text ≤ MAX_MESSAGE_LENGTH }
     {
         texts_have_lengths();
@@ -133,7 +125,7 @@ impl Reply {
     fn of_card(text: Vec<u8>, code: i32, state: &[u8; 5], count: u32) -> Reply
         requires empty { text.items ≡ [] }
         requires room { SQLCARD_LENGTH ≤ vec_capacity text }
-        ensures reply { result ≡ spec.object (sqlcard code state.now count) }
+        ensures reply { result ≡ texts.object (sqlcard code state.now count) }
         ensures short { length result.text ≤ SQLCARD_LENGTH }
     {
         texts_have_lengths();
@@ -189,7 +181,7 @@ impl Reply {
 
     /// A reply data object that is written, with its heading.
     pub fn of_object(text: Vec<u8>) -> Reply
-        ensures { result ≡ spec.object text.items }
+        ensures { result ≡ texts.object text.items }
     {
         Reply {
             kind: ReplyKind::Object,

@@ -3,12 +3,11 @@
 ghost use Rattle.std.specs.Prelude.{◌≡◌};
 ghost use Rattle.std.specs.Option.{option_map};
 ghost use Rattle.drda_words.specs.Excuse.{Answers};
-ghost use Rattle.sql_literals.specs.Refused.{fault_of};
+ghost use Rattle.core_calls.specs.StatementError.{fault_of};
 ghost use Rattle.sql_text.specs.Text.{but_memory};
 ghost use Rattle.command_kit.specs.Text as spec;
 
-use core_calls::SqlFault;
-use sql_literals::StatementError;
+use core_calls::{SqlFault, StatementError};
 use sql_text::{Command, SqlError, Statement, parse};
 use std::alloc::Global;
 

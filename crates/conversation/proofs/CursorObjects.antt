@@ -20,7 +20,7 @@ use Rattle.sqlam_replies.specs.Message.{error, held_mark, info, scalar, warning}
 use Rattle.sqlam_replies.specs.Rows.{rows_text}
 use Rattle.drda_commands.specs.Values.{DescribedData}
 use Rattle.command_kit.specs.declared.statements.Statements.{Statements}
-use Rattle.command_kit.specs.Reply.{Reply}
+use Rattle.sqlam_replies.specs.Reply.{Reply}
 use Rattle.cursor_commands.specs.Blocks.{rows_in_block}
 use Rattle.cursor_commands.specs.Commands as does
 use Rattle.cursor_commands.specs.Replies.{end_of_query, open_failed, query_not_open, query_open, query_opened, rows_description, some_rows}

@@ -31,14 +31,15 @@ use Rattle.command_kit.specs.declared.statements.Statements.{Statements}
 use Rattle.command_kit.specs.Doing.{Doing, answered, asking, finished}
 use Rattle.command_kit.specs.Done.{WasDone}
 use Rattle.command_kit.specs.NotDone.{not_done}
-use Rattle.command_kit.specs.Reply.{Reply, agent_failed, changed_card, count_card, description, fault_card, not_found_card, rdb_updated}
+use Rattle.sqlam_replies.specs.Reply.{Reply}
+use Rattle.command_kit.specs.Reply.{agent_failed, changed_card, count_card, description, fault_card, not_found_card, rdb_updated}
 use Rattle.command_kit.specs.Text.{is_select, statement_of, values_of}
 use Rattle.sql_commands.specs.Commands as sql_does
 use Rattle.cursor_commands.specs.Blocks.{rows_in_block}
 use Rattle.cursor_commands.specs.Commands as cursors_do
 use Rattle.cursor_commands.specs.Replies.{query_opened, rows_description, some_rows}
 use Rattle.xa_commands.specs.SyncControl as xa_does
-use Rattle.database_commands.specs.Commands.{doing}
+use Rattle.conversation.specs.Commands.{doing}
 use Rattle.xa_calls.specs.declared.request.Request.{Request}
 use Rattle.xa_calls.specs.declared.request.Request.TheVariants as request
 use Rattle.tables.specs.RowList.{RowList}

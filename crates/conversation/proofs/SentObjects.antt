@@ -15,7 +15,8 @@ use Rattle.sqlam_replies.specs.Message.{Message, error, objects, permanent_damag
 use Rattle.sqlam_replies.specs.Sqlcard.{sqlca, sqlcard}
 use Rattle.command_kit.specs.Doing.{Doing, asking, finished}
 use Rattle.command_kit.specs.NotDone.{not_done}
-use Rattle.command_kit.specs.Reply.{Reply, agent_failed, fault_card, message, null_card, object, resource_limit}
+use Rattle.sqlam_replies.specs.Reply.{Reply, message, object}
+use Rattle.command_kit.specs.Reply.{agent_failed, fault_card, null_card, resource_limit}
 use Rattle.command_kit.specs.declared.statements.Statements.{Statements}
 use Rattle.conversation.specs.Exchange.{chain_bits, in_dsss}
 use Rattle.conversation.specs.Laws.{AreSentObjects, Card, IsOneTree, SentContainer, SentMessage, SentObject, SentValues, Values, bits_before, code_point, sent_bytes, tree_of, type_of}

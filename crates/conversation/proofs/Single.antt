@@ -4,7 +4,7 @@ use Rattle.core_calls.specs.Call.{Call}
 use Rattle.core_calls.specs.Answer as core
 use Rattle.dss_frames.specs.Writing.{written}
 use Rattle.command_kit.specs.Done.{WasDone}
-use Rattle.command_kit.specs.Reply.{Reply}
+use Rattle.sqlam_replies.specs.Reply.{Reply}
 use Rattle.conversation.specs.declared.chain.Link.{Link}
 use Rattle.session_commands.specs.declared.session.Session.{Session}
 use Rattle.conversation.specs.Done.{IsFollowed}

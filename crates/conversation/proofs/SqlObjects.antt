@@ -22,7 +22,8 @@ use Rattle.drda_commands.specs.declared.table.Command.TheVariants.{Excsqlimm, Pr
 use Rattle.drda_commands.specs.Given.{Given}
 use Rattle.drda_commands.specs.Values.{DescribedData, described_data_in, side_in}
 use Rattle.command_kit.specs.Doing.{answered, asking, finished}
-use Rattle.command_kit.specs.Reply.{Reply, changed_card, command_violation, count_card, description, fault_card, not_found_card, parameter_columns, rdb_updated, unit_ended}
+use Rattle.sqlam_replies.specs.Reply.{Reply}
+use Rattle.command_kit.specs.Reply.{changed_card, command_violation, count_card, description, fault_card, not_found_card, parameter_columns, rdb_updated, unit_ended}
 use Rattle.command_kit.specs.Text.{is_select, statement_of, values_of}
 use Rattle.command_kit.specs.declared.statements.Statements.{Statements}
 use Rattle.sql_commands.specs.Commands as does

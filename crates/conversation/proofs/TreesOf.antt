@@ -19,13 +19,14 @@ use Rattle.sqlam_replies.specs.Message.{Message, message_of}
 use Rattle.command_kit.specs.declared.statements.Statements.{Statements}
 use Rattle.command_kit.specs.Doing.{Doing, asking, finished}
 use Rattle.command_kit.specs.Done.{WasDone}
-use Rattle.command_kit.specs.Reply.{Reply, message, resource_limit}
+use Rattle.sqlam_replies.specs.Reply.{Reply, message}
+use Rattle.command_kit.specs.Reply.{resource_limit}
 use Rattle.session_commands.specs.declared.session.Session.{Session}
 use Rattle.session_commands.specs.Access.{Answer, access_done, refused}
 use Rattle.session_commands.specs.Settings.{Settings}
 use Rattle.cursor_commands.specs.Commands.{name_in}
 use Rattle.xa_commands.specs.SyncControl.{request_of}
-use Rattle.database_commands.specs.Commands.{doing}
+use Rattle.conversation.specs.Commands.{doing}
 use Rattle.conversation.specs.declared.chain.Link.{Link}
 use Rattle.conversation.specs.Done.{Exchanges, IsExcused, IsFollowed}
 use Rattle.conversation.specs.Exchange.{Plan, at_once, at_once_or, database_plan, excused, link_of, plan, plan_for, sent}

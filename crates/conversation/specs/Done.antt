@@ -5,7 +5,7 @@ use Rattle.dss_frames.specs.Dss.{Dss}
 use Rattle.core_calls.specs.Call.{Call}
 use Rattle.core_calls.specs.Answer.{Answer}
 use Rattle.command_kit.specs.Done.{WasDone}
-use Rattle.command_kit.specs.Reply.{Reply}
+use Rattle.sqlam_replies.specs.Reply.{Reply}
 use Rattle.conversation.specs.declared.chain.Link.{Link}
 use Rattle.conversation.specs.Exchange.{Plan, excused, goes_on, link_of, passed_over, plan_for, sent}
 use Rattle.session_commands.specs.Settings.{Settings}

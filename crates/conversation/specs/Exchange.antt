@@ -8,11 +8,12 @@ use Rattle.drda_commands.specs.declared.table.Command.{Command}
 use Rattle.drda_commands.specs.Given.{Given, contents_of}
 use Rattle.drda_commands.specs.Judge.{Accepted, judged}
 use Rattle.drda_names.specs.Names.{padded_in}
-use Rattle.command_kit.specs.Reply.{Reply, resource_limit}
+use Rattle.sqlam_replies.specs.Reply.{Reply}
+use Rattle.command_kit.specs.Reply.{resource_limit}
 use Rattle.command_kit.specs.Doing.{Doing, answered, finished}
 use Rattle.command_kit.specs.declared.statements.Statements.{Statements}
 use Rattle.sqlam_replies.specs.Message.{error, permanent_damage}
-use Rattle.database_commands.specs.Commands.{doing}
+use Rattle.conversation.specs.Commands.{doing}
 use Rattle.session_commands.specs.declared.session.Session.{Session}
 use Rattle.session_commands.specs.Access.{Answer, access_done, refused}
 use Rattle.session_commands.specs.Settings.{Settings}

@@ -7,3 +7,5 @@ pub mod Done
 pub mod Views
 pub mod Steps
 pub mod Laws
+pub mod Commands
+pub mod Sizes

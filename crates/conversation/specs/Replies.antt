@@ -5,7 +5,7 @@ use Rattle.dss_frames.specs.Fault.{synerrcd}
 use Rattle.dss_frames.specs.Writing.{written}
 use Rattle.sqlam_replies.specs.declared.message.ReplyMessage.TheVariants.{Syntax}
 use Rattle.sqlam_replies.specs.Message.{message_of}
-use Rattle.command_kit.specs.Reply.{message}
+use Rattle.sqlam_replies.specs.Reply.{message}
 
 -- it stands in no chain
 abbrev pub fault_bytes : FrameFault → List ℕ

@@ -3,13 +3,14 @@
 ghost use Rattle.std.specs.Prelude.{◌≡◌, ◌≤◌, ◌+◌, ◌++◌, ◌∷◌, [], length, vec_capacity, vec_len};
 ghost use Rattle.dss_frames.specs.Group.{command_of, dss_of};
 ghost use Rattle.dss_frames.specs.Writing.{written, written_length};
-ghost use Rattle.command_kit.specs.Kind.{dss_type_of};
+ghost use Rattle.sqlam_replies.specs.Kind.{dss_type_of};
 ghost use Rattle.command_kit.specs.Sizes.{written_lengths};
 ghost use Rattle.conversation.specs.Exchange as spec;
 
-use command_kit::{Reply, ReplyKind};
+use command_kit::Reply;
 use dss_frames::{Dss, Format, Group, write_dss, written_dss_is_read};
 use session_commands::Session;
+use sqlam_replies::ReplyKind;
 
 /// The severity from which on a reply breaks its chain (SVRCOD).
 const ERROR: u16 = 8;

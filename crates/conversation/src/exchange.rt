@@ -13,13 +13,15 @@ ghost use Rattle.conversation.specs.Exchange as spec;
 ghost use Rattle.conversation.specs.Views.{standing_of, verdict_of, Appends, ComesTo};
 
 use crate::chain::{Link, append_replies, behind, format_before, link_of, worst};
+use crate::database::do_on_database;
+use crate::sizes::most_length;
 use crate::state::State;
-use command_kit::{Ask, ReplyKind};
-use database_commands::{do_command as do_on_database, most_length};
+use command_kit::Ask;
 use drda_commands::{Accepted, Refusal, judge};
 use drda_names::push_padded;
 use dss_frames::{Format, Group, OpenedDss, close_dss, open_dss};
 use session_commands::{Answer, Settings, answered_at_once, refused};
+use sqlam_replies::ReplyKind;
 use std::alloc::{AllocError, Global};
 
 /// What became of a command.

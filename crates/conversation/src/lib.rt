@@ -4,9 +4,11 @@
 #![tactic(auto)]
 
 mod chain;
+mod database;
 mod exchange;
 mod front;
 pub mod laws;
+mod sizes;
 mod state;
 
 pub use drda_commands::{Mechanism, Stage};

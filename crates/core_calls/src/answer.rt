@@ -3,8 +3,7 @@
 use crate::described::{OutputColumns, ParameterTypes};
 use crate::refusal::Refusal;
 use tables::RowList;
-use xa_calls::XaCode;
-use xa_manager::Xids;
+use xa_calls::{XaCode, Xids};
 
 /// What a conversation is answered. The sizes of what is in an answer have bounds that hold of every
 /// value of the type: at most 64 columns, 128 parameters and 256 XIDs, and rows of at most 4,000 bytes.

@@ -4,11 +4,11 @@ use crate::calls::{Ask, Call, Row, Spelled, Told};
 use crate::shown::{are_xids, shows};
 use core_calls::{Answer, CoreCall, Side};
 use rdb_core::Core;
-use recording::NoRecords;
 use row_values::{RowRef, Value};
 use sql_text::{SqlError, Statement, parse};
 use std::alloc::Global;
 use tables::RowList;
+use unit_records::NoRecords;
 use xa_calls::Request;
 
 /// How a call was answered.

@@ -8,8 +8,8 @@ use crate::calls::{
     Told,
 };
 use rdb_core::Core;
-use recording::NoRecords;
 use std::alloc::Global;
+use unit_records::NoRecords;
 use xa_manager::BranchState;
 
 const START_1: Call = (1, Ask::Xa(START, FIRST), OK);

@@ -1,9 +1,9 @@
 //! A core's whole state as bytes.
 
 use rdb_core::Core;
-use recording::NoRecords;
 use std::alloc::{AllocError, Global};
 use tables::{PlainView, TableView};
+use unit_records::NoRecords;
 use unit_table::{Owner, PlainUnit};
 use xa_manager::{Branch, BranchState};
 

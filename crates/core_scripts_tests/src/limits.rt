@@ -7,12 +7,12 @@ use crate::calls::{
 };
 use core_calls::Answer;
 use rdb_core::Core;
-use recording::NoRecords;
 use row_values::Value;
 use sql_text::{SqlError, Statement, parse};
 use std::alloc::{AllocError, Global};
 use std::test::Fail;
 use tables::TableView;
+use unit_records::NoRecords;
 
 fn parsed<'a>(alloc: Global, text: &'a str) -> Result<Statement<'a>, SqlError> {
     parse(alloc, text)

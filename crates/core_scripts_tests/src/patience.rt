@@ -10,8 +10,8 @@ use crate::calls::{
 use crate::image::image;
 use core_calls::Side;
 use rdb_core::Core;
-use recording::NoRecords;
 use std::alloc::Global;
+use unit_records::NoRecords;
 use xa_manager::BranchState;
 
 /// How a call of the script went.

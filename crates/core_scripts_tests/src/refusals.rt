@@ -2,7 +2,7 @@
 
 use crate::patience::{SCRIPT, Went, go};
 use rdb_core::Core;
-use recording::NoRecords;
+use unit_records::NoRecords;
 
 #[test]
 fn calls_are_answered_when_asked_again(rt: HostRuntime) {

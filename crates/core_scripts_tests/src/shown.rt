@@ -2,12 +2,11 @@
 
 use crate::asking::is_row;
 use crate::calls::{Row, State, Whose, XidData};
-use plain_state::PlainState;
-use rdb_core::Core;
-use recording::NoRecords;
+use rdb_core::{Core, PlainState};
 use row_values::{RowRef, Schema};
 use std::alloc::Global;
 use tables::{Rows, TableView};
+use unit_records::NoRecords;
 use unit_table::{Owner, PlainUnit};
 use xa_calls::Xid;
 use xa_manager::{Branch, BranchState};

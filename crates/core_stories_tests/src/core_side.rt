@@ -6,11 +6,11 @@ use crate::statements::Statement as Asked;
 use crate::told::{Cell, Doubts, NO_ROWS, Told};
 use core_calls::{Answer, CoreCall, OutputColumns, Refusal, Side};
 use rdb_core::Core;
-use recording::NoRecords;
 use row_values::{RowRef, Value};
 use sql_text::{SqlError, Statement, parse};
 use std::alloc::Global;
 use tables::RowList;
+use unit_records::NoRecords;
 use xa_calls::{Request, Xid};
 
 fn cell(value: Value<'_>) -> Cell {

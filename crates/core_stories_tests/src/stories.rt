@@ -5,8 +5,8 @@ use crate::core_side::ask_core;
 use crate::machine::Machine;
 use crate::random::nth_call;
 use rdb_core::Core;
-use recording::NoRecords;
 use std::alloc::Global;
+use unit_records::NoRecords;
 
 /// How many lists are tried.
 const LISTS: u32 = 2_000;

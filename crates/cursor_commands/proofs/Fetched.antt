@@ -8,7 +8,7 @@ use Rattle.sections.specs.Kept.{Cursor, Sections}
 use Rattle.sections.specs.declared.cursor.Block.{Block}
 use Rattle.command_kit.specs.Doing.{Done}
 use Rattle.command_kit.specs.Done.{IsAnswered}
-use Rattle.command_kit.specs.Reply.{Reply}
+use Rattle.sqlam_replies.specs.Reply.{Reply}
 use Rattle.command_kit.specs.declared.statements.Statements.{Statements}
 use Rattle.cursor_commands.specs.Blocks.{rows_in_block}
 use Rattle.cursor_commands.specs.Commands.{ending, fetched, fetched_at, name_in}

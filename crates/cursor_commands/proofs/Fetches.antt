@@ -18,7 +18,7 @@ use Rattle.sections.specs.Cursors.{after_open, cursor_of, fault_in, is_meant, me
 use Rattle.sections.specs.Kept.{Cursor, Section, Sections}
 use Rattle.sections.proofs.Looking.{cursor_in, here}
 use Rattle.command_kit.specs.Doing.{Done}
-use Rattle.command_kit.specs.Reply.{Reply}
+use Rattle.sqlam_replies.specs.Reply.{Reply}
 use Rattle.command_kit.specs.declared.statements.Statements.{Statements}
 use Rattle.cursor_commands.specs.Blocks.{rows_in_block}
 use Rattle.cursor_commands.specs.Commands.{after_query, ending, fetched, fetched_at, is_held_in, name_in, sent_block}

@@ -15,7 +15,7 @@ use Rattle.core_calls.specs.Call.{Call}
 use Rattle.core_calls.specs.declared.sql_fault.SqlFault.{SqlFault}
 use Rattle.command_kit.specs.Done.{IsAnswered, WasDone}
 use Rattle.cursor_commands.specs.Asking.{WasQueried}
-use Rattle.command_kit.specs.Reply.{Reply}
+use Rattle.sqlam_replies.specs.Reply.{Reply}
 use Rattle.command_kit.specs.declared.statements.Statements.{Statements}
 use Rattle.cursor_commands.specs.Blocks.{rows_in_block}
 use Rattle.cursor_commands.specs.Commands.{after_query, asked, ending, is_held_in, opened_with}

@@ -17,7 +17,8 @@ use Rattle.sections.specs.Cursors.{after_close, after_open, meant_cursor, openin
 use Rattle.sections.specs.declared.fault.OpenFault.{OpenFault}
 use Rattle.sections.specs.declared.fault.OpenFault.TheVariants as unopened
 use Rattle.sections.specs.Kept.{Cursor, Section}
-use Rattle.command_kit.specs.Reply.{Reply, null_card}
+use Rattle.sqlam_replies.specs.Reply.{Reply}
+use Rattle.command_kit.specs.Reply.{null_card}
 use Rattle.command_kit.specs.declared.statements.Statements.{Statements}
 use Rattle.command_kit.specs.Text.{is_select, statement_of, values_of}
 use Rattle.command_kit.specs.Doing.{Doing, Done, answered, asking, finished}

@@ -12,7 +12,7 @@ use Rattle.drda_commands.specs.Given.{Given}
 use Rattle.drda_commands.specs.Values.{query_instance_in}
 use Rattle.sections.specs.Cursors.{cursor_of, opening_fault, section_of}
 use Rattle.sections.specs.Kept.{Cursor}
-use Rattle.command_kit.specs.Reply.{Reply, object}
+use Rattle.sqlam_replies.specs.Reply.{Reply, object}
 use Rattle.command_kit.specs.declared.statements.Statements.{Statements}
 use Rattle.command_kit.specs.Doing.{Doing, Done, answered, asking, finished}
 use Rattle.cursor_commands.specs.Commands.{after_query, doing, fetched, is_held_in, name_in}

@@ -7,7 +7,8 @@ use Rattle.sqlam_replies.specs.Message.{error, held_mark, info, scalar, warning}
 use Rattle.sqlam_replies.specs.Rows.{qrydsc, qrydta}
 use Rattle.tables.specs.RowList.{RowList}
 use Rattle.core_calls.specs.declared.sql_fault.SqlFault.{SqlFault}
-use Rattle.command_kit.specs.Reply.{Reply, fault_card, message, not_found_card, object}
+use Rattle.sqlam_replies.specs.Reply.{Reply, message, object}
+use Rattle.command_kit.specs.Reply.{fault_card, not_found_card}
 
 -- the query of the section of this name is not open, or is open
 abbrev pub query_not_open : List ℕ → List ℕ → Reply

@@ -20,10 +20,9 @@ use crate::replies::{
     add_end, add_failed, add_rows, add_short, of_description, of_rows, query_open, section_name,
 };
 use command_kit::{Ask, Reply, Statements, not_done};
-use core_calls::{Answer, SqlFault};
+use core_calls::{Answer, SqlFault, StatementError};
 use drda_commands::{Accepted, DescribedData};
 use sections::{Block, MAX_ANSWER_ROW_LENGTH, MAX_QRYDSC_LENGTH, MAX_QRYDTA_HEADING, OpenFault};
-use sql_literals::StatementError;
 use sqlam_replies::{MAX_MESSAGE_LENGTH, ReplyMessage, SQLCARD_LENGTH};
 use std::alloc::{AllocError, Global};
 use tables::RowList;

@@ -6,18 +6,17 @@ ghost use Rattle.core_calls.specs.Call.{query};
 ghost use Rattle.row_values.specs.Value.{value_of};
 ghost use Rattle.drda_commands.specs.Views.{described_of};
 ghost use Rattle.command_kit.specs.Text as text_spec;
-ghost use Rattle.sql_literals.specs.Refused.{fault_of};
+ghost use Rattle.core_calls.specs.StatementError.{fault_of};
 ghost use Rattle.sections.specs.Cursors.{section_of};
 ghost use Rattle.cursor_commands.specs.Asking.{WasQueried};
 ghost use Rattle.cursor_commands.specs.Commands as commands;
 
 use command_kit::{Ask, is_select, read_values, statement_of};
-use core_calls::{Answer, CoreCall, SqlFault};
+use core_calls::{Answer, CoreCall, SqlFault, StatementError};
 use drda_commands::DescribedData;
 use fdoca::DescriptorFault;
 use row_values::Value;
 use sections::{NotPrepared, Sections};
-use sql_literals::StatementError;
 use sql_text::Statement;
 use std::alloc::Global;
 

@@ -9,8 +9,8 @@ use Rattle.core_calls.specs.Call as call
 use Rattle.core_calls.specs.Call.{Call}
 use Rattle.core_calls.specs.Answer.{Answer, closed, device_failed, full, no_memory}
 use Rattle.core_model.specs.Step.{CoreState, answer as answer_to, step_state}
-use Rattle.recording.specs.Due.{record_due}
-use Rattle.durable_images.specs.Journaled.{Journaled, OnDisk, shown_on}
+use Rattle.unit_records.specs.Due.{record_due}
+use Rattle.recovery_laws.specs.Journaled.{Journaled, OnDisk, shown_on}
 use Rattle.durable_core.specs.Steps.{MayWantMemory, due_entries}
 use Rattle.drda_node.specs.declared.asker.Asker.{Asker}
 

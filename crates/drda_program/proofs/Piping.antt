@@ -4,7 +4,7 @@ use Rattle.core_model.specs.Step.{CoreState}
 use Rattle.session_commands.specs.Settings.{Settings, is_rdb_name}
 use Rattle.half_store.specs.Fresh.{is_name}
 use Rattle.recovery.specs.Durable.{fresh}
-use Rattle.durable_images.specs.Journaled.{OnDisk}
+use Rattle.recovery_laws.specs.Journaled.{OnDisk}
 use Rattle.durable_core.specs.Opening.{IsOpenedTo}
 use Rattle.drda_node.specs.Asking.{AskedCore, asked_of}
 use Rattle.drda_node.specs.Machine.{at_start}

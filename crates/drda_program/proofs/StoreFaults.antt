@@ -1,7 +1,7 @@
 -- What making and opening stores reports, as those report it who ask for it.
 use Rattle.std.proofs.Common.{◌≡◌, refl, ℕ, true, List, Option, IfErr, Result, Ok, Err}
 use Rattle.half_store.specs.Fresh.{is_name, is_store_of}
-use Rattle.durable_images.specs.Journaled.{OnDisk}
+use Rattle.recovery_laws.specs.Journaled.{OnDisk}
 use Rattle.drda_program.proofs.Names.{no_store}
 use Rattle.drda_program.specs.Program.{Lists, Makes}
 use Rattle.drda_program.specs.Stores.{BeginsFresh, FindsFresh, IsOfDevice, IsOfRun, IsOfStore, MakesFile, MakesNamed, RefusesName}

@@ -5,7 +5,7 @@ use Rattle.std.specs.Io.KnownBytes.{Appends}
 use Rattle.session_commands.specs.Settings.{Settings, is_rdb_name}
 use Rattle.half_store.specs.Fresh.{is_store_of}
 use Rattle.recovery.specs.Durable.{fresh}
-use Rattle.durable_steps.specs.Part.{opened}
+use Rattle.recovery_laws.specs.Part.{opened}
 use Rattle.drda_node.specs.Asking.{AskedCore}
 use Rattle.drda_node.specs.Machine.{Machine, at_start}
 use Rattle.drda_node.specs.Serving.{Runs}

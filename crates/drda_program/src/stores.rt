@@ -4,7 +4,7 @@ ghost use Rattle.std.specs.Prelude.{IfErr, IsTrue, List, ℕ, OnOk};
 ghost use Rattle.drda_disk.specs.Disk.{Only};
 ghost use Rattle.half_store.specs.Fresh.{IsFresh};
 ghost use Rattle.recovery.specs.Durable.{fresh as fresh_store};
-ghost use Rattle.durable_images.specs.Opens.{OpensTo};
+ghost use Rattle.recovery_laws.specs.Opens.{OpensTo};
 ghost use Rattle.durable_core.specs.Reads.{IsExcused};
 ghost use Rattle.drda_program.specs.Stores.{BeginsFresh, FindsFresh, IsOfDevice, IsOfStore, MakesFile, MakesNamed};
 
@@ -12,8 +12,8 @@ use crate::fault::Fault;
 use crate::files::StoreFiles;
 use drda_disk::{Disk, MemDisk};
 use durable_core::{DurableCore, OpenError};
-use durable_images::laws::fresh_stores_open;
 use half_store::{FormatError, format, is_store};
+use recovery_laws::opening::fresh_stores_open;
 use std::alloc::Global;
 
 /// The bytes of a store in memory.

@@ -11,8 +11,8 @@ use Rattle.unit_journal.specs.Stands.{DamagedFrom, Stands, StandsFrom}
 use Rattle.recovery.specs.Durable.{Durable, fresh, next}
 use Rattle.recovery.specs.Journal.{HasNoPlace, Leads, LeadsOn, OneState}
 use Rattle.recovery.specs.Laws.{held_for}
-use Rattle.durable_images.specs.Laws.{IsThere, OpensThere}
-use Rattle.durable_images.proofs.Reading.{one_store}
+use Rattle.recovery_laws.specs.ImageLaws.{IsThere, OpensThere}
+use Rattle.recovery_laws.proofs.Reading.{one_store}
 use Rattle.durable_core.specs.Damage.{DamageOpensNot, HasPages, IsBadJournal, OneDamage, PreparesOne}
 use Rattle.durable_core.proofs.Parts.{behind}
 

@@ -11,7 +11,7 @@ use Rattle.half_store.specs.declared.layout.Half.TheVariants.{First, Second}
 use Rattle.unit_journal.specs.Open.{IsWhole}
 use Rattle.unit_journal.specs.declared.errors.OpenError.{OpenError as JournalError}
 use Rattle.unit_journal.specs.declared.errors.OpenError.TheVariants.{Damaged}
-use Rattle.durable_images.proofs.Reading.{half_large}
+use Rattle.recovery_laws.proofs.Reading.{half_large}
 use Rattle.durable_core.specs.Reads.{IsInside}
 
 -- a half's end lies in the disk

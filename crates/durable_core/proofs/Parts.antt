@@ -11,8 +11,8 @@ use Rattle.unit_journal.specs.Stands.{Stands}
 use Rattle.recovery.specs.Durable.{Doubts, Durable, fresh}
 use Rattle.recovery.specs.Journal.{Leads, OneState}
 use Rattle.recovery.specs.Laws.{held_for}
-use Rattle.durable_images.specs.Opens.{Holds, IsJournal, OpensTo}
-use Rattle.durable_images.specs.Laws.{IsBehindPages, IsThere, OpensThere, OpensToOne}
+use Rattle.recovery_laws.specs.Opens.{Holds, IsJournal, OpensTo}
+use Rattle.recovery_laws.specs.ImageLaws.{IsBehindPages, IsThere, OpensThere, OpensToOne}
 use Rattle.durable_core.specs.Reads.{IsHead, IsPlain}
 use Rattle.durable_core.specs.Found.{StandsThere, durable_in, name_in}
 use Rattle.durable_core.specs.declared.errors.OpenError.{OpenError}

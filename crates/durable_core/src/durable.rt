@@ -4,20 +4,19 @@ ghost use Rattle.std.specs.Prelude.{◌≡◌, IfOk, IsTrue, false, string_bytes
 ghost use Rattle.core_calls.specs.Answer.{answer_of};
 ghost use Rattle.core_calls.specs.Call.{call_of};
 ghost use Rattle.xa_manager.specs.Branch.{in_doubt_xids};
-ghost use Rattle.durable_images.specs.Journaled.{IsDurable, Journaled, shown_on};
+ghost use Rattle.recovery_laws.specs.Journaled.{IsDurable, Journaled, shown_on};
 ghost use Rattle.durable_core.specs.Steps.{Loses, Steps};
 
 use core_calls::{Answer, CoreCall};
 use drda_disk::Disk;
-use durable_images::laws::{calls_make_records, records_stay};
-use durable_steps::laws::steps_are_recorded;
 use journal_recorder::DiskRecorder;
-use plain_state::PlainState;
-use rdb_core::Core;
+use rdb_core::{Core, PlainState};
 use recovery::laws::doubts_hold_their_decisions;
+use recovery_laws::opening::{calls_make_records, records_stay};
+use recovery_laws::recording::steps_are_recorded;
 use std::alloc::AllocError;
 use std::marker::Model;
-use xa_manager::Xids;
+use xa_calls::Xids;
 
 /// The committed tables, the units of work and the XA branches of a store on a disk. Each call is a
 /// step of the state; what a step commits, prepares or decides is a record in the store's journal first.
@@ -35,7 +34,7 @@ pub struct DurableCore<D: Disk> {
 
 impl<D: Disk> Model for DurableCore<D> {
     ghost use Rattle.std.specs.Prelude.{string_bytes};
-    ghost use Rattle.durable_images.specs.Journaled.{OnDisk};
+    ghost use Rattle.recovery_laws.specs.Journaled.{OnDisk};
 
     ghost Value = { OnDisk D };
 

@@ -2,8 +2,8 @@
 
 ghost use Rattle.durable_core.specs.Damage.{DamageOpensNot, OneDamage};
 
-use durable_images::laws::images_open_there;
 use recovery::laws::records_lead_one_way;
+use recovery_laws::opening::images_open_there;
 use unit_journal::a_region_has_one_reading;
 
 /// A damaged image opens to nothing.

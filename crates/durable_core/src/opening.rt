@@ -4,7 +4,7 @@ ghost use Rattle.std.specs.Prelude.{◌≡◌, IfErr, IfOk, IsTrue, List, ℕ, l
 ghost use Rattle.drda_disk.specs.Disk.{Stays};
 ghost use Rattle.unit_journal.specs.Journal.{room_of};
 ghost use Rattle.recovery.specs.Durable.{Durable};
-ghost use Rattle.durable_images.specs.Opens.{OpensTo};
+ghost use Rattle.recovery_laws.specs.Opens.{OpensTo};
 ghost use Rattle.durable_core.specs.Found.{IsFound, durable_in, name_in};
 ghost use Rattle.durable_core.specs.Opening.{CountsOpen, Finds, IsOpenedTo, OpensStore, StoodThere, disk_in};
 ghost use Rattle.durable_core.specs.Reads.{Counts, IsPlain, TellsStore};
@@ -16,11 +16,11 @@ use crate::holding::hold_all;
 use crate::reading::{Found, read_journal, read_units};
 use crate::restoring::restore_all;
 use drda_disk::Disk;
-use durable_images::laws::{images_open_there, images_open_to_one_state};
-use durable_steps::laws::openings_are_kept;
 use journal_recorder::DiskRecorder;
 use rdb_core::Core;
 use recovery::laws::{records_lead_one_way, records_lead_to_sound_states};
+use recovery_laws::opening::{images_open_there, images_open_to_one_state};
+use recovery_laws::recording::openings_are_kept;
 use std::alloc::{AllocError, Global};
 use unit_journal::a_region_has_one_reading;
 

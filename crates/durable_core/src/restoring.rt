@@ -3,13 +3,13 @@
 ghost use Rattle.std.specs.Prelude.{◌≡◌, OnOk, []};
 ghost use Rattle.recovery.specs.Replay.{doubts_in};
 ghost use Rattle.recovery.specs.Sound.{IsSound};
-ghost use Rattle.durable_steps.specs.Part.{opened};
+ghost use Rattle.recovery_laws.specs.Part.{opened};
 ghost use Rattle.rdb_core.specs.State.{recorder_of, state_of};
 
 use rdb_core::Core;
-use recording::Recorder;
 use recovery::PreparedUnit;
 use std::alloc::AllocError;
+use unit_records::Recorder;
 use xa_manager::RestoreError;
 
 /// Prepares the branches of units in doubt again, with their units, in a core without any.

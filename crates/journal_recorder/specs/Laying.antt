@@ -3,8 +3,8 @@ use Rattle.std.specs.Prelude.{◌≡◌, ℕ, ◌+◌, ◌-◌, ◌^◌, ◌<◌
 use Rattle.unit_journal.specs.Record.{Entry}
 use Rattle.unit_records.specs.Records.{IsGood, UnitRecord, entry_of}
 use Rattle.unit_records.specs.Room.{held, released, taken}
-use Rattle.recording.specs.declared.record_error.RecordError.{RecordError}
-use Rattle.recording.specs.declared.record_error.RecordError.TheVariants.{DeviceFailed, Full, NoMemory}
+use Rattle.unit_records.specs.declared.record_error.RecordError.{RecordError}
+use Rattle.unit_records.specs.declared.record_error.RecordError.TheVariants.{DeviceFailed, Full, NoMemory}
 
 -- this entry is the record's, and there is room for it
 pub record IsLaid (said : UnitRecord) (room : ℕ) (e : Entry) : Type 0 where

@@ -8,8 +8,8 @@ use Rattle.unit_journal.specs.Record.{Entry}
 use Rattle.unit_journal.specs.Stands.{IsBeforeOrAfter}
 use Rattle.unit_records.specs.Records.{IsGood, UnitRecord, entry_of}
 use Rattle.unit_records.specs.Room.{held, released, taken}
-use Rattle.recording.specs.declared.record_error.RecordError.{RecordError}
-use Rattle.recording.specs.declared.record_error.RecordError.TheVariants.{DeviceFailed, Full, NoMemory}
+use Rattle.unit_records.specs.declared.record_error.RecordError.{RecordError}
+use Rattle.unit_records.specs.declared.record_error.RecordError.TheVariants.{DeviceFailed, Full, NoMemory}
 use Rattle.journal_recorder.specs.declared.recorder.DiskRecorder.{DiskRecorder}
 
 abbrev pub journal_of : {D : Type 0} → DiskRecorder D → Journal

@@ -2,20 +2,19 @@
 
 ghost use Rattle.std.specs.Prelude.{◌≡◌, ◌+◌, ◌-◌, ◌^◌, ◌<◌, ◌≤◌, IfErr, IfOk, MatchResult, min, map};
 ghost use Rattle.tables.specs.ChangeView.{change_of};
-ghost use Rattle.recording.specs.declared.record_error.RecordError.TheVariants.{Full};
+ghost use Rattle.unit_records.specs.declared.record_error.RecordError.TheVariants.{Full};
 ghost use Rattle.unit_journal.specs.LaidRecord.{entry_in};
 ghost use Rattle.unit_records.specs.Records.{committed, decided, prepared};
 ghost use Rattle.journal_recorder.specs.Laying.{IsLaid, Refuses};
 
-use recording::RecordError;
 use std::alloc::{AllocError, Global};
 use tables::Change;
 use unit_journal::{Kind, LaidRecord};
 use unit_locks::Claim;
 use unit_records::laws::decisions_have_room;
 use unit_records::{
-    commit_length, decide_length, held_for_decision, prepare_length, write_commit, write_decide,
-    write_prepare,
+    RecordError, commit_length, decide_length, held_for_decision, prepare_length, write_commit,
+    write_decide, write_prepare,
 };
 use xa_calls::Xid;
 use xa_manager::Decision;

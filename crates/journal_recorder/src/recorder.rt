@@ -11,12 +11,11 @@ ghost use Rattle.journal_recorder.specs.Kinds.{kind_for};
 use crate::laying::{lay_commit, lay_decide, lay_prepare};
 use crate::made::MadeRecords;
 use drda_disk::{Disk, Region};
-use recording::{RecordContents, RecordError, Recorder};
 use std::alloc::Global;
 use tables::Change;
 use unit_journal::{AppendError, Journal, Kind, LaidRecord};
 use unit_locks::Claim;
-use unit_records::held_for_decision;
+use unit_records::{RecordContents, RecordError, Recorder, held_for_decision};
 use xa_calls::Xid;
 use xa_manager::Decision;
 

@@ -4,16 +4,17 @@ ghost use Rattle.std.specs.Prelude.{◌≡◌, ◌^◌, ◌<◌, ◌≤◌, IsTr
 ghost use Rattle.drda_disk.specs.Region.{end_of};
 ghost use Rattle.unit_journal.specs.Journal.{held_of, region_of};
 ghost use Rattle.unit_records.specs.Room.{released};
-ghost use Rattle.recording.specs.RecordContents.{said_by};
+ghost use Rattle.unit_records.specs.RecordContents.{said_by};
 ghost use Rattle.journal_recorder.specs.Recording.{disk_of, has_failed, journal_of};
 
 use drda_disk::{Disk, DiskFault, FuseDisk, MemDisk, Region};
 use journal_recorder::DiskRecorder;
-use recording::{RecordContents, RecordError, Recorder};
 use std::alloc::Global;
 use std::test::Fail;
 use unit_journal::{Journal, Kind, Record};
-use unit_records::{ReadError, UnitRecord, held_for_decision};
+use unit_records::{
+    ReadError, RecordContents, RecordError, Recorder, UnitRecord, held_for_decision,
+};
 
 /// The bytes of each kind of record: a row is taken out of a table; a branch with two bytes of a
 /// global part and one of a branch part claims all of a table and takes a row out; it is decided.

@@ -4,7 +4,7 @@ use Rattle.std.specs.Ordering.{match_ordering, ordering_reverse}
 use Rattle.std.specs.Cmp.Lexicographic.{nat_list_cmp_total}
 use Rattle.std.specs.Map.{keys_of}
 use Rattle.std.proofs.lemmas.Map.Keys.{sorted_head}
-use Rattle.ordered_rows.specs.Slots.{by_bytes}
+use Rattle.key_map.specs.Slots.{by_bytes}
 use Rattle.key_map.specs.Merging.{Rows, Changes, Above, InOrder, keyed, changed, merged}
 use Rattle.key_map.proofs.Merged.{keys_above, weaker}
 

@@ -7,7 +7,7 @@ use Rattle.std.specs.Map.{keys_of}
 use Rattle.std.specs.BTreeMap.{insert_entry}
 use Rattle.std.proofs.lemmas.Map.Keys.{sorted_head, sorted_tail}
 use Rattle.std.proofs.lemmas.Map.Lookups.{exact_bytes}
-use Rattle.ordered_rows.specs.Slots.{by_bytes}
+use Rattle.key_map.specs.Slots.{by_bytes}
 use Rattle.key_map.specs.Merging.{Rows, Changes, InOrder, row_at, changed, merged, over}
 use Rattle.key_map.proofs.Merged.{missing_above, weaker, tie_is, skip, changed_here, changed_apart, changed_order, merged_order, merged_found}
 

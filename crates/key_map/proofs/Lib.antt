@@ -2,3 +2,8 @@ pub mod Merged
 mod Known
 mod Said
 mod Between
+pub mod RowLaws
+pub mod Seen
+pub mod Numbers
+pub mod Texts
+pub mod Values

@@ -9,7 +9,7 @@ use Rattle.std.specs.Map.{keys_of}
 use Rattle.std.specs.List.{AllByRecursion}
 use Rattle.std.specs.List.Sorted.{IsStrictlySortedBy}
 use Rattle.std.proofs.lemmas.Map.Keys.{sorted_head, sorted_tail}
-use Rattle.ordered_rows.specs.Slots.{by_bytes}
+use Rattle.key_map.specs.Slots.{by_bytes}
 use Rattle.key_map.specs.Merging.{row_at, InOrder, changed, merged, over, keyed}
 
 -- what is at a key after a change of the same key

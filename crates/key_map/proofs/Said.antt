@@ -4,7 +4,7 @@ use Rattle.std.specs.Prelude.{option_map}
 use Rattle.std.specs.Ordering.{match_ordering}
 use Rattle.std.specs.BTreeMap.{insert_entry}
 use Rattle.std.specs.Map.{keys_of}
-use Rattle.ordered_rows.specs.Slots.{Slots, by_bytes, by_key, rows_of}
+use Rattle.key_map.specs.Slots.{Slots, by_bytes, by_key, rows_of}
 use Rattle.key_map.specs.Merging.{Rows, InOrder, row_at, changed, merged, over}
 use Rattle.key_map.specs.Overlay.{said, change_of, changes_of}
 use Rattle.key_map.proofs.Merged.{merged_found}

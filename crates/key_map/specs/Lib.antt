@@ -1,2 +1,5 @@
 pub mod Merging
 pub mod Overlay
+pub mod Slots
+pub mod Walk
+pub mod SortForm

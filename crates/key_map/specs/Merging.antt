@@ -5,7 +5,7 @@ use Rattle.std.specs.Ordering.{match_ordering}
 use Rattle.std.proofs.Common.{Less, Equal}
 use Rattle.std.specs.Map.{lookup, keys_of}
 use Rattle.std.specs.List.Sorted.{IsStrictlySortedBy}
-use Rattle.ordered_rows.specs.Slots.{by_bytes, by_key}
+use Rattle.key_map.specs.Slots.{by_bytes, by_key}
 
 -- rows by their keys
 abbrev pub Rows : Type 0

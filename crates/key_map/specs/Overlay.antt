@@ -1,7 +1,7 @@
 -- The changes of a table since its pages were written.
 use Rattle.std.specs.Prelude.{ℕ, List, [], ◌∷◌, Option, Some, None, map, option_map}
 use Rattle.std.specs.Borrow.{Bor}
-use Rattle.ordered_rows.specs.Slots.{Slots, rows_of}
+use Rattle.key_map.specs.Slots.{Slots, rows_of}
 use Rattle.key_map.specs.Merging.{Changes}
 
 -- what an entry says: a row of no bytes stands for one that was taken out

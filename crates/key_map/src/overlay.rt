@@ -2,12 +2,12 @@
 
 ghost use Rattle.std.specs.Prelude.{◌≡◌, ◌<◌, ℕ, List, [], Some, None, OnOk, length, map, option_map};
 ghost use Rattle.std.specs.BTreeMap.{insert_entry};
-ghost use Rattle.ordered_rows.specs.Slots.{HasRoom, by_bytes};
-ghost use Rattle.ordered_rows.specs.Walk.{rows_left};
+ghost use Rattle.key_map.specs.Slots.{HasRoom, by_bytes};
+ghost use Rattle.key_map.specs.Walk.{rows_left};
 ghost use Rattle.key_map.specs.Merging.{InOrder, Rows, changed, merged, over, row_at};
 ghost use Rattle.key_map.specs.Overlay.{change_of, changes_of, said, seen};
 
-use ordered_rows::{OrderedRows, Rows as RowsLeft};
+use crate::{OrderedRows, Rows as RowsLeft};
 use std::alloc::{AllocError, Global};
 use std::marker::Model;
 
@@ -22,7 +22,7 @@ pub struct Overlay {
 }
 
 impl Model for Overlay {
-    ghost use Rattle.ordered_rows.specs.Slots.{Slots};
+    ghost use Rattle.key_map.specs.Slots.{Slots};
 
     ghost Value = { Slots };
 

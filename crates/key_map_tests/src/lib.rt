@@ -2,4 +2,8 @@
 #![tactic(auto)]
 
 #[cfg(test)]
+mod forms;
+#[cfg(test)]
+mod ordered;
+#[cfg(test)]
 mod overlay;

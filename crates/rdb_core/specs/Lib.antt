@@ -5,3 +5,4 @@ pub mod Steps
 pub mod Question
 pub mod Found
 pub mod Restored
+pub mod PlainState

@@ -1,8 +1,8 @@
 -- What becomes of the recorder: the record that is due is made, or is refused.
 use Rattle.std.specs.Prelude.{◌≡◌, ◌⊎◌, Option, Some, None}
 use Rattle.unit_records.specs.Records.{UnitRecord}
-use Rattle.recording.specs.declared.record_error.RecordError.{RecordError}
-use Rattle.recording.specs.declared.record_error.RecordError.TheVariants as error
+use Rattle.unit_records.specs.declared.record_error.RecordError.{RecordError}
+use Rattle.unit_records.specs.declared.record_error.RecordError.TheVariants as error
 use Rattle.core_calls.specs.Answer.{Answer, device_failed, full, no_memory}
 
 -- the record that is due is made; where none is, the recorder stays

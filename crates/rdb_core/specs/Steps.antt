@@ -7,8 +7,8 @@ use Rattle.xa_manager.specs.declared.due.Action.{Action}
 use Rattle.xa_manager.specs.declared.due.Action.TheVariants as action
 use Rattle.xa_manager.specs.declared.due.Decision.TheVariants as decided
 use Rattle.unit_records.specs.Records.{UnitRecord}
-use Rattle.recording.specs.Due.{record_due}
-use Rattle.recording.specs.declared.record_error.RecordError.{RecordError}
+use Rattle.unit_records.specs.Due.{record_due}
+use Rattle.unit_records.specs.declared.record_error.RecordError.{RecordError}
 use Rattle.core_calls.specs.Call as call
 use Rattle.core_calls.specs.Call.{Call}
 use Rattle.core_calls.specs.Answer.{Answer}

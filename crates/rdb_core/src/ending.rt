@@ -4,7 +4,7 @@ ghost use Rattle.std.specs.Prelude.{◌≡◌, IfErr, None, OnErr, OnOk, Some, i
 ghost use Rattle.tables.specs.ChangeView.{change_of};
 ghost use Rattle.table_store.specs.TableStore.{IsReserved, store_in};
 ghost use Rattle.unit_records.specs.Records.{UnitRecord, decided};
-ghost use Rattle.recording.specs.Due.{action_due, commit_due};
+ghost use Rattle.unit_records.specs.Due.{action_due, commit_due};
 ghost use Rattle.xa_manager.specs.Branch.{is_lost_with};
 ghost use Rattle.core_model.specs.Units.{global, unit_of, without};
 ghost use Rattle.core_model.specs.Events.{Commit, Leave, bare, bare_run};
@@ -14,10 +14,10 @@ ghost use Rattle.rdb_core.specs.Base.{base_of};
 ghost use Rattle.rdb_core.specs.Recorded.{IsRecorded, Refuses};
 ghost use Rattle.rdb_core.specs.Steps.{left_units};
 
-use recording::{RecordContents, RecordError, Recorder};
 use std::alloc::{AllocError, Global};
 use table_store::TableStore;
 use tables::Change;
+use unit_records::{RecordContents, RecordError, Recorder};
 use unit_table::{Owner, Units};
 use xa_calls::Xid;
 use xa_manager::{Action, Branch, Decision};

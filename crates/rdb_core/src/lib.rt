@@ -6,9 +6,11 @@ mod ending;
 mod engine;
 mod opening;
 mod plain;
+mod plain_state;
 mod question;
 mod refusing;
 mod reply;
 mod step;
 
 pub use engine::Core;
+pub use plain_state::PlainState;

@@ -8,14 +8,14 @@ ghost use Rattle.rdb_core.specs.Restored.{RestoresUnit, with_in_doubt};
 ghost use Rattle.rdb_core.specs.State.{recorder_of, state_of};
 
 use crate::engine::Core;
-use recording::Recorder;
 use std::alloc::{AllocError, Global};
 use table_store::TableStore;
 use unit_changes::UnitChanges;
 use unit_locks::Claim;
+use unit_records::Recorder;
 use unit_table::{Owner, Units};
-use xa_calls::Xid;
-use xa_manager::{RestoreError, XaTable, Xids};
+use xa_calls::{Xid, Xids};
+use xa_manager::{RestoreError, XaTable};
 
 impl<R: Recorder> Core<R> {
     /// A core with these committed tables, without units and branches. Takes no memory.

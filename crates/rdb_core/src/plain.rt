@@ -3,10 +3,10 @@
 ghost use Rattle.std.specs.Prelude.{◌≡◌, IfOk};
 ghost use Rattle.rdb_core.specs.State.{state_of};
 
+use crate::PlainState;
 use crate::engine::Core;
-use plain_state::PlainState;
-use recording::Recorder;
 use std::alloc::AllocError;
+use unit_records::Recorder;
 
 impl<R: Recorder> Core<R> {
     /// A copy of the whole state as plain lists: the committed tables, the units that have work, and the

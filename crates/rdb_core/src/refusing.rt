@@ -5,7 +5,7 @@ ghost use Rattle.core_calls.specs.Answer.{answer_of};
 ghost use Rattle.rdb_core.specs.Recorded.{refusal_answer};
 
 use core_calls::Answer;
-use recording::RecordError;
+use unit_records::RecordError;
 
 /// The answer to a call whose record is refused so.
 pub(crate) fn refused(error: RecordError) -> Answer

@@ -3,7 +3,7 @@
 ghost use Rattle.std.specs.Prelude.{◌≡◌, None, Some, false, map};
 ghost use Rattle.row_values.specs.Value.{value_of};
 ghost use Rattle.unit_records.specs.Records.{UnitRecord};
-ghost use Rattle.recording.specs.Due.{record_due};
+ghost use Rattle.unit_records.specs.Due.{record_due};
 ghost use Rattle.core_calls.specs.Answer.{answer_of};
 ghost use Rattle.core_calls.specs.Call.{call_of, describe, query, run};
 ghost use Rattle.core_model.specs.Asked.{unfit};
@@ -15,10 +15,10 @@ use crate::asking::ask_unit;
 use crate::engine::Core;
 use crate::question::{Question, unfit};
 use core_calls::{Answer, CoreCall, Refusal, Side};
-use recording::Recorder;
 use row_values::Value;
 use sql_text::Statement;
 use std::alloc::AllocError;
+use unit_records::Recorder;
 
 impl<R: Recorder> Core<R> {
     /// What a conversation asks is answered, and the core takes one step. What is committed, prepared or

@@ -3,8 +3,8 @@
 use crate::fixtures::{ask, numbered};
 use core_calls::Answer;
 use rdb_core::Core;
-use recording::NoRecords;
 use std::test::Fail;
+use unit_records::NoRecords;
 use xa_calls::{Ending, InvalidRequest, Request, Verb};
 
 // Who asks what, so that the branch is unknown, active for 1 and for 2, idle of 1 and of 2, and to be

@@ -3,8 +3,8 @@
 use crate::fixtures::{ask, numbered};
 use core_calls::Answer;
 use rdb_core::Core;
-use recording::NoRecords;
 use std::test::Fail;
+use unit_records::NoRecords;
 use xa_calls::{Ending, Verb};
 
 // A local unit is committed and rolled back; inside of a branch neither is done.

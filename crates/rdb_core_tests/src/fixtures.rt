@@ -2,7 +2,7 @@
 
 use core_calls::Answer;
 use rdb_core::Core;
-use recording::NoRecords;
+use unit_records::NoRecords;
 use xa_calls::{BadXid, Request, Verb, Xid};
 
 // The XID of format 7 whose global part is the number, without a branch part.

@@ -2,10 +2,10 @@
 
 use core_calls::Answer;
 use rdb_core::Core;
-use recording::{RecordContents, RecordError, Recorder};
 use sql_text::{SqlError, Statement, parse};
 use std::alloc::Global;
 use std::test::Fail;
+use unit_records::{RecordContents, RecordError, Recorder};
 
 // Makes so many records, and refuses those that follow.
 #[derive(Drop)]

@@ -3,7 +3,7 @@ use Rattle.std.proofs.Common.{◌≡◌, ℕ, zero, suc, ◌+◌, ◌*◌, ◌�
 use Rattle.std.specs.List.{cons_option, flat_map, list_all, slice_get}
 use Rattle.std.specs.Prelude.{is_some}
 use borrow.Author.Tests.{leb-true, leb-false}
-use Rattle.core_calls.proofs.Projected.{rows_are_short}
+use Rattle.tables.proofs.Projected.{rows_are_short}
 use Rattle.ddm_objects.specs.Objects.{Plain, Extended4, Extended8, heading}
 use Rattle.ddm_objects.specs.Writing.{form_for, spelled}
 use Rattle.ddm_objects.specs.declared.code_point.TheConstants.{QRYDSC, QRYDTA}

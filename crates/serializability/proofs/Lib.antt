@@ -5,3 +5,9 @@ pub mod Bare
 pub mod Keeping
 pub mod Prepared
 mod Framed
+pub mod Steady
+pub mod Sound
+pub mod SqlLaws
+pub mod CoreLaws
+pub mod CoreUnits
+pub mod Histories

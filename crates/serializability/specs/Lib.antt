@@ -5,3 +5,6 @@ pub mod Serial
 pub mod Steps
 pub mod Prepared
 pub mod SmallStore
+pub mod SqlWords
+pub mod CoreWords
+pub mod Histories

@@ -12,7 +12,7 @@ use Rattle.drda_commands.specs.declared.stage.Mechanism.{Mechanism}
 use Rattle.drda_commands.specs.declared.stage.Mechanism.TheVariants.{UserAndPassword, UserOnly}
 use Rattle.drda_commands.specs.Given.{Given, Occurs, never, once, twice, value_of, found_at}
 use Rattle.drda_names.specs.Names.{is_name, is_padded_name}
-use Rattle.command_kit.specs.Reply.{Reply}
+use Rattle.sqlam_replies.specs.Reply.{Reply}
 use Rattle.session_commands.specs.declared.session.Agreed.{Agreed}
 use Rattle.session_commands.specs.declared.session.Session.{Session}
 use Rattle.session_commands.specs.Levels.{agreed_after, nothing_agreed}

@@ -12,7 +12,7 @@ use Rattle.drda_commands.specs.Refusals.{synerrcd_for}
 use Rattle.drda_names.specs.Names.{in_encoding, padded_in}
 use Rattle.sqlam_replies.specs.declared.message.ReplyMessage.TheVariants as is
 use Rattle.sqlam_replies.specs.Message.{error, info, message_of, objects, scalar}
-use Rattle.command_kit.specs.Reply.{Reply, message, object}
+use Rattle.sqlam_replies.specs.Reply.{Reply, message, object}
 use Rattle.session_commands.specs.declared.reply.TheConstants.{SERVER_NAME, SERVER_CLASS, RELEASE_LEVEL}
 use Rattle.session_commands.specs.Levels.{levels_for}
 use Rattle.session_commands.specs.Settings.{Settings}

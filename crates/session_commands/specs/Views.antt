@@ -1,6 +1,6 @@
 -- What the types of the code show.
 use Rattle.std.specs.Prelude.{◌≡◌, List, ℕ, ◌++◌, Option, Some, None}
-use Rattle.command_kit.specs.Kind.{dss_type_of}
+use Rattle.sqlam_replies.specs.Kind.{dss_type_of}
 use Rattle.session_commands.specs.declared.answer.Answer as rust_answer
 use Rattle.session_commands.specs.Access.{Answer}
 

@@ -13,9 +13,9 @@ use crate::reply::{
 };
 use crate::session::Session;
 use crate::settings::Settings;
-use command_kit::ReplyKind;
 use drda_commands::{Mechanism, Occurs, Stage};
 use drda_names::{is_name, is_padded_name};
+use sqlam_replies::ReplyKind;
 use std::alloc::AllocError;
 
 fn is_ours(settings: &Settings, unicode: bool, name: Occurs<'_>) -> bool

@@ -11,9 +11,9 @@ use crate::levels::agreed_by;
 use crate::reply::{write_excsatrd, write_manager_missing, write_refusal};
 use crate::session::{Agreed, Session};
 use crate::settings::Settings;
-use command_kit::ReplyKind;
 use ddm_objects::code_point;
 use drda_commands::{Accepted, Command, ItemKind, Refusal, Stage};
+use sqlam_replies::ReplyKind;
 use std::alloc::AllocError;
 
 /// A reply whose text stands elsewhere, and what is remembered then.

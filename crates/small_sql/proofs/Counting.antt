@@ -11,8 +11,8 @@ use Rattle.row_values.specs.Row.{is_row, values_in}
 use Rattle.row_values.specs.declared.row.ReadError.{ReadError}
 use Rattle.row_values.specs.declared.row.ReadError.TheVariants.{Damaged, NoMemory}
 use Rattle.tables.specs.RowList.{RowList}
-use Rattle.sql_filters.specs.Test.{passes}
-use Rattle.sql_filters.specs.declared.filter.Filter.{Filter}
+use Rattle.sql_predicates.specs.Test.{passes}
+use Rattle.sql_predicates.specs.declared.filter.Filter.{Filter}
 use Rattle.small_sql.specs.Reading.{DamagedBy}
 
 one_more : (p : List ℕ → Bool) (rows : List (List ℕ)) (i : ℕ) (row : List ℕ) → slice_get rows i ≡ Some row → filter p (take (i + 1) rows) ≡ filter p (take i rows) ++ cond (p row) (row ∷ []) []

@@ -20,9 +20,9 @@ use Rattle.tables.specs.Tables.{Store, Table, rows_of, schema_of, table_of}
 use Rattle.tables.specs.View.{is_store, is_table}
 use Rattle.core_calls.specs.declared.sql_fault.SqlFault.{SqlFault}
 use Rattle.core_calls.specs.declared.sql_fault.SqlFault.TheVariants as fault
-use Rattle.sql_literals.specs.Refused.{fault_of}
-use Rattle.sql_literals.specs.declared.error.StatementError.{StatementError}
-use Rattle.sql_literals.specs.declared.error.StatementError.TheVariants as statement
+use Rattle.core_calls.specs.StatementError.{fault_of}
+use Rattle.core_calls.specs.declared.statement_error.StatementError.{StatementError}
+use Rattle.core_calls.specs.declared.statement_error.StatementError.TheVariants as statement
 use Rattle.sql_semantics.specs.Checked.{Checked, if_none}
 use Rattle.sql_semantics.specs.Classes.{filter_fault}
 use Rattle.sql_semantics.specs.Frame.{CoveredIsEnough, rows_covered, tables_covered}

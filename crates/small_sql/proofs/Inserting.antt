@@ -14,9 +14,9 @@ use Rattle.tables.specs.Tables.{Store, row_of, rows_of, schema_of}
 use Rattle.tables.specs.View.{is_store}
 use Rattle.core_calls.specs.declared.sql_fault.SqlFault.{SqlFault}
 use Rattle.core_calls.specs.declared.sql_fault.SqlFault.TheVariants as fault
-use Rattle.sql_literals.specs.Refused.{fault_of}
-use Rattle.sql_literals.specs.declared.error.StatementError.{StatementError}
-use Rattle.sql_literals.specs.declared.error.StatementError.TheVariants as statement
+use Rattle.core_calls.specs.StatementError.{fault_of}
+use Rattle.core_calls.specs.declared.statement_error.StatementError.{StatementError}
+use Rattle.core_calls.specs.declared.statement_error.StatementError.TheVariants as statement
 use Rattle.sql_changes.specs.Given.{values_given}
 use Rattle.sql_changes.specs.declared.given.GivenRow.{GivenRow}
 use Rattle.sql_semantics.specs.Checked.{Checked, and_then}

@@ -19,11 +19,11 @@ use Rattle.sql_semantics.specs.Meaning.{Answer, Refused, Rows, answer, answered,
 use Rattle.sql_semantics.specs.Scope.{filter_key, scope, scope_by}
 use Rattle.sql_semantics.specs.Truth.{matches}
 use Rattle.sql_semantics.specs.Values.{name_of}
-use Rattle.sql_filters.specs.Test.{passes}
+use Rattle.sql_predicates.specs.Test.{passes}
 use Rattle.drda_words.specs.Excuse.{Answers}
-use Rattle.sql_literals.specs.Refused.{fault_of}
-use Rattle.sql_literals.specs.declared.error.StatementError.{StatementError}
-use Rattle.sql_literals.specs.declared.error.StatementError.TheVariants as statement
+use Rattle.core_calls.specs.StatementError.{fault_of}
+use Rattle.core_calls.specs.declared.statement_error.StatementError.{StatementError}
+use Rattle.core_calls.specs.declared.statement_error.StatementError.TheVariants as statement
 use Rattle.small_sql.specs.Plan.{Plans, rows_found, selection}
 use Rattle.small_sql.specs.declared.plan.Plan.{Plan}
 

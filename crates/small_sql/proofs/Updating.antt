@@ -13,9 +13,9 @@ use Rattle.tables.specs.Tables.{Store, rows_of, schema_of}
 use Rattle.tables.specs.View.{is_store}
 use Rattle.core_calls.specs.declared.sql_fault.SqlFault.{SqlFault}
 use Rattle.core_calls.specs.declared.sql_fault.SqlFault.TheVariants as fault
-use Rattle.sql_literals.specs.Refused.{fault_of}
-use Rattle.sql_literals.specs.declared.error.StatementError.{StatementError}
-use Rattle.sql_literals.specs.declared.error.StatementError.TheVariants as statement
+use Rattle.core_calls.specs.StatementError.{fault_of}
+use Rattle.core_calls.specs.declared.statement_error.StatementError.{StatementError}
+use Rattle.core_calls.specs.declared.statement_error.StatementError.TheVariants as statement
 use Rattle.sql_semantics.specs.Checked.{Checked, and_then, fault_in, if_none}
 use Rattle.sql_semantics.specs.Classes.{filter_fault}
 use Rattle.sql_semantics.specs.Frame.{CoveredIsEnough, rows_covered, tables_covered}
@@ -24,9 +24,9 @@ use Rattle.sql_semantics.specs.Scope.{filter_key, scope, scope_by}
 use Rattle.sql_semantics.specs.Truth.{matches}
 use Rattle.sql_semantics.specs.Update.{targets, updated_rows}
 use Rattle.sql_semantics.specs.Values.{name_of}
-use Rattle.sql_filters.specs.Binding.{RefusedFor}
-use Rattle.sql_updates.specs.Assigned.{StandFor}
-use Rattle.sql_updates.specs.declared.target.Targets.{Targets}
+use Rattle.sql_predicates.specs.Binding.{RefusedFor}
+use Rattle.sql_changes.specs.Assigned.{StandFor}
+use Rattle.sql_changes.specs.declared.target.Targets.{Targets}
 use Rattle.small_sql.specs.Plan.{Plans, no_selection, rows_found}
 use Rattle.small_sql.specs.declared.plan.Plan.{Plan}
 use Rattle.small_sql.proofs.Deleting.{by_fault, by_none, no_schema}

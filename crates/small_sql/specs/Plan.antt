@@ -11,7 +11,7 @@ use Rattle.sql_semantics.specs.Classes.{filter_fault, selected_places}
 use Rattle.sql_semantics.specs.Frame.{rows_covered}
 use Rattle.sql_semantics.specs.Scope.{filter_key, scope_by}
 use Rattle.sql_semantics.specs.Truth.{matches}
-use Rattle.sql_filters.specs.Test.{passes}
+use Rattle.sql_predicates.specs.Test.{passes}
 use Rattle.small_sql.specs.declared.plan.Plan.{Plan}
 
 -- the places that a SELECT asks for, where neither they nor its WHERE are at fault

@@ -10,9 +10,8 @@ ghost use Rattle.unit_locks.specs.Claim.{key_or_empty};
 ghost use Rattle.unit_locks.specs.declared.access.Access.TheVariants.{Read, Write};
 
 use row_values::{Schema, Value};
-use sql_filters::fixed_key;
 use sql_lex::Part;
-use sql_literals::table_name;
+use sql_predicates::{fixed_key, table_name};
 use sql_text::{Columns, Command, Literal, Predicate};
 use std::alloc::{AllocError, Global};
 use unit_locks::{Access, Claim};

@@ -9,9 +9,9 @@ ghost use Rattle.small_sql.specs.Answer.{answer_of};
 
 use crate::answer::{Answer, one_change};
 use crate::read::no_memory;
-use core_calls::SqlFault;
+use core_calls::{SqlFault, StatementError};
 use sql_lex::Part;
-use sql_literals::{StatementError, table_name};
+use sql_predicates::table_name;
 use sql_text::{Definition, KeyColumn};
 use std::alloc::{AllocError, Global};
 use tables::TableView;

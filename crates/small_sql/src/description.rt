@@ -8,9 +8,8 @@ ghost use Rattle.small_sql.specs.Described.{described_as};
 
 use crate::read::no_memory;
 use crate::subject::table_schema;
-use core_calls::{Side, SqlFault};
+use core_calls::{Side, SqlFault, StatementError};
 use sql_descriptions::Description;
-use sql_literals::StatementError;
 use sql_text::Command;
 use std::alloc::Global;
 use tables::TableView;

@@ -11,11 +11,11 @@ ghost use Rattle.small_sql.specs.Keyed.{rows_of_key};
 
 use crate::answer::{Answer, one_change};
 use crate::read::no_memory;
-use core_calls::SqlFault;
+use core_calls::{SqlFault, StatementError};
 use row_values::{Schema, Value, is_name};
 use sql_changes::GivenRow;
 use sql_lex::Part;
-use sql_literals::{StatementError, table_name};
+use sql_predicates::table_name;
 use sql_semantics::laws::statements_are_framed;
 use sql_text::{Columns, Literal};
 use std::alloc::{AllocError, Global};

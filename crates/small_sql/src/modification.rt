@@ -9,19 +9,19 @@ ghost use Rattle.sql_text.specs.declared.tree.Sum.{Sum as SqlSum};
 ghost use Rattle.sql_semantics.specs.Checked.{and_then};
 ghost use Rattle.sql_semantics.specs.Meaning.{answered, meaning, within_room};
 ghost use Rattle.sql_semantics.specs.Update.{updated_rows};
-ghost use Rattle.sql_updates.specs.Assigned.{StandFor};
+ghost use Rattle.sql_changes.specs.Assigned.{StandFor};
 ghost use Rattle.small_sql.specs.Answer.{answer_of};
 
 use crate::answer::Answer;
 use crate::plan;
 use crate::read::{no_memory, rows_found};
-use core_calls::SqlFault;
+use core_calls::{SqlFault, StatementError};
 use row_values::{Value, is_name};
+use sql_changes::{Targets, updates};
 use sql_lex::Part;
-use sql_literals::{StatementError, table_name};
+use sql_predicates::table_name;
 use sql_semantics::laws::statements_are_framed;
 use sql_text::{Assignment, Predicate};
-use sql_updates::{Targets, updates};
 use std::alloc::{AllocError, Global};
 use tables::{RowList, TableView};
 

@@ -6,14 +6,14 @@ ghost use Rattle.std.specs.Arc.{arc_value};
 ghost use Rattle.drda_words.specs.Excuse.{Answers};
 ghost use Rattle.row_values.specs.Value.{value_of};
 ghost use Rattle.tables.specs.RowList.{is_selection};
-ghost use Rattle.sql_literals.specs.Refused.{fault_of};
+ghost use Rattle.core_calls.specs.StatementError.{fault_of};
 ghost use Rattle.sql_semantics.specs.Checked.{if_none};
 ghost use Rattle.sql_semantics.specs.Classes.{filter_fault};
 ghost use Rattle.small_sql.specs.Plan.{Plans, no_selection, selection};
 
+use core_calls::StatementError;
 use row_values::{Schema, Value};
-use sql_filters::{Filter, fixed_key, selected_places};
-use sql_literals::StatementError;
+use sql_predicates::{Filter, fixed_key, selected_places};
 use sql_text::{Columns, Predicate};
 use std::alloc::Global;
 use std::sync::Arc;

@@ -7,13 +7,13 @@ ghost use Rattle.tables.specs.Tables.{schema_of};
 ghost use Rattle.tables.specs.View.{is_store};
 ghost use Rattle.sql_semantics.specs.Frame.{rows_covered};
 ghost use Rattle.sql_semantics.specs.Scope.{scope_by};
-ghost use Rattle.sql_filters.specs.Test.{passes};
+ghost use Rattle.sql_predicates.specs.Test.{passes};
 ghost use Rattle.small_sql.specs.Plan.{rows_found};
 ghost use Rattle.small_sql.specs.Reading.{DamagedBy};
 
 use crate::plan::Plan;
 use row_values::{Damaged, ReadError, RowRef, Schema};
-use sql_filters::Filter;
+use sql_predicates::Filter;
 use std::alloc::{AllocError, Global};
 use tables::laws::stores_hold_tables;
 use tables::{RowList, Rows, TableView};

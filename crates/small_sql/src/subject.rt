@@ -10,7 +10,7 @@ ghost use Rattle.sql_semantics.specs.Values.{name_of};
 use crate::read::no_memory;
 use row_values::Schema;
 use sql_lex::Part;
-use sql_literals::table_name;
+use sql_predicates::table_name;
 use sql_text::Command;
 use std::alloc::Global;
 use std::sync::Arc;

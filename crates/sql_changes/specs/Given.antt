@@ -1,7 +1,7 @@
 -- The row that an INSERT gives.
 use Rattle.std.specs.Prelude.{List, map}
 use Rattle.row_values.specs.Value.{Value}
-use Rattle.sql_literals.specs.Constant.{constant_value}
+use Rattle.sql_predicates.specs.Constant.{constant_value}
 use Rattle.sql_changes.specs.declared.given.GivenRow.{GivenRow}
 
 -- its values, one for each column

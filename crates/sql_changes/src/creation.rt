@@ -12,11 +12,11 @@ ghost use Rattle.sql_semantics.specs.Checked.{unless};
 ghost use Rattle.sql_semantics.specs.Create as create;
 ghost use Rattle.sql_semantics.specs.Meaning.{Changes, create_answer};
 ghost use Rattle.sql_semantics.specs.Values as values;
-ghost use Rattle.sql_literals.specs.Refused.{fault_of};
+ghost use Rattle.core_calls.specs.StatementError.{fault_of};
 
-use core_calls::SqlFault;
+use core_calls::{SqlFault, StatementError};
 use row_values::{Column, Kind, MAX_COLUMNS, Schema, is_name};
-use sql_literals::{StatementError, column_place, table_name};
+use sql_predicates::{column_place, table_name};
 use sql_text::{ColumnType, Definition, KeyColumn};
 use std::alloc::{AllocError, Global};
 use tables::Change;

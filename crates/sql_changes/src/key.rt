@@ -6,8 +6,8 @@ ghost use Rattle.sql_semantics.specs.Insert as insert;
 ghost use Rattle.sql_semantics.specs.Values.{literal_value};
 
 use crate::given::GivenRow;
+use core_calls::StatementError;
 use row_values::{Schema, Value};
-use sql_literals::StatementError;
 use sql_text::{Columns, Literal};
 use std::alloc::{AllocError, Global};
 

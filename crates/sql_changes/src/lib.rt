@@ -1,6 +1,7 @@
-//! The changes that statements make.
+//! The changes that statements make: of CREATE TABLE, INSERT, UPDATE and DELETE.
 #![tactic(auto)]
 
+mod change;
 mod creation;
 mod given;
 mod key;
@@ -8,10 +9,16 @@ mod place;
 mod removal;
 mod room;
 mod row;
+mod sum;
+mod target;
+mod total;
+mod updated_row;
 
+pub use change::updates;
 pub use creation::{MAX_TABLES, create};
 pub use given::{GivenRow, insert};
 pub use key::given_key;
 pub use removal::delete;
 pub use room::have_room;
 pub use row::{misfit_fault, new_row};
+pub use target::Targets;

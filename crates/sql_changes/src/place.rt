@@ -6,12 +6,12 @@ ghost use Rattle.drda_words.specs.Excuse.{Answers};
 ghost use Rattle.row_values.specs.Column.{column_of};
 ghost use Rattle.sql_semantics.specs.Values as values;
 ghost use Rattle.sql_semantics.specs.Insert as insert;
-ghost use Rattle.sql_literals.specs.Refused.{fault_of};
+ghost use Rattle.core_calls.specs.StatementError.{fault_of};
 
-use core_calls::SqlFault;
+use core_calls::{SqlFault, StatementError};
 use row_values::Column;
 use sql_lex::Part;
-use sql_literals::{StatementError, column_place};
+use sql_predicates::column_place;
 use sql_text::Columns;
 use std::alloc::{AllocError, Global};
 

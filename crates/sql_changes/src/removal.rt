@@ -8,12 +8,11 @@ ghost use Rattle.row_values.specs.Schema.{is_name};
 ghost use Rattle.tables.specs.Change.{remove as remove_change};
 ghost use Rattle.tables.specs.ChangeView.{change_of};
 ghost use Rattle.sql_semantics.specs.Meaning.{Changes, within_room};
-ghost use Rattle.sql_literals.specs.Refused.{fault_of};
+ghost use Rattle.core_calls.specs.StatementError.{fault_of};
 
 use crate::room::have_room;
-use core_calls::SqlFault;
+use core_calls::{SqlFault, StatementError};
 use row_values::RowRef;
-use sql_literals::StatementError;
 use std::alloc::{AllocError, Global};
 use tables::{Change, RowList};
 

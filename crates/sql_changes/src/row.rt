@@ -6,12 +6,12 @@ ghost use Rattle.row_values.specs.Column.{column_of};
 ghost use Rattle.row_values.specs.Value.{value_of};
 ghost use Rattle.sql_semantics.specs.Checked as checked;
 ghost use Rattle.sql_semantics.specs.Insert as insert;
-ghost use Rattle.sql_literals.specs.Constant.{constant_value};
-ghost use Rattle.sql_literals.specs.Refused.{fault_of};
+ghost use Rattle.sql_predicates.specs.Constant.{constant_value};
+ghost use Rattle.core_calls.specs.StatementError.{fault_of};
 
-use core_calls::SqlFault;
+use core_calls::{SqlFault, StatementError};
 use row_values::{Column, Misfit, RowError, Schema, Value, are_row, encode_row};
-use sql_literals::{Constant, StatementError};
+use sql_predicates::Constant;
 use std::alloc::{AllocError, Global};
 
 /// The fault of a value that does not fit its column.

@@ -1,9 +1,9 @@
 //! Statements and a schema that the tests share.
 
-use core_calls::SqlFault;
+use core_calls::{SqlFault, StatementError};
 use row_values::{Column, Kind, RowRef, Schema, Value};
 use sql_changes::{create, delete, given_key, insert};
-use sql_literals::{Constant, StatementError, table_name};
+use sql_predicates::{Constant, table_name};
 use sql_text::{Command, parse};
 use std::alloc::Global;
 use std::sync::Arc;

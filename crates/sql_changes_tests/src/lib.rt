@@ -1,4 +1,4 @@
-//! Tests of sql_literals and sql_changes.
+//! Tests of sql_changes, and of the literals of sql_predicates.
 #![tactic(auto)]
 
 #[cfg(test)]
@@ -11,3 +11,9 @@ mod literals;
 mod removals;
 #[cfg(test)]
 mod tables_made;
+#[cfg(test)]
+mod update_fixtures;
+#[cfg(test)]
+mod update_limits;
+#[cfg(test)]
+mod updates;

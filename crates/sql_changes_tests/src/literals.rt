@@ -2,7 +2,7 @@
 
 use crate::fixtures::{four_columns, literal};
 use row_values::Value;
-use sql_literals::{column_place, table_name};
+use sql_predicates::{column_place, table_name};
 use std::test::Fail;
 
 const LITERALS: [(&str, Value<'static>); 9] = [

@@ -7,7 +7,7 @@ use Rattle.sections.specs.Kept.{Preparation, Sections}
 use Rattle.command_kit.specs.declared.statements.Statements.{Statements}
 use Rattle.command_kit.specs.Doing.{Doing}
 use Rattle.command_kit.specs.Done.{WasDone}
-use Rattle.command_kit.specs.Reply.{Reply}
+use Rattle.sqlam_replies.specs.Reply.{Reply}
 use Rattle.sql_commands.specs.Commands.{unprepared, with_prepared}
 
 module _ {A : Type 0} (asks : A → Call → Answer → A → Type 0) (d : Doing) (old new : A) (before same after : List Reply) (is_same : before ≡ same) where

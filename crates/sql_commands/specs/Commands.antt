@@ -20,7 +20,8 @@ use Rattle.sections.specs.Kept.{Preparation, Section}
 use Rattle.sections.specs.Cursors.{after_prepare, section_of}
 use Rattle.sqlam_replies.specs.declared.message.UnitEnd.{UnitEnd}
 use Rattle.sqlam_replies.specs.declared.message.UnitEnd.TheVariants.{Committed, RolledBack}
-use Rattle.command_kit.specs.Reply.{Reply, command_violation, count_card, description, fault_card, null_card, parameter_columns, rdb_updated, unit_ended}
+use Rattle.sqlam_replies.specs.Reply.{Reply}
+use Rattle.command_kit.specs.Reply.{command_violation, count_card, description, fault_card, null_card, parameter_columns, rdb_updated, unit_ended}
 use Rattle.command_kit.specs.declared.statements.Statements.{Statements}
 use Rattle.command_kit.specs.Statements.{unit_behind}
 use Rattle.command_kit.specs.Text.{is_held_by, is_select, statement_of, values_of}

@@ -12,11 +12,10 @@ use crate::brought::section_name;
 use crate::replying::MAX_REPLIES_LENGTH;
 use crate::running::{refuse_run, run};
 use command_kit::{Ask, Reply, Statements, is_select, read_values, statement_of};
-use core_calls::SqlFault;
+use core_calls::{SqlFault, StatementError};
 use drda_commands::{Accepted, DescribedData};
 use fdoca::DescriptorFault;
 use sections::NotPrepared;
-use sql_literals::StatementError;
 use sql_text::Statement;
 use std::alloc::{AllocError, Global};
 

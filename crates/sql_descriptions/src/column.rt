@@ -4,12 +4,12 @@ ghost use Rattle.std.specs.Prelude.{◌≡◌, IfOk, true};
 ghost use Rattle.drda_words.specs.Excuse.{Answers};
 ghost use Rattle.row_values.specs.Schema.{picked};
 ghost use Rattle.tables.specs.RowList.{is_selection};
-ghost use Rattle.sql_literals.specs.Refused.{fault_of};
+ghost use Rattle.core_calls.specs.StatementError.{fault_of};
 ghost use Rattle.sql_semantics.specs.Describe as describe;
 
+use core_calls::StatementError;
 use row_values::Schema;
-use sql_filters::{Filter, selected_places};
-use sql_literals::StatementError;
+use sql_predicates::{Filter, selected_places};
 use sql_text::Command;
 use std::alloc::Global;
 

@@ -4,15 +4,14 @@ ghost use Rattle.std.specs.Prelude.{◌≡◌, option_map};
 ghost use Rattle.std.specs.Arc.{arc_value};
 ghost use Rattle.drda_words.specs.Excuse.{Answers};
 ghost use Rattle.core_calls.specs.Answer as answer;
-ghost use Rattle.sql_literals.specs.Refused.{fault_of};
+ghost use Rattle.core_calls.specs.StatementError.{fault_of};
 ghost use Rattle.sql_semantics.specs.Describe as describe;
 ghost use Rattle.sql_descriptions.specs.Description.{answer_of};
 
 use crate::column::described_places;
 use crate::parameter::parameter_types;
-use core_calls::{MAX_PARAMETERS, OutputColumns, ParameterTypes, Side, SqlFault};
+use core_calls::{MAX_PARAMETERS, OutputColumns, ParameterTypes, Side, SqlFault, StatementError};
 use row_values::Schema;
-use sql_literals::StatementError;
 use sql_text::Command;
 use std::alloc::Global;
 use std::sync::Arc;

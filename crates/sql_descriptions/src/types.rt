@@ -8,7 +8,7 @@ ghost use Rattle.sql_semantics.specs.Describe as describe;
 use core_calls::ParameterType;
 use row_values::{Column, Kind};
 use sql_lex::Part;
-use sql_literals::column_place;
+use sql_predicates::column_place;
 use sql_text::{Columns, Term};
 use std::alloc::{AllocError, Global};
 

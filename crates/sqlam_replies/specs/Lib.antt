@@ -4,3 +4,5 @@ pub mod Sqldard
 pub mod Names
 pub mod Rows
 pub mod Parameters
+pub mod Kind
+pub mod Reply

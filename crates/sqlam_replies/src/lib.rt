@@ -5,6 +5,7 @@
 mod lengths;
 mod message;
 mod names;
+mod reply_kind;
 mod rows;
 mod selected;
 mod sqlca;
@@ -15,6 +16,7 @@ pub use lengths::{
     MAX_MESSAGE_LENGTH, MAX_SQLDARD_LENGTH, NULL_SQLCARD_LENGTH, SQLCARD_LENGTH, texts_have_lengths,
 };
 pub use message::{ReplyMessage, UnitEnd, reply_message};
+pub use reply_kind::ReplyKind;
 pub use rows::{block, qrydsc, qrydta};
 pub use selected::selected_sqldard;
 pub use sqlca::{null_sqlcard, sqlcard};

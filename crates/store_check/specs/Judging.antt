@@ -2,7 +2,7 @@
 use Rattle.std.specs.Prelude.{◌≡◌, ℕ, Bool, true, false, ◌&&◌, List, [], ◌∷◌, ◌++◌, map, Option, Some, None, Result, Ok, Err}
 use Rattle.std.specs.Global.{Vec}
 use Rattle.std.specs.Ordering.{match_ordering}
-use Rattle.ordered_rows.specs.Slots.{by_bytes}
+use Rattle.key_map.specs.Slots.{by_bytes}
 use Rattle.row_values.specs.Schema.{Schema}
 use Rattle.row_values.specs.Row.{is_row}
 use Rattle.row_pages.specs.Page.{IsPage, Page}

@@ -4,7 +4,7 @@ use Rattle.std.specs.Prelude.{◌≡◌, ◌+◌, ◌==◌, ◌&&◌, ℕ, Bool,
 use Rattle.std.specs.Global.{Vec}
 use Rattle.std.specs.Ordering.{match_ordering}
 use Rattle.drda_words.specs.Place.{part}
-use Rattle.ordered_rows.specs.Slots.{by_bytes}
+use Rattle.key_map.specs.Slots.{by_bytes}
 use Rattle.checkpoint_writer.specs.Catalogue.{Entry, IsEntryPage, entry_of}
 use Rattle.checkpoint_writer.specs.declared.entry.StoredTable.{StoredTable}
 use Rattle.store_check.specs.Breaking.{BreaksAt}

@@ -10,7 +10,7 @@ use Rattle.drda_words.specs.Place.{part}
 use Rattle.row_pages.specs.Page.{IsPage}
 use Rattle.row_pages.specs.Laying.{HasSome, rows_over}
 use Rattle.row_pages.specs.declared.page.PageKind.TheVariants as kind
-use Rattle.ordered_rows.specs.Slots.{by_bytes}
+use Rattle.key_map.specs.Slots.{by_bytes}
 use Rattle.key_map.specs.Merging.{Rows, Above, InOrder, row_at}
 use Rattle.key_map.proofs.Merged.{missing_above, weaker, skip, tie_is}
 use Rattle.table_map.specs.Keyed.{keyed_rows, first_keys}

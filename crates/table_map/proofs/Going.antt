@@ -7,7 +7,7 @@ use Rattle.std.specs.Map.{keys_of}
 use Rattle.std.specs.Ordering.{match_ordering, ordering_reverse}
 use Rattle.std.specs.Cmp.Lexicographic.{nat_list_cmp_total}
 use Rattle.std.proofs.lemmas.Map.Keys.{sorted_head, sorted_tail}
-use Rattle.ordered_rows.specs.Slots.{by_bytes}
+use Rattle.key_map.specs.Slots.{by_bytes}
 use Rattle.row_pages.specs.Laying.{rows_over}
 use Rattle.key_map.specs.Merging.{Rows, Above, ChangeFirst, ChangeHere, RowFirst, InOrder, keyed, merged}
 use Rattle.key_map.specs.Overlay.{change_of, said}

@@ -3,7 +3,7 @@ use Rattle.std.specs.Prelude.{◌≡◌, ℕ, ◌+◌, ◌*◌, ◌^◌, ◌<◌
 use Rattle.std.specs.Borrow.{Bor}
 use Rattle.std.specs.Global.{Vec}
 use Rattle.std.specs.Ordering.{match_ordering}
-use Rattle.ordered_rows.specs.Slots.{by_bytes}
+use Rattle.key_map.specs.Slots.{by_bytes}
 use Rattle.row_pages.specs.Laying.{rows_over}
 use Rattle.key_map.specs.Merging.{Rows, InOrder, merged}
 use Rattle.key_map.specs.Overlay.{change_of, said}

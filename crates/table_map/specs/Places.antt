@@ -1,7 +1,7 @@
 -- Where a key stands among first keys.
 use Rattle.std.specs.Prelude.{◌≡◌, ℕ, ◌-◌, ◌<◌, ◌≤◌, List, [], length, slice_index_or}
 use Rattle.std.proofs.Common.{Less}
-use Rattle.ordered_rows.specs.Slots.{by_bytes}
+use Rattle.key_map.specs.Slots.{by_bytes}
 
 -- n of the keys come in front of the place of this one: it does not come before the last of them, and it comes before
 -- the next one

@@ -1,6 +1,6 @@
 -- A table: its pages, and the changes since they were written.
 use Rattle.std.specs.Prelude.{ℕ, List, map}
-use Rattle.ordered_rows.specs.Slots.{Slots}
+use Rattle.key_map.specs.Slots.{Slots}
 use Rattle.row_pages.specs.Laying.{rows_over}
 use Rattle.key_map.specs.Merging.{Rows, merged}
 use Rattle.key_map.specs.Overlay.{changes_of}

@@ -1,9 +1,9 @@
 //! The changes that are left, the first of which can be looked at.
 ghost use Rattle.std.specs.Prelude.{◌≡◌};
-ghost use Rattle.ordered_rows.specs.Walk.{rows_left};
+ghost use Rattle.key_map.specs.Walk.{rows_left};
 ghost use Rattle.table_map.specs.Walk.{IsFirstEntry, TakesEntry};
 
-use ordered_rows::Rows;
+use key_map::Rows;
 use std::iter::Iterator;
 use std::marker::Model;
 
@@ -16,7 +16,7 @@ pub(crate) struct ChangesLeft<'a> {
 
 impl<'a> Model for ChangesLeft<'a> {
     ghost use Rattle.key_map.specs.Merging.{Rows};
-    ghost use Rattle.ordered_rows.specs.Walk.{rows_left};
+    ghost use Rattle.key_map.specs.Walk.{rows_left};
     ghost use Rattle.table_map.specs.Walk.{IsLast, before};
 
     ghost Value = { Rows };

@@ -1,6 +1,6 @@
 //! The keys of rows.
 ghost use Rattle.std.specs.Prelude.{◌≡◌, ℕ, List, IfOk};
-ghost use Rattle.ordered_rows.specs.Slots.{by_bytes};
+ghost use Rattle.key_map.specs.Slots.{by_bytes};
 
 use std::alloc::{AllocError, Global};
 use std::cmp::Ordering;

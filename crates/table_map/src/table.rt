@@ -4,7 +4,7 @@ ghost use Rattle.drda_disk.specs.Disk.{Stays};
 ghost use Rattle.row_pages.specs.Laying.{rows_over};
 ghost use Rattle.row_pages.specs.Keeping.{AreRead, CountsPageFault};
 ghost use Rattle.row_pages.specs.declared.kept.PageFault.TheVariants.{NoMemory};
-ghost use Rattle.ordered_rows.specs.Slots.{HasRoom};
+ghost use Rattle.key_map.specs.Slots.{HasRoom};
 ghost use Rattle.key_map.specs.Merging.{InOrder, changed, row_at};
 ghost use Rattle.key_map.specs.Overlay.{changes_of};
 ghost use Rattle.table_map.specs.Damage.{DamagedWhere, LacksPage};

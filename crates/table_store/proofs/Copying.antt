@@ -11,7 +11,7 @@ use Rattle.std.proofs.lemmas.Bool.Decides.{nat_tests}
 use Rattle.std.proofs.lemmas.Cmp.{nat_list_cmp_total}
 use Rattle.std.proofs.lemmas.Str.{IsUtf8-from_is_utf8}
 use Rattle.drda_words.specs.Order.{rises}
-use Rattle.ordered_rows.specs.Slots.{rows_of, with_row}
+use Rattle.key_map.specs.Slots.{rows_of, with_row}
 use Rattle.row_values.specs.Schema.{Schema, is_name}
 use Rattle.row_values.specs.Row.{is_row, utf8_in}
 use Rattle.row_values.specs.Key.{key_cmp, row_key}

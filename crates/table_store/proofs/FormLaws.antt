@@ -12,9 +12,9 @@ use Rattle.row_values.specs.Schema.{Schema}
 use Rattle.row_values.specs.Key.{is_key, key_cmp, row_key}
 use Rattle.row_values.proofs.KeyOrder.{key_by_values, key_exact, key_itself}
 use Rattle.row_values.proofs.ValueLaws.{values_at-is}
-use Rattle.ordered_rows.specs.Slots.{by_bytes, by_key}
-use Rattle.sortable_keys.specs.SortForm.{KeysKeepOrder, sort_form}
-use Rattle.sortable_keys.proofs.Values.{keys_keep_order}
+use Rattle.key_map.specs.Slots.{by_bytes, by_key}
+use Rattle.key_map.specs.SortForm.{KeysKeepOrder, sort_form}
+use Rattle.key_map.proofs.Values.{keys_keep_order}
 use Rattle.tables.proofs.Finding.{itself, same_bytes}
 use Rattle.table_store.specs.Stored.{HaveForms, IsFormOf, at_keys}
 

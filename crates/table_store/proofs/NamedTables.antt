@@ -11,8 +11,8 @@ use Rattle.std.specs.BTreeMap.{insert_entry}
 use Rattle.std.proofs.lemmas.Cmp.{nat_list_cmp_total, tied_itself}
 use Rattle.std.proofs.lemmas.Map.Keys.{sorted_head, sorted_tail}
 use Rattle.std.proofs.lemmas.Map.Lookups.{exact_bytes}
-use Rattle.ordered_rows.specs.Slots.{HasRoom, Slots, by_bytes, by_key, finds, rows_of, with_row}
-use Rattle.ordered_rows.proofs.RowLaws.{blank_row, get_row, put_row, row_in}
+use Rattle.key_map.specs.Slots.{HasRoom, Slots, by_bytes, by_key, finds, rows_of, with_row}
+use Rattle.key_map.proofs.RowLaws.{blank_row, get_row, put_row, row_in}
 use Rattle.row_values.specs.Schema.{Schema}
 use Rattle.tables.specs.Change.{create}
 use Rattle.tables.specs.Tables.{Store, Table, apply, schema_of, table_of, with_table}

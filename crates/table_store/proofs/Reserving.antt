@@ -3,7 +3,7 @@ use Rattle.std.proofs.Common.{◌≡◌, ℕ, ◌+◌, ◌<◌, zero, suc, List,
 use Rattle.std.specs.Prelude.{bytes_eq, unwrap_or}
 use Rattle.std.proofs.lemmas.List.{take_more}
 use Rattle.row_values.specs.Schema.{Schema}
-use Rattle.ordered_rows.specs.Slots.{HasRoom, Slots}
+use Rattle.key_map.specs.Slots.{HasRoom, Slots}
 use Rattle.tables.specs.Applied.{apply_all}
 use Rattle.tables.specs.Change.{Change, create, put, remove}
 use Rattle.tables.specs.Tables.{Store, apply, schema_of}

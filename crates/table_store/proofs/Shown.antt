@@ -7,7 +7,7 @@ use Rattle.std.specs.BTreeMap.{insert_entry}
 use Rattle.row_values.specs.Schema.{Schema}
 use Rattle.row_values.specs.Row.{is_row}
 use Rattle.row_values.specs.Key.{is_key, key_cmp, row_key}
-use Rattle.ordered_rows.specs.Slots.{Slots, by_bytes, by_key, rows_of}
+use Rattle.key_map.specs.Slots.{Slots, by_bytes, by_key, rows_of}
 use Rattle.tables.specs.Tables.{Table, put_row, remove_row}
 use Rattle.table_store.specs.Stored.{FormsKey, FormsRow, HaveForms, IsFormOf, IsRowAt, IsStored, Stored, at_keys, created_table, form_in, shown}
 use Rattle.table_store.proofs.FormLaws.{no_key_taken, put_at, taken_at}

@@ -7,7 +7,7 @@ use Rattle.std.specs.Option.{option_and_then}
 use Rattle.std.specs.List.Sorted.{IsStrictlySortedBy}
 use Rattle.std.specs.Map.{keys_of, lookup, set_value, values_of}
 use Rattle.std.specs.BTreeMap.{insert_entry}
-use Rattle.ordered_rows.specs.Slots.{HasRoom, by_bytes, by_key, finds, with_row}
+use Rattle.key_map.specs.Slots.{HasRoom, by_bytes, by_key, finds, with_row}
 use Rattle.row_values.specs.Schema.{Schema}
 use Rattle.tables.specs.Change.{Change, create, is_change, put, remove}
 use Rattle.tables.specs.View.{is_sound}

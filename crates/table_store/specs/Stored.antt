@@ -3,11 +3,11 @@ use Rattle.std.specs.Prelude.{◌≡◌, ℕ, Bool, true, false, List, [], Optio
 use Rattle.std.specs.Global.{Vec}
 use Rattle.std.specs.List.{AllByRecursion}
 use Rattle.drda_words.specs.Bytes.{AreBytes}
-use Rattle.ordered_rows.specs.Slots.{HasRoom, Slots, rows_of}
+use Rattle.key_map.specs.Slots.{HasRoom, Slots, rows_of}
 use Rattle.row_values.specs.Schema.{Schema}
 use Rattle.row_values.specs.Row.{is_row}
 use Rattle.row_values.specs.Key.{is_key, row_key}
-use Rattle.sortable_keys.specs.SortForm.{sort_form}
+use Rattle.key_map.specs.SortForm.{sort_form}
 use Rattle.tables.specs.Tables.{Table}
 
 -- a table that is created, or that is held ready to be

@@ -3,7 +3,7 @@ use Rattle.std.specs.Prelude.{◌≡◌, ℕ, Bool, List, [], ◌∷◌, Option,
 use Rattle.std.specs.Global.{Vec}
 use Rattle.std.specs.Map.{lookup}
 use Rattle.std.specs.BTreeMap.{BTreeMap, IsOrdered}
-use Rattle.ordered_rows.specs.Slots.{HasRoom, Slots, by_bytes, by_key, rows_of}
+use Rattle.key_map.specs.Slots.{HasRoom, Slots, by_bytes, by_key, rows_of}
 use Rattle.row_values.specs.Schema.{Schema}
 use Rattle.tables.specs.Change.{Change, create, put, remove}
 use Rattle.tables.specs.Tables.{Store, Table, apply, schema_of}

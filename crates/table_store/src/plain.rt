@@ -3,7 +3,7 @@
 ghost use Rattle.std.specs.Prelude.{◌≡◌, [], ◌∷◌, IfOk, OnOk, true};
 ghost use Rattle.std.specs.List.{list_all};
 ghost use Rattle.std.specs.String.{string_bytes};
-ghost use Rattle.ordered_rows.specs.Slots.{rows_of};
+ghost use Rattle.key_map.specs.Slots.{rows_of};
 ghost use Rattle.row_values.specs.Row.{is_row};
 ghost use Rattle.row_values.specs.Schema.{is_name};
 ghost use Rattle.tables.specs.Change.{create};

@@ -3,14 +3,13 @@
 ghost use Rattle.std.specs.Prelude.{◌≡◌, ℕ, List, [], IfOk, None, OnOk, Some, bytes_eq, false, option_map, true};
 ghost use Rattle.std.specs.Arc.{arc_value};
 ghost use Rattle.std.specs.Map.{lookup, values_of};
-ghost use Rattle.ordered_rows.specs.Slots.{HasRoom, rows_of};
+ghost use Rattle.key_map.specs.Slots.{HasRoom, rows_of};
 ghost use Rattle.row_values.specs.Key.{is_key};
 ghost use Rattle.tables.specs.Tables.{put_row, remove_row};
 ghost use Rattle.table_store.specs.Stored.{FormsKey, FormsRow, HasRoomFor, IsFormOf, IsRowAt, created_table, form_in, shown, table_in};
 
-use ordered_rows::OrderedRows;
+use key_map::{OrderedRows, sort_form};
 use row_values::{RowRef, Schema, is_key};
-use sortable_keys::sort_form;
 use std::alloc::{AllocError, Global};
 use std::marker::Model;
 use std::sync::Arc;

@@ -8,3 +8,4 @@ pub mod Places
 pub mod PlainTables
 pub mod Found
 pub mod Pieces
+pub mod Projected

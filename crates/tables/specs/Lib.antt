@@ -9,3 +9,4 @@ pub mod Lent
 pub mod Plain
 pub mod PlainFault
 pub mod Laws
+pub mod Projected

@@ -1,6 +1,7 @@
 //! Laws of the definitions. The functions do nothing: their contracts are the laws.
 
 ghost use Rattle.tables.specs.Laws.{ChangeReadWasWritten, ChangeWrittenIsRead, Created, FoundAreRows, NamesAreWhatIsKnown, NamesChange, Put, Removed, RowsAreFound, RowsAreWhatIsFound, StoresAreKept, StoresAreWhatTheyShow, TableCreated, TablePut, TableRemoved, TablesAreTables};
+ghost use Rattle.tables.specs.Projected.{ProjectedRowsAreShort};
 
 /// Changes correspond with their bytes, each way.
 pub fn changes_have_their_bytes()
@@ -38,4 +39,10 @@ pub fn stores_are_what_they_show()
     ensures whole { StoresAreWhatTheyShow }
     ensures rows { RowsAreWhatIsFound }
     ensures names { NamesAreWhatIsKnown }
+{}
+
+/// A row of an answer, of which at most 64 columns are asked for, a column perhaps more than once, has
+/// at most 128,194 bytes as it is sent, though a row that is kept has at most 4,000.
+pub fn projected_rows_are_short()
+    ensures { ProjectedRowsAreShort }
 {}

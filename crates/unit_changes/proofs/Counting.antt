@@ -12,7 +12,7 @@ use Rattle.tables.specs.Change.{Change, create, is_change}
 use Rattle.tables.specs.Laws.{NamesAreWhatIsKnown, StoresAreKept}
 use Rattle.tables.specs.Tables.{Store, Table, apply, schema_of, table_of}
 use Rattle.tables.specs.View.{is_sound, is_store}
-use Rattle.core_model.specs.Units.{apply_all}
+use Rattle.tables.specs.Applied.{apply_all}
 use Rattle.unit_changes.specs.declared.table_changes.TableChanges.{TableChanges}
 use Rattle.unit_changes.specs.UnitTable.{Fits, UnitTable}
 use Rattle.unit_changes.specs.TableChanges.{table_of as told_by}

@@ -11,12 +11,12 @@ use Rattle.drda_words.specs.Bytes.{AreBytes}
 use Rattle.row_values.specs.Schema.{Schema}
 use Rattle.row_values.specs.Row.{is_row}
 use Rattle.row_values.specs.Key.{is_key, key_cmp, row_key}
-use Rattle.sortable_keys.specs.SortForm.{sort_form}
-use Rattle.ordered_rows.specs.Slots.{by_bytes}
+use Rattle.key_map.specs.SortForm.{sort_form}
+use Rattle.key_map.specs.Slots.{by_bytes}
 use Rattle.key_map.specs.Merging.{Above, Changes, InOrder, Rows, changed}
 use Rattle.tables.specs.Change.{Change, create, put, remove}
 use Rattle.tables.specs.Tables.{Store, Table, apply, put_row, remove_row, schema_of, table_of}
-use Rattle.core_model.specs.Units.{apply_all}
+use Rattle.tables.specs.Applied.{apply_all}
 use Rattle.unit_changes.specs.UnitTable.{HaveKeys, IsKey, SaysKeys, all_changed, formed, name_of, rows_in, said_by}
 use Rattle.unit_changes.specs.Index.{AreOf}
 use Rattle.unit_changes.proofs.Storing.{schema_stays}

@@ -6,8 +6,8 @@ use Rattle.std.specs.Cmp.{eq_by_cmp_equiv}
 use Rattle.row_values.specs.Schema.{Schema}
 use Rattle.row_values.specs.Key.{is_key, key_cmp}
 use Rattle.row_values.specs.Laws.{KeysAreOrdered}
-use Rattle.sortable_keys.specs.SortForm.{KeysKeepOrder, sort_form}
-use Rattle.ordered_rows.specs.Slots.{by_key}
+use Rattle.key_map.specs.SortForm.{KeysKeepOrder, sort_form}
+use Rattle.key_map.specs.Slots.{by_key}
 use Rattle.key_map.specs.Merging.{Changes, InOrder, MergedAt, MergedInOrder, Rows, changed}
 use Rattle.unit_changes.specs.UnitTable.{IsKey, all_changed}
 use Rattle.unit_changes.proofs.Storing.{Local, Tabled}

@@ -2,11 +2,11 @@
 use Rattle.std.proofs.Common.{◌≡◌, ℕ, List, [], ◌∷◌, ◌++◌, Bool, true, false, true≢false, cond, refl, sym, ap, subst, ◌∙◌, Option, Some, None, map, set, get_or, append_assoc}
 use Rattle.std.specs.Prelude.{bytes_eq, option_map, position, unwrap_or}
 use Rattle.row_values.specs.Schema.{Schema}
-use Rattle.sortable_keys.specs.SortForm.{sort_form}
+use Rattle.key_map.specs.SortForm.{sort_form}
 use Rattle.key_map.specs.Merging.{merged, row_at}
 use Rattle.tables.specs.Change.{Change, create, put, remove, is_change}
 use Rattle.tables.specs.Tables.{Store, Table, schema_of, table_of}
-use Rattle.core_model.specs.Units.{apply_all}
+use Rattle.tables.specs.Applied.{apply_all}
 use Rattle.unit_changes.specs.declared.table_changes.TableChanges.{TableChanges}
 use Rattle.unit_changes.specs.UnitTable.{Fits, IsTold, Tells, UnitTable, formed, name_of, rows_in}
 use Rattle.unit_changes.specs.TableChanges.{Records, table_of as told_by}

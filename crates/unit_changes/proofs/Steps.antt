@@ -2,13 +2,13 @@
 use Rattle.std.proofs.Common.{◌≡◌, ◌<◌, ℕ, List, [], ◌∷◌, Bool, true, false, refl, sym, ap, ◌∙◌, Some, None, Option, cond, length, arith, add-one, drop, drop-cons, get_or, ◌+◌, ◌≤◌, subst, zero, suc}
 use Rattle.std.specs.Prelude.{◌&&◌, is_some, nat_eq, nat_le, nat_lt}
 use Rattle.std.specs.List.{list_all, slice_get}
-use Rattle.ordered_rows.specs.Slots.{HasRoom, Slots}
+use Rattle.key_map.specs.Slots.{HasRoom, Slots}
 use Rattle.row_values.specs.Column.{Column}
 use Rattle.row_values.specs.Schema.{Schema, are_columns, can_be_key, is_key_of, is_schema, no_repeat}
 use Rattle.row_values.specs.Value.{Value}
 use Rattle.row_values.specs.Row.{is_row, value_at, values_at}
 use Rattle.row_values.specs.Key.{row_key}
-use Rattle.sortable_keys.specs.SortForm.{sort_form}
+use Rattle.key_map.specs.SortForm.{sort_form}
 use Rattle.key_map.specs.Merging.{Changes}
 use Rattle.key_map.specs.Overlay.{said}
 use Rattle.unit_changes.specs.declared.key_change.KeyChange.{KeyChange}

@@ -7,7 +7,7 @@ use Rattle.tables.specs.Change.{Change, create, put, remove, is_change}
 use Rattle.tables.specs.Tables.{Store, apply, put_row, remove_row, schema_of, table_of}
 use Rattle.tables.specs.Laws.{Created, Put, Removed, StoresAreKept, TableCreated, TablePut, TableRemoved}
 use Rattle.tables.specs.View.{is_sound, is_store}
-use Rattle.core_model.specs.Units.{apply_all}
+use Rattle.tables.specs.Applied.{apply_all}
 use Rattle.unit_changes.specs.UnitTable.{name_of}
 use Rattle.unit_changes.specs.Index.{AreOf, IsLeft}
 use Rattle.unit_changes.proofs.Steps.{first, second}

@@ -9,12 +9,12 @@ use Rattle.drda_words.specs.Bytes.{AreBytes}
 use Rattle.row_values.specs.Schema.{Schema}
 use Rattle.row_values.specs.Row.{is_row}
 use Rattle.row_values.specs.Key.{is_key, row_key}
-use Rattle.sortable_keys.specs.SortForm.{sort_form}
+use Rattle.key_map.specs.SortForm.{sort_form}
 use Rattle.key_map.specs.Merging.{InOrder, Rows, keyed, merged, over, row_at}
 use Rattle.tables.specs.Change.{Change, create, put, remove}
 use Rattle.tables.specs.Tables.{Store, apply, is_row_at, row_of, schema_of, table_of}
 use Rattle.tables.specs.View.{is_sound, is_store}
-use Rattle.core_model.specs.Units.{apply_all}
+use Rattle.tables.specs.Applied.{apply_all}
 use Rattle.unit_changes.specs.UnitTable.{Fits, IsKey, IsTold, Lists, SaysKeys, Tells, UnitTable, all_changed, formed, name_of, rows_in, said_by}
 use Rattle.unit_changes.specs.TableChanges.{Records}
 use Rattle.unit_changes.specs.Index.{AreOf, IsToldOf, fresh}

@@ -11,14 +11,14 @@ use Rattle.drda_words.specs.Order.{rises}
 use Rattle.row_values.specs.Schema.{Schema, is_schema}
 use Rattle.row_values.specs.Row.{is_row}
 use Rattle.row_values.specs.Key.{key_cmp, row_key}
-use Rattle.sortable_keys.specs.SortForm.{KeysKeepOrder, sort_form}
-use Rattle.ordered_rows.specs.Slots.{by_bytes}
+use Rattle.key_map.specs.SortForm.{KeysKeepOrder, sort_form}
+use Rattle.key_map.specs.Slots.{by_bytes}
 use Rattle.key_map.specs.Merging.{Above, ChangeFirst, ChangeHere, Changes, InOrder, RowFirst, Rows, keyed, merged}
 use Rattle.tables.specs.Change.{Change}
 use Rattle.tables.specs.Tables.{Store, Table, rows_of, schema_of, table_of}
 use Rattle.tables.specs.View.{is_entry, is_store, is_table}
 use Rattle.tables.specs.Laws.{TablesAreTables}
-use Rattle.core_model.specs.Units.{apply_all}
+use Rattle.tables.specs.Applied.{apply_all}
 use Rattle.unit_changes.specs.declared.table_rows.FormedRow.{FormedRow}
 use Rattle.unit_changes.specs.UnitTable.{Fits, HaveKeys, IsKey, IsTold, UnitTable, formed, rows_in}
 use Rattle.unit_changes.specs.Index.{IsToldOf}

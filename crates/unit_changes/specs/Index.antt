@@ -6,7 +6,7 @@ use Rattle.row_values.specs.Schema.{Schema}
 use Rattle.tables.specs.Change.{Change, create, put, remove}
 use Rattle.tables.specs.Tables.{Store, schema_of, table_of}
 use Rattle.tables.specs.View.{is_sound}
-use Rattle.core_model.specs.Units.{apply_all}
+use Rattle.tables.specs.Applied.{apply_all}
 use Rattle.unit_changes.specs.UnitTable.{IsTold, UnitTable, name_of}
 use Rattle.unit_changes.specs.declared.table_changes.TableChanges.{TableChanges}
 

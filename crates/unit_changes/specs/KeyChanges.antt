@@ -1,7 +1,7 @@
 -- What changes say of keys.
 use Rattle.std.specs.Prelude.{ℕ, List, [], ◌∷◌, Option, Some, None}
 use Rattle.std.specs.List.{AllByRecursion}
-use Rattle.ordered_rows.specs.Slots.{HasRoom, Slots}
+use Rattle.key_map.specs.Slots.{HasRoom, Slots}
 use Rattle.key_map.specs.Merging.{Changes}
 use Rattle.key_map.specs.Overlay.{said}
 use Rattle.unit_changes.specs.declared.key_change.KeyChange.{KeyChange}

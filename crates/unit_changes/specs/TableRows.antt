@@ -4,8 +4,8 @@ use Rattle.std.specs.List.{AllByRecursion}
 use Rattle.std.specs.Ordering.{is_eq, is_gt}
 use Rattle.row_values.specs.Schema.{Schema}
 use Rattle.row_values.specs.Key.{row_key}
-use Rattle.sortable_keys.specs.SortForm.{sort_form}
-use Rattle.ordered_rows.specs.Slots.{by_bytes}
+use Rattle.key_map.specs.SortForm.{sort_form}
+use Rattle.key_map.specs.Slots.{by_bytes}
 use Rattle.key_map.specs.Merging.{Changes, Rows, keyed}
 use Rattle.unit_changes.specs.declared.table_rows.FormedRow.{FormedRow}
 use Rattle.unit_changes.specs.UnitTable.{IsKey}

@@ -7,12 +7,12 @@ use Rattle.drda_words.specs.Bytes.{AreBytes}
 use Rattle.row_values.specs.Schema.{Schema}
 use Rattle.row_values.specs.Row.{is_row}
 use Rattle.row_values.specs.Key.{is_key, row_key}
-use Rattle.sortable_keys.specs.SortForm.{sort_form}
+use Rattle.key_map.specs.SortForm.{sort_form}
 use Rattle.key_map.specs.Merging.{Changes, InOrder, Rows, changed, merged, row_at}
 use Rattle.tables.specs.Change.{Change, create, put, remove}
 use Rattle.tables.specs.Tables.{Store, Table, schema_of, table_of}
 use Rattle.tables.specs.View.{is_sound, is_store}
-use Rattle.core_model.specs.Units.{apply_all}
+use Rattle.tables.specs.Applied.{apply_all}
 
 -- a table that a unit changed: its schema, whether the unit created it, and by the sort forms of keys
 -- the rows that the unit put there and the marks that it removed what was there

@@ -11,10 +11,10 @@ ghost use Rattle.unit_changes.specs.Index.{AreOf, IsIndex, fresh, is_named};
 
 use crate::table_changes::TableChanges;
 use key_map::Overlay;
+use key_map::key_order::forms_keep_order;
 use key_map::laws::changes_win;
 use row_values::Schema;
 use row_values::laws::keys_are_ordered;
-use sortable_keys::laws::forms_keep_order;
 use std::alloc::{AllocError, Global};
 use std::sync::Arc;
 use tables::laws::{changes_are_local, changes_make_tables};

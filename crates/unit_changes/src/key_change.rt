@@ -9,8 +9,8 @@ ghost use Rattle.unit_changes.specs.KeyChanges.{said_in, step_of};
 ghost use Rattle.unit_changes.specs.UnitTable.{SaysKeys, said_by};
 
 use crate::bytes::see_bytes;
+use key_map::sort_form;
 use row_values::{RowRef, Schema, is_key};
-use sortable_keys::sort_form;
 use std::alloc::{AllocError, Global};
 use tables::{Action, Change};
 

@@ -3,16 +3,15 @@
 ghost use Rattle.std.specs.Prelude.{◌≡◌, ◌++◌, IfOk, List, OnOk, map, ℕ};
 ghost use Rattle.std.specs.Map.{values_of};
 ghost use Rattle.row_values.specs.Key.{row_key};
-ghost use Rattle.sortable_keys.specs.SortForm.{sort_form};
+ghost use Rattle.key_map.specs.SortForm.{sort_form};
 ghost use Rattle.key_map.specs.Merging.{InOrder, keyed};
 ghost use Rattle.key_map.specs.Overlay.{changes_of, said};
 ghost use Rattle.unit_changes.specs.UnitTable.{IsKey};
 ghost use Rattle.unit_changes.specs.TableRows.{HaveRowKeys, by_forms, formed_of, in_turn, rows_before, rows_from, without_first};
 
 use crate::bytes::see_bytes;
-use key_map::Overlay;
+use key_map::{Overlay, sort_form};
 use row_values::{RowRef, Schema};
-use sortable_keys::sort_form;
 use std::alloc::{AllocError, Global};
 use tables::Rows;
 

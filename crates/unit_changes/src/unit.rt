@@ -9,7 +9,7 @@ ghost use Rattle.tables.specs.ChangeView.{change_of};
 ghost use Rattle.row_values.specs.Schema.{Schema as SchemaValue};
 ghost use Rattle.tables.specs.Tables.{Store, schema_of};
 ghost use Rattle.tables.specs.View.{is_store};
-ghost use Rattle.core_model.specs.Units.{apply_all};
+ghost use Rattle.tables.specs.Applied.{apply_all};
 ghost use Rattle.unit_changes.specs.TableChanges.{table_of};
 ghost use Rattle.unit_changes.specs.Index.{AreNew, IsNewIn, IsToldOf, lacking};
 

@@ -4,16 +4,16 @@ ghost use Rattle.std.specs.Prelude.{◌≡◌, IfErr, IfOk, IsTrue, OnOk, alloc_
 ghost use Rattle.std.specs.Arc.{arc_value};
 ghost use Rattle.tables.specs.Tables.{row_of, rows_of, schema_of};
 ghost use Rattle.tables.specs.View.{is_store};
-ghost use Rattle.core_model.specs.Units.{apply_all};
+ghost use Rattle.tables.specs.Applied.{apply_all};
 ghost use Rattle.unit_changes.specs.UnitTable.{Fits};
 ghost use Rattle.unit_changes.specs.TableChanges.{table_of};
 
 use crate::same_schema::are_same;
 use crate::table_changes::TableChanges;
 use crate::unit::UnitChanges;
+use key_map::key_order::forms_keep_order;
 use key_map::laws::changes_and_rows_in_turn;
 use row_values::{Schema, is_key};
-use sortable_keys::laws::forms_keep_order;
 use std::alloc::{AllocError, Global};
 use std::sync::Arc;
 use tables::laws::stores_hold_tables;
@@ -173,7 +173,7 @@ pub struct UnitView<'a, V> {
 impl<'a, V: TableView> TableView for UnitView<'a, V> {
     type Fault = V::Fault;
 
-    ghost use Rattle.core_model.specs.Units.{apply_all};
+    ghost use Rattle.tables.specs.Applied.{apply_all};
 
     ghost store = { λ v. apply_all v.changes.now (V.store v.base.now) };
 

@@ -3,3 +3,5 @@ pub mod Records
 pub mod Room
 pub mod Laws
 pub mod Read
+pub mod RecordContents
+pub mod Due

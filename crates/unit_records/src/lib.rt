@@ -1,14 +1,23 @@
-//! What the journal's records say of units of work: a commit, a prepare, a decision, with their bytes.
+//! What the journal's records say of units of work, with their bytes: a commit, a prepare, a decision; who
+//! records what units become, and which record a call makes due.
 #![tactic(auto)]
 
 mod fronts;
 pub mod laws;
 mod length;
+mod memory;
 mod read;
 mod record;
+mod record_contents;
+mod record_error;
+mod recorder;
 mod write;
 
 pub use length::{commit_length, decide_length, held_for_decision, prepare_length};
+pub use memory::NoRecords;
 pub use record::UnitRecord;
+pub use record_contents::RecordContents;
+pub use record_error::RecordError;
+pub use recorder::Recorder;
 pub use row_values::ReadError;
 pub use write::{write_commit, write_decide, write_prepare};

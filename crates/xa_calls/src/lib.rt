@@ -7,9 +7,11 @@ mod flags;
 mod request;
 mod sync_type;
 mod xid;
+mod xids;
 
 pub use code::XaCode;
 pub use flags::Flags;
 pub use request::{Ending, InvalidRequest, Request, Verb};
 pub use sync_type::SyncType;
 pub use xid::{BadXid, Xid, one_reading};
+pub use xids::{MAX_IN_DOUBT, Xids};

@@ -15,7 +15,7 @@ use Rattle.drda_commands.specs.declared.table.ItemKind.TheVariants.{Parameter}
 use Rattle.core_calls.specs.Answer.{Answer, in_doubt, xa}
 use Rattle.core_calls.specs.Call as call
 use Rattle.sqlam_replies.specs.Message.{synccrd, synccrd_with}
-use Rattle.command_kit.specs.Reply.{Reply, object}
+use Rattle.sqlam_replies.specs.Reply.{Reply, object}
 use Rattle.command_kit.specs.declared.statements.Statements.{Statements}
 use Rattle.command_kit.specs.Statements.{unit_behind}
 use Rattle.command_kit.specs.Doing.{Doing, Done, answered, asking}

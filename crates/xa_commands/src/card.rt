@@ -6,8 +6,7 @@ ghost use Rattle.xa_commands.specs.SyncControl as spec;
 
 use command_kit::Reply;
 use sqlam_replies::{synccrd, synccrd_with};
-use xa_calls::{XaCode, Xid};
-use xa_manager::Xids;
+use xa_calls::{XaCode, Xid, Xids};
 
 /// How many bytes a SYNCCRD without a list of branches has.
 pub(crate) const CARD_LENGTH: usize = 12;

@@ -8,9 +8,8 @@ use ddm_objects::{code_point, put};
 use drda_commands::{Stage, judge};
 use dss_frames::{Format, Segments, write_dss};
 use std::alloc::{AllocError, Global};
-use xa_calls::{InvalidRequest, Request, Verb, XaCode};
+use xa_calls::{InvalidRequest, Request, Verb, XaCode, Xids};
 use xa_commands::do_command;
-use xa_manager::Xids;
 
 /// The XID of format 1 with the parts `G` and `B`.
 pub const XID: &'static [u8] = b"\x00\x00\x00\x01\x00\x00\x00\x01\x00\x00\x00\x01GB";

@@ -4,8 +4,8 @@ use crate::fixtures::{Parameters, Scripted, XID, control};
 use command_kit::{Reply, Statements};
 use std::alloc::{AllocError, Global};
 use std::test::Fail;
-use xa_calls::{Verb, XaCode, Xid};
-use xa_manager::{XaTable, Xids};
+use xa_calls::{Verb, XaCode, Xid, Xids};
+use xa_manager::XaTable;
 
 /// SYNCCRD with XARETVAL 0 and a PRPHRCLST of no branch.
 const NONE: &'static [u8] =

@@ -4,13 +4,10 @@ ghost use Rattle.std.specs.Prelude.{◌≡◌};
 ghost use Rattle.xa_manager.specs.Due.{due_at, due_of_new, due_of_join, due_of_end, due_of_prepare, due_of_commit, due_of_one_phase, due_of_roll_back};
 
 use crate::branch::BranchState;
-use xa_calls::{Ending, Verb, XaCode};
+use xa_calls::{Ending, MAX_IN_DOUBT, Verb, XaCode};
 
 /// How many branches the table knows at most.
 pub const MAX_BRANCHES: usize = 1024;
-
-/// How many of them may be in doubt.
-pub const MAX_IN_DOUBT: usize = 256;
 
 /// How a branch is decided.
 #[derive(Clone, Copy, Debug, PartialEq, Eq)]

@@ -7,13 +7,13 @@ ghost use Rattle.xa_manager.specs.Place.{Restores};
 
 use crate::branch::{Branch, BranchState};
 use crate::counts::Counts;
-use crate::due::{Action, Due, Facts, MAX_BRANCHES, MAX_IN_DOUBT, Work};
+use crate::due::{Action, Due, Facts, MAX_BRANCHES, Work};
 use crate::search::place;
-use crate::xids::Xids;
+use crate::xids::xids_in_doubt;
 use std::alloc::{AllocError, Global};
 use std::marker::Model;
 use thiserror::Error;
-use xa_calls::{Ending, Verb, Xid};
+use xa_calls::{Ending, MAX_IN_DOUBT, Verb, Xid, Xids};
 
 /// Why a branch in doubt could not be restored.
 #[derive(Clone, Copy, Debug, PartialEq, Eq, Error)]
@@ -154,7 +154,7 @@ impl XaTable {
     pub fn recover(&self, alloc: Global) -> Result<Xids, AllocError>
         ensures { IfOk result (λ xids. xids ≡ in_doubt_xids self.now) }
     {
-        Xids::in_doubt(alloc, &self.branches)
+        xids_in_doubt(alloc, &self.branches)
     }
 
     /// The conversation is lost: every branch that it was the last to start or join, and that is not

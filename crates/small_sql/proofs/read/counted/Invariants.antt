@@ -1,7 +1,7 @@
 -- The rows so far that count.
 use Rattle.std.proofs.Common.{◌≡◌, filter, take}
 use Rattle.row_values.specs.Row.{values_in}
-use Rattle.sql_filters.specs.Test.{passes}
+use Rattle.sql_predicates.specs.Test.{passes}
 use Rattle.small_sql.proofs.read.counted.Given as goal
 
 abbrev pub invariant-loop-i : goal.invariant-loop-i

@@ -1,6 +1,6 @@
 use Rattle.std.proofs.Common.{List, ℕ, ap, filter, option_map, rules, ◌∙◌}
 use Rattle.row_values.specs.Row.{values_in}
-use Rattle.sql_filters.specs.Test.{passes}
+use Rattle.sql_predicates.specs.Test.{passes}
 use Rattle.small_sql.proofs.Stored.{damage_is, never_damaged}
 use Rattle.small_sql.proofs.read.rows_found.Goals as goal
 

@@ -2,7 +2,7 @@ use Rattle.std.proofs.Common.{◌≡◌, ◌++◌, length, map}
 use Rattle.row_values.specs.Value.{value_of}
 use Rattle.sql_semantics.specs.Insert.{given}
 use Rattle.sql_semantics.specs.Values.{literal_value}
-use Rattle.sql_literals.specs.Constant.{constant_value}
+use Rattle.sql_predicates.specs.Constant.{constant_value}
 use Rattle.sql_changes.proofs.given.given_values.Given as goal
 
 abbrev pub invariant-columns : goal.invariant-columns

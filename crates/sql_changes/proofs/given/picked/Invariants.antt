@@ -1,7 +1,7 @@
 use Rattle.std.proofs.Common.{◌≡◌, ◌++◌, length, map}
 use Rattle.row_values.specs.Schema.{picked}
 use Rattle.row_values.specs.Value.{value_of}
-use Rattle.sql_literals.specs.Constant.{constant_value}
+use Rattle.sql_predicates.specs.Constant.{constant_value}
 use Rattle.sql_changes.proofs.given.picked.Given as goal
 
 abbrev pub invariant-places : goal.invariant-places

@@ -1,6 +1,6 @@
 use Rattle.std.proofs.Common.{◌≡◌, ◌++◌, length, map}
 use Rattle.row_values.specs.Value.{value_of}
-use Rattle.sql_literals.specs.Constant.{constant_value}
+use Rattle.sql_predicates.specs.Constant.{constant_value}
 use Rattle.sql_changes.proofs.row.borrowed.Given as goal
 
 abbrev pub invariant-constants : goal.invariant-constants

@@ -1,6 +1,6 @@
 use Rattle.std.proofs.Common.{◌≡◌, ℕ, List, [], ◌++◌, length, take, drop, ap, sym, subst, ◌∙◌, arith}
 use Rattle.std.specs.Prelude.{IsTrue, false}
-use Rattle.durable_images.specs.Journaled.{IsDurable, OnDisk, shown_on}
+use Rattle.recovery_laws.specs.Journaled.{IsDurable, OnDisk, shown_on}
 use Rattle.std.specs.Io.KnownBytes.{Appends, Consumes}
 use Rattle.std.proofs.Math.Seq.{take-length}
 use Rattle.drda_node.specs.Register.{core_in, machine, place_of}

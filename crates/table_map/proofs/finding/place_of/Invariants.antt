@@ -1,5 +1,5 @@
 use Rattle.std.proofs.Common.{◌≡◌, [], map, ◌-◌, ◌<◌, ◌≤◌, length, get_or, Less}
-use Rattle.ordered_rows.specs.Slots.{by_bytes}
+use Rattle.key_map.specs.Slots.{by_bytes}
 use Rattle.table_map.proofs.finding.place_of.Given as goal
 
 abbrev pub invariant-loop-low : goal.invariant-loop-low

@@ -1,8 +1,8 @@
 -- What is copied and what is left are all rows.
 use Rattle.std.proofs.Common.{◌≡◌, ◌++◌}
 use Rattle.std.specs.Map.{values_of}
-use Rattle.ordered_rows.specs.Slots.{rows_of}
-use Rattle.ordered_rows.specs.Walk.{rows_left}
+use Rattle.key_map.specs.Slots.{rows_of}
+use Rattle.key_map.specs.Walk.{rows_left}
 use Rattle.table_store.proofs.stored_table.copied_rows.Given as goal
 
 abbrev pub invariant-loop-row : goal.invariant-loop-row

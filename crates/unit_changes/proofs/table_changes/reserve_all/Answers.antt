@@ -1,6 +1,6 @@
 -- The next step gets room, and the earlier ones keep theirs.
 use Rattle.std.proofs.Common.{ℕ, List, subst, ap, sym, ◌∙◌, arith}
-use Rattle.ordered_rows.specs.Slots.{HasRoom}
+use Rattle.key_map.specs.Slots.{HasRoom}
 use Rattle.unit_changes.specs.declared.key_change.KeyChange.{KeyChange}
 use Rattle.unit_changes.proofs.Steps.{room_end, room_next}
 use Rattle.unit_changes.proofs.table_changes.reserve_all.Goals as goal

@@ -1,6 +1,6 @@
 -- The steps before those that are left have room.
 use Rattle.std.proofs.Common.{◌≡◌, ℕ, List, drop}
-use Rattle.ordered_rows.specs.Slots.{HasRoom, Slots}
+use Rattle.key_map.specs.Slots.{HasRoom, Slots}
 use Rattle.key_map.specs.Overlay.{changes_of}
 use Rattle.unit_changes.specs.KeyChanges.{HaveRoom}
 use Rattle.unit_changes.proofs.table_changes.reserve_all.Given as goal

@@ -1,7 +1,7 @@
 -- What is there, with the rest in turn, is all in turn.
 use Rattle.std.proofs.Common.{◌≡◌, ◌++◌, map}
 use Rattle.std.specs.Map.{values_of}
-use Rattle.ordered_rows.specs.Walk.{rows_left}
+use Rattle.key_map.specs.Walk.{rows_left}
 use Rattle.key_map.specs.Overlay.{change_of, changes_of}
 use Rattle.unit_changes.specs.TableRows.{formed_of, in_turn}
 use Rattle.unit_changes.proofs.table_rows.merged_rows.Given as goal

@@ -1,6 +1,6 @@
 use Rattle.std.proofs.Common.{sym, ap, ◌∙◌}
 use Rattle.std.specs.Prelude.{option_map}
-use Rattle.ordered_rows.specs.Slots.{rows_of}
+use Rattle.key_map.specs.Slots.{rows_of}
 use Rattle.key_map.specs.Merging.{row_at}
 use Rattle.key_map.specs.Overlay.{said}
 use Rattle.key_map.proofs.Said.{found_said}

@@ -1,7 +1,7 @@
 use Rattle.std.proofs.Common.{map, ap, subst, sym, ◌∙◌, List, ℕ}
 use Rattle.std.specs.List.Sorted.{IsStrictlySortedBy}
 use Rattle.std.specs.Map.{keys_of}
-use Rattle.ordered_rows.specs.Slots.{by_bytes, rows_of}
+use Rattle.key_map.specs.Slots.{by_bytes, rows_of}
 use Rattle.key_map.specs.Overlay.{change_of}
 use Rattle.key_map.proofs.Said.{keys_said}
 use Rattle.key_map.proofs.overlay.Overlay.entries.Goals as goal

@@ -1,5 +1,5 @@
 use Rattle.std.proofs.Common.{ap, ◌∙◌}
-use Rattle.ordered_rows.specs.Slots.{rows_of}
+use Rattle.key_map.specs.Slots.{rows_of}
 use Rattle.key_map.specs.Merging.{row_at}
 use Rattle.key_map.specs.Overlay.{seen}
 use Rattle.key_map.proofs.Said.{get_said}

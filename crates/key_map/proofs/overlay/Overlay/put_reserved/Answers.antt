@@ -1,6 +1,6 @@
 use Rattle.std.proofs.Common.{ap, ◌∙◌, Some}
 use Rattle.std.specs.BTreeMap.{insert_entry}
-use Rattle.ordered_rows.specs.Slots.{by_bytes, rows_of}
+use Rattle.key_map.specs.Slots.{by_bytes, rows_of}
 use Rattle.key_map.proofs.Said.{said_some, put_said, put_made}
 use Rattle.key_map.proofs.overlay.Overlay.put_reserved.Goals as goal
 

@@ -1,6 +1,6 @@
 use Rattle.std.proofs.Common.{ap, ◌∙◌, None}
 use Rattle.std.specs.BTreeMap.{insert_entry}
-use Rattle.ordered_rows.specs.Slots.{by_bytes, rows_of}
+use Rattle.key_map.specs.Slots.{by_bytes, rows_of}
 use Rattle.key_map.specs.Overlay.{said}
 use Rattle.key_map.proofs.Said.{put_said, put_made}
 use Rattle.key_map.proofs.overlay.Overlay.remove_reserved.Goals as goal

@@ -3,7 +3,7 @@ use Rattle.std.proofs.Common.{◌≡◌, ℕ, List, IfOk, Option, option_map, ap
 use Rattle.std.specs.Prelude.{bytes_eq}
 use Rattle.std.specs.Arc.{arc_value}
 use Rattle.std.specs.Map.{lookup}
-use Rattle.ordered_rows.specs.Slots.{by_key, rows_of}
+use Rattle.key_map.specs.Slots.{by_key, rows_of}
 use Rattle.table_store.specs.Stored.{Stored, table_in}
 use Rattle.table_store.proofs.FormLaws.{found_at, not_found_at}
 use Rattle.table_store.proofs.Shown.{form_nowhere, form_there}

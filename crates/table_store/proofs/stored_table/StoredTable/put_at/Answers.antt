@@ -1,7 +1,7 @@
 -- The row is put at the form of its key.
 use Rattle.std.proofs.Common.{option_map, ap, subst, sym, ◌∙◌, true≢false}
 use Rattle.std.specs.Arc.{arc_value}
-use Rattle.ordered_rows.specs.Slots.{rows_of}
+use Rattle.key_map.specs.Slots.{rows_of}
 use Rattle.tables.specs.Tables.{put_row}
 use Rattle.table_store.specs.Stored.{HaveForms, Stored, shown}
 use Rattle.table_store.proofs.FormLaws.{forms_put}

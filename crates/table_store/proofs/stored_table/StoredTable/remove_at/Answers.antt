@@ -2,7 +2,7 @@
 use Rattle.std.proofs.Common.{option_map, ap, subst, sym, ◌∙◌}
 use Rattle.std.specs.Arc.{arc_value}
 use Rattle.std.specs.Map.{remove_entry}
-use Rattle.ordered_rows.specs.Slots.{by_key, rows_of}
+use Rattle.key_map.specs.Slots.{by_key, rows_of}
 use Rattle.tables.specs.Tables.{remove_row}
 use Rattle.table_store.specs.Stored.{HaveForms, IsFormOf, Stored, shown}
 use Rattle.table_store.proofs.FormLaws.{forms_left}

@@ -2,7 +2,7 @@
 use Rattle.std.proofs.Common.{◌≡◌, ℕ, List, IfOk, ap, subst, ◌∙◌}
 use Rattle.std.specs.Arc.{arc_value}
 use Rattle.std.specs.Map.{values_of}
-use Rattle.ordered_rows.specs.Slots.{rows_of}
+use Rattle.key_map.specs.Slots.{rows_of}
 use Rattle.table_store.specs.Stored.{Stored, table_in}
 use Rattle.table_store.proofs.FormLaws.{values_at_keys}
 use Rattle.table_store.proofs.stored_table.StoredTable.scan.Goals as goal

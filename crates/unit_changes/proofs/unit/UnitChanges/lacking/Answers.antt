@@ -4,7 +4,7 @@ use Rattle.std.specs.Bool.{IsTrue}
 use Rattle.std.specs.List.{list_all}
 use Rattle.tables.specs.Change.{Change, is_change}
 use Rattle.tables.specs.View.{is_store}
-use Rattle.core_model.specs.Units.{apply_all}
+use Rattle.tables.specs.Applied.{apply_all}
 use Rattle.unit_changes.specs.declared.table_changes.TableChanges.{TableChanges}
 use Rattle.unit_changes.specs.TableChanges.{table_of}
 use Rattle.unit_changes.specs.Index.{AreNew, IsIndex, lacking}

@@ -1,3 +1,0 @@
-pub mod CoreLaws
-pub mod CoreUnits
-pub mod Histories

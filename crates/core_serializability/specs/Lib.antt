@@ -1,2 +1,0 @@
-pub mod CoreWords
-pub mod Histories

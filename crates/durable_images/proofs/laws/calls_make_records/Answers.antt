@@ -1,5 +1,0 @@
-use Rattle.durable_images.proofs.Making.{one_call_is_made}
-use Rattle.durable_images.proofs.laws.calls_make_records.Goals as goal
-
-pub returns : goal.returns
-returns g c = one_call_is_made c.records_have_one_reading.ensures.written g.D.Disk.life

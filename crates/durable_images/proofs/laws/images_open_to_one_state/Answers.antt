@@ -1,5 +1,0 @@
-use Rattle.durable_images.proofs.Reading.{opens_to_one}
-use Rattle.durable_images.proofs.laws.images_open_to_one_state.Goals as goal
-
-pub returns : goal.returns
-returns c = opens_to_one c.a_region_has_one_reading.ensures c.records_lead_one_way.ensures.one

@@ -1,9 +1,0 @@
-pub mod Claiming
-pub mod Safe
-pub mod Asking
-pub mod Keeping
-pub mod Doubts
-pub mod Deciding
-pub mod Silent
-pub mod Leading
-pub mod Opening

@@ -1,6 +1,0 @@
-use Rattle.std.proofs.Common.{sym, ◌∙◌}
-use Rattle.ordered_rows.proofs.Seen.{lookup_some}
-use Rattle.ordered_rows.proofs.rows.OrderedRows.has_room.Goals as goal
-
-pub returns : goal.returns
-returns c = c.contains_key.ensures ∙ sym (lookup_some c.self.inside.slots.entries c.args.self.now c.self.view_is c.self.invariant c.args.key.now)

@@ -1,5 +1,0 @@
-//! Tests of ordered_rows.
-#![tactic(auto)]
-
-#[cfg(test)]
-mod tests;

@@ -1,2 +1,0 @@
-pub mod RecordContents
-pub mod Due

@@ -1,0 +1,36 @@
+//! Laws of the definitions. The functions do nothing: their contracts are the laws.
+
+ghost use Rattle.serializability.specs.Serial.{SerialOrder};
+ghost use Rattle.serializability.specs.Steps.{EventsKeep};
+ghost use Rattle.serializability.specs.CoreWords.{CoreOrder, EventsAreTheirs, core_units, core_words};
+ghost use Rattle.serializability.specs.Histories.{HistoriesAreSerial};
+
+use core_model::laws::units_in_doubt_wait;
+use sql_semantics::laws::statements_are_framed;
+use tables::laws::{changes_are_local, changes_make_tables};
+use unit_locks::{adding, clash_is_symmetric};
+use xa_manager::actions_fit_states;
+
+/// Units of the core that run side by side have the answers and the changes that they have one after
+/// another.
+pub fn histories_are_serial()
+    // of any list of questions, commits and ends of the core's owners after an opening
+    ensures events { SerialOrder core_words core_units }
+    // what that asks of an opening, each event keeps
+    ensures kept { EventsKeep core_words core_units }
+    // the events of the law do to store and units what the core's events do
+    ensures theirs { EventsAreTheirs }
+    // so the committed units, one after another, lead to the store that the core's events lead to
+    ensures core { CoreOrder }
+    // of any list of calls of any conversations, whether their steps are taken or not, after an opening
+    // whose units are of prepared branches
+    ensures histories { HistoriesAreSerial }
+{
+    changes_are_local();
+    changes_make_tables();
+    clash_is_symmetric();
+    adding();
+    statements_are_framed();
+    units_in_doubt_wait();
+    actions_fit_states();
+}

@@ -1,5 +1,0 @@
-//! Tests of sortable_keys.
-#![tactic(auto)]
-
-#[cfg(test)]
-mod forms;

@@ -1,4 +1,0 @@
-pub mod Places
-pub mod Faults
-pub mod Fixing
-pub mod Meanings

@@ -1,3 +1,0 @@
-pub mod Steady
-pub mod Sound
-pub mod SqlLaws

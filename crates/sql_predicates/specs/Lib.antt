@@ -1,0 +1,4 @@
+pub mod Constant
+pub mod Binding
+pub mod Parts
+pub mod Test

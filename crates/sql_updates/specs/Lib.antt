@@ -1,2 +1,0 @@
-pub mod Assigned
-pub mod Faults
