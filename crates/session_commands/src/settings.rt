@@ -90,27 +90,6 @@ impl Settings {
         })
     }
 
-    /// The same with another database; answers like `new`, and drops the settings where it refuses.
-    pub fn with_rdb(self, alloc: Global, rdb: &str) -> Result<Settings, SettingsError>
-        ensures ok { IfOk result (λ s. s ≡ record self { rdb = rdb.now }) }
-        ensures bad_name { (result ≡ Err BadName) ↔ (is_rdb_name rdb.now ≡ false) }
-    {
-        if !is_rdb_name(rdb) {
-            return Err(SettingsError::BadName);
-        }
-        let rdb = String::from_str(alloc, rdb)?;
-        let Settings {
-            user,
-            password,
-            rdb: _,
-        } = self;
-        Ok(Settings {
-            user,
-            password,
-            rdb,
-        })
-    }
-
     /// The one user's name, in ASCII or whatever it was given in.
     pub(crate) fn user(&self) -> &[u8]
         ensures { result.now ≡ self.now.user }

@@ -5,7 +5,7 @@ use Rattle.std.specs.Int.{w16, w32, w64, to_be_bytes, cast_unsigned}
 use Rattle.std.specs.Prelude.{ℤ}
 use Rattle.ddm_objects.specs.Objects.{Obj}
 use Rattle.ddm_objects.specs.Writing.{spelled}
-use Rattle.ddm_objects.specs.declared.code_point.TheConstants.{SVRCOD, SYNERRCD, CODPNT, RDBNAM, UOWDSP, QRYPRCTYP, LMTBLKPRC, SQLCSRHLD, QRYINSID, PKGNAMCSN, SYNTAXRM, PRCCNVRM, RDBACCRM, RDBNACRM, RDBNFNRM, CMDNSPRM, VALNSPRM, RSCLMTRM, MGRDEPRM, AGNPRMRM, CMDVLTRM, ENDUOWRM, RDBUPDRM, OPNQRYRM, ENDQRYRM, OPNQFLRM, QRYNOPRM, QRYPOPRM, SYNCCRD, XARETVAL, PRPHRCLST, XIDCNT, XID}
+use Rattle.ddm_objects.specs.declared.code_point.TheConstants.{SVRCOD, SYNERRCD, CODPNT, RDBNAM, UOWDSP, QRYPRCTYP, LMTBLKPRC, SQLCSRHLD, QRYINSID, PKGNAMCSN, SYNTAXRM, PRCCNVRM, RDBNFNRM, CMDNSPRM, VALNSPRM, RSCLMTRM, MGRDEPRM, AGNPRMRM, CMDVLTRM, ENDUOWRM, RDBUPDRM, OPNQRYRM, ENDQRYRM, OPNQFLRM, QRYNOPRM, QRYPOPRM, SYNCCRD, XARETVAL, PRPHRCLST, XIDCNT, XID}
 use Rattle.sqlam_replies.specs.declared.message.ReplyMessage.{ReplyMessage}
 use Rattle.sqlam_replies.specs.declared.message.ReplyMessage.TheVariants as is
 use Rattle.sqlam_replies.specs.declared.message.UnitEnd.{UnitEnd}
@@ -58,8 +58,6 @@ message_of is.OutOfTurn = record { code = PRCCNVRM; severity = error; parameters
 message_of (is.CommandNotSupported code) = record { code = CMDNSPRM; severity = error; parameters = scalar CODPNT (to_be_bytes w16 code) ∷ [] }
 message_of (is.ValueNotSupported code) = record { code = VALNSPRM; severity = error; parameters = scalar CODPNT (to_be_bytes w16 code) ∷ [] }
 message_of (is.RdbNotFound rdb) = record { code = RDBNFNRM; severity = error; parameters = scalar RDBNAM rdb.now ∷ [] }
-message_of (is.RdbAccessed rdb) = record { code = RDBACCRM; severity = error; parameters = scalar RDBNAM rdb.now ∷ [] }
-message_of (is.RdbNotAccessed rdb) = record { code = RDBNACRM; severity = error; parameters = scalar RDBNAM rdb.now ∷ [] }
 message_of (is.CommandViolation rdb) = record { code = CMDVLTRM; severity = error; parameters = scalar RDBNAM rdb.now ∷ [] }
 message_of (is.OpenFailed rdb) = record { code = OPNQFLRM; severity = error; parameters = scalar RDBNAM rdb.now ∷ [] }
 message_of (is.QueryNotOpen rdb section) = record { code = QRYNOPRM; severity = error; parameters = scalar RDBNAM rdb.now ∷ scalar PKGNAMCSN section.now ∷ [] }

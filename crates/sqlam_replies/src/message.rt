@@ -43,10 +43,6 @@ pub enum ReplyMessage<'a> {
     ValueNotSupported(u16),
     /// RDBNFNRM, with the name as it came.
     RdbNotFound(&'a [u8]),
-    /// RDBACCRM: the database was accessed before.
-    RdbAccessed(&'a [u8]),
-    /// RDBNACRM: the command needs the database, which was not accessed.
-    RdbNotAccessed(&'a [u8]),
     /// CMDVLTRM: the command is not allowed where the conversation stands.
     CommandViolation(&'a [u8]),
     /// OPNQFLRM: the query was not opened.
@@ -265,8 +261,6 @@ pub fn reply_message(out: &mut Vec<u8>, message: ReplyMessage<'_>) -> Result<(),
             }],
         ),
         ReplyMessage::RdbNotFound(rdb) => put_of_rdb(out, code_point::RDBNFNRM, severity, rdb),
-        ReplyMessage::RdbAccessed(rdb) => put_of_rdb(out, code_point::RDBACCRM, severity, rdb),
-        ReplyMessage::RdbNotAccessed(rdb) => put_of_rdb(out, code_point::RDBNACRM, severity, rdb),
         ReplyMessage::CommandViolation(rdb) => put_of_rdb(out, code_point::CMDVLTRM, severity, rdb),
         ReplyMessage::OpenFailed(rdb) => put_of_rdb(out, code_point::OPNQFLRM, severity, rdb),
         ReplyMessage::QueryNotOpen { rdb, section } => put_of_section(

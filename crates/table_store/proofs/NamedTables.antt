@@ -19,7 +19,7 @@ use Rattle.tables.specs.Tables.{Store, Table, apply, schema_of, table_of, with_t
 use Rattle.tables.proofs.Finding.{found_put, itself, same_bytes}
 use Rattle.tables.proofs.Changes.{names_apart}
 use Rattle.table_store.specs.Stored.{Stored, created_table, shown}
-use Rattle.table_store.specs.TableMap.{Grows, Tables, named, schema_after, schema_at, shown_entry, store_of, tables_in}
+use Rattle.table_store.specs.TablesByName.{Grows, Tables, named, schema_after, schema_at, shown_entry, store_of, tables_in}
 
 -- ---- names
 

@@ -9,7 +9,7 @@ use Rattle.tables.specs.Change.{Change, create, put, remove}
 use Rattle.tables.specs.Tables.{Store, apply, schema_of}
 use Rattle.tables.proofs.Changes.{create_creates, put_puts, remove_removes}
 use Rattle.table_store.specs.Stored.{HasRoomFor}
-use Rattle.table_store.specs.TableMap.{AreReady, Grows, IsReady, Tables, schema_after, schema_at, slots_at}
+use Rattle.table_store.specs.TablesByName.{AreReady, Grows, IsReady, Tables, schema_after, schema_at, slots_at}
 
 room_grows : (form : Option (List ℕ)) (a b : Slots) → ((q : List ℕ) → HasRoom q a → HasRoom q b) → HasRoomFor a form → HasRoomFor b form
 room_grows None a b more h = tt

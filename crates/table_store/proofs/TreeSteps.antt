@@ -14,7 +14,7 @@ use Rattle.tables.specs.View.{is_sound}
 use Rattle.tables.proofs.Finding.{itself}
 use Rattle.tables.specs.Tables.{Store, Table, apply, remove_row, schema_of, table_of, with_table}
 use Rattle.table_store.specs.Stored.{FormsKey, FormsRow, HasRoomFor, Stored, created_table, shown, table_in}
-use Rattle.table_store.specs.TableMap.{Grows, IsReady, Tables, entry_of, is_created, named, schema_after, schema_at, slots_at, store_of, tables_in}
+use Rattle.table_store.specs.TablesByName.{Grows, IsReady, Tables, entry_of, is_created, named, schema_after, schema_at, slots_at, store_of, tables_in}
 use Rattle.table_store.proofs.NamedTables.{Entry, cmp, grows_readied, grows_set, schemas_known, schemas_readied, schemas_set, seen_insert, seen_named, seen_order, seen_set, store_changed, store_created, store_none, store_readied, store_same, table_seen}
 
 -- the schema of a table that is shown

@@ -1,5 +1,5 @@
 pub mod Stored
-pub mod TableMap
+pub mod TablesByName
 pub mod Steps
 pub mod TableStore
 pub mod Plain

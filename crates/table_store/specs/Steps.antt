@@ -3,7 +3,7 @@ use Rattle.std.specs.Prelude.{◌≡◌, ℕ, List, Option, map}
 use Rattle.tables.specs.Tables.{schema_of}
 use Rattle.table_store.specs.declared.steps.Step.{Step}
 use Rattle.table_store.specs.Stored.{form_in}
-use Rattle.table_store.specs.TableMap.{Tables, schema_at, store_of}
+use Rattle.table_store.specs.TablesByName.{Tables, schema_at, store_of}
 
 -- the forms, in the order of the changes
 abbrev pub forms_of : List Step → List (Option (List ℕ))

@@ -4,7 +4,7 @@ use Rattle.tables.specs.Change.{Change}
 use Rattle.tables.specs.Tables.{Store}
 use Rattle.table_store.specs.declared.store.TableStore.{TableStore}
 use Rattle.table_store.specs.Steps.{forms_of}
-use Rattle.table_store.specs.TableMap.{AreReady, store_of}
+use Rattle.table_store.specs.TablesByName.{AreReady, store_of}
 
 -- the committed tables
 abbrev pub store_in : TableStore → Store

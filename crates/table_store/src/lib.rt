@@ -6,7 +6,7 @@ mod plain;
 mod steps;
 mod store;
 mod stored_table;
-mod table_map;
+mod tables_by_name;
 mod tree;
 mod view;
 

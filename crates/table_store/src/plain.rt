@@ -11,7 +11,7 @@ ghost use Rattle.tables.specs.Tables.{apply};
 ghost use Rattle.tables.specs.View.{is_store};
 ghost use Rattle.table_store.specs.Plain.{with_rows, with_shown};
 ghost use Rattle.table_store.specs.Stored.{shown};
-ghost use Rattle.table_store.specs.TableMap.{store_of, tables_in};
+ghost use Rattle.table_store.specs.TablesByName.{store_of, tables_in};
 
 use crate::stored_table::StoredTable;
 use row_values::Schema;

@@ -4,10 +4,10 @@ ghost use Rattle.std.specs.Prelude.{◌≡◌, List, ℕ, [], ◌∷◌, ◌++�
 ghost use Rattle.tables.specs.Applied.{apply_all};
 ghost use Rattle.tables.specs.ChangeView.{change_of};
 ghost use Rattle.table_store.specs.Stored.{form_in};
-ghost use Rattle.table_store.specs.TableMap.{AreReady, store_of};
+ghost use Rattle.table_store.specs.TablesByName.{AreReady, store_of};
 ghost use Rattle.table_store.specs.Steps.{HoldsNone, forms_of};
 
-use crate::table_map::TableMap;
+use crate::tables_by_name::TablesByName;
 use std::alloc::{AllocError, Global};
 use tables::{Action, Change};
 
@@ -21,7 +21,7 @@ pub struct Step {
 
 /// Makes room for all changes, where no table is held ready.
 pub(crate) fn reserve_all(
-    tables: &mut TableMap,
+    tables: &mut TablesByName,
     steps: &mut Vec<Step>,
     alloc: Global,
     changes: &[Change],
@@ -60,7 +60,7 @@ fn push_step(
 }
 
 /// Makes the changes, which have their room.
-pub(crate) fn apply_all(tables: &mut TableMap, steps: &[Step], changes: Vec<Change>)
+pub(crate) fn apply_all(tables: &mut TablesByName, steps: &[Step], changes: Vec<Change>)
     requires { AreReady (map change_of changes.items) (forms_of steps.now) (store_of tables.old) tables.old }
     ensures { store_of tables.new ≡ apply_all (map change_of changes.items) (store_of tables.old) }
 {
@@ -72,7 +72,7 @@ pub(crate) fn apply_all(tables: &mut TableMap, steps: &[Step], changes: Vec<Chan
 }
 
 /// Gives up the room of rows that are not there.
-pub(crate) fn release_all(tables: &mut TableMap, steps: &[Step])
+pub(crate) fn release_all(tables: &mut TablesByName, steps: &[Step])
     ensures { store_of tables.new ≡ store_of tables.old }
 {
     for step in steps {

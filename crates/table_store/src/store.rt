@@ -5,7 +5,7 @@ ghost use Rattle.tables.specs.Applied.{apply_all};
 ghost use Rattle.tables.specs.ChangeView.{change_of};
 
 use crate::steps::{Step, apply_all, release_all, reserve_all};
-use crate::table_map::TableMap;
+use crate::tables_by_name::TablesByName;
 use crate::view::StoreView;
 use std::alloc::{AllocError, Global};
 use tables::{Change, PlainView};
@@ -14,7 +14,7 @@ use tables::{Change, PlainView};
 /// changes themselves then take no memory and can't fail.
 #[derive(Debug, Drop)]
 pub struct TableStore {
-    pub(crate) tables: TableMap,
+    pub(crate) tables: TablesByName,
     steps: Vec<Step>,
 }
 
@@ -27,7 +27,7 @@ impl TableStore {
         ensures { store_in result ≡ [] }
     {
         TableStore {
-            tables: TableMap::new(alloc),
+            tables: TablesByName::new(alloc),
             steps: Vec::new(alloc),
         }
     }

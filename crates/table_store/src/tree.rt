@@ -5,7 +5,7 @@ ghost use Rattle.row_values.specs.Schema.{Schema};
 ghost use Rattle.tables.specs.Change.{create as create_change, put as put_change, remove as remove_change};
 ghost use Rattle.tables.specs.Tables.{apply, schema_of};
 ghost use Rattle.table_store.specs.Stored.{FormsKey, FormsRow, HasRoomFor, form_in};
-ghost use Rattle.table_store.specs.TableMap.{Grows, IsReady, is_created, IsInOrder, named, schema_after, schema_at, slots_at, store_of, tables_in};
+ghost use Rattle.table_store.specs.TablesByName.{Grows, IsReady, is_created, IsInOrder, named, schema_after, schema_at, slots_at, store_of, tables_in};
 
 use crate::stored_table::StoredTable;
 use row_values::Schema;

@@ -4,10 +4,10 @@ ghost use Rattle.std.specs.Prelude.{◌≡◌, IfOk, option_map, true};
 ghost use Rattle.std.specs.Arc.{arc_value};
 ghost use Rattle.tables.specs.Tables.{row_of, rows_of, schema_of};
 ghost use Rattle.tables.specs.View.{is_store};
-ghost use Rattle.table_store.specs.TableMap.{store_of};
+ghost use Rattle.table_store.specs.TablesByName.{store_of};
 
 use crate::store::TableStore;
-use crate::table_map::TableMap;
+use crate::tables_by_name::TablesByName;
 use row_values::Schema;
 use std::alloc::{AllocError, Global};
 use std::sync::Arc;
@@ -69,7 +69,10 @@ impl<'a> TableView for StoreView<'a> {
 }
 
 // The schema of the table of a name, where there is one.
-fn shared_schema(tables: &TableMap, name: &str) -> Result<Option<Arc<Schema, Global>>, AllocError>
+fn shared_schema(
+    tables: &TablesByName,
+    name: &str,
+) -> Result<Option<Arc<Schema, Global>>, AllocError>
     ensures found { IfOk result (λ schema. option_map arc_value schema ≡ schema_of (store_of tables.now) name.now) }
     ensures good { is_store (store_of tables.now) ≡ true }
 {
@@ -81,7 +84,7 @@ fn shared_schema(tables: &TableMap, name: &str) -> Result<Option<Arc<Schema, Glo
 
 // The row of a key in the table of a name, where it has one.
 fn copied_row(
-    tables: &TableMap,
+    tables: &TablesByName,
     alloc: Global,
     name: &str,
     key: &[u8],
@@ -96,7 +99,7 @@ fn copied_row(
 }
 
 // The rows of the table of a name, where there is one.
-fn copied_rows(tables: &TableMap, alloc: Global, name: &str) -> Result<Rows, AllocError>
+fn copied_rows(tables: &TablesByName, alloc: Global, name: &str) -> Result<Rows, AllocError>
     ensures found { IfOk result (λ rows. rows ≡ rows_of (store_of tables.now) name.now) }
     ensures good { is_store (store_of tables.now) ≡ true }
 {

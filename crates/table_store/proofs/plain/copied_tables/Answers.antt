@@ -2,7 +2,7 @@
 use Rattle.std.proofs.Common.{◌≡◌, ℕ, List, sym, ap, ◌∙◌}
 use Rattle.std.specs.Global.{Vec}
 use Rattle.table_store.specs.Stored.{Stored}
-use Rattle.table_store.specs.TableMap.{store_of, tables_in}
+use Rattle.table_store.specs.TablesByName.{store_of, tables_in}
 use Rattle.table_store.proofs.Copying.{copied_whole, copies}
 use Rattle.table_store.proofs.plain.copied_tables.Goals as goal
 

@@ -1,7 +1,7 @@
 -- What is copied, with a copy of what is left, is a copy of all tables.
 use Rattle.std.proofs.Common.{◌≡◌, [], true}
 use Rattle.tables.specs.View.{is_store}
-use Rattle.table_store.specs.TableMap.{store_of, tables_in}
+use Rattle.table_store.specs.TablesByName.{store_of, tables_in}
 use Rattle.table_store.proofs.Copying.{copies}
 use Rattle.table_store.proofs.plain.copied_tables.Given as goal
 

@@ -3,7 +3,7 @@ use Rattle.std.proofs.Common.{map, ap, subst}
 use Rattle.tables.specs.Applied.{apply_all}
 use Rattle.tables.specs.ChangeView.{change_of}
 use Rattle.table_store.specs.Stored.{form_in}
-use Rattle.table_store.specs.TableMap.{IsReady, store_of}
+use Rattle.table_store.specs.TablesByName.{IsReady, store_of}
 use Rattle.table_store.specs.declared.steps.Step.{Step}
 use Rattle.table_store.proofs.Reserving.{first_ready, rest_made, rest_ready}
 use Rattle.table_store.proofs.steps.apply_all.Goals as goal

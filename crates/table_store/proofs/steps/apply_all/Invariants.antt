@@ -3,7 +3,7 @@ use Rattle.std.proofs.Common.{◌≡◌, drop, map}
 use Rattle.tables.specs.Applied.{apply_all}
 use Rattle.tables.specs.ChangeView.{change_of}
 use Rattle.table_store.specs.Steps.{forms_of}
-use Rattle.table_store.specs.TableMap.{AreReady, store_of}
+use Rattle.table_store.specs.TablesByName.{AreReady, store_of}
 use Rattle.table_store.proofs.steps.apply_all.Given as goal
 
 abbrev pub invariant-loop-change : goal.invariant-loop-change

@@ -1,5 +1,5 @@
 use Rattle.std.proofs.Common.{◌≡◌}
-use Rattle.table_store.specs.TableMap.{store_of}
+use Rattle.table_store.specs.TablesByName.{store_of}
 use Rattle.table_store.proofs.steps.release_all.Given as goal
 
 abbrev pub invariant-loop-step : goal.invariant-loop-step

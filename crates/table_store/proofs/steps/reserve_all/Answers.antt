@@ -3,7 +3,7 @@ use Rattle.std.proofs.Common.{◌+◌, map, take, ◌∙◌}
 use Rattle.tables.specs.ChangeView.{change_of}
 use Rattle.table_store.specs.Stored.{form_in}
 use Rattle.table_store.specs.Steps.{forms_of}
-use Rattle.table_store.specs.TableMap.{store_of}
+use Rattle.table_store.specs.TablesByName.{store_of}
 use Rattle.table_store.proofs.Reserving.{next_known, next_ready, taken_more}
 use Rattle.table_store.proofs.steps.reserve_all.Goals as goal
 

@@ -4,7 +4,7 @@ use Rattle.tables.specs.Applied.{apply_all}
 use Rattle.tables.specs.ChangeView.{change_of}
 use Rattle.tables.specs.Tables.{schema_of}
 use Rattle.table_store.specs.Steps.{forms_of}
-use Rattle.table_store.specs.TableMap.{AreReady, schema_at, store_of}
+use Rattle.table_store.specs.TablesByName.{AreReady, schema_at, store_of}
 use Rattle.table_store.proofs.steps.reserve_all.Given as goal
 
 abbrev pub invariant-loop-change : goal.invariant-loop-change

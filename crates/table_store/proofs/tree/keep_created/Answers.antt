@@ -1,6 +1,6 @@
 use Rattle.std.proofs.Common.{ap, rules, ◌∙◌}
 use Rattle.std.proofs.lemmas.Map.Made.{filter_same_pairs}
-use Rattle.table_store.specs.TableMap.{tables_in}
+use Rattle.table_store.specs.TablesByName.{tables_in}
 use Rattle.table_store.proofs.NamedTables.{Entry}
 use Rattle.table_store.proofs.TreeSteps.{kept_entries}
 use Rattle.table_store.proofs.tree.keep_created.Goals as goal

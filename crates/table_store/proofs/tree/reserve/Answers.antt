@@ -2,7 +2,7 @@
 use Rattle.std.proofs.Common.{◌≡◌, Some, subst}
 use Rattle.row_values.specs.Schema.{Schema}
 use Rattle.table_store.specs.Stored.{FormsRow, HasRoomFor, form_in}
-use Rattle.table_store.specs.TableMap.{schema_at, slots_at, tables_in}
+use Rattle.table_store.specs.TablesByName.{schema_at, slots_at, tables_in}
 use Rattle.table_store.proofs.TreeSteps.{grows_written, if_ok, no_schema, room_written, same_written, schema_is, schemas_written}
 use Rattle.table_store.proofs.tree.reserve.Goals as goal
 

@@ -3,9 +3,9 @@ use Rattle.std.proofs.Common.{ap, ◌∙◌}
 use Rattle.tables.specs.Change.{action_of}
 use Rattle.tables.specs.View.{is_store}
 use Rattle.tables.proofs.Keeping.{apply_keeps}
-use Rattle.table_store.specs.TableMap.{store_of, tables_in}
+use Rattle.table_store.specs.TablesByName.{store_of, tables_in}
 use Rattle.table_store.proofs.TreeSteps.{sound_of}
-use Rattle.table_store.proofs.table_map.TableMap.apply.Goals as goal
+use Rattle.table_store.proofs.tables_by_name.TablesByName.apply.Goals as goal
 
 pub invariant_of-self : goal.invariant_of-self
 invariant_of-self c = record {

@@ -1,9 +1,9 @@
 -- What is created stays, and nothing else.
 use Rattle.std.proofs.Common.{ap, ◌∙◌}
 use Rattle.tables.specs.View.{is_store}
-use Rattle.table_store.specs.TableMap.{Tables, store_of, tables_in}
+use Rattle.table_store.specs.TablesByName.{Tables, store_of, tables_in}
 use Rattle.table_store.proofs.TreeSteps.{none_held, store_kept}
-use Rattle.table_store.proofs.table_map.TableMap.keep_created.Goals as goal
+use Rattle.table_store.proofs.tables_by_name.TablesByName.keep_created.Goals as goal
 
 pub invariant_of-self : goal.invariant_of-self
 invariant_of-self c = record {

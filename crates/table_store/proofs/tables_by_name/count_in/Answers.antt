@@ -2,7 +2,7 @@ use Rattle.std.proofs.Common.{◌≡◌, ◌+◌, ◌≤◌, length, ap, zero-ad
 use Rattle.std.specs.Prelude.{count_by}
 use Rattle.table_store.specs.Stored.{Stored}
 use Rattle.table_store.proofs.TreeSteps.{count_created}
-use Rattle.table_store.proofs.table_map.count_in.Goals as goal
+use Rattle.table_store.proofs.tables_by_name.count_in.Goals as goal
 
 pub loop-table-init : goal.loop-table-init
 loop-table-init c =

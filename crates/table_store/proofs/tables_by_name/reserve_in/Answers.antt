@@ -6,9 +6,9 @@ use Rattle.tables.specs.Change.{action_of}
 use Rattle.tables.specs.Tables.{Store, schema_of}
 use Rattle.tables.specs.declared.action.Action.{Action}
 use Rattle.table_store.specs.Stored.{FormsRow, HasRoomFor, form_in}
-use Rattle.table_store.specs.TableMap.{IsReady, schema_after, schema_at, slots_at, tables_in}
+use Rattle.table_store.specs.TablesByName.{IsReady, schema_after, schema_at, slots_at, tables_in}
 use Rattle.table_store.proofs.TreeSteps.{always_ok, if_both, ready_create, ready_put}
-use Rattle.table_store.proofs.table_map.reserve_in.Goals as goal
+use Rattle.table_store.proofs.tables_by_name.reserve_in.Goals as goal
 
 pub returns-in_ok-hold_ready-in-CreateTable-clause-ready : goal.returns-in_ok-hold_ready-in-CreateTable-clause-ready
 returns-in_ok-hold_ready-in-CreateTable-clause-ready c = λ store known.

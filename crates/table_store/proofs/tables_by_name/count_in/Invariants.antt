@@ -2,8 +2,8 @@
 use Rattle.std.proofs.Common.{◌≡◌, ◌+◌, ◌≤◌, length}
 use Rattle.std.specs.Prelude.{count_by}
 use Rattle.table_store.specs.Stored.{Stored}
-use Rattle.table_store.specs.TableMap.{store_of, tables_in}
-use Rattle.table_store.proofs.table_map.count_in.Given as goal
+use Rattle.table_store.specs.TablesByName.{store_of, tables_in}
+use Rattle.table_store.proofs.tables_by_name.count_in.Given as goal
 
 abbrev pub invariant-loop-table : goal.invariant-loop-table
 invariant-loop-table l = record {

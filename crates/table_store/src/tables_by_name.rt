@@ -7,7 +7,7 @@ ghost use Rattle.tables.specs.ChangeView.{change_of};
 ghost use Rattle.tables.specs.Tables.{Store, apply, schema_of, table_of};
 ghost use Rattle.tables.specs.View.{is_store};
 ghost use Rattle.table_store.specs.Stored.{form_in, table_in};
-ghost use Rattle.table_store.specs.TableMap.{Grows, IsReady, IsInOrder, schema_after, schema_at, store_of, tables_in};
+ghost use Rattle.table_store.specs.TablesByName.{Grows, IsReady, IsInOrder, schema_after, schema_at, store_of, tables_in};
 
 use crate::plain::copied_tables;
 use crate::stored_table::StoredTable;
@@ -19,12 +19,12 @@ use tables::{Action, Change, PlainView};
 
 /// Tables by their names, those that are created and those that are held ready.
 #[derive(Debug, Drop)]
-pub struct TableMap {
+pub struct TablesByName {
     tables: BTreeMap<Vec<u8>, StoredTable>,
 }
 
-impl Model for TableMap {
-    ghost use Rattle.table_store.specs.TableMap.{IsTableMap, Tables, tables_in};
+impl Model for TablesByName {
+    ghost use Rattle.table_store.specs.TablesByName.{IsTableMap, Tables, tables_in};
 
     ghost Value = { Tables };
 
@@ -33,12 +33,12 @@ impl Model for TableMap {
     ghost invariant = { λ m. IsTableMap m.tables };
 }
 
-impl TableMap {
+impl TablesByName {
     /// No tables. Takes no memory.
-    pub fn new(alloc: Global) -> TableMap
+    pub fn new(alloc: Global) -> TablesByName
         ensures { result ≡ [] }
     {
-        TableMap {
+        TablesByName {
             tables: BTreeMap::new(alloc),
         }
     }
