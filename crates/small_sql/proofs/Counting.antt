@@ -25,7 +25,7 @@ more_by : (b : Bool) (start : RowList) (rows more : List (List ℕ)) (row : List
 more_by true start rows more row is = ap (λ (r : List (List ℕ)). record start { rows = r }) (sym is)
 more_by false start rows more row is = ap (λ (r : List (List ℕ)). record start { rows = r }) (sym (is ∙ append-nil rows))
 
--- the list with one row more, where it counts
+-- the list with one row more, where it matches
 pub one_counted : (wanted : Filter) (start list new : RowList) (rows : List (List ℕ)) (i : ℕ) (row : List ℕ) → list.schema ≡ start.schema → slice_get rows i ≡ Some row
     → list ≡ record start { rows = filter (λ row. passes wanted (values_in start.schema row)) (take i rows) }
     → new ≡ (if passes wanted (values_in list.schema row) then record list { rows = list.rows ++ row ∷ [] } else list)

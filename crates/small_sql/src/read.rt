@@ -27,7 +27,7 @@ fn matches(schema: &Schema, row: &[u8], filter: &Filter) -> Result<bool, Damaged
     Ok(filter.matches(&row))
 }
 
-// Adds the row where it counts. Bytes that are no row of the schema are damaged.
+// Adds the row where it matches. Bytes that are no row of the schema are damaged.
 fn add_counted(list: &mut RowList, row: &[u8], wanted: &Filter) -> Result<(), ReadError>
     ensures added { OnOk result (list.new ≡ (if passes wanted.now (values_in list.old.schema row.now) then record list.old { rows = list.old.rows ++ row.now ∷ [] } else list.old)) }
     ensures damaged { DamagedBy list.old.schema (row.now ∷ []) result }

@@ -1,4 +1,4 @@
-//! Which rows of a table count.
+//! Which rows of a table match.
 
 ghost use Rattle.std.specs.Prelude.{◌≡◌, IfOk, List, map};
 ghost use Rattle.std.specs.Option.{option_copied};
@@ -19,9 +19,9 @@ use sql_semantics::Truth;
 use sql_text::Predicate;
 use std::alloc::Global;
 
-/// Which rows of a table count: a WHERE, with its names resolved to places of columns and its
+/// Which rows of a table match: a WHERE, with its names resolved to places of columns and its
 /// literals and markers to values. Contracts see it by `passes`, which says whether a row of these
-/// values counts.
+/// values matches.
 #[derive(Debug, Drop)]
 pub struct Filter {
     test: Option<Test>,
@@ -38,7 +38,7 @@ impl Filter {
         params: &[Value<'_>],
     ) -> Result<Filter, StatementError>
         ensures fault { RefusedFor (filter_fault (map value_of params.now) schema.now.columns (option_copied filter.entry)) result }
-        ensures meaning { IfOk result (λ f. (values : List SqlValue) → passes f values ≡ counts (map value_of params.now) schema.now.columns values (option_copied filter.entry)) }
+        ensures meaning { IfOk result (λ f. (values : List SqlValue) → passes f values ≡ matches (map value_of params.now) schema.now.columns values (option_copied filter.entry)) }
     {
         match filter {
             None => Ok(Filter { test: None }),
@@ -52,7 +52,7 @@ impl Filter {
     /// Whether a row matches: no WHERE, or one that is true of it. Takes no memory, compares no name,
     /// and reads a value only where a part of the WHERE needs it: behind an AND that has failed, or an
     /// OR that holds, nothing is read.
-    pub fn counts<'a>(&'a self, row: &RowRef<'a>) -> bool
+    pub fn matches<'a>(&'a self, row: &RowRef<'a>) -> bool
         ensures { result ≡ passes self.now (values_in (schema_in row.now) (row_in row.now)) }
     {
         match &self.test {

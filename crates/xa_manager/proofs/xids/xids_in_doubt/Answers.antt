@@ -7,8 +7,8 @@ use Rattle.xa_manager.specs.Branch.{is_in_doubt, in_doubt_xids, in_doubt_count}
 use Rattle.xa_manager.proofs.xids.xids_in_doubt.Goals as goal
 
 -- they are no more than the branches in doubt
-pub invariant_of-result : goal.invariant_of-result
-invariant_of-result c =
+pub of-requires : goal.of-requires
+of-requires c =
     let bs = c.args.branches.now in
     let in_doubt = filter (λ (b : Branch). is_in_doubt b.state) bs in
     let named : length (in_doubt_xids bs) ≡ length in_doubt = length-map in_doubt (λ (b : Branch). b.xid) in
