@@ -1,0 +1,84 @@
+"""The crates of crates.txt, which of them something since a commit can have touched, and where their edits stand: those that the
+gate tries under crates/NAME/must-fail/, the others under edits/NAME/."""
+import os, re, subprocess
+
+TOP = os.path.realpath(os.path.join(os.path.dirname(__file__), ".."))
+# What every verdict rests on: the handles, and what the gate is (but for what says which edits are tried).
+WHOLE = re.compile(r"(HANDLES|Makefile|\.ci/(?!landed$|since$).*)$")
+EDIT = re.compile(r"[A-Za-z0-9_-][A-Za-z0-9_.-]*\.edit")
+OF_GATE, OTHERS = "must-fail", "edits"
+
+
+def git(*words):
+    ran = subprocess.run(["git", *words], cwd=TOP, capture_output=True, text=True)
+    return ran.stdout if ran.returncode == 0 else None
+
+
+def libraries(text):
+    """Each crate of a crates.txt with the libraries that it stands on."""
+    lines = [line.split(":", 1) for line in text.split("\n") if ":" in line and not line.startswith("#")]
+    return {name.split()[0]: below.split() for name, below in lines}
+
+
+def crates_now():
+    with open(f"{TOP}/crates.txt") as file:
+        return libraries(file.read())
+
+
+def edit_of(file):
+    """Which edits the file belongs to, those of the gate or the others, and its crate; or None where it is no edit's."""
+    parts = file.split("/")
+    if parts[0] == "crates" and parts[2:3] == ["must-fail"]:
+        return OF_GATE, parts[1]
+    return (OTHERS, parts[1]) if parts[0] == "edits" and len(parts) > 2 else None
+
+
+def touched(base, kinds):
+    """The crates that are changed since the commit, or stand on one that is; all of them where that can't be said. One of which
+    only an edit is changed counts where edits of that kind are asked for, and those above it do not."""
+    crates = crates_now()
+    files = git("diff", "--no-renames", "--name-only", base, "HEAD") if git("merge-base", "--is-ancestor", base, "HEAD") is not None else None
+    logic = re.search(r"logic \w+$", subprocess.run(["rt", "version"], capture_output=True, text=True).stdout.strip())
+    if files is None or not logic or logic[0] not in (git("show", f"{base}:README.md") or ""):
+        return set(crates)
+    files = files.split("\n")
+    if any(WHOLE.match(file) for file in files):
+        return set(crates)
+    before = libraries(git("show", f"{base}:crates.txt") or "")
+    found = {file.split("/")[1] for file in files if file.startswith("crates/") and not edit_of(file)}
+    found |= {name for name in crates if sorted(crates[name]) != sorted(before.get(name, ["none"]))}
+    grown = True
+    while grown:
+        more = {name for name, below in crates.items() if found.intersection(below)} - found
+        found |= more
+        grown = bool(more)
+    edited = [edit_of(file) for file in files if edit_of(file) and os.path.exists(f"{TOP}/{file}")]
+    return (found | {name for kind, name in edited if kind in kinds}) & set(crates)
+
+
+def edits_in(folder):
+    """The edits right in a folder, and what else stands there that is not only to be read."""
+    names = sorted(os.listdir(folder)) if os.path.isdir(folder) else []
+    edits = [name for name in names if EDIT.fullmatch(name) and os.path.isfile(f"{folder}/{name}")]
+    others = [name for name in names if name not in edits and not name.endswith(".md")]
+    return [f"{folder}/{name}" for name in edits], [f"{folder}/{name}" for name in others]
+
+
+def edits_of(name):
+    """All edits of a crate, by the names that they go by, and what is no edit where one is looked for."""
+    edits, faults = {}, []
+    for folder in (f"{TOP}/crates/{name}/must-fail", f"{TOP}/edits/{name}"):
+        good, others = edits_in(folder)
+        faults += [f"{path}: an edit stands right in its crate's folder, and its name ends in .edit" for path in others]
+        for path in good:
+            known = edits.setdefault(os.path.basename(path)[: -len(".edit")], path)
+            if known != path:
+                faults.append(f"{path}: {known} has that name too")
+    return edits, faults
+
+
+def without_crate():
+    """The folders of edits/ that are no crate's."""
+    folder = f"{TOP}/edits"
+    names = sorted(os.listdir(folder)) if os.path.isdir(folder) else []
+    return [f"{folder}/{name}" for name in names if name not in crates_now() and not name.endswith(".md")]
