@@ -61,24 +61,25 @@ def edits_in(folder):
     names = sorted(os.listdir(folder)) if os.path.isdir(folder) else []
     edits = [name for name in names if EDIT.fullmatch(name) and os.path.isfile(f"{folder}/{name}")]
     others = [name for name in names if name not in edits and not name.endswith(".md")]
-    return [f"{folder}/{name}" for name in edits], [f"{folder}/{name}" for name in others]
+    return edits, others
 
 
 def edits_of(name):
-    """All edits of a crate, by the names that they go by, and what is no edit where one is looked for."""
+    """All edits of a crate, by the names that they go by, and what is wrong in their folders."""
     edits, faults = {}, []
-    for folder in (f"{TOP}/crates/{name}/must-fail", f"{TOP}/edits/{name}"):
-        good, others = edits_in(folder)
-        faults += [f"{path}: an edit stands right in its crate's folder, and its name ends in .edit" for path in others]
-        for path in good:
-            known = edits.setdefault(os.path.basename(path)[: -len(".edit")], path)
-            if known != path:
-                faults.append(f"{path}: {known} has that name too")
+    for folder in (f"crates/{name}/must-fail", f"edits/{name}"):
+        good, others = edits_in(f"{TOP}/{folder}")
+        faults += [f"{folder}/{it}: an edit stands right in its crate's folder, and its name ends in .edit" for it in others]
+        for it in good:
+            edit = it[: -len(".edit")]
+            if edit in edits:
+                faults.append(f"{folder}/{it}: another edit of the crate has that name")
+            edits.setdefault(edit, f"{TOP}/{folder}/{it}")
     return edits, faults
 
 
-def without_crate():
-    """The folders of edits/ that are no crate's."""
-    folder = f"{TOP}/edits"
-    names = sorted(os.listdir(folder)) if os.path.isdir(folder) else []
-    return [f"{folder}/{name}" for name in names if name not in crates_now() and not name.endswith(".md")]
+def of_no_crate():
+    """What stands in edits/ and is no crate's folder."""
+    known = crates_now()
+    names = sorted(os.listdir(f"{TOP}/edits")) if os.path.isdir(f"{TOP}/edits") else []
+    return [f"edits/{name}: it is named after no crate of crates.txt" for name in names if name not in known and not name.endswith(".md")]
