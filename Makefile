@@ -1,7 +1,7 @@
 # The entry points of the README.
 SHELL := bash
 .SHELLFLAGS := -eu -o pipefail -c
-.PHONY: run try test vectors
+.PHONY: run try test gate edits names vectors
 
 # A first look, in a minute: two conversations as event records, request and reply by name.
 try: | out
@@ -22,9 +22,22 @@ run: | out
 out:
 	@mkdir -p out
 
+# Every proof from nothing, every test, and the program. SINCE=COMMIT: with the edits of the crates that were touched since.
 test:
+	@tools/run_gate $(SINCE)
+
+# The same with the edits under must-fail/, by the toolchain's own gate.
+gate:
 	@rt ci
+
+# Every edit there is, under must-fail/ and edits/; EDITS names crates, CRATE/EDIT, or --since COMMIT.
+edits:
+	@tools/try_edits $(EDITS)
+
+# Whether what the documents name is there.
+names:
+	@tools/check_map
 
 # Conversations kept as event records, through the built program, and its statuses.
 vectors:
-	@tests/run_vectors
+	@tests/run_vectors "$$(tools/built_program)"

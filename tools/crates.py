@@ -3,8 +3,8 @@ gate tries under crates/NAME/must-fail/, the others under edits/NAME/."""
 import os, re, subprocess
 
 TOP = os.path.realpath(os.path.join(os.path.dirname(__file__), ".."))
-# What every verdict rests on: the handles, and what the gate is (but for what says which edits are tried).
-WHOLE = re.compile(r"(HANDLES|Makefile|\.ci/(?!landed$|since$).*)$")
+# What every verdict rests on: the handles that are allowed, and the logic.
+WHOLE = "HANDLES", ".ci/logic"
 EDIT = re.compile(r"[A-Za-z0-9_-][A-Za-z0-9_.-]*\.edit")
 OF_GATE, OTHERS = "must-fail", "edits"
 
@@ -12,6 +12,11 @@ OF_GATE, OTHERS = "must-fail", "edits"
 def git(*words):
     ran = subprocess.run(["git", *words], cwd=TOP, capture_output=True, text=True)
     return ran.stdout if ran.returncode == 0 else None
+
+
+def logic_of(version):
+    """The logic that a toolchain's version names: what it can prove."""
+    return version.split()[-1:]
 
 
 def libraries(text):
@@ -38,11 +43,10 @@ def touched(base, kinds):
     only an edit is changed counts where edits of that kind are asked for, and those above it do not."""
     crates = crates_now()
     files = git("diff", "--no-renames", "--name-only", base, "HEAD") if git("merge-base", "--is-ancestor", base, "HEAD") is not None else None
-    logic = re.search(r"logic \w+$", subprocess.run(["rt", "version"], capture_output=True, text=True).stdout.strip())
-    if files is None or not logic or logic[0] not in (git("show", f"{base}:README.md") or ""):
+    if files is None or logic_of(subprocess.run(["rt", "version"], capture_output=True, text=True).stdout) != logic_of(git("show", f"{base}:.ci/logic") or ""):
         return set(crates)
     files = files.split("\n")
-    if any(WHOLE.match(file) for file in files):
+    if any(file in WHOLE for file in files):
         return set(crates)
     before = libraries(git("show", f"{base}:crates.txt") or "")
     found = {file.split("/")[1] for file in files if file.startswith("crates/") and not edit_of(file)}

@@ -14,7 +14,7 @@ use crate::fed::FedState;
 use crate::node::{Done, Node};
 use drda_disk::Disk;
 use dss_frames::stays_read;
-use recovery_laws::opening::calls_go_on;
+use recovery_laws::images::calls_go_on;
 use std::alloc::AllocError;
 
 /// Kinds of records that go out.

@@ -10,7 +10,7 @@ use crate::fed::{Fed, FedState};
 use conversation::{Front, Need};
 use drda_disk::Disk;
 use dss_frames::stays_read;
-use recovery_laws::opening::calls_go_on;
+use recovery_laws::images::calls_go_on;
 
 /// Gives a conversation bytes and does each command that is whole. It hands on no bytes behind the
 /// command under way, so that what is taken was answered or belongs to one command.

@@ -10,7 +10,7 @@ use crate::slot::Slot;
 use conversation::Settings;
 use drda_disk::Disk;
 use durable_core::DurableCore;
-use recovery_laws::opening::calls_go_on;
+use recovery_laws::images::calls_go_on;
 use std::alloc::Global;
 use thiserror::Error;
 

@@ -13,7 +13,7 @@ use crate::files::StoreFiles;
 use drda_disk::{Disk, MemDisk};
 use durable_core::{DurableCore, OpenError};
 use half_store::{FormatError, format, is_store};
-use recovery_laws::opening::fresh_stores_open;
+use recovery_laws::images::fresh_stores_open;
 use std::alloc::Global;
 
 /// The bytes of a store in memory.

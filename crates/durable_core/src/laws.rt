@@ -3,7 +3,7 @@
 ghost use Rattle.durable_core.specs.Damage.{DamageOpensNot, OneDamage};
 
 use recovery::laws::records_lead_one_way;
-use recovery_laws::opening::images_open_there;
+use recovery_laws::images::images_open_there;
 use unit_journal::a_region_has_one_reading;
 
 /// A damaged image opens to nothing.

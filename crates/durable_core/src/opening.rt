@@ -19,8 +19,8 @@ use drda_disk::Disk;
 use journal_recorder::DiskRecorder;
 use rdb_core::Core;
 use recovery::laws::{records_lead_one_way, records_lead_to_sound_states};
-use recovery_laws::opening::{images_open_there, images_open_to_one_state};
-use recovery_laws::recording::openings_are_kept;
+use recovery_laws::images::{images_open_there, images_open_to_one_state};
+use recovery_laws::steps::openings_are_kept;
 use std::alloc::{AllocError, Global};
 use unit_journal::a_region_has_one_reading;
 

@@ -10,4 +10,4 @@ pub mod Sound
 pub mod SqlLaws
 pub mod CoreLaws
 pub mod CoreUnits
-pub mod Histories
+pub mod CoreHistories

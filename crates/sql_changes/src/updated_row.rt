@@ -11,11 +11,11 @@ ghost use Rattle.sql_semantics.specs.Update as update;
 ghost use Rattle.core_calls.specs.StatementError.{fault_of};
 ghost use Rattle.sql_changes.specs.Assigned.{all_set, assigned};
 
+use crate::misfit_fault;
 use crate::target::Target;
 use crate::total::total;
 use core_calls::{SqlFault, StatementError};
 use row_values::{Column, RowRef, Value};
-use sql_changes::misfit_fault;
 use std::alloc::{AllocError, Global};
 
 // The values of a row.

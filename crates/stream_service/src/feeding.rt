@@ -8,7 +8,7 @@ ghost use Rattle.stream_service.specs.Pieces.{HearsPiece};
 use drda_disk::Disk;
 use drda_node::{ConversationId, FedState, Node};
 use dss_frames::stays_read;
-use recovery_laws::opening::calls_go_on;
+use recovery_laws::images::calls_go_on;
 
 /// How a conversation stands when a piece was heard.
 #[derive(Clone, Copy, Debug, PartialEq, Eq)]

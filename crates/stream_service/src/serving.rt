@@ -9,7 +9,7 @@ use crate::feeding::{Heard, feed_all};
 use drda_disk::Disk;
 use drda_node::{ConversationId, Node, write_whole};
 use dss_frames::stays_read;
-use recovery_laws::opening::calls_go_on;
+use recovery_laws::images::calls_go_on;
 use std::alloc::{AllocError, Global};
 use std::io::{Read, Write};
 

@@ -1,8 +1,8 @@
 //! Units whose changes are kept in memory alone.
 
+use crate::record_contents::RecordContents;
 use crate::record_error::RecordError;
 use crate::recorder::Recorder;
-use crate::saying::RecordContents;
 
 /// Records nothing: for tables that end with the program.
 #[derive(Clone, Copy, Debug, PartialEq, Eq)]

@@ -5,8 +5,8 @@ ghost use Rattle.unit_records.specs.Records.{UnitRecord};
 ghost use Rattle.unit_records.specs.RecordContents.{said_by};
 ghost use Rattle.unit_records.specs.declared.record_error.RecordError.{RecordError as Error};
 
+use crate::record_contents::RecordContents;
 use crate::record_error::RecordError;
-use crate::saying::RecordContents;
 
 /// Who records what becomes of units, one record after another. Contracts know it by what a record may
 /// make of it: `allows` says of which records it may be asked, `records` what it is once such a record

@@ -6,7 +6,7 @@ use Rattle.serializability.proofs.SqlLaws.{sql_laws}
 use Rattle.serializability.specs.CoreWords.{core_units, core_words}
 use Rattle.serializability.proofs.CoreLaws.{core_laws}
 use Rattle.serializability.proofs.CoreUnits.{core_kept, core_serializability, events_are_theirs}
-use Rattle.serializability.proofs.Histories as serial
+use Rattle.serializability.proofs.CoreHistories as serial
 use Rattle.serializability.proofs.histories.histories_are_serial.Goals as goal
 
 pub returns : goal.returns

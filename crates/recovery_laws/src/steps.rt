@@ -2,7 +2,7 @@
 
 ghost use Rattle.recovery_laws.specs.StepLaws.{DecisionsAreOfDoubts, OpeningsAreKept, RecordsLead, SilentStepsStay, StepsKeep};
 
-use crate::placing::changes_have_places;
+use crate::places::changes_have_places;
 use core_model::laws::units_in_doubt_wait;
 use recovery::laws::{doubts_hold_their_decisions, places_depend_on_tables};
 use tables::laws::changes_are_local;

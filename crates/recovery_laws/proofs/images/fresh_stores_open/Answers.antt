@@ -1,5 +1,5 @@
 use Rattle.recovery_laws.proofs.Reading.{fresh_stores_open}
-use Rattle.recovery_laws.proofs.opening.fresh_stores_open.Goals as goal
+use Rattle.recovery_laws.proofs.images.fresh_stores_open.Goals as goal
 
 pub returns : goal.returns
 returns c = fresh_stores_open

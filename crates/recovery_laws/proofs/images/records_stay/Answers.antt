@@ -1,5 +1,5 @@
 use Rattle.recovery_laws.proofs.Adding.{records_stay}
-use Rattle.recovery_laws.proofs.opening.records_stay.Goals as goal
+use Rattle.recovery_laws.proofs.images.records_stay.Goals as goal
 
 pub returns : goal.returns
 returns c = records_stay c.records_have_one_reading.ensures.written

@@ -1,6 +1,6 @@
 use Rattle.recovery_laws.proofs.Answering.{changes_placed}
 use Rattle.recovery_laws.proofs.NameClaims.{creations_claim}
-use Rattle.recovery_laws.proofs.placing.changes_have_places.Goals as goal
+use Rattle.recovery_laws.proofs.places.changes_have_places.Goals as goal
 
 pub returns-clause-places : goal.returns-clause-places
 returns-clause-places c = changes_placed c.changes_are_local.ensures.put c.changes_are_local.ensures.removed c.stores_hold_tables.ensures.tables c.stores_hold_tables.ensures.rows

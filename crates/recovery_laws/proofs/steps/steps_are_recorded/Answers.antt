@@ -1,7 +1,7 @@
 use Rattle.recovery_laws.proofs.Keeping.{steps_keep}
 use Rattle.recovery_laws.proofs.Leading.{decisions_are_of_doubts, records_lead}
 use Rattle.recovery_laws.proofs.Silent.{silent_steps_stay}
-use Rattle.recovery_laws.proofs.recording.steps_are_recorded.Goals as goal
+use Rattle.recovery_laws.proofs.steps.steps_are_recorded.Goals as goal
 
 pub returns-clause-keep : goal.returns-clause-keep
 returns-clause-keep c =
