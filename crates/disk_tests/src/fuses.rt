@@ -29,30 +29,44 @@ const SECOND: [u8; 16] = [0, 0, 0, 0, 0, 0, 0, 0, 1, 2, 3, 4, 0, 0, 0, 0];
 
 const BOTH: [u8; 16] = [1, 2, 3, 4, 0, 0, 0, 0, 1, 2, 3, 4, 0, 0, 0, 0];
 
+/// How many calls a fuse lets through and whether it fails once; which of six calls fail then, how
+/// many, and what is read behind the fuse.
+const FUSES: [(u64, bool, u32, u64, [u8; 16]); 14] = [
+    (0, true, 0b000001, 1, SECOND),
+    (1, true, 0b000010, 1, BOTH),
+    (2, true, 0b000100, 1, BOTH),
+    (3, true, 0b001000, 1, FIRST),
+    (4, true, 0b010000, 1, BOTH),
+    (5, true, 0b100000, 1, BOTH),
+    (6, true, 0, 0, BOTH),
+    (0, false, 0b111111, 6, ZEROS),
+    (1, false, 0b111110, 5, FIRST),
+    (2, false, 0b111100, 4, FIRST),
+    (3, false, 0b111000, 3, FIRST),
+    (4, false, 0b110000, 2, BOTH),
+    (5, false, 0b100000, 1, BOTH),
+    (6, false, 0, 0, BOTH),
+];
+
+/// Which of six calls over a fuse failed, the failures and calls that it counts, and those of the
+/// disk behind it.
+type Failed = (u32, u64, u64, u64);
+
+fn failed(alloc: Global, k: u64, once: bool) -> Result<(Failed, [u8; 16]), Fail> {
+    let mut disk = FuseDisk::new(MemDisk::new(alloc, 16)?, k, once);
+    let failed = six_calls(&mut disk);
+    let (failures, calls) = (disk.failures(), disk.calls());
+    let mut inner = disk.into_inner();
+    let read = first_16(&mut inner)?;
+    Ok(((failed, failures, calls, inner.failures()), read))
+}
+
 #[test]
 fn a_fuse_fails_one_call_or_all(rt: HostRuntime) -> Result<(), Fail> {
-    for (k, once, failed, faults, read) in [
-        (0, true, 0b000001, 1, SECOND),
-        (1, true, 0b000010, 1, BOTH),
-        (2, true, 0b000100, 1, BOTH),
-        (3, true, 0b001000, 1, FIRST),
-        (4, true, 0b010000, 1, BOTH),
-        (5, true, 0b100000, 1, BOTH),
-        (6, true, 0, 0, BOTH),
-        (0, false, 0b111111, 6, ZEROS),
-        (1, false, 0b111110, 5, FIRST),
-        (2, false, 0b111100, 4, FIRST),
-        (3, false, 0b111000, 3, FIRST),
-        (4, false, 0b110000, 2, BOTH),
-        (5, false, 0b100000, 1, BOTH),
-        (6, false, 0, 0, BOTH),
-    ] {
-        let mut disk = FuseDisk::new(MemDisk::new(rt.alloc(), 16)?, k, once);
-        assert_eq!(rt; six_calls(&mut disk), failed, "{k} {once}");
-        assert_eq!(rt; (disk.failures(), disk.calls()), (faults, 6), "{k} {once}");
-        let mut inner = disk.into_inner();
-        assert_eq!(rt; inner.failures(), 0);
-        assert_eq!(rt; first_16(&mut inner)?, read, "{k} {once}");
+    for (k, once, bits, faults, want) in &FUSES {
+        let (counted, read) = failed(rt.alloc(), *k, *once)?;
+        assert!(rt; counted == (*bits, *faults, 6, 0), "{k} {once}");
+        assert!(rt; read == *want, "{k} {once}");
     }
     Ok(())
 }
@@ -72,28 +86,35 @@ fn written_through(
     Ok((done, first_16(&mut crashed)?))
 }
 
+/// How many calls a fuse lets through, a crash's pick, whether a write through it fails, and what is
+/// left.
+const THROUGH: [(u64, u64, Result<(), DiskFault>, [u8; 16]); 5] = [
+    (0, 0, Err(DiskFault), ZEROS),
+    (0, 1, Err(DiskFault), ZEROS),
+    (1, 0, Err(DiskFault), ZEROS),
+    (1, 1, Err(DiskFault), TEN_AT_3),
+    (2, 0, Ok(()), TEN_AT_3),
+];
+
 #[test]
 fn a_write_through_stays(rt: HostRuntime) -> Result<(), Fail> {
-    for (k, pick, done, left) in [
-        (0, 0, Err(DiskFault), ZEROS),
-        (0, 1, Err(DiskFault), ZEROS),
-        (1, 0, Err(DiskFault), ZEROS),
-        (1, 1, Err(DiskFault), TEN_AT_3),
-        (2, 0, Ok(()), TEN_AT_3),
-    ] {
-        let answer = written_through(rt.alloc(), k, pick)?;
-        assert_eq!(rt; answer, (done, left), "{k} {pick}");
+    for (k, pick, done, left) in &THROUGH {
+        let answer = written_through(rt.alloc(), *k, *pick)?;
+        assert!(rt; answer == (*done, *left), "{k} {pick}");
     }
     Ok(())
+}
+
+/// Whether ten bytes are put and read over a fuse of two calls.
+fn are_put_and_read(disk: &mut FuseDisk<MemDisk>) -> bool {
+    let wrote = put(disk, 3, &TEN);
+    wrote.is_ok() && first_16(disk) == Ok(TEN_AT_3)
 }
 
 #[test]
 fn a_fuse_adds_no_sync(rt: HostRuntime) -> Result<(), Fail> {
     let mut disk = FuseDisk::new(MemDisk::new(rt.alloc(), 16)?, 2, false);
-    let wrote = put(&mut disk, 3, &TEN);
-    let read = first_16(&mut disk);
-    assert_eq!(rt; (wrote, read), (Ok(()), Ok(TEN_AT_3)));
-    let mut left = disk.into_inner().after_crash(0);
-    assert_eq!(rt; first_16(&mut left)?, ZEROS);
+    assert!(rt; are_put_and_read(&mut disk));
+    assert!(rt; first_16(&mut disk.into_inner().after_crash(0))? == ZEROS);
     Ok(())
 }

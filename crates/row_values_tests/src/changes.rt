@@ -16,30 +16,39 @@ const CHANGES: [&'static [u8]; 5] = [
     &[3, 1, b'T', 0, 0],
 ];
 
-// Whether the bytes with others behind them are read as a change, which writes them again behind
-// what is there, and tells their number.
+// What the change is written as behind these bytes, or None where a write that failed has changed
+// them.
+fn written_behind(alloc: Global, front: &[u8], change: &Change) -> Result<Option<Vec<u8>>, Fail> {
+    let mut out = front.to_vec(alloc)?;
+    if change.write(&mut out).is_ok() {
+        return Ok(Some(out));
+    }
+    if are_equal(out.as_slice(), front) {
+        return Err(Fail::from("no memory"));
+    }
+    Ok(None)
+}
+
+// Whether the change is written as these bytes behind what is there, and tells their number.
+fn is_written(alloc: Global, change: &Change, bytes: &[u8]) -> Result<bool, Fail> {
+    let front: &[u8] = &[9, 8, 7];
+    let want = [front, bytes].concat(alloc)?;
+    let written = written_behind(alloc, front, change)?;
+    Ok(written == Some(want) && change.length() == bytes.len())
+}
+
+// Whether the bytes with others behind them are read as a change, which is written as them again.
 fn reads_back(alloc: Global, bytes: &[u8]) -> Result<bool, Fail> {
     let behind: &[u8] = b"next";
     let followed = [bytes, behind].concat(alloc)?;
     let (change, rest) = Change::read(alloc, followed.as_slice())?;
-    let mut out = [9u8, 8, 7].to_vec(alloc)?;
-    if change.write(&mut out).is_err() {
-        return if out.as_slice() == [9u8, 8, 7].as_slice() {
-            Err(Fail::from("no memory"))
-        } else {
-            Ok(false)
-        };
-    }
-    let front: &[u8] = &[9, 8, 7];
-    let want = [front, bytes].concat(alloc)?;
-    Ok(are_equal(rest, behind) && out == want && change.length() == bytes.len())
+    Ok(are_equal(rest, behind) && is_written(alloc, &change, bytes)?)
 }
 
 #[test]
 fn changes_have_their_bytes(rt: HostRuntime) -> Result<(), Fail> {
-    let alloc = rt.alloc();
     for bytes in &CHANGES {
-        assert!(rt; reads_back(alloc, bytes)?, "{bytes:?}");
+        assert!(rt; reads_back(rt.alloc(), bytes)?, "{bytes:?}");
     }
     Ok(())
 }
@@ -70,9 +79,8 @@ fn is_damaged(alloc: Global, bytes: &[u8]) -> Result<bool, Fail> {
 
 #[test]
 fn damaged_changes_are_refused(rt: HostRuntime) -> Result<(), Fail> {
-    let alloc = rt.alloc();
     for bytes in &DAMAGED {
-        assert!(rt; is_damaged(alloc, bytes)?, "{bytes:?}");
+        assert!(rt; is_damaged(rt.alloc(), bytes)?, "{bytes:?}");
     }
     Ok(())
 }
@@ -97,16 +105,20 @@ const LONGEST: [(&'static [u8], usize, bool); 6] = [
     (b"\x03\x1FA23456789_123456789_123456789_1\x00\x00", 0, false),
 ];
 
+// Whether a change of these bytes is read back or, where it is too long, damaged.
+fn is_told(alloc: Global, front: &[u8], count: usize, is_read: bool) -> Result<bool, Fail> {
+    let bytes = filled(alloc, front, count)?;
+    if is_read {
+        reads_back(alloc, bytes.as_slice())
+    } else {
+        is_damaged(alloc, bytes.as_slice())
+    }
+}
+
 #[test]
 fn long_changes_are_refused(rt: HostRuntime) -> Result<(), Fail> {
-    let alloc = rt.alloc();
-    for (front, count, expected) in &LONGEST {
-        let bytes = filled(alloc, front, *count)?;
-        if *expected {
-            assert!(rt; reads_back(alloc, bytes.as_slice())?);
-        } else {
-            assert!(rt; is_damaged(alloc, bytes.as_slice())?, "{count}");
-        }
+    for (front, count, is_read) in &LONGEST {
+        assert!(rt; is_told(rt.alloc(), front, *count, *is_read)?, "{count}");
     }
     Ok(())
 }
@@ -121,15 +133,21 @@ fn has_no_change_in_front(alloc: Global, whole: &[u8]) -> Result<bool, Fail> {
     Ok(true)
 }
 
+// A change of these front bytes and so many zeros.
+const WHOLE: [(&'static [u8], usize); 2] = [
+    (b"\x02\x1EA23456789_123456789_123456789_\x0F\xA0", 4_000),
+    (&[1, 1, b'T', 1, 1, b'A', 5, 0, 0, 1, 1, 0], 0),
+];
+
+fn is_read_whole_alone(alloc: Global, front: &[u8], count: usize) -> Result<bool, Fail> {
+    let whole = filled(alloc, front, count)?;
+    Ok(reads_back(alloc, whole.as_slice())? && has_no_change_in_front(alloc, whole.as_slice())?)
+}
+
 #[test]
 fn a_part_of_a_change_is_damaged(rt: HostRuntime) -> Result<(), Fail> {
-    let alloc = rt.alloc();
-    let front: &[u8] = b"\x02\x1EA23456789_123456789_123456789_\x0F\xA0";
-    let longest = filled(alloc, front, 4_000)?;
-    let create: &[u8] = &[1, 1, b'T', 1, 1, b'A', 5, 0, 0, 1, 1, 0];
-    assert!(rt;
-        reads_back(alloc, longest.as_slice())? && has_no_change_in_front(alloc, longest.as_slice())?
-    );
-    assert!(rt; reads_back(alloc, create)? && has_no_change_in_front(alloc, create)?);
+    for (front, count) in &WHOLE {
+        assert!(rt; is_read_whole_alone(rt.alloc(), front, *count)?, "{count}");
+    }
     Ok(())
 }

@@ -1,7 +1,7 @@
 //! Which values fit which columns.
 
-use crate::fixtures::{columns, has_value, one_column, row};
-use row_values::{Kind, Misfit, Value, are_key, are_row};
+use crate::fixtures::{ColumnParts, columns, has_value, one_column, row};
+use row_values::{Column, Kind, Misfit, Value, are_key, are_row};
 use std::alloc::Global;
 use std::test::Fail;
 
@@ -28,23 +28,33 @@ const MISFITS: [(Value<'static>, Option<Misfit>, Option<Misfit>); 7] = [
     ),
 ];
 
+// What the first column says of a value, and what the second.
+fn misfits(columns: &[Column], value: &Value<'_>) -> Option<(Option<Misfit>, Option<Misfit>)> {
+    let [first, second] = columns else {
+        return None;
+    };
+    Some((first.admit(value).err(), second.admit(value).err()))
+}
+
+// The place of the first of `MISFITS` of which the columns say something else.
+fn first_misfit(columns: &[Column]) -> Option<usize> {
+    for place in 0..MISFITS.len() {
+        let (value, in_first, in_second) = MISFITS[place];
+        if misfits(columns, &value) != Some((in_first, in_second)) {
+            return Some(place);
+        }
+    }
+    None
+}
+
 #[test]
 fn values_fit_or_say_why_not(rt: HostRuntime) -> Result<(), Fail> {
-    let alloc = rt.alloc();
-    let columns = columns(
-        alloc,
-        &[
-            ("S", Kind::SmallInt, true, 0),
-            ("T", Kind::VarChar, false, 3),
-        ],
-    )?;
-    let [small, text] = columns.as_slice() else {
-        return Err(Fail::from("two columns"));
-    };
-    for (value, in_small, in_text) in &MISFITS {
-        assert_eq!(rt; small.admit(value).err(), *in_small);
-        assert_eq!(rt; text.admit(value).err(), *in_text);
-    }
+    let parts: [ColumnParts<'_>; 2] = [
+        ("S", Kind::SmallInt, true, 0),
+        ("T", Kind::VarChar, false, 3),
+    ];
+    let wrong = first_misfit(columns(rt.alloc(), &parts)?.as_slice());
+    assert!(rt; wrong.is_none(), "{wrong:?}");
     Ok(())
 }
 
@@ -83,31 +93,63 @@ fn fits(alloc: Global, kind: Kind, length: u16, value: Value<'_>) -> Result<Opti
 
 #[test]
 fn numbers_have_the_range_of_their_type(rt: HostRuntime) -> Result<(), Fail> {
-    let alloc = rt.alloc();
     for (kind, number, expected) in &NUMBERS {
-        let found = fits(alloc, *kind, 0, Value::Number(*number))?;
-        assert_eq!(rt; found, Some(*expected), "{number}");
+        let found = fits(rt.alloc(), *kind, 0, Value::Number(*number))?;
+        assert!(rt; found == Some(*expected), "{number}");
     }
     Ok(())
 }
 
-#[test]
-fn texts_and_bytes_have_at_most_their_length(rt: HostRuntime) -> Result<(), Fail> {
-    let alloc = rt.alloc();
-    let long = vec![in alloc; b'a'; 2_001]?;
-    for (length, expected) in [(0, true), (1, true), (2_000, true), (2_001, false)] {
-        let content = long.as_slice().get(..length).ok_or("no such length")?;
-        let text = Value::Text(str::from_utf8(content)?);
-        let bytes = Value::Bytes(content);
-        for (kind, value, expected) in [
-            (Kind::VarChar, text, expected),
-            (Kind::VarBinary, bytes, expected),
-            (Kind::VarChar, bytes, false),
-            (Kind::VarBinary, text, false),
-        ] {
-            let found = fits(alloc, kind, 2_000, value)?;
-            assert_eq!(rt; found, Some(expected), "{length}");
+// A column of texts or of bytes, whether a text is put there or bytes are, and whether that fits
+// where it is not too long.
+const KINDS: [(Kind, bool, bool); 4] = [
+    (Kind::VarChar, true, true),
+    (Kind::VarBinary, false, true),
+    (Kind::VarChar, false, false),
+    (Kind::VarBinary, true, false),
+];
+
+// Whether a text or bytes of this content fit and are read back, by `fits`, where at most 2,000 do.
+fn content_fits(
+    alloc: Global,
+    kind: Kind,
+    is_text: bool,
+    content: &[u8],
+) -> Result<Option<bool>, Fail> {
+    let value = if is_text {
+        Value::Text(str::from_utf8(content)?)
+    } else {
+        Value::Bytes(content)
+    };
+    fits(alloc, kind, 2_000, value)
+}
+
+// Whether each of `KINDS` takes so many bytes of this content as it says: 2,001 are too many.
+fn are_taken(alloc: Global, long: &[u8], length: usize) -> Result<bool, Fail> {
+    let content = long.get(..length).ok_or("no such length")?;
+    for (kind, is_text, is_taken) in &KINDS {
+        let found = content_fits(alloc, *kind, *is_text, content)?;
+        if found != Some(*is_taken && length < 2_001) {
+            return Ok(false);
         }
     }
+    Ok(true)
+}
+
+// The first of these lengths at which they take it otherwise.
+fn first_length(alloc: Global, long: &[u8]) -> Result<Option<usize>, Fail> {
+    for length in [0, 1, 2_000, 2_001] {
+        if !are_taken(alloc, long, length)? {
+            return Ok(Some(length));
+        }
+    }
+    Ok(None)
+}
+
+#[test]
+fn texts_and_bytes_have_at_most_their_length(rt: HostRuntime) -> Result<(), Fail> {
+    let long = vec![in rt.alloc(); b'a'; 2_001]?;
+    let wrong = first_length(rt.alloc(), long.as_slice())?;
+    assert!(rt; wrong.is_none(), "{wrong:?}");
     Ok(())
 }

@@ -106,3 +106,9 @@ pub(crate) fn has_value(schema: &Schema, bytes: &[u8], i: usize, value: Value<'_
 pub(crate) fn are_equal(a: &[u8], b: &[u8]) -> bool {
     a[..] == b[..]
 }
+
+/// Whether the bytes are a row of the schema whose key has these bytes.
+pub(crate) fn has_key(alloc: Global, schema: &Schema, bytes: &[u8], key: &[u8]) -> Option<bool> {
+    let row = RowRef::parse(schema, bytes).ok()?;
+    Some(are_equal(row.key(alloc).ok()?.as_slice(), key))
+}

@@ -2,10 +2,8 @@
 
 use crate::fixtures::{ColumnParts, are_equal, are_schema, is_row, one_column, row};
 use row_values::{Column, Kind, Schema, Value, are_row};
-use std::alloc::Global;
+use std::alloc::{AllocError, Global};
 use std::test::Fail;
-
-const LONGEST_NAME: &'static str = "A23456789012345678901234567890";
 
 // One column of a text or of bytes, whether it takes NULL, its length, and the place of the key.
 const NO_SCHEMAS: [(&'static str, u16, bool, u8); 9] = [
@@ -22,28 +20,42 @@ const NO_SCHEMAS: [(&'static str, u16, bool, u8); 9] = [
 
 #[test]
 fn what_is_no_schema_is_refused(rt: HostRuntime) -> Result<(), Fail> {
-    let alloc = rt.alloc();
     for (name, length, is_nullable, place) in &NO_SCHEMAS {
         let parts: ColumnParts<'_> = (name, Kind::VarChar, *is_nullable, *length);
-        assert!(rt; !are_schema(alloc, &[parts], &[*place])?, "{name}");
+        assert!(rt; !are_schema(rt.alloc(), &[parts], &[*place])?, "{name}");
     }
-    let longest: ColumnParts<'_> = (LONGEST_NAME, Kind::VarChar, false, 2_000);
-    let number: ColumnParts<'_> = ("B_2", Kind::BigInt, true, 0);
-    assert!(rt; are_schema(alloc, &[longest, number], &[0])?);
-    assert!(rt; !are_schema(alloc, &[longest, longest], &[0])?);
     Ok(())
+}
+
+const LONGEST: ColumnParts<'static> = (
+    "A23456789012345678901234567890",
+    Kind::VarChar,
+    false,
+    2_000,
+);
+
+#[test]
+fn two_columns_of_a_schema_have_two_names(rt: HostRuntime) -> Result<(), Fail> {
+    let number: ColumnParts<'_> = ("B_2", Kind::BigInt, true, 0);
+    assert!(rt; are_schema(rt.alloc(), &[LONGEST, number], &[0])?);
+    assert!(rt; !are_schema(rt.alloc(), &[LONGEST, LONGEST], &[0])?);
+    Ok(())
+}
+
+fn small_column(alloc: Global, place: usize) -> Result<Column, AllocError> {
+    Ok(Column {
+        name: format!(in alloc; "C_{place}")?,
+        kind: Kind::SmallInt,
+        is_nullable: 4 <= place,
+        length: 0,
+    })
 }
 
 // Columns C_0, C_1 and so on, of which the first four take no NULL.
 fn small_columns(alloc: Global, count: usize) -> Result<Vec<Column>, Fail> {
     let mut columns = Vec::new(alloc);
-    for i in 0..count {
-        columns.push(Column {
-            name: format!(in alloc; "C_{i}")?,
-            kind: Kind::SmallInt,
-            is_nullable: 4 <= i,
-            length: 0,
-        })?;
+    for place in 0..count {
+        columns.push(small_column(alloc, place)?)?;
     }
     Ok(columns)
 }
@@ -57,75 +69,130 @@ const COUNTS: [(usize, &'static [u8], bool); 5] = [
     (0, &[], false),
 ];
 
+fn are_small_schema(alloc: Global, count: usize, key: &[u8]) -> Result<bool, Fail> {
+    Ok(Schema::new(small_columns(alloc, count)?, key.to_vec(alloc)?).is_ok())
+}
+
 #[test]
 fn tables_have_at_most_64_columns_and_4_in_their_key(rt: HostRuntime) -> Result<(), Fail> {
-    let alloc = rt.alloc();
     for (count, key, expected) in &COUNTS {
-        let found = Schema::new(small_columns(alloc, *count)?, key.to_vec(alloc)?).is_ok();
-        assert_eq!(rt; found, *expected, "{count}");
+        assert!(rt;
+            are_small_schema(rt.alloc(), *count, key)? == *expected,
+            "{count}"
+        );
     }
     Ok(())
+}
+
+fn small_schema(alloc: Global, key: &[u8]) -> Result<Schema, Fail> {
+    Ok(Schema::new(small_columns(alloc, 64)?, key.to_vec(alloc)?)?)
+}
+
+// Four zeros, and NULLs behind them, so many in all; or NULLs alone.
+fn zeros_and_nulls(
+    alloc: Global,
+    zeros: usize,
+    count: usize,
+) -> Result<Vec<Value<'static>>, AllocError> {
+    let mut values = vec![in alloc; Value::Null; count]?;
+    for value in values.iter_mut().take(zeros) {
+        *value = Value::Number(0);
+    }
+    Ok(values)
+}
+
+// How many bytes a row of 64 columns has, where it is one that is read.
+fn row_length(alloc: Global, zeros: usize, count: usize) -> Result<Option<usize>, Fail> {
+    let schema = small_schema(alloc, &[0])?;
+    let values = zeros_and_nulls(alloc, zeros, count)?;
+    if !are_row(&schema, values.as_slice()) {
+        return Ok(None);
+    }
+    let bytes = row(alloc, &schema, values.as_slice())?;
+    Ok(if is_row(&schema, bytes.as_slice()) {
+        Some(bytes.len())
+    } else {
+        Some(0)
+    })
 }
 
 #[test]
 fn a_row_of_64_columns_is_read(rt: HostRuntime) -> Result<(), Fail> {
-    let alloc = rt.alloc();
-    let schema = Schema::new(small_columns(alloc, 64)?, [0u8].to_vec(alloc)?)?;
-    let mut values = vec![in alloc; Value::Number(0); 4]?;
     for count in 4..66 {
-        assert_eq!(rt; are_row(&schema, values.as_slice()), count == 64, "{count}");
-        if count == 64 {
-            let bytes = row(alloc, &schema, values.as_slice())?;
-            assert_eq!(rt; bytes.len(), 4 * 3 + 60);
-            assert!(rt; is_row(&schema, bytes.as_slice()));
-        }
-        values.push(Value::Null)?;
+        let want = if count == 64 { Some(4 * 3 + 60) } else { None };
+        assert!(rt; row_length(rt.alloc(), 4, count)? == want, "{count}");
     }
-    let nulls = vec![in alloc; Value::Null; 64]?;
-    assert!(rt; !are_row(&schema, nulls.as_slice()));
+    assert!(rt; row_length(rt.alloc(), 0, 64)?.is_none());
     Ok(())
 }
 
-// Whether the bytes with others behind them are read as a schema, which writes them again behind
-// what is there, and tells their number.
+// What the schema is written as behind these bytes, or None where a write that failed has changed
+// them.
+fn written_behind(alloc: Global, front: &[u8], schema: &Schema) -> Result<Option<Vec<u8>>, Fail> {
+    let mut out = front.to_vec(alloc)?;
+    if schema.write(&mut out).is_ok() {
+        return Ok(Some(out));
+    }
+    if are_equal(out.as_slice(), front) {
+        return Err(Fail::from("no memory"));
+    }
+    Ok(None)
+}
+
+// Whether the schema is written as these bytes behind what is there, and tells their number.
+fn is_written(alloc: Global, schema: &Schema, bytes: &[u8]) -> Result<bool, Fail> {
+    let front: &[u8] = &[9];
+    let want = [front, bytes].concat(alloc)?;
+    let written = written_behind(alloc, front, schema)?;
+    Ok(written == Some(want) && schema.length() == bytes.len())
+}
+
+// Whether the bytes with others behind them are read as a schema, which is written as them again.
 fn reads_back(alloc: Global, bytes: &[u8]) -> Result<bool, Fail> {
     let behind: &[u8] = b"next";
     let followed = [bytes, behind].concat(alloc)?;
     let (schema, rest) = Schema::read(alloc, followed.as_slice())?;
-    let mut out = [9u8].to_vec(alloc)?;
-    if schema.write(&mut out).is_err() {
-        return if out.as_slice() == [9u8].as_slice() {
-            Err(Fail::from("no memory"))
-        } else {
-            Ok(false)
-        };
-    }
-    let front: &[u8] = &[9];
-    let want = [front, bytes].concat(alloc)?;
-    Ok(are_equal(rest, behind) && out == want && schema.length() == bytes.len())
+    Ok(are_equal(rest, behind) && is_written(alloc, &schema, bytes)?)
 }
+
+const SCHEMAS: [&'static [u8]; 2] = [
+    &[1, 1, b'A', 2, 0, 0, 0, 1, 0],
+    &[
+        2, 1, b'A', 2, 0, 0, 0, 2, b'B', b'_', 4, 1, 0x07, 0xD0, 1, 0,
+    ],
+];
 
 #[test]
 fn schemas_have_their_bytes(rt: HostRuntime) -> Result<(), Fail> {
-    let alloc = rt.alloc();
-    assert!(rt; reads_back(alloc, &[1, 1, b'A', 2, 0, 0, 0, 1, 0])?);
-    let two: &[u8] = &[
-        2, 1, b'A', 2, 0, 0, 0, 2, b'B', b'_', 4, 1, 0x07, 0xD0, 1, 0,
-    ];
-    assert!(rt; reads_back(alloc, two)?);
-    let mut many = Vec::new(alloc);
-    Schema::new(small_columns(alloc, 64)?, [3u8, 0, 2, 1].to_vec(alloc)?)?.write(&mut many)?;
-    assert_eq!(rt; many.len(), 2 + 10 * 8 + 54 * 9 + 4);
-    assert!(rt; reads_back(alloc, many.as_slice())?);
+    for bytes in &SCHEMAS {
+        assert!(rt; reads_back(rt.alloc(), bytes)?, "{bytes:?}");
+    }
     Ok(())
+}
+
+// How many bytes a schema of 64 columns has, where it is read back from them.
+fn small_length(alloc: Global) -> Result<Option<usize>, Fail> {
+    let mut bytes = Vec::new(alloc);
+    small_schema(alloc, &[3, 0, 2, 1])?.write(&mut bytes)?;
+    let is_back = reads_back(alloc, bytes.as_slice())?;
+    Ok(if is_back { Some(bytes.len()) } else { None })
+}
+
+#[test]
+fn a_schema_of_64_columns_has_its_bytes(rt: HostRuntime) -> Result<(), Fail> {
+    let length = small_length(rt.alloc())?;
+    assert!(rt; length == Some(2 + 10 * 8 + 54 * 9 + 4), "{length:?}");
+    Ok(())
+}
+
+fn is_copied(alloc: Global, schema: &Schema) -> Result<bool, Fail> {
+    let copy = schema.copy(alloc)?;
+    Ok(copy.columns() == schema.columns() && are_equal(copy.key(), schema.key()))
 }
 
 #[test]
 fn a_copy_is_the_schema(rt: HostRuntime) -> Result<(), Fail> {
-    let alloc = rt.alloc();
-    let schema = one_column(alloc, Kind::VarBinary, 7)?;
-    let copy = schema.copy(alloc)?;
-    assert!(rt; copy.columns() == schema.columns());
-    assert_eq!(rt; copy.key(), schema.key());
+    let schema = one_column(rt.alloc(), Kind::VarBinary, 7)?;
+    assert!(rt; is_copied(rt.alloc(), &schema)?);
     Ok(())
 }

@@ -1,6 +1,6 @@
 //! Tables in memory.
 
-use crate::fixtures::{key, row, schema};
+use crate::fixtures::{are_equal, key, one_column, row, schema};
 use row_values::{Kind, Schema, Value, is_name};
 use std::alloc::Global;
 use std::test::Fail;
@@ -38,13 +38,16 @@ fn key_of(alloc: Global, number: i64, text: &str) -> Result<Vec<u8>, Fail> {
     key(alloc, &schema, values)
 }
 
+fn apply(view: &mut PlainView, alloc: Global, change: Change) -> Result<(), Fail> {
+    Ok(view.apply(alloc, change)?)
+}
+
 fn create(view: &mut PlainView, alloc: Global, name: &str, schema: Schema) -> Result<(), Fail> {
     let table = String::from_str(alloc, name)?;
-    if !is_name(table.as_str().as_bytes()) || schema.columns().is_empty() {
+    if !is_name(table.as_str().as_bytes()) {
         return Err(Fail::from("no name"));
     }
-    view.apply(alloc, Change::create(table, schema))?;
-    Ok(())
+    apply(view, alloc, Change::create(table, schema))
 }
 
 fn put(view: &mut PlainView, alloc: Global, name: &str, row: Vec<u8>) -> Result<(), Fail> {
@@ -52,8 +55,7 @@ fn put(view: &mut PlainView, alloc: Global, name: &str, row: Vec<u8>) -> Result<
     if !is_name(table.as_str().as_bytes()) || row.len() > 4_000 {
         return Err(Fail::from("no name, or a long row"));
     }
-    view.apply(alloc, Change::put(table, row))?;
-    Ok(())
+    apply(view, alloc, Change::put(table, row))
 }
 
 fn remove(view: &mut PlainView, alloc: Global, name: &str, key: Vec<u8>) -> Result<(), Fail> {
@@ -61,8 +63,15 @@ fn remove(view: &mut PlainView, alloc: Global, name: &str, key: Vec<u8>) -> Resu
     if !is_name(table.as_str().as_bytes()) || key.len() > 8_012 {
         return Err(Fail::from("no name, or a long key"));
     }
-    view.apply(alloc, Change::remove(table, key))?;
-    Ok(())
+    apply(view, alloc, Change::remove(table, key))
+}
+
+fn create_small(view: &mut PlainView, alloc: Global, name: &str) -> Result<(), Fail> {
+    create(view, alloc, name, one_column(alloc, Kind::SmallInt, 0)?)
+}
+
+fn put_row(view: &mut PlainView, alloc: Global, name: &str, parts: Row<'_>) -> Result<(), Fail> {
+    put(view, alloc, name, row_of(alloc, parts)?)
 }
 
 // `T` with these rows, put in this order.
@@ -70,12 +79,20 @@ fn table(alloc: Global, rows: &[Row<'_>]) -> Result<PlainView, Fail> {
     let mut view = PlainView::new(alloc);
     create(&mut view, alloc, "T", two_key_columns(alloc)?)?;
     for parts in rows {
-        put(&mut view, alloc, "T", row_of(alloc, *parts)?)?;
+        put_row(&mut view, alloc, "T", *parts)?;
     }
     Ok(view)
 }
 
 const ROWS: [Row<'static>; 3] = [(3, "a", 1), (-2, "b", 2), (-2, "a", 3)];
+
+// The same in the order of their keys.
+const SORTED: [Row<'static>; 3] = [(-2, "a", 3), (-2, "b", 2), (3, "a", 1)];
+
+fn is_row_of(alloc: Global, bytes: &[u8], parts: Row<'_>) -> Result<bool, Fail> {
+    let row = row_of(alloc, parts)?;
+    Ok(are_equal(row.as_slice(), bytes))
+}
 
 // Whether the rows of `T` are these, in this order.
 fn has_rows(view: &mut PlainView, alloc: Global, expected: &[Row<'_>]) -> Result<bool, Fail> {
@@ -84,73 +101,126 @@ fn has_rows(view: &mut PlainView, alloc: Global, expected: &[Row<'_>]) -> Result
         return Ok(false);
     }
     for i in 0..expected.len() {
-        if rows.row(i)[..] != row_of(alloc, expected[i])?[..] {
+        if !is_row_of(alloc, rows.row(i), expected[i])? {
             return Ok(false);
         }
     }
     Ok(true)
 }
 
+// A row that is put, and what stands there then.
+const MORE: [(Row<'static>, &'static [Row<'static>]); 2] = [
+    ((-2, "b", 9), &[(-2, "a", 3), (-2, "b", 9), (3, "a", 1)]),
+    (
+        (0, "", 4),
+        &[(-2, "a", 3), (-2, "b", 9), (0, "", 4), (3, "a", 1)],
+    ),
+];
+
+// Whether the rows of `T` are these once one more is put.
+fn are_put(
+    view: &mut PlainView,
+    alloc: Global,
+    parts: Row<'_>,
+    expected: &[Row<'_>],
+) -> Result<bool, Fail> {
+    put_row(view, alloc, "T", parts)?;
+    has_rows(view, alloc, expected)
+}
+
+// The place of the first of `MORE` that leaves other rows than it says.
+fn first_other(view: &mut PlainView, alloc: Global) -> Result<Option<usize>, Fail> {
+    for place in 0..MORE.len() {
+        if !are_put(view, alloc, MORE[place].0, MORE[place].1)? {
+            return Ok(Some(place));
+        }
+    }
+    Ok(None)
+}
+
 #[test]
 fn rows_stand_in_the_order_of_their_keys(rt: HostRuntime) -> Result<(), Fail> {
-    let alloc = rt.alloc();
-    let mut view = table(alloc, &ROWS)?;
-    assert!(rt; has_rows(&mut view, alloc, &[(-2, "a", 3), (-2, "b", 2), (3, "a", 1)])?);
-    let more: [(Row<'_>, &[Row<'_>]); 2] = [
-        ((-2, "b", 9), &[(-2, "a", 3), (-2, "b", 9), (3, "a", 1)]),
-        (
-            (0, "", 4),
-            &[(-2, "a", 3), (-2, "b", 9), (0, "", 4), (3, "a", 1)],
-        ),
-    ];
-    for (parts, expected) in more {
-        put(&mut view, alloc, "T", row_of(alloc, parts)?)?;
-        assert!(rt; has_rows(&mut view, alloc, expected)?);
-    }
+    let mut view = table(rt.alloc(), &ROWS)?;
+    assert!(rt; has_rows(&mut view, rt.alloc(), &SORTED)?);
+    let other = first_other(&mut view, rt.alloc())?;
+    assert!(rt; other.is_none(), "{other:?}");
     Ok(())
 }
 
-// The row of a key of a table, where there is one.
+// Whether the row of a key is the second of `ROWS`, where there is one.
 fn found(
     view: &mut PlainView,
     alloc: Global,
     name: &str,
     key: &[u8],
-) -> Result<Option<Vec<u8>>, Fail> {
-    Ok(view.get(alloc, name, key)?)
+) -> Result<Option<bool>, Fail> {
+    match view.get(alloc, name, key)? {
+        Some(row) => Ok(Some(is_row_of(alloc, row.as_slice(), (-2, "b", 2))?)),
+        None => Ok(None),
+    }
+}
+
+fn found_of(
+    view: &mut PlainView,
+    alloc: Global,
+    name: &str,
+    number: i64,
+    text: &str,
+) -> Result<Option<bool>, Fail> {
+    let key = key_of(alloc, number, text)?;
+    found(view, alloc, name, key.as_slice())
+}
+
+// The number of a key in a table, and whether it has a row; the key's text is "b".
+const KEYS: [(&'static str, i64, Option<bool>); 3] = [
+    ("T", -2, Some(true)),
+    ("T", 2, None),
+    ("U", -2, None),
+];
+
+// The place of the first of `KEYS` that has a row or none other than it says.
+fn first_lost(view: &mut PlainView, alloc: Global) -> Result<Option<usize>, Fail> {
+    for place in 0..KEYS.len() {
+        let (name, number, expected) = KEYS[place];
+        if found_of(view, alloc, name, number, "b")? != expected {
+            return Ok(Some(place));
+        }
+    }
+    Ok(None)
 }
 
 #[test]
 fn rows_are_found_by_their_keys(rt: HostRuntime) -> Result<(), Fail> {
-    let alloc = rt.alloc();
-    let mut view = table(alloc, &ROWS)?;
-    let there = key_of(alloc, -2, "b")?;
-    let nowhere = key_of(alloc, 2, "b")?;
-    for (name, key, expected) in [
-        ("T", there.as_slice(), true),
-        ("T", nowhere.as_slice(), false),
-        ("T", b"no key", false),
-        ("U", there.as_slice(), false),
-    ] {
-        let row = found(&mut view, alloc, name, key)?;
-        if expected {
-            assert!(rt; row == Some(row_of(alloc, (-2, "b", 2))?));
-        } else {
-            assert!(rt; row.is_none());
+    let mut view = table(rt.alloc(), &ROWS)?;
+    let lost = first_lost(&mut view, rt.alloc())?;
+    assert!(rt; lost.is_none(), "{lost:?}");
+    assert!(rt; found(&mut view, rt.alloc(), "T", b"no key")?.is_none());
+    Ok(())
+}
+
+// Whether the rows of `T` are those two without (-2, "a"), once a key is removed of a table.
+fn are_left(view: &mut PlainView, alloc: Global, name: &str, text: &str) -> Result<bool, Fail> {
+    remove(view, alloc, name, key_of(alloc, -2, text)?)?;
+    has_rows(view, alloc, &[(-2, "b", 2), (3, "a", 1)])
+}
+
+// The place of the first removal that leaves other rows: of a row, of none, and of another table's.
+fn first_removed(view: &mut PlainView, alloc: Global) -> Result<Option<usize>, Fail> {
+    let removals: [(&str, &str); 3] = [("T", "a"), ("T", "a"), ("U", "b")];
+    for place in 0..removals.len() {
+        if !are_left(view, alloc, removals[place].0, removals[place].1)? {
+            return Ok(Some(place));
         }
     }
-    Ok(())
+    Ok(None)
 }
 
 #[test]
 fn rows_are_removed_by_their_keys(rt: HostRuntime) -> Result<(), Fail> {
-    let alloc = rt.alloc();
-    let mut view = table(alloc, &ROWS)?;
-    for (name, number, text) in [("T", -2, "a"), ("T", -2, "a"), ("U", -2, "b")] {
-        remove(&mut view, alloc, name, key_of(alloc, number, text)?)?;
-        assert!(rt; has_rows(&mut view, alloc, &[(-2, "b", 2), (3, "a", 1)])?);
-    }
-    assert_eq!(rt; view.tables()?, 1);
+    let mut view = table(rt.alloc(), &ROWS)?;
+    let wrong = first_removed(&mut view, rt.alloc())?;
+    assert!(rt; wrong.is_none(), "{wrong:?}");
+    assert!(rt; view.tables()? == 1);
     Ok(())
 }
 
@@ -164,68 +234,68 @@ fn columns_of(view: &mut PlainView, alloc: Global, name: &str) -> Result<Option<
 
 #[test]
 fn a_table_that_is_there_is_not_created_again(rt: HostRuntime) -> Result<(), Fail> {
-    let alloc = rt.alloc();
-    let mut view = table(alloc, &ROWS)?;
-    create(
-        &mut view,
-        alloc,
-        "T",
-        crate::fixtures::one_column(alloc, Kind::SmallInt, 0)?,
-    )?;
-    assert_eq!(rt; view.tables()?, 1);
-    assert!(rt; has_rows(&mut view, alloc, &[(-2, "a", 3), (-2, "b", 2), (3, "a", 1)])?);
-    assert_eq!(rt; columns_of(&mut view, alloc, "T")?, Some(3));
+    let mut view = table(rt.alloc(), &ROWS)?;
+    create_small(&mut view, rt.alloc(), "T")?;
+    assert!(rt; view.tables()? == 1);
+    assert!(rt; has_rows(&mut view, rt.alloc(), &SORTED)?);
+    assert!(rt; columns_of(&mut view, rt.alloc(), "T")? == Some(3));
     Ok(())
+}
+
+// Whether a table of this name that is created now has one column and no rows.
+fn is_new(view: &mut PlainView, alloc: Global, name: &str) -> Result<bool, Fail> {
+    create_small(view, alloc, name)?;
+    let is_empty = view.scan(alloc, name)?.is_empty();
+    Ok(is_empty && columns_of(view, alloc, name)? == Some(1))
+}
+
+// Whether there is no table of this name.
+fn is_absent(view: &mut PlainView, alloc: Global, name: &str) -> Result<bool, Fail> {
+    let is_empty = view.scan(alloc, name)?.is_empty();
+    Ok(is_empty && columns_of(view, alloc, name)?.is_none())
 }
 
 #[test]
 fn tables_have_their_schemas(rt: HostRuntime) -> Result<(), Fail> {
-    let alloc = rt.alloc();
-    let mut view = table(alloc, &ROWS)?;
-    for name in ["A", "U"] {
-        create(
-            &mut view,
-            alloc,
-            name,
-            crate::fixtures::one_column(alloc, Kind::SmallInt, 0)?,
-        )?;
-        assert!(rt; view.scan(alloc, name)?.is_empty());
-    }
-    assert_eq!(rt; view.tables()?, 3);
-    for (name, expected) in [("T", Some(3)), ("U", Some(1)), ("A", Some(1)), ("B", None)] {
-        assert_eq!(rt; columns_of(&mut view, alloc, name)?, expected, "{name}");
-    }
-    assert!(rt; view.scan(alloc, "B")?.is_empty());
+    let mut view = table(rt.alloc(), &ROWS)?;
+    assert!(rt; is_new(&mut view, rt.alloc(), "A")? && is_new(&mut view, rt.alloc(), "U")?);
+    assert!(rt; view.tables()? == 3);
+    assert!(rt; columns_of(&mut view, rt.alloc(), "T")? == Some(3));
+    assert!(rt; columns_of(&mut view, rt.alloc(), "A")? == Some(1));
+    assert!(rt; is_absent(&mut view, rt.alloc(), "B")?);
     Ok(())
+}
+
+// Whether the schema of `T` is the one that it was created with.
+fn has_its_schema(view: &mut PlainView, alloc: Global) -> Result<bool, Fail> {
+    let expected = two_key_columns(alloc)?;
+    let found = view.schema(alloc, "T")?.ok_or("no table")?;
+    Ok(found.columns() == expected.columns() && are_equal(found.key(), expected.key()))
 }
 
 #[test]
 fn a_schema_is_the_one_that_was_created(rt: HostRuntime) -> Result<(), Fail> {
-    let alloc = rt.alloc();
-    let mut view = table(alloc, &ROWS)?;
-    let expected = two_key_columns(alloc)?;
-    let found = view.schema(alloc, "T")?.ok_or("no table")?;
-    assert!(rt; found.columns() == expected.columns());
-    assert_eq!(rt; found.key(), expected.key());
+    let mut view = table(rt.alloc(), &ROWS)?;
+    assert!(rt; has_its_schema(&mut view, rt.alloc())?);
     Ok(())
 }
 
-const NO_ROWS: [(&'static str, &'static [u8]); 3] = [
-    ("T", b""),
-    ("T", b"no row"),
-    ("T", &[0, 0, 1]),
-];
+const NO_ROWS: [&'static [u8]; 3] = [b"", b"no row", &[0, 0, 1]];
+
+// Puts what is no row of `T`, and a row of a table that is not there.
+fn put_strays(view: &mut PlainView, alloc: Global) -> Result<(), Fail> {
+    for bytes in &NO_ROWS {
+        put(view, alloc, "T", bytes.to_vec(alloc)?)?;
+    }
+    put_row(view, alloc, "U", (1, "x", 1))
+}
 
 #[test]
 fn what_is_no_row_is_not_put(rt: HostRuntime) -> Result<(), Fail> {
-    let alloc = rt.alloc();
-    let mut view = table(alloc, &ROWS)?;
-    for (name, bytes) in &NO_ROWS {
-        put(&mut view, alloc, name, bytes.to_vec(alloc)?)?;
-    }
-    put(&mut view, alloc, "U", row_of(alloc, (1, "x", 1))?)?;
-    assert_eq!(rt; view.tables()?, 1);
-    assert!(rt; has_rows(&mut view, alloc, &[(-2, "a", 3), (-2, "b", 2), (3, "a", 1)])?);
+    let mut view = table(rt.alloc(), &ROWS)?;
+    put_strays(&mut view, rt.alloc())?;
+    assert!(rt; view.tables()? == 1);
+    assert!(rt; has_rows(&mut view, rt.alloc(), &SORTED)?);
     Ok(())
 }
 

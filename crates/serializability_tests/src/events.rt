@@ -1,15 +1,22 @@
 //! Units that run side by side.
 
-use crate::statements::{Answer, Statement, answer_to, claims_of};
-use crate::store::{Changes, Claims, Machine, Store, applied};
+use crate::statements::{Answer, Statement, answer_to, claims_of, with_change};
+use crate::store::{Changes, Claims, KEYS, Machine, NO_CLAIMS, Store, TABLES, applied, is_full};
 
 /// Three conversations, and two branches that the opening found in doubt.
 pub const OWNERS: usize = 5;
+
+/// How many events a list has.
+pub const EVENTS: usize = 16;
 
 #[derive(Clone, Copy)]
 pub struct Unit {
     pub changes: Changes,
     pub claims: Claims,
+    /// How many statements were answered, which, and how.
+    pub count: usize,
+    pub asked: [Option<Statement>; EVENTS],
+    pub told: [Option<Answer>; EVENTS],
     pub is_prepared: bool,
     pub is_found: bool,
 }
@@ -17,8 +24,14 @@ pub struct Unit {
 impl Unit {
     pub fn idle() -> Unit {
         Unit {
-            changes: Changes::none(),
-            claims: Claims::none(),
+            changes: Changes {
+                created: [None; TABLES],
+                rows: [[None; KEYS]; TABLES],
+            },
+            claims: NO_CLAIMS,
+            count: 0,
+            asked: [None; EVENTS],
+            told: [None; EVENTS],
             is_prepared: false,
             is_found: false,
         }
@@ -43,91 +56,97 @@ pub enum Event {
     Lost,
 }
 
-/// What an event did.
-#[derive(Clone, Copy)]
-pub enum Trace {
-    Nothing,
-    Answered(Statement, Answer),
-    Committed(Unit),
-    Left,
+fn with_answer(unit: Unit, statement: Statement, answer: Answer, claims: Claims) -> Unit {
+    let at = unit.count % EVENTS;
+    let mut after = unit;
+    after.changes = with_change(unit.changes, statement, answer.told);
+    after.claims = claims;
+    after.count = at + 1;
+    after.asked[at] = Some(statement);
+    after.told[at] = Some(answer);
+    after
 }
 
-/// The answer to a statement, and the unit behind it; None where its claims clash with others, or would
-/// be too many.
+// What a unit with these claims has behind a statement with those; None where they clash with others,
+// or would be too many.
+fn kept(machine: Machine, others: Claims, old: Claims, new: Claims) -> Option<Claims> {
+    let claims = match machine {
+        Machine::ClaimsEndWithTheStatement => new,
+        _ => old.with(new),
+    };
+    let clash = new.clash(others) & !matches!(machine, Machine::NothingClashes);
+    if clash | claims.are_many() {
+        None
+    } else {
+        Some(claims)
+    }
+}
+
+/// The unit behind the answer to a statement, if its claims can be kept.
 pub fn asked(
     machine: Machine,
-    others: &Claims,
-    store: &Store,
-    unit: &Unit,
-    statement: &Statement,
-) -> Option<(Answer, Unit)> {
-    let view = applied(machine, store, &unit.changes);
-    let claims = claims_of(machine, statement, &view);
-    if machine != Machine::NothingClashes && claims.clashes(others) {
-        return None;
+    others: Claims,
+    store: Store,
+    unit: Unit,
+    statement: Statement,
+) -> Option<Unit> {
+    let view = applied(machine, store, unit.changes);
+    let table = view[statement.table % TABLES];
+    let new = claims_of(machine, statement, table);
+    match kept(machine, others, unit.claims, new) {
+        Some(claims) => {
+            let answer = answer_to(statement, table, is_full(view));
+            Some(with_answer(unit, statement, answer, claims))
+        }
+        None => None,
     }
-    let mut after = *unit;
-    if machine == Machine::ClaimsEndWithTheStatement {
-        after.claims = claims;
-    } else {
-        after.claims.add(&claims);
-    }
-    if after.claims.is_full() {
-        return None;
-    }
-    let answer = answer_to(statement, &view, &mut after.changes);
-    Some((answer, after))
 }
 
 fn others(world: &World, owner: usize) -> Claims {
-    let mut claims = Claims::none();
+    let mut claims = NO_CLAIMS;
     for other in 0..OWNERS {
         if other != owner {
-            claims.add(&world.units[other].claims);
+            claims = claims.with(world.units[other].claims);
         }
     }
     claims
 }
 
-fn prepared(machine: Machine, unit: &Unit) -> Unit {
-    let mut after = *unit;
+fn prepared(machine: Machine, unit: Unit) -> Unit {
+    let mut after = unit;
     after.is_prepared = true;
-    if machine == Machine::PrepareDropsReadingClaims {
-        after.claims = unit.claims.without_reads();
+    if matches!(machine, Machine::PrepareDropsReadingClaims) {
+        after.claims.reads = 0;
     }
     after
 }
 
-/// What an event of this owner does. A prepared unit is asked nothing.
-pub fn happens(machine: Machine, world: &mut World, owner: usize, event: &Event) -> Trace {
-    let others = others(&*world, owner);
-    let store = world.store;
-    let Some(unit) = world.units.get_mut(owner) else {
-        return Trace::Nothing;
-    };
-    let old = *unit;
+// What becomes of a unit. One that is prepared is asked nothing.
+fn unit_after(machine: Machine, store: Store, others: Claims, unit: Unit, event: Event) -> Unit {
     match event {
-        Event::Ask(_) | Event::Lost if old.is_prepared => Trace::Nothing,
-        Event::Excused => Trace::Nothing,
-        Event::Ask(statement) => match asked(machine, &others, &store, &old, statement) {
-            None => Trace::Nothing,
-            Some((answer, after)) => {
-                *unit = after;
-                Trace::Answered(*statement, answer)
+        Event::Ask(statement) if !unit.is_prepared => {
+            match asked(machine, others, store, unit, statement) {
+                Some(after) => after,
+                None => unit,
             }
-        },
-        Event::Prepare => {
-            *unit = prepared(machine, &old);
-            Trace::Nothing
         }
+        Event::Lost if !unit.is_prepared => Unit::idle(),
+        Event::Ask(_) | Event::Lost | Event::Excused => unit,
+        Event::Prepare => prepared(machine, unit),
+        Event::Commit | Event::Leave => Unit::idle(),
+    }
+}
+
+/// An event of this owner, and the unit that it commits, if any.
+pub fn happens(machine: Machine, world: &mut World, owner: usize, event: Event) -> Option<Unit> {
+    let old = world.units[owner % OWNERS];
+    let others = others(&*world, owner);
+    world.units[owner % OWNERS] = unit_after(machine, world.store, others, old, event);
+    match event {
         Event::Commit => {
-            *unit = Unit::idle();
-            world.store = applied(machine, &store, &old.changes);
-            Trace::Committed(old)
+            world.store = applied(machine, world.store, old.changes);
+            Some(old)
         }
-        Event::Leave | Event::Lost => {
-            *unit = Unit::idle();
-            Trace::Left
-        }
+        _ => None,
     }
 }

@@ -1,105 +1,91 @@
 //! Random openings and events.
 
-use crate::events::{Event, OWNERS, Unit, World};
-use crate::statements::{Kind, Statement};
-use crate::store::{Claims, KEYS, NAMES, Store, TABLES, Table, WHOLE, part};
+use crate::events::{Event, Unit, World};
+use crate::statements::{Kind, Statement, Told, right_claims, with_change};
+use crate::store::{KEYS, NO_TABLE, TABLES, Table};
 
 // The next number of a linear congruential generator (Knuth, volume 2, section 3.3.4).
-pub fn next(seed: &mut u32) -> u32 {
+pub fn next(seed: &mut u32) -> usize {
     *seed = seed.wrapping_mul(1_664_525).wrapping_add(1_013_904_223);
-    *seed >> 16
+    (*seed >> 16) as usize
 }
 
-fn table(seed: &mut u32) -> usize {
-    (next(seed) % 3) as usize
-}
-
-fn key(seed: &mut u32) -> usize {
-    (next(seed) % 4) as usize
-}
-
-fn value(seed: &mut u32) -> u8 {
-    (next(seed) % 8) as u8
-}
+static KINDS: [Kind; 9] = [
+    Kind::Create,
+    Kind::Create,
+    Kind::Describe,
+    Kind::Insert,
+    Kind::Update,
+    Kind::Delete,
+    Kind::Select,
+    Kind::Select,
+    Kind::SelectAll,
+];
 
 fn statement(seed: &mut u32) -> Statement {
-    let kind = match next(seed) % 9 {
-        0 | 1 => Kind::Create,
-        2 => Kind::Describe,
-        3 => Kind::Insert,
-        4 => Kind::Update,
-        5 => Kind::Delete,
-        6 | 7 => Kind::Select,
-        _ => Kind::SelectAll,
-    };
     Statement {
-        kind,
-        table: table(seed),
-        key: key(seed),
-        value: value(seed),
+        kind: KINDS[next(seed) % 9],
+        table: next(seed) % TABLES,
+        key: next(seed) % KEYS,
+        value: next(seed) % 8,
     }
 }
 
-/// An event, and whose it is.
-pub fn event(seed: &mut u32) -> (usize, Event) {
-    let owner = (next(seed) % 5) as usize;
-    let event = match next(seed) % 24 {
+/// An event; whose it is the caller draws.
+pub fn event(seed: &mut u32) -> Event {
+    match next(seed) % 24 {
         0 | 1 | 2 | 3 => Event::Commit,
         4 | 5 => Event::Leave,
         6 | 7 => Event::Prepare,
         8 => Event::Lost,
         9 => Event::Excused,
         _ => Event::Ask(statement(seed)),
-    };
-    (owner, event)
+    }
 }
 
-fn random_table(seed: &mut u32) -> Option<Table> {
+// Nothing, or a value.
+fn chance(seed: &mut u32) -> Option<usize> {
     if next(seed) % 2 == 0 {
-        return None;
+        None
+    } else {
+        Some(next(seed) % 8)
     }
-    let mut rows = [None; KEYS];
-    for key in 0..KEYS {
-        if next(seed) % 2 == 0 {
-            rows[key] = Some(value(seed));
+}
+
+fn random_table(seed: &mut u32) -> Table {
+    let mut table = NO_TABLE;
+    table.schema = chance(seed);
+    if table.schema.is_some() {
+        for key in 0..KEYS {
+            table.rows[key] = chance(seed);
         }
     }
-    Some(Table {
-        schema: value(seed),
-        rows,
-    })
+    table
 }
 
-/// A unit in doubt: a creation or a row, in its own write claims, and a reading claim. Two such units
-/// may clash with one another.
+/// A unit in doubt: a creation or a row, in its own write claims. Two such units may clash with one
+/// another.
 fn found(seed: &mut u32) -> Unit {
+    let mut statement = statement(seed);
+    let mut told = Told::Changed;
+    statement.kind = Kind::Insert;
+    if next(seed) % 2 == 0 {
+        statement.kind = Kind::Create;
+        told = Told::Created;
+    }
     let mut unit = Unit::idle();
+    unit.claims = right_claims(statement, true);
+    unit.changes = with_change(unit.changes, statement, told);
     unit.is_prepared = true;
     unit.is_found = true;
-    let table = table(seed);
-    if next(seed) % 2 == 0 {
-        unit.claims.write(table, WHOLE);
-        unit.claims.write(NAMES, WHOLE);
-        unit.changes.create(table, value(seed));
-    } else {
-        let key = key(seed);
-        unit.claims.write(table, part(key));
-        unit.changes.set_row(table, key, Some(value(seed)));
-    }
     unit
 }
 
 /// Tables, and two units in doubt behind three that have done nothing.
 pub fn opening(seed: &mut u32) -> World {
-    let mut tables = [None; TABLES];
-    for at in 0..TABLES {
-        tables[at] = random_table(seed);
-    }
-    let mut units = [Unit::idle(); OWNERS];
-    units[3] = found(seed);
-    units[4] = found(seed);
+    let idle = Unit::idle();
     World {
-        store: Store { tables },
-        units,
+        store: [random_table(seed), random_table(seed), random_table(seed)],
+        units: [idle, idle, idle, found(seed), found(seed)],
     }
 }

@@ -1,6 +1,6 @@
 //! Statements over a view: what they claim, what they are answered and what they change.
 
-use crate::store::{Changes, Claims, KEYS, Machine, NAMES, Store, Table, WHOLE, part};
+use crate::store::{Changes, Claims, KEYS, Machine, NAMES, NO_TABLE, TABLES, Table, WHOLE, part};
 
 #[derive(Clone, Copy)]
 pub enum Kind {
@@ -18,112 +18,125 @@ pub struct Statement {
     pub kind: Kind,
     pub table: usize,
     pub key: usize,
-    pub value: u8,
+    pub value: usize,
 }
 
-#[derive(Clone, Copy, PartialEq, Eq)]
-pub enum Answer {
+#[derive(Clone, Copy, PartialEq)]
+pub enum Told {
     NoTable,
     IsThere,
     IsFull,
-    Schema(u8),
-    Row(Option<u8>),
-    Rows([Option<u8>; KEYS]),
-    Changed(u8),
+    Shown,
+    Created,
+    Changed,
+    Unchanged,
 }
 
-fn found_parts(table: &Table) -> u8 {
-    let mut parts: u8 = 0;
+/// What is told, and what is shown of the table.
+#[derive(Clone, Copy, PartialEq)]
+pub struct Answer {
+    pub told: Told,
+    pub shown: Table,
+}
+
+/// What the machine as it has to be claims.
+pub fn right_claims(statement: Statement, is_there: bool) -> Claims {
+    let whole = WHOLE[statement.table % TABLES];
+    let key = part(statement.table, statement.key);
+    let (reads, writes) = match statement.kind {
+        Kind::Create => (0, whole | NAMES),
+        _ if !is_there => (whole, 0),
+        Kind::Describe => (0, 0),
+        Kind::Select => (key, 0),
+        Kind::SelectAll => (whole, 0),
+        Kind::Insert | Kind::Update | Kind::Delete => (0, key),
+    };
+    Claims { reads, writes }
+}
+
+// The keys that the table has rows of.
+fn found_parts(statement: Statement, table: Table) -> u32 {
+    let mut parts: u32 = 0;
     for key in 0..KEYS {
         if table.rows[key].is_some() {
-            parts |= part(key);
+            parts |= part(statement.table, key);
         }
     }
     parts
 }
 
-fn found_claims(machine: Machine, statement: &Statement, table: &Table) -> Claims {
-    let mut claims = Claims::none();
-    let key = part(statement.key);
-    match statement.kind {
-        Kind::Create | Kind::Describe => (),
-        Kind::Select if machine == Machine::SelectClaimsNothing => (),
-        Kind::Select => claims.read(statement.table, key),
-        Kind::SelectAll if machine == Machine::SelectOfAllClaimsFoundRows => {
-            claims.read(statement.table, found_parts(table))
+/// What a statement claims, by the table that it names.
+pub fn claims_of(machine: Machine, statement: Statement, table: Table) -> Claims {
+    let is_there = table.schema.is_some();
+    let mut claims = right_claims(statement, is_there);
+    match (machine, statement.kind) {
+        (Machine::CreateClaimsNoNames, Kind::Create) => claims.writes &= !NAMES,
+        (Machine::AbsentTableClaimsNothing, _) if !is_there => claims.reads = 0,
+        (Machine::InsertClaimsNothing, Kind::Insert) if is_there => claims.writes = 0,
+        (Machine::SelectClaimsNothing, Kind::Select) if is_there => claims.reads = 0,
+        (Machine::SelectOfAllClaimsFoundRows, Kind::SelectAll) if is_there => {
+            claims.reads = found_parts(statement, table)
         }
-        Kind::SelectAll => claims.read(statement.table, WHOLE),
-        Kind::Insert if machine == Machine::InsertClaimsNothing => (),
-        Kind::Insert | Kind::Update | Kind::Delete => claims.write(statement.table, key),
+        _ => {}
     }
     claims
 }
 
-fn create_claims(machine: Machine, statement: &Statement) -> Claims {
-    let mut claims = Claims::none();
-    claims.write(statement.table, WHOLE);
-    if machine != Machine::CreateClaimsNoNames {
-        claims.write(NAMES, WHOLE);
-    }
-    claims
-}
+// What each kind is told where no table has the name, and another can be created or none; where the
+// table has no row of the key, and where it has one.
+static TOLD: [[Told; 4]; 7] = [
+    [Told::Created, Told::IsFull, Told::IsThere, Told::IsThere],
+    [Told::NoTable, Told::NoTable, Told::Shown, Told::Shown],
+    [Told::NoTable, Told::NoTable, Told::Changed, Told::IsThere],
+    [Told::NoTable, Told::NoTable, Told::Unchanged, Told::Changed],
+    [Told::NoTable, Told::NoTable, Told::Unchanged, Told::Changed],
+    [Told::NoTable, Told::NoTable, Told::Shown, Told::Shown],
+    [Told::NoTable, Told::NoTable, Told::Shown, Told::Shown],
+];
 
-fn absent_claims(machine: Machine, statement: &Statement) -> Claims {
-    let mut claims = Claims::none();
-    if machine != Machine::AbsentTableClaimsNothing {
-        claims.read(statement.table, WHOLE);
-    }
-    claims
-}
-
-pub fn claims_of(machine: Machine, statement: &Statement, view: &Store) -> Claims {
-    match (statement.kind, view.table(statement.table)) {
-        (Kind::Create, _) => create_claims(machine, statement),
-        (_, None) => absent_claims(machine, statement),
-        (_, Some(table)) => found_claims(machine, statement, &table),
-    }
-}
-
-fn set_answer(
-    statement: &Statement,
-    wants_row: bool,
-    row: Option<u8>,
-    old: Option<u8>,
-    changes: &mut Changes,
-) -> Answer {
-    if old.is_some() == wants_row {
-        changes.set_row(statement.table, statement.key, row);
-        Answer::Changed(1)
-    } else if wants_row {
-        Answer::Changed(0)
+fn told_of(statement: Statement, table: Table, is_full: bool) -> Told {
+    let at = if table.schema.is_none() {
+        usize::from(is_full)
+    } else if table.rows[statement.key % KEYS].is_none() {
+        2
     } else {
-        Answer::IsThere
-    }
+        3
+    };
+    TOLD[statement.kind as usize][at]
 }
 
-fn found_answer(statement: &Statement, table: &Table, changes: &mut Changes) -> Answer {
-    let old = table.row(statement.key);
-    let new = Some(statement.value);
+fn shown(statement: Statement, table: Table) -> Table {
+    let key = statement.key % KEYS;
+    let mut shown = NO_TABLE;
     match statement.kind {
-        Kind::Create => Answer::IsThere,
-        Kind::Describe => Answer::Schema(table.schema),
-        Kind::Insert => set_answer(statement, false, new, old, changes),
-        Kind::Update => set_answer(statement, true, new, old, changes),
-        Kind::Delete => set_answer(statement, true, None, old, changes),
-        Kind::Select => Answer::Row(old),
-        Kind::SelectAll => Answer::Rows(table.rows),
+        Kind::Describe => shown.schema = table.schema,
+        Kind::Select => shown.rows[key] = table.rows[key],
+        Kind::SelectAll => shown.rows = table.rows,
+        _ => {}
+    }
+    shown
+}
+
+/// The answer to a statement, by the table that it names and whether no other can be created.
+pub fn answer_to(statement: Statement, table: Table, is_full: bool) -> Answer {
+    Answer {
+        told: told_of(statement, table, is_full),
+        shown: shown(statement, table),
     }
 }
 
-/// The answer to a statement over a view; what it changes is added to the changes.
-pub fn answer_to(statement: &Statement, view: &Store, changes: &mut Changes) -> Answer {
-    match (statement.kind, view.table(statement.table)) {
-        (_, Some(table)) => found_answer(statement, &table, changes),
-        (Kind::Create, None) if view.is_full() => Answer::IsFull,
-        (Kind::Create, None) => {
-            changes.create(statement.table, statement.value);
-            Answer::Changed(0)
-        }
-        (_, None) => Answer::NoTable,
+/// The changes with what a statement changes that was told this.
+pub fn with_change(changes: Changes, statement: Statement, told: Told) -> Changes {
+    let table = statement.table % TABLES;
+    let row = match statement.kind {
+        Kind::Delete => None,
+        _ => Some(statement.value),
+    };
+    let mut after = changes;
+    match told {
+        Told::Created => after.created[table] = row,
+        Told::Changed => after.rows[table][statement.key % KEYS] = Some(row),
+        _ => {}
     }
+    after
 }

@@ -1,4 +1,5 @@
-//! Three tables of four keys, what a unit changes of them, and what it claims.
+//! Three tables of four keys, what a unit changes of them, and what it claims. Numbers of tables and of
+//! keys are taken modulo how many there are, so that each names one.
 
 /// How many tables may have a name here.
 pub const TABLES: usize = 3;
@@ -7,7 +8,7 @@ pub const TABLES: usize = 3;
 pub const KEYS: usize = 4;
 
 /// A machine as it has to be, or one with a mistake.
-#[derive(Clone, Copy, PartialEq, Eq, Debug)]
+#[derive(Clone, Copy)]
 pub enum Machine {
     Right,
     InsertClaimsNothing,
@@ -21,201 +22,128 @@ pub enum Machine {
     PrepareDropsReadingClaims,
 }
 
-#[derive(Clone, Copy, PartialEq, Eq)]
+/// What has a table's name: without a schema there is no table, and there are no rows.
+#[derive(Clone, Copy, PartialEq)]
 pub struct Table {
-    pub schema: u8,
-    pub rows: [Option<u8>; KEYS],
+    pub schema: Option<usize>,
+    pub rows: [Option<usize>; KEYS],
 }
 
-impl Table {
-    pub fn row(&self, key: usize) -> Option<u8> {
-        match self.rows.get(key) {
-            Some(row) => *row,
-            None => None,
-        }
-    }
-}
+pub const NO_TABLE: Table = Table {
+    schema: None,
+    rows: [None; KEYS],
+};
 
-#[derive(Clone, Copy, PartialEq, Eq)]
-pub struct Store {
-    pub tables: [Option<Table>; TABLES],
-}
+pub type Store = [Table; TABLES];
 
-impl Store {
-    pub fn table(&self, table: usize) -> Option<Table> {
-        match self.tables.get(table) {
-            Some(found) => *found,
-            None => None,
-        }
-    }
-
-    pub fn is_full(&self) -> bool {
-        let mut count: u8 = 0;
-        for table in &self.tables {
-            if table.is_some() && count < 2 {
-                count += 1;
-            }
-        }
-        count == 2
-    }
-}
-
-/// What a unit makes of each table and of each key: the schemas that it creates, and for each key the
-/// last row that it put, or that it took it out.
-#[derive(Clone, Copy, PartialEq, Eq)]
-pub struct Changes {
-    pub created: [Option<u8>; TABLES],
-    pub rows: [[Option<Option<u8>>; KEYS]; TABLES],
-}
-
-impl Changes {
-    pub fn none() -> Changes {
-        Changes {
-            created: [None; TABLES],
-            rows: [[None; KEYS]; TABLES],
-        }
-    }
-
-    pub fn create(&mut self, table: usize, schema: u8) {
-        if let Some(created) = self.created.get_mut(table) {
-            *created = Some(schema);
-        }
-    }
-
-    pub fn set_row(&mut self, table: usize, key: usize, row: Option<u8>) {
-        if let Some(rows) = self.rows.get_mut(table) {
-            if let Some(slot) = rows.get_mut(key) {
-                *slot = Some(row);
-            }
-        }
-    }
-}
-
-fn new_table(schema: u8) -> Table {
-    Table {
-        schema,
-        rows: [None; KEYS],
-    }
-}
-
-// The table behind what a unit creates, if any.
-fn with_creation(machine: Machine, table: Option<Table>, created: Option<u8>) -> Option<Table> {
-    let Some(schema) = created else {
-        return table;
-    };
-    match table {
-        Some(old) if machine != Machine::CreateReplaces => Some(old),
-        _ => Some(new_table(schema)),
-    }
-}
-
-fn with_changes(
-    machine: Machine,
-    table: Option<Table>,
-    created: Option<u8>,
-    rows: &[Option<Option<u8>>; KEYS],
-) -> Option<Table> {
-    let mut table = with_creation(machine, table, created)?;
-    for key in 0..KEYS {
-        if let Some(row) = rows[key] {
-            table.rows[key] = row;
-        }
-    }
-    Some(table)
-}
-
-/// The store with these changes. A table that is there is not created again, and into no table nothing
-/// is put.
-pub fn applied(machine: Machine, store: &Store, changes: &Changes) -> Store {
-    let mut after = *store;
+/// Whether there is no room for a third table.
+pub fn is_full(store: Store) -> bool {
+    let mut count: u8 = 0;
     for table in 0..TABLES {
-        after.tables[table] = with_changes(
-            machine,
-            store.tables[table],
-            changes.created[table],
-            &changes.rows[table],
-        );
+        if store[table].schema.is_some() {
+            count = count.saturating_add(1);
+        }
     }
-    after
+    count >= 2
 }
 
-/// All of a table: its four keys, and what it has besides.
-pub const WHOLE: u8 = 31;
+/// What is made of the row of each key: the last row that was put, or that it was taken out.
+pub type Edits = [Option<Option<usize>>; KEYS];
+
+/// What a unit makes of each table: the schema that it creates, and its edits.
+#[derive(Clone, Copy, PartialEq)]
+pub struct Changes {
+    pub created: [Option<usize>; TABLES],
+    pub rows: [Edits; TABLES],
+}
+
+// A table that is there is not created again.
+fn with_creation(machine: Machine, table: Table, created: Option<usize>) -> Table {
+    let is_kept = table.schema.is_some() & !matches!(machine, Machine::CreateReplaces);
+    if created.is_none() | is_kept {
+        table
+    } else {
+        Table {
+            schema: created,
+            rows: [None; KEYS],
+        }
+    }
+}
+
+// Into no table nothing is put.
+fn with_edits(table: Table, edits: Edits) -> Table {
+    let Table { schema, rows } = table;
+    if schema.is_none() {
+        table
+    } else {
+        let rows = [
+            edits[0].unwrap_or(rows[0]),
+            edits[1].unwrap_or(rows[1]),
+            edits[2].unwrap_or(rows[2]),
+            edits[3].unwrap_or(rows[3]),
+        ];
+        Table { schema, rows }
+    }
+}
+
+/// The store with these changes.
+pub fn applied(machine: Machine, store: Store, changes: Changes) -> Store {
+    let Changes { created, rows } = changes;
+    [
+        with_edits(with_creation(machine, store[0], created[0]), rows[0]),
+        with_edits(with_creation(machine, store[1], created[1]), rows[1]),
+        with_edits(with_creation(machine, store[2], created[2]), rows[2]),
+    ]
+}
+
+/// The parts of each table: its four keys, and what it has besides.
+pub static WHOLE: [u32; TABLES] = [0b11111, 0b11111_00000, 0b11111_00000_00000];
+
+/// The list of names.
+pub const NAMES: u32 = 0b11111_00000_00000_00000;
+
+/// The part of each table that is one key.
+static KEY: [u32; KEYS] = [
+    0b00001_00001_00001,
+    0b00010_00010_00010,
+    0b00100_00100_00100,
+    0b01000_01000_01000,
+];
 
 /// The most parts that a unit may claim.
 const MOST_PARTS: u32 = 14;
 
-/// The place of the list of names among what is claimed.
-pub const NAMES: usize = TABLES;
-
 /// The part of a table that is one key.
-pub fn part(key: usize) -> u8 {
-    match key {
-        0 => 1,
-        1 => 2,
-        2 => 4,
-        _ => 8,
-    }
+pub fn part(table: usize, key: usize) -> u32 {
+    WHOLE[table % TABLES] & KEY[key % KEYS]
 }
 
-/// For each table and for the list of names, the parts of it that are read and written.
-#[derive(Clone, Copy, PartialEq, Eq)]
+/// The parts that are read and written, a bit each.
+#[derive(Clone, Copy, PartialEq)]
 pub struct Claims {
-    pub reads: [u8; TABLES + 1],
-    pub writes: [u8; TABLES + 1],
+    pub reads: u32,
+    pub writes: u32,
 }
+
+pub const NO_CLAIMS: Claims = Claims {
+    reads: 0,
+    writes: 0,
+};
 
 impl Claims {
-    pub fn none() -> Claims {
+    pub fn with(self, more: Claims) -> Claims {
         Claims {
-            reads: [0; TABLES + 1],
-            writes: [0; TABLES + 1],
-        }
-    }
-
-    pub fn without_reads(&self) -> Claims {
-        Claims {
-            reads: [0; TABLES + 1],
-            writes: self.writes,
-        }
-    }
-
-    pub fn read(&mut self, table: usize, parts: u8) {
-        if let Some(slot) = self.reads.get_mut(table) {
-            *slot |= parts;
-        }
-    }
-
-    pub fn write(&mut self, table: usize, parts: u8) {
-        if let Some(slot) = self.writes.get_mut(table) {
-            *slot |= parts;
-        }
-    }
-
-    pub fn add(&mut self, more: &Claims) {
-        for table in 0..TABLES + 1 {
-            self.reads[table] |= more.reads[table];
-            self.writes[table] |= more.writes[table];
+            reads: self.reads | more.reads,
+            writes: self.writes | more.writes,
         }
     }
 
     /// Whether these are more than a unit may have.
-    pub fn is_full(&self) -> bool {
-        let mut parts: u32 = 0;
-        for table in 0..TABLES + 1 {
-            let claimed = self.reads[table] | self.writes[table];
-            parts = parts.saturating_add(claimed.count_ones());
-        }
-        parts > MOST_PARTS
+    pub fn are_many(self) -> bool {
+        (self.reads | self.writes).count_ones() > MOST_PARTS
     }
 
-    pub fn clashes(&self, other: &Claims) -> bool {
-        for table in 0..TABLES + 1 {
-            let theirs = other.reads[table] | other.writes[table];
-            if self.writes[table] & theirs != 0 || self.reads[table] & other.writes[table] != 0 {
-                return true;
-            }
-        }
-        false
+    pub fn clash(self, other: Claims) -> bool {
+        self.writes & (other.reads | other.writes) | self.reads & other.writes != 0
     }
 }

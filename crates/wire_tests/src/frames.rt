@@ -151,20 +151,29 @@ const STREAMS: [(&[u8], &[u8]); 24] = [
     ),
 ];
 
+/// Whether this is heard of a text in two pieces, wherever it is cut, and in pieces of one byte to three.
+fn is_heard(alloc: Global, text: &[u8], want: &[u8]) -> Result<bool, AllocError> {
+    for first in 0..=text.len() {
+        if heard(alloc, text, first, text.len())?.as_slice() != want {
+            return Ok(false);
+        }
+    }
+    for others in 1..=3 {
+        if heard(alloc, text, 0, others)?.as_slice() != want {
+            return Ok(false);
+        }
+    }
+    Ok(true)
+}
+
 #[test]
 fn short_streams_in_any_pieces(rt: HostRuntime) -> Result<(), Fail> {
-    for (text, want) in STREAMS {
-        assert_eq!(rt; heard_by_command(rt.alloc(), text)?.as_slice(), want);
-        assert_eq!(rt; heard(rt.alloc(), text, text.len(), 1)?.as_slice(), want);
-        for first in 0..text.len() {
-            assert_eq!(rt;
-                heard(rt.alloc(), text, first, text.len())?.as_slice(),
-                want
-            );
-        }
-        for others in 1..=3 {
-            assert_eq!(rt; heard(rt.alloc(), text, 0, others)?.as_slice(), want);
-        }
+    for (text, want) in &STREAMS {
+        assert!(rt;
+            heard_by_command(rt.alloc(), text)?.as_slice() == *want,
+            "{text:?}"
+        );
+        assert!(rt; is_heard(rt.alloc(), text, want)?, "{text:?}");
     }
     Ok(())
 }
@@ -212,36 +221,48 @@ const PIECES: [(usize, usize); 5] = [
     (3, 32_767),
 ];
 
+/// Whether this is heard of a text in each of `PIECES`, and where it is fed command by command.
+fn is_joined(alloc: Global, text: &[u8], want: &[u8]) -> Result<bool, AllocError> {
+    for (first, others) in &PIECES {
+        if heard(alloc, text, *first, *others)?.as_slice() != want {
+            return Ok(false);
+        }
+    }
+    Ok(heard_by_command(alloc, text)?.as_slice() == want)
+}
+
+fn is_long_joined(alloc: Global, segments: u8, last: u16) -> Result<bool, AllocError> {
+    let text = long_dss(alloc, segments, last)?;
+    let want = long_heard(alloc, segments, last)?;
+    is_joined(alloc, &text, &want)
+}
+
 #[test]
 fn long_commands_are_joined(rt: HostRuntime) -> Result<(), Fail> {
     // One segment and a byte; then all that a DSS may have.
-    for (segments, last) in [(1, 3), (1, 32_767), (32, 32)] {
-        let text = long_dss(rt.alloc(), segments, last)?;
-        let want = long_heard(rt.alloc(), segments, last)?;
-        for (first, others) in PIECES {
-            assert!(rt;
-                heard(rt.alloc(), &text, first, others)? == want,
-                "{segments} {first}"
-            );
-        }
+    for (segments, last) in &[(1, 3), (1, 32_767), (32, 32)] {
         assert!(rt;
-            heard_by_command(rt.alloc(), &text)? == want,
-            "{segments} as wanted"
+            is_long_joined(rt.alloc(), *segments, *last)?,
+            "{segments} {last}"
         );
     }
     Ok(())
+}
+
+/// Whether a fault is heard of a DSS of 32 segments and a last one, and of these bytes behind it.
+fn is_past_limit(alloc: Global, last: u16, behind: &[u8]) -> Result<bool, AllocError> {
+    let mut text = long_dss(alloc, 32, last)?;
+    text.extend_from_slice(behind)?;
+    let found = heard(alloc, &text, 0, 4_000)?;
+    Ok(found.as_slice() == b"F\x09\x00\x09".as_slice())
 }
 
 #[test]
 fn a_dss_has_a_limit(rt: HostRuntime) -> Result<(), Fail> {
     // A byte more than a DSS may have. With 1,048,575 bytes declared a continuation of two bytes is
     // too long before it is too short.
-    for (last, behind) in [(33, b"" as &[u8]), (32_768 + 31, b"\x00\x02")] {
-        let mut text = long_dss(rt.alloc(), 32, last)?;
-        text.extend_from_slice(behind)?;
-        let found = heard(rt.alloc(), &text, 0, 4_000)?;
-        assert_eq!(rt; found.as_slice(), b"F\x09\x00\x09".as_slice());
-    }
+    assert!(rt; is_past_limit(rt.alloc(), 33, b"")?);
+    assert!(rt; is_past_limit(rt.alloc(), 32_768 + 31, b"\x00\x02")?);
     Ok(())
 }
 
@@ -287,48 +308,87 @@ fn written_in_place(alloc: Global, front: &[u8], contents: &[u8]) -> Result<Vec<
     Ok(out)
 }
 
+/// Whether a text has these length words at their places.
+fn has_lengths(text: &[u8], places: &[(usize, u16)]) -> bool {
+    for (at, length) in places {
+        if text.get(*at..at.saturating_add(2)) != Some(length.to_be_bytes().as_slice()) {
+            return false;
+        }
+    }
+    true
+}
+
+/// Whether a text is heard as a command of these contents.
+fn is_command_of(alloc: Global, text: &[u8], contents: &[u8]) -> Result<bool, AllocError> {
+    let found = heard(alloc, text, 0, 1_000)?;
+    let front = found.get(..5) == Some(b"CD\x01\x12\x34".as_slice());
+    Ok(front && found.get(5..) == Some(contents))
+}
+
+/// Whether a text is written of these contents behind another byte, which stays, in room that is set
+/// aside and in place.
+fn is_written_behind(alloc: Global, text: &[u8], contents: &[u8]) -> Result<bool, AllocError> {
+    let behind = written(alloc, b"\x07", 100_000, contents)?;
+    let in_place = written_in_place(alloc, b"\x07", contents)?;
+    Ok(behind.split_first() == Some((&7, text)) && in_place == behind)
+}
+
+/// Whether a DSS of so many bytes has these length words, and is read, wherever it is written.
+fn is_written(alloc: Global, count: usize, places: &[(usize, u16)]) -> Result<bool, AllocError> {
+    let contents = some_bytes(alloc, count)?;
+    let text = written(alloc, b"", 0, &contents)?;
+    if text.len() != written_length(count.min(100_000)) || !has_lengths(&text, places) {
+        return Ok(false);
+    }
+    Ok(is_command_of(alloc, &text, &contents)? && is_written_behind(alloc, &text, &contents)?)
+}
+
 #[test]
 fn what_is_written_is_read(rt: HostRuntime) -> Result<(), Fail> {
-    for (count, places) in LENGTHS {
-        let contents = some_bytes(rt.alloc(), count)?;
-        let text = written(rt.alloc(), b"", 0, &contents)?;
-        assert_eq!(rt; text.len(), written_length(count.min(100_000)));
-        for (at, length) in places {
-            assert_eq!(rt;
-                text.get(*at..at.saturating_add(2)),
-                Some(length.to_be_bytes().as_slice())
-            );
-        }
-        let found = heard(rt.alloc(), &text, 0, 1_000)?;
-        assert_eq!(rt; found.get(..5), Some(b"CD\x01\x12\x34".as_slice()));
-        assert_eq!(rt; found.get(5..), Some(contents.as_slice()));
-        // In room that is set aside, what stood there stays.
-        let behind = written(rt.alloc(), b"\x07", 100_000, &contents)?;
-        assert_eq!(rt; behind.get(1..), Some(text.as_slice()));
-        assert_eq!(rt; written_in_place(rt.alloc(), b"\x07", &contents)?, behind);
+    for (count, places) in &LENGTHS {
+        assert!(rt; is_written(rt.alloc(), *count, places)?, "{count}");
     }
     Ok(())
 }
 
+/// The byte of a format, whether it is chained, goes on after an error and has the same correlator,
+/// and the type of its DSS.
+const FORMATS: [(u8, bool, bool, bool, Option<DssType>); 3] = [
+    (0x72, true, true, true, Some(DssType::Reply)),
+    (0x05, false, false, false, None),
+    (0xBF, false, true, true, None),
+];
+
+fn told(format: Format) -> (bool, bool, bool, Option<DssType>) {
+    (
+        format.is_chained(),
+        format.continues_on_error(),
+        format.has_same_correlator(),
+        format.dss_type(),
+    )
+}
+
 #[test]
 fn names_of_formats_and_faults(rt: HostRuntime) {
-    let format = Format { byte: 0x72 };
-    assert!(rt; format.is_chained() && format.continues_on_error() && format.has_same_correlator());
-    assert_eq!(rt; format.dss_type(), Some(DssType::Reply));
-    assert_eq!(rt; Format { byte: 0x05 }.dss_type(), None);
-    assert!(rt; !Format { byte: 0xBF }.is_chained());
-    assert_eq!(rt; SyntaxCode::ContinuationTooShort.synerrcd(), 0x16);
+    for (byte, chained, goes_on, same, kind) in &FORMATS {
+        let format = told(Format { byte: *byte });
+        assert!(rt; format == (*chained, *goes_on, *same, *kind), "{byte}");
+    }
+    assert!(rt; SyntaxCode::ContinuationTooShort.synerrcd() == 0x16);
+}
+
+/// How many bytes are taken of these, and whether what stands in front then is no fault.
+fn fed(segments: &mut Segments, piece: &[u8]) -> (usize, bool) {
+    let count = segments.feed(piece);
+    (count, segments.next().is_ok())
 }
 
 #[test]
 fn nothing_is_taken_behind_a_fault(rt: HostRuntime) {
     let mut segments = Segments::new(rt.alloc());
-    assert_eq!(rt; segments.feed(b"\x00\x05\xD0\x01\x00\x01"), 6);
-    assert!(rt; segments.next().is_err());
-    assert_eq!(rt; segments.feed(b"\x00\x0A"), 0);
-    assert!(rt; segments.next().is_err());
-    assert_eq!(rt; segments.feed_command(b"\x00\x0A"), 0);
+    assert!(rt; fed(&mut segments, b"\x00\x05\xD0\x01\x00\x01") == (6, false));
+    assert!(rt; fed(&mut segments, b"\x00\x0A") == (0, false));
+    assert!(rt; segments.feed_command(b"\x00\x0A") == 0);
     segments.restart(rt.alloc());
-    assert_eq!(rt; segments.feed(b"\x00\x06\xD0\x01\x00\x01"), 6);
-    assert!(rt; segments.next().is_ok());
+    assert!(rt; fed(&mut segments, b"\x00\x06\xD0\x01\x00\x01") == (6, true));
 }

@@ -59,8 +59,8 @@ fn outline(alloc: Global, text: &[u8]) -> Result<Vec<(u16, usize, usize)>, Alloc
 
 #[test]
 fn parts_lie_at_their_places(rt: HostRuntime) -> Result<(), Fail> {
-    for (text, want) in OUTLINES {
-        assert_eq!(rt; outline(rt.alloc(), text)?.as_slice(), want, "{text:?}");
+    for (text, want) in &OUTLINES {
+        assert!(rt; outline(rt.alloc(), text)?.as_slice() == *want, "{text:?}");
     }
     Ok(())
 }
@@ -75,19 +75,25 @@ fn begins_with(text: &[u8], code: u16, at: usize, value: &[u8], behind: &[u8]) -
     }
 }
 
+/// Lengths of 4, 6 and 8 bytes, and where the data begin.
+const EXTENDED: [(&[u8], usize); 3] = [
+    (b"\x80\x08\x24\x1B\x00\x00\x00\x02\xC1\xC2\x00", 8),
+    (b"\x80\x0A\x24\x1B\x00\x00\x00\x00\x00\x02\xC1\xC2\x00", 10),
+    (
+        b"\x80\x0C\x24\x1B\x00\x00\x00\x00\x00\x00\x00\x02\xC1\xC2\x00",
+        12,
+    ),
+];
+
 #[test]
 fn extended_lengths_are_read(rt: HostRuntime) {
-    // A null SQLCARD, whose length is plain; then lengths of 4, 6 and 8 bytes.
+    // A null SQLCARD, whose length is plain.
     assert!(rt; begins_with(b"\x00\x05\x24\x08\xFF", SQLCARD, 4, b"\xFF", b""));
-    for (text, at) in [
-        (b"\x80\x08\x24\x1B\x00\x00\x00\x02\xC1\xC2\x00" as &[u8], 8),
-        (b"\x80\x0A\x24\x1B\x00\x00\x00\x00\x00\x02\xC1\xC2\x00", 10),
-        (
-            b"\x80\x0C\x24\x1B\x00\x00\x00\x00\x00\x00\x00\x02\xC1\xC2\x00",
-            12,
-        ),
-    ] {
-        assert!(rt; begins_with(text, QRYDTA, at, b"\xC1\xC2", b"\x00"), "{at}");
+    for (text, at) in &EXTENDED {
+        assert!(rt;
+            begins_with(text, QRYDTA, *at, b"\xC1\xC2", b"\x00"),
+            "{at}"
+        );
     }
 }
 
@@ -112,32 +118,42 @@ const FAULTS: [(&[u8], u8); 14] = [
     ),
 ];
 
-#[test]
-fn faults_come_in_their_order(rt: HostRuntime) {
-    for (text, code) in FAULTS {
-        let fault = Object::parse(text)
-            .err()
-            .map(|fault| fault.syntax_error_code());
-        assert_eq!(rt; fault, Some(code), "{text:?}");
+/// The SYNERRCD of what a text begins with, where that is no object.
+fn fault_of(text: &[u8]) -> Option<u8> {
+    match Object::parse(text) {
+        Ok(_) => None,
+        Err(fault) => Some(fault.syntax_error_code()),
     }
 }
 
 #[test]
+fn faults_come_in_their_order(rt: HostRuntime) {
+    for (text, code) in &FAULTS {
+        assert!(rt; fault_of(text) == Some(*code), "{text:?}");
+    }
+}
+
+/// What a search comes to: where the one object lies and how many bytes it has, or None; or why there
+/// is not one.
+fn searched(text: &[u8], code: u16) -> Result<Option<(usize, usize)>, FindFault> {
+    match find_in(text, code) {
+        Ok(Some(object)) => Ok(Some((object.at, object.value.len()))),
+        Ok(None) => Ok(None),
+        Err(fault) => Err(fault),
+    }
+}
+
+const TWICE: &[u8] = b"\x00\x04\x14\x04\x00\x05\x11\x5E\xC1\x00\x04\x14\x04";
+
+/// A fault behind the twins, which comes first.
+const CUT: &[u8] = b"\x00\x04\x14\x04\x00\x04\x14\x04\x00\x06\x11\x5E\xC1";
+
+#[test]
 fn a_search_tells_faults_from_twins(rt: HostRuntime) {
-    let twice: &[u8] = b"\x00\x04\x14\x04\x00\x05\x11\x5E\xC1\x00\x04\x14\x04";
-    assert_eq!(rt; find_in(twice, MGRLVLLS).err(), Some(FindFault::Twice));
-    let name = find_in(twice, EXTNAM).ok().flatten();
-    assert_eq!(rt;
-        name.map(|object| (object.at, object.value.len())),
-        Some((8, 1))
-    );
-    assert!(rt; matches!(find_in(twice, SRVNAM), Ok(None)));
-    // A fault behind the twins comes first.
-    let cut: &[u8] = b"\x00\x04\x14\x04\x00\x04\x14\x04\x00\x06\x11\x5E\xC1";
-    assert_eq!(rt;
-        find_in(cut, MGRLVLLS).err(),
-        Some(FindFault::Fault(ObjFault::PastContainer))
-    );
+    assert!(rt; searched(TWICE, MGRLVLLS) == Err(FindFault::Twice));
+    assert!(rt; searched(TWICE, EXTNAM) == Ok(Some((8, 1))));
+    assert!(rt; searched(TWICE, SRVNAM) == Ok(None));
+    assert!(rt; searched(CUT, MGRLVLLS) == Err(FindFault::Fault(ObjFault::PastContainer)));
 }
 
 /// ACCRDBRM, whose last part is a container in turn.
@@ -203,29 +219,39 @@ const LONG: [(usize, &[u8], usize); 3] = [
     ),
 ];
 
+/// Whether a text has this head and this length, and contains so many bytes.
+fn is_long(text: &[u8], size: usize, head: &[u8], total: usize) -> bool {
+    text.starts_with(head) && text.len() == total && size_within(text) == Some(size)
+}
+
 #[test]
 fn long_data_take_an_extended_length(rt: HostRuntime) -> Result<(), Fail> {
-    for (size, head, total) in LONG {
-        let text = contained(&rt, rt.alloc(), size)?;
-        assert_eq!(rt; text.get(..12), Some(head), "{size}");
-        assert_eq!(rt; text.len(), total, "{size}");
-        assert_eq!(rt; size_within(&text), Some(size));
+    for (size, head, total) in &LONG {
+        let text = contained(&rt, rt.alloc(), *size)?;
+        assert!(rt; is_long(&text, *size, head, *total), "{size}");
     }
     Ok(())
 }
 
+/// Code points, and how they are shown.
+const SHOWN: [(u16, &str); 6] = [
+    (EXCSAT, "EXCSAT 1041"),
+    (CODPNT, "CODPNT 000C"),
+    (UNICODEMGR, "UNICODEMGR 1C08"),
+    (0x2FFF, "2FFF"),
+    (0xABDE, "ABDE"),
+    (0x9876, "9876"),
+];
+
+fn is_shown(alloc: Global, code: u16, shown: &str) -> Result<bool, AllocError> {
+    let text = format!(in alloc; "{}", CodePoint(code))?;
+    Ok(text.as_str() == shown)
+}
+
 #[test]
 fn code_points_are_shown_by_name(rt: HostRuntime) -> Result<(), Fail> {
-    for (code, shown) in [
-        (EXCSAT, "EXCSAT 1041"),
-        (CODPNT, "CODPNT 000C"),
-        (UNICODEMGR, "UNICODEMGR 1C08"),
-        (0x2FFF, "2FFF"),
-        (0xABDE, "ABDE"),
-        (0x9876, "9876"),
-    ] {
-        let text = format!(in rt.alloc(); "{}", CodePoint(code))?;
-        assert_eq!(rt; text.as_str(), shown);
+    for (code, shown) in &SHOWN {
+        assert!(rt; is_shown(rt.alloc(), *code, shown)?, "{shown}");
     }
     Ok(())
 }
