@@ -1,7 +1,7 @@
 # The entry points of the README.
 SHELL := bash
 .SHELLFLAGS := -eu -o pipefail -c
-.PHONY: run try test gate edits names vectors
+.PHONY: run try test gate edits names vectors outside
 
 # A first look, in a minute: two conversations as event records, request and reply by name.
 try: | out
@@ -41,3 +41,7 @@ names:
 # Conversations kept as event records, through the built program, and its statuses.
 vectors:
 	@tests/run_vectors "$$(tools/built_program)"
+
+# Every check that is not in the gate, with one line of result each.
+outside:
+	@tools/outside
