@@ -1,7 +1,7 @@
 //! The grammar of the words.
 
 ghost use Rattle.std.specs.Prelude.{◌≡◌, IfOk, codes};
-ghost use Rattle.clap.specs.Words.{app_of, rule_of};
+ghost use Rattle.clap.specs.Words.{App, app_of, rule_of, with_subcommand};
 ghost use Rattle.command_line.specs.Grammar as grammar;
 
 use clap::{Arg, Command};
@@ -44,66 +44,64 @@ fn rdb_option<'a>(alloc: Global) -> Arg<'a>
 fn init<'a>(alloc: Global) -> Result<Command<'a>, AllocError>
     ensures { IfOk result (λ c. (app_of c ≡ grammar.init) × grammar.AddsItself c) }
 {
-    let path = needed_word(alloc, "path");
-    let size = needed_option(alloc, "size", "N");
-    let rdb = needed_option(alloc, "rdb", "NAME");
     Command::new(alloc, "init")
         .about("Makes a store")
-        .arg(path)?
-        .arg(size)?
-        .arg(rdb)
+        .arg(needed_word(alloc, "path"))?
+        .arg(needed_option(alloc, "size", "N"))?
+        .arg(needed_option(alloc, "rdb", "NAME"))
 }
 
 fn pipe<'a>(alloc: Global) -> Result<Command<'a>, AllocError>
     ensures { IfOk result (λ c. (app_of c ≡ grammar.pipe) × grammar.AddsItself c) }
 {
-    let path = Arg::new(alloc, "path");
-    let rdb = rdb_option(alloc);
-    let user = needed_option(alloc, "user", "U:P");
     Command::new(alloc, "pipe")
         .about("Serves event records from standard input to standard output")
-        .arg(path)?
-        .arg(rdb)?
-        .arg(user)
+        .arg(Arg::new(alloc, "path"))?
+        .arg(rdb_option(alloc))?
+        .arg(needed_option(alloc, "user", "U:P"))
 }
 
 fn serve<'a>(alloc: Global) -> Result<Command<'a>, AllocError>
     ensures { IfOk result (λ c. (app_of c ≡ grammar.serve) × grammar.AddsItself c) }
 {
-    let path = needed_word(alloc, "path");
-    let port = needed_option(alloc, "port", "N");
-    let user = needed_option(alloc, "user", "U:P");
-    let count = option(alloc, "count", "N");
     Command::new(alloc, "serve")
         .about("Serves conversations on a port of this machine")
-        .arg(path)?
-        .arg(port)?
-        .arg(user)?
-        .arg(count)
+        .arg(needed_word(alloc, "path"))?
+        .arg(needed_option(alloc, "port", "N"))?
+        .arg(needed_option(alloc, "user", "U:P"))?
+        .arg(option(alloc, "count", "N"))
 }
 
 fn in_doubt<'a>(alloc: Global) -> Result<Command<'a>, AllocError>
     ensures { IfOk result (λ c. (app_of c ≡ grammar.in_doubt) × grammar.AddsItself c) }
 {
-    let path = needed_word(alloc, "path");
     Command::new(alloc, "indoubt")
         .about("Lists the units in doubt of a store")
-        .arg(path)
+        .arg(needed_word(alloc, "path"))
+}
+
+// The program with one more subcommand.
+fn with_one<'a>(
+    program: Command<'a>,
+    subcommand: Result<Command<'a>, AllocError>,
+) -> Result<Command<'a>, AllocError>
+    ensures { (app : App) → IfOk subcommand.entry (λ c. (app_of c ≡ app) × grammar.AddsItself c) → IfOk result (λ c. app_of c ≡ with_subcommand (app_of program.entry) app.top) }
+{
+    match subcommand {
+        Ok(subcommand) => program.subcommand(subcommand),
+        Err(error) => Err(error),
+    }
 }
 
 /// The grammar.
 pub(crate) fn drdad<'a>(alloc: Global) -> Result<Command<'a>, AllocError>
     ensures { IfOk result (λ c. app_of c ≡ grammar.drdad) }
 {
-    let init = init(alloc)?;
-    let pipe = pipe(alloc)?;
-    let serve = serve(alloc)?;
-    let in_doubt = in_doubt(alloc)?;
-    Command::new(alloc, "drdad")
+    let program = Command::new(alloc, "drdad")
         .about("A DRDA application server")
-        .subcommand_required(true)
-        .subcommand(init)?
-        .subcommand(pipe)?
-        .subcommand(serve)?
-        .subcommand(in_doubt)
+        .subcommand_required(true);
+    let program = with_one(program, init(alloc))?;
+    let program = with_one(program, pipe(alloc))?;
+    let program = with_one(program, serve(alloc))?;
+    with_one(program, in_doubt(alloc))
 }

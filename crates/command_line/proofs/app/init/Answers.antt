@@ -7,8 +7,8 @@ use Rattle.command_line.proofs.app.init.Goals as goal
 pub returns : goal.returns
 returns c =
     let about_is : app_of c.about.result ≡ app_of c.new.result = rw c.about.ensures refl in
-    let is-1 = c.in_ok-arg.ensures.shape c.needed_word-path.ensures.own ∙ ap₂ with_rule (about_is ∙ c.new.ensures.app) c.needed_word-path.ensures.rule in
-    let own-1 = c.in_ok-arg.ensures.globals ∙ neither _ _ (search rules) c.needed_word-path.ensures.own in
-    let is-2 = c.in_ok-arg-2.ensures.shape c.needed_option-size.ensures.own ∙ ap₂ with_rule is-1 c.needed_option-size.ensures.rule in
-    let own-2 = c.in_ok-arg-2.ensures.globals ∙ neither _ _ own-1 c.needed_option-size.ensures.own in
-    IfOk-weaker c.arg-3.result _ _ (λ r added. (added.shape c.needed_option-rdb.ensures.own ∙ ap₂ with_rule is-2 c.needed_option-rdb.ensures.rule, λ old new adds. adds.shape (added.globals ∙ neither _ _ own-2 c.needed_option-rdb.ensures.own))) c.arg-3.ensures
+    let is-1 = c.in_ok-arg.ensures.shape c.needed_word.ensures.own ∙ ap₂ with_rule (about_is ∙ c.new.ensures.app) c.needed_word.ensures.rule in
+    let own-1 = c.in_ok-arg.ensures.globals ∙ neither _ _ (search rules) c.needed_word.ensures.own in
+    let is-2 = c.in_ok-arg-2.ensures.shape c.needed_option.ensures.own ∙ ap₂ with_rule is-1 c.needed_option.ensures.rule in
+    let own-2 = c.in_ok-arg-2.ensures.globals ∙ neither _ _ own-1 c.needed_option.ensures.own in
+    IfOk-weaker c.arg-3.result _ _ (λ r added. (added.shape c.needed_option-2.ensures.own ∙ ap₂ with_rule is-2 c.needed_option-2.ensures.rule, λ old new adds. adds.shape (added.globals ∙ neither _ _ own-2 c.needed_option-2.ensures.own))) c.arg-3.ensures

@@ -7,10 +7,10 @@ use Rattle.command_line.proofs.app.serve.Goals as goal
 pub returns : goal.returns
 returns c =
     let about_is : app_of c.about.result ≡ app_of c.new.result = rw c.about.ensures refl in
-    let is-1 = c.in_ok-arg.ensures.shape c.needed_word-path.ensures.own ∙ ap₂ with_rule (about_is ∙ c.new.ensures.app) c.needed_word-path.ensures.rule in
-    let own-1 = c.in_ok-arg.ensures.globals ∙ neither _ _ (search rules) c.needed_word-path.ensures.own in
-    let is-2 = c.in_ok-arg-2.ensures.shape c.needed_option-port.ensures.own ∙ ap₂ with_rule is-1 c.needed_option-port.ensures.rule in
-    let own-2 = c.in_ok-arg-2.ensures.globals ∙ neither _ _ own-1 c.needed_option-port.ensures.own in
-    let is-3 = c.in_ok-arg-3.ensures.shape c.needed_option-user.ensures.own ∙ ap₂ with_rule is-2 c.needed_option-user.ensures.rule in
-    let own-3 = c.in_ok-arg-3.ensures.globals ∙ neither _ _ own-2 c.needed_option-user.ensures.own in
-    IfOk-weaker c.arg-4.result _ _ (λ r added. (added.shape c.option-count.ensures.own ∙ ap₂ with_rule is-3 c.option-count.ensures.rule, λ old new adds. adds.shape (added.globals ∙ neither _ _ own-3 c.option-count.ensures.own))) c.arg-4.ensures
+    let is-1 = c.in_ok-arg.ensures.shape c.needed_word.ensures.own ∙ ap₂ with_rule (about_is ∙ c.new.ensures.app) c.needed_word.ensures.rule in
+    let own-1 = c.in_ok-arg.ensures.globals ∙ neither _ _ (search rules) c.needed_word.ensures.own in
+    let is-2 = c.in_ok-arg-2.ensures.shape c.needed_option.ensures.own ∙ ap₂ with_rule is-1 c.needed_option.ensures.rule in
+    let own-2 = c.in_ok-arg-2.ensures.globals ∙ neither _ _ own-1 c.needed_option.ensures.own in
+    let is-3 = c.in_ok-arg-3.ensures.shape c.needed_option-2.ensures.own ∙ ap₂ with_rule is-2 c.needed_option-2.ensures.rule in
+    let own-3 = c.in_ok-arg-3.ensures.globals ∙ neither _ _ own-2 c.needed_option-2.ensures.own in
+    IfOk-weaker c.arg-4.result _ _ (λ r added. (added.shape c.option.ensures.own ∙ ap₂ with_rule is-3 c.option.ensures.rule, λ old new adds. adds.shape (added.globals ∙ neither _ _ own-3 c.option.ensures.own))) c.arg-4.ensures
