@@ -5,7 +5,7 @@ use Rattle.ddm_objects.specs.declared.code_point.TheConstants.{SVRCOD}
 use Rattle.ddm_objects.specs.Writing.{spelled, unset}
 use Rattle.sqlam_replies.specs.Message.{objects}
 use Rattle.sqlam_replies.specs.Parameters.{parameter_of}
-use Rattle.sqlam_replies.proofs.Sizes.{behind, kept_mid, mid}
+use Rattle.sqlam_replies.proofs.Sizes.{behind, closed, kept_front, kept_mid, kept_same, mid, unopened}
 use Rattle.sqlam_replies.proofs.message.push_message.Goals as goal
 
 pub returns-in_err-put-clause-full : goal.returns-in_err-put-clause-full
@@ -37,3 +37,27 @@ returns-in_err-push_parameters-clause-full c =
     ∙ append_assoc c.args.out.now.items unset front in
     let more : vec_capacity c.args.out.now ≤ vec_capacity c.put.new.out = omega (arith, c.in_ok-container.ensures.capacity, c.in_ok-put.ensures.capacity) in
     mid _ c.args.out.now c.put.new.out c.args.code front _ _ items more c.in_err-push_parameters.ensures.full (behind front (objects (map parameter_of c.args.parameters.now)))
+
+pub returns-in_err-container-clause-kept : goal.returns-in_err-container-clause-kept
+returns-in_err-container-clause-kept c = kept_same c.args.out.now c.open.new.out.items c.in_err-container.ensures.err
+
+pub returns-in_err-container-clause-full : goal.returns-in_err-container-clause-full
+returns-in_err-container-clause-full c = unopened _ c.args.out.now c.args.code _ c.in_err-container.ensures.full
+
+pub returns-in_err-put-clause-kept : goal.returns-in_err-put-clause-kept
+returns-in_err-put-clause-kept c = kept_front c.args.out.now unset c.put.new.out.items (c.in_err-put.ensures.err ∙ c.in_ok-container.ensures.ok)
+
+pub returns : goal.returns
+returns c =
+    let is : c.to_be_bytes.result ≡ to_be_bytes w16 c.args.severity = c.to_be_bytes.ensures in
+    let front = spelled SVRCOD (to_be_bytes w16 c.args.severity) in
+    let list = objects (map parameter_of c.args.parameters.now) in
+    let items =
+    c.in_ok-put.ensures.ok
+    ∙ ap (λ x. c.open.new.out.items ++ spelled SVRCOD x) is
+    ∙ ap (λ x. x ++ front) c.in_ok-container.ensures.ok
+    ∙ append_assoc c.args.out.now.items unset front in
+    let all = c.in_ok-push_parameters.ensures.ok ∙ ap (λ x. x ++ list) items ∙ append_assoc c.args.out.now.items (unset ++ front) list in
+    let more : vec_capacity c.args.out.now ≤ vec_capacity c.push_parameters.new.out = omega (arith, c.in_ok-container.ensures.capacity, c.in_ok-put.ensures.capacity, c.in_ok-push_parameters.ensures.capacity) in
+    let s = closed c.close.result c.args.out.now c.push_parameters.new.out c.close.new.out _ _ c.args.code (front ++ list) all c.in_ok-container.ensures.opened more c.close.ensures.ok c.close.ensures.err c.close.ensures.full c.close.ensures.capacity in
+    record { ok = s.ok; kept = s.kept; full = s.full; capacity = s.capacity }

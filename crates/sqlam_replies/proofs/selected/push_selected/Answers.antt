@@ -6,7 +6,7 @@ use Rattle.row_values.proofs.Keys.{length-picked}
 use Rattle.sqlam_replies.specs.Sqldard.{column_group}
 use Rattle.sqlam_replies.proofs.Appending.{all_at, room, shown_at, step, whole}
 use Rattle.sqlam_replies.proofs.Picks.{column_picked, place_within, read_at}
-use Rattle.sqlam_replies.proofs.Sizes.{late}
+use Rattle.sqlam_replies.proofs.Sizes.{kept_all, kept_past, late}
 use Rattle.sqlam_replies.proofs.selected.push_selected.Goals as goal
 
 pub bounds-columns-place : goal.bounds-columns-place
@@ -42,3 +42,9 @@ returns-clause-ok c =
     let size = length-picked (map column_of c.args.columns.now) c.args.places.now c.requires.places in
     let end : length (picked (map column_of c.args.columns.now) c.args.places.now) ≤ c.loop-i.i = omega (arith, size, c.loop-i-test.false) in
     whole (column_group c.args.unicode) (picked (map column_of c.args.columns.now) c.args.places.now) c.loop-i.i c.args.out.now.items c.loop-i.out.items end c.loop-i.invariant.0
+
+pub returns-in_err-push_column-clause-kept : goal.returns-in_err-push_column-clause-kept
+returns-in_err-push_column-clause-kept c = kept_past c.args.out.now c.loop-i.out _ c.loop-i.invariant.0.longer c.loop-i.invariant.0.kept c.in_err-push_column.ensures.kept
+
+pub returns-clause-kept : goal.returns-clause-kept
+returns-clause-kept c = kept_all c.args.out.now _ c.loop-i.invariant.0.kept

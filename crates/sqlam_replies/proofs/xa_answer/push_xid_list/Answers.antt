@@ -4,7 +4,7 @@ use Rattle.std.specs.Prelude.{vec_capacity}
 use Rattle.ddm_objects.specs.declared.code_point.TheConstants.{PRPHRCLST, XIDCNT, XID}
 use Rattle.ddm_objects.specs.Writing.{spelled, unset}
 use Rattle.sqlam_replies.specs.Message.{objects, scalar}
-use Rattle.sqlam_replies.proofs.Sizes.{behind, kept_mid, mid}
+use Rattle.sqlam_replies.proofs.Sizes.{behind, closed, kept_front, kept_mid, kept_same, mid, unopened}
 use Rattle.sqlam_replies.proofs.xa_answer.push_xid_list.Goals as goal
 
 pub returns-in_err-put-clause-full : goal.returns-in_err-put-clause-full
@@ -36,3 +36,27 @@ returns-in_err-push_xids-clause-full c =
     ∙ append_assoc c.args.out.now.items unset front in
     let more : vec_capacity c.args.out.now ≤ vec_capacity c.put.new.out = omega (arith, c.in_ok-container.ensures.capacity, c.in_ok-put.ensures.capacity) in
     mid _ c.args.out.now c.put.new.out PRPHRCLST front _ _ items more c.in_err-push_xids.ensures.full (behind front (objects (map (scalar XID) c.args.xids.now)))
+
+pub returns-in_err-container-clause-kept : goal.returns-in_err-container-clause-kept
+returns-in_err-container-clause-kept c = kept_same c.args.out.now c.open.new.out.items c.in_err-container.ensures.err
+
+pub returns-in_err-container-clause-full : goal.returns-in_err-container-clause-full
+returns-in_err-container-clause-full c = unopened _ c.args.out.now PRPHRCLST _ c.in_err-container.ensures.full
+
+pub returns-in_err-put-clause-kept : goal.returns-in_err-put-clause-kept
+returns-in_err-put-clause-kept c = kept_front c.args.out.now unset c.put.new.out.items (c.in_err-put.ensures.err ∙ c.in_ok-container.ensures.ok)
+
+pub returns : goal.returns
+returns c =
+    let is : c.to_be_bytes.result ≡ to_be_bytes w16 (length c.args.xids.now) = c.to_be_bytes.ensures in
+    let front = spelled XIDCNT (to_be_bytes w16 (length c.args.xids.now)) in
+    let list = objects (map (scalar XID) c.args.xids.now) in
+    let items =
+    c.in_ok-put.ensures.ok
+    ∙ ap (λ x. c.open.new.out.items ++ spelled XIDCNT x) is
+    ∙ ap (λ x. x ++ front) c.in_ok-container.ensures.ok
+    ∙ append_assoc c.args.out.now.items unset front in
+    let all = c.in_ok-push_xids.ensures.ok ∙ ap (λ x. x ++ list) items ∙ append_assoc c.args.out.now.items (unset ++ front) list in
+    let more : vec_capacity c.args.out.now ≤ vec_capacity c.push_xids.new.out = omega (arith, c.in_ok-container.ensures.capacity, c.in_ok-put.ensures.capacity, c.in_ok-push_xids.ensures.capacity) in
+    let s = closed c.close.result c.args.out.now c.push_xids.new.out c.close.new.out _ _ PRPHRCLST (front ++ list) all c.in_ok-container.ensures.opened more c.close.ensures.ok c.close.ensures.err c.close.ensures.full c.close.ensures.capacity in
+    record { ok = s.ok; kept = s.kept; full = s.full; capacity = s.capacity }
