@@ -141,7 +141,11 @@ fn describe_text<A: Ask>(
 {
     match statement_of(alloc, text) {
         Ok(statement) => {
-            describe_prepared(alloc, &statement, side, unicode, statements, asker, replies)
+            let done = describe_prepared(
+                alloc, &statement, side, unicode, statements, asker, replies,
+            );
+            drop(statement);
+            done
         }
         Err(StatementError::Fault(fault)) => refuse(alloc, fault, replies),
         Err(StatementError::NoMemory) => Err(AllocError),

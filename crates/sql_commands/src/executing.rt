@@ -96,7 +96,9 @@ fn execute_text<A: Ask>(
 {
     match statement_of(alloc, text) {
         Ok(statement) => {
-            execute_statement(alloc, &statement, sent, rdb, statements, asker, replies)
+            let done = execute_statement(alloc, &statement, sent, rdb, statements, asker, replies);
+            drop(statement);
+            done
         }
         Err(StatementError::Fault(fault)) => refuse_run(alloc, fault, statements, replies),
         Err(StatementError::NoMemory) => Err(AllocError),

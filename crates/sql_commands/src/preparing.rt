@@ -146,9 +146,11 @@ fn prepare_text<A: Ask>(
                 text: utf8_of(text),
                 is_held,
             };
-            prepare_statement(
+            let done = prepare_statement(
                 alloc, preparing, wanted, &statement, unicode, statements, asker, replies,
-            )
+            );
+            drop(statement);
+            done
         }
         Err(StatementError::Fault(fault)) => refuse(alloc, fault, replies),
         Err(StatementError::NoMemory) => Err(AllocError),

@@ -111,7 +111,11 @@ fn run_text<A: Ask>(
     ensures replies { OnErr result (replies.new.items ≡ replies.old.items) }
 {
     match statement_of(alloc, text) {
-        Ok(statement) => run(alloc, &statement, &[], rdb, statements, asker, replies),
+        Ok(statement) => {
+            let done = run(alloc, &statement, &[], rdb, statements, asker, replies);
+            drop(statement);
+            done
+        }
         Err(StatementError::Fault(fault)) => refuse_run(alloc, fault, statements, replies),
         Err(StatementError::NoMemory) => Err(AllocError),
     }
