@@ -86,7 +86,11 @@ fn ask_text<'t, A: Ask>(
     ensures asker { OnErr result (asker.new ≡ asker.old) }
 {
     match statement_of(alloc, text) {
-        Ok(statement) => ask_statement(alloc, &statement, parameters, asker),
+        Ok(statement) => {
+            let answered = ask_statement(alloc, &statement, parameters, asker);
+            drop(statement);
+            answered
+        }
         Err(error) => Err(error),
     }
 }
