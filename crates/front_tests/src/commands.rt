@@ -1,8 +1,8 @@
 //! Conversations, each answered whole, cut at every place, byte by byte and in other pieces.
 
-use command_kit::Ask;
 use conversation::{Front, Need, Settings, SettingsError};
 use core_calls::{Answer, CoreCall};
+use command_kit::Ask;
 use std::alloc::Global;
 use std::test::Fail;
 use test_bytes::*;
@@ -21,14 +21,24 @@ impl Ask for Willing {
     }
 }
 
-// All that the conversation has to say now, with ample memory.
+// What the conversation has to say next, with ample memory; whether there may be more.
+fn push_answer(front: &mut Front, out: &mut Vec<u8>) -> Option<bool> {
+    out.reserve(21).ok()?;
+    match front.next(&mut Willing, out) {
+        Need::Local => Some(true),
+        Need::Short(bytes) => {
+            out.extend_from_slice(&bytes).ok()?;
+            Some(true)
+        }
+        Need::Bytes | Need::Closed => Some(false),
+    }
+}
+
+// All that the conversation has to say now.
 fn push_answers(front: &mut Front, out: &mut Vec<u8>) -> Option<()> {
     for _ in 0..100 {
-        out.reserve(21).ok()?;
-        match front.next(&mut Willing, out) {
-            Need::Local => {}
-            Need::Short(bytes) => out.extend_from_slice(&bytes).ok()?,
-            Need::Bytes | Need::Closed => break,
+        if !push_answer(front, out)? {
+            break;
         }
     }
     Some(())
@@ -44,15 +54,27 @@ pub fn answer_in_pieces(
     let settings = Settings::new(alloc, "ana", "pw", "SHOP").ok()?;
     let mut front = Front::new(alloc, &settings).ok()?;
     let mut out = Vec::new(alloc);
+    push_answers_in_pieces(&mut front, request, first, size, &mut out)?;
+    Some(out)
+}
+
+/// Feeds a request in such pieces, and writes down what is answered.
+fn push_answers_in_pieces(
+    front: &mut Front,
+    request: &[u8],
+    first: usize,
+    size: usize,
+    out: &mut Vec<u8>,
+) -> Option<()> {
     let mut left = request;
     let mut next = first;
     for _ in 0..request.len() {
         let (piece, others) = left.split_at(next.min(left.len()));
         left = others;
         next = size;
-        push_answers_to(&mut front, piece, &mut out)?;
+        push_answers_to(front, piece, out)?;
     }
-    Some(out)
+    Some(())
 }
 
 /// Feeds a piece, command by command, and writes down what is answered.
@@ -68,28 +90,32 @@ fn push_answers_to(front: &mut Front, piece: &[u8], out: &mut Vec<u8>) -> Option
 
 const WHOLE: usize = 1_000_000;
 
-// Whether the requests are answered by the replies, whatever pieces they come in.
-fn is_answered(alloc: Global, requests: &[&str], replies: &[&str]) -> Option<bool> {
-    let request = bytes_of(alloc, requests).ok()?;
-    let reply = bytes_of(alloc, replies).ok()?;
-    for size in [WHOLE, 1, 2, 3, 7, 10] {
-        if answer_in_pieces(alloc, &request, size, size)?.as_slice() != reply.as_slice() {
+// Whether the request is answered by the reply, whatever pieces it comes in.
+fn is_answer(alloc: Global, request: &[u8], reply: &[u8]) -> Option<bool> {
+    for size in &[WHOLE, 1, 2, 3, 7, 10] {
+        if answer_in_pieces(alloc, request, *size, *size)?.as_slice() != reply {
             return Some(false);
         }
     }
     for cut in 1..request.len() {
-        if answer_in_pieces(alloc, &request, cut, WHOLE)?.as_slice() != reply.as_slice() {
+        if answer_in_pieces(alloc, request, cut, WHOLE)?.as_slice() != reply {
             return Some(false);
         }
     }
     Some(true)
 }
 
+fn is_answered(alloc: Global, requests: &[&str], replies: &[&str]) -> Option<bool> {
+    let request = bytes_of(alloc, requests).ok()?;
+    let reply = bytes_of(alloc, replies).ok()?;
+    is_answer(alloc, &request, &reply)
+}
+
 #[test]
 fn commands_are_answered(rt: HostRuntime) -> Result<(), Fail> {
-    for (requests, replies) in ANSWERED {
+    for (requests, replies) in &ANSWERED {
         let answered = is_answered(rt.alloc(), requests, replies);
-        assert_eq!(rt; answered, Some(true), "{requests:?}");
+        assert!(rt; answered == Some(true), "{requests:?}");
     }
     Ok(())
 }
@@ -284,18 +310,24 @@ const ANSWERED: [(&[&str], &[&str]); 26] = [
     ),
 ];
 
+// Texts, and whether each is the name of a database.
+const NAMES: [(&str, bool); 6] = [
+    ("S", true),
+    ("EIGHTEEN_CHARACTER", true),
+    ("", false),
+    ("NINETEEN_CHARACTERS", false),
+    ("A DATABASE", false),
+    ("\u{7f}", false),
+];
+
+fn is_bad_name(alloc: Global, name: &str) -> bool {
+    Settings::new(alloc, "ana", "pw", name).err() == Some(SettingsError::BadName)
+}
+
 #[test]
 fn names_of_databases_are_judged(rt: HostRuntime) -> Result<(), Fail> {
-    for (name, is_one) in [
-        ("S", true),
-        ("EIGHTEEN_CHARACTER", true),
-        ("", false),
-        ("NINETEEN_CHARACTERS", false),
-        ("A DATABASE", false),
-        ("\u{7f}", false),
-    ] {
-        let refused = Settings::new(rt.alloc(), "ana", "pw", name).err();
-        assert_eq!(rt; refused == Some(SettingsError::BadName), !is_one, "{name}");
+    for (name, is_one) in &NAMES {
+        assert!(rt; is_bad_name(rt.alloc(), name) != *is_one, "{name}");
     }
     Ok(())
 }

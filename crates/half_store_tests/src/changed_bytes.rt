@@ -54,13 +54,17 @@ fn read_with_ff(alloc: Global, disk: &mut MemDisk, at: usize) -> Result<Answer, 
     Ok(read)
 }
 
+/// The bytes that are changed: not the rest of the head's page, nor the generation.
+const CHANGED: [(usize, usize); 3] = [(0, 30), (8_190, 8_193), (8_201, 8_260)];
+
 #[test]
 fn each_byte_of_head_and_header_counts(rt: HostRuntime) -> Result<(), Fail> {
     let mut disk = fresh(rt.alloc())?;
-    // Not the rest of the head's page, nor the generation.
-    for at in (0..30).chain(8_190..8_193).chain(8_201..8_260) {
-        let read = read_with_ff(rt.alloc(), &mut disk, at)?;
-        assert_eq!(rt; read, expected(at), "{at}");
+    for (begin, end) in &CHANGED {
+        for at in *begin..*end {
+            let read = read_with_ff(rt.alloc(), &mut disk, at)?;
+            assert!(rt; read == expected(at), "{at}");
+        }
     }
     Ok(())
 }
@@ -80,13 +84,10 @@ const GENERATIONS: [(usize, u64); 8] = [
 #[test]
 fn a_generation_has_eight_bytes(rt: HostRuntime) -> Result<(), Fail> {
     let disk = fresh(rt.alloc())?;
-    for (at, generation) in GENERATIONS {
-        let want = Ok((Half::First, generation, FRESH.2, FRESH.3));
-        assert_eq!(rt;
-            read_with(rt.alloc(), &disk, &[(at, &[0xFF])])?,
-            want,
-            "{at}"
-        );
+    for (at, generation) in &GENERATIONS {
+        let read = read_with(rt.alloc(), &disk, &[(*at, &[0xFF])])?;
+        let want = Ok((Half::First, *generation, FRESH.2, FRESH.3));
+        assert!(rt; read == want, "{at}");
     }
     Ok(())
 }
@@ -145,8 +146,11 @@ const HALVES: [(&[(usize, &[u8])], Answer); 15] = [
 #[test]
 fn the_greater_generation_is_active(rt: HostRuntime) -> Result<(), Fail> {
     let disk = fresh(rt.alloc())?;
-    for (writes, want) in HALVES {
-        assert_eq!(rt; read_with(rt.alloc(), &disk, writes)?, want, "{writes:?}");
+    for (writes, want) in &HALVES {
+        assert!(rt;
+            read_with(rt.alloc(), &disk, writes)? == *want,
+            "{writes:?}"
+        );
     }
     Ok(())
 }
@@ -177,8 +181,11 @@ const FAULTS: [(&[(usize, &[u8])], Answer); 7] = [
 #[test]
 fn the_first_fault_is_told(rt: HostRuntime) -> Result<(), Fail> {
     let disk = fresh(rt.alloc())?;
-    for (writes, want) in FAULTS {
-        assert_eq!(rt; read_with(rt.alloc(), &disk, writes)?, want, "{writes:?}");
+    for (writes, want) in &FAULTS {
+        assert!(rt;
+            read_with(rt.alloc(), &disk, writes)? == *want,
+            "{writes:?}"
+        );
     }
     Ok(())
 }

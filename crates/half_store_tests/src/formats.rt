@@ -1,34 +1,39 @@
 //! Formatting, and what is opened then.
-use crate::stores::{FRESH, SECOND_AT, TWO_MIB, formatted, found, fresh, opened, put};
+use crate::stores::{FRESH, Found, SECOND_AT, TWO_MIB, formatted, found, fresh, opened, put};
 use drda_disk::MemDisk;
 use half_store::{FormatError, OpenError, format, open};
+use std::alloc::Global;
 use std::test::Fail;
+
+/// Whether a fresh store of this name is opened.
+fn is_fresh(alloc: Global, disk: &mut MemDisk, name: &str) -> Result<bool, OpenError> {
+    let active = open(alloc, disk)?;
+    Ok(active.name.as_str() == name && found(&active) == FRESH)
+}
 
 #[test]
 fn a_fresh_store_opens(rt: HostRuntime) -> Result<(), Fail> {
     let mut disk = fresh(rt.alloc())?;
-    let active = open(rt.alloc(), &mut disk)?;
-    assert_eq!(rt; active.name.as_str(), "RDB");
-    assert_eq!(rt; found(&active), FRESH);
+    assert!(rt; is_fresh(rt.alloc(), &mut disk, "RDB")?);
     Ok(())
 }
+
+/// Bytes of a store: both halves are open, and bytes stand behind their headers.
+const USED: [(usize, &[u8]); 4] = [
+    (SECOND_AT, &[0xA5]),
+    (SECOND_AT + 8, &[7]),
+    (8_300, &[1, 2, 3]),
+    (16_384, &[0xA5, 1]),
+];
 
 #[test]
 fn a_store_is_formatted_again(rt: HostRuntime) -> Result<(), Fail> {
     let mut disk = fresh(rt.alloc())?;
-    // Both halves were open, and bytes stood behind their headers.
-    for (at, bytes) in [
-        (SECOND_AT, &[0xA5u8] as &[u8]),
-        (SECOND_AT + 8, &[7]),
-        (8_300, &[1, 2, 3]),
-        (16_384, &[0xA5, 1]),
-    ] {
-        put(&mut disk, at, bytes)?;
+    for (at, bytes) in &USED {
+        put(&mut disk, *at, bytes)?;
     }
     format(rt.alloc(), &mut disk, "ANOTHER_ONE_OF_18!")?;
-    let active = open(rt.alloc(), &mut disk)?;
-    assert_eq!(rt; active.name.as_str(), "ANOTHER_ONE_OF_18!");
-    assert_eq!(rt; found(&active), FRESH);
+    assert!(rt; is_fresh(rt.alloc(), &mut disk, "ANOTHER_ONE_OF_18!")?);
     Ok(())
 }
 
@@ -45,19 +50,23 @@ const SIZES: [(usize, Result<(), FormatError>); 7] = [
 
 #[test]
 fn a_store_has_2_mib_at_least(rt: HostRuntime) -> Result<(), Fail> {
-    for (size, answer) in SIZES {
-        assert_eq!(rt; formatted(rt.alloc(), size, "RDB")?, answer, "{size}");
+    for (size, answer) in &SIZES {
+        assert!(rt; formatted(rt.alloc(), *size, "RDB")? == *answer, "{size}");
     }
     Ok(())
 }
 
+/// What a new disk of this size opens as.
+fn opened_new(alloc: Global, size: usize) -> Result<Result<Found, OpenError>, Fail> {
+    let mut disk = MemDisk::new(alloc, size)?;
+    Ok(opened(alloc, &mut disk))
+}
+
 #[test]
 fn a_smaller_disk_is_no_store(rt: HostRuntime) -> Result<(), Fail> {
-    for size in [0, 38, 39, TWO_MIB - 1] {
-        let mut disk = MemDisk::new(rt.alloc(), size)?;
-        assert_eq!(rt;
-            opened(rt.alloc(), &mut disk),
-            Err(OpenError::NotAStore),
+    for size in &[0, 38, 39, TWO_MIB - 1] {
+        assert!(rt;
+            opened_new(rt.alloc(), *size)? == Err(OpenError::NotAStore),
             "{size}"
         );
     }
@@ -77,8 +86,8 @@ const NAMES: [(&str, Result<(), FormatError>); 8] = [
 
 #[test]
 fn a_name_has_18_printable_characters_at_most(rt: HostRuntime) -> Result<(), Fail> {
-    for (name, answer) in NAMES {
-        assert_eq!(rt; formatted(rt.alloc(), TWO_MIB, name)?, answer, "{name}");
+    for (name, answer) in &NAMES {
+        assert!(rt; formatted(rt.alloc(), TWO_MIB, name)? == *answer, "{name}");
     }
     Ok(())
 }
@@ -92,13 +101,17 @@ const JOURNALS: [(usize, (usize, usize)); 5] = [
     (TWO_MIB + 24_576, (16_384, 1_048_576)),
 ];
 
+/// Where the journal of a fresh store of this size lies.
+fn journal_of(alloc: Global, size: usize) -> Result<(usize, usize), Fail> {
+    let mut disk = MemDisk::new(alloc, size)?;
+    format(alloc, &mut disk, "RDB")?;
+    Ok(opened(alloc, &mut disk)?.3)
+}
+
 #[test]
 fn a_half_has_whole_pages(rt: HostRuntime) -> Result<(), Fail> {
-    for (size, journal) in JOURNALS {
-        let mut disk = MemDisk::new(rt.alloc(), size)?;
-        format(rt.alloc(), &mut disk, "RDB")?;
-        let active = opened(rt.alloc(), &mut disk)?;
-        assert_eq!(rt; active.3, journal, "{size}");
+    for (size, journal) in &JOURNALS {
+        assert!(rt; journal_of(rt.alloc(), *size)? == *journal, "{size}");
     }
     Ok(())
 }

@@ -33,14 +33,23 @@ fn are_filled<D: Disk>(alloc: Global, disk: &mut D, half: Half, byte: u8) -> Res
     Ok(pages.iter().all(|b| *b == byte))
 }
 
+/// Whether a checkpoint of this byte makes this of a store, which is opened then, with its pages.
+fn is_made(alloc: Global, disk: &mut MemDisk, byte: u8, want: Found) -> Result<bool, Fail> {
+    let made = checkpoint(alloc, disk, byte);
+    let read = opened(alloc, disk);
+    Ok(made == Ok(want) && read == Ok(want) && are_filled(alloc, disk, want.0, byte)?)
+}
+
+fn has_name(alloc: Global, disk: &mut MemDisk, name: &str) -> Result<bool, OpenError> {
+    Ok(open(alloc, disk)?.name.as_str() == name)
+}
+
 #[test]
 fn each_checkpoint_goes_to_the_other_half(rt: HostRuntime) -> Result<(), Fail> {
     let mut disk = fresh(rt.alloc())?;
-    for (want, byte) in CHECKPOINTS.iter().zip([11, 22, 33, 44]) {
-        assert_eq!(rt; checkpoint(rt.alloc(), &mut disk, byte), Ok(*want));
-        assert_eq!(rt; opened(rt.alloc(), &mut disk), Ok(*want));
-        assert!(rt; are_filled(rt.alloc(), &mut disk, want.0, byte)?);
-        assert_eq!(rt; open(rt.alloc(), &mut disk)?.name.as_str(), "RDB");
+    for (want, byte) in CHECKPOINTS.iter().zip([11, 22, 33, 44].iter()) {
+        assert!(rt; is_made(rt.alloc(), &mut disk, *byte, *want)?, "{byte}");
+        assert!(rt; has_name(rt.alloc(), &mut disk, "RDB")?, "{byte}");
     }
     Ok(())
 }
@@ -59,15 +68,16 @@ fn until_full(alloc: Global, disk: &mut MemDisk) -> Result<(u32, Result<(), Page
     Ok((1_000, Ok(())))
 }
 
+const FULL: PageError = PageError::Full(Full {
+    need: 1_040_385,
+    room: 1_040_384,
+});
+
 #[test]
 fn a_half_of_2_mib_has_125_pages(rt: HostRuntime) -> Result<(), Fail> {
     let mut disk = fresh(rt.alloc())?;
-    let full = PageError::Full(Full {
-        need: 1_040_385,
-        room: 1_040_384,
-    });
-    assert_eq!(rt; until_full(rt.alloc(), &mut disk)?, (125, Err(full)));
-    assert_eq!(rt; opened(rt.alloc(), &mut disk), Ok(FRESH));
+    assert!(rt; until_full(rt.alloc(), &mut disk)? == (125, Err(FULL)));
+    assert!(rt; opened(rt.alloc(), &mut disk) == Ok(FRESH));
     Ok(())
 }
 
@@ -77,10 +87,8 @@ fn the_last_generation_has_no_next_one(rt: HostRuntime) -> Result<(), Fail> {
     put(&mut disk, 8_193, &[0xFF; 8])?;
     // Opening makes three calls, and no call follows.
     let mut disk = FuseDisk::new(disk, 3, false);
-    assert_eq!(rt;
-        checkpoint(rt.alloc(), &mut disk, 1),
-        Err(Stop::Begin(BeginError::NoMemory))
-    );
+    let answer = checkpoint(rt.alloc(), &mut disk, 1);
+    assert!(rt; answer == Err(Stop::Begin(BeginError::NoMemory)));
     Ok(())
 }
 
@@ -165,7 +173,8 @@ fn first_wrong(
 fn a_crash_leaves_the_old_half_or_the_new_one(rt: HostRuntime) -> Result<(), Fail> {
     let disk = fresh(rt.alloc())?;
     let both = [FRESH, CHECKPOINTS[0]];
-    assert_eq!(rt; first_wrong(rt.alloc(), &disk, CALLS[0], both)?, None);
+    let wrong = first_wrong(rt.alloc(), &disk, CALLS[0], both)?;
+    assert!(rt; wrong.is_none(), "{wrong:?}");
     Ok(())
 }
 
@@ -174,6 +183,7 @@ fn a_crash_leaves_one_of_both_where_both_were_open(rt: HostRuntime) -> Result<()
     let mut disk = fresh(rt.alloc())?;
     assert!(rt; checkpoint(rt.alloc(), &mut disk, 1).is_ok());
     let both = [CHECKPOINTS[0], CHECKPOINTS[1]];
-    assert_eq!(rt; first_wrong(rt.alloc(), &disk, CALLS[1], both)?, None);
+    let wrong = first_wrong(rt.alloc(), &disk, CALLS[1], both)?;
+    assert!(rt; wrong.is_none(), "{wrong:?}");
     Ok(())
 }

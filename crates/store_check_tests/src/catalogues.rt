@@ -1,11 +1,11 @@
 //! Catalogues that are whole, and such that are not.
-use crate::tables::{DISK_BYTES, TABLE_AT, put};
+use crate::tables::{DISK_BYTES, TABLE_AT, at_page, put};
 use drda_disk::{Disk, MemDisk};
+use store_check::{CheckError, check_catalogue};
 use row_pages::PageKind::{Catalogue, Rows};
 use row_pages::{PageBuilder, PageCache, PageKind};
 use std::alloc::{AllocError, Global};
 use std::test::Fail;
-use store_check::{CheckError, check_catalogue};
 
 /// A table: the one letter of its name, the number of its first page, and how many pages it has.
 type Table = (u8, u8, u8);
@@ -113,14 +113,21 @@ const TABLE: [(&[(PageKind, &[Table])], usize, Result<usize, usize>); 19] = [
     ),
 ];
 
+/// What is told of the catalogue of these pages.
+fn told(
+    alloc: Global,
+    pages: &[(PageKind, &[Table])],
+    count: usize,
+) -> Result<Result<usize, CheckError>, Fail> {
+    let mut disk = disk_with(alloc, pages)?;
+    Ok(checked(alloc, &mut disk, count))
+}
+
 #[test]
 fn tables_are_told_or_the_first_bad_page(rt: HostRuntime) -> Result<(), Fail> {
-    for (pages, count, want) in TABLE {
-        let mut disk = disk_with(rt.alloc(), pages)?;
-        let want = want.map_err(|page| CheckError::Damaged {
-            at: TABLE_AT.saturating_add(page.saturating_mul(8_192)),
-        });
-        assert_eq!(rt; checked(rt.alloc(), &mut disk, count), want);
+    for (place, (pages, count, want)) in TABLE.iter().enumerate() {
+        let told = told(rt.alloc(), pages, *count)?;
+        assert!(rt; told == at_page(*want), "{place}");
     }
     Ok(())
 }

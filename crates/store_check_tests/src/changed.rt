@@ -1,8 +1,9 @@
 //! Bytes of a page that are changed.
 use crate::tables::{Rows, TABLE_AT, checked, disk_with, put};
-use row_pages::PageKind::Rows as OfRows;
-use std::test::Fail;
 use store_check::CheckError;
+use row_pages::PageKind::Rows as OfRows;
+use std::alloc::Global;
+use std::test::Fail;
 
 /// Three pages; the second one has 18 bytes in front of its zeros.
 const PAGES: [Rows; 3] = [
@@ -51,12 +52,17 @@ const TABLE: [(usize, u8, Result<usize, CheckError>); 20] = [
     (17, 0, BAD_SECOND),
 ];
 
+/// What is told of the pages where this byte stands at a place of the second one.
+fn told(alloc: Global, at: usize, byte: u8) -> Result<Result<usize, CheckError>, Fail> {
+    let mut disk = disk_with(alloc, &PAGES)?;
+    put(&mut disk, SECOND_AT.saturating_add(at), &[byte]);
+    Ok(checked(alloc, &mut disk, 3))
+}
+
 #[test]
 fn a_byte_that_is_changed_is_told_or_does_not_matter(rt: HostRuntime) -> Result<(), Fail> {
-    for (at, byte, want) in TABLE {
-        let mut disk = disk_with(rt.alloc(), &PAGES)?;
-        put(&mut disk, SECOND_AT.saturating_add(at), &[byte]);
-        assert_eq!(rt; checked(rt.alloc(), &mut disk, 3), want, "{at} {byte}");
+    for (at, byte, want) in &TABLE {
+        assert!(rt; told(rt.alloc(), *at, *byte)? == *want, "{at} {byte}");
     }
     Ok(())
 }
@@ -64,9 +70,7 @@ fn a_byte_that_is_changed_is_told_or_does_not_matter(rt: HostRuntime) -> Result<
 #[test]
 fn each_byte_behind_the_rows_is_zero(rt: HostRuntime) -> Result<(), Fail> {
     for at in ZEROS_AT..8_192 {
-        let mut disk = disk_with(rt.alloc(), &PAGES)?;
-        put(&mut disk, SECOND_AT.saturating_add(at), &[1]);
-        assert_eq!(rt; checked(rt.alloc(), &mut disk, 3), BAD_SECOND, "{at}");
+        assert!(rt; told(rt.alloc(), at, 1)? == BAD_SECOND, "{at}");
     }
     Ok(())
 }

@@ -1,12 +1,12 @@
 //! Halves that are whole, and such that are not.
-use crate::tables::{FirstColumn, TABLE_AT, put};
+use crate::tables::{FirstColumn, TABLE_AT, at_page, put};
 use drda_disk::{Disk, FuseDisk, MemDisk, Region};
+use store_check::{CheckError, CheckedTable, check_half};
 use half_store::{Active, Half};
 use row_pages::PageKind::{Catalogue, Rows};
 use row_pages::{PageBuilder, PageCache};
 use std::alloc::{AllocError, Global};
 use std::test::Fail;
-use store_check::{CheckError, CheckedTable, check_half};
 
 /// The bytes of a disk that has room for six pages behind the first one.
 const DISK_BYTES: usize = 57_344;
@@ -219,18 +219,22 @@ const TABLE: [(&[Page], u32, Place, Result<(usize, u32), usize>); 20] = [
     (&[], 0, (u32::MAX, u32::MAX), Err(0)),
 ];
 
-fn damaged(page: usize) -> CheckError {
-    CheckError::Damaged {
-        at: TABLE_AT.saturating_add(page.saturating_mul(8_192)),
-    }
+/// What is told of a half of these pages.
+fn told_of(
+    alloc: Global,
+    pages: &[Page],
+    count: u32,
+    place: Place,
+) -> Result<Result<(usize, u32), CheckError>, Fail> {
+    let mut disk = disk_with(alloc, pages)?;
+    Ok(told(alloc, &mut disk, count, place))
 }
 
 #[test]
 fn halves_are_whole_or_the_first_bad_page_is_told(rt: HostRuntime) -> Result<(), Fail> {
-    for (pages, count, place, want) in TABLE {
-        let mut disk = disk_with(rt.alloc(), pages)?;
-        let want = want.map_err(damaged);
-        assert_eq!(rt; told(rt.alloc(), &mut disk, count, place), want);
+    for (row, (pages, count, place, want)) in TABLE.iter().enumerate() {
+        let told = told_of(rt.alloc(), pages, *count, *place)?;
+        assert!(rt; told == at_page(*want), "{row}");
     }
     Ok(())
 }
@@ -238,16 +242,17 @@ fn halves_are_whole_or_the_first_bad_page_is_told(rt: HostRuntime) -> Result<(),
 /// A table, its catalogue behind it.
 const PAGES: [Page; 2] = [(&[ONE, TWO], &[]), (&[], &[(b'A', 0, 1)])];
 
+/// What is told of the half of one table over a device that fails at this call.
+fn told_failing(alloc: Global, call: u64) -> Result<Result<(usize, u32), CheckError>, Fail> {
+    let mut disk = FuseDisk::new(disk_with(alloc, &PAGES)?, call, false);
+    Ok(told(alloc, &mut disk, 2, (1, 1)))
+}
+
 #[test]
 fn each_page_is_read_once(rt: HostRuntime) -> Result<(), Fail> {
-    for (call, want) in [
-        (0, Err(CheckError::DeviceFailed)),
-        (1, Err(CheckError::DeviceFailed)),
-        (2, Ok((1, 1))),
-    ] {
-        let mut disk = FuseDisk::new(disk_with(rt.alloc(), &PAGES)?, call, false);
-        assert_eq!(rt; told(rt.alloc(), &mut disk, 2, (1, 1)), want);
-    }
+    assert!(rt; told_failing(rt.alloc(), 0)? == Err(CheckError::DeviceFailed));
+    assert!(rt; told_failing(rt.alloc(), 1)? == Err(CheckError::DeviceFailed));
+    assert!(rt; told_failing(rt.alloc(), 2)? == Ok((1, 1)));
     Ok(())
 }
 
@@ -267,13 +272,22 @@ const CHANGES: [(usize, u8, Result<(usize, u32), usize>); 10] = [
     (8_221, 0, Err(0)),
 ];
 
+/// What is told of the half of one table where this byte stands at a place.
+fn told_changed(
+    alloc: Global,
+    at: usize,
+    byte: u8,
+) -> Result<Result<(usize, u32), CheckError>, Fail> {
+    let mut disk = disk_with(alloc, &PAGES)?;
+    put(&mut disk, TABLE_AT.saturating_add(at), &[byte]);
+    Ok(told(alloc, &mut disk, 2, (1, 1)))
+}
+
 #[test]
 fn a_byte_that_is_changed_is_told_or_does_not_matter(rt: HostRuntime) -> Result<(), Fail> {
-    for (at, byte, want) in CHANGES {
-        let mut disk = disk_with(rt.alloc(), &PAGES)?;
-        put(&mut disk, TABLE_AT.saturating_add(at), &[byte]);
-        let want = want.map_err(damaged);
-        assert_eq!(rt; told(rt.alloc(), &mut disk, 2, (1, 1)), want, "{at} {byte}");
+    for (at, byte, want) in &CHANGES {
+        let told = told_changed(rt.alloc(), *at, *byte)?;
+        assert!(rt; told == at_page(*want), "{at} {byte}");
     }
     Ok(())
 }

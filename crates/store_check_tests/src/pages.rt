@@ -1,8 +1,9 @@
 //! Pages that are a table's, and pages that are none.
-use crate::tables::{Rows, TABLE_AT, checked, disk_with};
-use row_pages::PageKind::{Catalogue, Rows as OfRows};
-use std::test::Fail;
+use crate::tables::{Rows, at_page, checked, disk_with};
 use store_check::CheckError;
+use row_pages::PageKind::{Catalogue, Rows as OfRows};
+use std::alloc::Global;
+use std::test::Fail;
 
 const ONE: &[u8] = &[0, 0, 1, 255];
 
@@ -23,12 +24,6 @@ const LONG: &[u8] = &[0, 0, 2, 255, 0];
 const NO_KEY: &[u8] = &[255, 255];
 
 const NO_MARK: &[u8] = &[0, 0, 2, 7];
-
-fn damaged(page: usize) -> Result<usize, CheckError> {
-    Err(CheckError::Damaged {
-        at: TABLE_AT.saturating_add(page.saturating_mul(8_192)),
-    })
-}
 
 /// Pages, how many of them are the table's, and how many rows it has, or the number of its first bad
 /// page.
@@ -75,15 +70,17 @@ const TABLE: [(&[Rows], usize, Result<usize, usize>); 22] = [
     (&[], 1, Err(0)),
 ];
 
+/// What is told of the table of these pages.
+fn told(alloc: Global, pages: &[Rows], count: usize) -> Result<Result<usize, CheckError>, Fail> {
+    let mut disk = disk_with(alloc, pages)?;
+    Ok(checked(alloc, &mut disk, count))
+}
+
 #[test]
 fn pages_are_whole_or_the_first_bad_one_is_told(rt: HostRuntime) -> Result<(), Fail> {
-    for (pages, count, want) in TABLE {
-        let mut disk = disk_with(rt.alloc(), pages)?;
-        let want = match want {
-            Ok(rows) => Ok(rows),
-            Err(page) => damaged(page),
-        };
-        assert_eq!(rt; checked(rt.alloc(), &mut disk, count), want);
+    for (place, (pages, count, want)) in TABLE.iter().enumerate() {
+        let told = told(rt.alloc(), pages, *count)?;
+        assert!(rt; told == at_page(*want), "{place}");
     }
     Ok(())
 }

@@ -2,12 +2,12 @@
 ghost use Rattle.std.specs.Prelude.{◌≡◌, ◌≤◌, length, take};
 
 use drda_disk::{Disk, MemDisk};
+use store_check::{CheckError, KeysBySchema, check_table};
 use row_pages::{PageBuilder, PageCache, PageKind};
 use row_values::{Column, Kind, Schema};
 use std::alloc::{AllocError, Global};
 use std::cmp::Ordering;
 use std::test::Fail;
-use store_check::{CheckError, KeysBySchema, check_table};
 use table_map::{RowKeys, TableMap};
 
 /// The keys of the rows, none of which is negative: the bytes of the first column.
@@ -103,6 +103,16 @@ pub fn disk_with(alloc: Global, pages: &[Rows]) -> Result<MemDisk, Fail> {
         at = at.saturating_add(8_192);
     }
     Ok(disk)
+}
+
+/// What is told where the page of this number is the first bad one.
+pub fn at_page<T>(told: Result<T, usize>) -> Result<T, CheckError> {
+    match told {
+        Ok(value) => Ok(value),
+        Err(page) => Err(CheckError::Damaged {
+            at: TABLE_AT.saturating_add(page.saturating_mul(8_192)),
+        }),
+    }
 }
 
 /// How many rows the table has by its map, once so many pages of it are found whole.
