@@ -1,8 +1,8 @@
 //! Conversations, each answered whole, cut at every place, byte by byte and in other pieces.
 
+use command_kit::Ask;
 use conversation::{Front, Need, Settings, SettingsError};
 use core_calls::{Answer, CoreCall};
-use command_kit::Ask;
 use std::alloc::Global;
 use std::test::Fail;
 use test_bytes::*;

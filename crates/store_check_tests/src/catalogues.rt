@@ -1,11 +1,11 @@
 //! Catalogues that are whole, and such that are not.
 use crate::tables::{DISK_BYTES, TABLE_AT, at_page, put};
 use drda_disk::{Disk, MemDisk};
-use store_check::{CheckError, check_catalogue};
 use row_pages::PageKind::{Catalogue, Rows};
 use row_pages::{PageBuilder, PageCache, PageKind};
 use std::alloc::{AllocError, Global};
 use std::test::Fail;
+use store_check::{CheckError, check_catalogue};
 
 /// A table: the one letter of its name, the number of its first page, and how many pages it has.
 type Table = (u8, u8, u8);

@@ -1,9 +1,9 @@
 //! Bytes of a page that are changed.
 use crate::tables::{Rows, TABLE_AT, checked, disk_with, put};
-use store_check::CheckError;
 use row_pages::PageKind::Rows as OfRows;
 use std::alloc::Global;
 use std::test::Fail;
+use store_check::CheckError;
 
 /// Three pages; the second one has 18 bytes in front of its zeros.
 const PAGES: [Rows; 3] = [

@@ -1,10 +1,10 @@
 //! Devices that fail.
 use crate::tables::{Rows, TABLE_AT, checked, disk_with};
 use drda_disk::FuseDisk;
-use store_check::CheckError;
 use row_pages::PageKind::Rows as OfRows;
 use std::alloc::Global;
 use std::test::Fail;
+use store_check::CheckError;
 
 const PAGES: [Rows; 2] = [(OfRows, &[&[0, 0, 1, 255]]), (OfRows, &[&[0, 0, 1, 255]])];
 

@@ -1,12 +1,12 @@
 //! Halves that are whole, and such that are not.
 use crate::tables::{FirstColumn, TABLE_AT, at_page, put};
 use drda_disk::{Disk, FuseDisk, MemDisk, Region};
-use store_check::{CheckError, CheckedTable, check_half};
 use half_store::{Active, Half};
 use row_pages::PageKind::{Catalogue, Rows};
 use row_pages::{PageBuilder, PageCache};
 use std::alloc::{AllocError, Global};
 use std::test::Fail;
+use store_check::{CheckError, CheckedTable, check_half};
 
 /// The bytes of a disk that has room for six pages behind the first one.
 const DISK_BYTES: usize = 57_344;

@@ -1,9 +1,9 @@
 //! Pages that are a table's, and pages that are none.
 use crate::tables::{Rows, at_page, checked, disk_with};
-use store_check::CheckError;
 use row_pages::PageKind::{Catalogue, Rows as OfRows};
 use std::alloc::Global;
 use std::test::Fail;
+use store_check::CheckError;
 
 const ONE: &[u8] = &[0, 0, 1, 255];
 

@@ -2,12 +2,12 @@
 ghost use Rattle.std.specs.Prelude.{◌≡◌, ◌≤◌, length, take};
 
 use drda_disk::{Disk, MemDisk};
-use store_check::{CheckError, KeysBySchema, check_table};
 use row_pages::{PageBuilder, PageCache, PageKind};
 use row_values::{Column, Kind, Schema};
 use std::alloc::{AllocError, Global};
 use std::cmp::Ordering;
 use std::test::Fail;
+use store_check::{CheckError, KeysBySchema, check_table};
 use table_map::{RowKeys, TableMap};
 
 /// The keys of the rows, none of which is negative: the bytes of the first column.
