@@ -1,11 +1,10 @@
 //! Commands as they come, byte by byte, and what they bring.
 
-use crate::fixtures::{Part, SECTION, command, verdict_of};
+use crate::fixtures::{Part, SECTION, Verdict, command, verdict_of};
 use ddm_objects::code_point::*;
 use drda_commands::{Accepted, DescribedSide, Stage, judge};
 use dss_frames::Segments;
 use std::alloc::{AllocError, Global};
-use std::test::Fail;
 
 // EXCSQLIMM of an INSERT, whose second indicator is neither 00 nor FF, and the same with FF.
 const WRONG_INDICATOR: &[u8] =
@@ -22,18 +21,19 @@ const SELECT: &[u8] =
 const START: &[u8] =
     b"\x00\x21\xD0\x01\x00\x10\x00\x1B\x10\x55\x00\x05\x11\x87\x09\x00\x12\x18\x01\x00\x00\x00\x01\x00\x00\x00\x01\x00\x00\x00\x01GB";
 
+const JUDGED: [(&[u8], Verdict); 4] = [
+    (WRONG_INDICATOR, (SYNTAXRM, 0x0B)),
+    (INSERT, (0, EXCSQLIMM)),
+    (SELECT, (0, PRPSQLSTT)),
+    (START, (0, SYNCCTL)),
+];
+
 #[test]
-fn commands_are_judged(rt: HostRuntime) -> Result<(), Fail> {
-    for (bytes, want) in [
-        (WRONG_INDICATOR, (SYNTAXRM, 0x0B)),
-        (INSERT, (0, EXCSQLIMM)),
-        (SELECT, (0, PRPSQLSTT)),
-        (START, (0, SYNCCTL)),
-    ] {
+fn commands_are_judged(rt: HostRuntime) {
+    for (bytes, want) in &JUDGED {
         let verdict = verdict_of(rt.alloc(), Stage::Opened, bytes);
-        assert_eq!(rt; verdict, Some(want), "{bytes:?}");
+        assert!(rt; verdict == Some(*want), "{bytes:?}");
     }
-    Ok(())
 }
 
 // What an accepted command brings, written down.
@@ -66,22 +66,27 @@ fn brought(alloc: Global, bytes: &[u8]) -> Option<String> {
     None
 }
 
+// Whether an accepted command brings this.
+fn brings(alloc: Global, bytes: &[u8], want: &str) -> Option<bool> {
+    Some(brought(alloc, bytes)?.as_str() == want)
+}
+
+const READ: [(&[u8], &str); 2] = [
+    (
+        SELECT,
+        "Some(64) Some([83, 69, 76, 69, 67, 84, 32, 42, 32, 70, 82, 79, 77, 32, 84]) None true false None None None None None",
+    ),
+    (
+        START,
+        "None None None false false None None Some(9) None None",
+    ),
+];
+
 #[test]
-fn items_are_read(rt: HostRuntime) -> Result<(), Fail> {
-    for (bytes, want) in [
-        (
-            SELECT,
-            "Some(64) Some([83, 69, 76, 69, 67, 84, 32, 42, 32, 70, 82, 79, 77, 32, 84]) None true false None None None None None",
-        ),
-        (
-            START,
-            "None None None false false None None Some(9) None None",
-        ),
-    ] {
-        let text = brought(rt.alloc(), bytes).ok_or("no text")?;
-        assert_eq!(rt; text.as_str(), want);
+fn items_are_read(rt: HostRuntime) {
+    for (bytes, want) in &READ {
+        assert!(rt; brings(rt.alloc(), bytes, want) == Some(true), "{want}");
     }
-    Ok(())
 }
 
 // Statements whose second text alone is present, and whose first text has no bytes.
@@ -139,12 +144,14 @@ const BROUGHT: [Case; 6] = [
     ),
 ];
 
+fn is_read(alloc: Global, (code, parameters, objects, want): &Case) -> Option<bool> {
+    let bytes = command(alloc, *code, parameters, objects).ok()?;
+    brings(alloc, &bytes, want)
+}
+
 #[test]
-fn each_item_is_read(rt: HostRuntime) -> Result<(), Fail> {
-    for (code, parameters, objects, want) in BROUGHT {
-        let bytes = command(rt.alloc(), code, parameters, objects)?;
-        let text = brought(rt.alloc(), &bytes).ok_or("no text")?;
-        assert_eq!(rt; text.as_str(), want);
+fn each_item_is_read(rt: HostRuntime) {
+    for case in &BROUGHT {
+        assert!(rt; is_read(rt.alloc(), case) == Some(true), "{}", case.3);
     }
-    Ok(())
 }

@@ -2,7 +2,6 @@
 
 use crate::fixtures::{Part, SECTION, STATEMENT, Verdict, judged};
 use ddm_objects::code_point::*;
-use std::test::Fail;
 
 // A command with a parameter, beside the others that it wants, and how it is judged.
 const PARAMETERS: [(u16, &[Part], Verdict); 37] = [
@@ -86,12 +85,11 @@ const PARAMETERS: [(u16, &[Part], Verdict); 37] = [
 ];
 
 #[test]
-fn parameters_have_their_forms(rt: HostRuntime) -> Result<(), Fail> {
-    for (command, parameters, want) in PARAMETERS {
-        let verdict = judged(rt.alloc(), command, parameters, &[]);
-        assert_eq!(rt; verdict, Some(want), "{command} {parameters:?}");
+fn parameters_have_their_forms(rt: HostRuntime) {
+    for (command, parameters, want) in &PARAMETERS {
+        let verdict = judged(rt.alloc(), *command, parameters, &[]);
+        assert!(rt; verdict == Some(*want), "{command} {parameters:?}");
     }
-    Ok(())
 }
 
 // PRPSQLSTT with RTNSQLDA.
@@ -104,13 +102,12 @@ const BOOLEANS: [(&[u8], Verdict); 5] = [
 ];
 
 #[test]
-fn booleans_are_f0_and_f1(rt: HostRuntime) -> Result<(), Fail> {
-    for (value, want) in BOOLEANS {
-        let parameters = [SECTION, (RTNSQLDA, value)];
+fn booleans_are_f0_and_f1(rt: HostRuntime) {
+    for (value, want) in &BOOLEANS {
+        let parameters = [SECTION, (RTNSQLDA, *value)];
         let verdict = judged(rt.alloc(), PRPSQLSTT, &parameters, &[STATEMENT]);
-        assert_eq!(rt; verdict, Some(want), "{value:?}");
+        assert!(rt; verdict == Some(*want), "{value:?}");
     }
-    Ok(())
 }
 
 // The texts of EXCSQLIMM's SQLSTT, and how it is judged: accepted, missing (0E), of another form (0B).
@@ -136,13 +133,11 @@ const TEXTS: [(&[u8], Verdict); 13] = [
 ];
 
 #[test]
-fn statements_are_two_texts(rt: HostRuntime) -> Result<(), Fail> {
-    for (value, want) in TEXTS {
-        let objects = [(SQLSTT, value)];
-        let verdict = judged(rt.alloc(), EXCSQLIMM, &[], &objects);
-        assert_eq!(rt; verdict, Some(want), "{value:?}");
+fn statements_are_two_texts(rt: HostRuntime) {
+    for (value, want) in &TEXTS {
+        let verdict = judged(rt.alloc(), EXCSQLIMM, &[], &[(SQLSTT, *value)]);
+        assert!(rt; verdict == Some(*want), "{value:?}");
     }
-    Ok(())
 }
 
 // PRPSQLSTT with SQLATTR, which may have no text.
@@ -153,11 +148,10 @@ const ATTRIBUTES: [(&[u8], Verdict); 3] = [
 ];
 
 #[test]
-fn attributes_may_have_no_text(rt: HostRuntime) -> Result<(), Fail> {
-    for (value, want) in ATTRIBUTES {
-        let objects = [STATEMENT, (SQLATTR, value)];
+fn attributes_may_have_no_text(rt: HostRuntime) {
+    for (value, want) in &ATTRIBUTES {
+        let objects = [STATEMENT, (SQLATTR, *value)];
         let verdict = judged(rt.alloc(), PRPSQLSTT, &[SECTION], &objects);
-        assert_eq!(rt; verdict, Some(want), "{value:?}");
+        assert!(rt; verdict == Some(*want), "{value:?}");
     }
-    Ok(())
 }

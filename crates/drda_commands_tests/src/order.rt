@@ -5,7 +5,7 @@ use crate::fixtures::{
 };
 use ddm_objects::code_point::*;
 use drda_commands::Stage;
-use std::alloc::Global;
+use std::alloc::{AllocError, Global};
 use std::test::Fail;
 
 const SHORT_SECTION: Part = (PKGNAMCSN, &[0x40; 63]);
@@ -137,12 +137,11 @@ const REFUSED: [Case; 27] = [
 ];
 
 #[test]
-fn the_earlier_refusal_counts(rt: HostRuntime) -> Result<(), Fail> {
-    for (code, parameters, objects, want) in REFUSED {
-        let verdict = judged(rt.alloc(), code, parameters, objects);
-        assert_eq!(rt; verdict, Some(want), "{code} {parameters:?} {objects:?}");
+fn the_earlier_refusal_counts(rt: HostRuntime) {
+    for (code, parameters, objects, want) in &REFUSED {
+        let verdict = judged(rt.alloc(), *code, parameters, objects);
+        assert!(rt; verdict == Some(*want), "{code} {parameters:?} {objects:?}");
     }
-    Ok(())
 }
 
 // How a malformed EXCSQLIMM is judged at a stage.
@@ -153,27 +152,28 @@ fn at_stage(alloc: Global, stage: Stage) -> Option<Verdict> {
 
 // The stage comes before the faults of objects.
 #[test]
-fn the_stage_is_judged_before_the_objects(rt: HostRuntime) -> Result<(), Fail> {
-    for (stage, want) in [
-        (Stage::Checked, (RDBNACRM, 0)),
-        (Stage::Opened, (SYNTAXRM, 0x0B)),
-    ] {
-        let verdict = at_stage(rt.alloc(), stage);
-        assert_eq!(rt; verdict, Some(want));
-    }
-    Ok(())
+fn the_stage_is_judged_before_the_objects(rt: HostRuntime) {
+    assert!(rt; at_stage(rt.alloc(), Stage::Checked) == Some((RDBNACRM, 0)));
+    assert!(rt; at_stage(rt.alloc(), Stage::Opened) == Some((SYNTAXRM, 0x0B)));
 }
 
 const COMMANDS: [u16; 10] = [
     EXCSQLIMM, PRPSQLSTT, DSCSQLSTT, EXCSQLSTT, OPNQRY, CNTQRY, CLSQRY, RDBCMM, RDBRLLBCK, SYNCCTL,
 ];
 
+// How a command with a short section's name twice is judged where the database is not open.
+fn unopened(alloc: Global, code: u16) -> Result<Option<Verdict>, AllocError> {
+    let bytes = command(alloc, code, &[SHORT_SECTION, SHORT_SECTION], &[])?;
+    Ok(verdict_of(alloc, Stage::Checked, &bytes))
+}
+
 #[test]
 fn the_database_is_needed_before_the_items(rt: HostRuntime) -> Result<(), Fail> {
-    for code in COMMANDS {
-        let bytes = command(rt.alloc(), code, &[SHORT_SECTION, SHORT_SECTION], &[])?;
-        let verdict = verdict_of(rt.alloc(), Stage::Checked, &bytes);
-        assert_eq!(rt; verdict, Some((RDBNACRM, 0)), "{code}");
+    for code in &COMMANDS {
+        assert!(rt;
+            unopened(rt.alloc(), *code)? == Some((RDBNACRM, 0)),
+            "{code}"
+        );
     }
     Ok(())
 }

@@ -5,8 +5,7 @@ use drda_disk::MemDisk;
 use drda_node::*;
 use std::alloc::Global;
 use std::io::{self, BufReader, ErrorKind, Read, Write};
-use std::test::Fail;
-use test_bytes::{BARE_EXCSAT, BARE_EXCSATRD, bytes_of};
+use test_bytes::{BARE_EXCSAT, BARE_EXCSATRD, bytes_of, push_texts};
 use test_nodes::node_of;
 
 // Whether these records are answered so, and then that the conversation is lost.
@@ -24,14 +23,21 @@ fn is_served(
     Some(ends_so(alloc, node, &mut reader, RunEnd::Ended, &answers))
 }
 
-#[test]
-fn answers_streams_of_events(rt: HostRuntime) -> Result<(), Fail> {
-    let mut node = node_of(rt.alloc()).ok_or("memory")?;
-    for (input, answers) in STREAMS {
-        let served = is_served(rt.alloc(), &mut node, input, answers);
-        assert_eq!(rt; served, Some(true), "{input:?}");
+// Over one node, how many of `STREAMS` are answered so before one is not.
+fn streams_served(alloc: Global) -> Option<usize> {
+    let mut node = node_of(alloc)?;
+    for (at, (input, answers)) in STREAMS.iter().enumerate() {
+        if !is_served(alloc, &mut node, input, answers)? {
+            return Some(at);
+        }
     }
-    Ok(())
+    Some(STREAMS.len())
+}
+
+#[test]
+fn answers_streams_of_events(rt: HostRuntime) {
+    let served = streams_served(rt.alloc());
+    assert!(rt; served == Some(STREAMS.len()), "{served:?}");
 }
 
 const LOST: [u8; 6] = [3, 0, 0, 0, 0, 0];
@@ -175,14 +181,21 @@ fn is_answered_at(
 /// A command, its reply, how many bytes are enough for it, and whether the conversation is closed then.
 type Cut = (&'static str, &'static str, usize, bool);
 
-#[test]
-fn answers_with_the_last_byte(rt: HostRuntime) -> Result<(), Fail> {
-    let mut node = node_of(rt.alloc()).ok_or("memory")?;
-    for cut in CUTS {
-        let answered = is_answered_at(rt.alloc(), &mut node, cut);
-        assert_eq!(rt; answered, Some(true), "{}", cut.0);
+// Over one node, how many of `CUTS` are answered so before one is not.
+fn cuts_answered(alloc: Global) -> Option<usize> {
+    let mut node = node_of(alloc)?;
+    for (at, cut) in CUTS.iter().enumerate() {
+        if !is_answered_at(alloc, &mut node, *cut)? {
+            return Some(at);
+        }
     }
-    Ok(())
+    Some(CUTS.len())
+}
+
+#[test]
+fn answers_with_the_last_byte(rt: HostRuntime) {
+    let answered = cuts_answered(rt.alloc());
+    assert!(rt; answered == Some(CUTS.len()), "{answered:?}");
 }
 
 const CUTS: [Cut; 5] = [
@@ -226,15 +239,22 @@ const STRAYS: [&str; 9] = [
     "01",
 ];
 
-// A conversation of its own for each of them.
-#[test]
-fn stops_at_bytes_of_no_event(rt: HostRuntime) -> Result<(), Fail> {
-    let mut node = node_of(rt.alloc()).ok_or("memory")?;
+// Over one node, how many of `STRAYS` it stops at before one at which it does not; a conversation of its
+// own for each of them.
+fn strays_stopped(alloc: Global) -> Option<usize> {
+    let mut node = node_of(alloc)?;
     for (number, stray) in STRAYS.iter().enumerate() {
-        let stopped = stops_at(rt.alloc(), &mut node, number, stray);
-        assert_eq!(rt; stopped, Some(true), "{stray}");
+        if !stops_at(alloc, &mut node, number, stray)? {
+            return Some(number);
+        }
     }
-    Ok(())
+    Some(STRAYS.len())
+}
+
+#[test]
+fn stops_at_bytes_of_no_event(rt: HostRuntime) {
+    let stopped = strays_stopped(rt.alloc());
+    assert!(rt; stopped == Some(STRAYS.len()), "{stopped:?}");
 }
 
 fn stops_at(alloc: Global, node: &mut Node<MemDisk>, number: usize, stray: &str) -> Option<bool> {
@@ -273,20 +293,42 @@ fn open_others(node: &mut Node<MemDisk>, first: ConversationId) -> Option<bool> 
     Some(node.open_conversation() == Err(OpenError::TooMany))
 }
 
-#[test]
-fn opens_sixty_four_conversations(rt: HostRuntime) -> Result<(), Fail> {
-    let mut node = node_of(rt.alloc()).ok_or("memory")?;
-    let first = node.open_conversation()?;
-    assert_eq!(rt; open_others(&mut node, first), Some(true));
+// Whether a conversation that is lost is not open any more, and one that is opened in its place has
+// another name.
+fn is_opened_anew(node: &mut Node<MemDisk>, first: ConversationId) -> Option<bool> {
     if node.is_open(first) {
         node.lost(first);
     }
-    assert!(rt; !node.is_open(first));
-    let again = node.open_conversation()?;
-    assert!(rt; again != first && node.is_open(again) && !node.is_open(first));
-    assert_eq!(rt; node.checkpoint(), Done::Done);
-    Ok(())
+    let is_lost = !node.is_open(first);
+    let again = node.open_conversation().ok()?;
+    Some(is_lost && again != first && node.is_open(again) && !node.is_open(first))
 }
+
+fn opens_all(alloc: Global) -> Option<bool> {
+    let mut node = node_of(alloc)?;
+    let first = node.open_conversation().ok()?;
+    let are_open = open_others(&mut node, first)? && is_opened_anew(&mut node, first)?;
+    Some(are_open && node.checkpoint() == Done::Done)
+}
+
+#[test]
+fn opens_sixty_four_conversations(rt: HostRuntime) {
+    assert!(rt; opens_all(rt.alloc()) == Some(true));
+}
+
+// Bytes of a new conversation, how many of them are taken, and its state then. Behind a faulty header no
+// byte is taken.
+const FED: [(&str, usize, FedState); 5] = [
+    (BARE_EXCSAT, 10, FedState::Open),
+    ("000A D001 0001 0004", 8, FedState::Open),
+    ("000A D101 0001 0004 1041", 6, FedState::Closed),
+    (
+        "000A D001 0001 0004 1041 0005 D001 0001 0004 1041",
+        16,
+        FedState::Closed,
+    ),
+    ("800A D001 0001 0004 1041 0002 0004", 12, FedState::Closed),
+];
 
 // What became of these bytes of a new conversation.
 fn fed_with(alloc: Global, node: &mut Node<MemDisk>, text: &str) -> Option<Fed> {
@@ -299,25 +341,22 @@ fn fed_with(alloc: Global, node: &mut Node<MemDisk>, text: &str) -> Option<Fed> 
     Some(node.feed(id, &bytes, &mut out))
 }
 
-#[test]
-fn takes_bytes_up_to_a_faulty_header(rt: HostRuntime) -> Result<(), Fail> {
-    let mut node = node_of(rt.alloc()).ok_or("memory")?;
-    for (text, taken, state) in [
-        (BARE_EXCSAT, 10, FedState::Open),
-        ("000A D001 0001 0004", 8, FedState::Open),
-        // Behind a faulty header no byte is taken.
-        ("000A D101 0001 0004 1041", 6, FedState::Closed),
-        (
-            "000A D001 0001 0004 1041 0005 D001 0001 0004 1041",
-            16,
-            FedState::Closed,
-        ),
-        ("800A D001 0001 0004 1041 0002 0004", 12, FedState::Closed),
-    ] {
-        let fed = fed_with(rt.alloc(), &mut node, text);
-        assert_eq!(rt; fed, Some(Fed { taken, state }), "{text}");
+// Over one node, how many of `FED` are taken so before one is not.
+fn texts_fed(alloc: Global) -> Option<usize> {
+    let mut node = node_of(alloc)?;
+    for (at, (text, taken, state)) in FED.iter().enumerate() {
+        let fed = fed_with(alloc, &mut node, text)?;
+        if fed.taken != *taken || fed.state != *state {
+            return Some(at);
+        }
     }
-    Ok(())
+    Some(FED.len())
+}
+
+#[test]
+fn takes_bytes_up_to_a_faulty_header(rt: HostRuntime) {
+    let fed = texts_fed(rt.alloc());
+    assert!(rt; fed == Some(FED.len()), "{fed:?}");
 }
 
 // A stream that gives a byte at a time.
@@ -341,33 +380,41 @@ impl Read for OneByOne<'_> {
     }
 }
 
-#[test]
-fn reads_byte_by_byte(rt: HostRuntime) -> Result<(), Fail> {
-    let mut node = node_of(rt.alloc()).ok_or("memory")?;
-    // One record of 4,000 bytes: 400 times EXCSAT.
-    let mut input = bytes_of(rt.alloc(), &[OPEN, "02 00 00000FA0"])?;
-    let mut answers = bytes_of(rt.alloc(), &[OPEN, "02 00 00004C90"])?;
-    for _ in 0..400 {
-        input.extend_from_slice(&bytes_of(rt.alloc(), &[BARE_EXCSAT])?)?;
-        answers.extend_from_slice(&bytes_of(rt.alloc(), &[BARE_EXCSATRD])?)?;
+// The bytes of the first texts, and then so many times those of the other one.
+fn repeated(alloc: Global, first: &[&str], text: &str, times: u32) -> Option<Vec<u8>> {
+    let mut bytes = bytes_of(alloc, first).ok()?;
+    for _ in 0..times {
+        push_texts(&mut bytes, &[text]).ok()?;
     }
+    Some(bytes)
+}
+
+// Whether a record of 4,000 bytes that come one by one, 400 times EXCSAT, is answered.
+fn is_read_byte_by_byte(alloc: Global) -> Option<bool> {
+    let mut node = node_of(alloc)?;
+    let input = repeated(alloc, &[OPEN, "02 00 00000FA0"], BARE_EXCSAT, 400)?;
+    let answers = repeated(alloc, &[OPEN, "02 00 00004C90"], BARE_EXCSATRD, 400)?;
     let mut reader = OneByOne { bytes: &input };
-    assert!(rt; ends_so(rt.alloc(), &mut node, &mut reader, RunEnd::Ended, &answers));
-    Ok(())
+    Some(ends_so(alloc, &mut node, &mut reader, RunEnd::Ended, &answers))
 }
 
 #[test]
-fn serves_thousands_of_events(rt: HostRuntime) -> Result<(), Fail> {
-    let mut node = node_of(rt.alloc()).ok_or("memory")?;
-    let mut input = Vec::new(rt.alloc());
-    let mut answers = Vec::new(rt.alloc());
-    for _ in 0..4000 {
-        input.extend_from_slice(&[4, 9, 0, 0, 0, 0])?;
-        answers.extend_from_slice(&[4, 9, 0, 0, 0, 1, 0])?;
-    }
+fn reads_byte_by_byte(rt: HostRuntime) {
+    assert!(rt; is_read_byte_by_byte(rt.alloc()) == Some(true));
+}
+
+// Whether so many checkpoints are answered.
+fn are_served(alloc: Global, times: u32) -> Option<bool> {
+    let mut node = node_of(alloc)?;
+    let input = repeated(alloc, &[], "0409 00000000", times)?;
+    let answers = repeated(alloc, &[], "0409 00000001 00", times)?;
     let mut reader = input.as_slice();
-    assert!(rt; ends_so(rt.alloc(), &mut node, &mut reader, RunEnd::Ended, &answers));
-    Ok(())
+    Some(ends_so(alloc, &mut node, &mut reader, RunEnd::Ended, &answers))
+}
+
+#[test]
+fn serves_thousands_of_events(rt: HostRuntime) {
+    assert!(rt; are_served(rt.alloc(), 4_000) == Some(true));
 }
 
 // A stream that fails behind its bytes.
@@ -393,21 +440,16 @@ impl Read for Failing<'_> {
     }
 }
 
-#[test]
-fn tells_of_a_reader_that_fails(rt: HostRuntime) -> Result<(), Fail> {
-    let mut node = node_of(rt.alloc()).ok_or("memory")?;
-    let (input, answers) = records_of(rt.alloc(), 0).ok_or("memory")?;
+fn tells_of_reader(alloc: Global) -> Option<bool> {
+    let mut node = node_of(alloc)?;
+    let (input, answers) = records_of(alloc, 0)?;
     let mut reader = Failing { bytes: &input };
-    assert!(rt;
-        ends_so(
-            rt.alloc(),
-            &mut node,
-            &mut reader,
-            RunEnd::ReadFault,
-            &answers
-        )
-    );
-    Ok(())
+    Some(ends_so(alloc, &mut node, &mut reader, RunEnd::ReadFault, &answers))
+}
+
+#[test]
+fn tells_of_a_reader_that_fails(rt: HostRuntime) {
+    assert!(rt; tells_of_reader(rt.alloc()) == Some(true));
 }
 
 // A stream that takes so many bytes, one at a time, and then fails.
@@ -445,15 +487,22 @@ fn fails_behind(alloc: Global, node: &mut Node<MemDisk>, room: u8) -> Option<boo
     Some(end == RunEnd::WriteFault && Some(writer.taken.as_slice()) == answers.get(..room))
 }
 
-// A conversation of its own for each count of bytes that are written: the answers have 61.
-#[test]
-fn tells_of_a_writer_that_fails(rt: HostRuntime) -> Result<(), Fail> {
-    let mut node = node_of(rt.alloc()).ok_or("memory")?;
+// The first count of bytes that are written behind which it does not fail: the answers have 61. A
+// conversation of its own for each.
+fn rooms_failed(alloc: Global) -> Option<u8> {
+    let mut node = node_of(alloc)?;
     for room in 0..61 {
-        let failed = fails_behind(rt.alloc(), &mut node, room);
-        assert_eq!(rt; failed, Some(true), "{room}");
+        if !fails_behind(alloc, &mut node, room)? {
+            return Some(room);
+        }
     }
-    Ok(())
+    Some(61)
+}
+
+#[test]
+fn tells_of_a_writer_that_fails(rt: HostRuntime) {
+    let failed = rooms_failed(rt.alloc());
+    assert!(rt; failed == Some(61), "{failed:?}");
 }
 
 // A stream that gives so many bytes at a time.
@@ -513,13 +562,20 @@ fn times_written(alloc: Global, node: &mut Node<MemDisk>, size: usize) -> Option
 // Records of six bytes: all at once; two at a time; one and a half; one; in two pieces each.
 const TIMES_WRITTEN: [(usize, u32); 5] = [(64, 1), (12, 2), (9, 3), (6, 4), (3, 4)];
 
+// Over one node, how many of `TIMES_WRITTEN` are so before one is not.
+fn sizes_written(alloc: Global) -> Option<usize> {
+    let mut node = node_of(alloc)?;
+    for (at, (size, times)) in TIMES_WRITTEN.iter().enumerate() {
+        if times_written(alloc, &mut node, *size)? != *times {
+            return Some(at);
+        }
+    }
+    Some(TIMES_WRITTEN.len())
+}
+
 // Answers are written together where the next record is ready, and before it is waited for where not.
 #[test]
-fn writes_before_it_waits(rt: HostRuntime) -> Result<(), Fail> {
-    let mut node = node_of(rt.alloc()).ok_or("memory")?;
-    for (size, times) in TIMES_WRITTEN {
-        let written = times_written(rt.alloc(), &mut node, size);
-        assert_eq!(rt; written, Some(times), "{size}");
-    }
-    Ok(())
+fn writes_before_it_waits(rt: HostRuntime) {
+    let written = sizes_written(rt.alloc());
+    assert!(rt; written == Some(TIMES_WRITTEN.len()), "{written:?}");
 }
