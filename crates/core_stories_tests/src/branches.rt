@@ -2,134 +2,120 @@
 
 use crate::calls::Verb;
 
-/// Where a branch stands, with the conversation that was the last to start or join it.
-#[derive(Clone, Copy, PartialEq)]
-pub enum State {
-    Active(usize),
-    Idle(usize),
+#[derive(Clone, Copy)]
+pub enum Stands {
+    /// It is not known.
+    Unknown,
+    Active,
+    Idle,
     /// It can only be rolled back.
-    Failed(usize),
+    Failed,
     Prepared,
 }
 
+/// Where a branch stands, with the conversation that was the last to start or join it.
+#[derive(Clone, Copy)]
+pub struct State {
+    pub stands: Stands,
+    pub last: usize,
+}
+
 /// What becomes of the branch and its unit.
-#[derive(Clone, Copy, PartialEq)]
+#[derive(Clone, Copy)]
 pub enum Effect {
     Stays,
-    Becomes(State),
+    /// The conversation starts or joins it.
+    Enters,
+    Idles,
+    Fails,
+    Prepares,
     Commits,
     RollsBack,
 }
 
-/// What the answer depends on besides the branch's state.
+/// What the answer depends on besides where the branch stands.
 #[derive(Clone, Copy)]
 pub struct Facts {
-    pub conversation: usize,
-    /// It is joined to some branch.
+    /// The conversation is joined to some branch.
     pub is_joined: bool,
-    /// Its local unit has a claim or a change.
+    /// Its local unit has a claim; without one it has no change either.
     pub is_local: bool,
+    /// It was the last to start or join this branch.
+    pub is_last: bool,
     /// The branch's unit has a change.
     pub has_changes: bool,
 }
 
-type Due = (i32, Effect);
+/// The code, and what becomes of the branch.
+pub type Due = (i64, Effect);
 
-fn start(facts: &Facts) -> Due {
+const UNKNOWN: Due = (-4, Effect::Stays);
+
+const REFUSED: Due = (-6, Effect::Stays);
+
+const IS_KNOWN: Due = (-8, Effect::Stays);
+
+const IS_LOCAL: Due = (-9, Effect::Stays);
+
+const FAILED: Due = (100, Effect::Stays);
+
+const ENTERS: Due = (0, Effect::Enters);
+
+const IDLES: Due = (0, Effect::Idles);
+
+const FAILS: Due = (0, Effect::Fails);
+
+const PREPARES: Due = (0, Effect::Prepares);
+
+const READ_ONLY: Due = (3, Effect::Commits);
+
+const COMMITS: Due = (0, Effect::Commits);
+
+const ROLLS_BACK: Due = (0, Effect::RollsBack);
+
+const ENDS: Due = (100, Effect::RollsBack);
+
+// A line for each verb, by where the branch stands; what the facts change of it is in `due`.
+static LINES: [[Due; 5]; 10] = [
+    [ENTERS, IS_KNOWN, IS_KNOWN, IS_KNOWN, IS_KNOWN],
+    [UNKNOWN, REFUSED, ENTERS, FAILED, REFUSED],
+    [UNKNOWN, IDLES, IDLES, REFUSED, REFUSED],
+    [UNKNOWN, FAILS, FAILS, REFUSED, REFUSED],
+    [UNKNOWN, REFUSED, PREPARES, ENDS, REFUSED],
+    [UNKNOWN, REFUSED, REFUSED, REFUSED, COMMITS],
+    [UNKNOWN, REFUSED, COMMITS, ENDS, REFUSED],
+    [UNKNOWN, REFUSED, ROLLS_BACK, ROLLS_BACK, ROLLS_BACK],
+    [UNKNOWN, REFUSED, REFUSED, REFUSED, REFUSED],
+    [UNKNOWN, REFUSED, REFUSED, REFUSED, REFUSED],
+];
+
+// A conversation that starts or joins is free to.
+fn entered(due: Due, facts: Facts) -> Due {
     if facts.is_joined {
-        (-6, Effect::Stays)
+        REFUSED
     } else if facts.is_local {
-        (-9, Effect::Stays)
+        IS_LOCAL
     } else {
-        (0, Effect::Becomes(State::Active(facts.conversation)))
+        due
     }
 }
 
-fn join(state: State, facts: &Facts) -> Due {
-    if facts.is_joined {
-        return (-6, Effect::Stays);
-    }
-    if facts.is_local {
-        return (-9, Effect::Stays);
-    }
-    match state {
-        State::Idle(_) => (0, Effect::Becomes(State::Active(facts.conversation))),
-        State::Failed(_) => (100, Effect::Stays),
-        State::Active(_) | State::Prepared => (-6, Effect::Stays),
-    }
-}
-
-fn end(state: State, next: State, facts: &Facts) -> Due {
-    match state {
-        State::Active(last) | State::Idle(last) if last == facts.conversation => {
-            (0, Effect::Becomes(next))
-        }
-        _ => (-6, Effect::Stays),
-    }
-}
-
-fn prepare(state: State, facts: &Facts) -> Due {
-    match state {
-        State::Active(_) | State::Prepared => (-6, Effect::Stays),
-        State::Failed(_) => (100, Effect::RollsBack),
-        State::Idle(_) if facts.has_changes => (0, Effect::Becomes(State::Prepared)),
-        State::Idle(_) => (3, Effect::Commits),
-    }
-}
-
-fn one_phase(state: State) -> Due {
-    match state {
-        State::Active(_) | State::Prepared => (-6, Effect::Stays),
-        State::Failed(_) => (100, Effect::RollsBack),
-        State::Idle(_) => (0, Effect::Commits),
-    }
-}
-
-fn commit(state: State) -> Due {
-    if state == State::Prepared {
-        (0, Effect::Commits)
-    } else {
-        (-6, Effect::Stays)
-    }
-}
-
-fn roll_back(state: State) -> Due {
-    match state {
-        State::Active(_) => (-6, Effect::Stays),
-        State::Idle(_) | State::Failed(_) | State::Prepared => (0, Effect::RollsBack),
-    }
-}
-
-fn due_of_known(verb: Verb, state: State, facts: &Facts) -> Due {
-    let conversation = facts.conversation;
-    match verb {
-        Verb::Start => (-8, Effect::Stays),
-        Verb::Join => join(state, facts),
-        Verb::End => end(state, State::Idle(conversation), facts),
-        Verb::Fail => end(state, State::Failed(conversation), facts),
-        Verb::Prepare => prepare(state, facts),
-        Verb::Commit => commit(state),
-        Verb::OnePhase => one_phase(state),
-        Verb::RollBack => roll_back(state),
-        Verb::Forget | Verb::Recover => (-6, Effect::Stays),
-    }
-}
-
-/// The code that a call on a branch is answered, and what becomes of it. None is not known.
-pub fn due(verb: Verb, state: Option<State>, facts: &Facts) -> Due {
-    match state {
-        Some(state) => due_of_known(verb, state, facts),
-        None if verb == Verb::Start => start(facts),
-        None => (-4, Effect::Stays),
+/// What is due of a call on a branch.
+pub fn due(verb: Verb, stands: Stands, facts: Facts) -> Due {
+    let due = LINES[verb as usize][stands as usize];
+    match (verb, stands) {
+        (Verb::Join, Stands::Unknown) => due,
+        (Verb::Start, Stands::Unknown) | (Verb::Join, _) => entered(due, facts),
+        (Verb::End | Verb::Fail, Stands::Active | Stands::Idle) if !facts.is_last => REFUSED,
+        (Verb::Prepare, Stands::Idle) if !facts.has_changes => READ_ONLY,
+        _ => due,
     }
 }
 
 /// Whether the branch goes with this conversation.
-pub fn goes_with(state: Option<State>, conversation: usize) -> bool {
-    match state {
-        Some(State::Active(last)) | Some(State::Idle(last)) | Some(State::Failed(last)) => {
-            last == conversation
-        }
-        Some(State::Prepared) | None => false,
+pub fn goes_with(state: State, conversation: usize) -> bool {
+    match state.stands {
+        Stands::Active | Stands::Idle | Stands::Failed => state.last == conversation,
+        Stands::Unknown | Stands::Prepared => false,
     }
 }

@@ -3,7 +3,7 @@
 use crate::statements::Statement;
 
 /// What an XA call asks of a branch.
-#[derive(Clone, Copy, PartialEq)]
+#[derive(Clone, Copy)]
 pub enum Verb {
     Start,
     Join,
@@ -24,14 +24,20 @@ pub type Spelled = (u8, Option<&'static [u8]>, Option<Verb>);
 /// of their bytes.
 pub type Branch = (Option<&'static [u8]>, Option<usize>);
 
+/// How a statement is asked.
+#[derive(Clone, Copy)]
+pub enum How {
+    Run,
+    Query,
+    /// Its columns are described.
+    Columns,
+    /// Its parameters are described.
+    Parameters,
+}
+
 #[derive(Clone, Copy)]
 pub enum Call {
-    Run(Statement),
-    Query(Statement),
-    /// Its columns.
-    Columns(Statement),
-    /// Its parameters.
-    Parameters(Statement),
+    Ask(How, Statement),
     Commit,
     RollBack,
     Xa(Spelled, Branch),
@@ -39,7 +45,7 @@ pub enum Call {
 }
 
 /// What is to come often stands more than once.
-pub const SPELLED: [Spelled; 32] = [
+pub static SPELLED: [Spelled; 32] = [
     (0x09, None, Some(Verb::Start)),
     (0x09, None, Some(Verb::Start)),
     (0x09, Some(&[0x00, 0x20, 0, 0]), Some(Verb::Join)),
@@ -75,7 +81,7 @@ pub const SPELLED: [Spelled; 32] = [
 ];
 
 /// The good XIDs.
-pub const GOOD: [Branch; 3] = [
+pub static GOOD: [Branch; 3] = [
     (
         Some(&[0, 0, 0, 1, 0, 0, 0, 1, 0, 0, 0, 1, 0x42, 0x78]),
         Some(0),
@@ -88,7 +94,7 @@ pub const GOOD: [Branch; 3] = [
 ];
 
 /// One with bytes behind it, the null XID, one that is cut, one without a global part, none.
-pub const ODD: [Branch; 5] = [
+pub static ODD: [Branch; 5] = [
     (
         Some(&[0, 0, 0, 1, 0, 0, 0, 1, 0, 0, 0, 1, 0x42, 0x78, 0x79]),
         Some(0),

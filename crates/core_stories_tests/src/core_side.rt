@@ -1,9 +1,9 @@
 //! What the core tells, as plain data.
 
-use crate::calls::{Branch, Call, Spelled};
+use crate::calls::{Branch, Call, How, Spelled};
 use crate::spelling::{marker_values, spelled};
-use crate::statements::Statement as Asked;
-use crate::told::{Cell, Doubts, NO_ROWS, Told};
+use crate::statements::{Statement as Asked, given_count};
+use crate::told::{Cell, STRANGE, Told, What, tell, tell_bytes};
 use core_calls::{Answer, CoreCall, OutputColumns, Refusal, Side};
 use rdb_core::Core;
 use row_values::{RowRef, Value};
@@ -13,57 +13,63 @@ use tables::RowList;
 use unit_records::NoRecords;
 use xa_calls::{Request, Xid};
 
-fn cell(value: Value<'_>) -> Cell {
+fn cell(value: Option<Value<'_>>) -> Cell {
     match value {
-        Value::Null => Cell::Null,
-        Value::Number(number) => Cell::Number(number),
-        Value::Text(_) | Value::Bytes(_) => Cell::Strange,
+        None => None,
+        Some(Value::Null) => Some(None),
+        Some(Value::Number(number)) => Some(Some(number)),
+        Some(Value::Text(_)) | Some(Value::Bytes(_)) => STRANGE,
+    }
+}
+
+// The cell at a place, if there is such a place.
+fn cell_at(cells: [Cell; 2], place: Option<&u8>) -> Cell {
+    match place {
+        None => None,
+        Some(0) => cells[0],
+        Some(1) => cells[1],
+        Some(_) => STRANGE,
     }
 }
 
 // The values of the columns at these places.
 fn cells(row: RowRef<'_>, places: &[u8]) -> [Cell; 2] {
-    let mut all = [Cell::Nothing; 2];
-    for (slot, value) in all.iter_mut().zip(row.values()) {
-        *slot = cell(value);
-    }
-    let mut chosen = [Cell::Nothing; 2];
-    for (slot, place) in chosen.iter_mut().zip(places) {
-        *slot = match all.get(usize::from(*place)) {
-            Some(cell) => *cell,
-            None => Cell::Strange,
-        };
-    }
-    chosen
+    let mut values = row.values();
+    let first = cell(values.next());
+    let second = cell(values.next());
+    let all = [first, second];
+    [cell_at(all, places.get(0)), cell_at(all, places.get(1))]
 }
 
 fn rows(list: &RowList) -> Told {
+    let mut told = tell(What::Rows, 0);
     if list.len() > 5 || list.selected().len() > 2 {
-        return Told::Other;
+        told.what = What::Other;
+        return told;
     }
-    let mut shown = NO_ROWS;
     for i in 0..list.len() {
-        if let Some(slot) = shown.get_mut(i) {
-            *slot = cells(list.row(i), list.selected());
-        }
+        told.rows[i % 5] = cells(list.row(i), list.selected());
     }
-    Told::Rows(shown)
+    told
 }
 
 fn columns(described: &OutputColumns) -> Told {
-    let mut places = [0; 2];
-    for (slot, place) in places.iter_mut().zip(described.selected()) {
-        *slot = *place;
-    }
-    Told::Columns(described.selected().len(), places)
+    let places = described.selected();
+    let bytes = match places {
+        [] => [0; 5],
+        [first] => [*first, 0, 0, 0, 0],
+        [first, second, ..] => [*first, *second, 0, 0, 0],
+    };
+    tell_bytes(What::Columns, places.len() as i64, bytes)
 }
 
 fn refused(refusal: Refusal) -> Told {
-    let is_kept = match refusal {
-        Refusal::Meaning(_) => true,
-        Refusal::Unfit(_) | Refusal::Clashes | Refusal::TooManyClaims => false,
+    let what = match refusal {
+        Refusal::Meaning(_) => What::Refused,
+        Refusal::Unfit(_) | Refusal::Clashes | Refusal::TooManyClaims => What::Unclaimed,
     };
-    Told::Refused(is_kept, refusal.fault().code(), *refusal.fault().state())
+    let fault = refusal.fault();
+    tell_bytes(what, i64::from(fault.code()), *fault.state())
 }
 
 // The place of an XID among the good ones: their global parts differ.
@@ -77,28 +83,25 @@ fn branch_of(xid: &Xid) -> u8 {
 }
 
 fn doubts(xids: &[Xid]) -> Told {
-    let mut doubts: Doubts = [9; 3];
-    if xids.len() > 3 {
-        return Told::Other;
+    let mut doubts = [9, 9, 9, 0, 0];
+    for (i, xid) in xids.iter().enumerate() {
+        doubts[i % 5] = branch_of(xid);
     }
-    for (slot, xid) in doubts.iter_mut().zip(xids) {
-        *slot = branch_of(xid);
-    }
-    Told::InDoubt(doubts)
+    tell_bytes(What::InDoubt, 0, doubts)
 }
 
 fn plain(answer: Answer) -> Told {
     match answer {
-        Answer::Count(count) => Told::Count(count),
+        Answer::Count(count) => tell(What::Count, i64::from(count)),
         Answer::Rows(list) => rows(&list),
         Answer::Output(described) => columns(&described),
-        Answer::Input(types) => Told::Types(types.as_slice().len()),
-        Answer::Done => Told::Done,
+        Answer::Input(types) => tell(What::Types, types.as_slice().len() as i64),
+        Answer::Done => tell(What::Done, 0),
         Answer::Refused(refusal) => refused(refusal),
-        Answer::InGlobal => Told::InGlobal,
-        Answer::Xa(code) => Told::Code(code.number()),
+        Answer::InGlobal => tell(What::InGlobal, 0),
+        Answer::Xa(code) => tell(What::Code, i64::from(code.number())),
         Answer::InDoubt(xids) => doubts(xids.as_slice()),
-        _ => Told::Other,
+        _ => tell(What::Other, 0),
     }
 }
 
@@ -108,14 +111,6 @@ fn step(core: &mut Core<NoRecords>, conversation: u64, call: &CoreCall<'_, '_>) 
 
 fn parsed<'a>(alloc: Global, text: &'a str) -> Result<Statement<'a>, SqlError> {
     parse(alloc, text)
-}
-
-// How a statement is asked.
-#[derive(Clone, Copy)]
-enum How {
-    Run,
-    Query,
-    Describe(Side),
 }
 
 fn ask_text<'t>(
@@ -136,7 +131,14 @@ fn ask_text<'t>(
             statement,
             parameters,
         },
-        How::Describe(side) => CoreCall::Describe { statement, side },
+        How::Columns => CoreCall::Describe {
+            statement,
+            side: Side::Output,
+        },
+        How::Parameters => CoreCall::Describe {
+            statement,
+            side: Side::Input,
+        },
     };
     Some(step(core, conversation, &call))
 }
@@ -149,12 +151,14 @@ fn ask(
     asked: &Asked,
 ) -> Option<Told> {
     let text = spelled(alloc, asked).ok()?;
-    let values = marker_values(asked);
-    let given = values.get(..asked.bound_count())?;
+    let markers = asked.markers();
+    let values = marker_values(markers);
+    let count = given_count(asked.bound, markers.count);
+    let given = values.get(..usize::from(count))?;
     ask_text(alloc, core, conversation, how, &text, given)
 }
 
-fn xa(core: &mut Core<NoRecords>, conversation: u64, spelled: &Spelled, branch: &Branch) -> Told {
+fn xa(core: &mut Core<NoRecords>, conversation: u64, spelled: Spelled, branch: Branch) -> Told {
     let request = Request::read(spelled.0, spelled.1, branch.0);
     plain(core.xa(conversation, &request))
 }
@@ -167,25 +171,10 @@ pub fn ask_core(
     call: &Call,
 ) -> Option<Told> {
     match call {
-        Call::Run(asked) => ask(alloc, core, conversation, How::Run, asked),
-        Call::Query(asked) => ask(alloc, core, conversation, How::Query, asked),
-        Call::Columns(asked) => ask(
-            alloc,
-            core,
-            conversation,
-            How::Describe(Side::Output),
-            asked,
-        ),
-        Call::Parameters(asked) => ask(
-            alloc,
-            core,
-            conversation,
-            How::Describe(Side::Input),
-            asked,
-        ),
+        Call::Ask(how, asked) => ask(alloc, core, conversation, *how, asked),
         Call::Commit => Some(plain(core.commit(conversation))),
         Call::RollBack => Some(plain(core.roll_back(conversation))),
-        Call::Xa(spelled, branch) => Some(xa(core, conversation, spelled, branch)),
+        Call::Xa(spelled, branch) => Some(xa(core, conversation, *spelled, *branch)),
         Call::Lost => Some(plain(core.lose(conversation))),
     }
 }

@@ -2,64 +2,65 @@
 
 use crate::machine::Machine;
 use crate::random::nth_call;
-use crate::told::{
-    CLAIMED, KEY_EXISTS, NO_COLUMN, NO_TABLE, NOT_PREPARED, NULL_GIVEN, OUT_OF_RANGE, SYNTAX,
-    TABLE_EXISTS, Told, WRONG_CLASS, WRONG_PARAMETERS,
-};
+use crate::told::{FAULTS, Told, What};
 
-const WANTED: [Told; 24] = [
-    NOT_PREPARED,
-    WRONG_PARAMETERS,
-    CLAIMED,
-    NO_TABLE,
-    NO_COLUMN,
-    SYNTAX,
-    WRONG_CLASS,
-    NULL_GIVEN,
-    OUT_OF_RANGE,
-    TABLE_EXISTS,
-    KEY_EXISTS,
-    Told::Count(0),
-    Told::Count(1),
-    Told::Count(2),
-    Told::Done,
-    Told::InGlobal,
-    Told::Code(0),
-    Told::Code(3),
-    Told::Code(100),
-    Told::Code(-6),
-    Told::Code(-8),
-    Told::Code(-9),
-    Told::InDoubt([1, 9, 9]),
-    Told::InDoubt([2, 9, 9]),
+// What, the number and the bytes.
+type Wanted = (What, i64, [u8; 5]);
+
+// Besides each fault.
+static WANTED: [Wanted; 13] = [
+    (What::Count, 0, [0; 5]),
+    (What::Count, 1, [0; 5]),
+    (What::Count, 2, [0; 5]),
+    (What::Done, 0, [0; 5]),
+    (What::InGlobal, 0, [0; 5]),
+    (What::Code, 0, [0; 5]),
+    (What::Code, 3, [0; 5]),
+    (What::Code, 100, [0; 5]),
+    (What::Code, -6, [0; 5]),
+    (What::Code, -8, [0; 5]),
+    (What::Code, -9, [0; 5]),
+    (What::InDoubt, 0, [1, 9, 9, 0, 0]),
+    (What::InDoubt, 0, [2, 9, 9, 0, 0]),
 ];
 
-type Counts = [u32; 24];
+fn is_told(told: &Told, wanted: &Wanted) -> bool {
+    told.what == wanted.0 && told.number == wanted.1 && told.bytes == wanted.2
+}
 
-fn hear(counts: &mut Counts, told: Told) {
-    for (count, wanted) in counts.iter_mut().zip(WANTED) {
-        if told == wanted {
-            *count = count.saturating_add(1);
-        }
+// Which of the answers that are wanted were told.
+type Heard = [bool; 24];
+
+fn hear(heard: &mut Heard, told: &Told) {
+    for place in 0..11 {
+        heard[place] |= is_told(told, &FAULTS[place]);
+    }
+    for place in 0..13 {
+        heard[place + 11] |= is_told(told, &WANTED[place]);
     }
 }
 
-fn hear_list(counts: &mut Counts, seed: &mut u32, calls: u32) {
+fn hear_list(heard: &mut Heard, seed: &mut u32, calls: u32) {
     let mut machine = Machine::new();
     for at in 0..calls {
         let (conversation, call) = nth_call(at, seed);
-        hear(counts, machine.step(conversation, &call));
+        hear(heard, &machine.step(conversation, &call));
     }
+}
+
+fn heard_in(lists: u32) -> Heard {
+    let mut heard = [false; 24];
+    let mut seed = 1;
+    for _ in 0..lists {
+        hear_list(&mut heard, &mut seed, 80);
+    }
+    heard
 }
 
 #[test]
 fn lists_come_to_each_answer(rt: HostRuntime) {
-    let mut counts = [0; 24];
-    let mut seed = 1;
-    for _ in 0..2_000 {
-        hear_list(&mut counts, &mut seed, 80);
-    }
-    for (count, wanted) in counts.iter().zip(WANTED) {
-        assert!(rt; *count > 0, "{wanted:?}");
+    let heard = heard_in(2_000);
+    for place in 0..24 {
+        assert!(rt; heard[place], "answer {place}");
     }
 }

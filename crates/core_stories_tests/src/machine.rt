@@ -1,11 +1,11 @@
-//! The plain server.
+//! The plain server. Numbers of units, branches and tables are taken modulo how many there are.
 
-use crate::branches::{Effect, Facts, State, due, goes_with};
-use crate::calls::{Branch, Call, Spelled, Verb};
-use crate::meaning::{Answer, answer_to, claims_of, described_claims, description};
-use crate::plain_tables::{Changes, Claims, Store, Table};
-use crate::statements::{Kind, Statement};
-use crate::told::{CLAIMED, Doubts, NOT_PREPARED, Told, WRONG_PARAMETERS};
+use crate::branches::{Effect, Facts, Stands, State, due, goes_with};
+use crate::calls::{Branch, Call, How, Spelled, Verb};
+use crate::meaning::{Answer, answer_to, claims_of, described, described_claims};
+use crate::plain_tables::{Changes, Claims, Store, TABLES, Table};
+use crate::statements::{Kind, Statement, given_count};
+use crate::told::{Fault, Told, What, refused, tell, tell_bytes};
 
 /// How many branches there may be.
 pub const BRANCHES: usize = 3;
@@ -15,16 +15,17 @@ pub const UNITS: usize = 6;
 
 #[derive(Clone, Copy)]
 pub struct Unit {
-    pub changes: Changes,
+    pub changes: [Changes; TABLES],
     pub claims: Claims,
 }
 
-impl Unit {
-    fn idle() -> Unit {
-        Unit {
-            changes: Changes::none(),
-            claims: Claims::none(),
-        }
+fn idle() -> Unit {
+    Unit {
+        changes: [Changes::none(); TABLES],
+        claims: Claims {
+            reads: 0,
+            writes: 0,
+        },
     }
 }
 
@@ -32,56 +33,51 @@ impl Unit {
 pub struct Machine {
     pub store: Store,
     pub units: [Unit; UNITS],
-    pub branches: [Option<State>; BRANCHES],
+    pub branches: [State; BRANCHES],
 }
 
 // The place of a branch's unit.
 fn of_branch(branch: usize) -> usize {
-    branch.saturating_add(BRANCHES)
+    branch % BRANCHES + BRANCHES
 }
 
 impl Machine {
     pub fn new() -> Machine {
+        let unknown = State {
+            stands: Stands::Unknown,
+            last: 0,
+        };
         Machine {
-            store: [None; 2],
-            units: [Unit::idle(); UNITS],
-            branches: [None; BRANCHES],
+            store: [None; TABLES],
+            units: [idle(); UNITS],
+            branches: [unknown; BRANCHES],
         }
     }
 
     // The branch that a conversation is joined to.
     fn joined(&self, conversation: usize) -> Option<usize> {
-        self.branches
-            .iter()
-            .position(|state| *state == Some(State::Active(conversation)))
+        for branch in 0..BRANCHES {
+            let state = self.branches[branch];
+            if matches!(state.stands, Stands::Active) & (state.last == conversation) {
+                return Some(branch);
+            }
+        }
+        None
     }
 
     // The unit that it works in.
     fn owner(&self, conversation: usize) -> usize {
         match self.joined(conversation) {
             Some(branch) => of_branch(branch),
-            None => conversation,
-        }
-    }
-
-    fn unit(&self, owner: usize) -> Unit {
-        match self.units.get(owner) {
-            Some(unit) => *unit,
-            None => Unit::idle(),
-        }
-    }
-
-    fn set_unit(&mut self, owner: usize, unit: Unit) {
-        if let Some(slot) = self.units.get_mut(owner) {
-            *slot = unit;
+            None => conversation % UNITS,
         }
     }
 
     fn others(&self, owner: usize) -> Claims {
-        let mut claims = Claims::none();
+        let mut claims = idle().claims;
         for other in 0..UNITS {
             if other != owner {
-                claims.add(&self.units[other].claims);
+                claims = claims.with(self.units[other].claims);
             }
         }
         claims
@@ -89,163 +85,158 @@ impl Machine {
 
     // The table that a unit sees.
     fn seen(&self, owner: usize, table: usize) -> Option<Table> {
-        let view = self.unit(owner).changes.made_in(&self.store);
-        match view.get(table) {
-            Some(table) => *table,
-            None => None,
-        }
+        let changes = self.units[owner % UNITS].changes[table % TABLES];
+        changes.made_in(self.store[table % TABLES])
     }
 
-    // The unit gets these claims and changes, and this is told; or its claims clash.
-    fn kept(&mut self, owner: usize, claims: &Claims, answer: &Answer) -> Told {
-        if claims.clashes(&self.others(owner)) {
-            return CLAIMED;
+    // The unit gets these claims and the changes to this table, and the answer is told; or the claims
+    // clash.
+    fn kept(&mut self, owner: usize, table: usize, claims: Claims, answer: Answer) -> Told {
+        if claims.clash(self.others(owner)) {
+            return refused(Fault::Claimed);
         }
-        let mut unit = self.unit(owner);
-        unit.claims.add(claims);
-        let changes = unit.changes.and_then(&answer.changes);
-        let claims = unit.claims;
-        self.set_unit(owner, Unit { changes, claims });
+        let mut unit = self.units[owner % UNITS];
+        let changes = unit.changes[table % TABLES];
+        unit.claims = unit.claims.with(claims);
+        unit.changes[table % TABLES] = changes.and_then(answer.changes);
+        self.units[owner % UNITS] = unit;
         answer.told
     }
 
     fn ask(&mut self, conversation: usize, statement: &Statement, is_query: bool) -> Told {
-        if (statement.kind == Kind::Select) != is_query {
-            return NOT_PREPARED;
+        let markers = statement.markers().count;
+        if matches!(statement.kind, Kind::Select) != is_query {
+            refused(Fault::NotPrepared)
+        } else if given_count(statement.bound, markers) != markers {
+            refused(Fault::WrongParameters)
+        } else {
+            let owner = self.owner(conversation);
+            let table = self.seen(owner, statement.table);
+            let claims = claims_of(statement, table.is_some());
+            self.kept(owner, statement.table, claims, answer_to(statement, table))
         }
-        if statement.bound_count() != statement.markers() {
-            return WRONG_PARAMETERS;
-        }
-        let owner = self.owner(conversation);
-        let table = self.seen(owner, statement.table);
-        let claims = claims_of(statement, table.is_some());
-        self.kept(owner, &claims, &answer_to(statement, table))
     }
 
-    fn describe(
-        &mut self,
-        conversation: usize,
-        statement: &Statement,
-        of_parameters: bool,
-    ) -> Told {
-        if statement.kind == Kind::Create {
-            return NOT_PREPARED;
+    fn describe(&mut self, conversation: usize, statement: &Statement, of_columns: bool) -> Told {
+        if matches!(statement.kind, Kind::Create) {
+            return refused(Fault::NotPrepared);
         }
         let owner = self.owner(conversation);
         let is_there = self.seen(owner, statement.table).is_some();
-        let answer = Answer {
-            told: description(statement, is_there, of_parameters),
-            changes: Changes::none(),
-        };
-        self.kept(owner, &described_claims(statement, is_there), &answer)
+        let claims = described_claims(statement, is_there);
+        let answer = described(statement, is_there, of_columns);
+        self.kept(owner, statement.table, claims, answer)
     }
 
-    fn commit_unit(&mut self, owner: usize) {
-        self.store = self.unit(owner).changes.made_in(&self.store);
-        self.set_unit(owner, Unit::idle());
-    }
-
-    fn commit(&mut self, conversation: usize) -> Told {
-        if self.joined(conversation).is_some() {
-            return Told::InGlobal;
+    fn asked(&mut self, conversation: usize, how: How, statement: &Statement) -> Told {
+        match how {
+            How::Run => self.ask(conversation, statement, false),
+            How::Query => self.ask(conversation, statement, true),
+            How::Columns => self.describe(conversation, statement, true),
+            How::Parameters => self.describe(conversation, statement, false),
         }
-        self.commit_unit(conversation);
-        Told::Done
     }
 
-    fn roll_back(&mut self, conversation: usize) -> Told {
-        if self.joined(conversation).is_some() {
-            return Told::InGlobal;
+    // The unit ends, and its changes are made or not.
+    fn end_unit(&mut self, owner: usize, is_committed: bool) {
+        let changes = self.units[owner % UNITS].changes;
+        self.units[owner % UNITS] = idle();
+        if is_committed {
+            self.store = [
+                changes[0].made_in(self.store[0]),
+                changes[1].made_in(self.store[1]),
+            ];
         }
-        self.set_unit(conversation, Unit::idle());
-        Told::Done
+    }
+
+    fn end(&mut self, conversation: usize, is_committed: bool) -> Told {
+        if self.joined(conversation).is_some() {
+            return tell(What::InGlobal, 0);
+        }
+        self.end_unit(conversation, is_committed);
+        tell(What::Done, 0)
     }
 
     fn lose(&mut self, conversation: usize) -> Told {
-        self.set_unit(conversation, Unit::idle());
+        self.end_unit(conversation, false);
         for branch in 0..BRANCHES {
             if goes_with(self.branches[branch], conversation) {
-                self.branches[branch] = None;
-                self.set_unit(of_branch(branch), Unit::idle());
+                self.branches[branch].stands = Stands::Unknown;
+                self.end_unit(of_branch(branch), false);
             }
         }
-        Told::Done
+        tell(What::Done, 0)
     }
 
     fn facts(&self, conversation: usize, branch: usize) -> Facts {
-        let local = self.unit(conversation);
+        let claims = self.units[conversation % UNITS].claims;
+        let changes = self.units[of_branch(branch) % UNITS].changes;
         Facts {
-            conversation,
             is_joined: self.joined(conversation).is_some(),
-            is_local: local.claims.are_any() || local.changes.are_any(),
-            has_changes: self.unit(of_branch(branch)).changes.are_any(),
+            is_local: claims.reads | claims.writes != 0,
+            is_last: self.branches[branch % BRANCHES].last == conversation,
+            has_changes: changes[0].are_any() | changes[1].are_any(),
         }
     }
 
-    fn set_state(&mut self, branch: usize, state: Option<State>) {
-        if let Some(slot) = self.branches.get_mut(branch) {
-            *slot = state;
-        }
-    }
-
-    fn take_effect(&mut self, branch: usize, effect: Effect) {
+    // Where the branch stands behind an effect; its unit ends with it.
+    fn stands_after(&mut self, branch: usize, effect: Effect, stands: Stands) -> Stands {
         match effect {
-            Effect::Stays => {}
-            Effect::Becomes(state) => self.set_state(branch, Some(state)),
+            Effect::Stays => stands,
+            Effect::Enters => Stands::Active,
+            Effect::Idles => Stands::Idle,
+            Effect::Fails => Stands::Failed,
+            Effect::Prepares => Stands::Prepared,
             Effect::Commits => {
-                self.commit_unit(of_branch(branch));
-                self.set_state(branch, None);
+                self.end_unit(of_branch(branch), true);
+                Stands::Unknown
             }
             Effect::RollsBack => {
-                self.set_unit(of_branch(branch), Unit::idle());
-                self.set_state(branch, None);
+                self.end_unit(of_branch(branch), false);
+                Stands::Unknown
             }
         }
     }
 
     fn ask_branch(&mut self, conversation: usize, verb: Verb, branch: usize) -> Told {
-        let state = match self.branches.get(branch) {
-            Some(state) => *state,
-            None => None,
-        };
-        let (code, effect) = due(verb, state, &self.facts(conversation, branch));
-        self.take_effect(branch, effect);
-        Told::Code(code)
+        let mut state = self.branches[branch % BRANCHES];
+        let (code, effect) = due(verb, state.stands, self.facts(conversation, branch));
+        if matches!(effect, Effect::Enters) {
+            state.last = conversation;
+        }
+        state.stands = self.stands_after(branch, effect, state.stands);
+        self.branches[branch % BRANCHES] = state;
+        tell(What::Code, code)
     }
 
     fn in_doubt(&self) -> Told {
-        let mut doubts: Doubts = [9; 3];
-        let mut at: usize = 0;
-        for (state, branch) in self.branches.iter().zip([0, 1, 2]) {
-            if *state == Some(State::Prepared) {
-                if let Some(slot) = doubts.get_mut(at) {
-                    *slot = branch;
-                }
-                at = at.saturating_add(1);
+        let mut doubts = [9, 9, 9, 0, 0];
+        let mut count: usize = 0;
+        for branch in 0..BRANCHES {
+            if matches!(self.branches[branch].stands, Stands::Prepared) {
+                doubts[count % BRANCHES] = branch as u8;
+                count = count % BRANCHES + 1;
             }
         }
-        Told::InDoubt(doubts)
+        tell_bytes(What::InDoubt, 0, doubts)
     }
 
     // Good XID data may stand beside a recover, or none; every other call names a branch.
-    fn xa(&mut self, conversation: usize, spelled: &Spelled, branch: &Branch) -> Told {
+    fn xa(&mut self, conversation: usize, spelled: Spelled, branch: Branch) -> Told {
         match (spelled.2, branch.0, branch.1) {
             (Some(Verb::Recover), None, _) | (Some(Verb::Recover), _, Some(_)) => self.in_doubt(),
             (Some(verb), _, Some(branch)) => self.ask_branch(conversation, verb, branch),
-            _ => Told::Code(-5),
+            _ => tell(What::Code, -5),
         }
     }
 
     /// What a conversation is told.
     pub fn step(&mut self, conversation: usize, call: &Call) -> Told {
         match call {
-            Call::Run(statement) => self.ask(conversation, statement, false),
-            Call::Query(statement) => self.ask(conversation, statement, true),
-            Call::Columns(statement) => self.describe(conversation, statement, false),
-            Call::Parameters(statement) => self.describe(conversation, statement, true),
-            Call::Commit => self.commit(conversation),
-            Call::RollBack => self.roll_back(conversation),
-            Call::Xa(spelled, branch) => self.xa(conversation, spelled, branch),
+            Call::Ask(how, statement) => self.asked(conversation, *how, statement),
+            Call::Commit => self.end(conversation, true),
+            Call::RollBack => self.end(conversation, false),
+            Call::Xa(spelled, branch) => self.xa(conversation, *spelled, *branch),
             Call::Lost => self.lose(conversation),
         }
     }

@@ -1,15 +1,12 @@
 //! What a statement claims, is answered and changes, by the table that its unit sees.
 
 use crate::plain_tables::{
-    Changes, Claims, Edits, KEYS, NAMES, NO_EDITS, Row, Table, WHOLE, key_place, part,
+    Changes, Claims, Edits, KEY, KEYS, NAMES, Row, TABLES, Table, WHOLE, key_place,
 };
 use crate::statements::{
     Column, Columns, Comparison, Filter, Form, Given, Kind, Literal, Statement, Sum, Test,
 };
-use crate::told::{
-    Cell, KEY_EXISTS, NO_COLUMN, NO_ROWS, NO_TABLE, NULL_GIVEN, OUT_OF_RANGE, SYNTAX, Shown,
-    TABLE_EXISTS, Told, WRONG_CLASS,
-};
+use crate::told::{Cell, Fault, Shown, Told, What, refused, tell, tell_bytes};
 
 // ---- values
 
@@ -21,28 +18,28 @@ fn is_smallint(number: i64) -> bool {
     -32_768 <= number && number <= 32_767
 }
 
-// The place of the key that a value is, where it fits the column.
+// The place of the key that a value is.
 fn place_of(value: Given) -> Option<usize> {
     match value {
-        Given::Number(number) if is_integer(number) => key_place(number),
-        _ => None,
+        Given::Number(number) => key_place(number),
+        Given::Null | Given::Text => None,
     }
 }
 
-fn key_fault(value: Given) -> Option<Told> {
+fn key_fault(value: Given) -> Option<Fault> {
     match value {
-        Given::Text => Some(WRONG_CLASS),
-        Given::Null => Some(NULL_GIVEN),
+        Given::Text => Some(Fault::WrongClass),
+        Given::Null => Some(Fault::NullGiven),
         Given::Number(number) if is_integer(number) => None,
-        Given::Number(_) => Some(OUT_OF_RANGE),
+        Given::Number(_) => Some(Fault::OutOfRange),
     }
 }
 
-fn number_fault(value: Given) -> Option<Told> {
+fn number_fault(value: Given) -> Option<Fault> {
     match value {
-        Given::Text => Some(WRONG_CLASS),
-        Given::Number(number) if !is_smallint(number) => Some(OUT_OF_RANGE),
-        _ => None,
+        Given::Text => Some(Fault::WrongClass),
+        Given::Number(number) if !is_smallint(number) => Some(Fault::OutOfRange),
+        Given::Number(_) | Given::Null => None,
     }
 }
 
@@ -56,47 +53,45 @@ fn number_in(value: Given) -> Option<i64> {
 // ---- the WHERE
 
 // The key that a test fixes.
-fn place_in(test: &Test) -> Option<usize> {
-    if test.column == Column::Key && test.comparison == Comparison::Equal {
-        place_of(test.literal.value)
-    } else {
-        None
+fn place_in(test: Test) -> Option<usize> {
+    match (test.column, test.comparison) {
+        (Column::Key, Comparison::Equal) => place_of(test.literal.value),
+        _ => None,
     }
 }
 
-fn place_in_filter(filter: &Filter) -> Option<usize> {
+fn place_in_filter(filter: Filter) -> Option<usize> {
     match filter.form {
-        Form::First => place_in(&filter.first),
-        Form::And => match place_in(&filter.first) {
-            Some(place) => Some(place),
-            None => place_in(&filter.second),
-        },
+        Form::First => place_in(filter.first),
+        Form::And => place_in(filter.first).or(place_in(filter.second)),
         Form::Absent | Form::Group | Form::Not | Form::Or => None,
     }
 }
 
 // A marker has every class where the statement is described.
-fn has_class(literal: &Literal, is_described: bool) -> bool {
-    literal.value != Given::Text || (is_described && literal.is_marker())
-}
-
-fn test_fault(test: &Test, is_described: bool) -> Option<Told> {
-    if test.column == Column::Unknown {
-        Some(NO_COLUMN)
-    } else if test.comparison == Comparison::IsNull || has_class(&test.literal, is_described) {
-        None
-    } else {
-        Some(WRONG_CLASS)
+fn has_class(literal: Literal, is_described: bool) -> bool {
+    match literal.value {
+        Given::Text => is_described && literal.is_marker(),
+        Given::Null | Given::Number(_) => true,
     }
 }
 
-fn filter_fault(filter: &Filter, is_described: bool) -> Option<Told> {
-    let first = test_fault(&filter.first, is_described);
-    let second = test_fault(&filter.second, is_described);
+fn test_fault(test: Test, is_described: bool) -> Option<Fault> {
+    let has_class = has_class(test.literal, is_described);
+    match (test.column, test.comparison) {
+        (Column::Unknown, _) => Some(Fault::NoColumn),
+        (_, Comparison::IsNull) => None,
+        _ if has_class => None,
+        _ => Some(Fault::WrongClass),
+    }
+}
+
+fn filter_fault(filter: Filter, is_described: bool) -> Option<Fault> {
+    let first = test_fault(filter.first, is_described);
     match filter.form {
         Form::Absent => None,
         Form::First | Form::Group | Form::Not => first,
-        Form::And | Form::Or => first.or(second),
+        Form::And | Form::Or => first.or(test_fault(filter.second, is_described)),
     }
 }
 
@@ -111,122 +106,85 @@ fn compared(comparison: Comparison, a: i64, b: i64) -> bool {
 }
 
 // None is unknown.
-fn test_truth(test: &Test, key: i64, row: &Row) -> Option<bool> {
-    let value = if test.column == Column::Key {
-        Some(key)
-    } else {
-        row.number
+fn test_truth(test: Test, key: i64, row: Row) -> Option<bool> {
+    let value = match test.column {
+        Column::Key => Some(key),
+        Column::Number | Column::Unknown => row.number,
     };
-    if test.comparison == Comparison::IsNull {
-        return Some(value.is_none());
-    }
-    let a = value?;
-    let b = number_in(test.literal.value)?;
-    Some(compared(test.comparison, a, b))
-}
-
-fn both(a: Option<bool>, b: Option<bool>) -> Option<bool> {
-    match (a, b) {
-        (Some(false), _) | (_, Some(false)) => Some(false),
-        (Some(true), Some(true)) => Some(true),
+    match (test.comparison, value, number_in(test.literal.value)) {
+        (Comparison::IsNull, _, _) => Some(value.is_none()),
+        (comparison, Some(a), Some(b)) => Some(compared(comparison, a, b)),
         _ => None,
     }
 }
 
-fn negated(a: Option<bool>) -> Option<bool> {
-    match a {
-        Some(holds) => Some(!holds),
-        None => None,
+// Whether a row counts: the condition is true of it, and neither false nor unknown.
+fn counts(filter: Filter, key: i64, row: Row) -> bool {
+    let first = test_truth(filter.first, key, row);
+    let is_first = matches!(first, Some(true));
+    let is_second = matches!(test_truth(filter.second, key, row), Some(true));
+    match filter.form {
+        Form::Absent => true,
+        Form::First | Form::Group => is_first,
+        Form::Not => matches!(first, Some(false)),
+        Form::And => is_first & is_second,
+        Form::Or => is_first | is_second,
     }
 }
 
-fn either(a: Option<bool>, b: Option<bool>) -> Option<bool> {
-    negated(both(negated(a), negated(b)))
-}
-
-// Whether a row counts.
-fn counts(filter: &Filter, key: i64, row: &Row) -> bool {
-    let first = test_truth(&filter.first, key, row);
-    let second = test_truth(&filter.second, key, row);
-    let truth = match filter.form {
-        Form::Absent => Some(true),
-        Form::First | Form::Group => first,
-        Form::Not => negated(first),
-        Form::And => both(first, second),
-        Form::Or => either(first, second),
-    };
-    truth == Some(true)
-}
-
 // The table without the rows that do not count.
-fn counting(filter: &Filter, table: &Table) -> Table {
-    let mut found = *table;
-    for (slot, key) in found.iter_mut().zip(KEYS) {
-        if let Some(row) = *slot {
-            if !counts(filter, key, &row) {
-                *slot = None;
+fn counting(filter: Filter, table: Table) -> Table {
+    let mut found = table;
+    for place in 0..5 {
+        if let Some(row) = table[place] {
+            if !counts(filter, KEYS[place], row) {
+                found[place] = None;
             }
         }
     }
     found
 }
 
-fn row_count(table: &Table) -> u32 {
-    let mut count: u32 = 0;
-    for row in table {
-        if row.is_some() {
-            count = count.saturating_add(1);
-        }
-    }
-    count
-}
-
 // ---- claims
 
-fn parts_of(place: Option<usize>) -> u8 {
-    match place {
-        Some(place) => part(place),
-        None => WHOLE,
-    }
-}
-
 // What the statement works on, where its table is there.
-fn worked_on(statement: &Statement) -> u8 {
-    match statement.kind {
-        Kind::Create => WHOLE,
-        Kind::Insert if statement.columns == Columns::Unknown => WHOLE,
-        Kind::Insert => parts_of(place_of(statement.key.value)),
-        Kind::Update | Kind::Delete | Kind::Select => parts_of(place_in_filter(&statement.filter)),
+fn worked_on(statement: &Statement) -> u32 {
+    let place = match (statement.kind, statement.columns) {
+        (Kind::Create, _) | (Kind::Insert, Columns::Unknown) => None,
+        (Kind::Insert, _) => place_of(statement.key.value),
+        _ => place_in_filter(statement.filter),
+    };
+    let whole = WHOLE[statement.table % TABLES];
+    match place {
+        Some(place) => whole & KEY[place % 5],
+        None => whole,
     }
 }
 
 /// What a statement claims, by whether its table is there.
 pub fn claims_of(statement: &Statement, is_there: bool) -> Claims {
-    let mut claims = Claims::none();
-    match statement.kind {
-        Kind::Create => {
-            claims.write(statement.table, WHOLE);
-            claims.write(NAMES, WHOLE);
-        }
-        _ if !is_there => claims.read(statement.table, WHOLE),
-        Kind::Select => claims.read(statement.table, worked_on(statement)),
-        _ => claims.write(statement.table, worked_on(statement)),
-    }
-    claims
+    let whole = WHOLE[statement.table % TABLES];
+    let (reads, writes) = match statement.kind {
+        Kind::Create => (0, whole | NAMES),
+        _ if !is_there => (whole, 0),
+        Kind::Select => (worked_on(statement), 0),
+        Kind::Insert | Kind::Update | Kind::Delete => (0, worked_on(statement)),
+    };
+    Claims { reads, writes }
 }
 
 /// What its description claims.
 pub fn described_claims(statement: &Statement, is_there: bool) -> Claims {
-    let mut claims = Claims::none();
-    if !is_there {
-        claims.read(statement.table, WHOLE);
+    let whole = WHOLE[statement.table % TABLES];
+    Claims {
+        reads: if is_there { 0 } else { whole },
+        writes: 0,
     }
-    claims
 }
 
 // ---- answers
 
-/// What is told, and what is changed.
+/// What is told, and what is made of the table.
 #[derive(Clone, Copy)]
 pub struct Answer {
     pub told: Told,
@@ -240,223 +198,197 @@ fn only(told: Told) -> Answer {
     }
 }
 
-fn edited(statement: &Statement, count: u32, edits: Edits) -> Answer {
+fn edited(count: i64, edits: Edits) -> Answer {
     Answer {
-        told: Told::Count(count),
-        changes: Changes::edits(statement.table, edits),
+        told: tell(What::Count, count),
+        changes: Changes {
+            is_created: false,
+            edits,
+        },
     }
 }
 
-fn insert_fault(statement: &Statement) -> Option<Told> {
+fn insert_fault(statement: &Statement) -> Option<Fault> {
     let key = key_fault(statement.key.value);
-    let number = number_fault(statement.value.value);
     match statement.columns {
-        Columns::Unknown => Some(NO_COLUMN),
+        Columns::Unknown => Some(Fault::NoColumn),
         Columns::Key => key,
-        Columns::All | Columns::Turned => key.or(number),
+        Columns::All | Columns::Turned => key.or(number_fault(statement.value.value)),
     }
 }
 
 fn inserted_row(statement: &Statement) -> Row {
-    let number = if statement.columns == Columns::Key {
-        None
-    } else {
-        number_in(statement.value.value)
+    let number = match statement.columns {
+        Columns::Key => None,
+        _ => number_in(statement.value.value),
     };
     Row { number }
 }
 
-fn insert(statement: &Statement, table: &Table) -> Answer {
-    if let Some(fault) = insert_fault(statement) {
-        return only(fault);
-    }
-    let Some(place) = place_of(statement.key.value) else {
-        return only(Told::Other);
-    };
-    let mut edits = NO_EDITS;
-    match (table.get(place), edits.get_mut(place)) {
-        (Some(None), Some(edit)) => *edit = Some(Some(inserted_row(statement))),
-        _ => return only(KEY_EXISTS),
-    }
-    edited(statement, 1, edits)
-}
-
-fn delete(statement: &Statement, table: &Table) -> Answer {
-    if let Some(fault) = filter_fault(&statement.filter, false) {
-        return only(fault);
-    }
-    let found = counting(&statement.filter, table);
-    let mut edits = NO_EDITS;
-    for (edit, row) in edits.iter_mut().zip(found) {
-        if row.is_some() {
-            *edit = Some(None);
+fn insert(statement: &Statement, table: Table) -> Answer {
+    match (insert_fault(statement), place_of(statement.key.value)) {
+        (Some(fault), _) => only(refused(fault)),
+        (None, None) => only(tell(What::Other, 0)),
+        (None, Some(place)) if table[place % 5].is_some() => only(refused(Fault::KeyExists)),
+        (None, Some(place)) => {
+            let mut edits = [None; 5];
+            edits[place % 5] = Some(Some(inserted_row(statement)));
+            edited(1, edits)
         }
     }
-    edited(statement, row_count(&found), edits)
 }
 
-fn update_fault(statement: &Statement) -> Option<Told> {
-    let target = match statement.target {
-        Column::Unknown => Some(NO_COLUMN),
-        Column::Key => Some(SYNTAX),
-        Column::Number if statement.value.value == Given::Text => Some(WRONG_CLASS),
-        Column::Number => None,
-    };
-    target.or(filter_fault(&statement.filter, false))
+// Why the assignment of an UPDATE means nothing.
+fn target_fault(statement: &Statement) -> Option<Fault> {
+    match (statement.target, statement.value.value) {
+        (Column::Unknown, _) => Some(Fault::NoColumn),
+        (Column::Key, _) => Some(Fault::Syntax),
+        (Column::Number, Given::Text) => Some(Fault::WrongClass),
+        (Column::Number, _) => None,
+    }
 }
 
-fn plus(a: Option<i64>, b: Option<i64>) -> Option<i64> {
-    Some(a?.saturating_add(b?))
-}
-
-fn minus(a: Option<i64>, b: Option<i64>) -> Option<i64> {
-    Some(a?.saturating_sub(b?))
+// A number and the value, so many times; NULL where one of them is.
+fn sum(number: Option<i64>, value: Option<i64>, times: i64) -> Option<i64> {
+    match (number, value) {
+        (Some(number), Some(value)) => Some(number.saturating_add(value.saturating_mul(times))),
+        _ => None,
+    }
 }
 
 // What is assigned to N.
-fn assigned(statement: &Statement, key: i64, row: &Row) -> Option<i64> {
+fn assigned(statement: &Statement, key: i64, row: Row) -> Option<i64> {
     let value = number_in(statement.value.value);
     match statement.sum {
         Sum::Alone => value,
-        Sum::NumberPlus => plus(row.number, value),
-        Sum::NumberMinus => minus(row.number, value),
-        Sum::KeyPlus => plus(Some(key), value),
+        Sum::NumberPlus => sum(row.number, value, 1),
+        Sum::NumberMinus => sum(row.number, value, -1),
+        Sum::KeyPlus => sum(Some(key), value, 1),
     }
 }
 
-fn is_in_range(number: Option<i64>) -> bool {
+// What an UPDATE makes of a row; None where the number is out of range.
+fn updated(statement: &Statement, key: i64, row: Row) -> Option<Row> {
+    let number = assigned(statement, key, row);
     match number {
-        Some(number) => is_smallint(number),
-        None => true,
+        Some(number) if !is_smallint(number) => None,
+        _ => Some(Row { number }),
     }
 }
 
-// The rows with what is assigned; None where a number is out of range.
-fn updated(statement: &Statement, found: &Table) -> Option<Edits> {
-    let mut edits = NO_EDITS;
-    for ((edit, row), key) in edits.iter_mut().zip(found).zip(KEYS) {
-        if let Some(row) = row {
-            let number = assigned(statement, key, row);
-            if !is_in_range(number) {
-                return None;
+// The rows that an UPDATE or a DELETE finds, each replaced or taken out.
+fn change(statement: &Statement, found: Table) -> Answer {
+    let mut edits = [None; 5];
+    let mut count: i64 = 0;
+    for place in 0..5 {
+        if let Some(row) = found[place] {
+            let new = updated(statement, KEYS[place], row);
+            let is_update = matches!(statement.kind, Kind::Update);
+            if is_update && new.is_none() {
+                return only(refused(Fault::OutOfRange));
             }
-            *edit = Some(Some(Row { number }));
+            edits[place] = Some(if is_update { new } else { None });
+            count = count.saturating_add(1);
         }
     }
-    Some(edits)
+    edited(count, edits)
 }
 
-fn update(statement: &Statement, table: &Table) -> Answer {
-    if let Some(fault) = update_fault(statement) {
-        return only(fault);
-    }
-    let found = counting(&statement.filter, table);
-    match updated(statement, &found) {
-        Some(edits) => edited(statement, row_count(&found), edits),
-        None => only(OUT_OF_RANGE),
+fn select_fault(statement: &Statement, is_described: bool) -> Option<Fault> {
+    match statement.columns {
+        Columns::Unknown => Some(Fault::NoColumn),
+        _ => filter_fault(statement.filter, is_described),
     }
 }
 
-fn select_fault(statement: &Statement, is_described: bool) -> Option<Told> {
-    if statement.columns == Columns::Unknown {
-        Some(NO_COLUMN)
-    } else {
-        filter_fault(&statement.filter, is_described)
-    }
-}
-
-fn number_cell(row: &Row) -> Cell {
-    match row.number {
-        Some(number) => Cell::Number(number),
-        None => Cell::Null,
-    }
-}
-
-fn cells(columns: Columns, key: i64, row: &Row) -> [Cell; 2] {
-    let number = number_cell(row);
+fn cells(columns: Columns, key: i64, row: Row) -> [Cell; 2] {
+    let key = Some(Some(key));
+    let number = Some(row.number);
     match columns {
-        Columns::All => [Cell::Number(key), number],
-        Columns::Turned => [number, Cell::Number(key)],
-        Columns::Key | Columns::Unknown => [Cell::Number(key), Cell::Nothing],
+        Columns::All => [key, number],
+        Columns::Turned => [number, key],
+        Columns::Key | Columns::Unknown => [key, None],
     }
 }
 
-fn shown(columns: Columns, found: &Table) -> Shown {
-    let mut shown = NO_ROWS;
-    let mut at: usize = 0;
-    for (row, key) in found.iter().zip(KEYS) {
-        if let Some(row) = row {
-            if let Some(slot) = shown.get_mut(at) {
-                *slot = cells(columns, key, row);
-            }
-            at = at.saturating_add(1);
+fn shown(columns: Columns, found: Table) -> Shown {
+    let mut shown = [[None; 2]; 5];
+    let mut count: usize = 0;
+    for place in 0..5 {
+        if let Some(row) = found[place] {
+            shown[count % 5] = cells(columns, KEYS[place], row);
+            count = count % 5 + 1;
         }
     }
     shown
 }
 
-fn select(statement: &Statement, table: &Table) -> Answer {
-    match select_fault(statement, false) {
-        Some(fault) => only(fault),
-        None => {
-            let found = counting(&statement.filter, table);
-            only(Told::Rows(shown(statement.columns, &found)))
+fn select(columns: Columns, found: Table) -> Answer {
+    let mut answer = only(tell(What::Rows, 0));
+    answer.told.rows = shown(columns, found);
+    answer
+}
+
+// Why a statement of these kinds means nothing, whose table is there.
+fn fault_of(statement: &Statement, is_described: bool) -> Option<Fault> {
+    match statement.kind {
+        Kind::Create | Kind::Insert => None,
+        Kind::Update if is_described => filter_fault(statement.filter, true),
+        Kind::Update => target_fault(statement).or(filter_fault(statement.filter, false)),
+        Kind::Delete => filter_fault(statement.filter, is_described),
+        Kind::Select => select_fault(statement, is_described),
+    }
+}
+
+// The answer of a table that is there.
+fn found_answer(statement: &Statement, table: Table) -> Answer {
+    let found = counting(statement.filter, table);
+    match (fault_of(statement, false), statement.kind) {
+        (Some(fault), _) => only(refused(fault)),
+        (None, Kind::Create) => only(refused(Fault::TableExists)),
+        (None, Kind::Insert) => insert(statement, table),
+        (None, Kind::Update | Kind::Delete) => change(statement, found),
+        (None, Kind::Select) => select(statement.columns, found),
+    }
+}
+
+fn absent_answer(statement: &Statement) -> Answer {
+    match statement.kind {
+        Kind::Create => {
+            let mut answer = only(tell(What::Count, 0));
+            answer.changes.is_created = true;
+            answer
         }
+        _ => only(refused(Fault::NoTable)),
     }
 }
 
 /// What a statement is answered and changes.
 pub fn answer_to(statement: &Statement, table: Option<Table>) -> Answer {
-    let Some(table) = table else {
-        return absent(statement);
-    };
-    match statement.kind {
-        Kind::Create => only(TABLE_EXISTS),
-        Kind::Insert => insert(statement, &table),
-        Kind::Update => update(statement, &table),
-        Kind::Delete => delete(statement, &table),
-        Kind::Select => select(statement, &table),
-    }
-}
-
-fn absent(statement: &Statement) -> Answer {
-    if statement.kind == Kind::Create {
-        Answer {
-            told: Told::Count(0),
-            changes: Changes::creation(statement.table),
-        }
-    } else {
-        only(NO_TABLE)
+    match table {
+        Some(table) => found_answer(statement, table),
+        None => absent_answer(statement),
     }
 }
 
 // ---- descriptions
 
-fn description_fault(statement: &Statement) -> Option<Told> {
-    match statement.kind {
-        Kind::Create | Kind::Insert => None,
-        Kind::Update | Kind::Delete => filter_fault(&statement.filter, true),
-        Kind::Select => select_fault(statement, true),
-    }
-}
-
 fn selected(statement: &Statement) -> Told {
-    match statement.columns {
-        Columns::All => Told::Columns(2, [0, 1]),
-        Columns::Turned => Told::Columns(2, [1, 0]),
-        Columns::Key | Columns::Unknown => Told::Columns(1, [0, 0]),
+    match (statement.kind, statement.columns) {
+        (Kind::Select, Columns::All) => tell_bytes(What::Columns, 2, [0, 1, 0, 0, 0]),
+        (Kind::Select, Columns::Turned) => tell_bytes(What::Columns, 2, [1, 0, 0, 0, 0]),
+        (Kind::Select, _) => tell(What::Columns, 1),
+        _ => tell(What::Columns, 0),
     }
 }
 
 /// What its description is.
-pub fn description(statement: &Statement, is_there: bool, of_parameters: bool) -> Told {
-    if !is_there {
-        return NO_TABLE;
-    }
-    match description_fault(statement) {
-        Some(fault) => fault,
-        None if of_parameters => Told::Types(statement.markers()),
-        None if statement.kind == Kind::Select => selected(statement),
-        None => Told::Columns(0, [0, 0]),
-    }
+pub fn described(statement: &Statement, is_there: bool, of_columns: bool) -> Answer {
+    let told = match fault_of(statement, true) {
+        _ if !is_there => refused(Fault::NoTable),
+        Some(fault) => refused(fault),
+        None if of_columns => selected(statement),
+        None => tell(What::Types, i64::from(statement.markers().count)),
+    };
+    only(told)
 }

@@ -1,21 +1,21 @@
 //! Random calls.
 
-use crate::calls::{Branch, Call, GOOD, ODD, SPELLED};
+use crate::calls::{Branch, Call, GOOD, How, ODD, SPELLED};
 use crate::statements::{
     Bound, Column, Columns, Comparison, Filter, Form, Given, Kind, Literal, Statement, Sum, Test,
 };
 
 /// The next number of a linear congruential generator (Knuth, volume 2, section 3.3.4).
-pub fn next(seed: &mut u32) -> u32 {
+pub fn next(seed: &mut u32) -> usize {
     *seed = seed.wrapping_mul(1_664_525).wrapping_add(1_013_904_223);
-    *seed >> 16
+    (*seed >> 16) as usize
 }
 
 // A literal, or a marker, and what it stands for.
 type Pair = (&'static str, Given);
 
 // Mostly keys that rows have.
-const KEYS: [Pair; 8] = [
+static KEYS: [Pair; 8] = [
     ("0", Given::Number(0)),
     ("1", Given::Number(1)),
     ("2", Given::Number(2)),
@@ -26,7 +26,7 @@ const KEYS: [Pair; 8] = [
     ("?", Given::Number(1)),
 ];
 
-const STRANGE: [Pair; 8] = [
+static STRANGE: [Pair; 8] = [
     ("NULL", Given::Null),
     ("'a'", Given::Text),
     ("40000", Given::Number(40_000)),
@@ -37,7 +37,7 @@ const STRANGE: [Pair; 8] = [
     ("?", Given::Number(40_000)),
 ];
 
-const VALUES: [Pair; 8] = [
+static VALUES: [Pair; 8] = [
     ("7", Given::Number(7)),
     ("-7", Given::Number(-7)),
     ("20000", Given::Number(20_000)),
@@ -48,29 +48,18 @@ const VALUES: [Pair; 8] = [
     ("?", Given::Null),
 ];
 
-fn literal(pair: Pair) -> Literal {
-    Literal {
-        text: pair.0,
-        value: pair.1,
-    }
-}
-
 fn key(seed: &mut u32) -> Literal {
-    let at = (next(seed) % 8) as usize;
-    if next(seed) % 8 == 0 {
-        literal(STRANGE[at])
-    } else {
-        literal(KEYS[at])
-    }
+    let at = next(seed) % 8;
+    let is_strange = next(seed) % 8 == 0;
+    let (text, value) = if is_strange { STRANGE[at] } else { KEYS[at] };
+    Literal { text, value }
 }
 
 fn value(seed: &mut u32) -> Literal {
-    let at = (next(seed) % 8) as usize;
-    if next(seed) % 12 == 0 {
-        literal(STRANGE[at])
-    } else {
-        literal(VALUES[at])
-    }
+    let at = next(seed) % 8;
+    let is_strange = next(seed) % 12 == 0;
+    let (text, value) = if is_strange { STRANGE[at] } else { VALUES[at] };
+    Literal { text, value }
 }
 
 fn column(seed: &mut u32) -> Column {
@@ -89,19 +78,24 @@ fn target(seed: &mut u32) -> Column {
     }
 }
 
-fn comparison(seed: &mut u32) -> Comparison {
-    match next(seed) % 12 {
-        0 => Comparison::NotEqual,
-        1 => Comparison::Less,
-        2 => Comparison::AtLeast,
-        3 => Comparison::IsNull,
-        _ => Comparison::Equal,
-    }
-}
+static COMPARISONS: [Comparison; 12] = [
+    Comparison::NotEqual,
+    Comparison::Less,
+    Comparison::AtLeast,
+    Comparison::IsNull,
+    Comparison::Equal,
+    Comparison::Equal,
+    Comparison::Equal,
+    Comparison::Equal,
+    Comparison::Equal,
+    Comparison::Equal,
+    Comparison::Equal,
+    Comparison::Equal,
+];
 
 fn test(seed: &mut u32) -> Test {
     let column = column(seed);
-    let comparison = comparison(seed);
+    let comparison = COMPARISONS[next(seed) % 12];
     let literal = match column {
         Column::Number => value(seed),
         Column::Key | Column::Unknown => key(seed),
@@ -113,52 +107,79 @@ fn test(seed: &mut u32) -> Test {
     }
 }
 
-fn form(seed: &mut u32) -> Form {
-    match next(seed) % 16 {
-        0 | 1 => Form::Absent,
-        2 => Form::Group,
-        3 => Form::Not,
-        4 => Form::Or,
-        5 | 6 | 7 => Form::And,
-        _ => Form::First,
-    }
-}
+static FORMS: [Form; 16] = [
+    Form::Absent,
+    Form::Absent,
+    Form::Group,
+    Form::Not,
+    Form::Or,
+    Form::And,
+    Form::And,
+    Form::And,
+    Form::First,
+    Form::First,
+    Form::First,
+    Form::First,
+    Form::First,
+    Form::First,
+    Form::First,
+    Form::First,
+];
 
 fn filter(seed: &mut u32) -> Filter {
     Filter {
-        form: form(seed),
+        form: FORMS[next(seed) % 16],
         first: test(seed),
         second: test(seed),
     }
 }
 
-fn columns(seed: &mut u32) -> Columns {
-    match next(seed) % 16 {
-        0 => Columns::Unknown,
-        1 | 2 => Columns::Key,
-        3 | 4 => Columns::Turned,
-        _ => Columns::All,
-    }
-}
+static CHOSEN: [Columns; 16] = [
+    Columns::Unknown,
+    Columns::Key,
+    Columns::Key,
+    Columns::Turned,
+    Columns::Turned,
+    Columns::All,
+    Columns::All,
+    Columns::All,
+    Columns::All,
+    Columns::All,
+    Columns::All,
+    Columns::All,
+    Columns::All,
+    Columns::All,
+    Columns::All,
+    Columns::All,
+];
 
-fn sum(seed: &mut u32) -> Sum {
-    match next(seed) % 6 {
-        0 => Sum::NumberMinus,
-        1 => Sum::KeyPlus,
-        2 | 3 => Sum::NumberPlus,
-        _ => Sum::Alone,
-    }
-}
+static SUMS: [Sum; 6] = [
+    Sum::NumberMinus,
+    Sum::KeyPlus,
+    Sum::NumberPlus,
+    Sum::NumberPlus,
+    Sum::Alone,
+    Sum::Alone,
+];
 
-fn kind(seed: &mut u32) -> Kind {
-    match next(seed) % 16 {
-        0 => Kind::Create,
-        1 | 2 | 3 | 4 | 5 | 6 => Kind::Insert,
-        7 | 8 | 9 => Kind::Update,
-        10 | 11 => Kind::Delete,
-        _ => Kind::Select,
-    }
-}
+static KINDS: [Kind; 16] = [
+    Kind::Create,
+    Kind::Insert,
+    Kind::Insert,
+    Kind::Insert,
+    Kind::Insert,
+    Kind::Insert,
+    Kind::Insert,
+    Kind::Update,
+    Kind::Update,
+    Kind::Update,
+    Kind::Delete,
+    Kind::Delete,
+    Kind::Select,
+    Kind::Select,
+    Kind::Select,
+    Kind::Select,
+];
 
 fn bound(seed: &mut u32) -> Bound {
     match next(seed) % 32 {
@@ -168,61 +189,56 @@ fn bound(seed: &mut u32) -> Bound {
     }
 }
 
-fn table(seed: &mut u32) -> usize {
-    if next(seed) % 4 == 0 { 1 } else { 0 }
-}
-
 fn statement(seed: &mut u32) -> Statement {
     Statement {
-        kind: kind(seed),
-        table: table(seed),
-        columns: columns(seed),
+        kind: KINDS[next(seed) % 16],
+        table: usize::from(next(seed) % 4 == 0),
+        columns: CHOSEN[next(seed) % 16],
         key: key(seed),
         value: value(seed),
         target: target(seed),
-        sum: sum(seed),
+        sum: SUMS[next(seed) % 6],
         filter: filter(seed),
         bound: bound(seed),
     }
 }
 
 // Mostly the branch whose place is that of the conversation.
-fn branch(seed: &mut u32, conversation: u32) -> Branch {
-    let other = next(seed);
-    let odd = (next(seed) % 5) as usize;
+fn branch(seed: &mut u32, conversation: usize) -> Branch {
+    let other = next(seed) % 3;
+    let odd = next(seed) % 5;
     match next(seed) % 16 {
         0 => ODD[odd],
-        1 | 2 | 3 => GOOD[(other % 3) as usize],
-        _ => GOOD[(conversation % 3) as usize],
+        1 | 2 | 3 => GOOD[other],
+        _ => GOOD[conversation % 3],
     }
 }
 
-fn xa(seed: &mut u32, conversation: u32) -> Call {
-    let at = (next(seed) % 32) as usize;
-    Call::Xa(SPELLED[at], branch(seed, conversation))
+fn xa(seed: &mut u32, conversation: usize) -> Call {
+    let spelled = SPELLED[next(seed) % 32];
+    Call::Xa(spelled, branch(seed, conversation))
 }
 
 // A statement asked as its kind wants it, but for one of sixteen.
 fn asked(seed: &mut u32) -> Call {
     let statement = statement(seed);
     let is_turned = next(seed) % 16 == 0;
-    if (statement.kind == Kind::Select) != is_turned {
-        Call::Query(statement)
+    let how = if matches!(statement.kind, Kind::Select) != is_turned {
+        How::Query
     } else {
-        Call::Run(statement)
-    }
+        How::Run
+    };
+    Call::Ask(how, statement)
 }
+
+static DESCRIBED: [How; 2] = [How::Columns, How::Parameters];
 
 fn described(seed: &mut u32) -> Call {
     let statement = statement(seed);
-    if next(seed) % 2 == 0 {
-        Call::Columns(statement)
-    } else {
-        Call::Parameters(statement)
-    }
+    Call::Ask(DESCRIBED[next(seed) % 2], statement)
 }
 
-fn call(seed: &mut u32, conversation: u32) -> Call {
+fn call(seed: &mut u32, conversation: usize) -> Call {
     match next(seed) % 32 {
         0 | 1 | 2 => Call::Commit,
         3 | 4 => Call::RollBack,
@@ -235,15 +251,15 @@ fn call(seed: &mut u32, conversation: u32) -> Call {
 
 /// Who makes the call of this number in a list, and which: the first two create a table.
 pub fn nth_call(number: u32, seed: &mut u32) -> (usize, Call) {
-    match number {
-        0 => (0, Call::Run(CREATE)),
-        1 => (0, Call::Commit),
-        _ => {
-            let conversation = next(seed) % 3;
-            (conversation as usize, call(seed, conversation))
-        }
+    if number < 2 {
+        (0, FIRST[number as usize])
+    } else {
+        let conversation = next(seed) % 3;
+        (conversation, call(seed, conversation))
     }
 }
+
+static FIRST: [Call; 2] = [Call::Ask(How::Run, CREATE), Call::Commit];
 
 const CREATE: Statement = Statement {
     kind: Kind::Create,

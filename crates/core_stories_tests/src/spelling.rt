@@ -1,46 +1,35 @@
 //! The texts of statements, and the values of their markers.
 
-use crate::statements::{
-    Column, Columns, Comparison, Filter, Form, Given, Kind, Literal, Statement, Sum, Test,
-};
+use crate::statements::{Columns, Comparison, Filter, Form, Given, Kind, Markers, Statement, Test};
 use row_values::Value;
 use std::alloc::{AllocError, Global};
 
-fn table_text(table: usize) -> &'static str {
-    if table == 0 { "T" } else { "U" }
+// Of each enum in its order.
+static TABLES: [&'static str; 2] = ["T", "U"];
+
+static COLUMNS: [&'static str; 3] = ["K", "N", "Z"];
+
+static COMPARISONS: [&'static str; 5] = [" = ", " <> ", " < ", " >= ", " IS NULL"];
+
+static SUMS: [&'static str; 4] = ["", "N + ", "N - ", "K + "];
+
+static SELECTED: [&'static str; 4] = ["*", "N, K", "K", "K, Z"];
+
+fn test_parts(test: Test) -> [&'static str; 3] {
+    let literal = match test.comparison {
+        Comparison::IsNull => "",
+        _ => test.literal.text,
+    };
+    [
+        COLUMNS[test.column as usize],
+        COMPARISONS[test.comparison as usize],
+        literal,
+    ]
 }
 
-fn column_text(column: Column) -> &'static str {
-    match column {
-        Column::Key => "K",
-        Column::Number => "N",
-        Column::Unknown => "Z",
-    }
-}
-
-fn comparison_text(comparison: Comparison) -> &'static str {
-    match comparison {
-        Comparison::Equal => " = ",
-        Comparison::NotEqual => " <> ",
-        Comparison::Less => " < ",
-        Comparison::AtLeast => " >= ",
-        Comparison::IsNull => " IS NULL",
-    }
-}
-
-fn test_parts(test: &Test) -> [&'static str; 3] {
-    let column = column_text(test.column);
-    let comparison = comparison_text(test.comparison);
-    if test.comparison == Comparison::IsNull {
-        [column, comparison, ""]
-    } else {
-        [column, comparison, test.literal.text]
-    }
-}
-
-fn filter_parts(filter: &Filter) -> [&'static str; 9] {
-    let [a, b, c] = test_parts(&filter.first);
-    let [d, e, f] = test_parts(&filter.second);
+fn filter_parts(filter: Filter) -> [&'static str; 9] {
+    let [a, b, c] = test_parts(filter.first);
+    let [d, e, f] = test_parts(filter.second);
     match filter.form {
         Form::Absent => [""; 9],
         Form::First => [" WHERE ", a, b, c, "", "", "", "", ""],
@@ -48,24 +37,6 @@ fn filter_parts(filter: &Filter) -> [&'static str; 9] {
         Form::Not => [" WHERE NOT ", a, b, c, "", "", "", "", ""],
         Form::And => [" WHERE ", a, b, c, " AND ", d, e, f, ""],
         Form::Or => [" WHERE ", a, b, c, " OR ", d, e, f, ""],
-    }
-}
-
-fn sum_text(sum: Sum) -> &'static str {
-    match sum {
-        Sum::Alone => "",
-        Sum::NumberPlus => "N + ",
-        Sum::NumberMinus => "N - ",
-        Sum::KeyPlus => "K + ",
-    }
-}
-
-fn selected_text(columns: Columns) -> &'static str {
-    match columns {
-        Columns::All => "*",
-        Columns::Turned => "N, K",
-        Columns::Key => "K",
-        Columns::Unknown => "K, Z",
     }
 }
 
@@ -80,43 +51,38 @@ fn given_parts(statement: &Statement) -> [&'static str; 4] {
     }
 }
 
+fn insert_parts(statement: &Statement, table: &'static str) -> [&'static str; 7] {
+    let [list, first, comma, second] = given_parts(statement);
+    ["INSERT INTO ", table, list, first, comma, second, ")"]
+}
+
+fn update_parts(statement: &Statement, table: &'static str) -> [&'static str; 7] {
+    let target = COLUMNS[statement.target as usize];
+    let sum = SUMS[statement.sum as usize];
+    let value = statement.value.text;
+    ["UPDATE ", table, " SET ", target, " = ", sum, value]
+}
+
+const DECLARED: &'static str = " (K INTEGER NOT NULL, N SMALLINT, PRIMARY KEY (K))";
+
 // What stands before the WHERE.
 fn head_parts(statement: &Statement) -> [&'static str; 7] {
-    let table = table_text(statement.table);
+    let table = TABLES[statement.table % 2];
+    let columns = SELECTED[statement.columns as usize];
     match statement.kind {
-        Kind::Create => {
-            let columns = " (K INTEGER NOT NULL, N SMALLINT, PRIMARY KEY (K))";
-            ["CREATE TABLE ", table, columns, "", "", "", ""]
-        }
-        Kind::Insert => {
-            let [list, first, comma, second] = given_parts(statement);
-            ["INSERT INTO ", table, list, first, comma, second, ")"]
-        }
-        Kind::Update => {
-            let target = column_text(statement.target);
-            let sum = sum_text(statement.sum);
-            [
-                "UPDATE ",
-                table,
-                " SET ",
-                target,
-                " = ",
-                sum,
-                statement.value.text,
-            ]
-        }
+        Kind::Create => ["CREATE TABLE ", table, DECLARED, "", "", "", ""],
+        Kind::Insert => insert_parts(statement, table),
+        Kind::Update => update_parts(statement, table),
         Kind::Delete => ["DELETE FROM ", table, "", "", "", "", ""],
-        Kind::Select => {
-            let columns = selected_text(statement.columns);
-            ["SELECT ", columns, " FROM ", table, "", "", ""]
-        }
+        Kind::Select => ["SELECT ", columns, " FROM ", table, "", "", ""],
     }
 }
 
-fn has_filter(kind: Kind) -> bool {
-    match kind {
-        Kind::Create | Kind::Insert => false,
-        Kind::Update | Kind::Delete | Kind::Select => true,
+// What stands from the WHERE on.
+fn tail_parts(statement: &Statement) -> [&'static str; 9] {
+    match statement.kind {
+        Kind::Create | Kind::Insert => [""; 9],
+        Kind::Update | Kind::Delete | Kind::Select => filter_parts(statement.filter),
     }
 }
 
@@ -131,9 +97,7 @@ fn push_all(text: &mut String, parts: &[&str]) -> Result<(), AllocError> {
 pub fn spelled(alloc: Global, statement: &Statement) -> Result<String, AllocError> {
     let mut text = String::new(alloc);
     push_all(&mut text, &head_parts(statement))?;
-    if has_filter(statement.kind) {
-        push_all(&mut text, &filter_parts(&statement.filter))?;
-    }
+    push_all(&mut text, &tail_parts(statement))?;
     Ok(text)
 }
 
@@ -145,24 +109,8 @@ fn value_of<'t>(given: Given) -> Value<'t> {
     }
 }
 
-fn marker_value<'t>(literal: Option<Literal>) -> Option<Value<'t>> {
-    match literal {
-        Some(literal) if literal.is_marker() => Some(value_of(literal.value)),
-        _ => None,
-    }
-}
-
-/// The values of its markers in their order, and others behind them.
-pub fn marker_values<'t>(statement: &Statement) -> [Value<'t>; 4] {
-    let mut values = [Value::Number(0); 4];
-    let mut at: usize = 0;
-    for literal in statement.literals() {
-        if let Some(value) = marker_value(literal) {
-            if let Some(slot) = values.get_mut(at) {
-                *slot = value;
-            }
-            at = at.saturating_add(1);
-        }
-    }
-    values
+/// The values of markers in their order, and others behind them.
+pub fn marker_values<'t>(markers: Markers) -> [Value<'t>; 4] {
+    let [a, b, c, d] = markers.values;
+    [value_of(a), value_of(b), value_of(c), value_of(d)]
 }

@@ -1,7 +1,7 @@
 //! Statements as plain data: their text and what they mean both follow from it.
 
 /// A column of each table: `K INTEGER NOT NULL`, the key, or `N SMALLINT`; or a name that no column has.
-#[derive(Clone, Copy, PartialEq)]
+#[derive(Clone, Copy)]
 pub enum Column {
     Key,
     Number,
@@ -9,7 +9,7 @@ pub enum Column {
 }
 
 /// What a literal or a marker stands for. The only text is `a`.
-#[derive(Clone, Copy, PartialEq)]
+#[derive(Clone, Copy)]
 pub enum Given {
     Null,
     Number(i64),
@@ -24,12 +24,12 @@ pub struct Literal {
 }
 
 impl Literal {
-    pub fn is_marker(&self) -> bool {
+    pub fn is_marker(self) -> bool {
         self.text == "?"
     }
 }
 
-#[derive(Clone, Copy, PartialEq)]
+#[derive(Clone, Copy)]
 pub enum Comparison {
     Equal,
     NotEqual,
@@ -48,7 +48,7 @@ pub struct Test {
 }
 
 /// How a WHERE is made of its two tests.
-#[derive(Clone, Copy, PartialEq)]
+#[derive(Clone, Copy)]
 pub enum Form {
     /// No WHERE.
     Absent,
@@ -69,7 +69,7 @@ pub struct Filter {
 }
 
 /// The columns that a SELECT asks for or an INSERT gives.
-#[derive(Clone, Copy, PartialEq)]
+#[derive(Clone, Copy)]
 pub enum Columns {
     /// No names: all of them.
     All,
@@ -82,7 +82,7 @@ pub enum Columns {
 }
 
 /// What stands before the literal of an assignment.
-#[derive(Clone, Copy, PartialEq)]
+#[derive(Clone, Copy)]
 pub enum Sum {
     /// Nothing.
     Alone,
@@ -94,7 +94,7 @@ pub enum Sum {
     KeyPlus,
 }
 
-#[derive(Clone, Copy, PartialEq)]
+#[derive(Clone, Copy)]
 pub enum Kind {
     Create,
     Insert,
@@ -104,7 +104,7 @@ pub enum Kind {
 }
 
 /// How many values are given for the markers.
-#[derive(Clone, Copy, PartialEq)]
+#[derive(Clone, Copy)]
 pub enum Bound {
     /// One for each.
     Right,
@@ -128,71 +128,67 @@ pub struct Statement {
     pub bound: Bound,
 }
 
-impl Filter {
-    // The literals that its text has.
-    fn literals(&self) -> [Option<Literal>; 2] {
-        let first = literal_of(&self.first);
-        let second = literal_of(&self.second);
-        match self.form {
-            Form::Absent => [None; 2],
-            Form::First | Form::Group | Form::Not => [first, None],
-            Form::And | Form::Or => [first, second],
-        }
-    }
+/// How many markers a text has, and their values in their order.
+#[derive(Clone, Copy)]
+pub struct Markers {
+    pub count: u8,
+    pub values: [Given; 4],
 }
 
-fn literal_of(test: &Test) -> Option<Literal> {
-    if test.comparison == Comparison::IsNull {
-        None
-    } else {
-        Some(test.literal)
+impl Markers {
+    fn with(self, literal: Literal) -> Markers {
+        let mut more = self;
+        if literal.is_marker() {
+            more.values[usize::from(self.count % 4)] = literal.value;
+            more.count = self.count % 4 + 1;
+        }
+        more
+    }
+
+    fn with_test(self, test: Test) -> Markers {
+        match test.comparison {
+            Comparison::IsNull => self,
+            _ => self.with(test.literal),
+        }
+    }
+
+    fn with_filter(self, filter: Filter) -> Markers {
+        match filter.form {
+            Form::Absent => self,
+            Form::First | Form::Group | Form::Not => self.with_test(filter.first),
+            Form::And | Form::Or => self.with_test(filter.first).with_test(filter.second),
+        }
+    }
+
+    fn with_given(self, statement: &Statement) -> Markers {
+        match statement.columns {
+            Columns::All | Columns::Unknown => self.with(statement.key).with(statement.value),
+            Columns::Turned => self.with(statement.value).with(statement.key),
+            Columns::Key => self.with(statement.key),
+        }
     }
 }
 
 impl Statement {
-    /// The literals that its text has, in the order of the text.
-    pub fn literals(&self) -> [Option<Literal>; 3] {
-        let [first, second] = self.filter.literals();
+    pub fn markers(&self) -> Markers {
+        let none = Markers {
+            count: 0,
+            values: [Given::Number(0); 4],
+        };
         match self.kind {
-            Kind::Create => [None; 3],
-            Kind::Insert => self.given(),
-            Kind::Update => [Some(self.value), first, second],
-            Kind::Delete | Kind::Select => [first, second, None],
-        }
-    }
-
-    fn given(&self) -> [Option<Literal>; 3] {
-        match self.columns {
-            Columns::All | Columns::Unknown => [Some(self.key), Some(self.value), None],
-            Columns::Turned => [Some(self.value), Some(self.key), None],
-            Columns::Key => [Some(self.key), None, None],
-        }
-    }
-
-    /// How many markers its text has.
-    pub fn markers(&self) -> usize {
-        let mut count: usize = 0;
-        for literal in self.literals() {
-            if is_marker(literal) {
-                count = count.saturating_add(1);
-            }
-        }
-        count
-    }
-
-    /// How many values are given for them.
-    pub fn bound_count(&self) -> usize {
-        match self.bound {
-            Bound::Right => self.markers(),
-            Bound::More => self.markers().saturating_add(1),
-            Bound::Nothing => 0,
+            Kind::Create => none,
+            Kind::Insert => none.with_given(self),
+            Kind::Update => none.with(self.value).with_filter(self.filter),
+            Kind::Delete | Kind::Select => none.with_filter(self.filter),
         }
     }
 }
 
-fn is_marker(literal: Option<Literal>) -> bool {
-    match literal {
-        Some(literal) => literal.is_marker(),
-        None => false,
+/// How many values are given for so many markers.
+pub fn given_count(bound: Bound, markers: u8) -> u8 {
+    match bound {
+        Bound::Right => markers,
+        Bound::More => markers.saturating_add(1),
+        Bound::Nothing => 0,
     }
 }

@@ -24,8 +24,11 @@ struct Both {
 impl Both {
     // Whether both tell the same.
     fn agree(&mut self, alloc: Global, conversation: usize, call: &Call) -> bool {
-        let told = ask_core(alloc, &mut self.core, conversation as u64, call);
-        told == Some(self.machine.step(conversation, call))
+        let wanted = self.machine.step(conversation, call);
+        match ask_core(alloc, &mut self.core, conversation as u64, call) {
+            Some(told) => told == wanted,
+            None => false,
+        }
     }
 }
 
@@ -37,22 +40,24 @@ fn opened(alloc: Global) -> Both {
     }
 }
 
-// The first call of the next list that both answer differently; 0 and 1 create a table.
-fn difference(alloc: Global, seed: &mut u32) -> Option<u32> {
+// How many calls of the next list both answer alike, before one that they do not; 0 and 1 create a
+// table.
+fn alike(alloc: Global, seed: &mut u32) -> u32 {
     let mut both = opened(alloc);
     for at in 0..CALLS {
         let (conversation, call) = nth_call(at, seed);
         if !both.agree(alloc, conversation, &call) {
-            return Some(at);
+            return at;
         }
     }
-    None
+    CALLS
 }
 
 #[test]
 fn both_tell_the_same(rt: HostRuntime) {
     let mut seed = 1;
     for list in 0..LISTS {
-        assert_eq!(rt; difference(rt.alloc(), &mut seed), None, "list {list}");
+        let calls = alike(rt.alloc(), &mut seed);
+        assert!(rt; calls == CALLS, "list {list}, call {calls}");
     }
 }
