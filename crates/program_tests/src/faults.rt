@@ -2,7 +2,6 @@
 
 use crate::programs::run_over;
 use std::alloc::Global;
-use std::test::Fail;
 
 const REFUSED: &[u8] = b"drdad: bad arguments\n";
 
@@ -145,12 +144,10 @@ fn is_told(alloc: Global, words: &[&str], status: u8, said: &[u8]) -> bool {
 }
 
 #[test]
-fn faults_are_told_in_their_order(rt: HostRuntime) -> Result<(), Fail> {
-    for (words, status, said) in FAULTS {
-        let told = is_told(rt.alloc(), words, status, said);
-        assert_eq!(rt; told, true, "{words:?}");
+fn faults_are_told_in_their_order(rt: HostRuntime) {
+    for (words, status, said) in &FAULTS {
+        assert!(rt; is_told(rt.alloc(), words, *status, said), "{words:?}");
     }
-    Ok(())
 }
 
 // Words that the parser refuses, and what stands in its text.
@@ -184,9 +181,8 @@ fn is_mistake(alloc: Global, words: &[&str], said: &[u8]) -> bool {
 }
 
 #[test]
-fn tells_of_mistakes_in_words(rt: HostRuntime) -> Result<(), Fail> {
-    for (words, said) in MISTAKES {
+fn tells_of_mistakes_in_words(rt: HostRuntime) {
+    for (words, said) in &MISTAKES {
         assert!(rt; is_mistake(rt.alloc(), words, said), "{words:?}");
     }
-    Ok(())
 }

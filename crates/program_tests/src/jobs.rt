@@ -2,7 +2,6 @@
 
 use crate::programs::run_over;
 use std::alloc::Global;
-use std::test::Fail;
 use test_bytes::*;
 
 // Whether the program over these words and event records ends with this status and these answers, and
@@ -55,28 +54,35 @@ const CONNECTED: [&str; 6] = [
 
 const ENDS: [(&str, u8, &[u8]); 2] = [("", 0, b""), ("09", 4, b"drdad: bad event\n")];
 
-#[test]
-fn pipes_events(rt: HostRuntime) -> Result<(), Fail> {
+// Whether this pipe ends so over a conversation and these bytes behind it.
+fn is_piped(
+    alloc: Global,
+    words: &[&str],
+    (behind, status, said): (&str, u8, &[u8]),
+) -> Option<bool> {
     let [open, head, a, b, c, d] = CONNECTS;
-    for words in PIPES {
-        for (behind, status, said) in ENDS {
-            let input = [open, head, a, b, c, d, behind];
-            let done = is_finished(rt.alloc(), words, (&input, &CONNECTED), (status, said));
-            assert_eq!(rt; done, Some(true), "{words:?} {behind}");
+    let input = [open, head, a, b, c, d, behind];
+    is_finished(alloc, words, (&input, &CONNECTED), (status, said))
+}
+
+#[test]
+fn pipes_events(rt: HostRuntime) {
+    for words in &PIPES {
+        for end in &ENDS {
+            let done = is_piped(rt.alloc(), words, *end);
+            assert!(rt; done == Some(true), "{words:?} {}", end.0);
         }
     }
-    Ok(())
 }
 
 // The password has a colon; the database is the one of the default name.
 #[test]
-fn splits_at_the_first_colon(rt: HostRuntime) -> Result<(), Fail> {
+fn splits_at_the_first_colon(rt: HostRuntime) {
     let words = ["drdad", "pipe", "--user", "ana:p:w"];
     let input = [OPEN, "02 00 0000000A", BARE_EXCSAT];
     let answers = [OPEN, "02 00 00000031", BARE_EXCSATRD];
     let done = is_finished(rt.alloc(), &words, (&input, &answers), (0, b""));
-    assert_eq!(rt; done, Some(true));
-    Ok(())
+    assert!(rt; done == Some(true));
 }
 
 // Jobs that write a text, and how many files they make.
@@ -110,10 +116,8 @@ fn is_written(alloc: Global, words: &[&str], text: &[u8], count: u32) -> bool {
 }
 
 #[test]
-fn texts_are_written(rt: HostRuntime) -> Result<(), Fail> {
-    for (words, text, count) in TEXTS {
-        let written = is_written(rt.alloc(), words, text, count);
-        assert_eq!(rt; written, true, "{words:?}");
+fn texts_are_written(rt: HostRuntime) {
+    for (words, text, count) in &TEXTS {
+        assert!(rt; is_written(rt.alloc(), words, text, *count), "{words:?}");
     }
-    Ok(())
 }

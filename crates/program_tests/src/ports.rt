@@ -2,7 +2,7 @@
 
 use crate::networks::Network;
 use crate::programs::run_on;
-use std::test::Fail;
+use std::alloc::Global;
 
 const TWICE: &[&str] = &[
     "drdad", "serve", "store", "--port", "0", "--user", "ana:pw", "--count", "2",
@@ -32,16 +32,23 @@ const LISTENERS: [(Network, &[&str], u8, &[u8], &[u8]); 4] = [
     ),
 ];
 
+// Whether the program ends so over this network.
+fn ends_so(
+    alloc: Global,
+    (net, words, status, out, said): &(Network, &[&str], u8, &[u8], &[u8]),
+) -> bool {
+    let end = run_on(alloc, words, *net, &[]);
+    end.status == *status && end.out.as_slice() == *out && end.err.as_slice() == *said
+}
+
 #[test]
-fn listens_and_serves(rt: HostRuntime) -> Result<(), Fail> {
-    for (net, words, status, out, said) in LISTENERS {
-        let end = run_on(rt.alloc(), words, net, &[]);
-        assert_eq!(rt; end.status, status, "{net:?} {words:?}");
-        assert_eq!(rt;
-            (end.out.as_slice(), end.err.as_slice()),
-            (out, said),
-            "{net:?} {words:?}"
+fn listens_and_serves(rt: HostRuntime) {
+    for listener in &LISTENERS {
+        assert!(rt;
+            ends_so(rt.alloc(), listener),
+            "{:?} {:?}",
+            listener.0,
+            listener.1
         );
     }
-    Ok(())
 }

@@ -6,7 +6,6 @@ use crate::shelves::Shelf;
 use drda_program::{Ready, run_words};
 use std::alloc::Global;
 use std::io::{self, ErrorKind, Read, Write};
-use std::test::Fail;
 
 const PIPE: [&str; 4] = ["drdad", "pipe", "--user", "ana:pw"];
 
@@ -69,13 +68,16 @@ fn tells_of_fault<R: Read + Ready, W: Write>(
     status == 2 && err.as_slice() == b"drdad: file or device fault\n".as_slice()
 }
 
-#[test]
-fn tells_of_broken_streams(rt: HostRuntime) -> Result<(), Fail> {
-    let mut out = Vec::new(rt.alloc());
-    assert!(rt; tells_of_fault(rt.alloc(), &PIPE, &mut Broken, &mut out));
+// Whether it does where its input fails, and where its output does.
+fn tells_of_both(alloc: Global) -> bool {
     let mut reader = OPEN.as_slice();
-    assert!(rt; tells_of_fault(rt.alloc(), &PIPE, &mut reader, &mut Broken));
-    Ok(())
+    tells_of_fault(alloc, &PIPE, &mut Broken, &mut Vec::new(alloc))
+        && tells_of_fault(alloc, &PIPE, &mut reader, &mut Broken)
+}
+
+#[test]
+fn tells_of_broken_streams(rt: HostRuntime) {
+    assert!(rt; tells_of_both(rt.alloc()));
 }
 
 // Jobs that write, and all that they have written before the flush that fails.
@@ -91,35 +93,39 @@ const WRITERS: [(&[&str], &[u8], &[u8]); 4] = [
     (&["drdad", "indoubt", "doubt"], b"", b"1 47 42\n"),
 ];
 
-#[test]
-fn tells_of_a_flush_that_fails(rt: HostRuntime) -> Result<(), Fail> {
-    for (words, input, written) in WRITERS {
-        let mut reader = input;
-        let mut out = Unflushed {
-            taken: Vec::new(rt.alloc()),
-        };
-        assert!(rt;
-            tells_of_fault(rt.alloc(), words, &mut reader, &mut out),
-            "{words:?}"
-        );
-        assert_eq!(rt; out.taken.as_slice(), written, "{words:?}");
-        let mut reader = input;
-        assert!(rt;
-            tells_of_fault(rt.alloc(), words, &mut reader, &mut Broken),
-            "{words:?}"
-        );
-    }
-    Ok(())
+// Whether the program tells of a flush that fails behind these bytes.
+fn tells_of_flush(alloc: Global, words: &[&str], input: &[u8], written: &[u8]) -> bool {
+    let mut reader = input;
+    let mut out = Unflushed {
+        taken: Vec::new(alloc),
+    };
+    let tells = tells_of_fault(alloc, words, &mut reader, &mut out);
+    tells && out.taken.as_slice() == written
 }
 
-// What goes to standard error may fail; the status stays.
+// Whether it does where its output takes no bytes at all.
+fn tells_of_output(alloc: Global, words: &[&str], input: &[u8]) -> bool {
+    let mut reader = input;
+    tells_of_fault(alloc, words, &mut reader, &mut Broken)
+}
+
 #[test]
-fn status_stays_where_nothing_can_be_said(rt: HostRuntime) -> Result<(), Fail> {
-    let alloc = rt.alloc();
+fn tells_of_a_flush_that_fails(rt: HostRuntime) {
+    for (words, input, written) in &WRITERS {
+        assert!(rt;
+            tells_of_flush(rt.alloc(), words, input, written),
+            "{words:?}"
+        );
+        assert!(rt; tells_of_output(rt.alloc(), words, input), "{words:?}");
+    }
+}
+
+// The status behind a bad event, where what goes to standard error fails too.
+fn status_behind(alloc: Global) -> u8 {
     let mut files = Shelf { alloc, made: 0 };
     let mut reader: &[u8] = b"x";
     let mut out = Vec::new(alloc);
-    let status = run_words(
+    run_words(
         alloc,
         &PIPE,
         &mut files,
@@ -127,7 +133,10 @@ fn status_stays_where_nothing_can_be_said(rt: HostRuntime) -> Result<(), Fail> {
         &mut reader,
         &mut out,
         &mut Broken,
-    );
-    assert_eq!(rt; status, 4);
-    Ok(())
+    )
+}
+
+#[test]
+fn status_stays_where_nothing_can_be_said(rt: HostRuntime) {
+    assert!(rt; status_behind(rt.alloc()) == 4);
 }

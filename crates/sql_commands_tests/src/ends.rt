@@ -49,8 +49,8 @@ fn is_ended(
 
 #[test]
 fn units_end(rt: HostRuntime) -> Result<(), Fail> {
-    for (end, script, expected) in ENDS {
-        let is_ended = is_ended(rt.alloc(), end, script, expected)?;
+    for (end, script, expected) in &ENDS {
+        let is_ended = is_ended(rt.alloc(), *end, *script, expected)?;
         assert!(rt; is_ended, "{expected:?}");
     }
     Ok(())

@@ -225,8 +225,8 @@ const CASES: [(&[Step], Script, &[Told], u32, u64); 10] = [
 
 #[test]
 fn sections_are_prepared_described_and_run(rt: HostRuntime) -> Result<(), Fail> {
-    for (steps, script, expected, asked, seen) in CASES {
-        let are_done = are_done(rt.alloc(), steps, script, expected, asked, seen)?;
+    for (steps, script, expected, asked, seen) in &CASES {
+        let are_done = are_done(rt.alloc(), steps, *script, expected, *asked, *seen)?;
         assert!(rt; are_done, "{expected:?}");
     }
     Ok(())

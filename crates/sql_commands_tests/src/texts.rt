@@ -107,8 +107,8 @@ const TWICE: [(&[u8], Script, &[Told], u32); 6] = [
 
 #[test]
 fn statements_are_run(rt: HostRuntime) -> Result<(), Fail> {
-    for (text, script, expected, asked) in TWICE {
-        let is_run = is_run_twice(rt.alloc(), text, script, expected, asked)?;
+    for (text, script, expected, asked) in &TWICE {
+        let is_run = is_run_twice(rt.alloc(), text, *script, expected, *asked)?;
         assert!(rt; is_run, "{expected:?}");
     }
     Ok(())
