@@ -86,7 +86,9 @@ fn a_generation_has_eight_bytes(rt: HostRuntime) -> Result<(), Fail> {
     let disk = fresh(rt.alloc())?;
     for (at, generation) in &GENERATIONS {
         let read = read_with(rt.alloc(), &disk, &[(*at, &[0xFF])])?;
-        let want = Ok((Half::First, *generation, FRESH.2, FRESH.3));
+        let numbers = FRESH.2;
+        let journal = FRESH.3;
+        let want = Ok((Half::First, *generation, numbers, journal));
         assert!(rt; read == want, "{at}");
     }
     Ok(())
