@@ -87,7 +87,7 @@ class Client:
 
     def ask(self, command, text=None):
         """Sends a command, with the text of a statement behind it where there is one, and gives the objects of the DSSs
-        that answer it. What went out and came in is kept in `command_kit`."""
+        that answer it. What went out and came in is kept in `exchanges`."""
         self.correlator += 1
         if text is None:
             sent = dss(0x01, self.correlator, command)
