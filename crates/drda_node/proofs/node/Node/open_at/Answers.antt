@@ -9,8 +9,8 @@ returns-clause-opened g c =
     let items = c.args.self.now.places.items in
     record {
       free = c.requires;
-      row = same_machine c.args.self.now.settings _ _ _ _ (view_set shown items c.args.place c.begin.new.self (Some beginning) c.begin.ensures.shown) refl;
+      left = search rules;
+      row = same_machine c.args.self.now.settings _ _ _ _ _ (view_set shown items c.args.place c.begin.new.self (Some beginning) c.begin.ensures.shown) refl;
       number = refl;
       numbers = view_set number_of items c.args.place c.begin.new.self c.args.self.now.next_number c.begin.ensures.number;
-      given = search rules;
     }

@@ -1,4 +1,4 @@
-use Rattle.std.proofs.Common.{rules, ◌≡◌, IsTrue, false, string_bytes, subst}
+use Rattle.std.proofs.Common.{rules, ◌≡◌, false, string_bytes, subst}
 use Rattle.core_calls.specs.Answer.{answer_of}
 use Rattle.core_calls.specs.Call.{lost}
 use Rattle.rdb_core.specs.State.{recorder_of, state_of}
@@ -18,7 +18,7 @@ invariant_of-self g c =
 pub returns-clause-journaled : goal.returns-clause-journaled
 returns-clause-journaled g c =
     let going : has_failed (recorder_of c.self.inside.core) ≡ false = search rules in
-    subst (λ (old : OnDisk g.row.D.Denot). IsTrue g.D.Disk.is_modelled → Journaled (shown_on g.D.Disk.life old) (shown_on g.D.Disk.life (core_on (string_bytes c.self.inside.name) (state_of c.lose.new.self) (recorder_of c.lose.new.self)))) c.self.view_is
+    subst (λ (old : OnDisk g.row.D.Denot). Journaled g.D.Disk.is_modelled (shown_on g.D.Disk.life old) (shown_on g.D.Disk.life (core_on (string_bytes c.self.inside.name) (state_of c.lose.new.self) (recorder_of c.lose.new.self)))) c.self.view_is
     (taken_step g.D.Disk.is_modelled g.D.Disk.life (string_bytes c.self.inside.name)
     (record { steps_keep = c.steps_are_recorded.ensures.keep; silent_stay = c.steps_are_recorded.ensures.silent; records_lead = c.steps_are_recorded.ensures.lead; are_of_doubts = c.steps_are_recorded.ensures.decisions; held_for_doubts = c.doubts_hold_their_decisions.ensures; records_stay = c.records_stay.ensures; calls_made = c.calls_make_records.ensures })
     (state_of c.self.inside.core) (recorder_of c.self.inside.core) c.self.invariant going c.args.conversation lost (answer_of c.lose.result) (state_of c.lose.new.self) (recorder_of c.lose.new.self) c.lose.ensures).journaled
