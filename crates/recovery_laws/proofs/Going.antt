@@ -41,7 +41,7 @@ module _ (goes_on : GoesOn) where
   opens_first : (name : List ℕ) (d : Durable) (rs ss : List UnitRecord) (c : List ℕ) → OpensAfterSome name d rs c → OpensAfterSome name d (rs ++ ss) c
   opens_first name d rs ss c o = record { count = min o.count (length rs); state = o.state; leads = ap (replayed_from d) (front_first rs ss o.count) ∙ o.leads; opens = o.opens }
 
-  opens_both : (name other : List ℕ) (d e : Durable) (rs ss : List UnitRecord) (c : List ℕ) → other ≡ name → replayed_from d rs ≡ Some e → OpensAfterSome other e ss c → OpensAfterSome name d (rs ++ ss) c
+  abbrev opens_both : (name other : List ℕ) (d e : Durable) (rs ss : List UnitRecord) (c : List ℕ) → other ≡ name → replayed_from d rs ≡ Some e → OpensAfterSome other e ss c → OpensAfterSome name d (rs ++ ss) c
   opens_both name other d e rs ss c same led o = record {
     count = length rs + o.count;
     state = o.state;
@@ -52,7 +52,8 @@ module _ (goes_on : GoesOn) where
   all_both : (name other : List ℕ) (d e : Durable) (rs ss : List UnitRecord) (failed : Bool) (c : List ℕ) → other ≡ name → replayed_from d rs ≡ Some e → OpensAfterAll other e ss failed c → OpensAfterAll name d (rs ++ ss) failed c
   all_both name other d e rs ss failed c same led o =
       let more = o.all in
-      record { after = opens_both name other d e rs ss c same led o.after; all = omega (arith, more, length-append rs ss) }
+      let count : (opens_both name other d e rs ss c same led o.after).count ≡ length rs + o.after.count = refl in
+      record { after = opens_both name other d e rs ss c same led o.after; all = omega (arith, more, count, length-append rs ss) }
 
   -- ---- two runs of calls
 

@@ -23,7 +23,7 @@ opens_here name d rs c opens = record { count = 0; state = d; leads = refl; open
 one_step : (d e : Durable) (r : UnitRecord) → next d r ≡ Some e → replayed_from d (r ∷ []) ≡ Some e
 one_step d e r step = ap (option_and_then (λ (f : Durable). replayed_from f [])) step
 
-opens_behind : (name : List ℕ) (d e : Durable) (r : UnitRecord) (c : List ℕ) → next d r ≡ Some e → OpensTo name e c → OpensAfterSome name d (r ∷ []) c
+abbrev opens_behind : (name : List ℕ) (d e : Durable) (r : UnitRecord) (c : List ℕ) → next d r ≡ Some e → OpensTo name e c → OpensAfterSome name d (r ∷ []) c
 opens_behind name d e r c step opens = record { count = 1; state = e; leads = one_step d e r step; opens = opens }
 
 -- of one record at most the last is missing
@@ -40,7 +40,9 @@ opens_all : (old new : Shown) (r : UnitRecord) (e : Durable) (c : List ℕ) → 
 opens_all old new r e c step name state durable now =
     let there : OpensTo new.name (durable_part new.state) c = only_opens new durable c now in
     let named : OpensTo old.name (durable_part new.state) c = subst (λ (n : List ℕ). OpensTo n (durable_part new.state) c) name there in
-    record { after = opens_behind old.name (durable_part old.state) e r c step (subst (λ (d : Durable). OpensTo old.name d c) state named); all = omega arith }
+    let here : OpensTo old.name e c = subst (λ (d : Durable). OpensTo old.name d c) state named in
+    let count : (opens_behind old.name (durable_part old.state) e r c step here).count ≡ 1 = refl in
+    record { after = opens_behind old.name (durable_part old.state) e r c step here; all = omega (arith, count) }
 
 module _ (written : WrittenIsRead) where
   module _ (old new : Shown) (region : Region) (es : List Entry) (r : UnitRecord) (e : Durable)

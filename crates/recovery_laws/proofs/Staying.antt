@@ -3,12 +3,12 @@ use Rattle.std.proofs.Common.{◌≡◌, ◌⊎◌, ◌≤◌, ◌<◌, ◌+◌,
 use Rattle.std.specs.Prelude.{nat_le}
 use Rattle.std.proofs.lemmas.List.{take_at}
 use Rattle.std.proofs.lemmas.Bool.Decides.{leb_tells}
+use Rattle.drda_disk.specs.Disk.{Life}
 use Rattle.unit_records.specs.Records.{UnitRecord}
 use Rattle.recovery.specs.Durable.{Durable, replayed_from}
 use Rattle.recovery_laws.specs.Part.{durable_part}
 use Rattle.recovery_laws.specs.Opens.{OpensTo}
-use Rattle.recovery_laws.specs.Journaled.{OpensAfterAll}
-use Rattle.recovery_laws.specs.ImageLaws.{AnsweredStays}
+use Rattle.recovery_laws.specs.Journaled.{AnsweredStays, OpensAfterAll}
 
 -- with none or with one that may be missing
 few : (failed : Bool) (whole count front : ℕ) → whole ≡ front + 1 → whole ≤ count + (if failed then 1 else 0) → front ≤ count
@@ -43,8 +43,8 @@ module _ (name : List ℕ) (d : Durable) (image : List ℕ) where
     one_missing : (state : Durable) × OpensTo name state image × ((replayed_from d answered ≡ Some state) ⊎ (replayed_from d (answered ++ last ∷ []) ≡ Some state))
     one_missing = (o.after.state, o.after.opens, which (leb_tells o.after.count (length answered)))
 
-pub answered_stays : AnsweredStays
-answered_stays = record {
+pub answered_stays : {D : Type 0} (life : D → Life) → AnsweredStays life
+answered_stays life = record {
   going = λ records old new image made going now.
       none_missing old.name (durable_part old.state) image records (durable_part new.state) (subst (λ (f : Bool). OpensAfterAll old.name (durable_part old.state) records f image) going (made.left image now)) (made.state going);
   failed = λ answered last old new image made now. one_missing old.name (durable_part old.state) image answered last new.is_failed (made.left image now);

@@ -1,6 +1,5 @@
 -- What images open to: one state at most, and what records and calls make of it.
-use Rattle.std.specs.Prelude.{◌≡◌, ◌⊎◌, ℕ, ◌+◌, ◌*◌, ◌≤◌, false, List, [], ◌∷◌, ◌++◌, length, Some, Ok}
-use Rattle.drda_disk.specs.Disk.{Now}
+use Rattle.std.specs.Prelude.{◌≡◌, ◌⊎◌, ℕ, ◌+◌, ◌*◌, ◌≤◌, List, [], ◌∷◌, ◌++◌, length, Some, Ok}
 use Rattle.drda_disk.specs.Region.{SameOutside, end_of}
 use Rattle.drda_disk.specs.declared.region.Region.{Region}
 use Rattle.half_store.specs.Active.{Store, active_of}
@@ -10,11 +9,9 @@ use Rattle.unit_journal.specs.Record.{Entry, laid}
 use Rattle.unit_journal.specs.Stands.{IsBeforeOrAfter, Stands}
 use Rattle.unit_records.specs.Records.{IsGood, UnitRecord, entry_of}
 use Rattle.unit_records.specs.Room.{taken}
-use Rattle.recovery.specs.Durable.{Durable, fresh, next, replayed_from}
+use Rattle.recovery.specs.Durable.{Durable, fresh, next}
 use Rattle.recovery.specs.Laws.{held_for}
-use Rattle.recovery_laws.specs.Part.{durable_part}
 use Rattle.recovery_laws.specs.Opens.{Holds, OpensTo}
-use Rattle.recovery_laws.specs.Journaled.{Made, Shown}
 
 -- an image opens to one state at most, under one name
 abbrev pub OpensToOne : Type 0
@@ -58,11 +55,3 @@ RecordsStay =
 -- a store that was just made has no tables, and no records
 abbrev pub FreshStoresOpen : Type 0
 FreshStoresOpen = (name image : List ℕ) → IsFresh name image → (region : Region) × Holds name region [] fresh image
-
--- Each image that a crash leaves now has what was answered: all that is durable of a core that goes on; and of one that
--- has failed what all of its records but the last lead to, or what the last leads to too.
-pub record AnsweredStays : Type 1 where
-  pub going : (records : List UnitRecord) (old new : Shown) (image : List ℕ) → Made records old new → new.is_failed ≡ false → Now new.disk image → OpensTo old.name (durable_part new.state) image
-  pub failed : (answered : List UnitRecord) (last : UnitRecord) (old new : Shown) (image : List ℕ) → Made (answered ++ last ∷ []) old new → Now new.disk image
-      → (state : Durable) × OpensTo old.name state image
-      × ((replayed_from (durable_part old.state) answered ≡ Some state) ⊎ (replayed_from (durable_part old.state) (answered ++ last ∷ []) ≡ Some state))

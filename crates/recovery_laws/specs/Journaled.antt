@@ -1,6 +1,6 @@
 -- What calls leave on the disk: at any moment, the tables and units in doubt after the first of the records
 -- that they made; once they have returned, after all of them, but perhaps not after the last where the device failed.
-use Rattle.std.specs.Prelude.{◌≡◌, ℕ, ◌+◌, ◌≤◌, Bool, true, false, IsTrue, List, [], ◌∷◌, ◌++◌, length, take, Some, map, if◌then◌else◌}
+use Rattle.std.specs.Prelude.{◌≡◌, ◌⊎◌, ℕ, ◌+◌, ◌≤◌, Bool, true, false, IsTrue, List, [], ◌∷◌, ◌++◌, length, take, Some, map, if◌then◌else◌}
 use Rattle.std.specs.List.{AllByRecursion}
 use Rattle.drda_disk.specs.Disk.{LeavesOnly, Life, Now, Only, Stays}
 use Rattle.drda_disk.specs.declared.region.Region.{Region}
@@ -133,3 +133,11 @@ module _ {D : Type 0} (life : D → Life) where
     pub unchanged : (old new : OnDisk D) → new ≡ old → IsUnchanged (shown_on old) (shown_on new)
     -- what is only read is left
     pub read_only : (old new : D) → Stays (life old) (life new) → Only (life old) → LeavesOnly (life old) (life new) (λ c. c ≡ (life old).seen)
+
+  -- Each image that a crash leaves now has what was answered: all that is durable of a core that goes on; and of one that
+  -- has failed what all of its records but the last lead to, or what the last leads to too.
+  pub record AnsweredStays : Type 0 where
+    pub going : (records : List UnitRecord) (old new : OnDisk D) (image : List ℕ) → Made records (shown_on old) (shown_on new) → new.is_failed ≡ false → Now (life new.disk) image → OpensTo old.name (durable_part new.state) image
+    pub failed : (answered : List UnitRecord) (last : UnitRecord) (old new : OnDisk D) (image : List ℕ) → Made (answered ++ last ∷ []) (shown_on old) (shown_on new) → Now (life new.disk) image
+        → (state : Durable) × OpensTo old.name state image
+        × ((replayed_from (durable_part old.state) answered ≡ Some state) ⊎ (replayed_from (durable_part old.state) (answered ++ last ∷ []) ≡ Some state))

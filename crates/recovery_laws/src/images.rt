@@ -1,7 +1,7 @@
 //! Laws of the definitions. The functions do nothing: their contracts are the laws.
 
-ghost use Rattle.recovery_laws.specs.Journaled.{CallsGoOn, OneCallIsMade};
-ghost use Rattle.recovery_laws.specs.ImageLaws.{AnsweredStays, FreshStoresOpen, OpensThere, OpensToOne, RecordsOpen, RecordsStay};
+ghost use Rattle.recovery_laws.specs.Journaled.{AnsweredStays, CallsGoOn, OneCallIsMade};
+ghost use Rattle.recovery_laws.specs.ImageLaws.{FreshStoresOpen, OpensThere, OpensToOne, RecordsOpen, RecordsStay};
 
 use drda_disk::Disk;
 use recovery::laws::{records_follow_one_another, records_lead_one_way};
@@ -58,6 +58,6 @@ pub fn calls_make_records<D: Disk>()
 
 /// What calls have answered is in each image that a crash leaves from then on, though the device failed
 /// later in the same call.
-pub fn answered_units_stay()
-    ensures { AnsweredStays }
+pub fn answered_units_stay<D: Disk>()
+    ensures { AnsweredStays D.life }
 {}

@@ -2,4 +2,4 @@ use Rattle.recovery_laws.proofs.Staying.{answered_stays}
 use Rattle.recovery_laws.proofs.images.answered_units_stay.Goals as goal
 
 pub returns : goal.returns
-returns c = answered_stays
+returns g c = answered_stays g.D.Disk.life
