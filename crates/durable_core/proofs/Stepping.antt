@@ -26,7 +26,7 @@ use Rattle.journal_recorder.specs.Recording.{Allows, Fails, IsLeftOpen, Records,
 use Rattle.journal_recorder.specs.declared.recorder.DiskRecorder.{DiskRecorder}
 use Rattle.recovery_laws.specs.Opens.{Holds}
 use Rattle.recovery_laws.specs.ImageLaws.{RecordsStay}
-use Rattle.recovery_laws.specs.Journaled.{FaultsAfter, IsDurable, IsUnchanged, IsUntouched, Journaled, Made, OneCallIsMade, shown_on}
+use Rattle.recovery_laws.specs.Journaled.{FaultsAfter, IsDurable, IsUnchanged, IsUntouched, Journaled, Made, OnDisk, OneCallIsMade, shown_on}
 use Rattle.rdb_core.specs.Recorded as told
 use Rattle.rdb_core.specs.Steps as core
 use Rattle.durable_core.specs.Recorded.{IsOnDisk, IsRecorded, core_on}
@@ -45,6 +45,17 @@ pub record Laws {D : Type 0} (life : D → Life) : Type 0 where
 -- a record that finds room fits behind the others, with the bytes that are held then
 fits : (at len l need hold free before after room : ℕ) → room ≡ at + len - (at + l) - 1 - before → l + 1 + before ≤ len → need + hold ≤ room + free → after + free ≡ before + hold → l + need + 1 + after ≤ len
 fits at len l need hold free before after room is inside less same = omega (arith, is, inside, less, same)
+
+-- a core that has failed does nothing
+pub stays_failed : {D : Type 0} (modelled : Bool) (life : D → Life) → OneCallIsMade life → (s : OnDisk D) → s.is_failed ≡ true → Journaled modelled (shown_on life s) (shown_on life s)
+stays_failed modelled life made s failed = record {
+  name = refl;
+  more = [];
+  made = sym (append-nil s.made);
+  faults = λ going. absurd (false≢true (sym going ∙ failed));
+  failed = λ before. made.failed s s before refl;
+  records = λ modelled_disk going. absurd (false≢true (sym going ∙ failed));
+}
 
 module _ {D : Type 0} (modelled : Bool) (life : D → Life) (name : List ℕ) where
   -- what became of a call of a core
@@ -70,16 +81,6 @@ module _ {D : Type 0} (modelled : Bool) (life : D → Life) (name : List ℕ) wh
     durable modelled_disk going = durable_from laws.calls_made s r is modelled_disk going
 
     -- once it has failed nothing is done
-    pub failed : has_failed r ≡ true → Journaled modelled (shown_on life (core_on name s r)) (shown_on life (core_on name s r))
-    failed is_failed = record {
-      name = refl;
-      more = [];
-      made = sym (append-nil (made_of r));
-      faults = λ going. absurd (false≢true (sym going ∙ is_failed));
-      failed = λ before. laws.calls_made.failed (core_on name s r) (core_on name s r) before refl;
-      records = λ modelled_disk going. absurd (false≢true (sym going ∙ is_failed));
-    }
-
     pub is_closed : has_failed r ≡ true → IsClosed (shown_on life (core_on name s r)) closed (shown_on life (core_on name s r))
     is_closed is_failed = record { failed = is_failed; answer_is = refl; same = unchanged s r }
 
