@@ -49,7 +49,7 @@ calls_both place a b c (xs, p, f) (ys, q, g) = (xs ++ ys, are_both place xs ys p
 module _ (settings : Settings) (place : ℕ) where
   done : (doing : Doing) (old new : AskedCore) (k : Statements) (before after : List Reply) → WasDone (asks place) doing old new k before after → Calls place old new
   done (finished r) old new k before after w = none place old new w.0
-  done (asking call then) old new k before after w = one place old call w.answer new w.asked
+  done (asking call answered) old new k before after w = one place old call w.answer new w.asked
 
   exchanges : (s s' : Standing AskedCore) (command : List Dss) (bytes : List ℕ) → Exchanges (asks place) settings s command bytes s' → Calls place s.asked s'.asked
   exchanges s s' [] bytes e = none place s.asked s'.asked (ap (λ (t : Standing AskedCore). t.asked) e.1)
@@ -62,7 +62,7 @@ module _ (settings : Settings) (place : ℕ) where
 
   does_all : (commands : List (List Dss)) (s last : Standing AskedCore) (bytes : List ℕ) → DoesAll (asks place) settings s commands bytes last → Calls place s.asked last.asked
   does_all [] s last bytes d = none place s.asked last.asked (ap (λ (t : Standing AskedCore). t.asked) d.1)
-  does_all (command ∷ commands) s last bytes (first, others, then, d, same, more) = calls_both place s.asked then.asked last.asked (does s then command first d.does) (does_all commands then last others more)
+  does_all (command ∷ commands) s last bytes (first, others, between, d, same, more) = calls_both place s.asked between.asked last.asked (does s between command first d.does) (does_all commands between last others more)
 
   ends : (end : End) (s last : Standing AskedCore) (bytes left : List ℕ) → Ends (asks place) s end bytes left last → last.asked ≡ s.asked
   ends (unfinished rest) s last bytes left e = ap (λ (t : Standing AskedCore). t.asked) e.2

@@ -85,7 +85,7 @@ not_full (None ∷ row) place free full = cc full
 not_full (Some c ∷ row) zero free full = cc free
 not_full (Some c ∷ row) (suc place) free full = not_full row place free full
 
--- a machine whose row and core are these
-pub same_machine : (settings : Settings) (rows row : List (Option Conversation)) (given : ℕ) (cores core : AskedCore) → rows ≡ row → cores ≡ core
-    → (let m : Machine = record { settings = settings; row = rows; given = given; core = cores } in m) ≡ record { settings = settings; row = row; given = given; core = core }
-same_machine settings rows row given cores core e f = λ i. record { settings = settings; row = e i; given = given; core = f i }
+-- a machine whose row, count and core are these
+pub same_machine : (settings : Settings) (rows row : List (Option Conversation)) (givens given : ℕ) (cores core : AskedCore) → rows ≡ row → givens ≡ given → cores ≡ core
+    → (let m : Machine = record { settings = settings; row = rows; given = givens; core = cores } in m) ≡ record { settings = settings; row = row; given = given; core = core }
+same_machine settings rows row givens given cores core e f h = λ i. record { settings = settings; row = e i; given = f i; core = h i }

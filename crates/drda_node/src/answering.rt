@@ -1,6 +1,8 @@
 //! Events done by a node, and the records that answer them.
 
-ghost use Rattle.std.specs.Prelude.{◌≡◌, ◌≤◌, ◌+◌, [], ◌++◌, OnErr, OnOk, length, drop};
+ghost use Rattle.std.specs.Prelude.{◌≡◌, ◌≤◌, ◌+◌, [], ◌++◌, ℕ, List, IfOk, OnErr, OnOk, length, drop};
+ghost use Rattle.drda_node.specs.Machine.{IsOpen};
+ghost use Rattle.drda_node.specs.Hearing.{Attended, HearsAt};
 ghost use Rattle.drda_node.specs.Records.{StartsUnsized, opens, sends, loses, checkpoints, record_text};
 ghost use Rattle.drda_node.specs.Reading.{event_of, size_of};
 ghost use Rattle.drda_node.specs.Happening.{BreaksOff, Happens, closing, refusal};
@@ -106,11 +108,7 @@ fn answer_bytes<D: Disk>(
         return refuse(text, number, NOT_OPEN);
     }
     text.extend_from_slice(&[REPLIES, number, 0, 0, 0, 0])?;
-    let is_closed = match node.feed_all_at(place, bytes, text) {
-        Heard::Open => false,
-        Heard::Closed => true,
-        Heard::NoMemory => return Err(AllocError),
-    };
+    let is_closed = hear_all(node, place, bytes, text)?;
     let size = text.len() - HEAD_SIZE;
     if size > u32::MAX as usize {
         return Err(AllocError);
@@ -120,6 +118,28 @@ fn answer_bytes<D: Disk>(
         push_record(text, CLOSED, number, &[])?;
     }
     Ok(())
+}
+
+// Gives a conversation all of these bytes, and appends its replies. Says whether it is closed then.
+fn hear_all<D: Disk>(
+    node: &mut Node<D>,
+    place: usize,
+    bytes: &[u8],
+    text: &mut Vec<u8>,
+) -> Result<bool, AllocError>
+    requires { IsOpen (machine node.old) place }
+    ensures hears { IfOk result (λ is_closed. (after : Attended) × (written : List ℕ)
+        × (text.new.items ≡ text.old.items ++ written)
+        × HearsAt (machine node.old) place bytes.now written after (machine node.new)
+        × (after.standing.session.is_closed ≡ is_closed)) }
+    ensures anyway { BreaksOff (machine node.old) (sends place bytes.now) (machine node.new) }
+    ensures journaled { IsJournaled D.is_modelled D.life (core_in node.old) (core_in node.new) }
+{
+    match node.feed_all_at(place, bytes, text) {
+        Heard::Open => Ok(false),
+        Heard::Closed => Ok(true),
+        Heard::NoMemory => Err(AllocError),
+    }
 }
 
 // The head of a record of replies, whose size was left out.

@@ -5,7 +5,7 @@ use Rattle.drda_node.specs.Register.{core_in, machine, numbers}
 use Rattle.drda_node.specs.Feeding.{Feeds, LeftAs, bytes_behind}
 use Rattle.drda_node.specs.Hearing.{HearsPart, IsShortReply}
 use Rattle.drda_node.proofs.Journal.{more}
-use Rattle.drda_node.proofs.Heard.{Heard, all, heard_more, heard_there, last, part, said_behind, still_there}
+use Rattle.drda_node.proofs.Listening.{Heard, all, heard_more, heard_there, last, part, said_behind, still_there}
 use Rattle.drda_node.proofs.node.Node.feed_all_at.Goals as goal
 
 pub feed_at-fed-requires : goal.feed_at-fed-requires

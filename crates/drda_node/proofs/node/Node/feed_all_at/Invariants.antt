@@ -1,7 +1,7 @@
 use Rattle.std.proofs.Common.{◌≡◌, ◌≤◌, ◌-◌, length}
 use Rattle.drda_node.specs.Asking.{IsJournaled}
 use Rattle.drda_node.specs.Register.{core_in, machine, numbers}
-use Rattle.drda_node.proofs.Heard.{HeardSoFar}
+use Rattle.drda_node.proofs.Listening.{HeardSoFar}
 use Rattle.drda_node.proofs.node.Node.feed_all_at.Given as goal
 
 abbrev pub invariant-feeding : goal.invariant-feeding

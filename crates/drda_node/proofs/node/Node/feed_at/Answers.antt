@@ -20,7 +20,7 @@ returns-clause-feeds g c =
       before = shown_held place.front;
       after = with_core new.front (core_of c.feed.new.asker);
       was = here ∙ ap (λ o. Some o) (sym is ∙ shows);
-      row = same_machine c.args.self.now.settings _ _ _ _ _ (view_set shown items c.args.place new (Some (shown_held new.front)) (open_shows new c.feed.ensures.open)) refl;
+      row = same_machine c.args.self.now.settings _ _ _ _ _ _ (view_set shown items c.args.place new (Some (shown_held new.front)) (open_shows new c.feed.ensures.open)) refl refl;
       takes = subst (λ (v : Settings). Takes v c.args.place (with_core place.front (asked_of c.args.self.now.core)) c.args.piece.now c.args.out.now.items c.feed.result (with_core new.front (core_of c.feed.new.asker)) c.feed.new.out.items) settings c.feed.ensures.takes;
     }
 
