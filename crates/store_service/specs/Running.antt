@@ -1,0 +1,91 @@
+-- What running over a store comes to: the replies of a machine of plain tables from the state that the store opens to, and
+-- what a crash leaves at each moment.
+use Rattle.std.specs.Prelude.{◌≡◌, ℕ, Bool, false, IsTrue, List, [], map, Option, Some, IfSome, Result, Ok, Err}
+use Rattle.std.specs.List.{AllByRecursion}
+use Rattle.drda_disk.specs.Disk.{LeavesOnly, Life, Now, Only, Stays}
+use Rattle.session_commands.specs.Settings.{Settings, is_rdb_name}
+use Rattle.unit_records.specs.Records.{IsGood, UnitRecord, entry_of}
+use Rattle.recovery.specs.Durable.{Durable, replayed_from}
+use Rattle.recovery_laws.specs.Part.{durable_part, opened}
+use Rattle.recovery_laws.specs.Opens.{OpensTo}
+use Rattle.recovery_laws.specs.Journaled.{Journaled, OnDisk, OpensAfterAll, OpensAfterSome, shown_on}
+use Rattle.durable_core.specs.declared.errors.OpenError.{OpenError}
+use Rattle.durable_core.specs.declared.errors.OpenError.TheVariants.{Damaged, DeviceFailed, NoMemory, NotAStore}
+use Rattle.drda_node.specs.Asking.{AskedCore, asked_of}
+use Rattle.drda_node.specs.Machine.{Machine, at_start}
+use Rattle.drda_node.specs.Register.{core_in, machine}
+use Rattle.drda_node.specs.Serving.{Runs}
+use Rattle.drda_node.specs.declared.node.Node.{Node}
+use Rattle.drda_node.specs.declared.serving.RunEnd.{RunEnd}
+
+-- a disk that gives back what was written, whose one image opens to this state
+pub record IsStore (modelled : Bool) (name : List ℕ) (d : Durable) (disk : Life) : Type 0 where
+  pub modelled_is : IsTrue modelled
+  pub only : Only disk
+  pub opens : OpensTo name d disk.seen
+
+-- what a core over that state is to those who ask it
+abbrev pub core_over : Durable → ℕ → AskedCore
+core_over d room = record { state = opened d; room = room; has_failed = false; made = [] }
+
+-- a machine that begins with the state answered the input; these records were made of its calls, and lead from the state to
+-- what is durable of it; a crash leaves the state after the first of them, and at the end after all of them, but perhaps not
+-- the last where the device failed
+pub record HasRun (name : List ℕ) (d : Durable) (settings : Settings) (old new : Life) (input before : Option (List ℕ)) (end : RunEnd) (now : Option (List ℕ)) : Type 0 where
+  pub room : ℕ
+  pub last : Machine
+  pub runs : IfSome input (λ bytes. Runs (at_start settings (core_over d room)) bytes before end now last)
+  pub records : List UnitRecord
+  pub good : AllByRecursion IsGood records
+  pub made : last.core.made ≡ map entry_of records
+  pub lead : last.core.has_failed ≡ false → replayed_from d records ≡ Some (durable_part last.core.state)
+  pub moments : LeavesOnly old new (OpensAfterSome name d records)
+  pub left : (image : List ℕ) → Now new image → OpensAfterAll name d records last.core.has_failed image
+
+-- memory was refused, the device failed, or the store's name is none of a database
+abbrev pub IsRefusal : List ℕ → OpenError → Type 0
+IsRefusal name NotAStore = is_rdb_name name ≡ false
+IsRefusal name (Damaged at) = ⊥
+IsRefusal name DeviceFailed = Unit {0}
+IsRefusal name NoMemory = Unit {0}
+
+-- nothing was read or written
+pub record IsRefused (name : List ℕ) (error : OpenError) (old new : Life) (before now : Option (List ℕ)) : Type 0 where
+  pub refusal : IsRefusal name error
+  pub stays : Stays old new
+  pub silent : now ≡ before
+
+-- a machine over a core answered the input, and core and disk are those of one that went on from there
+pub record GoesFrom {D : Type 0} (modelled : Bool) (life : D → Life) (old : OnDisk D) (first : Machine) (input before : Option (List ℕ)) (disk : D) (end : RunEnd) (now : Option (List ℕ)) : Type 0 where
+  pub new : OnDisk D
+  pub disk_is : disk ≡ new.disk
+  pub journaled : Journaled modelled (shown_on life old) (shown_on life new)
+  pub last : Machine
+  pub core_is : last.core ≡ asked_of new
+  pub runs : IfSome input (λ bytes. Runs first bytes before end now last)
+
+module _ {D : Type 0} (life : D → Life) where
+  abbrev pub RunsFrom : List ℕ → Durable → List ℕ → List ℕ → D → Option (List ℕ) → Option (List ℕ) → D → Result RunEnd OpenError → Option (List ℕ) → Type 0
+  RunsFrom name d user password old input before new (Ok end) now = HasRun name d (record { user = user; password = password; rdb = name }) (life old) (life new) input before end now
+  RunsFrom name d user password old input before new (Err error) now = IsRefused name error (life old) (life new) before now
+
+  -- the disk that is handed back, and what became of the run
+  abbrev pub RunsStore : List ℕ → Durable → List ℕ → List ℕ → D → Option (List ℕ) → Option (List ℕ) → D × Result RunEnd OpenError → Option (List ℕ) → Type 0
+  RunsStore name d user password old input before given now = RunsFrom name d user password old input before given.0 given.1 now
+
+  -- ---- from a core on
+
+  pub record GivesBack (old : OnDisk D) (disk : D) (error : OpenError) (before now : Option (List ℕ)) : Type 0 where
+    pub refusal : IsRefusal old.name error
+    pub disk_is : disk ≡ old.disk
+    pub silent : now ≡ before
+
+  abbrev pub RunsOver : Bool → List ℕ → List ℕ → OnDisk D → Option (List ℕ) → Option (List ℕ) → D → Result RunEnd OpenError → Option (List ℕ) → Type 0
+  RunsOver modelled user password old input before disk (Ok end) now = GoesFrom modelled life old (at_start (record { user = user; password = password; rdb = old.name }) (asked_of old)) input before disk end now
+  RunsOver modelled user password old input before disk (Err error) now = GivesBack old disk error before now
+
+abbrev pub RunsCore : {D : Type 0} → Bool → (D → Life) → List ℕ → List ℕ → OnDisk D → Option (List ℕ) → Option (List ℕ) → D × Result RunEnd OpenError → Option (List ℕ) → Type 0
+RunsCore modelled life user password old input before given now = RunsOver life modelled user password old input before given.0 given.1 now
+
+abbrev pub RunsNode : {D : Type 0} {d : _} → Bool → (D → Life) → Node D d → Option (List ℕ) → Option (List ℕ) → D × Result RunEnd OpenError → Option (List ℕ) → Type 0
+RunsNode modelled life node input before given now = (end : RunEnd) × (given.1 ≡ Ok end) × GoesFrom modelled life (core_in node) (machine node) input before given.0 end now

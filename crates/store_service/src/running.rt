@@ -1,0 +1,81 @@
+//! A run over the store of a disk.
+
+ghost use Rattle.std.specs.Prelude.{◌≡◌, List, ℕ};
+ghost use Rattle.recovery.specs.Durable.{Durable};
+ghost use Rattle.store_service.specs.Running.{IsStore, RunsCore, RunsNode, RunsStore};
+
+use drda_disk::Disk;
+use drda_node::{DurableCore, Node, Ready, RunEnd, Settings, SettingsError, open, run};
+use durable_core::OpenError;
+use recovery::laws::records_lead_to_sound_states;
+use recovery_laws::steps::openings_are_kept;
+use std::alloc::Global;
+use std::io::Write;
+
+/// Opens the store of a disk, answers event records from `reader` on `writer` for this user as `drda_node::run`
+/// does, and hands the disk back.
+///
+/// The disk is one that a crash leaves as it is read, and that opens to a state: committed tables, and units in
+/// doubt with their claims. Then what is written is the answers of a machine of plain tables that begins with
+/// that state (`Runs`). The records of what its calls committed, prepared and decided, in their order, lead from
+/// that state to what is durable of the machine. At every moment, inside of a device call too, a crash leaves
+/// an image that opens to the state after the first of these records; and at the end, to the state after all of
+/// them, or all but the last where the device failed: so every answered commit is there, and every unit
+/// answered as prepared and undecided is in doubt, holding its claims.
+///
+/// Refused, nothing is written: memory was refused, the device failed, or the name of the store is none of a
+/// database (`NotAStore`). A disk that does not open to a state is refused as `durable_core::open` says.
+pub fn run_store<D: Disk + Drop, R: Ready, W: Write>(
+    alloc: Global,
+    disk: D,
+    user: &str,
+    password: &str,
+    reader: &mut R,
+    writer: &mut W,
+) -> (D, Result<RunEnd, OpenError>)
+    ensures { (name : List ℕ) (d : Durable) → IsStore D.is_modelled name d (D.life disk)
+        → RunsStore D.life name d user.now password.now disk (R.remaining reader.old) (W.contents writer.old) result (W.contents writer.new) }
+{
+    records_lead_to_sound_states();
+    openings_are_kept();
+    match open(alloc, disk) {
+        Ok(core) => run_core(alloc, core, user, password, reader, writer),
+        Err(refused) => (refused.disk, Err(refused.error)),
+    }
+}
+
+// Runs over a core.
+fn run_core<D: Disk + Drop, R: Ready, W: Write>(
+    alloc: Global,
+    core: DurableCore<D>,
+    user: &str,
+    password: &str,
+    reader: &mut R,
+    writer: &mut W,
+) -> (D, Result<RunEnd, OpenError>)
+    ensures { RunsCore D.is_modelled D.life user.now password.now core (R.remaining reader.old) (W.contents writer.old) result (W.contents writer.new) }
+{
+    let settings = match Settings::new(alloc, user, password, core.name()) {
+        Ok(settings) => settings,
+        Err(SettingsError::BadName) => return (core.into_disk(), Err(OpenError::NotAStore)),
+        Err(SettingsError::NoMemory) => return (core.into_disk(), Err(OpenError::NoMemory)),
+    };
+    match Node::start(alloc, settings, core) {
+        Ok(node) => run_node(alloc, node, reader, writer),
+        Err(core) => (core.into_disk(), Err(OpenError::NoMemory)),
+    }
+}
+
+// Runs a node.
+fn run_node<D: Disk, R: Ready, W: Write>(
+    alloc: Global,
+    node: Node<D>,
+    reader: &mut R,
+    writer: &mut W,
+) -> (D, Result<RunEnd, OpenError>)
+    ensures { RunsNode D.is_modelled D.life node (R.remaining reader.old) (W.contents writer.old) result (W.contents writer.new) }
+{
+    let mut node = node;
+    let end = run(alloc, &mut node, reader, writer);
+    (node.into_core().into_disk(), Ok(end))
+}
