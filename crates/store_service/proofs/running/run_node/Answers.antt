@@ -1,0 +1,17 @@
+use Rattle.std.proofs.Common.{refl, ap, ◌∙◌}
+use Rattle.drda_node.specs.Register.{core_in, machine}
+use Rattle.store_service.proofs.running.run_node.Goals as goal
+
+pub returns : goal.returns
+returns g c = (
+  c.run-end.result,
+  refl,
+  record {
+    new = core_in c.run-end.new.node;
+    disk_is = c.into_disk.ensures ∙ ap (λ core. core.disk) c.into_core.ensures;
+    journaled = c.run-end.ensures.journaled;
+    last = machine c.run-end.new.node;
+    core_is = refl;
+    runs = c.run-end.ensures.runs;
+  },
+)

@@ -1,0 +1,11 @@
+use Rattle.durable_core.specs.Opening.{Finds}
+use Rattle.store_service.proofs.Stores.{refused_so, runs_over}
+use Rattle.store_service.proofs.running.run_store.Goals as goal
+
+pub returns-in-Ok : goal.returns-in-Ok
+returns-in-Ok g c name d store =
+    runs_over g.D.Disk.is_modelled g.D.Disk.life c.records_lead_to_sound_states.ensures c.openings_are_kept.ensures.kept name d c.args.user.now c.args.password.now c.args.disk store c.in-Ok.core
+    (c.in-Ok.ensures.opens name d store.modelled_is store.opens) c.in-Ok.ensures.stays (g.R.Read.remaining c.args.reader.now) (g.W.Write.contents c.args.writer.now) (g.W.Write.contents c.run_core.new.writer) c.run_core.result.0 c.run_core.result.1 c.run_core.ensures
+
+pub returns-in-Err : goal.returns-in-Err
+returns-in-Err g c name d store = refused_so g.D.Disk.life name c.args.disk c.in-Err.refused (c.in-Err.ensures.opens name d store.modelled_is store.opens) c.in-Err.ensures.stays (g.W.Write.contents c.args.writer.now)
