@@ -16,8 +16,8 @@ use std::alloc::Global;
 use std::sync::Arc;
 use tables::TableView;
 
-// The name of the table, as the text has it.
-fn table<'a, 'b>(command: &'a Command<'b>) -> &'a Part<'b>
+/// The name of the table, as the text has it.
+pub(crate) fn name<'a, 'b>(command: &'a Command<'b>) -> &'a Part<'b>
     ensures { name_of result.now ≡ scope.table_name command.now }
 {
     match command {
@@ -41,7 +41,7 @@ pub fn table_schema<V: TableView>(
     ensures fault { IfErr result (λ fault. IsTrue V.is_told → V.tells_damage fault ≡ false) }
     ensures store { V.store view.new ≡ V.store view.old }
 {
-    let Ok(table) = table_name(alloc, table(command).bytes()) else {
+    let Ok(table) = table_name(alloc, name(command).bytes()) else {
         return Err(no_memory::<V>());
     };
     view.schema(alloc, table.as_str())
