@@ -132,13 +132,13 @@ where
     let Ok(schema) = table_schema(alloc, &statement.command, view) else {
         return Err(AllocError);
     };
-    let claims = description_claims(alloc, &statement.command, schema.as_deref())?;
-    if units.clashes(owner, claims.as_slice()) {
+    let claimed = description_claims(alloc, &statement.command, schema.as_deref())?;
+    if units.clashes(owner, claimed.as_slice()) {
         return Ok(None);
     }
     let Reply { answer, changes } = description_reply(alloc, statement, side, view)?;
     Ok(Some(Found {
-        claims,
+        claims: claimed,
         schema,
         answer,
         changes,

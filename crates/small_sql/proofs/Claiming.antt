@@ -1,5 +1,5 @@
 -- What a bound statement claims.
-use Rattle.std.proofs.Common.{◌≡◌, ℕ, List, Option, sym, ap, ◌∙◌}
+use Rattle.std.proofs.Common.{◌≡◌, ℕ, List, Option, ap, ◌∙◌}
 use Rattle.std.specs.String.{string_bytes}
 use Rattle.sql_text.specs.declared.tree.Command.{Command}
 use Rattle.row_values.specs.Value.{Value}

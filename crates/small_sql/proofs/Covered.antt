@@ -1,17 +1,22 @@
 -- What a statement is answered, by what its task comes to over the rows in its scope.
-use Rattle.std.proofs.Common.{◌≡◌, ℕ, Bool, true, false, List, [], ◌∷◌, Option, Some, None, refl, sym, ap, subst, ◌∙◌, length, filter, cond}
+use Rattle.std.proofs.Common.{◌≡◌, ℕ, Bool, true, false, List, [], ◌∷◌, Option, Some, None, refl, sym, ap, ◌∙◌, length, filter, cond}
 use Rattle.std.specs.Prelude.{bytes_eq, ◌==◌}
 use Rattle.std.specs.Option.{option_to_list}
 use Rattle.drda_words.proofs.Precedes.{bytes_eq-refl}
 use Rattle.sql_text.specs.declared.tree.Command.{Command}
+use Rattle.sql_text.specs.declared.tree.Command.TheVariants as command
+use Rattle.sql_text.specs.declared.tree.Definition.{Definition}
+use Rattle.sql_text.specs.declared.tree.KeyColumn.{KeyColumn}
 use Rattle.row_values.specs.Value.{Value}
 use Rattle.row_values.specs.Schema.{Schema}
 use Rattle.row_values.specs.Key.{row_key}
 use Rattle.tables.specs.Tables.{Store, row_of, rows_of, schema_of}
 use Rattle.tables.specs.View.{is_store}
+use Rattle.sql_semantics.specs.Create.{defined_schema}
 use Rattle.sql_semantics.specs.Frame.{CoveredIsEnough, RowsHaveTheirKeys, rows_covered, tables_covered}
-use Rattle.sql_semantics.specs.Meaning.{Answer, answer, has_key, meaning}
+use Rattle.sql_semantics.specs.Meaning.{Answer, answer, answered, create_answer, has_key, meaning}
 use Rattle.sql_semantics.specs.Scope.{Scope, Names, All, One, scope, table_name}
+use Rattle.sql_semantics.specs.Values.{name_of}
 use Rattle.small_sql.specs.Keyed.{rows_of_key}
 use Rattle.small_sql.specs.Scope.{key_in}
 
@@ -41,33 +46,20 @@ pub none_keyed : RowsHaveTheirKeys → (s : Store) (table : List ℕ) (schema : 
     → (free : Bool) → free ≡ (length (rows_of_key (key_in w) table s) == 0) → (length (filter (has_key schema (key_in w)) (rows_covered w table s)) == 0) ≡ free
 none_keyed keys s table schema w good there free frees = ap (λ (rows : List (List ℕ)). length rows == 0) (keyed keys s table schema w good there) ∙ sym frees
 
--- ---- a statement's answer, by its task's
+-- of a CREATE TABLE whose table is not there, by how many there are
+create_is : (params : List Value) (left : ℕ) (s : Store) (t : List ℕ) (definitions : List Definition) (key : List KeyColumn) → schema_of s (name_of t) ≡ None
+    → meaning params left (command.Create t definitions key) s ≡ answered (create_answer left (name_of t) (defined_schema definitions key) (length s))
+unfolding answer
+create_is params left s t definitions key there = ap (λ (o : Option Schema). answer params left (command.Create t definitions key) o (rows_of s (name_of t)) (length s)) there
 
-module _ (params : List Value) (left : ℕ) (c : Command) (s : Store) (table : List ℕ) where
-  covered_is : CoveredIsEnough → is_store s ≡ true → table ≡ table_name c → (schema : Schema) → schema_of s table ≡ Some schema → (w : Scope) → w ≡ scope params c (Some schema)
-      → meaning params left c s ≡ answer params left c (Some schema) (rows_covered w table s) (tables_covered w s)
-  covered_is enough good named schema there w on =
-      let found : schema_of s (table_name c) ≡ Some schema = ap (schema_of s) (sym named) ∙ there in
-      enough params left c s good
-      ∙ ap (λ (o : Option Schema). answer params left c o (rows_covered (scope params c o) (table_name c) s) (tables_covered (scope params c o) s)) found
-      ∙ ap (λ (v : Scope). answer params left c (Some schema) (rows_covered v (table_name c) s) (tables_covered v s)) (sym on)
-      ∙ ap (λ (n : List ℕ). answer params left c (Some schema) (rows_covered w n s) (tables_covered w s)) (sym named)
-
-  -- of a table that is there, by the name, and the rows in its scope
-  pub found_is : CoveredIsEnough → is_store s ≡ true → table ≡ table_name c → (schema : Schema) → schema_of s table ≡ Some schema → (w : Scope) → w ≡ scope params c (Some schema)
-      → (comes : List ℕ → List (List ℕ) → Answer) → ((rows : List (List ℕ)) (tables : ℕ) → answer params left c (Some schema) rows tables ≡ comes (table_name c) rows)
-      → (a : Answer) → a ≡ comes table (rows_covered w table s) → meaning params left c s ≡ a
-  found_is enough good named schema there w on comes does a is =
-      covered_is enough good named schema there w on
-      ∙ does (rows_covered w table s) (tables_covered w s)
-      ∙ ap (λ (n : List ℕ). comes n (rows_covered w table s)) (sym named)
-      ∙ sym is
-
-  -- of a table that is not there, by how many there are
-  pub absent_is : table ≡ table_name c → schema_of s table ≡ None → (comes : List ℕ → ℕ → Answer) → ((rows : List (List ℕ)) (tables : ℕ) → answer params left c None rows tables ≡ comes (table_name c) tables)
-      → (a : Answer) → a ≡ comes table (length s) → meaning params left c s ≡ a
-  absent_is named there comes does a is =
-      ap (λ (o : Option Schema). answer params left c o (rows_of s (table_name c)) (length s)) (ap (schema_of s) (sym named) ∙ there)
-      ∙ does (rows_of s (table_name c)) (length s)
-      ∙ ap (λ (n : List ℕ). comes n (length s)) (sym named)
-      ∙ sym is
+pub created_is : (params : List Value) (left : ℕ) (s : Store) (table : List ℕ) (c : Command) (t : List ℕ) (definitions : List Definition) (key : List KeyColumn) → c ≡ command.Create t definitions key
+    → table ≡ table_name c → schema_of s table ≡ None → (ds : List Definition) → ds ≡ definitions → (ks : List KeyColumn) → ks ≡ key
+    → (a : Answer) → a ≡ answered (create_answer left table (defined_schema ds ks) (length s)) → meaning params left c s ≡ a
+created_is params left s table c t definitions key is named there ds ds_is ks ks_is a comes =
+    let name : table ≡ name_of t = named ∙ ap table_name is in
+    ap (λ (c : Command). meaning params left c s) is
+    ∙ create_is params left s t definitions key (ap (schema_of s) (sym name) ∙ there)
+    ∙ ap (λ (n : List ℕ). answered (create_answer left n (defined_schema definitions key) (length s))) (sym name)
+    ∙ ap (λ (l : List Definition). answered (create_answer left table (defined_schema l key) (length s))) (sym ds_is)
+    ∙ ap (λ (l : List KeyColumn). answered (create_answer left table (defined_schema ds l) (length s))) (sym ks_is)
+    ∙ sym comes

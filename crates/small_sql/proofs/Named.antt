@@ -1,5 +1,5 @@
 -- A table that is there has a name.
-use Rattle.std.proofs.Common.{◌≡◌, ℕ, Bool, true, false, ◌&&◌, List, [], ◌∷◌, Option, Some, None, refl, ap, sym, ◌∙◌, option_map}
+use Rattle.std.proofs.Common.{◌≡◌, ℕ, Bool, true, false, ◌&&◌, List, [], ◌∷◌, Option, Some, None, refl, ap, ◌∙◌, option_map}
 use Rattle.std.specs.Prelude.{bytes_eq}
 use Rattle.std.specs.List.{list_all}
 use Rattle.std.specs.Map.{keys_of, lookup}
@@ -37,10 +37,10 @@ not_there (e ∷ s) q good bad =
 no_schema : (s : Store) (q : List ℕ) → is_store s ≡ true → is_name q ≡ false → schema_of s q ≡ None
 no_schema s q good bad = ap (option_map (λ (t : Table). t.schema)) (not_there s q (left_of (list_all (λ (e : List ℕ × Table). is_name e.0 && is_table e.1) s) (rises (slice_cmp nat_cmp) (keys_of s)) good) bad)
 
-none_is_some : (A : Type 0) (schema : Schema) (o : Option Schema) → o ≡ None → o ≡ Some schema → A
-none_is_some A schema None none there = absurd cc
-none_is_some A schema (Some x) none there = absurd cc
+none_is_some : (schema : Schema) (o : Option Schema) → o ≡ None → o ≡ Some schema → ⊥
+none_is_some schema None none there = absurd cc
+none_is_some schema (Some x) none there = absurd cc
 
--- so of a name that is none nothing is found
-pub is_named : (A : Type 0) (s : Store) (q : List ℕ) (schema : Schema) → is_store s ≡ true → schema_of s q ≡ Some schema → is_name q ≡ false → A
-is_named A s q schema good there bad = none_is_some A schema (schema_of s q) (no_schema s q good bad) there
+-- so under a name that is none nothing is found
+pub not_found : (s : Store) (q : List ℕ) (schema : Schema) → is_store s ≡ true → schema_of s q ≡ Some schema → is_name q ≡ false → ⊥
+not_found s q schema good there bad = none_is_some schema (schema_of s q) (no_schema s q good bad) there

@@ -1,9 +1,12 @@
 -- What a statement of a table that is there is to do.
-use Rattle.std.proofs.Common.{◌≡◌, ℕ, Bool, List, [], Option, Some, None, Ok, Err, refl, sym, ap, subst, ◌∙◌, length, map}
+use Rattle.std.proofs.Common.{◌≡◌, ℕ, Bool, List, [], ◌∷◌, Option, Some, None, Ok, Err, refl, sym, ap, subst, ◌∙◌, length, map}
 use Rattle.std.specs.Prelude.{filter, IfSome}
 use Rattle.sql_text.specs.declared.tree.Assignment.{Assignment}
 use Rattle.sql_text.specs.declared.tree.Columns.{Columns}
+use Rattle.sql_text.specs.declared.tree.Command.{Command}
 use Rattle.sql_text.specs.declared.tree.Command.TheVariants as command
+use Rattle.sql_text.specs.declared.tree.Definition.{Definition}
+use Rattle.sql_text.specs.declared.tree.KeyColumn.{KeyColumn}
 use Rattle.sql_text.specs.declared.tree.Literal.{Literal}
 use Rattle.sql_text.specs.declared.tree.Predicate.{Predicate}
 use Rattle.sql_text.specs.declared.tree.Sum.{Sum}
@@ -12,8 +15,8 @@ use Rattle.row_values.specs.Schema.{Schema, picked}
 use Rattle.row_values.specs.Row.{values_in}
 use Rattle.row_values.specs.Key.{row_key}
 use Rattle.tables.specs.Change.{remove}
-use Rattle.tables.specs.RowList.{RowList}
 use Rattle.core_calls.specs.declared.sql_fault.SqlFault.{SqlFault}
+use Rattle.core_calls.specs.declared.sql_fault.SqlFault.TheVariants as fault
 use Rattle.core_calls.specs.StatementError.{fault_of}
 use Rattle.core_calls.specs.declared.statement_error.StatementError.{StatementError}
 use Rattle.core_calls.specs.declared.statement_error.StatementError.TheVariants as statement
@@ -32,8 +35,14 @@ use Rattle.sql_predicates.specs.declared.filter.Filter.{Filter}
 use Rattle.sql_changes.specs.Assigned.{StandFor}
 use Rattle.sql_changes.specs.declared.target.Targets.{Targets}
 use Rattle.small_sql.specs.Scope.{key_in}
-use Rattle.small_sql.specs.Selected.{selection}
-use Rattle.small_sql.specs.Task.{IsRefused, Updates, inserted, matching, removed, updated}
+use Rattle.small_sql.specs.Task.{DoesFound, IsRefused, Updates, inserted, matching, removed}
+use Rattle.small_sql.specs.declared.task.Task.{Task}
+
+-- ---- CREATE TABLE
+
+pub create_refused : (params : List Value) (schema : Schema) (table : List ℕ) (definitions : List Definition) (key : List KeyColumn) → IsRefused params (command.Create table definitions key) schema fault.TableExists
+unfolding answer
+create_refused params schema table definitions key = λ left rows tables. refl
 
 -- ---- INSERT
 
@@ -108,38 +117,36 @@ module _ (params : List Value) (schema : Schema) (table : List ℕ) (where_ : Op
 
 -- ---- SELECT
 
--- by what is selected, or the fault
-abbrev answer_from : (List ℕ → RowList) → Checked (List ℕ) → Answer
-answer_from list (Ok places) = Rows (list places)
-answer_from list (Err e) = Refused e
-
-select_by : (list : List ℕ → RowList) (p : Checked (List ℕ)) (f : Option SqlFault) → answered (and_then p (λ places. if_none f (Ok (Rows (list places))))) ≡ answer_from list (and_then p (λ places. if_none f (Ok places)))
-select_by list (Ok places) None = refl
-select_by list (Ok places) (Some e) = refl
-select_by list (Err e) f = refl
-
 module _ (params : List Value) (schema : Schema) (table : List ℕ) (named : Columns) (where_ : Option Predicate) where
-  abbrev listed : List (List ℕ) → List ℕ → RowList
-  listed rows places = record { schema = schema; selected = places; rows = rows }
-
   abbrev told : List (List ℕ) → List (List ℕ)
   told rows = filter (λ row. matches params schema.columns (values_in schema row) where_) rows
 
-  select_is : (left : ℕ) (rows : List (List ℕ)) (tables : ℕ) → answer params left (command.Select named table where_) (Some schema) rows tables ≡ answer_from (listed (told rows)) (selection params schema named where_)
+  abbrev listed : List (List ℕ) → List ℕ → Answer
+  listed rows places = Rows (record { schema = schema; selected = places; rows = rows })
+
+  abbrev checked_list : List (List ℕ) → List ℕ → Checked Answer
+  checked_list rows places = if_none (filter_fault params schema.columns where_) (Ok (listed rows places))
+
+  pub places_refused : (e : StatementError) (f : SqlFault) → e ≡ statement.Fault f → IfSome (fault_of e) (λ f. selected_places schema.columns named ≡ Err f) → IsRefused params (command.Select named table where_) schema f
   unfolding answer
-  select_is left rows tables = select_by (listed (told rows)) (selected_places schema.columns named) (filter_fault params schema.columns where_)
+  places_refused e f is answers = λ left rows tables.
+      ap (λ (r : Checked (List ℕ)). answered (and_then r (checked_list (told rows))))
+      (subst (λ (e : StatementError). IfSome (fault_of e) (λ f. selected_places schema.columns named ≡ Err f)) is answers)
 
-  pub select_refused : (e : StatementError) (f : SqlFault) → e ≡ statement.Fault f → IfSome (fault_of e) (λ f. selection params schema named where_ ≡ Err f) → IsRefused params (command.Select named table where_) schema f
-  select_refused e f is answers = λ left rows tables.
-      select_is left rows tables
-      ∙ ap (answer_from (listed (told rows))) (subst (λ (e : StatementError). IfSome (fault_of e) (λ f. selection params schema named where_ ≡ Err f)) is answers)
+  pub select_refused : (places : List ℕ) → selected_places schema.columns named ≡ Ok places → (e : StatementError) (f : SqlFault) → e ≡ statement.Fault f → RefusedFor {A = Filter} (filter_fault params schema.columns where_) (Err e)
+      → IsRefused params (command.Select named table where_) schema f
+  unfolding answer
+  select_refused places selects e f is refused = λ left rows tables.
+      ap (λ (r : Checked (List ℕ)). answered (and_then r (checked_list (told rows)))) selects
+      ∙ ap (λ (o : Option SqlFault). answered (if_none o (Ok (listed (told rows) places)))) (fault_found Filter (filter_fault params schema.columns where_) e f is refused)
 
-  pub select_does : (p : Filter) (places : List ℕ) → selection params schema named where_ ≡ Ok places → ((values : List Value) → passes p values ≡ matches params schema.columns values where_)
+  pub select_does : (places : List ℕ) → selected_places schema.columns named ≡ Ok places → (p : Filter) → filter_fault params schema.columns where_ ≡ None → ((values : List Value) → passes p values ≡ matches params schema.columns values where_)
       → (left : ℕ) (rows : List (List ℕ)) (tables : ℕ) → answer params left (command.Select named table where_) (Some schema) rows tables ≡ Rows (record { schema = schema; selected = places; rows = matching p schema rows })
-  select_does p places selects tests = λ left rows tables.
-      select_is left rows tables
-      ∙ ap (answer_from (listed (told rows))) selects
-      ∙ ap (λ (rs : List (List ℕ)). Rows (listed rs places)) (matching_is params schema where_ p tests rows)
+  unfolding answer
+  select_does places selects p fine tests = λ left rows tables.
+      ap (λ (r : Checked (List ℕ)). answered (and_then r (checked_list (told rows)))) selects
+      ∙ ap (λ (o : Option SqlFault). answered (if_none o (Ok (listed (told rows) places)))) fine
+      ∙ ap (λ (rs : List (List ℕ)). listed rs places) (matching_is params schema where_ p tests rows)
 
 -- ---- UPDATE
 
@@ -197,3 +204,9 @@ module _ (params : List Value) (schema : Schema) (table : List ℕ) (assignments
             ∙ ap (λ (o : Option SqlFault). answered (if_none o (updated_in left whole.0 (counted rows)))) passed
             ∙ ap (λ (rs : List (List ℕ)). answered (updated_in left whole.0 rs)) (matching_is params schema where_ p tests rows);
       }
+
+-- ---- of whatever kind
+
+-- of a statement and of a task by other names
+pub does_by : (params : List Value) (schema : Schema) (w : Scope) (c d : Command) → c ≡ d → (t u : Task) → t ≡ u → DoesFound params d schema w u → DoesFound params c schema w t
+does_by params schema w c d same t u is does = subst (λ (x : Command). DoesFound params x schema w t) (sym same) (subst (λ (x : Task). DoesFound params d schema w x) (sym is) does)

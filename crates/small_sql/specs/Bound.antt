@@ -1,5 +1,5 @@
 -- A statement that is bound to the schema of its table.
-use Rattle.std.specs.Prelude.{◌≡◌, ℕ, List, Option, option_map}
+use Rattle.std.specs.Prelude.{◌≡◌, List, Option, option_map}
 use Rattle.std.specs.Arc.{arc_value}
 use Rattle.std.specs.String.{string_bytes}
 use Rattle.sql_text.specs.declared.tree.Command.{Command}

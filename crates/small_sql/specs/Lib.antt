@@ -2,7 +2,6 @@ pub mod Answer
 pub mod Scope
 pub mod Task
 pub mod Bound
-pub mod Selected
 pub mod Reading
 pub mod Keyed
 pub mod Described

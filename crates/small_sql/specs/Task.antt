@@ -9,7 +9,7 @@ use Rattle.row_values.specs.Key.{row_key}
 use Rattle.tables.specs.Change.{remove}
 use Rattle.tables.specs.RowList.{is_selection}
 use Rattle.core_calls.specs.declared.sql_fault.SqlFault.{SqlFault}
-use Rattle.sql_semantics.specs.Checked.{Checked, and_then}
+use Rattle.sql_semantics.specs.Checked.{and_then}
 use Rattle.sql_semantics.specs.Meaning.{Answer, Refused, Rows, answer, answered, has_key, put_answer, within_room}
 use Rattle.sql_semantics.specs.Scope.{Scope, table_name}
 use Rattle.sql_semantics.specs.Update.{updated_rows}

@@ -6,7 +6,7 @@ ghost use Rattle.std.specs.Option.{option_copied};
 ghost use Rattle.std.specs.String.{string_bytes};
 ghost use Rattle.row_values.specs.Value.{value_of};
 ghost use Rattle.tables.specs.View.{is_store};
-ghost use Rattle.sql_semantics.specs.Scope as scope;
+ghost use Rattle.sql_semantics.specs.Scope as meant;
 ghost use Rattle.small_sql.specs.Bound.{IsBound, IsOver, bound_schema};
 ghost use Rattle.small_sql.specs.Scope.{scope_of};
 ghost use Rattle.small_sql.specs.Task.{Does, selects};
@@ -15,11 +15,10 @@ use crate::bound::Bound;
 use crate::plan::of_found;
 use crate::read::no_memory;
 use crate::scope::Scope;
-use crate::subject::name;
+use crate::subject::subject;
 use crate::task::{Plan, Task};
 use core_calls::SqlFault;
 use row_values::{Schema, Value};
-use sql_predicates::table_name;
 use sql_text::Command;
 use std::alloc::{AllocError, Global};
 use std::sync::Arc;
@@ -29,7 +28,7 @@ use unit_locks::Access;
 // What a statement does with the rows that it claims, where its table is there or not: SELECT reads
 // them, and so does what does not find its table; else they are written.
 fn access(command: &Command<'_>, schema: Option<&Schema>) -> Access
-    ensures { result ≡ scope.statement_access command.now (option_copied schema.entry) }
+    ensures { result ≡ meant.statement_access command.now (option_copied schema.entry) }
 {
     match (schema, command) {
         (None, _) => Access::Read,
@@ -41,7 +40,7 @@ fn access(command: &Command<'_>, schema: Option<&Schema>) -> Access
 // What a statement is to do whose table is not there: a creation is done, and anything else refused,
 // without more.
 fn of_absent(command: &Command<'_>) -> Plan
-    ensures { scope_of result.scope ≡ scope.absent_scope command.now }
+    ensures { scope_of result.scope ≡ meant.absent_scope command.now }
 {
     match command {
         Command::Create { .. } => Plan {
@@ -66,7 +65,7 @@ fn plan(
     params: &[Value<'_>],
     schema: Option<&Schema>,
 ) -> Result<Plan, AllocError>
-    ensures scope { IfOk result (λ p. scope_of p.scope ≡ scope.scope (map value_of params.now) command.now (option_copied schema.entry)) }
+    ensures scope { IfOk result (λ p. scope_of p.scope ≡ meant.scope (map value_of params.now) command.now (option_copied schema.entry)) }
     ensures does { IfOk result (λ p. Does (map value_of params.now) command.now (option_copied schema.entry) (scope_of p.scope) p.task) }
     ensures selects { IfOk result (λ p. selects (option_copied schema.entry) p.task ≡ true) }
 {
@@ -84,7 +83,7 @@ fn bound_to<'a, 't>(
     table: String,
     schema: Option<Arc<Schema, Global>>,
 ) -> Result<Bound<'a, 't>, AllocError>
-    requires name { string_bytes table ≡ scope.table_name command.now }
+    requires name { string_bytes table ≡ meant.table_name command.now }
     requires short { length (string_bytes table) < 2 ^ 8 }
     ensures bound { IfOk result (λ b. IsBound (map value_of params.now) command.now b) }
     ensures over { IfOk result (λ b. (string_bytes b.table ≡ string_bytes table) × (bound_schema b ≡ option_map arc_value schema)) }
@@ -116,7 +115,7 @@ pub fn bind<'a, 't, V: TableView>(
     ensures fault { IfErr result (λ fault. IsTrue V.is_told → V.tells_damage fault ≡ false) }
     ensures store { V.store view.new ≡ V.store view.old }
 {
-    let Ok(table) = table_name(alloc, name(command).bytes()) else {
+    let Ok(table) = subject(alloc, command) else {
         return Err(no_memory::<V>());
     };
     let schema = view.schema(alloc, table.as_str())?;

@@ -5,7 +5,7 @@ ghost use Rattle.row_values.specs.Value.{Value};
 ghost use Rattle.sql_text.specs.declared.tree.Command.{Command as SqlCommand};
 ghost use Rattle.tables.specs.Tables.{Store};
 ghost use Rattle.sql_semantics.specs.Frame.{claims_in};
-ghost use Rattle.sql_semantics.specs.Scope as scope;
+ghost use Rattle.sql_semantics.specs.Scope as meant;
 ghost use Rattle.small_sql.specs.Bound.{IsBound, IsOver};
 ghost use Rattle.small_sql.specs.Scope.{scope_of};
 ghost use Rattle.unit_locks.specs.Claim.{key_or_empty};
@@ -13,8 +13,7 @@ ghost use Rattle.unit_locks.specs.declared.access.Access.TheVariants.{Write};
 
 use crate::bound::Bound;
 use crate::scope::Scope;
-use crate::subject::name;
-use sql_predicates::table_name;
+use crate::subject::subject;
 use sql_text::Command;
 use std::alloc::{AllocError, Global};
 use unit_locks::{Access, Claim};
@@ -31,7 +30,7 @@ fn one_claim(
 ) -> Result<Vec<Claim>, AllocError>
     requires name { length table.now < 2 ^ 8 }
     requires key { length (key_or_empty (option_map (λ k. k.now) key)) ≤ 8012 }
-    ensures { IfOk result (λ claims. claims.items ≡ scope.claim access table.now (option_map (λ k. k.now) key.entry) ∷ []) }
+    ensures { IfOk result (λ claims. claims.items ≡ meant.claim access table.now (option_map (λ k. k.now) key.entry) ∷ []) }
 {
     let mut claims = Vec::new(alloc);
     claims.push(Claim::new(alloc, access, table.as_bytes(), key)?)?;
@@ -41,7 +40,7 @@ fn one_claim(
 // What a CREATE TABLE claims: to write all of the table, and the names of all tables.
 fn names_claimed(alloc: Global, table: &str) -> Result<Vec<Claim>, AllocError>
     requires { length table.now < 2 ^ 8 }
-    ensures { IfOk result (λ claims. claims.items ≡ scope.claim Write table.now None ∷ scope.claim Write scope.star None ∷ []) }
+    ensures { IfOk result (λ claims. claims.items ≡ meant.claim Write table.now None ∷ meant.claim Write meant.star None ∷ []) }
 {
     let mut claims = one_claim(alloc, Access::Write, table, None)?;
     claims.push(Claim::new(alloc, Access::Write, ALL_NAMES, None)?)?;
@@ -56,7 +55,7 @@ fn scope_claimed(
     scope: &Scope,
 ) -> Result<Vec<Claim>, AllocError>
     requires { length table.now < 2 ^ 8 }
-    ensures { IfOk result (λ claims. claims.items ≡ scope.scope_claims access table.now (scope_of scope.now)) }
+    ensures { IfOk result (λ claims. claims.items ≡ meant.scope_claims access table.now (scope_of scope.now)) }
 {
     match scope {
         Scope::Names => names_claimed(alloc, table),
@@ -76,11 +75,11 @@ pub fn claims(alloc: Global, bound: &Bound<'_, '_>) -> Result<Vec<Claim>, AllocE
 }
 
 /// What a statement claims whose table is not there.
-#[tactic(auto, using(crate::proofs::Names::name_short), unfolding(sql_semantics::specs::Scope::claims, sql_semantics::specs::Scope::scope))]
+#[tactic(auto, unfolding(sql_semantics::specs::Scope::claims, sql_semantics::specs::Scope::scope))]
 pub fn absent_claims(alloc: Global, command: &Command<'_>) -> Result<Vec<Claim>, AllocError>
-    ensures { IfOk result (λ claims. (params : List Value) → claims.items ≡ scope.claims params command.now None) }
+    ensures { IfOk result (λ claims. (params : List Value) → claims.items ≡ meant.claims params command.now None) }
 {
-    let table = table_name(alloc, name(command).bytes())?;
+    let table = subject(alloc, command)?;
     match command {
         Command::Create { .. } => names_claimed(alloc, table.as_str()),
         Command::Insert { .. }

@@ -8,6 +8,7 @@ mod claim;
 mod creation;
 mod description;
 mod insertion;
+mod key;
 mod modification;
 mod plan;
 mod query;

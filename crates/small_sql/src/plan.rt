@@ -1,18 +1,14 @@
 //! What statements are to do to tables that are there.
 
-ghost use Rattle.std.specs.Prelude.{◌≡◌, ◌≤◌, IfOk, IfSome, List, Some, length, map, option_map, true};
+ghost use Rattle.std.specs.Prelude.{◌≡◌, ℕ, IfOk, List, Some, map, true};
 ghost use Rattle.std.specs.Option.{option_copied};
-ghost use Rattle.drda_words.specs.Excuse.{Answers};
-ghost use Rattle.row_values.specs.Value.{Value as SqlValue, value_of};
-ghost use Rattle.tables.specs.RowList.{is_selection};
-ghost use Rattle.core_calls.specs.StatementError.{fault_of};
+ghost use Rattle.row_values.specs.Value.{value_of};
 ghost use Rattle.sql_text.specs.declared.tree.Command.TheVariants as command;
-ghost use Rattle.sql_semantics.specs.Scope as scope;
+ghost use Rattle.sql_semantics.specs.Scope as meant;
+ghost use Rattle.sql_semantics.specs.Insert.{given_key};
 ghost use Rattle.sql_semantics.specs.Scope.{filter_key};
-ghost use Rattle.sql_semantics.specs.Truth.{matches};
-ghost use Rattle.sql_predicates.specs.Test.{passes};
+ghost use Rattle.sql_semantics.specs.Values.{literal_value};
 ghost use Rattle.small_sql.specs.Scope.{scope_of};
-ghost use Rattle.small_sql.specs.Selected.{selection};
 ghost use Rattle.small_sql.specs.Task.{DoesFound, selects};
 
 use crate::scope::{Scope, scope_by};
@@ -33,7 +29,7 @@ fn of_insert(
     values: &[Literal<'_>],
     params: &[Value<'_>],
 ) -> Result<Plan, AllocError>
-    ensures scope { IfOk result (λ p. (table : List ℕ) → scope_of p.scope ≡ scope.scope_in (map value_of params.now) (command.Insert table columns.now values.now) schema.now) }
+    ensures scope { IfOk result (λ p. scope_of p.scope ≡ meant.scope_by (given_key schema.now columns.now (map (literal_value (map value_of params.now)) values.now))) }
     ensures does { IfOk result (λ p. (table : List ℕ) → DoesFound (map value_of params.now) (command.Insert table columns.now values.now) schema.now (scope_of p.scope) p.task) }
     ensures selects { IfOk result (λ p. selects (Some schema.now) p.task ≡ true) }
 {
@@ -61,7 +57,7 @@ fn update_task(
     filter: Option<&Predicate<'_>>,
     params: &[Value<'_>],
 ) -> Result<Task, AllocError>
-    ensures does { IfOk result (λ t. (table : List ℕ) (scope : scope.Scope) → DoesFound (map value_of params.now) (command.Update table assignments.now (option_copied filter.entry)) schema.now scope t) }
+    ensures does { IfOk result (λ t. (table : List ℕ) (w : meant.Scope) → DoesFound (map value_of params.now) (command.Update table assignments.now (option_copied filter.entry)) schema.now w t) }
     ensures selects { IfOk result (λ t. selects (Some schema.now) t ≡ true) }
 {
     let targets = match Targets::bind(alloc, schema, assignments, params) {
@@ -83,7 +79,7 @@ fn delete_task(
     filter: Option<&Predicate<'_>>,
     params: &[Value<'_>],
 ) -> Result<Task, AllocError>
-    ensures does { IfOk result (λ t. (table : List ℕ) (scope : scope.Scope) → DoesFound (map value_of params.now) (command.Delete table (option_copied filter.entry)) schema.now scope t) }
+    ensures does { IfOk result (λ t. (table : List ℕ) (w : meant.Scope) → DoesFound (map value_of params.now) (command.Delete table (option_copied filter.entry)) schema.now w t) }
     ensures selects { IfOk result (λ t. selects (Some schema.now) t ≡ true) }
 {
     match Filter::bind(alloc, schema, filter, params) {
@@ -91,23 +87,6 @@ fn delete_task(
         Err(StatementError::Fault(fault)) => Ok(Task::Refused(fault)),
         Err(StatementError::NoMemory) => Err(AllocError),
     }
-}
-
-// The places of the columns that a SELECT asks for, and which rows.
-fn selected(
-    alloc: Global,
-    schema: &Schema,
-    columns: &Columns<'_>,
-    filter: Option<&Predicate<'_>>,
-    params: &[Value<'_>],
-) -> Result<(Vec<u8>, Filter), StatementError>
-    ensures places { Answers (λ x. x.0.items) fault_of result (selection (map value_of params.now) schema.now columns.now (option_copied filter.entry)) }
-    ensures tests { IfOk result (λ x. (values : List SqlValue) → passes x.1 values ≡ matches (map value_of params.now) schema.now.columns values (option_copied filter.entry)) }
-    ensures good { IfOk result (λ x. is_selection schema.now x.0.items ≡ true) }
-{
-    let places = selected_places(alloc, schema, columns)?;
-    let filter = Filter::bind(alloc, schema, filter, params)?;
-    Ok((places, filter))
 }
 
 // What a SELECT is to do.
@@ -118,11 +97,16 @@ fn select_task(
     filter: Option<&Predicate<'_>>,
     params: &[Value<'_>],
 ) -> Result<Task, AllocError>
-    ensures does { IfOk result (λ t. (table : List ℕ) (scope : scope.Scope) → DoesFound (map value_of params.now) (command.Select columns.now table (option_copied filter.entry)) schema.now scope t) }
+    ensures does { IfOk result (λ t. (table : List ℕ) (w : meant.Scope) → DoesFound (map value_of params.now) (command.Select columns.now table (option_copied filter.entry)) schema.now w t) }
     ensures selects { IfOk result (λ t. selects (Some schema.now) t ≡ true) }
 {
-    match selected(alloc, schema, columns, filter, params) {
-        Ok((places, filter)) => Ok(Task::Select(places, filter)),
+    let places = match selected_places(alloc, schema, columns) {
+        Ok(places) => places,
+        Err(StatementError::Fault(fault)) => return Ok(Task::Refused(fault)),
+        Err(StatementError::NoMemory) => return Err(AllocError),
+    };
+    match Filter::bind(alloc, schema, filter, params) {
+        Ok(filter) => Ok(Task::Select(places, filter)),
         Err(StatementError::Fault(fault)) => Ok(Task::Refused(fault)),
         Err(StatementError::NoMemory) => Err(AllocError),
     }
@@ -136,7 +120,7 @@ fn of_filter(
     params: &[Value<'_>],
     task: Task,
 ) -> Result<Plan, AllocError>
-    ensures scope { IfOk result (λ p. scope_of p.scope ≡ scope.scope_by (filter_key (map value_of params.now) schema.now (option_copied filter.entry))) }
+    ensures scope { IfOk result (λ p. scope_of p.scope ≡ meant.scope_by (filter_key (map value_of params.now) schema.now (option_copied filter.entry))) }
     ensures task { IfOk result (λ p. p.task ≡ task) }
 {
     let key = fixed_key(alloc, schema, filter, params)?;
@@ -153,7 +137,7 @@ pub(crate) fn of_found(
     command: &Command<'_>,
     params: &[Value<'_>],
 ) -> Result<Plan, AllocError>
-    ensures scope { IfOk result (λ p. scope_of p.scope ≡ scope.scope_in (map value_of params.now) command.now schema.now) }
+    ensures scope { IfOk result (λ p. scope_of p.scope ≡ meant.scope_in (map value_of params.now) command.now schema.now) }
     ensures does { IfOk result (λ p. DoesFound (map value_of params.now) command.now schema.now (scope_of p.scope) p.task) }
     ensures selects { IfOk result (λ p. selects (Some schema.now) p.task ≡ true) }
 {

@@ -131,8 +131,7 @@ pub(crate) fn rows_matched<V: TableView>(
 ) -> Result<RowList, V::Fault>
     requires schema { IsTrue V.is_told → schema_of (V.store view.old) table.now ≡ Some (arc_value schema.now) }
     requires good { IsTrue V.is_told → is_store (V.store view.old) ≡ true }
-    ensures schema { IfOk result (λ found. found.schema ≡ arc_value schema.now) }
-    ensures rows { IfOk result (λ found. IsTrue V.is_told → found.rows ≡ matching wanted.now (arc_value schema.now) (rows_covered (scope_of scope.now) table.now (V.store view.old))) }
+    ensures rows { IfOk result (λ found. IsTrue V.is_told → found ≡ record { schema = arc_value schema.now; selected = []; rows = matching wanted.now (arc_value schema.now) (rows_covered (scope_of scope.now) table.now (V.store view.old)) }) }
     ensures fault { IfErr result (λ fault. IsTrue V.is_told → V.tells_damage fault ≡ false) }
     ensures store { V.store view.new ≡ V.store view.old }
 {

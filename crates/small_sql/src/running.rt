@@ -7,7 +7,7 @@ ghost use Rattle.sql_text.specs.declared.tree.Command.{Command as SqlCommand};
 ghost use Rattle.tables.specs.Tables.{schema_of};
 ghost use Rattle.tables.specs.View.{is_store};
 ghost use Rattle.sql_semantics.specs.Meaning.{meaning};
-ghost use Rattle.sql_semantics.specs.Scope as scope;
+ghost use Rattle.sql_semantics.specs.Scope as meant;
 ghost use Rattle.small_sql.specs.Answer.{answer_of};
 ghost use Rattle.small_sql.specs.Bound.{IsBound, IsOver};
 ghost use Rattle.small_sql.specs.Scope.{scope_of};
@@ -39,7 +39,7 @@ fn run_absent<V: TableView>(
     left: usize,
     view: &mut V,
 ) -> Result<Answer, V::Fault>
-    ensures answer { IfOk result (λ answer. IsTrue V.is_told → schema_of (V.store view.old) table.now ≡ None → table.now ≡ scope.table_name command.now → (params : List Value) → meaning params left command.now (V.store view.old) ≡ answer_of answer) }
+    ensures answer { IfOk result (λ answer. IsTrue V.is_told → schema_of (V.store view.old) table.now ≡ None → table.now ≡ meant.table_name command.now → (params : List Value) → meaning params left command.now (V.store view.old) ≡ answer_of answer) }
     ensures fault { IfErr result (λ fault. IsTrue V.is_told → V.tells_damage fault ≡ false) }
     ensures store { V.store view.new ≡ V.store view.old }
 {
@@ -67,7 +67,7 @@ fn run_found<V: TableView>(
     requires selects { selects (Some (arc_value schema.now)) task.now ≡ true }
     requires schema { IsTrue V.is_told → schema_of (V.store view.old) table.now ≡ Some (arc_value schema.now) }
     requires good { IsTrue V.is_told → is_store (V.store view.old) ≡ true }
-    ensures answer { IfOk result (λ answer. IsTrue V.is_told → (params : List Value) (c : SqlCommand) → table.now ≡ scope.table_name c → scope_of scope.now ≡ scope.scope params c (Some (arc_value schema.now)) → DoesFound params c (arc_value schema.now) (scope_of scope.now) task.now → meaning params left c (V.store view.old) ≡ answer_of answer) }
+    ensures answer { IfOk result (λ answer. IsTrue V.is_told → (params : List Value) (c : SqlCommand) → table.now ≡ meant.table_name c → scope_of scope.now ≡ meant.scope params c (Some (arc_value schema.now)) → DoesFound params c (arc_value schema.now) (scope_of scope.now) task.now → meaning params left c (V.store view.old) ≡ answer_of answer) }
     ensures fault { IfErr result (λ fault. IsTrue V.is_told → V.tells_damage fault ≡ false) }
     ensures store { V.store view.new ≡ V.store view.old }
 {

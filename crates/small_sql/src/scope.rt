@@ -1,15 +1,10 @@
 //! The rows that statements work on.
 
 ghost use Rattle.std.specs.Prelude.{◌≡◌, ◌≤◌, IfSome, length, option_map};
-ghost use Rattle.sql_semantics.specs.Scope as scope;
+ghost use Rattle.sql_semantics.specs.Scope as meant;
 ghost use Rattle.small_sql.specs.Scope.{scope_of};
 
-/// A key, short enough for a claim.
-#[derive(Drop)]
-pub(crate) struct Key {
-    pub(crate) bytes: Vec<u8>,
-    ghost short: { length bytes.items ≤ 8012 },
-}
+use crate::key::Key;
 
 /// What of its table a statement works on.
 #[derive(Drop)]
@@ -25,7 +20,7 @@ pub(crate) enum Scope {
 /// The row of a key where one is given, else all rows.
 pub(crate) fn scope_by(key: Option<Vec<u8>>) -> Scope
     requires { IfSome key (λ k. length k.items ≤ 8012) }
-    ensures { scope_of result ≡ scope.scope_by (option_map (λ k. k.items) key) }
+    ensures { scope_of result ≡ meant.scope_by (option_map (λ k. k.items) key) }
 {
     match key {
         Some(bytes) => Scope::One(Key { bytes }),
