@@ -13,9 +13,9 @@ use Rattle.row_values.specs.Key.{row_key}
 use Rattle.tables.specs.Tables.{Store, row_of, rows_of, schema_of}
 use Rattle.tables.specs.View.{is_store}
 use Rattle.sql_semantics.specs.Create.{defined_schema}
-use Rattle.sql_semantics.specs.Frame.{CoveredIsEnough, RowsHaveTheirKeys, rows_covered, tables_covered}
+use Rattle.sql_semantics.specs.Frame.{RowsHaveTheirKeys, rows_covered}
 use Rattle.sql_semantics.specs.Meaning.{Answer, answer, answered, create_answer, has_key, meaning}
-use Rattle.sql_semantics.specs.Scope.{Scope, Names, All, One, scope, table_name}
+use Rattle.sql_semantics.specs.Scope.{Scope, Names, All, One, table_name}
 use Rattle.sql_semantics.specs.Values.{name_of}
 use Rattle.small_sql.specs.Keyed.{rows_of_key}
 use Rattle.small_sql.specs.Scope.{key_in}
