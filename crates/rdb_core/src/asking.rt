@@ -1,6 +1,6 @@
 //! What becomes of a question of a unit.
 
-ghost use Rattle.std.specs.Prelude.{◌≡◌, IfOk, IsTrue, None, OnErr, OnOk, false, map};
+ghost use Rattle.std.specs.Prelude.{◌≡◌, IfOk, None, OnErr, OnOk, false, map};
 ghost use Rattle.tables.specs.ChangeView.{change_of};
 ghost use Rattle.table_store.specs.TableStore.{store_in};
 ghost use Rattle.core_calls.specs.Answer.{answer_of};
@@ -9,31 +9,21 @@ ghost use Rattle.core_model.specs.Events.{asked_of, happens_asked};
 ghost use Rattle.core_model.specs.Units.{apply_all, clashes, left_of, others, unit_of, view};
 ghost use Rattle.unit_table.specs.Owner.{plain_owner};
 ghost use Rattle.rdb_core.specs.Base.{base_of};
-ghost use Rattle.rdb_core.specs.Found.{Finds};
+ghost use Rattle.rdb_core.specs.Found.{FindsOver};
 ghost use Rattle.rdb_core.specs.Question.{question_of};
 ghost use Rattle.rdb_core.specs.Steps.{units_after};
 
+use crate::finding::{Found, find};
 use crate::question::Question;
-use crate::reply::{Claimed, Reply, claims_over, reply_over};
 use core_calls::{Answer, Refusal};
 use row_values::Schema;
 use std::alloc::{AllocError, Global};
 use std::sync::Arc;
 use table_store::TableStore;
-use tables::{Change, TableView};
+use tables::Change;
 use unit_changes::{UnitChanges, UnitView};
 use unit_locks::Claim;
 use unit_table::{KeepError, Owner, Units};
-
-/// What a question of a unit comes to, where no claim of it clashes with one of another unit.
-#[derive(Drop)]
-pub(crate) struct Found {
-    pub(crate) claims: Vec<Claim>,
-    /// Of the table that it is about.
-    pub(crate) schema: Option<Arc<Schema, Global>>,
-    pub(crate) answer: Answer,
-    pub(crate) changes: Vec<Change>,
-}
 
 /// What a fit question of an owner's unit is answered over the committed store, and what becomes of the
 /// units. Out of memory, all units stay.
@@ -72,7 +62,7 @@ fn look(
     question: Question<'_, '_>,
 ) -> Result<Option<Found>, AllocError>
     requires fit { unfit (question_of question) ≡ None }
-    ensures { IfOk result (λ found. Finds found (others (plain_owner owner.now) units.now) (question_of question.entry) (left_of (unit_of (plain_owner owner.now) units.now)) (view (store_in store.now) (unit_of (plain_owner owner.now) units.now))) }
+    ensures { IfOk result (λ found. FindsOver found (others (plain_owner owner.now) units.now) (question_of question.entry) (left_of (unit_of (plain_owner owner.now) units.now)) (view (store_in store.now) (unit_of (plain_owner owner.now) units.now))) }
 {
     match units.unit(owner) {
         Some(changes) => look_under(store, changes, units, alloc, owner, question),
@@ -93,7 +83,7 @@ fn look_under(
     question: Question<'_, '_>,
 ) -> Result<Option<Found>, AllocError>
     requires fit { unfit (question_of question) ≡ None }
-    ensures { IfOk result (λ found. Finds found (others (plain_owner owner.now) units.now) (question_of question.entry) (left_of (unit_of (plain_owner owner.now) units.now)) (apply_all changes.now (store_in store.now))) }
+    ensures { IfOk result (λ found. FindsOver found (others (plain_owner owner.now) units.now) (question_of question.entry) (left_of (unit_of (plain_owner owner.now) units.now)) (apply_all changes.now (store_in store.now))) }
 {
     let mut base = store.view();
     let mut view = UnitView {
@@ -102,32 +92,6 @@ fn look_under(
         alloc,
     };
     find(&mut view, units, alloc, owner, question)
-}
-
-// What a fit question of an owner's unit comes to over its view.
-fn find<V: TableView>(
-    view: &mut V,
-    units: &Units,
-    alloc: Global,
-    owner: &Owner,
-    question: Question<'_, '_>,
-) -> Result<Option<Found>, AllocError>
-where
-    V::Fault: Drop,
-    requires fit { unfit (question_of question) ≡ None }
-    ensures { IfOk result (λ found. IsTrue V.is_told → Finds found (others (plain_owner owner.now) units.now) (question_of question.entry) (left_of (unit_of (plain_owner owner.now) units.now)) (V.store view.old)) }
-{
-    let Claimed { claims, schema } = claims_over(alloc, question, view)?;
-    if units.clashes(owner, claims.as_slice()) {
-        return Ok(None);
-    }
-    let Reply { answer, changes } = reply_over(alloc, question, units.left(owner), view)?;
-    Ok(Some(Found {
-        claims,
-        schema,
-        answer,
-        changes,
-    }))
 }
 
 // What becomes of a unit whose question claims and changes this, and is answered so, where none of

@@ -4,6 +4,7 @@
 mod asking;
 mod ending;
 mod engine;
+mod finding;
 mod opening;
 mod plain;
 mod plain_state;

@@ -3,7 +3,7 @@
 ghost use Rattle.std.specs.Prelude.{◌≡◌, map};
 ghost use Rattle.row_values.specs.Value.{value_of};
 ghost use Rattle.core_model.specs.Asked.{describing, is_select, number_fault, querying, running, unfit};
-ghost use Rattle.rdb_core.specs.Question.{command_of, question_of};
+ghost use Rattle.rdb_core.specs.Question.{question_of};
 
 use core_calls::{Side, SqlFault};
 use row_values::Value;
@@ -27,17 +27,6 @@ pub(crate) enum Question<'a, 't> {
         statement: &'a Statement<'t>,
         side: Side,
     },
-}
-
-/// What the statement of a question asks for.
-pub(crate) fn command<'a, 't>(question: Question<'a, 't>) -> &'a Command<'t>
-    ensures { result.now ≡ command_of (question_of question.entry) }
-{
-    match question {
-        Question::Running { statement, .. } => &statement.command,
-        Question::Querying { statement, .. } => &statement.command,
-        Question::Describing { statement, .. } => &statement.command,
-    }
 }
 
 /// Why a question is refused before it claims anything.

@@ -1,8 +1,9 @@
 //! What a question is answered over a view of tables, and what it claims and changes there.
 
-ghost use Rattle.std.specs.Prelude.{◌≡◌, [], IfOk, IsTrue, None, false, map, true};
+ghost use Rattle.std.specs.Prelude.{◌≡◌, [], IfOk, IsTrue, List, false, map, true};
 ghost use Rattle.std.specs.Option.{option_copied};
-ghost use Rattle.row_values.specs.Value.{value_of};
+ghost use Rattle.row_values.specs.Value.{Value as SqlValue};
+ghost use Rattle.sql_text.specs.declared.tree.Command.{Command as SqlCommand};
 ghost use Rattle.tables.specs.ChangeView.{change_of};
 ghost use Rattle.tables.specs.Tables.{schema_of};
 ghost use Rattle.tables.specs.View.{is_store};
@@ -10,77 +11,24 @@ ghost use Rattle.sql_semantics.specs.Frame as frame;
 ghost use Rattle.sql_semantics.specs.Describe.{described};
 ghost use Rattle.sql_semantics.specs.Scope.{table_name};
 ghost use Rattle.small_sql.specs.Answer as sql;
+ghost use Rattle.small_sql.specs.Bound.{IsBound, IsOver};
 ghost use Rattle.small_sql.specs.Described.{described_as};
 ghost use Rattle.core_calls.specs.Answer.{answer_of};
-ghost use Rattle.core_model.specs.Asked.{answer_to, changes_by, claims_of, described_claims, is_create, meant, told, unfit};
-ghost use Rattle.rdb_core.specs.Question.{claims_by, question_of};
+ghost use Rattle.core_model.specs.Asked.{described_claims, is_create, meant, told};
 
-use crate::question::{Question, command};
 use core_calls::{Answer, Refusal, Side, SqlFault};
-use row_values::{Schema, Value};
-use small_sql::Answer as SqlAnswer;
+use row_values::Schema;
+use small_sql::{Answer as SqlAnswer, Bound};
 use sql_descriptions::Description;
 use sql_semantics::laws::statements_are_framed;
 use sql_text::{Command, Statement};
 use std::alloc::{AllocError, Global};
-use std::sync::Arc;
 use tables::{Change, TableView};
 use unit_locks::Claim;
 
-/// What a question claims, and the schema of its table.
-#[derive(Drop)]
-pub(crate) struct Claimed {
-    pub(crate) claims: Vec<Claim>,
-    pub(crate) schema: Option<Arc<Schema, Global>>,
-}
-
-/// What a question claims over a view, with the schema of its table there.
-pub(crate) fn claims_over<V: TableView>(
-    alloc: Global,
-    question: Question<'_, '_>,
-    view: &mut V,
-) -> Result<Claimed, AllocError>
-where
-    V::Fault: Drop,
-    requires fit { unfit (question_of question) ≡ None }
-    ensures claims { IfOk result (λ c. IsTrue V.is_told → c.claims.items ≡ claims_of (question_of question.entry) (V.store view.old)) }
-    ensures good { IfOk result (λ _. IsTrue V.is_told → is_store (V.store view.old) ≡ true) }
-    ensures store { V.store view.new ≡ V.store view.old }
-{
-    let Ok(schema) = small_sql::table_schema(alloc, command(question), view) else {
-        return Err(AllocError);
-    };
-    let claims = claims_made(alloc, question, schema.as_deref())?;
-    Ok(Claimed { claims, schema })
-}
-
-// What a question claims, by the schema of its table, where there is one.
-fn claims_made(
-    alloc: Global,
-    question: Question<'_, '_>,
-    schema: Option<&Schema>,
-) -> Result<Vec<Claim>, AllocError>
-    requires fit { unfit (question_of question) ≡ None }
-    ensures { IfOk result (λ claims. claims.items ≡ claims_by (question_of question.entry) (option_copied schema.entry)) }
-{
-    match question {
-        Question::Running {
-            statement,
-            parameters,
-        } => small_sql::claims(alloc, &statement.command, schema, parameters),
-        Question::Querying {
-            statement,
-            parameters,
-        } => small_sql::claims(alloc, &statement.command, schema, parameters),
-        Question::Describing { statement, .. } => {
-            description_claims(alloc, &statement.command, schema)
-        }
-    }
-}
-
-// What a description of a statement claims that creates no table: where its table is not there, what
-// running it would.
-fn description_claims(
+/// What a description of a statement claims that creates no table, where its table is there or not:
+/// nothing, or what running it would.
+pub(crate) fn description_claims(
     alloc: Global,
     command: &Command<'_>,
     schema: Option<&Schema>,
@@ -90,7 +38,7 @@ fn description_claims(
 {
     match schema {
         Some(_) => Ok(Vec::new(alloc)),
-        None => small_sql::claims(alloc, command, None, &[]),
+        None => small_sql::absent_claims(alloc, command),
     }
 }
 
@@ -101,49 +49,23 @@ pub(crate) struct Reply {
     pub(crate) changes: Vec<Change>,
 }
 
-/// What a question is answered over a view, and which changes it makes, where so many bytes of changes
-/// are left.
-pub(crate) fn reply_over<V: TableView>(
+/// What a bound statement is answered over a view, and which changes it makes, where so many bytes of
+/// changes are left.
+pub(crate) fn statement_reply<V: TableView>(
     alloc: Global,
-    question: Question<'_, '_>,
+    bound: &Bound<'_, '_>,
     left: usize,
     view: &mut V,
 ) -> Result<Reply, AllocError>
 where
     V::Fault: Drop,
+    requires over { IsTrue V.is_told → IsOver bound.now (V.store view.old) }
     requires good { IsTrue V.is_told → is_store (V.store view.old) ≡ true }
-    ensures answer { IfOk result (λ r. IsTrue V.is_told → answer_of r.answer ≡ answer_to (question_of question.entry) left (V.store view.old)) }
-    ensures changes { IfOk result (λ r. IsTrue V.is_told → map change_of r.changes.items ≡ changes_by (question_of question.entry) left (V.store view.old)) }
-{
-    match question {
-        Question::Running {
-            statement,
-            parameters,
-        } => statement_reply(alloc, statement, parameters, left, view),
-        Question::Querying {
-            statement,
-            parameters,
-        } => statement_reply(alloc, statement, parameters, left, view),
-        Question::Describing { statement, side } => description_reply(alloc, statement, side, view),
-    }
-}
-
-// What a statement is answered, with these values for its markers.
-fn statement_reply<V: TableView>(
-    alloc: Global,
-    statement: &Statement<'_>,
-    parameters: &[Value<'_>],
-    left: usize,
-    view: &mut V,
-) -> Result<Reply, AllocError>
-where
-    V::Fault: Drop,
-    requires good { IsTrue V.is_told → is_store (V.store view.old) ≡ true }
-    ensures answer { IfOk result (λ r. IsTrue V.is_told → answer_of r.answer ≡ meant (frame.covered_answer (map value_of parameters.now) left statement.now.command (V.store view.old))) }
-    ensures changes { IfOk result (λ r. IsTrue V.is_told → map change_of r.changes.items ≡ frame.changes_of (frame.covered_answer (map value_of parameters.now) left statement.now.command (V.store view.old))) }
+    ensures answer { IfOk result (λ r. IsTrue V.is_told → (params : List SqlValue) (c : SqlCommand) → IsBound params c bound.now → answer_of r.answer ≡ meant (frame.covered_answer params left c (V.store view.old))) }
+    ensures changes { IfOk result (λ r. IsTrue V.is_told → (params : List SqlValue) (c : SqlCommand) → IsBound params c bound.now → map change_of r.changes.items ≡ frame.changes_of (frame.covered_answer params left c (V.store view.old))) }
 {
     statements_are_framed();
-    match small_sql::run(alloc, &statement.command, parameters, left, view) {
+    match small_sql::run(alloc, bound, left, view) {
         Ok(answer) => told_as(alloc, answer),
         Err(_) => Err(AllocError),
     }
@@ -174,8 +96,8 @@ fn told_as(alloc: Global, answer: SqlAnswer) -> Result<Reply, AllocError>
     }
 }
 
-// What a description is answered: it changes nothing.
-fn description_reply<V: TableView>(
+/// What a description is answered: it changes nothing.
+pub(crate) fn description_reply<V: TableView>(
     alloc: Global,
     statement: &Statement<'_>,
     side: Side,

@@ -1,8 +1,7 @@
+pub mod Claiming
 pub mod Counting
-pub mod Creating
+pub mod Covered
+pub mod Named
 pub mod Names
+pub mod Planning
 pub mod Stored
-pub mod Selecting
-pub mod Deleting
-pub mod Inserting
-pub mod Updating

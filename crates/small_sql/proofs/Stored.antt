@@ -15,7 +15,7 @@ use Rattle.tables.specs.Tables.{Store, Table, is_row_at, row_of, schema_of, tabl
 use Rattle.tables.specs.View.{is_entry, is_store, is_table}
 use Rattle.tables.specs.Laws.{FoundAreRows, TablesAreTables}
 use Rattle.sql_semantics.specs.Frame.{rows_covered}
-use Rattle.sql_semantics.specs.Scope.{scope_by}
+use Rattle.sql_semantics.specs.Scope.{Scope, Names, All, One}
 use Rattle.small_sql.specs.Reading.{DamagedBy}
 
 first_true : (a b : Bool) → (a && b) ≡ true → a ≡ true
@@ -57,10 +57,11 @@ row_by schema (Some row) key known there good =
     let at : is_row_at (Some schema) row key ≡ true = subst (λ (k : Option Schema). is_row_at k row key ≡ true) there (good row refl) in
     both_true (is_row schema row) true (first_true (is_row schema row) (bytes_eq key (row_key schema row)) at) refl
 
-pub covered_are_rows : TablesAreTables → FoundAreRows → (s : Store) (table : List ℕ) (schema : Schema) (key : Option (List ℕ)) → is_store s ≡ true → schema_of s table ≡ Some schema
-    → list_all (is_row schema) (rows_covered (scope_by key) table s) ≡ true
-covered_are_rows tables found s table schema None good there = rows_by schema (table_of s table) (λ t is. tables s table t good is) there
-covered_are_rows tables found s table schema (Some key) good there = row_by schema (row_of s table key) key (schema_of s table) there (λ row is. found s table key row good is)
+pub covered_are_rows : TablesAreTables → FoundAreRows → (s : Store) (table : List ℕ) (schema : Schema) (scope : Scope) → is_store s ≡ true → schema_of s table ≡ Some schema
+    → list_all (is_row schema) (rows_covered scope table s) ≡ true
+covered_are_rows tables found s table schema Names good there = refl
+covered_are_rows tables found s table schema All good there = rows_by schema (table_of s table) (λ t is. tables s table t good is) there
+covered_are_rows tables found s table schema (One key) good there = row_by schema (row_of s table key) key (schema_of s table) there (λ row is. found s table key row good is)
 
 not_both : (b c : Bool) → b ≡ true → b ≡ false → c ≡ false
 not_both true c holds fails = absurd cc
@@ -71,7 +72,7 @@ pub damage_is : (schema : Schema) (rows : List (List ℕ)) (e : ReadError) → e
 damage_is schema rows e is bad = subst (λ (e : ReadError). DamagedBy {A = RowList} schema rows (Err e)) is bad
 
 -- what is read of a store is not damaged
-pub never_damaged : TablesAreTables → FoundAreRows → (s : Store) (table : List ℕ) (schema : Schema) (key : Option (List ℕ)) (rows : List (List ℕ)) (c : Bool) → is_store s ≡ true → schema_of s table ≡ Some schema
-    → rows ≡ rows_covered (scope_by key) table s → list_all (is_row schema) rows ≡ false → c ≡ false
-never_damaged tables found s table schema key rows c good there is bad =
-    not_both (list_all (is_row schema) rows) c (ap (list_all (is_row schema)) is ∙ covered_are_rows tables found s table schema key good there) bad
+pub never_damaged : TablesAreTables → FoundAreRows → (s : Store) (table : List ℕ) (schema : Schema) (scope : Scope) (rows : List (List ℕ)) (c : Bool) → is_store s ≡ true → schema_of s table ≡ Some schema
+    → rows ≡ rows_covered scope table s → list_all (is_row schema) rows ≡ false → c ≡ false
+never_damaged tables found s table schema scope rows c good there is bad =
+    not_both (list_all (is_row schema) rows) c (ap (list_all (is_row schema)) is ∙ covered_are_rows tables found s table schema scope good there) bad

@@ -1,5 +1,7 @@
 pub mod Answer
-pub mod Plan
+pub mod Scope
+pub mod Task
+pub mod Bound
 pub mod Reading
 pub mod Keyed
 pub mod Described

@@ -1,17 +1,13 @@
 //! Answers creations of tables.
 
-ghost use Rattle.std.specs.Prelude.{◌≡◌, IfErr, IfOk, IsTrue, List, false};
-ghost use Rattle.row_values.specs.Value.{Value};
-ghost use Rattle.sql_text.specs.declared.tree.Command.TheVariants as command;
+ghost use Rattle.std.specs.Prelude.{◌≡◌, IfErr, IfOk, IsTrue, false, length};
 ghost use Rattle.sql_semantics.specs.Create.{defined_schema};
-ghost use Rattle.sql_semantics.specs.Meaning.{answered, create_answer, meaning};
+ghost use Rattle.sql_semantics.specs.Meaning.{answered, create_answer};
 ghost use Rattle.small_sql.specs.Answer.{answer_of};
 
 use crate::answer::{Answer, one_change};
 use crate::read::no_memory;
-use core_calls::{SqlFault, StatementError};
-use sql_lex::Part;
-use sql_predicates::table_name;
+use core_calls::StatementError;
 use sql_text::{Definition, KeyColumn};
 use std::alloc::{AllocError, Global};
 use tables::TableView;
@@ -34,31 +30,23 @@ fn created(
     }
 }
 
-/// What a CREATE TABLE is answered, where so many bytes of changes are left: the one change that
-/// creates the table. It is refused where a table has the name, where the name is none or the columns
-/// and the key are no schema, by the 1,001st table, and where the change has more bytes than are left.
-/// The view itself does not change.
-pub fn create<V: TableView>(
+/// What a CREATE TABLE is answered whose name no table has, where so many bytes of changes are left: the
+/// one change that creates the table. It is refused where the name is none or the columns and the key
+/// are no schema, by the 1,001st table, and where the change has more bytes than are left.
+pub(crate) fn create<V: TableView>(
     alloc: Global,
-    table: &Part<'_>,
+    table: &str,
     definitions: &[Definition<'_>],
     key: &[KeyColumn<'_>],
     left: usize,
     view: &mut V,
 ) -> Result<Answer, V::Fault>
-    ensures answer { IfOk result (λ answer. IsTrue V.is_told → (params : List Value) → meaning params left (command.Create table.now definitions.now key.now) (V.store view.old) ≡ answer_of answer) }
+    ensures answer { IfOk result (λ answer. IsTrue V.is_told → answer_of answer ≡ answered (create_answer left table.now (defined_schema definitions.now key.now) (length (V.store view.old)))) }
     ensures fault { IfErr result (λ fault. IsTrue V.is_told → V.tells_damage fault ≡ false) }
     ensures store { V.store view.new ≡ V.store view.old }
 {
-    let Ok(table) = table_name(alloc, table.bytes()) else {
-        return Err(no_memory::<V>());
-    };
-    let schema = view.schema(alloc, table.as_str())?;
-    if schema.is_some() {
-        return Ok(Answer::Refused(SqlFault::TableExists));
-    }
     let tables = view.tables()?;
-    match created(alloc, table.as_str(), definitions, key, tables, left) {
+    match created(alloc, table, definitions, key, tables, left) {
         Ok(answer) => Ok(answer),
         Err(AllocError) => Err(no_memory::<V>()),
     }

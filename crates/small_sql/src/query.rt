@@ -1,50 +1,59 @@
 //! Answers queries.
 
-ghost use Rattle.std.specs.Prelude.{◌≡◌, ℕ, IfErr, IfOk, IsTrue, false, map};
-ghost use Rattle.std.specs.Option.{option_copied};
-ghost use Rattle.row_values.specs.Value.{value_of};
-ghost use Rattle.sql_text.specs.declared.tree.Command.TheVariants as command;
-ghost use Rattle.sql_semantics.specs.Meaning.{meaning};
+ghost use Rattle.std.specs.Prelude.{◌≡◌, [], IfErr, IfOk, IsTrue, Some, false, true};
+ghost use Rattle.std.specs.Arc.{arc_value};
+ghost use Rattle.tables.specs.RowList.{is_selection};
+ghost use Rattle.tables.specs.Tables.{schema_of};
+ghost use Rattle.tables.specs.View.{is_store};
+ghost use Rattle.sql_semantics.specs.Frame.{rows_covered};
+ghost use Rattle.sql_semantics.specs.Meaning.{Rows};
 ghost use Rattle.small_sql.specs.Answer.{answer_of};
+ghost use Rattle.small_sql.specs.Scope.{scope_of};
+ghost use Rattle.small_sql.specs.Task.{matching};
 
 use crate::answer::Answer;
-use crate::plan;
 use crate::read::{no_memory, rows_found};
-use core_calls::{SqlFault, StatementError};
-use row_values::Value;
-use sql_lex::Part;
-use sql_predicates::table_name;
-use sql_semantics::laws::statements_are_framed;
-use sql_text::{Columns, Predicate};
+use crate::scope::Scope;
+use row_values::Schema;
+use sql_predicates::Filter;
 use std::alloc::{AllocError, Global};
-use tables::TableView;
+use std::sync::Arc;
+use tables::{RowList, TableView};
 
-/// What a SELECT is answered: the rows that its WHERE matches, in the order of their keys, with the
-/// places of the columns that it asks for. Where the WHERE fixes the whole key, one row is read. It
-/// is refused where no table has the name, and then for the first fault of its columns, and then of
-/// its WHERE. The view tells of no change.
-pub fn select<V: TableView>(
+// A list of the schema that has no rows yet, of which these columns are asked for.
+fn no_rows(
     alloc: Global,
-    columns: &Columns<'_>,
-    table: &Part<'_>,
-    filter: Option<&Predicate<'_>>,
-    params: &[Value<'_>],
+    schema: &Arc<Schema, Global>,
+    places: &[u8],
+) -> Result<RowList, AllocError>
+    requires { is_selection (arc_value schema.now) places.now ≡ true }
+    ensures { IfOk result (λ list. list ≡ record { schema = arc_value schema.now; selected = places.now; rows = [] }) }
+{
+    let places = Vec::from_slice(alloc, places)?;
+    Ok(RowList::new(alloc, Arc::try_clone(schema)?, places))
+}
+
+/// What a SELECT is answered: the rows in its scope that its WHERE matches, in the order of their keys,
+/// with the places of the columns that it asks for.
+pub(crate) fn select<V: TableView>(
+    alloc: Global,
+    table: &str,
+    schema: &Arc<Schema, Global>,
+    scope: &Scope,
+    places: &[u8],
+    filter: &Filter,
     view: &mut V,
 ) -> Result<Answer, V::Fault>
-    ensures answer { IfOk result (λ answer. IsTrue V.is_told → (left : ℕ) → meaning (map value_of params.now) left (command.Select columns.now table.now (option_copied filter.entry)) (V.store view.old) ≡ answer_of answer) }
+    requires selects { is_selection (arc_value schema.now) places.now ≡ true }
+    requires schema { IsTrue V.is_told → schema_of (V.store view.old) table.now ≡ Some (arc_value schema.now) }
+    requires good { IsTrue V.is_told → is_store (V.store view.old) ≡ true }
+    ensures answer { IfOk result (λ answer. IsTrue V.is_told → answer_of answer ≡ Rows (record { schema = arc_value schema.now; selected = places.now; rows = matching filter.now (arc_value schema.now) (rows_covered (scope_of scope.now) table.now (V.store view.old)) })) }
     ensures fault { IfErr result (λ fault. IsTrue V.is_told → V.tells_damage fault ≡ false) }
     ensures store { V.store view.new ≡ V.store view.old }
 {
-    statements_are_framed();
-    let Ok(table) = table_name(alloc, table.bytes()) else {
+    let Ok(list) = no_rows(alloc, schema, places) else {
         return Err(no_memory::<V>());
     };
-    let Some(schema) = view.schema(alloc, table.as_str())? else {
-        return Ok(Answer::Refused(SqlFault::TableUnknown));
-    };
-    match plan::of_select(alloc, schema, columns, filter, params) {
-        Ok(plan) => Ok(Answer::Rows(rows_found(alloc, view, table.as_str(), plan)?)),
-        Err(StatementError::Fault(fault)) => Ok(Answer::Refused(fault)),
-        Err(StatementError::NoMemory) => Err(no_memory::<V>()),
-    }
+    let found = rows_found(alloc, view, table, scope, filter, list)?;
+    Ok(Answer::Rows(found))
 }

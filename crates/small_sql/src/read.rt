@@ -1,20 +1,22 @@
 //! Reads the rows of a table that count.
 
-ghost use Rattle.std.specs.Prelude.{◌≡◌, ◌∷◌, [], ◌++◌, IfErr, IfOk, IsTrue, OnOk, Some, false, filter, if◌then◌else◌, is_ok, option_map, true};
+ghost use Rattle.std.specs.Prelude.{◌≡◌, ◌∷◌, [], ◌++◌, IfErr, IfOk, IsTrue, OnOk, Some, false, filter, if◌then◌else◌, is_ok, true};
+ghost use Rattle.std.specs.Arc.{arc_value};
 ghost use Rattle.std.specs.List.{list_all};
 ghost use Rattle.row_values.specs.Row.{is_row, values_in};
 ghost use Rattle.tables.specs.Tables.{schema_of};
 ghost use Rattle.tables.specs.View.{is_store};
 ghost use Rattle.sql_semantics.specs.Frame.{rows_covered};
-ghost use Rattle.sql_semantics.specs.Scope.{scope_by};
 ghost use Rattle.sql_predicates.specs.Test.{passes};
-ghost use Rattle.small_sql.specs.Plan.{rows_found};
 ghost use Rattle.small_sql.specs.Reading.{DamagedBy};
+ghost use Rattle.small_sql.specs.Scope.{scope_of};
+ghost use Rattle.small_sql.specs.Task.{matching};
 
-use crate::plan::Plan;
+use crate::scope::Scope;
 use row_values::{Damaged, ReadError, RowRef, Schema};
 use sql_predicates::Filter;
 use std::alloc::{AllocError, Global};
+use std::sync::Arc;
 use tables::laws::stores_hold_tables;
 use tables::{RowList, Rows, TableView};
 
@@ -68,20 +70,21 @@ fn one_row(alloc: Global, row: &[u8]) -> Result<Rows, AllocError>
     Ok(rows)
 }
 
-// The row of a key, or all rows.
+// The rows in a scope of a table.
 fn looked_up<V: TableView>(
     alloc: Global,
     view: &mut V,
     table: &str,
-    key: &Option<Vec<u8>>,
+    scope: &Scope,
 ) -> Result<Rows, V::Fault>
-    ensures rows { IfOk result (λ rows. IsTrue V.is_told → rows ≡ rows_covered (scope_by (option_map (λ k. k.items) key.now)) table.now (V.store view.old)) }
+    ensures rows { IfOk result (λ rows. IsTrue V.is_told → rows ≡ rows_covered (scope_of scope.now) table.now (V.store view.old)) }
     ensures fault { IfErr result (λ fault. IsTrue V.is_told → V.tells_damage fault ≡ false) }
     ensures store { V.store view.new ≡ V.store view.old }
 {
-    match key {
-        None => view.scan(alloc, table),
-        Some(key) => match view.get(alloc, table, key.as_slice())? {
+    match scope {
+        Scope::Names => Ok(Rows::new(alloc)),
+        Scope::All => view.scan(alloc, table),
+        Scope::One(key) => match view.get(alloc, table, key.bytes.as_slice())? {
             Some(row) => match one_row(alloc, row.as_slice()) {
                 Ok(rows) => Ok(rows),
                 Err(AllocError) => Err(no_memory::<V>()),
@@ -91,26 +94,50 @@ fn looked_up<V: TableView>(
     }
 }
 
-/// The rows of a table that a plan finds. Bytes that are no row of the schema are damaged.
+/// The rows in a scope of a table that match, in a list of its schema that has none yet. Bytes that are
+/// no row of the schema are damaged.
 pub(crate) fn rows_found<V: TableView>(
     alloc: Global,
     view: &mut V,
     table: &str,
-    plan: Plan,
+    scope: &Scope,
+    wanted: &Filter,
+    list: RowList,
 ) -> Result<RowList, V::Fault>
-    requires fresh { plan.list.rows ≡ [] }
-    requires schema { IsTrue V.is_told → schema_of (V.store view.old) table.now ≡ Some plan.list.schema }
+    requires fresh { list.rows ≡ [] }
+    requires schema { IsTrue V.is_told → schema_of (V.store view.old) table.now ≡ Some list.schema }
     requires good { IsTrue V.is_told → is_store (V.store view.old) ≡ true }
-    ensures rows { IfOk result (λ found. IsTrue V.is_told → found ≡ record plan.list { rows = rows_found plan table.now (V.store view.old) }) }
+    ensures rows { IfOk result (λ found. IsTrue V.is_told → found ≡ record list { rows = matching wanted.now list.schema (rows_covered (scope_of scope.now) table.now (V.store view.old)) }) }
     ensures fault { IfErr result (λ fault. IsTrue V.is_told → V.tells_damage fault ≡ false) }
     ensures store { V.store view.new ≡ V.store view.old }
 {
     stores_hold_tables();
-    let Plan { filter, key, list } = plan;
-    let rows = looked_up(alloc, view, table, &key)?;
-    match counted(list, &rows, &filter) {
+    let rows = looked_up(alloc, view, table, scope)?;
+    match counted(list, &rows, wanted) {
         Ok(found) => Ok(found),
         Err(ReadError::Damaged) => Err(view.damaged()),
         Err(ReadError::NoMemory) => Err(no_memory::<V>()),
     }
+}
+
+/// The rows in a scope of a table that match, with no columns asked for.
+pub(crate) fn rows_matched<V: TableView>(
+    alloc: Global,
+    view: &mut V,
+    table: &str,
+    schema: &Arc<Schema, Global>,
+    scope: &Scope,
+    wanted: &Filter,
+) -> Result<RowList, V::Fault>
+    requires schema { IsTrue V.is_told → schema_of (V.store view.old) table.now ≡ Some (arc_value schema.now) }
+    requires good { IsTrue V.is_told → is_store (V.store view.old) ≡ true }
+    ensures rows { IfOk result (λ found. IsTrue V.is_told → found ≡ record { schema = arc_value schema.now; selected = []; rows = matching wanted.now (arc_value schema.now) (rows_covered (scope_of scope.now) table.now (V.store view.old)) }) }
+    ensures fault { IfErr result (λ fault. IsTrue V.is_told → V.tells_damage fault ≡ false) }
+    ensures store { V.store view.new ≡ V.store view.old }
+{
+    let Ok(schema) = Arc::try_clone(schema) else {
+        return Err(no_memory::<V>());
+    };
+    let list = RowList::new(alloc, schema, Vec::new(alloc));
+    rows_found(alloc, view, table, scope, wanted, list)
 }

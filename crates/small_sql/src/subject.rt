@@ -1,7 +1,8 @@
 //! The table that a statement is about.
 
-ghost use Rattle.std.specs.Prelude.{◌≡◌, IfErr, IfOk, IsTrue, false, option_map, true};
+ghost use Rattle.std.specs.Prelude.{◌≡◌, ◌<◌, ◌^◌, IfErr, IfOk, IsTrue, false, length, option_map, true};
 ghost use Rattle.std.specs.Arc.{arc_value};
+ghost use Rattle.std.specs.String.{string_bytes};
 ghost use Rattle.tables.specs.Tables.{schema_of};
 ghost use Rattle.tables.specs.View.{is_store};
 ghost use Rattle.sql_semantics.specs.Scope as scope;
@@ -12,12 +13,12 @@ use row_values::Schema;
 use sql_lex::Part;
 use sql_predicates::table_name;
 use sql_text::Command;
-use std::alloc::Global;
+use std::alloc::{AllocError, Global};
 use std::sync::Arc;
 use tables::TableView;
 
 // The name of the table, as the text has it.
-fn table<'a, 'b>(command: &'a Command<'b>) -> &'a Part<'b>
+fn name<'a, 'b>(command: &'a Command<'b>) -> &'a Part<'b>
     ensures { name_of result.now ≡ scope.table_name command.now }
 {
     match command {
@@ -27,6 +28,15 @@ fn table<'a, 'b>(command: &'a Command<'b>) -> &'a Part<'b>
         Command::Delete { table, .. } => table,
         Command::Select { table, .. } => table,
     }
+}
+
+/// The name in capitals of the table that a statement is about: at most 255 bytes.
+#[tactic(auto, using(crate::proofs::Names::name_short))]
+pub(crate) fn subject(alloc: Global, command: &Command<'_>) -> Result<String, AllocError>
+    ensures name { IfOk result (λ table. string_bytes table ≡ scope.table_name command.now) }
+    ensures short { IfOk result (λ table. length (string_bytes table) < 2 ^ 8) }
+{
+    table_name(alloc, name(command).bytes())
 }
 
 /// The schema of the table that a statement is about, where there is one. It is shared with the view,
@@ -41,7 +51,7 @@ pub fn table_schema<V: TableView>(
     ensures fault { IfErr result (λ fault. IsTrue V.is_told → V.tells_damage fault ≡ false) }
     ensures store { V.store view.new ≡ V.store view.old }
 {
-    let Ok(table) = table_name(alloc, table(command).bytes()) else {
+    let Ok(table) = subject(alloc, command) else {
         return Err(no_memory::<V>());
     };
     view.schema(alloc, table.as_str())

@@ -2,11 +2,11 @@
 
 use crate::fixtures::{Asked, Case, PARAMS, wrong};
 use crate::watched::Watched;
-use row_values::Schema;
-use small_sql::{claims, table_schema};
+use small_sql::{bind, claims};
 use sql_text::Command;
-use std::alloc::{AllocError, Global};
+use std::alloc::Global;
 use std::test::Fail;
+use tables::PlainFault;
 use unit_locks::{Access, Claim};
 
 /// The access, the table and the key of a claim.
@@ -49,7 +49,7 @@ static OF_NONE: [Case; 6] = [
     ("CREATE TABLE X (A INT, PRIMARY KEY (A))", READ_X, 0),
 ];
 
-fn are(claims: &[Claim], parts: &[ClaimParts]) -> bool {
+pub(crate) fn are(claims: &[Claim], parts: &[ClaimParts]) -> bool {
     claims.len() == parts.len()
         && claims
             .iter()
@@ -64,9 +64,10 @@ fn is(claim: &Claim, parts: &ClaimParts) -> bool {
 fn claimed(
     alloc: Global,
     command: &Command<'_>,
-    schema: Option<&Schema>,
-) -> Result<Vec<Claim>, AllocError> {
-    claims(alloc, command, schema, &PARAMS)
+    view: &mut Watched,
+) -> Result<Vec<Claim>, PlainFault> {
+    let bound = bind(alloc, command, &PARAMS, view)?;
+    Ok(claims(alloc, &bound)?)
 }
 
 /// Whether a command claims this: 1, else 0.
@@ -76,8 +77,7 @@ pub(crate) fn claim_number(
     expected: &[ClaimParts],
     view: &mut Watched,
 ) -> Result<i64, Fail> {
-    let schema = table_schema(alloc, command, view)?;
-    let claimed = claimed(alloc, command, schema.as_deref())?;
+    let claimed = claimed(alloc, command, view)?;
     Ok(i64::from(are(claimed.as_slice(), expected)))
 }
 

@@ -1,10 +1,11 @@
 //! A small store, and what statements are answered over it, as a number.
 
+use crate::bound::{absent_claim_number, columns_bound};
 use crate::claimed::{ClaimParts, claim_number};
 use crate::described::{ParameterParts, columns_number, parameters_number};
 use crate::watched::Watched;
 use row_values::Value;
-use small_sql::{Answer, run};
+use small_sql::{Answer, bind, run};
 use sql_text::{Command, SqlError, Statement, parse};
 use std::alloc::{AllocError, Global};
 use std::test::Fail;
@@ -23,6 +24,10 @@ pub(crate) enum Asked {
     /// It is run, where so many bytes of changes are left.
     Run(usize),
     Claims(&'static [ClaimParts]),
+    /// What it claims where its table is not there.
+    AbsentClaims(&'static [ClaimParts]),
+    /// How many columns the schema has that it is bound to, or -1 where its table is not there.
+    Bound,
     Columns(&'static [u8]),
     Parameters(&'static [ParameterParts]),
 }
@@ -52,7 +57,8 @@ fn answer(
     left: usize,
     view: &mut Watched,
 ) -> Result<Answer, PlainFault> {
-    run(alloc, command, &PARAMS, left, view)
+    let bound = bind(alloc, command, &PARAMS, view)?;
+    run(alloc, &bound, left, view)
 }
 
 fn apply_all(alloc: Global, view: &mut Watched, changes: Vec<Change>) -> Result<(), AllocError> {
@@ -97,6 +103,8 @@ fn number(
     match asked {
         Asked::Run(left) => run_number(alloc, command, left, view),
         Asked::Claims(claims) => claim_number(alloc, command, claims, view),
+        Asked::AbsentClaims(claims) => absent_claim_number(alloc, command, claims),
+        Asked::Bound => columns_bound(alloc, command, view),
         Asked::Columns(places) => columns_number(alloc, command, places, view),
         Asked::Parameters(types) => parameters_number(alloc, command, types, view),
     }

@@ -2,6 +2,8 @@
 #![tactic(auto)]
 
 #[cfg(test)]
+mod bound;
+#[cfg(test)]
 mod claimed;
 #[cfg(test)]
 mod described;

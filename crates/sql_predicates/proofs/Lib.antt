@@ -5,3 +5,4 @@ pub mod Places
 pub mod Faults
 pub mod Fixing
 pub mod Meanings
+pub mod Runs

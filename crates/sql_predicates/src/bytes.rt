@@ -1,31 +1,50 @@
 //! What quoted texts and pairs of digits stand for.
 
-ghost use Rattle.std.specs.Prelude.{◌≡◌, ◌≤◌, ◌%◌, ◌+◌, ◌*◌, ◌∷◌, IfOk, length, map};
+ghost use Rattle.std.specs.Prelude.{◌≡◌, ◌<◌, ◌%◌, ◌+◌, ◌*◌, ◌==◌, ◌++◌, IfOk, IfSome, MatchOption, drop, length, map, position};
 ghost use Rattle.sql_text.specs.Spelled.{bytes_of_pairs, digit_value, undoubled};
 
 use std::alloc::{AllocError, Global};
 
-/// A text, in which a doubled quote is one.
+/// A text, in which a doubled quote is one. It is copied by the runs between doubled quotes.
 pub(crate) fn undoubled(alloc: Global, spelled: &[u8]) -> Result<Vec<u8>, AllocError>
     ensures { IfOk result (λ text. text.items ≡ undoubled spelled.now) }
 {
     let mut text = Vec::with_capacity(alloc, spelled.len())?;
     let mut rest = spelled;
-    'parts: while let [first, after @ ..] = rest {
-        text.push(*first)?;
-        rest = behind(*first, after);
+    'runs: while let Some((run, after)) = first_run(rest) {
+        text.extend_from_slice(run)?;
+        rest = after;
     }
+    text.extend_from_slice(rest)?;
     Ok(text)
 }
 
-// What stands behind this byte: of a doubled quote its second half does not.
-fn behind<'a>(first: u8, after: &'a [u8]) -> &'a [u8]
-    ensures value { undoubled (first ∷ after.now) ≡ first ∷ undoubled result.now }
-    ensures shorter { length result.now ≤ length after.now }
+// What stands up to the first quote and with it, and what stands behind the second half of that one.
+#[tactic(auto, using(crate::proofs::Runs::one_run, crate::proofs::Runs::no_run, crate::proofs::Runs::shorter))]
+fn first_run<'a>(spelled: &'a [u8]) -> Option<(&'a [u8], &'a [u8])>
+    ensures value { MatchOption result (undoubled spelled.now ≡ spelled.now) (λ x. undoubled spelled.now ≡ x.0.now ++ undoubled x.1.now) }
+    ensures shorter { IfSome result (λ x. length x.1.now < length spelled.now) }
 {
-    match after {
-        [] => after,
-        [_, rest @ ..] => { if first == b'\'' { rest } else { after } }
+    let Some(at) = first_quote(spelled) else {
+        return None;
+    };
+    let (run, after) = spelled.split_at(at + 1);
+    Some((run, behind_first(after)))
+}
+
+fn first_quote(spelled: &[u8]) -> Option<usize>
+    ensures value { result ≡ position (λ b. b == 39) spelled.now }
+    ensures within { IfSome result (λ at. at < length spelled.now) }
+{
+    spelled.iter().position(|b| *b == b'\'')
+}
+
+fn behind_first<'a>(bytes: &'a [u8]) -> &'a [u8]
+    ensures { result.now ≡ drop 1 bytes.now }
+{
+    match bytes {
+        [] => bytes,
+        [_, rest @ ..] => rest,
     }
 }
 

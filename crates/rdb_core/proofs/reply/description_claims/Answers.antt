@@ -1,8 +1,7 @@
-use Rattle.std.proofs.Common.{◌≡◌, List, subst}
-use Rattle.std.specs.Prelude.{IfOk}
-use Rattle.unit_locks.specs.Claim.{Claim}
+use Rattle.std.proofs.Common.{[], ◌∙◌}
+use Rattle.std.proofs.lemmas.Result.{IfOk-weaker}
 use Rattle.rdb_core.proofs.Questions.{absent_read}
 use Rattle.rdb_core.proofs.reply.description_claims.Goals as goal
 
 pub returns-in-None : goal.returns-in-None
-returns-in-None c = rw c.in-None.is (subst (λ (l : List Claim). IfOk c.claims.result (λ claims. claims.items ≡ l)) (absent_read c.args.command.now c.requires) c.claims.ensures)
+returns-in-None c = rw c.in-None.is (IfOk-weaker c.absent_claims.result _ _ (λ claims is. is [] ∙ absent_read c.args.command.now c.requires) c.absent_claims.ensures)
