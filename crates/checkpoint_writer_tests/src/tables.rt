@@ -10,6 +10,7 @@ use std::alloc::{AllocError, Global};
 use std::cmp::Ordering;
 use std::test::Fail;
 use table_map::{RowKeys, TableMap, TablePages};
+use tables::Rows;
 
 /// Keys of one byte: the first one of each row.
 pub struct FirstByte;
@@ -27,8 +28,8 @@ impl RowKeys for FirstByte {
         first_byte(row).to_vec(alloc)
     }
 
-    fn compare(&self, _: Global, key: &[u8], row: &[u8]) -> Result<Ordering, AllocError> {
-        Ok(key.cmp(first_byte(row)))
+    fn compare(&self, key: &[u8], row: &[u8]) -> Ordering {
+        key.cmp(first_byte(row))
     }
 }
 
@@ -124,19 +125,23 @@ pub fn has_lengths<D: Disk>(
 ) -> Result<bool, PageFault> {
     let mut cache = PageCache::new(alloc, 2).map_err(|_| PageFault::NoMemory)?;
     let table = table_with(alloc, &mut cache, disk, run, &[])?;
-    let rows = table.scan(alloc, &FirstByte, &mut cache, disk)?;
+    let mut rows = Rows::new(alloc);
+    table.scan_into(alloc, &FirstByte, &mut cache, disk, &mut rows)?;
     Ok(are_rows(&rows, lengths))
 }
 
-fn are_rows(rows: &[Vec<u8>], lengths: &[usize; 256]) -> bool {
-    let mut left = rows.iter();
+fn are_rows(rows: &Rows, lengths: &[usize; 256]) -> bool {
+    let mut place = 0usize;
     for key in 0..=255u8 {
         let length = lengths[usize::from(key)];
-        if length > 0 && !left.next().is_some_and(|row| is_row(row, key, length)) {
-            return false;
+        if length > 0 {
+            if place >= rows.len() || !is_row(rows.row(place), key, length) {
+                return false;
+            }
+            place = place.wrapping_add(1);
         }
     }
-    left.next().is_none()
+    place == rows.len()
 }
 
 fn is_row(row: &[u8], key: u8, length: usize) -> bool {

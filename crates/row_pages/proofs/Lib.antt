@@ -4,3 +4,4 @@ pub mod PageBytes
 mod Growing
 mod LaidPages
 mod KeptPages
+mod Placed

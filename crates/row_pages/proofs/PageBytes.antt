@@ -144,10 +144,14 @@ one_page p q bytes first second = some_same p q (sym (page_written p bytes first
     some_same : (p q : Page) → Some p ≡ Some q → p ≡ q
     some_same p q e = cc
 
+-- bytes in which no page is read are none
+pub no_page_at : (bytes : List ℕ) → page_at bytes ≡ None → (page : Page) → IsPage page bytes → ⊥
+no_page_at bytes none page is = apart (sym (page_written page bytes is) ∙ none)
+  where
+    apart : Some page ≡ None → ⊥
+    apart e = absurd cc
+
 -- what a reading of the head tells
 pub judges : (bytes : List ℕ) (head : Option (PageKind × ℕ)) → AreBytes bytes → option_map (λ h. page_with h bytes) head ≡ page_at bytes → IfSome head (λ h. HoldsRows h.1 bytes) → Judges bytes head
-judges bytes None all read holds = λ page is. apart page (sym (page_written page bytes is) ∙ sym read)
-  where
-    apart : (page : Page) → Some page ≡ None → ⊥
-    apart page e = absurd cc
+judges bytes None all read holds = no_page_at bytes (sym read)
 judges bytes (Some head) all read holds = (page_read (page_with head bytes) bytes all (sym read), holds)

@@ -81,6 +81,23 @@ cut_is high low bytes row rest all true fits e =
     let whole : bytes ≡ row ++ rest = sym (take-append-drop n bytes) ∙ ap (λ (x : List ℕ). x ++ drop n bytes) front ∙ ap (λ (x : List ℕ). row ++ x) back in
     ap (λ (x : List ℕ). high ∷ low ∷ x) whole ∙ ap (λ (x : List ℕ). (x ++ row) ++ rest) (sym head)
 
+cut_to : (high low : ℕ) (bytes row rest : List ℕ) (b : Bool) → nat_le (word high low) (length bytes) ≡ b → cut_if b (word high low) bytes ≡ Some (row, rest)
+    → (rest ≡ drop (suc (suc (length row))) (high ∷ low ∷ bytes)) × (suc (suc (length row)) ≤ length (high ∷ low ∷ bytes))
+cut_to high low bytes row rest false fits e = absurd cc
+cut_to high low bytes row rest true fits e =
+    let n = word high low in
+    let le : n ≤ length bytes = leb-true n (length bytes) fits in
+    let front : take n bytes ≡ row = ap row_in e in
+    let size : length row ≡ n = ap length (sym front) ∙ length-take-le n bytes le in
+    (sym (ap rest_in e) ∙ ap (λ (k : ℕ). drop k bytes) (sym size), omega (arith, le, size))
+
+-- what follows a row stands behind its bytes
+pub row_cut : (bytes row rest : List ℕ) → row_at bytes ≡ Some (row, rest) → (rest ≡ drop (suc (suc (length row))) bytes) × (suc (suc (length row)) ≤ length bytes)
+unfolding row_at
+row_cut [] row rest e = absurd cc
+row_cut (a ∷ []) row rest e = absurd cc
+row_cut (high ∷ low ∷ bytes) row rest e = cut_to high low bytes row rest (nat_le (word high low) (length bytes)) refl e
+
 pub row_read : (bytes row rest : List ℕ) → AreBytes bytes → row_at bytes ≡ Some (row, rest) → bytes ≡ row_bytes row ++ rest
 unfolding row_at
 row_read [] row rest all e = absurd cc

@@ -4,7 +4,7 @@ use Rattle.drda_words.specs.Place.{part}
 use Rattle.drda_disk.specs.declared.through.ReadFault.{ReadFault}
 use Rattle.drda_disk.specs.declared.through.ReadFault.TheVariants as read
 use Rattle.row_pages.specs.Page.{IsPage, Page}
-use Rattle.row_pages.specs.Reading.{has_rows, rows_in}
+use Rattle.row_pages.specs.Reading.{has_rows, rows_in, row_starts}
 use Rattle.row_pages.specs.declared.page.PageKind.{PageKind}
 use Rattle.row_pages.specs.declared.kept.PageFault.{PageFault}
 use Rattle.row_pages.specs.declared.kept.PageFault.TheVariants.{NoMemory, DeviceFailed, Damaged}
@@ -13,6 +13,11 @@ use Rattle.row_pages.specs.declared.kept.PageFault.TheVariants.{NoMemory, Device
 pub record HoldsRows (count : ℕ) (bytes : List ℕ) : Type 0 where
   pub head : 3 ≤ length bytes
   pub has : has_rows count (drop 3 bytes) ≡ true
+
+-- and these are the places where they begin
+pub record KeepsStarts (starts bytes : List ℕ) : Type 0 where
+  pub rows : HoldsRows (length starts) bytes
+  pub same : starts ≡ row_starts 3 (length starts) bytes
 
 -- the page of this kind with so many rows
 abbrev pub page_with : PageKind × ℕ → List ℕ → Page

@@ -1,5 +1,5 @@
 -- The rows that stand in front of bytes.
-use Rattle.std.specs.Prelude.{ℕ, zero, suc, List, [], ◌∷◌, length, take, drop, Option, Some, None, Bool, true, false, nat_le, if◌then◌else◌}
+use Rattle.std.specs.Prelude.{ℕ, zero, suc, ◌+◌, List, [], ◌∷◌, length, take, drop, Option, Some, None, Bool, true, false, nat_le, if◌then◌else◌}
 use Rattle.drda_words.specs.Number.{word}
 
 -- the row in front, and what follows it
@@ -33,3 +33,12 @@ rest_of (Some x) bytes more = more x.1
 abbrev pub behind_rows : ℕ → List ℕ → List ℕ
 behind_rows zero bytes = bytes
 behind_rows (suc n) bytes = rest_of (row_at bytes) bytes (behind_rows n)
+
+-- where the first n rows from a place of the bytes on begin, each with its length
+abbrev pub start_before : ℕ → Option (List ℕ × List ℕ) → (ℕ → List ℕ) → List ℕ
+start_before at None more = []
+start_before at (Some x) more = at ∷ more (at + 2 + length x.0)
+
+abbrev pub row_starts : ℕ → ℕ → List ℕ → List ℕ
+row_starts at zero bytes = []
+row_starts at (suc n) bytes = start_before at (row_at (drop at bytes)) (λ next. row_starts next n bytes)

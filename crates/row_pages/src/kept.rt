@@ -1,13 +1,15 @@
 //! A page in memory of its own, judged when it was read.
 
-ghost use Rattle.std.specs.Prelude.{◌≡◌, ◌≤◌, ◌+◌, IsTrue, IfOk, length};
+ghost use Rattle.std.specs.Prelude.{◌≡◌, ◌≤◌, ◌<◌, ◌+◌, IsTrue, IfOk, Some, length};
+ghost use Rattle.std.specs.List.{slice_get};
 ghost use Rattle.drda_words.specs.Place.{part};
 ghost use Rattle.drda_disk.specs.Disk.{Stays};
 ghost use Rattle.row_pages.specs.Page.{IsPage};
-ghost use Rattle.row_pages.specs.Parsing.{Parses};
+ghost use Rattle.row_pages.specs.Parsing.{ParsesKept};
 ghost use Rattle.row_pages.specs.Keeping.{CountsPageFault, TellsDamage};
 
-use crate::page::{Damaged, HEADER_BYTES, PAGE_BYTES, PageKind, PageRef, judged};
+use crate::page::{HEADER_BYTES, PAGE_BYTES, PageKind, PageRef, head_of, is_zero};
+use crate::rows::{first_row, from_place, place_rows};
 use drda_disk::{Disk, ReadFault, read_bytes};
 use std::alloc::Global;
 use std::marker::Model;
@@ -38,34 +40,70 @@ impl From<ReadFault> for PageFault {
     }
 }
 
-/// A page in memory of its own, whose bytes were judged when it was made. Contracts see it as its
-/// kind and its rows.
+/// A page in memory of its own, whose bytes were judged when it was made, with the places where its
+/// rows begin. Contracts see it as its kind and its rows.
 #[derive(Drop)]
 pub struct KeptPage {
     kind: PageKind,
-    count: usize,
+    starts: Vec<u16>,
     bytes: Vec<u8>,
 }
 
 impl Model for KeptPage {
+    ghost use Rattle.std.specs.Prelude.{length};
     ghost use Rattle.row_pages.specs.Page.{Page};
-    ghost use Rattle.row_pages.specs.Keeping.{HoldsRows, page_with};
+    ghost use Rattle.row_pages.specs.Keeping.{KeepsStarts, page_with};
 
     ghost Value = { Page };
 
-    ghost view = { λ p. page_with (p.kind, p.count) p.bytes.items };
+    ghost view = { λ p. page_with (p.kind, length p.starts.items) p.bytes.items };
 
-    ghost invariant = { λ p. HoldsRows p.count p.bytes.items };
+    ghost invariant = { λ p. KeepsStarts p.starts.items p.bytes.items };
 }
 
 impl KeptPage {
-    /// The page that the bytes are; `Damaged` exactly where they are none. Takes no memory.
-    pub(crate) fn parse(bytes: Vec<u8>) -> Result<KeptPage, Damaged>
-        ensures { Parses bytes.items result }
+    /// The page that the bytes are; `Damaged` exactly where they are none. The one memory that is
+    /// taken is that for the places of its rows.
+    pub(crate) fn parse(alloc: Global, bytes: Vec<u8>) -> Result<KeptPage, PageFault>
+        ensures { ParsesKept bytes.items result }
     {
-        match judged(bytes.as_slice()) {
-            Some((kind, count)) => Ok(KeptPage { kind, count, bytes }),
-            None => Err(Damaged),
+        let Some((kind, count)) = head_of(&bytes) else {
+            return Err(PageFault::Damaged);
+        };
+        let Ok(mut starts) = Vec::with_capacity(alloc, count) else {
+            return Err(PageFault::NoMemory);
+        };
+        match place_rows(&mut starts, count, &bytes) {
+            Some(end) => {
+                if is_zero(from_place(&bytes, end)) {
+                    Ok(KeptPage {
+                        kind,
+                        starts,
+                        bytes,
+                    })
+                } else {
+                    Err(PageFault::Damaged)
+                }
+            }
+            None => Err(PageFault::Damaged),
+        }
+    }
+
+    /// How many rows it has.
+    pub fn len(&self) -> usize
+        ensures { result ≡ length self.now.rows }
+    {
+        self.starts.len()
+    }
+
+    /// Row `i`, counted from 0, found at once.
+    pub fn row(&self, i: usize) -> &[u8]
+        requires { i < length self.now.rows }
+        ensures { slice_get self.now.rows i ≡ Some result.now }
+    {
+        match first_row(from_place(&self.bytes, usize::from(self.starts[i]))) {
+            Some((row, _)) => row,
+            None => unreachable!(),
         }
     }
 
@@ -73,7 +111,7 @@ impl KeptPage {
     pub fn page_ref(&self) -> PageRef<'_>
         ensures { result ≡ self.now }
     {
-        PageRef::behind_head(self.kind, self.count, &self.bytes[HEADER_BYTES..])
+        PageRef::behind_head(self.kind, self.starts.len(), &self.bytes[HEADER_BYTES..])
     }
 }
 
@@ -90,8 +128,5 @@ pub(crate) fn read_page<D: Disk>(
     ensures faults { CountsPageFault result (D.life disk.old).faults (D.life disk.new).faults }
 {
     let bytes = read_bytes(alloc, disk, at, PAGE_BYTES)?;
-    match KeptPage::parse(bytes) {
-        Ok(page) => Ok(page),
-        Err(_) => Err(PageFault::Damaged),
-    }
+    KeptPage::parse(alloc, bytes)
 }

@@ -2,9 +2,10 @@
 
 ghost use Rattle.std.specs.Prelude.{◌≡◌, ◌==◌, true, IfSome, option_map};
 ghost use Rattle.std.specs.List.{list_all};
+ghost use Rattle.drda_words.specs.Bytes.{AreBytes};
 ghost use Rattle.row_pages.specs.Page.{code_of};
 ghost use Rattle.row_pages.specs.Reading.{has_rows, rows_in};
-ghost use Rattle.row_pages.specs.Parsing.{Parses, kind_at, page_at};
+ghost use Rattle.row_pages.specs.Parsing.{Parses, SaysHead, kind_at, page_at};
 ghost use Rattle.row_pages.specs.Keeping.{HoldsRows, Judges, page_with};
 
 use crate::rows::{RowIter, behind_rows};
@@ -108,19 +109,31 @@ impl<'p> PageRef<'p> {
     }
 }
 
-// The kind and the number of rows of the page that the bytes are, if they are one, read from the front.
+/// The kind and the number of rows that the head of these bytes says, where they may be a page: there
+/// are 8,192 of them, and the kind is known.
 #[tactic(auto, unfolding(crate::specs::Parsing::page_at))]
-fn head_of(bytes: &[u8]) -> Option<(PageKind, usize)>
-    ensures page { option_map (λ head. page_with head bytes.now) result ≡ page_at bytes.now }
-    ensures holds { IfSome result (λ head. HoldsRows head.1 bytes.now) }
+pub(crate) fn head_of(bytes: &[u8]) -> Option<(PageKind, usize)>
+    ensures head { SaysHead bytes.now result }
+    ensures bytes { IfSome result (λ _. AreBytes bytes.now) }
 {
-    let [code, high, low, rest @ ..] = bytes else {
+    if bytes.len() != PAGE_BYTES {
+        return None;
+    }
+    let [code, high, low, ..] = bytes else {
         return None;
     };
     let kind = PageKind::of(*code)?;
-    let count = u16::from_be_bytes([*high, *low]) as usize;
-    let zeros = behind_rows(count, rest)?;
-    if rest.len() == PAGE_BYTES - HEADER_BYTES && is_zero(zeros) {
+    Some((kind, u16::from_be_bytes([*high, *low]) as usize))
+}
+
+// The kind and the number of rows of the page that the bytes are, if they are one, read from the front.
+fn read_head(bytes: &[u8]) -> Option<(PageKind, usize)>
+    ensures page { option_map (λ head. page_with head bytes.now) result ≡ page_at bytes.now }
+    ensures holds { IfSome result (λ head. HoldsRows head.1 bytes.now) }
+{
+    let (kind, count) = head_of(bytes)?;
+    let zeros = behind_rows(count, &bytes[HEADER_BYTES..])?;
+    if is_zero(zeros) {
         Some((kind, count))
     } else {
         None
@@ -132,11 +145,11 @@ fn head_of(bytes: &[u8]) -> Option<(PageKind, usize)>
 pub(crate) fn judged(bytes: &[u8]) -> Option<(PageKind, usize)>
     ensures { Judges bytes.now result }
 {
-    head_of(bytes)
+    read_head(bytes)
 }
 
-// Whether all bytes are zero.
-fn is_zero(bytes: &[u8]) -> bool
+/// Whether all bytes are zero.
+pub(crate) fn is_zero(bytes: &[u8]) -> bool
     ensures { result ≡ list_all (λ b. b == 0) bytes.now }
 {
     bytes.iter().all(|byte| *byte == 0)

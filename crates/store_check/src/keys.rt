@@ -1,7 +1,10 @@
 //! The keys of rows, by the schema of their table.
 ghost use Rattle.std.specs.Prelude.{◌≡◌, ℕ, List, IfOk};
 ghost use Rattle.row_values.specs.Schema.{Schema};
+ghost use Rattle.key_map.specs.Slots.{by_bytes};
+ghost use Rattle.row_forms.specs.RowForm.{row_form};
 
+use row_forms::{compare, row_form};
 use row_values::Schema as TableSchema;
 use std::alloc::{AllocError, Global};
 use std::cmp::Ordering;
@@ -15,6 +18,32 @@ pub trait KeysBySchema {
     /// The key of a row of a table with this schema, in new memory.
     fn key(&self, alloc: Global, schema: &TableSchema, row: &[u8]) -> Result<Vec<u8>, AllocError>
         ensures { IfOk result (λ key. key.items ≡ key_of self.now schema.now row.now) };
+
+    /// How a key stands to that of a row of a table with this schema, which is read where it lies.
+    /// Takes no memory.
+    fn compare(&self, schema: &TableSchema, key: &[u8], row: &[u8]) -> Ordering
+        ensures { result ≡ by_bytes key.now (key_of self.now schema.now row.now) };
+}
+
+/// The sort forms of the keys of rows.
+#[derive(Clone, Copy, Debug)]
+pub struct RowForms;
+
+impl KeysBySchema for RowForms {
+    ghost key_of = { λ _ schema row. row_form schema row };
+
+    fn key(
+        &self,
+        alloc: Global,
+        schema: &TableSchema,
+        row: &[u8],
+    ) -> Result<Vec<u8>, AllocError> {
+        row_form(alloc, schema, row)
+    }
+
+    fn compare(&self, schema: &TableSchema, key: &[u8], row: &[u8]) -> Ordering {
+        compare(schema, key, row)
+    }
 }
 
 /// The keys of the rows of one table.
@@ -31,8 +60,7 @@ impl<K: KeysBySchema> RowKeys for KeysOf<'_, K> {
         self.keys.key(alloc, self.schema, row)
     }
 
-    fn compare(&self, alloc: Global, key: &[u8], row: &[u8]) -> Result<Ordering, AllocError> {
-        let other = self.keys.key(alloc, self.schema, row)?;
-        Ok(key.cmp(other.as_slice()))
+    fn compare(&self, key: &[u8], row: &[u8]) -> Ordering {
+        self.keys.compare(self.schema, key, row)
     }
 }

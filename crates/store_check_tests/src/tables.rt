@@ -9,6 +9,7 @@ use std::cmp::Ordering;
 use std::test::Fail;
 use store_check::{CheckError, KeysBySchema, check_table};
 use table_map::{RowKeys, TableMap};
+use tables::Rows;
 
 /// The keys of the rows, none of which is negative: the bytes of the first column.
 pub struct FirstColumn;
@@ -26,8 +27,8 @@ impl RowKeys for FirstColumn {
         first_column(row).to_vec(alloc)
     }
 
-    fn compare(&self, _: Global, key: &[u8], row: &[u8]) -> Result<Ordering, AllocError> {
-        Ok(key.cmp(first_column(row)))
+    fn compare(&self, key: &[u8], row: &[u8]) -> Ordering {
+        key.cmp(first_column(row))
     }
 }
 
@@ -36,6 +37,10 @@ impl KeysBySchema for FirstColumn {
 
     fn key(&self, alloc: Global, _: &Schema, row: &[u8]) -> Result<Vec<u8>, AllocError> {
         first_column(row).to_vec(alloc)
+    }
+
+    fn compare(&self, _: &Schema, key: &[u8], row: &[u8]) -> Ordering {
+        key.cmp(first_column(row))
     }
 }
 
@@ -132,8 +137,9 @@ pub fn checked<D: Disk>(alloc: Global, disk: &mut D, count: usize) -> Result<usi
         count,
     )?;
     let table = TableMap::new(alloc, pages);
-    match table.scan(alloc, &FirstColumn, &mut cache, disk) {
-        Ok(rows) => Ok(rows.len()),
+    let mut rows = Rows::new(alloc);
+    match table.scan_into(alloc, &FirstColumn, &mut cache, disk, &mut rows) {
+        Ok(()) => Ok(rows.len()),
         Err(_) => Err(CheckError::DeviceFailed),
     }
 }

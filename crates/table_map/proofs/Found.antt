@@ -2,6 +2,7 @@
 use Rattle.std.proofs.Common.{◌≡◌, ℕ, zero, suc, ◌+◌, ◌-◌, ◌*◌, ◌<◌, List, [], ◌∷◌, ◌++◌, length, get_or, Bool, true, false, cond, Some, None, refl, sym, ap, ◌∙◌, subst, arith, append_assoc, Less}
 use Rattle.std.proofs.lemmas.List.{append-nil}
 use Rattle.std.specs.List.{AllByRecursion}
+use Rattle.std.specs.List.Sorted.{IsStrictlySortedBy}
 use Rattle.std.specs.Ordering.{is_eq}
 use Rattle.std.specs.Cmp.Lexicographic.{nat_list_cmp_total}
 use Rattle.std.specs.Map.{keys_of}
@@ -28,7 +29,7 @@ last_above : (key : List ℕ) (a : Rows) (f : List ℕ × List ℕ) (fs : Rows) 
 last_above key [] f fs above = above.0
 last_above key (e ∷ es) f fs above = last_above key es f fs above.1
 
-apart : (q key f : List ℕ) → by_bytes key f ≡ Less → (by_bytes q f ≡ Less → ⊥) → is_eq (by_bytes q key) ≡ false
+pub apart : (q key f : List ℕ) → by_bytes key f ≡ Less → (by_bytes q f ≡ Less → ⊥) → is_eq (by_bytes q key) ≡ false
 apart q key f less past = by_tie (is_eq (by_bytes q key)) refl
   where
     by_tie : (b : Bool) → is_eq (by_bytes q key) ≡ b → b ≡ false
@@ -42,14 +43,23 @@ skip_front q (e ∷ es) f fs up past =
     skip (is_eq (by_bytes q e.0)) (Some e.1) (row_at q (es ++ (f ∷ fs))) (apart q e.0 f.0 (last_above e.0 es f fs (sorted_head by_bytes e.0 (keys_of (es ++ (f ∷ fs))) up)) past)
     ∙ skip_front q es f fs (sorted_tail by_bytes e.0 (keys_of (es ++ (f ∷ fs))) up) past
 
-behind_order : (a b : Rows) → InOrder (a ++ b) → InOrder b
+pub behind_order : (a b : Rows) → InOrder (a ++ b) → InOrder b
 behind_order [] b up = up
 behind_order (e ∷ es) b up = behind_order es b (sorted_tail by_bytes e.0 (keys_of (es ++ b)) up)
+
+front_above : (key : List ℕ) (a b : Rows) → Above key (a ++ b) → Above key a
+front_above key [] b above = tt
+front_above key (e ∷ es) b above = (above.0, front_above key es b above.1)
+
+front_order : (a b : Rows) → InOrder (a ++ b) → InOrder a
+unfolding IsStrictlySortedBy
+front_order [] b up = tt
+front_order (e ∷ es) b up = (front_above e.0 es b (sorted_head by_bytes e.0 (keys_of (es ++ b)) up), front_order es b (sorted_tail by_bytes e.0 (keys_of (es ++ b)) up))
 
 -- ---- pages
 
 module _ (key_of : List ℕ → List ℕ) (q : List ℕ) where
-  keyed_append : (a b : List (List ℕ)) → keyed_rows key_of (a ++ b) ≡ keyed_rows key_of a ++ keyed_rows key_of b
+  pub keyed_append : (a b : List (List ℕ)) → keyed_rows key_of (a ++ b) ≡ keyed_rows key_of a ++ keyed_rows key_of b
   keyed_append [] b = refl
   keyed_append (row ∷ rows) b = ap (λ (l : Rows). (key_of row, row) ∷ l) (keyed_append rows b)
 
@@ -82,6 +92,12 @@ module _ (key_of : List ℕ → List ℕ) (q : List ℕ) where
       ap (λ (l : Rows). row_at q l) joined
       ∙ found_at (front ++ keyed_rows key_of page) pages i some.1 (subst (λ (l : Rows). InOrder l) joined up) (omega arith) past (λ more. before (omega arith))
 
+  page_order : (pages : List (List (List ℕ))) (i : ℕ) → InOrder (keyed_rows key_of (rows_over pages)) → i < length pages → InOrder (keyed_rows key_of (get_or pages i []))
+  page_order [] i up low = absurd (omega (arith, low))
+  page_order (page ∷ pages) zero up low = front_order (keyed_rows key_of page) (keyed_rows key_of (rows_over pages)) (subst (λ (l : Rows). InOrder l) (keyed_append page (rows_over pages)) up)
+  page_order (page ∷ pages) (suc i) up low =
+      page_order pages i (behind_order (keyed_rows key_of page) (keyed_rows key_of (rows_over pages)) (subst (λ (l : Rows). InOrder l) (keyed_append page (rows_over pages)) up)) (omega (arith, low))
+
   -- a page where it lies
   pub page_there : (file : List ℕ) (at : ℕ) (pages : List (List (List ℕ))) (i : ℕ) → AreAt file at pages → i < length pages → IsPage (record { kind = kind.Rows; rows = get_or pages i [] }) (part file (at + 8192 * i) 8192)
   page_there file at [] i are low = absurd (omega arith)
@@ -104,6 +120,9 @@ module _ (key_of : List ℕ → List ℕ) (q : List ℕ) where
         found_at [] pages i is.some is.order (omega (arith, place.within, as_many, next))
         (λ less. place.behind (omega arith) (ap (λ k. by_bytes q (get_or places.keys k [])) last ∙ ap (λ (l : List (List ℕ)). by_bytes q (get_or l i [])) is.first ∙ less))
         (λ more. ap (λ (l : List (List ℕ)). by_bytes q (get_or l (suc i) [])) (sym is.first) ∙ ap (λ k. by_bytes q (get_or places.keys k [])) (sym next) ∙ place.before (omega (arith, as_many, next, more)))
+
+    pub in_order : (i : ℕ) → n ≡ suc i → InOrder (keyed_rows key_of (get_or pages i []))
+    in_order i next = page_order pages i is.order (omega (arith, place.within, as_many, next))
 
     pub lies_at : (i : ℕ) → n ≡ suc i → IsPage (record { kind = kind.Rows; rows = get_or pages i [] }) (part file (places.at + 8192 * i) 8192)
     lies_at i next = page_there file places.at pages i is.stand (omega (arith, place.within, as_many, next))

@@ -42,10 +42,10 @@ is_greater Less e = absurd cc
 is_greater Equal e = absurd cc
 is_greater Greater e = refl
 
-all_above : {X : Type 0} (k key : List ℕ) (x : X) (rest : List (List ℕ × X)) → by_bytes k key ≡ Less → InOrder ((key, x) ∷ rest) → Above k ((key, x) ∷ rest)
+pub all_above : {X : Type 0} (k key : List ℕ) (x : X) (rest : List (List ℕ × X)) → by_bytes k key ≡ Less → InOrder ((key, x) ∷ rest) → Above k ((key, x) ∷ rest)
 all_above k key x rest less up = (less, weaker (λ y. by_bytes key y ≡ Less) (λ y. by_bytes k y ≡ Less) (keys_of rest) (λ y lt. nat_list_cmp_total.trans k key y less lt) (sorted_head by_bytes key (keys_of rest) up))
 
-mirrored : (a b : List ℕ) → by_bytes a b ≡ Greater → by_bytes b a ≡ Less
+pub mirrored : (a b : List ℕ) → by_bytes a b ≡ Greater → by_bytes b a ≡ Less
 mirrored a b greater = nat_list_cmp_total.antisymm b a ∙ ap ordering_reverse greater
 
 module _ (key_of : List ℕ → List ℕ) (file : List ℕ) where

@@ -2,5 +2,7 @@ pub mod Damaged
 mod Found
 mod Given
 mod Going
+mod Halved
 mod Opened
+mod Passed
 mod Told

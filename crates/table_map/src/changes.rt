@@ -2,8 +2,11 @@
 ghost use Rattle.std.specs.Prelude.{◌≡◌};
 ghost use Rattle.key_map.specs.Walk.{rows_left};
 ghost use Rattle.table_map.specs.Walk.{IsFirstEntry, TakesEntry};
+ghost use Rattle.table_map.specs.Passing.{order_to};
 
+use crate::RowKeys;
 use key_map::Rows;
+use std::cmp::Ordering;
 use std::iter::Iterator;
 use std::marker::Model;
 
@@ -41,6 +44,16 @@ impl<'a> ChangesLeft<'a> {
         ensures { IsFirstEntry self.now result }
     {
         self.first
+    }
+
+    /// How the first one stands to a row: behind it where none is left.
+    pub(crate) fn stands_to<K: RowKeys>(&self, keys: &K, row: &[u8]) -> Ordering
+        ensures { result ≡ order_to (K.key_of keys.now row.now) self.now }
+    {
+        match self.first {
+            Some((key, _)) => keys.compare(key, row),
+            None => Ordering::Greater,
+        }
     }
 
     /// Gives the first one.

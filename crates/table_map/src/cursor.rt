@@ -71,17 +71,17 @@ fn of_row(row: Option<Vec<u8>>) -> Step
 
 impl<'a> RowCursor<'a> {
     /// Whose key comes first, where the rows of the page that was read are left.
-    fn smaller<K: RowKeys>(&self, alloc: Global, keys: &K) -> Result<Smaller, AllocError>
-        ensures { IfOk result (λ first. first ≡ smaller_of (K.key_of keys.now) self.now.base.rows self.now.changes) }
+    fn smaller<K: RowKeys>(&self, keys: &K) -> Smaller
+        ensures { result ≡ smaller_of (K.key_of keys.now) self.now.base.rows self.now.changes }
     {
         match (self.base.first(), self.changes.first()) {
-            (None, None) => Ok(Smaller::End),
-            (Some(_), None) => Ok(Smaller::Row),
-            (None, Some(_)) => Ok(Smaller::Change),
-            (Some(row), Some((key, _))) => match keys.compare(alloc, key, row)? {
-                Ordering::Less => Ok(Smaller::Change),
-                Ordering::Equal => Ok(Smaller::Both),
-                Ordering::Greater => Ok(Smaller::Row),
+            (None, None) => Smaller::End,
+            (Some(_), None) => Smaller::Row,
+            (None, Some(_)) => Smaller::Change,
+            (Some(row), Some((key, _))) => match keys.compare(key, row) {
+                Ordering::Less => Smaller::Change,
+                Ordering::Equal => Smaller::Both,
+                Ordering::Greater => Smaller::Row,
             },
         }
     }
@@ -95,7 +95,7 @@ impl<'a> RowCursor<'a> {
         ensures fewer { IfOk result (λ step. Falls step self.old self.new) }
     {
         changes_and_rows_in_turn();
-        match self.smaller(alloc, keys)? {
+        match self.smaller(keys) {
             Smaller::End => Ok(Step::End),
             Smaller::Row => Ok(of_row(self.base.take())),
             Smaller::Change => changed(alloc, self.changes.take()),

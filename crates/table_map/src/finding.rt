@@ -1,12 +1,11 @@
 //! Finding a key among first keys, and in a page.
-ghost use Rattle.std.specs.Prelude.{◌≡◌, ℕ, List, map, IfOk};
-ghost use Rattle.key_map.specs.Merging.{row_at};
+ghost use Rattle.std.specs.Prelude.{◌≡◌, ℕ, List, map};
+ghost use Rattle.key_map.specs.Merging.{InOrder, row_at};
 ghost use Rattle.table_map.specs.Keyed.{keyed_rows, seen};
 ghost use Rattle.table_map.specs.Places.{IsPlace};
 
 use crate::RowKeys;
-use row_pages::RowIter;
-use std::alloc::{AllocError, Global};
+use row_pages::KeptPage;
 use std::cmp::Ordering;
 
 /// How many of the keys, which rise, come in front of the place of this one. Halves the keys that are
@@ -27,20 +26,21 @@ pub(crate) fn place_of(keys: &[Vec<u8>], key: &[u8]) -> usize
     low
 }
 
-/// The row of a key among rows.
-pub(crate) fn find_row<'p, K: RowKeys>(
-    alloc: Global,
-    keys: &K,
-    rows: RowIter<'p>,
-    key: &[u8],
-) -> Result<Option<&'p [u8]>, AllocError>
-    ensures { IfOk result (λ row. seen row ≡ row_at key.now (keyed_rows (K.key_of keys.now) rows.entry)) }
+/// The row of a key in a page whose keys rise. Halves the rows that are left at each step, and takes no
+/// memory.
+pub(crate) fn find_row<'p, K: RowKeys>(keys: &K, page: &'p KeptPage, key: &[u8]) -> Option<&'p [u8]>
+    ensures { InOrder (keyed_rows (K.key_of keys.now) page.now.rows) → seen result ≡ row_at key.now (keyed_rows (K.key_of keys.now) page.now.rows) }
 {
-    let mut left = rows;
-    while let Some(row) = left.next() {
-        if keys.compare(alloc, key, row)? == Ordering::Equal {
-            return Ok(Some(row));
+    let mut low = 0;
+    let mut high = page.len();
+    while low < high {
+        let middle = low + (high - low) / 2;
+        let row = page.row(middle);
+        match keys.compare(key, row) {
+            Ordering::Less => high = middle,
+            Ordering::Equal => return Some(row),
+            Ordering::Greater => low = middle + 1,
         }
     }
-    Ok(None)
+    None
 }

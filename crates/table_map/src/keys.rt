@@ -14,7 +14,7 @@ pub trait RowKeys {
     fn key(&self, alloc: Global, row: &[u8]) -> Result<Vec<u8>, AllocError>
         ensures { IfOk result (λ key. key.items ≡ key_of self.now row.now) };
 
-    /// How a key stands to that of a row.
-    fn compare(&self, alloc: Global, key: &[u8], row: &[u8]) -> Result<Ordering, AllocError>
-        ensures { IfOk result (λ order. order ≡ by_bytes key.now (key_of self.now row.now)) };
+    /// How a key stands to that of a row, which is read where it lies. Takes no memory.
+    fn compare(&self, key: &[u8], row: &[u8]) -> Ordering
+        ensures { result ≡ by_bytes key.now (key_of self.now row.now) };
 }

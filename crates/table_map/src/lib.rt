@@ -8,12 +8,15 @@ mod finding;
 mod keys;
 mod laws;
 mod opening;
+mod page_scan;
 mod pages;
 mod scan;
+mod schema_keys;
 mod table;
 
 pub use cursor::RowCursor;
 pub use keys::RowKeys;
 pub use laws::stored_tables_are_whole;
 pub use pages::TablePages;
+pub use schema_keys::SchemaKeys;
 pub use table::TableMap;

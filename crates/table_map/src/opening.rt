@@ -54,7 +54,7 @@ fn first_key_at<K: RowKeys, D: Disk>(
 }
 
 /// Puts bytes behind others.
-pub(crate) fn push_bytes(list: &mut Vec<Vec<u8>>, bytes: Vec<u8>) -> Result<(), PageFault>
+fn push_bytes(list: &mut Vec<Vec<u8>>, bytes: Vec<u8>) -> Result<(), PageFault>
     ensures items { OnOk result (list.new.items ≡ list.old.items ++ bytes ∷ []) }
     ensures fault { IfErr result (λ fault. fault ≡ NoMemory) }
     ensures cause { (n : ℕ) → CountsPageFault result n n }

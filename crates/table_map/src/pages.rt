@@ -5,7 +5,7 @@ ghost use Rattle.drda_disk.specs.Disk.{Stays};
 ghost use Rattle.row_pages.specs.Page.{IsPage};
 ghost use Rattle.row_pages.specs.Laying.{rows_over};
 ghost use Rattle.row_pages.specs.Keeping.{AreRead, CountsPageFault, TellsDamage};
-ghost use Rattle.key_map.specs.Merging.{row_at};
+ghost use Rattle.key_map.specs.Merging.{InOrder, row_at};
 ghost use Rattle.table_map.specs.Damage.{DamagedWhere, LacksPage};
 ghost use Rattle.table_map.specs.Keyed.{keyed_rows, copied};
 ghost use Rattle.table_map.specs.Stored.{IsStored};
@@ -43,9 +43,9 @@ fn copy_found<K: RowKeys>(
     page: &KeptPage,
     key: &[u8],
 ) -> Result<Option<Vec<u8>>, AllocError>
-    ensures { IfOk result (λ row. copied row ≡ row_at key.now (keyed_rows (K.key_of keys.now) page.now.rows)) }
+    ensures { InOrder (keyed_rows (K.key_of keys.now) page.now.rows) → IfOk result (λ row. copied row ≡ row_at key.now (keyed_rows (K.key_of keys.now) page.now.rows)) }
 {
-    match find_row(alloc, keys, page.page_ref().rows(), key)? {
+    match find_row(keys, page, key) {
         Some(row) => Ok(Some(row.to_vec(alloc)?)),
         None => Ok(None),
     }
@@ -62,7 +62,7 @@ fn row_in_page<K: RowKeys, D: Disk>(
 ) -> Result<Option<Vec<u8>>, PageFault>
     requires { at + 8192 ≤ length (D.life disk.old).seen }
     ensures found { (rows : List (List ℕ)) → IsTrue D.is_modelled → AreRead cache.old (D.life disk.old).seen → IsPage (record { kind = PageKind.Rows; rows = rows }) (part (D.life disk.old).seen at 8192)
-        → IfOk result (λ row. copied row ≡ row_at key.now (keyed_rows (K.key_of keys.now) rows)) }
+        → InOrder (keyed_rows (K.key_of keys.now) rows) → IfOk result (λ row. copied row ≡ row_at key.now (keyed_rows (K.key_of keys.now) rows)) }
     ensures damaged { IsTrue D.is_modelled → TellsDamage (part (D.life disk.old).seen at 8192) result }
     ensures kept { IsTrue D.is_modelled → AreRead cache.old (D.life disk.old).seen → AreRead cache.new (D.life disk.new).seen }
     ensures stays { Stays (D.life disk.old) (D.life disk.new) }
@@ -83,6 +83,21 @@ impl TablePages {
         ensures { result ≡ record { at = at; keys = map (λ key. key.items) first_keys.items } }
     {
         TablePages { at, first_keys }
+    }
+
+    /// Where the first page lies.
+    pub(crate) fn at(&self) -> usize
+        ensures at { result ≡ self.now.at }
+        ensures small { result + 8192 * length self.now.keys ≤ 2 ^ 40 }
+    {
+        self.at
+    }
+
+    /// How many pages there are.
+    pub(crate) fn count(&self) -> usize
+        ensures { result ≡ length self.now.keys }
+    {
+        self.first_keys.len()
     }
 
     /// The rows of all pages, none of which is read yet.

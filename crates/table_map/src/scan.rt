@@ -1,5 +1,5 @@
 //! All rows of a table.
-ghost use Rattle.std.specs.Prelude.{◌≡◌, ◌+◌, ◌*◌, ◌≤◌, ◌∷◌, ℕ, List, IsTrue, IfOk, OnOk, length, map};
+ghost use Rattle.std.specs.Prelude.{◌≡◌, ◌+◌, ◌*◌, ◌≤◌, ◌++◌, ◌∷◌, ℕ, List, IsTrue, IfOk, OnOk, length};
 ghost use Rattle.drda_disk.specs.Disk.{Stays};
 ghost use Rattle.std.specs.List.{AllByRecursion};
 ghost use Rattle.row_pages.specs.Laying.{IsShort, counted, laid, pages_with};
@@ -10,11 +10,12 @@ ghost use Rattle.table_map.specs.Stored.{IsStored};
 ghost use Rattle.table_map.specs.Table.{rows_of_table, without_keys};
 
 use crate::changes::ChangesLeft;
-use crate::opening::push_bytes;
+use crate::page_scan::{push_rest, scan_page};
 use crate::{RowCursor, RowKeys, TableMap};
 use drda_disk::Disk;
-use row_pages::{PageCache, PageCount, PageFault};
+use row_pages::{PAGE_BYTES, PageCache, PageCount, PageFault};
 use std::alloc::Global;
+use tables::Rows;
 
 /// The bytes of the longest row that stands in a page.
 const LONGEST_ROW_BYTES: usize = 8_187;
@@ -46,29 +47,40 @@ impl TableMap {
         }
     }
 
-    /// All rows in the order of their keys, in new memory. Each page is looked at once. `Damaged` is
-    /// told only where one of the table's pages is no page or has no rows.
-    pub fn scan<K: RowKeys, D: Disk>(
+    /// All rows in the order of their keys, put behind those of a list. Each page is looked at once,
+    /// and its rows are put there from where they lie. `Damaged` is told only where one of the
+    /// table's pages is no page or has no rows. After a fault no promise is made of the rows that
+    /// were put behind the others.
+    pub fn scan_into<K: RowKeys, D: Disk>(
         &self,
         alloc: Global,
         keys: &K,
         cache: &mut PageCache,
         disk: &mut D,
-    ) -> Result<Vec<Vec<u8>>, PageFault>
+        rows: &mut Rows,
+    ) -> Result<(), PageFault>
         requires { self.now.places.at + 8192 * length self.now.places.keys ≤ length (D.life disk.old).seen }
         ensures rows { (pages : List (List (List ℕ))) → IsTrue D.is_modelled → AreRead cache.old (D.life disk.old).seen → IsStored (K.key_of keys.now) self.now.places pages (D.life disk.old).seen
-            → IfOk result (λ rows. map (λ row. row.items) rows.items ≡ without_keys (rows_of_table (K.key_of keys.now) self.now pages)) }
+            → OnOk result (rows.new ≡ rows.old ++ without_keys (rows_of_table (K.key_of keys.now) self.now pages)) }
         ensures damaged { IsTrue D.is_modelled → AreRead cache.old (D.life disk.old).seen → DamagedWhere (SomePage HasNoRows (D.life disk.old).seen self.now.places.at (length self.now.places.keys)) result }
         ensures kept { IsTrue D.is_modelled → AreRead cache.old (D.life disk.old).seen → AreRead cache.new (D.life disk.new).seen }
         ensures stays { Stays (D.life disk.old) (D.life disk.new) }
         ensures cause { CountsPageFault result (D.life disk.old).faults (D.life disk.new).faults }
     {
-        let mut cursor = self.rows(alloc);
-        let mut rows = Vec::new(alloc);
-        while let Some(row) = cursor.next(alloc, keys, cache, disk)? {
-            push_bytes(&mut rows, row)?;
+        let at = self.pages.at();
+        let mut changes = ChangesLeft::new(self.overlay.entries());
+        for page in 0..self.pages.count() {
+            scan_page(
+                alloc,
+                keys,
+                cache,
+                disk,
+                at + PAGE_BYTES * page,
+                &mut changes,
+                rows,
+            )?;
         }
-        Ok(rows)
+        push_rest(&mut changes, rows)
     }
 
     /// How many pages all rows take when they are laid anew, one behind another; nothing is written.

@@ -6,4 +6,6 @@ mod lookups;
 #[cfg(test)]
 mod scans;
 #[cfg(test)]
+mod schemas;
+#[cfg(test)]
 mod tables;

@@ -7,6 +7,7 @@ use std::alloc::{AllocError, Global};
 use std::cmp::Ordering;
 use std::test::Fail;
 use table_map::{RowKeys, TableMap, TablePages};
+use tables::Rows;
 
 /// Keys of one byte: the first one of each row.
 pub struct FirstByte;
@@ -24,8 +25,8 @@ impl RowKeys for FirstByte {
         first_byte(row).to_vec(alloc)
     }
 
-    fn compare(&self, _: Global, key: &[u8], row: &[u8]) -> Result<Ordering, AllocError> {
-        Ok(key.cmp(first_byte(row)))
+    fn compare(&self, key: &[u8], row: &[u8]) -> Ordering {
+        key.cmp(first_byte(row))
     }
 }
 
@@ -109,16 +110,17 @@ pub fn scans<D: Disk>(
 ) -> Result<bool, PageFault> {
     let mut cache = PageCache::new(alloc, 2).map_err(|_| PageFault::NoMemory)?;
     let table = changed_table(alloc, &mut cache, disk, changes)?;
-    let rows = table.scan(alloc, &FirstByte, &mut cache, disk)?;
+    let mut rows = Rows::new(alloc);
+    table.scan_into(alloc, &FirstByte, &mut cache, disk, &mut rows)?;
     Ok(are_same(&rows, want))
 }
 
-fn are_same(rows: &[Vec<u8>], want: &[&[u8]]) -> bool {
+fn are_same(rows: &Rows, want: &[&[u8]]) -> bool {
     if rows.len() != want.len() {
         return false;
     }
-    for (row, want) in rows.iter().zip(want) {
-        if row.as_slice() != *want {
+    for i in 0..rows.len() {
+        if rows.row(i) != want[i] {
             return false;
         }
     }

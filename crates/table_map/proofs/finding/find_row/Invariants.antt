@@ -1,11 +1,16 @@
-use Rattle.std.proofs.Common.{◌≡◌}
-use Rattle.key_map.specs.Merging.{row_at}
-use Rattle.table_map.specs.Keyed.{keyed_rows}
+-- The key comes behind the row in front of the part that is left, and before the one behind it.
+use Rattle.std.proofs.Common.{◌≡◌, ℕ, List, ◌-◌, ◌<◌, ◌≤◌, length, Some, Less, Greater}
+use Rattle.std.specs.List.{slice_get}
+use Rattle.key_map.specs.Slots.{by_bytes}
 use Rattle.table_map.proofs.finding.find_row.Given as goal
 
-abbrev pub invariant-loop-row : goal.invariant-loop-row
-invariant-loop-row g l = record {
-  next : (goal.iterator-loop-row g).can_next l.left;
-  finite : (goal.iterator-loop-row g).is_finite l.left;
-  same : row_at l.key (keyed_rows (g.K.RowKeys.key_of l.keys) l.left) ≡ row_at l.key (keyed_rows (g.K.RowKeys.key_of l.keys) l.initial.left);
+abbrev pub invariant-loop-low : goal.invariant-loop-low
+invariant-loop-low g l = record {
+  between : l.low ≤ l.high;
+  within : l.high ≤ length l.page.rows;
+  behind : (row : List ℕ) → 0 < l.low → slice_get l.page.rows (l.low - 1) ≡ Some row → by_bytes l.key (g.K.RowKeys.key_of l.keys row) ≡ Greater;
+  before : (row : List ℕ) → slice_get l.page.rows l.high ≡ Some row → by_bytes l.key (g.K.RowKeys.key_of l.keys row) ≡ Less;
 }
+
+abbrev pub decreases-loop-low : goal.decreases-loop-low
+decreases-loop-low g l = l.high - l.low

@@ -1,4 +1,4 @@
-use Rattle.std.proofs.Common.{rules, ◌≡◌, inr, ℕ, suc, ◌+◌, ◌<◌, List, [], map, sym, ap, ◌∙◌, subst, arith, deque_len}
+use Rattle.std.proofs.Common.{rules, inr, ◌+◌, sym, ap, ◌∙◌, subst, arith, deque_len}
 use Rattle.std.proofs.lemmas.Bool.{eqb-true}
 use Rattle.drda_words.specs.Place.{part}
 use Rattle.row_pages.specs.Page.{IsPage}

@@ -1,10 +1,9 @@
 use Rattle.std.proofs.Common.{rules, arith, ◌≡◌, ℕ, List, [], ◌∷◌, length, refl, sym, ap, ◌∙◌, subst}
-use Rattle.std.specs.List.{AllByRecursion}
 use Rattle.drda_disk.proofs.Moments.{Stays-refl, Stays-trans}
 use Rattle.row_pages.specs.Laying.{IsShort, pages_with}
 use Rattle.table_map.specs.Cursor.{IsLeft, GoesOn}
 use Rattle.table_map.specs.Damage.{HasNoRows, SomePage}
-use Rattle.table_map.specs.Table.{rows_of_table, without_keys}
+use Rattle.table_map.specs.Table.{rows_of_table}
 use Rattle.table_map.proofs.Damaged.{handed_on, of_left, stored_is_whole}
 use Rattle.table_map.proofs.Given.{one_counted, one_short, all_counted}
 use Rattle.table_map.proofs.table.TableMap.page_count.Goals as goal

@@ -1,0 +1,5 @@
+//! Tests of row_forms.
+#![tactic(auto)]
+
+#[cfg(test)]
+mod forms;

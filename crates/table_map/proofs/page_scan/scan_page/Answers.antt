@@ -1,0 +1,21 @@
+use Rattle.std.proofs.Common.{◌≡◌, List, ℕ, [], ◌∷◌, length, arith, subst}
+use Rattle.row_pages.specs.Page.{Page}
+use Rattle.row_pages.specs.declared.page.PageKind.TheVariants as kind
+use Rattle.row_pages.proofs.PageBytes.{one_page}
+use Rattle.table_map.specs.Passing.{Passes}
+use Rattle.table_map.proofs.Damaged.{no_rows}
+use Rattle.table_map.proofs.page_scan.scan_page.Goals as goal
+
+none_left : (rows : List (List ℕ)) → length rows ≡ 0 → rows ≡ []
+none_left [] is = cc
+none_left (row ∷ rows) is = absurd (omega (arith, is))
+
+pub returns-then-len-eq0-clause-damaged : goal.returns-then-len-eq0-clause-damaged
+returns-then-len-eq0-clause-damaged g c honest read =
+    no_rows c.in_ok-page.page.now _ (c.in_ok-page.ensures.page honest read) (none_left c.in_ok-page.page.now.rows (omega (arith, c.len.ensures, c.if-len-eq0.true)))
+
+pub returns-in-Ok-clause-rows : goal.returns-in-Ok-clause-rows
+returns-in-Ok-clause-rows g c page honest read is =
+    let key_of = g.K.RowKeys.key_of c.args.keys.now in
+    let same = one_page c.in_ok-page.page.now (record { kind = kind.Rows; rows = page }) _ (c.in_ok-page.ensures.page honest read) is in
+    subst (λ (p : Page). Passes key_of p.rows c.args.changes.now c.push_page.new.changes c.args.rows.now c.push_page.new.rows) same c.in-Ok.ensures

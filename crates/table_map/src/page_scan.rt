@@ -1,0 +1,118 @@
+//! The rows of one page, put behind others with the changes in front of each.
+ghost use Rattle.std.specs.Prelude.{◌≡◌, ◌+◌, ◌≤◌, ◌++◌, ◌∷◌, [], ℕ, List, IsTrue, IfErr, OnOk, length, map};
+ghost use Rattle.drda_words.specs.Place.{part};
+ghost use Rattle.drda_disk.specs.Disk.{Stays};
+ghost use Rattle.row_pages.specs.Page.{IsPage};
+ghost use Rattle.row_pages.specs.Keeping.{AreRead, CountsPageFault};
+ghost use Rattle.row_pages.specs.declared.kept.PageFault.TheVariants.{NoMemory};
+ghost use Rattle.key_map.specs.Merging.{InOrder, merged};
+ghost use Rattle.key_map.specs.Overlay.{change_of};
+ghost use Rattle.table_map.specs.Damage.{DamagedWhere, HasNoRows};
+ghost use Rattle.table_map.specs.Passing.{Passes, row_said};
+ghost use Rattle.table_map.specs.Table.{without_keys};
+
+use crate::RowKeys;
+use crate::changes::ChangesLeft;
+use drda_disk::Disk;
+use key_map::laws::changes_and_rows_in_turn;
+use row_pages::{KeptPage, PageCache, PageFault, PageKind};
+use std::alloc::{AllocError, Global};
+use std::cmp::Ordering;
+use tables::Rows;
+
+/// Puts the row of a change behind others, if it is one.
+fn push_change(rows: &mut Rows, entry: Option<(&[u8], &[u8])>) -> Result<(), AllocError>
+    ensures { OnOk result (rows.new ≡ rows.old ++ row_said entry.entry) }
+{
+    match entry {
+        None => Ok(()),
+        Some((_, [])) => Ok(()),
+        Some((_, row)) => rows.push(row),
+    }
+}
+
+/// Puts a row behind others, with the changes in front of it or in its place.
+fn push_row<K: RowKeys>(
+    keys: &K,
+    row: &[u8],
+    changes: &mut ChangesLeft<'_>,
+    rows: &mut Rows,
+) -> Result<(), AllocError>
+    ensures { OnOk result (Passes (K.key_of keys.now) (row.now ∷ []) changes.old changes.new rows.old rows.new) }
+{
+    changes_and_rows_in_turn();
+    loop {
+        match changes.stands_to(keys, row) {
+            Ordering::Less => push_change(rows, changes.take())?,
+            Ordering::Equal => return push_change(rows, changes.take()),
+            Ordering::Greater => return rows.push(row),
+        }
+    }
+}
+
+/// Puts the rows of a page behind others, with the changes in front of them or in their place.
+fn push_page<K: RowKeys>(
+    keys: &K,
+    page: &KeptPage,
+    changes: &mut ChangesLeft<'_>,
+    rows: &mut Rows,
+) -> Result<(), AllocError>
+    ensures { OnOk result (Passes (K.key_of keys.now) page.now.rows changes.old changes.new rows.old rows.new) }
+{
+    for i in 0..page.len() {
+        push_row(keys, page.row(i), changes, rows)?;
+    }
+    Ok(())
+}
+
+/// Puts the rows of the page at an offset behind others, with the changes in front of them or in their
+/// place. A page without rows is damaged.
+pub(crate) fn scan_page<K: RowKeys, D: Disk>(
+    alloc: Global,
+    keys: &K,
+    cache: &mut PageCache,
+    disk: &mut D,
+    at: usize,
+    changes: &mut ChangesLeft<'_>,
+    rows: &mut Rows,
+) -> Result<(), PageFault>
+    requires { at + 8192 ≤ length (D.life disk.old).seen }
+    ensures rows { (page : List (List ℕ)) → IsTrue D.is_modelled → AreRead cache.old (D.life disk.old).seen → IsPage (record { kind = PageKind.Rows; rows = page }) (part (D.life disk.old).seen at 8192)
+        → OnOk result (Passes (K.key_of keys.now) page changes.old changes.new rows.old rows.new) }
+    ensures damaged { IsTrue D.is_modelled → AreRead cache.old (D.life disk.old).seen → DamagedWhere (HasNoRows (part (D.life disk.old).seen at 8192)) result }
+    ensures kept { IsTrue D.is_modelled → AreRead cache.old (D.life disk.old).seen → AreRead cache.new (D.life disk.new).seen }
+    ensures stays { Stays (D.life disk.old) (D.life disk.new) }
+    ensures cause { CountsPageFault result (D.life disk.old).faults (D.life disk.new).faults }
+{
+    let page = cache.page(alloc, disk, at)?;
+    if page.len() == 0 {
+        return Err(PageFault::Damaged);
+    }
+    match push_page(keys, page, changes, rows) {
+        Ok(()) => Ok(()),
+        Err(_) => Err(PageFault::NoMemory),
+    }
+}
+
+/// Puts the rows of all changes that are left behind others.
+fn push_changes(changes: &mut ChangesLeft<'_>, rows: &mut Rows) -> Result<(), AllocError>
+    ensures { OnOk result (InOrder (map change_of changes.old) → rows.new ≡ rows.old ++ without_keys (merged [] (map change_of changes.old))) }
+{
+    changes_and_rows_in_turn();
+    while let Some(entry) = changes.take() {
+        push_change(rows, Some(entry))?;
+    }
+    Ok(())
+}
+
+/// The same, with the fault that it may be.
+pub(crate) fn push_rest(changes: &mut ChangesLeft<'_>, rows: &mut Rows) -> Result<(), PageFault>
+    ensures rows { OnOk result (InOrder (map change_of changes.old) → rows.new ≡ rows.old ++ without_keys (merged [] (map change_of changes.old))) }
+    ensures fault { IfErr result (λ fault. fault ≡ NoMemory) }
+    ensures cause { (n : ℕ) → CountsPageFault result n n }
+{
+    match push_changes(changes, rows) {
+        Ok(()) => Ok(()),
+        Err(_) => Err(PageFault::NoMemory),
+    }
+}
