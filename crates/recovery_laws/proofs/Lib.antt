@@ -22,3 +22,4 @@ pub mod Reading
 pub mod Adding
 pub mod Going
 pub mod Making
+pub mod Beginning

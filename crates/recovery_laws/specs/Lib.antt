@@ -5,3 +5,4 @@ pub mod StepLaws
 pub mod Opens
 pub mod Journaled
 pub mod ImageLaws
+pub mod Openings
