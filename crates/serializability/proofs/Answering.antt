@@ -5,6 +5,7 @@ use Rattle.row_values.specs.Column.{Column}
 use Rattle.row_values.specs.Schema.{Schema}
 use Rattle.sql_text.specs.declared.tree.Command.{Command}
 use Rattle.tables.specs.Change.{Change}
+use Rattle.tables.specs.RowList.{RowList}
 use Rattle.tables.specs.Tables.{Store, schema_of}
 use Rattle.unit_locks.specs.Claim.{Claim}
 use Rattle.unit_locks.specs.Claims.{all_added}
@@ -36,44 +37,90 @@ use Rattle.core_model.specs.Laws.{AsksNone, InDoubtWait, IsPrepared, answered, i
 use Rattle.core_model.proofs.Keeping.{NoAsks, of_commit, of_lost, of_roll_back, of_xa}
 use Rattle.core_model.proofs.Owners.{both, which}
 use Rattle.serializability.specs.Words.{Laws, apply_all, clashes}
-use Rattle.serializability.specs.Events.{Commit, Event, Leave, World, asked_in, happens, outcome}
+use Rattle.serializability.specs.Events.{Commit, Ended, Entry, Event, Leave, World, asked_in, happens, log_set, lost, outcome}
 use Rattle.serializability.specs.Events as unit
 use Rattle.serializability.specs.Serial.{AllLie, Serially}
 use Rattle.serializability.specs.Steps.{run_events}
 use Rattle.serializability.specs.CoreWords.{core_units, core_words, events_of, question_events, to_work}
 use Rattle.serializability.specs.Histories.{Story, base_of, core_of, is_prepared, story, told, told_by}
-use Rattle.serializability.specs.Answered.{AnswersAreSerial, AnsweredCall, AreAnswers, Begins, CallsLead, CallsLeadOn, IsAnswer, Logbook, LogsAreAnswers, MeantIsDone, UnfitIsTheSame, all_ended, all_logged, book_of, committed, ended_by, entered, history_of, logged, logged_for, new_book, story_at, unfit_call, was_done}
+use Rattle.serializability.specs.Answered.{AnsweredCall, AnswersTell, AreAnswers, Begins, CallsLead, CallsLeadOn, IsAnswer, IsTold, UnfitIsTheSame, history_of, is_counted, story_at, was_counted, was_done}
 use Rattle.serializability.proofs.CoreUnits.{same_clashes, same_view}
 use Rattle.serializability.proofs.CoreHistories.{Fine, fine_by, fine_start, histories_are_serial, not_prepared, prepared_so}
 use Rattle.serializability.proofs.Steady.{to_frame}
 
--- ---- what is done is answered by what it means
+-- ---- the logs beside a store and units, by the calls and their answers
 
-meant_so : (m : Meant) → is_meant (meant m) ≡ true
-meant_so (Refused f) = refl
-meant_so (Changes xs n) = refl
-meant_so (Rows l) = refl
+pub record Ghosts : Type 0 where
+  pub logs : Owner → List (Entry core_words)
+  pub found : Owner → Bool
+  pub ended : List (Ended core_words)
 
-types_so : (b : Bool) (types : List ParameterType) → is_meant (asked.told (unless b fault.LimitReached (Ok (reply.input types)))) ≡ true
-types_so true types = refl
-types_so false types = refl
+abbrev pub ghosts_of : World core_words core_units → Ghosts
+ghosts_of m = record { logs = m.logs; found = m.found; ended = m.ended }
 
-side_so : (d : Side) (schema : Schema) (c : Command) (cs : List Column) → is_meant (asked.told (side_of d schema c cs)) ≡ true
-side_so side.Output schema c cs = refl
-side_so side.Input schema c cs = types_so (nat_le (length (parameter_types schema.columns c)) 128) (parameter_types schema.columns c)
+abbrev pub noted : Owner → Question → Answer → Ghosts → Ghosts
+noted o q a g = if is_meant a then record g { logs = log_set core_words core_units o (g.logs o ++ record { call = q; answer = a } ∷ []) g.logs } else g
 
-columns_so : (d : Side) (schema : Schema) (c : Command) (r : Checked (List Column)) → is_meant (asked.told (and_then r (side_of d schema c))) ≡ true
-columns_so d schema c (Ok cs) = side_so d schema c cs
-columns_so d schema c (Err f) = refl
+abbrev pub closed_by : CoreBase → CoreEvent → Ghosts → Ghosts
+closed_by b (core.Ask o q) g = g
+closed_by b (core.Commit o) g = record {
+  logs = log_set core_words core_units o [] g.logs;
+  found = lost core_words core_units o g.found;
+  ended = g.ended ++ record { is_found = g.found o; log = g.logs o; work = to_work (unit_of o b.units) } ∷ [];
+}
+closed_by b (core.Leave o) g = record { logs = log_set core_words core_units o [] g.logs; found = lost core_words core_units o g.found; ended = g.ended }
 
-described_so : (d : Side) (c : Command) (o : Option Schema) → is_meant (asked.told (described d c o)) ≡ true
-described_so d c None = refl
-described_so d c (Some schema) = columns_so d schema c (described_columns schema c)
+abbrev pub all_closed : List CoreEvent → CoreBase → Ghosts → Ghosts
+all_closed [] b g = g
+all_closed (e ∷ es) b g = all_closed es (bare b e) (closed_by b e g)
 
-answer_so : (q : Question) (left : ℕ) (v : Store) → is_meant (answer_to q left v) ≡ true
-answer_so (running t params) left v = meant_so (covered_answer params left t.command v)
-answer_so (querying t params) left v = meant_so (covered_answer params left t.command v)
-answer_so (describing t d) left v = described_so d t.command (schema_of v (table_name t.command))
+abbrev pub noted_for : Option Question → CoreState → ℕ → Call → Answer → Ghosts → Ghosts
+noted_for (Some q) s c k a g = noted (owner_of s.branches c) q a g
+noted_for None s c k a g = all_closed (events s.branches s.base c k) s.base g
+
+abbrev pub noted_by : Mark → CoreState → ℕ → Call → Answer → Ghosts → Ghosts
+noted_by Taken s c k a g = noted_for (question_of k) s c k a g
+noted_by Kept s c k a g = g
+
+abbrev pub all_noted : List AnsweredCall → CoreState → Ghosts → Ghosts
+all_noted [] s g = g
+all_noted (l ∷ ls) s g = all_noted ls (step_by l.mark s l.conversation l.call) (noted_by l.mark s l.conversation l.call l.answer g)
+
+-- ---- what is done is answered by its meaning
+
+module _ (T : Answer → Bool) (faults : (f : SqlFault) → T (reply.refused (refusal.Meaning f)) ≡ true) (counts : (n : ℕ) → T (reply.count n) ≡ true) (shows : (l : RowList) → T (reply.rows l) ≡ true)
+    (columns : (cs : List Column) → T (reply.output cs) ≡ true) (types : (ts : List ParameterType) → T (reply.input ts) ≡ true) where
+  meant_so : (m : Meant) → T (meant m) ≡ true
+  meant_so (Refused f) = faults f
+  meant_so (Changes xs n) = counts n
+  meant_so (Rows l) = shows l
+
+  types_so : (b : Bool) (ts : List ParameterType) → T (asked.told (unless b fault.LimitReached (Ok (reply.input ts)))) ≡ true
+  types_so true ts = types ts
+  types_so false ts = faults fault.LimitReached
+
+  side_so : (d : Side) (schema : Schema) (c : Command) (cs : List Column) → T (asked.told (side_of d schema c cs)) ≡ true
+  side_so side.Output schema c cs = columns cs
+  side_so side.Input schema c cs = types_so (nat_le (length (parameter_types schema.columns c)) 128) (parameter_types schema.columns c)
+
+  columns_so : (d : Side) (schema : Schema) (c : Command) (r : Checked (List Column)) → T (asked.told (and_then r (side_of d schema c))) ≡ true
+  columns_so d schema c (Ok cs) = side_so d schema c cs
+  columns_so d schema c (Err f) = faults f
+
+  described_so : (d : Side) (c : Command) (o : Option Schema) → T (asked.told (described d c o)) ≡ true
+  described_so d c None = faults fault.TableUnknown
+  described_so d c (Some schema) = columns_so d schema c (described_columns schema c)
+
+  told_so : (q : Question) (left : ℕ) (v : Store) → T (answer_to q left v) ≡ true
+  told_so (running t params) left v = meant_so (covered_answer params left t.command v)
+  told_so (querying t params) left v = meant_so (covered_answer params left t.command v)
+  told_so (describing t d) left v = described_so d t.command (schema_of v (table_name t.command))
+
+pub answer_so : (q : Question) (left : ℕ) (v : Store) → is_meant (answer_to q left v) ≡ true
+answer_so = told_so is_meant (λ f. refl) (λ n. refl) (λ l. refl) (λ cs. refl) (λ ts. refl)
+
+pub answer_counts : (q : Question) (left : ℕ) (v : Store) → is_counted (answer_to q left v) ≡ true
+answer_counts = told_so is_counted (λ f. refl) (λ n. refl) (λ l. refl) (λ cs. refl) (λ ts. refl)
 
 -- ---- a question
 
@@ -81,68 +128,68 @@ module _ (ds : List Claim) (u : CoreWork) (cs : List Claim) (a : Answer) (xs : L
   theirs : Bool → Bool → CoreOutcome
   theirs p q = if p then asked.Clashes else (if q then asked.TooMany else asked.Done a (asked.kept u cs xs))
 
-  done_by : (p q : Bool) → is_meant (answer_in (theirs p q)) ≡ was_done (theirs p q)
+  told_by_cases : (p q : Bool) → is_counted a ≡ true → IsTold (theirs p q)
   unfolding theirs
-  done_by true q = refl
-  done_by false true = refl
-  done_by false false = meaning
+  told_by_cases true q counts = record { done = refl; counted = refl }
+  told_by_cases false true counts = record { done = refl; counted = refl }
+  told_by_cases false false counts = record { done = meaning; counted = counts }
 
-  done_fit : (e : Option SqlFault) → is_meant (answer_in (fit_or e (asked.outcome ds u cs a xs))) ≡ was_done (fit_or e (asked.outcome ds u cs a xs))
+  told_fit : (e : Option SqlFault) → is_counted a ≡ true → IsTold (fit_or e (asked.outcome ds u cs a xs))
   unfolding theirs
-  done_fit (Some f) = refl
-  done_fit None = done_by (units.clashes cs ds) (is_full (all_added u.claims cs))
+  told_fit (Some f) counts = record { done = refl; counted = refl }
+  told_fit None counts = told_by_cases (units.clashes cs ds) (is_full (all_added u.claims cs)) counts
 
   module _ (m : World core_words core_units) (o : Owner) (q : Question) where
     ours : Bool → Bool → unit.Outcome core_words
     ours p r = if p then unit.Clashes else if r then unit.TooMany else unit.Done a (record { changes = u.changes ++ xs; claims = core_words.added u.claims cs })
 
-    by_cases : (p r : Bool) → book_of (asked_in core_words core_units m o q (ours p r)) ≡ entered o q (answer_in (theirs p r)) (book_of m)
+    by_cases : (p r : Bool) → ghosts_of (asked_in core_words core_units m o q (ours p r)) ≡ noted o q (answer_in (theirs p r)) (ghosts_of m)
     unfolding theirs ours
     by_cases true r = refl
     by_cases false true = refl
     by_cases false false =
-        let book = book_of m in
-        let with_it : Bool → Logbook = λ t. if t then record book { logs = unit.log_set core_words core_units o (book.logs o ++ record { call = q; answer = a } ∷ []) book.logs } else book in
+        let book = ghosts_of m in
+        let with_it : Bool → Ghosts = λ t. if t then record book { logs = unit.log_set core_words core_units o (book.logs o ++ record { call = q; answer = a } ∷ []) book.logs } else book in
         sym (ap with_it meaning)
 
-    entered_so : book_of (asked_in core_words core_units m o q (outcome core_words ds (to_work u) cs a xs)) ≡ entered o q (answer_in (asked.outcome ds u cs a xs)) (book_of m)
+    noted_so : ghosts_of (asked_in core_words core_units m o q (outcome core_words ds (to_work u) cs a xs)) ≡ noted o q (answer_in (asked.outcome ds u cs a xs)) (ghosts_of m)
     unfolding theirs ours
-    entered_so =
+    noted_so =
         let full = is_full (core_words.added u.claims cs) in
-        sym (ap (λ p. book_of (asked_in core_words core_units m o q (ours p full))) (same_clashes cs ds)) ∙ by_cases (units.clashes cs ds) full
+        sym (ap (λ p. ghosts_of (asked_in core_words core_units m o q (ours p full))) (same_clashes cs ds)) ∙ by_cases (units.clashes cs ds) full
 
-pub meant_is_done : MeantIsDone
-meant_is_done b o q =
+pub answers_tell : AnswersTell
+answers_tell b o q =
     let u = unit_of o b.units in let v = units.view b.store u in
-    done_fit (others o b.units) u (claims_of q v) (answer_to q (left_of u) v) (changes_by q (left_of u) v) (answer_so q (left_of u) v) (unfit q)
+    told_fit (others o b.units) u (claims_of q v) (answer_to q (left_of u) v) (changes_by q (left_of u) v) (answer_so q (left_of u) v) (unfit q) (answer_counts q (left_of u) v)
 
 -- the question's event, over the store that the unit sees as both define it
 asked_so : (m : World core_words core_units) (o : Owner) (q : Question) → m.found o ≡ false
-    → book_of (happens core_words core_units m (unit.Ask o q)) ≡ entered o q (answer_in (let u = unit_of o m.units in let v = units.view m.store u in asked.outcome (others o m.units) u (claims_of q v) (answer_to q (left_of u) v) (changes_by q (left_of u) v))) (book_of m)
+    → ghosts_of (happens core_words core_units m (unit.Ask o q)) ≡ noted o q (answer_in (let u = unit_of o m.units in let v = units.view m.store u in asked.outcome (others o m.units) u (claims_of q v) (answer_to q (left_of u) v) (changes_by q (left_of u) v))) (ghosts_of m)
 asked_so m o q new =
     let u = unit_of o m.units in
     let ds = others o m.units in
     let at : Store → World core_words core_units = λ v. asked_in core_words core_units m o q (outcome core_words ds (to_work u) (claims_of q v) (answer_to q (left_of u) v) (changes_by q (left_of u) v)) in
     let v = units.view m.store u in
     let w = apply_all core_words u.changes m.store in
-    ap (λ b. book_of (if b then m else at w)) new
-    ∙ sym (ap (λ s. book_of (at s)) (same_view u.changes m.store))
-    ∙ entered_so ds u (claims_of q v) (answer_to q (left_of u) v) (changes_by q (left_of u) v) (answer_so q (left_of u) v) m o q
+    ap (λ b. ghosts_of (if b then m else at w)) new
+    ∙ sym (ap (λ s. ghosts_of (at s)) (same_view u.changes m.store))
+    ∙ noted_so ds u (claims_of q v) (answer_to q (left_of u) v) (changes_by q (left_of u) v) (answer_so q (left_of u) v) m o q
 
 question_so : (m : World core_words core_units) (o : Owner) (q : Question) (e : Option SqlFault) → m.found o ≡ false
-    → book_of (run_events core_words core_units (question_events e o q ++ []) m) ≡ entered o q (answer_in (fit_or e (let u = unit_of o m.units in let v = units.view m.store u in asked.outcome (others o m.units) u (claims_of q v) (answer_to q (left_of u) v) (changes_by q (left_of u) v)))) (book_of m)
+    → ghosts_of (run_events core_words core_units (question_events e o q ++ []) m) ≡ noted o q (answer_in (fit_or e (let u = unit_of o m.units in let v = units.view m.store u in asked.outcome (others o m.units) u (claims_of q v) (answer_to q (left_of u) v) (changes_by q (left_of u) v)))) (ghosts_of m)
 question_so m o q (Some f) new = refl
 question_so m o q None new = asked_so m o q new
 
 -- ---- ends
 
-ended_so : (es : List CoreEvent) (m : World core_words core_units) → NoAsks es → book_of (run_events core_words core_units (events_of es) m) ≡ all_ended es (base_of m) (book_of m)
+ended_so : (es : List CoreEvent) (m : World core_words core_units) → NoAsks es → ghosts_of (run_events core_words core_units (events_of es) m) ≡ all_closed es (base_of m) (ghosts_of m)
 ended_so [] m none = refl
 ended_so (core.Ask o q ∷ es) m none = absurd none
 ended_so (core.Commit o ∷ es) m none =
     let u = unit_of o m.units in
     ended_so es (happens core_words core_units m (Commit o)) none
-    ∙ sym (ap (λ (s : Store). all_ended es (record { store = s; units = units.without o m.units }) (ended_by (base_of m) (core.Commit o) (book_of m))) (same_view u.changes m.store))
+    ∙ sym (ap (λ (s : Store). all_closed es (record { store = s; units = units.without o m.units }) (closed_by (base_of m) (core.Commit o) (ghosts_of m))) (same_view u.changes m.store))
 ended_so (core.Leave o ∷ es) m none = ended_so es (happens core_words core_units m (Leave o)) none
 
 -- ---- a call
@@ -151,7 +198,7 @@ not_found : (s : Story) (o : Owner) → ((p : Owner) → s.world.found p ≡ tru
 not_found s o in_doubt none = ⊎_elim (λ so. both (is_prepared s.branches o) (in_doubt o so) (not_prepared s.branches o none)) (λ ne. ne) (which (s.world.found o))
 
 logged_so : (s : Story) (c : ℕ) (k : Call) → ((p : Owner) → s.world.found p ≡ true → is_prepared s.branches p ≡ true) → AsksNone (IsPrepared s.branches) (events s.branches (base_of s.world) c k)
-    → book_of (told s c k).world ≡ logged_for (question_of k) (core_of s) c k (answered (core_of s) c k) (book_of s.world)
+    → ghosts_of (told s c k).world ≡ noted_for (question_of k) (core_of s) c k (answered (core_of s) c k) (ghosts_of s.world)
 logged_so s c (call.run t params) found asks = let o = owner_of s.branches c in question_so s.world o (running t params) (unfit (running t params)) (not_found s o found asks.0)
 logged_so s c (call.query t params) found asks = let o = owner_of s.branches c in question_so s.world o (querying t params) (unfit (querying t params)) (not_found s o found asks.0)
 logged_so s c (call.describe t d) found asks = let o = owner_of s.branches c in question_so s.world o (describing t d) (unfit (describing t d)) (not_found s o found asks.0)
@@ -168,33 +215,35 @@ opening_lies s b o x i = let j = to_frame x (unit_of o s.base.units).changes i i
 opening_waits : (s : CoreState) → Begins s → (o : Owner) → has_work (unit_of o s.base.units) ≡ true → is_prepared s.branches o ≡ true
 opening_waits s b o works = let p = b.prepared o works in subst (λ (n : Owner). is_prepared s.branches n ≡ true) (sym p.1) (prepared_so s.branches p.0 p.2)
 
+abbrev pub no_ghosts : CoreState → Ghosts
+no_ghosts s = record { logs = λ o. []; found = λ o. has_work (unit_of o s.base.units); ended = [] }
+
 module _ (l : Laws core_words) (wait : InDoubtWait) (fits : ActionsFit) where
   by_mark : (first : Store) (mark : Mark) (s : Story) (c : ℕ) (k : Call) (a : Answer) → Fine l wait fits first s → IsAnswer mark (core_of s) c k a
-      → book_of (told_by mark s c k).world ≡ logged mark (core_of s) c k a (book_of s.world)
+      → ghosts_of (told_by mark s c k).world ≡ noted_by mark (core_of s) c k a (ghosts_of s.world)
   by_mark first Taken s c k a f is =
-      logged_so s c k f.in_doubt ((wait s.branches (base_of s.world) c k).asks f.rises) ∙ sym (ap (λ (b : Answer). logged_for (question_of k) (core_of s) c k b (book_of s.world)) is)
+      logged_so s c k f.in_doubt ((wait s.branches (base_of s.world) c k).asks f.rises) ∙ sym (ap (λ (b : Answer). noted_for (question_of k) (core_of s) c k b (ghosts_of s.world)) is)
   by_mark first Kept s c k a f is = refl
 
   all_so : (first : Store) (ls : List AnsweredCall) (s : Story) → Fine l wait fits first s → AreAnswers (core_of s) ls
-      → book_of (story (history_of ls) s).world ≡ all_logged ls (core_of s) (book_of s.world)
+      → ghosts_of (story (history_of ls) s).world ≡ all_noted ls (core_of s) (ghosts_of s.world)
   all_so first [] s f are = refl
   all_so first (x ∷ ls) s f are =
       let next = told_by x.mark s x.conversation x.call in
       let here = fine_by l wait fits first x.mark s x.conversation x.call f in
       let book = by_mark first x.mark s x.conversation x.call x.answer f are.0 in
       all_so first ls next here.0 (subst (λ (t : CoreState). AreAnswers t ls) (sym here.1) are.1)
-      ∙ (λ i. all_logged ls (here.1 i) (book i))
+      ∙ (λ i. all_noted ls (here.1 i) (book i))
 
-  pub logs_are_answers : LogsAreAnswers
-  logs_are_answers s calls b are =
+  pub ghosts_are : (s : CoreState) (calls : List AnsweredCall) → Begins s → AreAnswers s calls → ghosts_of (story (history_of calls) (story_at s)).world ≡ all_noted calls s (no_ghosts s)
+  ghosts_are s calls b are =
       all_so s.base.store calls (story_at s) (fine_start l wait fits s.base.store s.base.units s.branches b.sound.0 (opening_lies s b) b.rising (opening_waits s b)) are
 
-  pub answers_are_serial : AnswersAreSerial
-  answers_are_serial s t calls b lead =
+  pub ghosts_serial : (s t : CoreState) (calls : List AnsweredCall) → Begins s → CallsLead s calls t → Serially core_words s.base.store (all_noted calls s (no_ghosts s)).ended t.base.store
+  ghosts_serial s t calls b lead =
       let r = histories_are_serial l wait fits s.base.store s.base.units s.branches (history_of calls) b.sound.0 (opening_lies s b) b.rising (opening_waits s b) in
-      let book = logs_are_answers s calls b lead.answers in
-      subst (λ (u : CoreState). Serially core_words s.base.store (committed s calls) u.base.store) lead.state
-      (subst (λ (book : Logbook). Serially core_words s.base.store book.ended (replay (history_of calls) s).base.store) book r.0)
+      subst (λ (u : CoreState). Serially core_words s.base.store (all_noted calls s (no_ghosts s)).ended u.base.store) lead.state
+      (subst (λ (g : Ghosts). Serially core_words s.base.store g.ended (replay (history_of calls) s).base.store) (ghosts_are s calls b lead.answers) r.0)
 
 -- ---- calls one after another
 

@@ -13,3 +13,4 @@ pub mod CoreUnits
 pub mod CoreHistories
 pub mod Belonging
 pub mod Answering
+pub mod SerialRuns

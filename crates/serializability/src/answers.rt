@@ -1,6 +1,6 @@
 //! Laws of what calls are answered. The functions do nothing: their contracts are the laws.
 
-ghost use Rattle.serializability.specs.Answered.{AnswersAreSerial, CallsLeadOn, LogsAreAnswers, MeantIsDone, UnfitIsTheSame};
+ghost use Rattle.serializability.specs.Answered.{AnswersAreSerial, AnswersTell, CallsLeadOn, LogsAreAnswers, UnfitIsTheSame};
 ghost use Rattle.serializability.specs.Belonging.{AnswersBelong, ExcusesBelongToNone};
 
 use core_model::laws::units_in_doubt_wait;
@@ -20,7 +20,7 @@ pub fn answers_belong_to_calls()
 /// log. Of all others those are answered by what they mean that are done.
 pub fn unfit_statements_are_answered_alike()
     ensures unfit { UnfitIsTheSame }
-    ensures done { MeantIsDone }
+    ensures tell { AnswersTell }
 {}
 
 /// Whatever is called after an opening, each call with the answer that it really had: the units that were
