@@ -101,7 +101,7 @@ openings_stay_sane s sane =
 
 -- ---- what a crash leaves
 
-none_left : (count : ℕ) → take count [] ≡ []
+none_left : (count : ℕ) → (let none : List UnitRecord = [] in take count none ≡ none)
 none_left zero = refl
 none_left (suc n) = refl
 
@@ -149,8 +149,8 @@ module _ (keep : StepsKeep) (silent : SilentStepsStay) (lead : RecordsLead) wher
       lives_sane [] d e sound good lives = subst (λ (f : Durable). IsSane (opened f).base) lives good
       lives_sane (l ∷ ls) d e sound good lives =
           let o = opens d sound in
-          let led = ap (λ (f : Durable). replayed_from f (take l.count (records_of l.history (opened d)))) o.part ∙ lives.2.1 in
-          lives_sane ls lives.0 e lives.1 (crashes_leave_sane (opened d) l.history l.count lives.0 o.kept good led) lives.2.2
+          let led = ap (λ (f : Durable). replayed_from f (take l.count (records_of l.history (opened d)))) o.part ∙ lives.2 in
+          lives_sane ls lives.0 e lives.1 (crashes_leave_sane (opened d) l.history l.count lives.0 o.kept good led) lives.3
 
       pub stores_stay_sane : LeadsAreSound → NewCoresAreSane → StoresStaySane
       stores_stay_sane leads new lives d led = lives_sane lives fresh d (leads fresh [] refl) new led
