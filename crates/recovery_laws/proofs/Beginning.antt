@@ -7,7 +7,6 @@ use Rattle.std.proofs.lemmas.Bool.{ltb-false}
 use Rattle.drda_words.proofs.Precedes.{bytes_eq-refl}
 use Rattle.tables.specs.Change.{Change, create, is_change, put, remove}
 use Rattle.tables.specs.View.{is_sound}
-use Rattle.xa_manager.specs.declared.branch.Branch.{Branch}
 use Rattle.xa_manager.specs.declared.branch.BranchState.{BranchState}
 use Rattle.xa_manager.specs.declared.branch.BranchState.TheVariants.{Prepared}
 use Rattle.xa_manager.specs.Branch.{in_doubt_xids, state_of}
@@ -23,14 +22,13 @@ use Rattle.unit_records.specs.Due.{record_due}
 use Rattle.unit_records.specs.Laws.{OneReading}
 use Rattle.unit_records.specs.Records.{IsChange, IsGood, UnitRecord, entry_of, kind_of, record_bytes}
 use Rattle.unit_journal.specs.Record.{Entry}
-use Rattle.recovery.specs.Durable.{Doubts, Durable, fresh, next, replayed_from}
+use Rattle.recovery.specs.Durable.{Doubts, Durable, fresh, replayed_from}
 use Rattle.recovery.specs.Sound.{IsSound}
-use Rattle.recovery.specs.Journal.{Leads}
 use Rattle.recovery.specs.Sound.{LeadsAreSound}
 use Rattle.recovery_laws.specs.Kept.{IsKept}
 use Rattle.recovery_laws.specs.Part.{doubt_branches, doubt_units, doubts_in, durable_part, opened}
 use Rattle.recovery_laws.specs.StepLaws.{OpeningsAreKept, RecordsLead, SilentStepsStay, StepsKeep}
-use Rattle.recovery_laws.specs.Openings.{CrashesFindPoints, CrashesLeaveSane, EntriesTell, ImagesBegin, IsOpening, IsPoint, Life, LivesLead, OpeningsBegin, OpeningsStaySane, StoresStaySane, records_by, records_of}
+use Rattle.recovery_laws.specs.Openings.{CrashesFindPoints, CrashesLeaveSane, EntriesTell, ImagesBegin, IsPoint, Life, LivesLead, OpeningsBegin, OpeningsStaySane, StoresStaySane, records_by, records_of}
 use Rattle.recovery_laws.proofs.Asking.{set}
 
 -- ---- units in doubt

@@ -32,18 +32,18 @@ use Rattle.core_model.specs.Asked as asked
 use Rattle.core_model.specs.Asked.{Outcome as CoreOutcome, Question, answer_in, answer_to, changes_by, claims_of, describing, fit_or, meant, querying, running, unfit}
 use Rattle.core_model.specs.Events as core
 use Rattle.core_model.specs.Events.{Base as CoreBase, Event as CoreEvent, asked_of, bare, happens_asked}
-use Rattle.core_model.specs.Step.{CoreState, Kept, Mark, Taken, events, lost_xids, owner_of, replay, step_by, step_state}
+use Rattle.core_model.specs.Step.{CoreState, Kept, Mark, Taken, events, lost_xids, owner_of, replay, step_by}
 use Rattle.core_model.specs.Laws.{AsksNone, InDoubtWait, IsPrepared, answered, is_meant, question_of}
 use Rattle.core_model.proofs.Keeping.{NoAsks, of_commit, of_lost, of_roll_back, of_xa}
 use Rattle.core_model.proofs.Owners.{both, which}
-use Rattle.serializability.specs.Words.{Laws, apply_all, clashes}
+use Rattle.serializability.specs.Words.{Laws, apply_all}
 use Rattle.serializability.specs.Events.{Commit, Ended, Entry, Event, Leave, World, asked_in, happens, log_set, lost, outcome}
 use Rattle.serializability.specs.Events as unit
 use Rattle.serializability.specs.Serial.{AllLie, Serially}
 use Rattle.serializability.specs.Steps.{run_events}
 use Rattle.serializability.specs.CoreWords.{core_units, core_words, events_of, question_events, to_work}
 use Rattle.serializability.specs.Histories.{Story, base_of, core_of, is_prepared, story, told, told_by}
-use Rattle.serializability.specs.Answered.{AnsweredCall, AnswersTell, AreAnswers, Begins, CallsLead, CallsLeadOn, IsAnswer, IsTold, UnfitIsTheSame, history_of, is_counted, story_at, was_counted, was_done}
+use Rattle.serializability.specs.Answered.{AnsweredCall, AnswersTell, AreAnswers, Begins, CallsLead, CallsLeadOn, IsAnswer, IsTold, UnfitIsTheSame, history_of, is_counted, story_at}
 use Rattle.serializability.proofs.CoreUnits.{same_clashes, same_view}
 use Rattle.serializability.proofs.CoreHistories.{Fine, fine_by, fine_start, histories_are_serial, not_prepared, prepared_so}
 use Rattle.serializability.proofs.Steady.{to_frame}

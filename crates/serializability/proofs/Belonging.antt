@@ -1,8 +1,7 @@
 -- What a step answers belongs to its call.
-use Rattle.std.proofs.Common.{◌≡◌, ⊎_elim, ℕ, Bool, true, false, List, [], ◌∷◌, Option, Some, None, refl, sym, ◌∙◌, ap, subst}
+use Rattle.std.proofs.Common.{◌≡◌, ℕ, Bool, true, false, List, [], ◌∷◌, Option, Some, None, refl}
 use Rattle.std.specs.Prelude.{if◌then◌else◌, Ok, Err, ◌&&◌, ◌==◌, map, filter, nat_le, nat_lt, length}
 use Rattle.std.specs.List.{flat_map}
-use Rattle.sql_text.specs.declared.tree.Statement.{Statement}
 use Rattle.sql_text.specs.declared.tree.Command.{Command}
 use Rattle.sql_text.specs.declared.tree.Command.TheVariants as command
 use Rattle.sql_text.specs.declared.tree.Columns.{Columns}
@@ -36,17 +35,16 @@ use Rattle.sql_semantics.specs.Create.{defined_schema}
 use Rattle.sql_semantics.specs.Describe.{described, described_columns, parameter_types, side_of}
 use Rattle.sql_semantics.specs.Frame.{covered_answer}
 use Rattle.sql_semantics.specs.Insert.{first_misfit, given_row, new_row}
-use Rattle.sql_semantics.specs.Meaning.{Answer as Meant, Changes, Refused, Rows, absent_answer, answer, answer_by, answered as meaning_in, concerns, create_answer, delete_answer, found_answer, insert_answer, put_answer, select_answer, update_answer, within_room}
+use Rattle.sql_semantics.specs.Meaning.{Answer as Meant, Changes, Rows, absent_answer, answer, answer_by, answered as meaning_in, concerns, create_answer, found_answer, put_answer, select_answer, within_room}
 use Rattle.sql_semantics.specs.Scope.{table_name}
 use Rattle.sql_semantics.specs.Update.{targets, updated_rows}
 use Rattle.sql_semantics.specs.Values.{literal_value, name_of}
 use Rattle.core_model.specs.Units.{Work, clashes, is_full, left_of, others, unit_of, view}
 use Rattle.core_model.specs.Asked as asking
 use Rattle.core_model.specs.Asked.{Outcome, Question, answer_in, answer_to, changes_by, claims_of, describing, fit_or, is_select, kept, meant, number_fault, outcome, querying, running, unfit}
-use Rattle.core_model.specs.Step.{CoreState, owner_of, unless_joined}
-use Rattle.core_model.specs.Laws.{answered}
-use Rattle.core_model.proofs.Owners.{both, which}
-use Rattle.serializability.specs.Belonging.{AnswersBelong, ExcusesBelongToNone, belongs, is_code, is_columns, is_description, is_done, is_end_answer, is_excuse, is_list, is_query_answer, is_run_answer, is_types, is_xa_answer}
+use Rattle.core_model.specs.Step.{owner_of, unless_joined}
+use Rattle.core_model.proofs.Owners.{both}
+use Rattle.serializability.specs.Belonging.{AnswersBelong, ExcusesBelongToNone, is_code, is_columns, is_description, is_done, is_end_answer, is_excuse, is_list, is_query_answer, is_run_answer, is_types, is_xa_answer}
 
 -- ---- what holds of an answer through the checks, where it holds of each fault
 

@@ -20,14 +20,14 @@ use Rattle.core_model.specs.Events.{Base as CoreBase, Event as CoreEvent, asked_
 use Rattle.core_model.specs.Step.{CoreState, Kept, Mark, Taken, events, owner_of, step_by}
 use Rattle.core_model.specs.Laws.{InDoubtWait, answered, is_meant, question_of}
 use Rattle.core_model.proofs.Owners.{owners_same, which}
-use Rattle.serializability.specs.Words.{Laws, apply_all, clashes}
+use Rattle.serializability.specs.Words.{Laws, apply_all}
 use Rattle.serializability.specs.Events as unit
 use Rattle.serializability.specs.Events.{Ended, Entry, Work, idle, log_set}
 use Rattle.serializability.specs.Serial.{Alone, Serially, Unless}
 use Rattle.serializability.specs.CoreWords.{core_units, core_words, of_work, to_work}
 use Rattle.serializability.specs.Answered.{AnsweredAlone, AnsweredCall, AnsweredQuestion, AnswersAreSerial, AreAnswers, CommittedUnit, IsAnswer, Logbook, LogsAreAnswers, SerialRun, all_ended, all_logged, committed, ended_by, entered, fit_log, fit_unit, if_fit, is_counted, logged, logged_for, new_book, with_log, work_after}
 use Rattle.serializability.proofs.CoreUnits.{same_clashes, same_view}
-use Rattle.serializability.proofs.Answering.{Ghosts, all_closed, all_noted, answer_counts, answer_so, closed_by, ghosts_are, ghosts_serial, no_ghosts, noted, noted_by, noted_for}
+use Rattle.serializability.proofs.Answering.{Ghosts, all_closed, all_noted, answer_counts, answer_so, closed_by, ghosts_are, ghosts_serial, noted, noted_by, noted_for}
 
 -- ---- the questions that are fit
 
