@@ -1,5 +1,5 @@
 -- What a step answers belongs to its call.
-use Rattle.std.proofs.Common.{◌≡◌, ℕ, Bool, true, false, List, [], ◌∷◌, Option, Some, None, refl}
+use Rattle.std.proofs.Common.{◌≡◌, ◌⊎◌, inl, inr, ⊎_elim, ℕ, Bool, true, false, List, [], ◌∷◌, Option, Some, None, refl, ◌∙◌, ap}
 use Rattle.std.specs.Prelude.{if◌then◌else◌, Ok, Err, ◌&&◌, ◌==◌, map, filter, nat_le, nat_lt, length}
 use Rattle.std.specs.List.{flat_map}
 use Rattle.sql_text.specs.declared.tree.Command.{Command}
@@ -44,13 +44,13 @@ use Rattle.core_model.specs.Asked as asking
 use Rattle.core_model.specs.Asked.{Outcome, Question, answer_in, answer_to, changes_by, claims_of, describing, fit_or, is_select, kept, meant, number_fault, outcome, querying, running, unfit}
 use Rattle.core_model.specs.Step.{owner_of, unless_joined}
 use Rattle.core_model.proofs.Owners.{both}
-use Rattle.serializability.specs.Belonging.{AnswersBelong, ExcusesBelongToNone, is_code, is_columns, is_description, is_done, is_end_answer, is_excuse, is_list, is_query_answer, is_run_answer, is_types, is_xa_answer}
+use Rattle.serializability.specs.Belonging.{AnswersBelong, AreRows, ExcusesBelongToNone, IsCount, IsRefused, IsSide, IsXaAnswer, is_excuse}
 
 -- ---- what holds of an answer through the checks, where it holds of each fault
 
-module _ (T : Answer → Bool) (faults : (f : SqlFault) → T (told.refused (refusal.Meaning f)) ≡ true) where
+module _ (P : Answer → Type 0) (faults : (f : SqlFault) → P (told.refused (refusal.Meaning f))) where
   abbrev IsSo : Checked Meant → Type 0
-  IsSo r = T (meant (meaning_in r)) ≡ true
+  IsSo r = P (meant (meaning_in r))
 
   unless_so : (b : Bool) (f : SqlFault) (r : Checked Meant) → IsSo r → IsSo (unless b f r)
   unless_so true f r h = h
@@ -64,7 +64,7 @@ module _ (T : Answer → Bool) (faults : (f : SqlFault) → T (told.refused (ref
   then_so (Ok a) f h = h a
   then_so (Err e) f h = faults e
 
-  module _ (counts : (n : ℕ) → T (told.count n) ≡ true) where
+  module _ (counts : (n : ℕ) → P (told.count n)) where
     room_so : (left : ℕ) (xs : List Change) (n : ℕ) → IsSo (within_room left xs n)
     room_so left xs n = unless_so (nat_le (length (flat_map change_bytes xs)) left) fault.LimitReached (Ok (Changes xs n)) (counts n)
 
@@ -106,11 +106,11 @@ module _ (T : Answer → Bool) (faults : (f : SqlFault) → T (told.refused (ref
     run_by params left c None rows tables n = absent_so left c tables
     run_by params left c (Some schema) rows tables n = found_so params left c schema (filter (concerns params c schema) rows) n
 
-    run_so : (params : List Value) (left : ℕ) (c : Command) (v : Store) → is_select c ≡ false → T (meant (covered_answer params left c v)) ≡ true
+    run_so : (params : List Value) (left : ℕ) (c : Command) (v : Store) → is_select c ≡ false → P (meant (covered_answer params left c v))
     unfolding answer
     run_so params left c v n = run_by params left c (schema_of v (table_name c)) _ _ n
 
-  module _ (shows : (l : RowList) → T (told.rows l) ≡ true) where
+  module _ (shows : (l : RowList) → P (told.rows l)) where
     shown_so : (params : List Value) (schema : Schema) (named : Columns) (filter : Option Predicate) (rows : List (List ℕ)) → IsSo (select_answer params schema named filter rows)
     shown_so params schema named filter rows =
         let of : List ℕ → Meant = λ places. Rows (record { schema = schema; selected = places; rows = rows }) in
@@ -125,48 +125,50 @@ module _ (T : Answer → Bool) (faults : (f : SqlFault) → T (told.refused (ref
     select_so params left (command.Select named table filter) None rows tables is = faults fault.TableUnknown
     select_so params left (command.Select named table filter) (Some schema) rows tables is = shown_so params schema named filter _
 
-    query_so : (params : List Value) (left : ℕ) (c : Command) (v : Store) → is_select c ≡ true → T (meant (covered_answer params left c v)) ≡ true
+    query_so : (params : List Value) (left : ℕ) (c : Command) (v : Store) → is_select c ≡ true → P (meant (covered_answer params left c v))
     unfolding answer
     query_so params left c v is = select_so params left c (schema_of v (table_name c)) _ _ is
 
 -- ---- descriptions
 
-types_so : (b : Bool) (types : List ParameterType) → is_types (asking.told (unless b fault.LimitReached (Ok (told.input types)))) ≡ true
-types_so true types = refl
-types_so false types = refl
+abbrev IsDescription : Side → Answer → Type 0
+IsDescription d a = IsSide d a ⊎ IsRefused a
 
-side_so : (d : Side) (schema : Schema) (c : Command) (cs : List Column) → is_description d (asking.told (side_of d schema c cs)) ≡ true
-side_so side.Output schema c cs = refl
+fault_so : (d : Side) (r : Refusal) → IsDescription d (told.refused r)
+fault_so d r = inr (r, refl)
+
+types_so : (b : Bool) (types : List ParameterType) → IsDescription side.Input (asking.told (unless b fault.LimitReached (Ok (told.input types))))
+types_so true types = inl (types, refl)
+types_so false types = fault_so side.Input (refusal.Meaning fault.LimitReached)
+
+side_so : (d : Side) (schema : Schema) (c : Command) (cs : List Column) → IsDescription d (asking.told (side_of d schema c cs))
+side_so side.Output schema c cs = inl (cs, refl)
 side_so side.Input schema c cs = types_so (nat_le (length (parameter_types schema.columns c)) 128) (parameter_types schema.columns c)
 
-fault_so : (d : Side) (r : Refusal) → is_description d (told.refused r) ≡ true
-fault_so side.Output r = refl
-fault_so side.Input r = refl
-
-columns_so : (d : Side) (schema : Schema) (c : Command) (r : Checked (List Column)) → is_description d (asking.told (and_then r (side_of d schema c))) ≡ true
+columns_so : (d : Side) (schema : Schema) (c : Command) (r : Checked (List Column)) → IsDescription d (asking.told (and_then r (side_of d schema c)))
 columns_so d schema c (Ok cs) = side_so d schema c cs
 columns_so d schema c (Err f) = fault_so d (refusal.Meaning f)
 
-described_so : (d : Side) (c : Command) (o : Option Schema) → is_description d (asking.told (described d c o)) ≡ true
+described_so : (d : Side) (c : Command) (o : Option Schema) → IsDescription d (asking.told (described d c o))
 described_so d c None = fault_so d (refusal.Meaning fault.TableUnknown)
 described_so d c (Some schema) = columns_so d schema c (described_columns schema c)
 
 -- ---- a question: the answer that is done, or a refusal
 
-module _ (T : Answer → Bool) (refusals : (r : Refusal) → T (told.refused r) ≡ true) (ds : List Claim) (u : Work) (cs : List Claim) (a : Answer) (xs : List Change) where
+module _ (P : Answer → Type 0) (refusals : (r : Refusal) → P (told.refused r)) (ds : List Claim) (u : Work) (cs : List Claim) (a : Answer) (xs : List Change) where
   full_or : Bool → Outcome
   full_or b = if b then asking.TooMany else asking.Done a (kept u cs xs)
 
   clashes_or : Bool → Bool → Outcome
   clashes_or b c = if b then asking.Clashes else full_or c
 
-  by_tests : (b c : Bool) → T a ≡ true → T (answer_in (clashes_or b c)) ≡ true
+  by_tests : (b c : Bool) → P a → P (answer_in (clashes_or b c))
   unfolding full_or clashes_or
   by_tests true c h = refusals refusal.Clashes
   by_tests false true h = refusals refusal.TooManyClaims
   by_tests false false h = h
 
-  asked_so : (e : Option SqlFault) → (e ≡ None → T a ≡ true) → T (answer_in (fit_or e (outcome ds u cs a xs))) ≡ true
+  asked_so : (e : Option SqlFault) → (e ≡ None → P a) → P (answer_in (fit_or e (outcome ds u cs a xs)))
   unfolding full_or clashes_or
   asked_so (Some f) h = refusals (refusal.Unfit f)
   asked_so None h = by_tests (clashes cs ds) (is_full (all_added u.claims cs)) (h refl)
@@ -180,61 +182,63 @@ fit_query : (b : Bool) (o : Option SqlFault) → (if b then o else Some fault.No
 fit_query true o h = refl
 fit_query false o h = absurd cc
 
-end_so : (j : Option (List ℕ)) → is_end_answer (unless_joined j told.done told.in_global) ≡ true
-end_so None = refl
-end_so (Some xid) = refl
+end_so : (j : Option (List ℕ)) → (let a = unless_joined j told.done told.in_global in (a ≡ told.done) ⊎ (a ≡ told.in_global))
+end_so None = inl refl
+end_so (Some xid) = inr refl
+
+abbrev IsRunAnswer : Answer → Type 0
+IsRunAnswer a = IsCount a ⊎ IsRefused a
+
+abbrev IsQueryAnswer : Answer → Type 0
+IsQueryAnswer a = AreRows a ⊎ IsRefused a
 
 pub answers_belong : AnswersBelong
 answers_belong s c (call.run t params) =
     let o = owner_of s.branches c in let u = unit_of o s.base.units in let v = view s.base.store u in let q = running t params in
-    asked_so is_run_answer (λ r. refl) (others o s.base.units) u (claims_of q v) (answer_to q (left_of u) v) (changes_by q (left_of u) v) (unfit q)
-    (λ fit. run_so is_run_answer (λ f. refl) (λ n. refl) params (left_of u) t.command v (fit_run (is_select t.command) (number_fault t params) fit))
+    asked_so IsRunAnswer (λ r. inr (r, refl)) (others o s.base.units) u (claims_of q v) (answer_to q (left_of u) v) (changes_by q (left_of u) v) (unfit q)
+    (λ fit. run_so IsRunAnswer (λ f. inr (refusal.Meaning f, refl)) (λ n. inl (n, refl)) params (left_of u) t.command v (fit_run (is_select t.command) (number_fault t params) fit))
 answers_belong s c (call.query t params) =
     let o = owner_of s.branches c in let u = unit_of o s.base.units in let v = view s.base.store u in let q = querying t params in
-    asked_so is_query_answer (λ r. refl) (others o s.base.units) u (claims_of q v) (answer_to q (left_of u) v) (changes_by q (left_of u) v) (unfit q)
-    (λ fit. query_so is_query_answer (λ f. refl) (λ l. refl) params (left_of u) t.command v (fit_query (is_select t.command) (number_fault t params) fit))
+    asked_so IsQueryAnswer (λ r. inr (r, refl)) (others o s.base.units) u (claims_of q v) (answer_to q (left_of u) v) (changes_by q (left_of u) v) (unfit q)
+    (λ fit. query_so IsQueryAnswer (λ f. inr (refusal.Meaning f, refl)) (λ l. inl (l, refl)) params (left_of u) t.command v (fit_query (is_select t.command) (number_fault t params) fit))
 answers_belong s c (call.describe t d) =
     let o = owner_of s.branches c in let u = unit_of o s.base.units in let v = view s.base.store u in let q = describing t d in
-    asked_so (is_description d) (fault_so d) (others o s.base.units) u (claims_of q v) (answer_to q (left_of u) v) (changes_by q (left_of u) v) (unfit q)
+    asked_so (IsDescription d) (fault_so d) (others o s.base.units) u (claims_of q v) (answer_to q (left_of u) v) (changes_by q (left_of u) v) (unfit q)
     (λ fit. described_so d t.command (schema_of v (table_name t.command)))
 answers_belong s c call.commit = end_so _
 answers_belong s c call.roll_back = end_so _
-answers_belong s c (call.xa (Some (request.Branch verb xid))) = refl
-answers_belong s c (call.xa (Some request.Recover)) = refl
-answers_belong s c (call.xa None) = refl
+answers_belong s c (call.xa (Some (request.Branch verb xid))) = (_, refl)
+answers_belong s c (call.xa (Some request.Recover)) = (_, refl)
+answers_belong s c (call.xa None) = (_, refl)
 answers_belong s c call.lost = refl
 
 -- ---- excuses
 
-four : (P : Answer → Type 0) → P told.no_memory → ((need room : ℕ) → P (told.full need room)) → P told.device_failed → P told.closed → (a : Answer) → is_excuse a ≡ true → P a
-four P m f d c (told.count n) h = both false h refl
-four P m f d c (told.rows l) h = both false h refl
-four P m f d c (told.output columns) h = both false h refl
-four P m f d c (told.input types) h = both false h refl
-four P m f d c told.done h = both false h refl
-four P m f d c (told.refused r) h = both false h refl
-four P m f d c told.in_global h = both false h refl
-four P m f d c (told.xa code) h = both false h refl
-four P m f d c (told.in_doubt xids) h = both false h refl
-four P m f d c told.no_memory h = m
-four P m f d c (told.full need room) h = f need room
-four P m f d c told.device_failed h = d
-four P m f d c told.closed h = c
+-- an excuse is no answer of these
+not_it : (a b : Answer) → is_excuse a ≡ true → is_excuse b ≡ false → a ≡ b → ⊥
+not_it a b excuse is e = both (is_excuse a) excuse (ap is_excuse e ∙ is)
 
-no_description : (d : Side) (a : Answer) → is_excuse a ≡ true → is_description d a ≡ false
-no_description side.Output a h = four (λ b. is_columns b ≡ false) refl (λ need room. refl) refl refl a h
-no_description side.Input a h = four (λ b. is_types b ≡ false) refl (λ need room. refl) refl refl a h
+no_refusal : (a : Answer) → is_excuse a ≡ true → IsRefused a → ⊥
+no_refusal a excuse r = not_it a (told.refused r.0) excuse refl r.1
 
-no_xa_answer : (r : Option Request) (a : Answer) → is_excuse a ≡ true → is_xa_answer r a ≡ false
-no_xa_answer (Some request.Recover) a h = four (λ b. is_list b ≡ false) refl (λ need room. refl) refl refl a h
-no_xa_answer (Some (request.Branch verb xid)) a h = four (λ b. is_code b ≡ false) refl (λ need room. refl) refl refl a h
-no_xa_answer None a h = four (λ b. is_code b ≡ false) refl (λ need room. refl) refl refl a h
+no_side : (d : Side) (a : Answer) → is_excuse a ≡ true → IsSide d a → ⊥
+no_side side.Output a excuse r = not_it a (told.output r.0) excuse refl r.1
+no_side side.Input a excuse r = not_it a (told.input r.0) excuse refl r.1
+
+no_xa_answer : (q : Option Request) (a : Answer) → is_excuse a ≡ true → IsXaAnswer q a → ⊥
+no_xa_answer (Some request.Recover) a excuse r = not_it a (told.in_doubt r.0) excuse refl r.1
+no_xa_answer (Some (request.Branch verb xid)) a excuse r = not_it a (told.xa r.0) excuse refl r.1
+no_xa_answer None a excuse r = not_it a (told.xa r.0) excuse refl r.1
+
+no_end : (a : Answer) → is_excuse a ≡ true → (a ≡ told.done) ⊎ (a ≡ told.in_global) → ⊥
+no_end a excuse (inl e) = not_it a told.done excuse refl e
+no_end a excuse (inr e) = not_it a told.in_global excuse refl e
 
 pub excuses_belong_to_none : ExcusesBelongToNone
-excuses_belong_to_none (call.run t params) a h = four (λ b. is_run_answer b ≡ false) refl (λ need room. refl) refl refl a h
-excuses_belong_to_none (call.query t params) a h = four (λ b. is_query_answer b ≡ false) refl (λ need room. refl) refl refl a h
-excuses_belong_to_none (call.describe t d) a h = no_description d a h
-excuses_belong_to_none call.commit a h = four (λ b. is_end_answer b ≡ false) refl (λ need room. refl) refl refl a h
-excuses_belong_to_none call.roll_back a h = four (λ b. is_end_answer b ≡ false) refl (λ need room. refl) refl refl a h
-excuses_belong_to_none (call.xa r) a h = no_xa_answer r a h
-excuses_belong_to_none call.lost a h = four (λ b. is_done b ≡ false) refl (λ need room. refl) refl refl a h
+excuses_belong_to_none (call.run t params) a excuse it = ⊎_elim (λ r. not_it a (told.count r.0) excuse refl r.1) (no_refusal a excuse) it
+excuses_belong_to_none (call.query t params) a excuse it = ⊎_elim (λ r. not_it a (told.rows r.0) excuse refl r.1) (no_refusal a excuse) it
+excuses_belong_to_none (call.describe t d) a excuse it = ⊎_elim (no_side d a excuse) (no_refusal a excuse) it
+excuses_belong_to_none call.commit a excuse it = no_end a excuse it
+excuses_belong_to_none call.roll_back a excuse it = no_end a excuse it
+excuses_belong_to_none (call.xa r) a excuse it = no_xa_answer r a excuse it
+excuses_belong_to_none call.lost a excuse it = not_it a told.done excuse refl it
