@@ -45,7 +45,7 @@ is_xa_answer (Some request.Recover) answer = are_in_doubt answer
 is_xa_answer (Some (request.Branch verb xid)) answer = is_code answer
 is_xa_answer None answer = is_code answer
 
--- no command asks for a loss
+-- a loss, for which no command asks, is done as an end is
 abbrev pub is_usable : Call → Answer → Bool
 is_usable (call.run s values) answer = is_count answer
 is_usable (call.query s values) answer = are_rows answer
@@ -53,4 +53,4 @@ is_usable (call.describe s side) answer = is_description answer
 is_usable call.commit answer = is_end answer
 is_usable call.roll_back answer = is_end answer
 is_usable (call.xa r) answer = is_xa_answer r answer
-is_usable call.lost answer = false
+is_usable call.lost answer = is_end answer
