@@ -10,3 +10,4 @@ pub mod Runs
 pub mod Rows
 pub mod Heard
 pub mod Refusing
+pub mod Failures

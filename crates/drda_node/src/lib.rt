@@ -7,6 +7,7 @@ mod event;
 mod fed;
 mod feeding;
 mod gathering;
+pub mod laws;
 mod node;
 mod reading;
 mod ready;
