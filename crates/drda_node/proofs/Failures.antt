@@ -13,7 +13,7 @@ use Rattle.serializability.specs.Belonging.{AnswersBelong, Belongs, IsRefused, I
 use Rattle.conversation.specs.Usable.{is_description, is_end, is_usable, is_xa_answer}
 use Rattle.conversation.proofs.Failing.{only_unusable_answers}
 use Rattle.drda_node.specs.Asking.{AskedCore, IsExcused, asks}
-use Rattle.drda_node.specs.Laws.{OnlyFailedDevicesClose}
+use Rattle.drda_node.specs.Closing.{OnlyFailedDevicesClose}
 
 both : {X : Type 0} (b : Bool) → b ≡ true → b ≡ false → X
 both true so ne = absurd (let e : true ≡ false = ne in cc)
@@ -77,7 +77,7 @@ without_room call.lost need room = refl
 module _ (place : ℕ) (old new : AskedCore) (k : Call) (a : Answer) (unusable : is_usable k a ≡ false) where
   by_excuse : IsExcused old place k a new → new.has_failed ≡ true
   by_excuse (inl x) = both (is_usable k a) (ap (is_usable k) x.answer_is ∙ without_memory k) unusable
-  by_excuse (inr (inl x)) = both (is_usable k a) (ap (is_usable k) x.answer_is ∙ without_room k _ x.room) unusable
+  by_excuse (inr (inl x)) = both (is_usable k a) (ap (is_usable k) x.answer_is ∙ without_room k _ _) unusable
   by_excuse (inr (inr (inl x))) = x.failed
   by_excuse (inr (inr (inr x))) = ap (λ (core : AskedCore). core.has_failed) x.same ∙ x.failed
 

@@ -9,4 +9,4 @@ pub mod Gathering
 pub mod Register
 pub mod Serving
 pub mod Sharing
-pub mod Laws
+pub mod Closing

@@ -3,11 +3,11 @@
 
 mod answering;
 mod asker;
+pub mod closing;
 mod event;
 mod fed;
 mod feeding;
 mod gathering;
-pub mod laws;
 mod node;
 mod reading;
 mod ready;

@@ -1,4 +1,4 @@
--- What holds of the machine.
+-- What closes a conversation of the machine.
 use Rattle.std.specs.Prelude.{◌≡◌, ℕ, true, List}
 use Rattle.dss_frames.specs.Dss.{Dss}
 use Rattle.session_commands.specs.Settings.{Settings}

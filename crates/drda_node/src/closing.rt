@@ -1,6 +1,6 @@
 //! Laws of the definitions. The functions do nothing: their contracts are the laws.
 
-ghost use Rattle.drda_node.specs.Laws.{OnlyFailedDevicesClose};
+ghost use Rattle.drda_node.specs.Closing.{OnlyFailedDevicesClose};
 
 use serializability::answers::answers_belong_to_calls;
 
