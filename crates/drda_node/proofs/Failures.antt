@@ -9,7 +9,7 @@ use Rattle.core_calls.specs.Answer as told
 use Rattle.core_calls.specs.Answer.{Answer}
 use Rattle.core_calls.specs.declared.call.Side.{Side}
 use Rattle.core_calls.specs.declared.call.Side.TheVariants as side
-use Rattle.serializability.specs.Belonging.{AnswersBelong, Belongs, IsRefused, IsSide, IsXaAnswer}
+use Rattle.serializability.specs.Belonging.{AnswersBelong, Belongs, IsSide, IsXaAnswer}
 use Rattle.conversation.specs.Usable.{is_description, is_end, is_usable, is_xa_answer}
 use Rattle.conversation.proofs.Failing.{only_unusable_answers}
 use Rattle.drda_node.specs.Asking.{AskedCore, IsExcused, asks}
