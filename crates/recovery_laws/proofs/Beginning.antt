@@ -28,7 +28,7 @@ use Rattle.recovery.specs.Sound.{LeadsAreSound}
 use Rattle.recovery_laws.specs.Kept.{IsKept}
 use Rattle.recovery_laws.specs.Part.{doubt_branches, doubt_units, doubts_in, durable_part, opened}
 use Rattle.recovery_laws.specs.StepLaws.{OpeningsAreKept, RecordsLead, SilentStepsStay, StepsKeep}
-use Rattle.recovery_laws.specs.Openings.{CrashesFindPoints, CrashesLeaveSane, EntriesTell, ImagesBegin, IsPoint, Life, LivesLead, OpeningsBegin, OpeningsStaySane, StoresStaySane, records_by, records_of}
+use Rattle.recovery_laws.specs.Openings.{CrashesFindPoints, CrashesLeaveSane, EntriesTell, ImagesBegin, IsPoint, Life, LivesLead, OpeningsBegin, OpeningsStaySane, RecordsGoOn, StoresStaySane, records_by, records_of}
 use Rattle.recovery_laws.proofs.Asking.{set}
 
 -- ---- units in doubt
@@ -96,6 +96,19 @@ openings_stay_sane s sane =
       lie = each (LiesIn s.base.store) (λ x i. absurd i) hs sane.lie xids;
       few = each (λ (u : Work). (length u.claims ≤ 65535) × AreDistinct u.claims) (ltb-false 65535 0 refl, tt) hs sane.few xids;
     }
+
+-- ---- records of calls behind others
+
+behind_both : (xs ys zs : List UnitRecord) → xs ++ (ys ++ zs) ≡ (xs ++ ys) ++ zs
+behind_both [] ys zs = refl
+behind_both (x ∷ xs) ys zs = ap (λ (rs : List UnitRecord). x ∷ rs) (behind_both xs ys zs)
+
+pub records_go_on : RecordsGoOn
+records_go_on [] more s = refl
+records_go_on (l ∷ ls) more s =
+    let here = records_by l.mark s l.conversation l.call in
+    let next = step_by l.mark s l.conversation l.call in
+    ap (λ (rs : List UnitRecord). here ++ rs) (records_go_on ls more next) ∙ behind_both here (records_of ls next) (records_of more (replay ls next))
 
 -- ---- what a crash leaves
 

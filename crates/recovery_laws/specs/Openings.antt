@@ -47,6 +47,10 @@ abbrev pub records_of : List MarkedCall → CoreState → List UnitRecord
 records_of [] s = []
 records_of (l ∷ ls) s = records_by l.mark s l.conversation l.call ++ records_of ls (step_by l.mark s l.conversation l.call)
 
+-- calls behind others: theirs are behind those of the others
+abbrev pub RecordsGoOn : Type 0
+RecordsGoOn = (history more : List MarkedCall) (s : CoreState) → records_of (history ++ more) s ≡ records_of history s ++ records_of more (replay history s)
+
 -- this was durable of the core after so many of the calls
 pub record IsPoint (s : CoreState) (history : List MarkedCall) (d : Durable) : Type 0 where
   pub count : ℕ
@@ -54,7 +58,7 @@ pub record IsPoint (s : CoreState) (history : List MarkedCall) (d : Durable) : T
   pub kept : IsKept (replay (take count history) s)
 
 -- A crash leaves the first of the records. Where the device failed in the last call, its record may be among them: then
--- that call is in the history as taken.
+-- that call stands in this history as taken.
 abbrev pub CrashesFindPoints : Type 0
 CrashesFindPoints =
     (s : CoreState) (history : List MarkedCall) (count : ℕ) (d : Durable)

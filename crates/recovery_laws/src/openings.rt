@@ -1,6 +1,6 @@
 //! Laws of the definitions. The functions do nothing: their contracts are the laws.
 
-ghost use Rattle.recovery_laws.specs.Openings.{CrashesFindPoints, CrashesLeaveSane, EntriesTell, ImagesBegin, OpeningsBegin, OpeningsStaySane, StoresStaySane};
+ghost use Rattle.recovery_laws.specs.Openings.{CrashesFindPoints, CrashesLeaveSane, EntriesTell, ImagesBegin, OpeningsBegin, OpeningsStaySane, RecordsGoOn, StoresStaySane};
 
 use crate::steps::{openings_are_kept, steps_are_recorded};
 use core_model::laws::histories_are_sane;
@@ -21,6 +21,7 @@ pub fn openings_begin_histories()
 /// it. Records are known by their entries.
 pub fn crashes_find_points()
     ensures points { CrashesFindPoints }
+    ensures go_on { RecordsGoOn }
     ensures entries { EntriesTell }
 {
     steps_are_recorded();
