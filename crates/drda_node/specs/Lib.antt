@@ -1,5 +1,6 @@
 pub mod Machine
 pub mod Asking
+pub mod Closing
 pub mod Hearing
 pub mod Records
 pub mod Happening
@@ -9,4 +10,3 @@ pub mod Gathering
 pub mod Register
 pub mod Serving
 pub mod Sharing
-pub mod Closing

@@ -17,9 +17,9 @@ pub mod Deciding
 pub mod Silent
 pub mod Leading
 pub mod Opening
+pub mod Beginning
 pub mod Outside
 pub mod Reading
 pub mod Adding
 pub mod Going
 pub mod Making
-pub mod Beginning
