@@ -49,7 +49,9 @@ records_of (l ∷ ls) s = records_by l.mark s l.conversation l.call ++ records_o
 
 -- calls behind others: theirs are behind those of the others
 abbrev pub RecordsGoOn : Type 0
-RecordsGoOn = (history more : List MarkedCall) (s : CoreState) → records_of (history ++ more) s ≡ records_of history s ++ records_of more (replay history s)
+RecordsGoOn =
+    (history more : List MarkedCall) (s : CoreState)
+    → records_of (history ++ more) s ≡ records_of history s ++ records_of more (replay history s)
 
 -- this was durable of the core after so many of the calls
 pub record IsPoint (s : CoreState) (history : List MarkedCall) (d : Durable) : Type 0 where
@@ -89,7 +91,8 @@ pub record Life : Type 0 where
 -- lead to is
 abbrev pub LivesLead : Durable → List Life → Durable → Type 0
 LivesLead d [] e = d ≡ e
-LivesLead d (l ∷ ls) e = (f : Durable) × IsSound f × (replayed_from d (take l.count (records_of l.history (opened d))) ≡ Some f) × LivesLead f ls e
+LivesLead d (l ∷ ls) e =
+    (f : Durable) × IsSound f × (replayed_from d (take l.count (records_of l.history (opened d))) ≡ Some f) × LivesLead f ls e
 
 -- so a store that was made, and written by calls alone, opens to a sane core each time
 abbrev pub StoresStaySane : Type 0

@@ -51,7 +51,8 @@ pub record CallsLead (s : CoreState) (calls : List AnsweredCall) (t : CoreState)
 -- calls one after another
 pub record CallsLeadOn : Type 0 where
   pub none : (s : CoreState) → CallsLead s [] s
-  pub one : (s : CoreState) (l : AnsweredCall) → IsAnswer l.mark s l.conversation l.call l.answer → CallsLead s (l ∷ []) (step_by l.mark s l.conversation l.call)
+  pub one : (s : CoreState) (l : AnsweredCall)
+      → IsAnswer l.mark s l.conversation l.call l.answer → CallsLead s (l ∷ []) (step_by l.mark s l.conversation l.call)
   pub both : (s t u : CoreState) (calls more : List AnsweredCall) → CallsLead s calls t → CallsLead t more u → CallsLead s (calls ++ more) u
 
 -- ---- the units, as the calls and their answers tell them
@@ -85,7 +86,10 @@ is_counted (refused refusal.TooManyClaims) = false
 is_counted _ = true
 
 abbrev pub entered : Owner → Question → Answer → Logbook → Logbook
-entered o q answer book = if is_counted answer then record book { logs = with_log o (book.logs o ++ record { question = q; answer = answer } ∷ []) book.logs } else book
+entered o q answer book =
+    if is_counted answer
+    then record book { logs = with_log o (book.logs o ++ record { question = q; answer = answer } ∷ []) book.logs }
+    else book
 
 -- a unit that ends leaves its log, and is listed where it is committed
 abbrev pub ended_by : Base → Event → Logbook → Logbook
@@ -135,7 +139,8 @@ work_after u (Done answer v) = v
 -- work to the other
 abbrev pub AnsweredAlone : Store → Work → List AnsweredQuestion → Work → Type 0
 AnsweredAlone s u [] v = u ≡ v
-AnsweredAlone s u (a ∷ more) v = (answer_in (asked [] s u a.question) ≡ a.answer) × AnsweredAlone s (work_after u (asked [] s u a.question)) more v
+AnsweredAlone s u (a ∷ more) v =
+    (answer_in (asked [] s u a.question) ≡ a.answer) × AnsweredAlone s (work_after u (asked [] s u a.question)) more v
 
 -- so are units, each in the store that those before it have left; one that the opening found in doubt has its changes alone
 abbrev pub SerialRun : Store → List CommittedUnit → Store → Type 0
@@ -155,7 +160,9 @@ pub record Begins (s : CoreState) : Type 0 where
 
 -- the committed units, with the answers that they really had, lead alone one after another to the committed store
 abbrev pub AnswersAreSerial : Type 0
-AnswersAreSerial = (s t : CoreState) (calls : List AnsweredCall) → Begins s → CallsLead s calls t → SerialRun s.base.store (committed s calls) t.base.store
+AnswersAreSerial =
+    (s t : CoreState) (calls : List AnsweredCall)
+    → Begins s → CallsLead s calls t → SerialRun s.base.store (committed s calls) t.base.store
 
 -- ---- the logs of the law over words
 
