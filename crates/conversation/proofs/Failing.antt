@@ -1,5 +1,5 @@
 -- Only AGNPRMRM closes a conversation.
-use Rattle.std.proofs.Common.{◌≡◌, ◌⊎◌, ◌+◌, ◌&&◌, ◌||◌, ◌==◌, ℕ, Bool, true, false, not, max, List, [], ◌∷◌, ◌++◌, Option, Some, None, Result, Ok, Err, if◌then◌else◌, refl, sym, ap, subst, ◌∙◌, inl, inr}
+use Rattle.std.proofs.Common.{◌≡◌, ◌⊎◌, ◌+◌, ◌&&◌, ◌||◌, ◌==◌, ℕ, Bool, true, false, not, max, List, [], ◌∷◌, ◌++◌, Option, Some, None, Result, Ok, Err, if◌then◌else◌, refl, sym, ap, subst, ◌∙◌, inl, inr, ⊎_elim}
 use Rattle.core_calls.specs.Call.{Call, describe}
 use Rattle.core_calls.specs.declared.sql_fault.SqlFault.TheVariants.{NotPrepared}
 use Rattle.core_calls.specs.Answer as core
@@ -51,7 +51,8 @@ use Rattle.session_commands.specs.declared.session.Session.{Session}
 use Rattle.conversation.specs.Done.{Exchanges, IsExcused, IsFollowed}
 use Rattle.session_commands.specs.Access.{Answer, access_done, asked_for, bytes_of, check_code, is_ours, mechanism_for, refused}
 use Rattle.conversation.specs.Exchange.{Plan, at_once, at_once_or, breaks, chain_bits, closes, excused, link_of, plan, plan_for, sent, database_plan, worst}
-use Rattle.conversation.specs.Laws.{OnlyFailureCloses, verdict}
+use Rattle.conversation.specs.Laws.{AskedInVain, OnlyFailureCloses, OnlyUnusableAnswersClose, verdict}
+use Rattle.conversation.specs.Usable.{are_in_doubt, are_rows, is_code, is_description, is_end, is_usable, is_usable_anyway}
 use Rattle.session_commands.specs.Replies.{manager_missing, accrdbrm, rdb_not_found, refusal_reply}
 use Rattle.session_commands.specs.Settings.{Settings}
 use Rattle.conversation.specs.Standing.{Standing}
@@ -60,29 +61,36 @@ use Rattle.conversation.proofs.Single.{at_once_session, one_format, one_sent}
 both : {P : Type 0} (b : Bool) → b ≡ true → b ≡ false → P
 both b so not = let clash : true ≡ false = sym so ∙ not in absurd (cc clash)
 
--- ---- the replies of SQL commands: none closes, or it is AGNPRMRM alone
+-- ---- the replies of SQL commands: none closes, or it is AGNPRMRM alone, behind an answer that can't be used
 
-abbrev IsMild : List Reply → Type 0
-IsMild replies = (closes (worst replies) ≡ false) ⊎ (replies ≡ agent_failed ∷ [])
+abbrev IsCalm : List Reply → Type 0
+IsCalm replies = closes (worst replies) ≡ false
+
+abbrev IsMild : List Reply → Bool → Type 0
+IsMild replies usable = IsCalm replies ⊎ ((replies ≡ agent_failed ∷ []) × (usable ≡ false))
 
 abbrev AreMild : Doing → Type 0
-AreMild (finished d) = IsMild d.replies
-AreMild (asking call next) = (answer : core.Answer) → IsMild (next answer).replies
+AreMild (finished d) = IsCalm d.replies
+AreMild (asking call next) = (answer : core.Answer) → IsMild (next answer).replies (is_usable call answer)
 
-not_done_mild : (k : Statements) (answer : core.Answer) → IsMild (not_done k answer).replies
+not_done_mild : (k : Statements) (answer : core.Answer) → IsMild (not_done k answer).replies (is_usable_anyway answer)
 not_done_mild k (refused_call refusal) = inl refl
 not_done_mild k no_memory = inl refl
 not_done_mild k (full need room) = inl refl
-not_done_mild k answer = inr refl
+not_done_mild k answer = inr (refl, refl)
+
+ended_mild : (rdb : List ℕ) (end : UnitEnd) (k : Statements) (answer : core.Answer) → IsMild (sql_does.after_end rdb end k answer).replies (is_end answer)
+ended_mild rdb end k done = inl refl
+ended_mild rdb end k in_global = inl refl
+ended_mild rdb end k answer = not_done_mild k answer
 
 ending_mild : (rdb : List ℕ) (end : UnitEnd) (k : Statements) → AreMild (sql_does.ending rdb end k)
-ending_mild rdb end k done = inl refl
-ending_mild rdb end k in_global = inl refl
-ending_mild rdb end k answer = not_done_mild k answer
+ending_mild rdb Committed k = ended_mild rdb Committed k
+ending_mild rdb RolledBack k = ended_mild rdb RolledBack k
 
-either_mild : (b : Bool) (x y : List Reply) → IsMild x → IsMild y → IsMild (if b then x else y)
-either_mild true x y m n = m
-either_mild false x y m n = n
+either_calm : (b : Bool) (x y : List Reply) → IsCalm x → IsCalm y → IsCalm (if b then x else y)
+either_calm true x y m n = m
+either_calm false x y m n = n
 
 either_zero : (b : Bool) (x y : Reply) → x.severity ≡ 0 → y.severity ≡ 0 → (if b then x else y).severity ≡ 0
 either_zero true x y m n = m
@@ -93,57 +101,57 @@ count_zero true n = either_zero (n == 0) not_found_card (changed_card n) refl re
 count_zero false n = refl
 
 -- an SQLCARD of a count, behind RDBUPDRM or not
-told_mild : (rdb : List ℕ) (k : Statements) (card : Reply) → card.severity ≡ 0 → IsMild (sql_does.change_told rdb k card).replies
-told_mild rdb k card zero =
-    either_mild k.is_change_told (card ∷ []) (rdb_updated rdb ∷ card ∷ []) (inl (ap (λ (n : ℕ). closes (max n 0)) zero)) (inl (ap (λ (n : ℕ). closes (max 0 (max n 0))) zero))
+told_calm : (rdb : List ℕ) (k : Statements) (card : Reply) → card.severity ≡ 0 → IsCalm (sql_does.change_told rdb k card).replies
+told_calm rdb k card zero =
+    either_calm k.is_change_told (card ∷ []) (rdb_updated rdb ∷ card ∷ []) (ap (λ (n : ℕ). closes (max n 0)) zero) (ap (λ (n : ℕ). closes (max 0 (max n 0))) zero)
 
 running_mild : (rdb : List ℕ) (k : Statements) (s : Statement) (values : List Value) → AreMild (sql_does.running rdb k s values)
-running_mild rdb k s values (count n) = told_mild rdb k (count_card (sql_does.is_search s.command) n) (count_zero (sql_does.is_search s.command) n)
+running_mild rdb k s values (count n) = inl (told_calm rdb k (count_card (sql_does.is_search s.command) n) (count_zero (sql_does.is_search s.command) n))
 running_mild rdb k s values answer = not_done_mild k answer
 
 immediate_mild : (rdb : List ℕ) (k : Statements) (r : Result Statement SqlFault) → AreMild (sql_does.immediate_by rdb k r)
 immediate_mild rdb k (Ok s) = running_mild rdb k s []
-immediate_mild rdb k (Err f) = inl refl
+immediate_mild rdb k (Err f) = refl
 
 either_doing : (b : Bool) (x y : Doing) → AreMild x → AreMild y → AreMild (if b then x else y)
 either_doing true x y m n = m
 either_doing false x y m n = n
 
 executed_with_mild : (rdb : List ℕ) (k : Statements) (s : Statement) (values : Option (List Value)) → AreMild (sql_does.executed_with rdb k s values)
-executed_with_mild rdb k s None = inl refl
+executed_with_mild rdb k s None = refl
 executed_with_mild rdb k s (Some values) = running_mild rdb k s values
 
 executed_by_mild : (rdb : List ℕ) (k : Statements) (brought : Option DescribedData) (r : Result Statement SqlFault) → AreMild (sql_does.executed_by rdb k brought r)
-executed_by_mild rdb k brought (Err f) = inl refl
+executed_by_mild rdb k brought (Err f) = refl
 executed_by_mild rdb k brought (Ok s) =
-    either_doing (is_select s.command) (finished (answered k (fault_card NotPrepared ∷ []))) (sql_does.executed_with rdb k s (values_of brought)) (inl refl) (executed_with_mild rdb k s (values_of brought))
+    either_doing (is_select s.command) (finished (answered k (fault_card NotPrepared ∷ []))) (sql_does.executed_with rdb k s (values_of brought)) refl (executed_with_mild rdb k s (values_of brought))
 
 executed_mild : (rdb : List ℕ) (k : Statements) (brought : Option DescribedData) (section : Option Section) → AreMild (sql_does.executed_in rdb k brought section)
-executed_mild rdb k brought None = inl refl
+executed_mild rdb k brought None = refl
 executed_mild rdb k brought (Some section) = executed_by_mild rdb k brought (statement_of section.text)
 
-after_describe_mild : (unicode : Bool) (k prepared : Statements) (answer : core.Answer) → IsMild (sql_does.after_describe unicode k prepared answer).replies
+after_describe_mild : (unicode : Bool) (k prepared : Statements) (answer : core.Answer) → IsMild (sql_does.after_describe unicode k prepared answer).replies (is_description answer)
 after_describe_mild unicode k prepared (output columns) = inl refl
 after_describe_mild unicode k prepared (input types) = inl refl
 after_describe_mild unicode k prepared answer = not_done_mild k answer
 
 describing_mild : (unicode : Bool) (k prepared : Statements) (s : Statement) (which : Side) → AreMild (sql_does.describing unicode k prepared s which)
-describing_mild unicode k prepared s which = either_doing (sql_does.is_create s.command) (finished (answered prepared (description unicode [] ∷ []))) (asking (describe s which) (sql_does.after_describe unicode k prepared)) (inl refl) (after_describe_mild unicode k prepared)
+describing_mild unicode k prepared s which = either_doing (sql_does.is_create s.command) (finished (answered prepared (description unicode [] ∷ []))) (asking (describe s which) (sql_does.after_describe unicode k prepared)) refl (after_describe_mild unicode k prepared)
 
 prepared_as_mild : (unicode : Bool) (k : Statements) (p : Preparation) (wanted : Option Side) (s : Statement) → AreMild (sql_does.prepared_as unicode k p wanted s)
-prepared_as_mild unicode k p None s = inl refl
+prepared_as_mild unicode k p None s = refl
 prepared_as_mild unicode k p (Some which) s = describing_mild unicode (sql_does.unprepared k) (sql_does.with_prepared k p) s which
 
 prepared_mild : (unicode : Bool) (k : Statements) (p : Preparation) (wanted : Option Side) (r : Result Statement SqlFault) → AreMild (sql_does.prepared_by unicode k p wanted r)
-prepared_mild unicode k p wanted (Err f) = inl refl
+prepared_mild unicode k p wanted (Err f) = refl
 prepared_mild unicode k p wanted (Ok s) = prepared_as_mild unicode k p wanted s
 
 described_as_mild : (unicode : Bool) (k : Statements) (which : Side) (r : Result Statement SqlFault) → AreMild (sql_does.described_as unicode k which r)
-described_as_mild unicode k which (Err f) = inl refl
+described_as_mild unicode k which (Err f) = refl
 described_as_mild unicode k which (Ok s) = describing_mild unicode k k s which
 
 described_mild : (unicode : Bool) (k : Statements) (which : Side) (section : Option Section) → AreMild (sql_does.described_in unicode k which section)
-described_mild unicode k which None = inl refl
+described_mild unicode k which None = refl
 described_mild unicode k which (Some section) = described_as_mild unicode k which (statement_of section.text)
 
 sql_mild : (unicode : Bool) (rdb : List ℕ) (command : Command) (given : Given) (k : Statements) → AreMild (sql_does.doing unicode rdb command given k)
@@ -153,55 +161,55 @@ sql_mild unicode rdb Dscsqlstt given k = described_mild unicode k (sql_does.side
 sql_mild unicode rdb Excsqlstt given k = executed_mild rdb k (described_data_in given) (section_of (sql_does.section_name given) k.sections)
 sql_mild unicode rdb Rdbcmm given k = ending_mild rdb Committed k
 sql_mild unicode rdb Rdbrllbck given k = ending_mild rdb RolledBack k
-sql_mild unicode rdb command given k = inl refl
+sql_mild unicode rdb command given k = refl
 
 -- ---- and of those on cursors
 
-rows_mild : (r : Reply) → r.severity ≡ 0 → (is_last : Bool) → IsMild (r ∷ cursors_do.ending is_last)
-rows_mild r zero true = inl (ap (λ (n : ℕ). closes (max n (worst (cursors_do.ending true)))) zero)
-rows_mild r zero false = inl (ap (λ (n : ℕ). closes (max n 0)) zero)
+rows_calm : (r : Reply) → r.severity ≡ 0 → (is_last : Bool) → IsCalm (r ∷ cursors_do.ending is_last)
+rows_calm r zero true = ap (λ (n : ℕ). closes (max n (worst (cursors_do.ending true)))) zero
+rows_calm r zero false = ap (λ (n : ℕ). closes (max n 0)) zero
 
-opened_mild : (held : Bool) (n : ℕ) (l : RowList) (size : ℕ) (is_empty is_last : Bool)
-    → IsMild (query_opened held n ∷ rows_description l ∷ ((if is_empty then [] else some_rows l 0 size ∷ []) ++ cursors_do.ending is_last))
-opened_mild held n l size true true = inl refl
-opened_mild held n l size true false = inl refl
-opened_mild held n l size false true = inl refl
-opened_mild held n l size false false = inl refl
+opened_calm : (held : Bool) (n : ℕ) (l : RowList) (size : ℕ) (is_empty is_last : Bool)
+    → IsCalm (query_opened held n ∷ rows_description l ∷ ((if is_empty then [] else some_rows l 0 size ∷ []) ++ cursors_do.ending is_last))
+opened_calm held n l size true true = refl
+opened_calm held n l size true false = refl
+opened_calm held n l size false true = refl
+opened_calm held n l size false false = refl
 
-after_query_mild : (rdb : List ℕ) (k : Statements) (name : List ℕ) (size : ℕ) (answer : core.Answer) → IsMild (cursors_do.after_query rdb k name size answer).replies
+after_query_mild : (rdb : List ℕ) (k : Statements) (name : List ℕ) (size : ℕ) (answer : core.Answer) → IsMild (cursors_do.after_query rdb k name size answer).replies (are_rows answer)
 after_query_mild rdb k name size (rows l) =
     let number : ℕ = rows_in_block l 0 size in
-    opened_mild (cursors_do.is_held_in (section_of name k.sections)) (k.sections.openings + 1) l number (number == 0) (nat_le (length l.rows) number)
+    inl (opened_calm (cursors_do.is_held_in (section_of name k.sections)) (k.sections.openings + 1) l number (number == 0) (nat_le (length l.rows) number))
 after_query_mild rdb k name size (refused_call refusal) = inl refl
 after_query_mild rdb k name size answer = not_done_mild k answer
 
 queried_mild : (rdb : List ℕ) (k : Statements) (name : List ℕ) (size : ℕ) (q : Result (Statement × List Value) SqlFault) → AreMild (cursors_do.asked rdb k name size q)
-queried_mild rdb k name size (Err f) = inl refl
+queried_mild rdb k name size (Err f) = refl
 queried_mild rdb k name size (Ok q) = after_query_mild rdb k name size
 
 opening_mild : (rdb : List ℕ) (o : Option OpenFault) (k : Statements) (name : List ℕ) (size : ℕ) (parameters : Option DescribedData) → AreMild (cursors_do.opened_unless rdb o k name size parameters)
-opening_mild rdb (Some unopened.NotPrepared) k name size parameters = inl refl
-opening_mild rdb (Some unopened.QueryOpen) k name size parameters = inl refl
-opening_mild rdb (Some unopened.NoInstance) k name size parameters = inl refl
+opening_mild rdb (Some unopened.NotPrepared) k name size parameters = refl
+opening_mild rdb (Some unopened.QueryOpen) k name size parameters = refl
+opening_mild rdb (Some unopened.NoInstance) k name size parameters = refl
 opening_mild rdb None k name size parameters = queried_mild rdb k name size (cursors_do.query_in parameters (section_of name k.sections))
 
-fetched_mild : (rdb : List ℕ) (k : Statements) (name : List ℕ) (size : Option ℕ) (cursor : Option Cursor) → IsMild (cursors_do.fetched_at rdb k name size cursor).replies
-fetched_mild rdb k name size None = inl refl
+fetched_mild : (rdb : List ℕ) (k : Statements) (name : List ℕ) (size : Option ℕ) (cursor : Option Cursor) → IsCalm (cursors_do.fetched_at rdb k name size cursor).replies
+fetched_mild rdb k name size None = refl
 fetched_mild rdb k name size (Some cursor) =
     let number : ℕ = rows_in_block cursor.rows cursor.place (unwrap_or size cursor.block_size) in
-    rows_mild (some_rows cursor.rows cursor.place number) refl (ends_behind cursor number)
+    rows_calm (some_rows cursor.rows cursor.place number) refl (ends_behind cursor number)
 
-closed_mild : (rdb : List ℕ) (k : Statements) (name : List ℕ) (cursor : Option Cursor) → IsMild (cursors_do.closed_at rdb k name cursor).replies
-closed_mild rdb k name None = inl refl
-closed_mild rdb k name (Some cursor) = inl refl
+closed_mild : (rdb : List ℕ) (k : Statements) (name : List ℕ) (cursor : Option Cursor) → IsCalm (cursors_do.closed_at rdb k name cursor).replies
+closed_mild rdb k name None = refl
+closed_mild rdb k name (Some cursor) = refl
 
 -- ---- and of SYNCCTL
 
-recovered_mild : (k : Statements) (answer : core.Answer) → IsMild (xa_does.after_recover k answer).replies
+recovered_mild : (k : Statements) (answer : core.Answer) → IsMild (xa_does.after_recover k answer).replies (are_in_doubt answer)
 recovered_mild k (in_doubt xids) = inl refl
 recovered_mild k answer = not_done_mild k answer
 
-called_mild : (r : Option Request) (k : Statements) (answer : core.Answer) → IsMild (xa_does.after_call r k answer).replies
+called_mild : (r : Option Request) (k : Statements) (answer : core.Answer) → IsMild (xa_does.after_call r k answer).replies (is_code answer)
 called_mild r k (xa c) = inl refl
 called_mild r k answer = not_done_mild k answer
 
@@ -290,9 +298,17 @@ abbrev TellsFailure : List ℕ → Type 0
 TellsFailure bytes = (correlator : ℕ) × (bytes ≡ written 2 correlator agent_failed.text)
 
 module _ {A : Type 0} (asks : A → Call → core.Answer → A → Type 0) where
-  replies_mild : (d : Doing) (old new : A) (statements : Statements) (replies : List Reply) → AreMild d → WasDone asks d old new statements [] replies → IsMild replies
-  replies_mild (finished d) old new statements replies m w = subst IsMild (sym w.1.replied) m
-  replies_mild (asking call next) old new statements replies m w = subst IsMild (sym w.answered.replied) (m w.answer)
+  -- none of the replies closes, or they are AGNPRMRM alone, and the command has asked in vain
+  abbrev AreCalmOr : A → A → List Reply → Type 0
+  AreCalmOr old new replies = IsCalm replies ⊎ ((replies ≡ agent_failed ∷ []) × AskedInVain asks old new)
+
+  replies_mild : (d : Doing) (old new : A) (statements : Statements) (replies : List Reply) → AreMild d → WasDone asks d old new statements [] replies → AreCalmOr old new replies
+  replies_mild (finished d) old new statements replies m w = inl (subst IsCalm (sym w.1.replied) m)
+  replies_mild (asking call next) old new statements replies m w =
+      ⊎_elim
+      (λ calm. inl (subst IsCalm (sym w.answered.replied) calm))
+      (λ failed. inr (w.answered.replied ∙ failed.0, record { call = call; answer = w.answer; asked = w.asked; unusable = failed.1 }))
+      (m w.answer)
 
   module _ (settings : Settings) (s next : Standing A) (request : Dss) (objects : List Dss) (bytes : List ℕ) (still_open : s.session.is_closed ≡ false) (closed : next.session.is_closed ≡ true) where
     abbrev p : Plan
@@ -301,22 +317,25 @@ module _ {A : Type 0} (asks : A → Call → core.Answer → A → Type 0) where
     abbrev link : Link
     link = link_of request objects
 
+    abbrev Closing : List ℕ → Type 0
+    Closing sent_bytes = TellsFailure sent_bytes × AskedInVain asks s.asked next.asked
+
     at_once_open : {P : Type 0} (a : Answer) → p ≡ at_once s.statements a → StaysOpen s.session (Some a) → IsFollowed asks p link s bytes next → P
     at_once_open a at stays f =
         both next.session.is_closed closed
         (ap (λ (t : Session). t.is_closed) (at_once_session asks p a link s next bytes at f) ∙ or_false a.session.is_closed (closes (worst (a.reply ∷ []))) (stays.0 ∙ still_open) stays.1)
 
-    by_replies : (session : Session) → p.session ≡ session → session.is_closed ≡ false → (f : IsFollowed asks p link s bytes next) → IsMild f.replies → TellsFailure bytes
+    by_replies : (session : Session) → p.session ≡ session → session.is_closed ≡ false → (f : IsFollowed asks p link s bytes next) → AreCalmOr s.asked next.asked f.replies → Closing bytes
     by_replies session same whole f (inl mild) =
         both next.session.is_closed closed
         (ap (λ (t : Session). t.is_closed) f.session ∙ or_false p.session.is_closed (closes (worst f.replies)) (ap (λ (t : Session). t.is_closed) same ∙ whole) mild)
     by_replies session same whole f (inr failed) =
-        let sent_is : bytes ≡ (sent link p.session (agent_failed ∷ [])).bytes = f.bytes_are ∙ ap (λ (rs : List Reply). (sent link p.session rs).bytes) failed in
+        let sent_is : bytes ≡ (sent link p.session (agent_failed ∷ [])).bytes = f.bytes_are ∙ ap (λ (rs : List Reply). (sent link p.session rs).bytes) failed.0 in
         let format : one_format link p.session agent_failed ≡ 2 = by_chained link.is_chained request.format in
-        (request.correlator, sent_is ∙ one_sent link p.session agent_failed ∙ ap (λ (n : ℕ). written n request.correlator agent_failed.text) format)
+        ((request.correlator, sent_is ∙ one_sent link p.session agent_failed ∙ ap (λ (n : ℕ). written n request.correlator agent_failed.text) format), failed.1)
 
     by_found : (accepted : Accepted) → verdict s.session request objects ≡ Ok accepted → (o : Option Answer)
-        → access_done settings s.session accepted.command accepted.given ≡ o → StaysOpen s.session o → IsFollowed asks p link s bytes next → TellsFailure bytes
+        → access_done settings s.session accepted.command accepted.given ≡ o → StaysOpen s.session o → IsFollowed asks p link s bytes next → Closing bytes
     by_found accepted is (Some a) found stays f =
         let otherwise : Plan = database_plan settings s.session s.statements accepted.command accepted.given in
         let at : p ≡ at_once s.statements a = ap (plan settings s.session s.statements) is ∙ ap (λ (x : Option Answer). at_once_or s.statements x otherwise) found in
@@ -327,10 +346,10 @@ module _ {A : Type 0} (asks : A → Call → core.Answer → A → Type 0) where
         let at : p ≡ otherwise = ap (plan settings s.session s.statements) is ∙ ap (λ (x : Option Answer). at_once_or s.statements x otherwise) found in
         let W : Plan → Type 0 = λ q. WasDone asks q.doing s.asked next.asked next.statements [] f.replies in
         let d : Doing = doing unicode (padded_in unicode settings.rdb) accepted.command accepted.given s.statements in
-        let mild : IsMild f.replies = replies_mild d s.asked next.asked next.statements f.replies (doing_mild unicode (padded_in unicode settings.rdb) accepted.command accepted.given s.statements) (subst W at f.done) in
+        let mild : AreCalmOr s.asked next.asked f.replies = replies_mild d s.asked next.asked next.statements f.replies (doing_mild unicode (padded_in unicode settings.rdb) accepted.command accepted.given s.statements) (subst W at f.done) in
         by_replies s.session (ap (λ (q : Plan). q.session) at) still_open f mild
 
-    by_verdict : (v : Result Accepted Refusal) → verdict s.session request objects ≡ v → IsFollowed asks p link s bytes next → TellsFailure bytes
+    by_verdict : (v : Result Accepted Refusal) → verdict s.session request objects ≡ v → IsFollowed asks p link s bytes next → Closing bytes
     by_verdict (Ok accepted) is f =
         by_found accepted is (access_done settings s.session accepted.command accepted.given) refl (access_open settings s.session accepted.command accepted.given) f
     by_verdict (Err refusal) is f =
@@ -341,11 +360,14 @@ module _ {A : Type 0} (asks : A → Call → core.Answer → A → Type 0) where
   excused_open session (request ∷ objects) e = or_false session.is_closed false e refl
 
   by_outcome : (settings : Settings) (s next : Standing A) (command : List Dss) (bytes : List ℕ) → s.session.is_closed ≡ false → next.session.is_closed ≡ true
-      → Exchanges asks settings s command bytes next ⊎ IsExcused s command bytes next → TellsFailure bytes
+      → Exchanges asks settings s command bytes next ⊎ IsExcused s command bytes next → TellsFailure bytes × AskedInVain asks s.asked next.asked
   by_outcome settings s next [] bytes off on (inl e) = both _ on (ap (λ (t : Standing A). t.session.is_closed) e.1 ∙ off)
   by_outcome settings s next (request ∷ objects) bytes off on (inl (inl q)) = both _ on (ap (λ (t : Standing A). t.session.is_closed) q.same ∙ off)
   by_outcome settings s next (request ∷ objects) bytes off on (inl (inr d)) = by_verdict settings s next request objects bytes off on (verdict s.session request objects) refl d.followed
   by_outcome settings s next command bytes off on (inr e) = both _ on (ap (λ (t : Standing A). t.session.is_closed) e.same ∙ excused_open s.session command off)
 
   pub only_failure : OnlyFailureCloses asks
-  only_failure settings s next command bytes d closed = by_outcome settings s next command bytes d.still_open closed d.does
+  only_failure settings s next command bytes d closed = (by_outcome settings s next command bytes d.still_open closed d.does).0
+
+  pub only_unusable_answers : OnlyUnusableAnswersClose asks
+  only_unusable_answers settings s next command bytes d closed = (by_outcome settings s next command bytes d.still_open closed d.does).1

@@ -10,5 +10,5 @@ mod SqlObjects
 mod CursorObjects
 mod SyncObjects
 mod TreesOf
-mod Failing
+pub mod Failing
 mod Feeding

@@ -20,6 +20,7 @@ use Rattle.session_commands.specs.Settings.{Settings}
 use Rattle.conversation.specs.Exchange.{goes_on}
 use Rattle.conversation.specs.Standing.{Standing, beginning}
 use Rattle.conversation.specs.Done.{Does, DoesAll}
+use Rattle.conversation.specs.Usable.{is_usable}
 
 -- what becomes of the command in this request DSS and these object DSSs, when it comes
 abbrev pub verdict : Session → Dss → List Dss → Result Accepted Refusal
@@ -117,6 +118,19 @@ module _ {A : Type 0} (asks : A → Call → Answer → A → Type 0) where
   OnlyFailureCloses =
       (settings : Settings) (s next : Standing A) (command : List Dss) (bytes : List ℕ)
       → Does asks settings s command bytes next → next.session.is_closed ≡ true → (correlator : ℕ) × (bytes ≡ written 2 correlator agent_failed.text)
+
+  -- a call, and an answer to it that its command can't use
+  pub record AskedInVain (old new : A) : Type 0 where
+    pub call : Call
+    pub answer : Answer
+    pub asked : asks old call answer new
+    pub unusable : is_usable call answer ≡ false
+
+  -- A command that closes a conversation has asked, and can't use the answer.
+  abbrev pub OnlyUnusableAnswersClose : Type 0
+  OnlyUnusableAnswersClose =
+      (settings : Settings) (s next : Standing A) (command : List Dss) (bytes : List ℕ)
+      → Does asks settings s command bytes next → next.session.is_closed ≡ true → AskedInVain s.asked next.asked
 
   -- A refused command leaves the stage, what was agreed on and what is kept for statements, and asks nothing.
   pub record LeavesAllElse (s next : Standing A) : Type 0 where

@@ -9,3 +9,4 @@ pub mod Steps
 pub mod Laws
 pub mod Commands
 pub mod Sizes
+pub mod Usable

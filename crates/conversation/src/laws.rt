@@ -1,6 +1,6 @@
 //! Laws of the definitions. The functions do nothing: their contracts are the laws.
 
-ghost use Rattle.conversation.specs.Laws.{AsksOnlyWhenOpened, BrokenChainsAreSilent, FirstRepliesAreOneTree, IsOneTree, OnlyFailureCloses, OpenedBehindACheck, RefusalsKeepTheStage, RepliesAreTrees};
+ghost use Rattle.conversation.specs.Laws.{AsksOnlyWhenOpened, BrokenChainsAreSilent, FirstRepliesAreOneTree, IsOneTree, OnlyFailureCloses, OnlyUnusableAnswersClose, OpenedBehindACheck, RefusalsKeepTheStage, RepliesAreTrees};
 ghost use Rattle.conversation.specs.Replies.{fault_bytes};
 ghost use Rattle.dss_frames.specs.declared.fault.FrameFault.{FrameFault};
 
@@ -10,6 +10,12 @@ use command_kit::Ask;
 /// one is a fault of the framing.
 pub fn only_failure_closes<A: Ask>()
     ensures { OnlyFailureCloses A.asks }
+{}
+
+/// And it has asked a call and got an answer that it can't use: neither one of that call nor a refusal, nor that
+/// there was no memory or no room.
+pub fn only_unusable_answers_close<A: Ask>()
+    ensures { OnlyUnusableAnswersClose A.asks }
 {}
 
 /// A command that is refused leaves the stage, what was agreed on and what is kept for statements, and asks

@@ -1,6 +1,7 @@
 pub mod Written
 pub mod Cores
 pub mod Askers
+pub mod Failures
 pub mod Journal
 pub mod Conversing
 pub mod Stepping

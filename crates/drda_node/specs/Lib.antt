@@ -1,5 +1,6 @@
 pub mod Machine
 pub mod Asking
+pub mod Closing
 pub mod Hearing
 pub mod Records
 pub mod Happening

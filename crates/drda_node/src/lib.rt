@@ -3,6 +3,7 @@
 
 mod answering;
 mod asker;
+pub mod closing;
 mod event;
 mod fed;
 mod feeding;

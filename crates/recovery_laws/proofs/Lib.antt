@@ -17,6 +17,7 @@ pub mod Deciding
 pub mod Silent
 pub mod Leading
 pub mod Opening
+pub mod Beginning
 pub mod Outside
 pub mod Reading
 pub mod Adding

@@ -4,5 +4,6 @@
 #![tactic(auto)]
 
 pub mod images;
+pub mod openings;
 pub mod places;
 pub mod steps;

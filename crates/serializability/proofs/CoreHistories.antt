@@ -3,6 +3,7 @@
 use Rattle.std.proofs.Common.{◌≡◌, inl, inr, ⊎_elim, ℕ, true, false, not, List, [], ◌∷◌, ◌++◌, refl, sym, ap, subst, ◌∙◌, Option, Some, None}
 use Rattle.drda_words.specs.Order.{IsRising}
 use Rattle.tables.specs.Tables.{Store}
+use Rattle.tables.specs.View.{is_store}
 use Rattle.xa_calls.specs.declared.request.Request.TheVariants as request
 use Rattle.xa_manager.specs.declared.branch.Branch.{Branch}
 use Rattle.xa_manager.specs.declared.branch.BranchState.{BranchState}
@@ -17,7 +18,7 @@ use Rattle.xa_manager.proofs.Rising.{rises, rises_branch, rises_filter, rises_st
 use Rattle.core_calls.specs.Call as call
 use Rattle.core_calls.specs.Call.{Call}
 use Rattle.core_calls.specs.declared.sql_fault.SqlFault.{SqlFault}
-use Rattle.core_model.specs.Units.{Owner, global, local}
+use Rattle.core_model.specs.Units.{Held, Owner, global, has_work, local, unit_of}
 use Rattle.core_model.specs.Asked.{Question, unfit}
 use Rattle.core_model.specs.Events as core
 use Rattle.core_model.specs.Events.{Base as CoreBase, Event as CoreEvent}
@@ -26,7 +27,7 @@ use Rattle.core_model.specs.Laws as laws
 use Rattle.core_model.specs.Laws.{AsksNone, InDoubtWait, IsPrepared}
 use Rattle.serializability.specs.Words.{Laws}
 use Rattle.serializability.specs.Events.{Event, start}
-use Rattle.serializability.specs.Serial.{Serially}
+use Rattle.serializability.specs.Serial.{AllLie, Serially}
 use Rattle.serializability.specs.Steps.{AsksOf, Ends}
 use Rattle.serializability.proofs.Bare.{all_begun, events_hold, forget_run, found_run}
 use Rattle.serializability.proofs.Running.{Holds, at_start, both, which}
@@ -74,10 +75,10 @@ prepared_is : (bs : List Branch) (o : Owner) → is_prepared bs o ≡ true → (
 prepared_is bs (local c) h = both false h refl
 prepared_is bs (global xid) h = (xid, state_is (state_of bs xid) h, refl)
 
-prepared_so : (bs : List Branch) (xid : List ℕ) → IsPrepared bs xid → is_prepared bs (global xid) ≡ true
+pub prepared_so : (bs : List Branch) (xid : List ℕ) → IsPrepared bs xid → is_prepared bs (global xid) ≡ true
 prepared_so bs xid h = ap waits h
 
-not_prepared : (bs : List Branch) (o : Owner) → ((xid : List ℕ) → IsPrepared bs xid → o ≡ global xid → ⊥) → is_prepared bs o ≡ false
+pub not_prepared : (bs : List Branch) (o : Owner) → ((xid : List ℕ) → IsPrepared bs xid → o ≡ global xid → ⊥) → is_prepared bs o ≡ false
 not_prepared bs o none = ⊎_elim (λ so. let p = prepared_is bs o so in absurd (none p.0 p.1 p.2)) (λ ne. ne) (which (is_prepared bs o))
 
 asks_question : (bs : List Branch) (f : Option SqlFault) (o : Owner) (q : Question) (rest : List (Event core_words core_units)) → is_prepared bs o ≡ false
@@ -104,10 +105,10 @@ ends_of o (core.Leave p ∷ es) e = ⊎_elim (λ same. inl same) (λ more. inr (
 -- ---- the story
 
 module _ (l : Laws core_words) (wait : InDoubtWait) (fits : ActionsFit) where
-  record Fine (first : Store) (s : Story) : Type 0 where
-    holds : Holds core_words l core_units core_kept first s.world
-    in_doubt : (o : Owner) → s.world.found o ≡ true → is_prepared s.branches o ≡ true
-    rises : IsRising (λ (b : Branch). b.xid) s.branches
+  pub record Fine (first : Store) (s : Story) : Type 0 where
+    pub holds : Holds core_words l core_units core_kept first s.world
+    pub in_doubt : (o : Owner) → s.world.found o ≡ true → is_prepared s.branches o ≡ true
+    pub rises : IsRising (λ (b : Branch). b.xid) s.branches
 
   one : (first : Store) (s : Story) (c : ℕ) (k : Call) → Fine first s → core_of (told s c k) ≡ step_state (core_of s) c k
   one first s c k f =
@@ -134,7 +135,7 @@ module _ (l : Laws core_words) (wait : InDoubtWait) (fits : ActionsFit) where
         rises = rising_next fits s.branches b c k f.rises;
       }
 
-  fine_by : (first : Store) (m : Mark) (s : Story) (c : ℕ) (k : Call) → Fine first s → Fine first (told_by m s c k) × (core_of (told_by m s c k) ≡ step_by m (core_of s) c k)
+  pub fine_by : (first : Store) (m : Mark) (s : Story) (c : ℕ) (k : Call) → Fine first s → Fine first (told_by m s c k) × (core_of (told_by m s c k) ≡ step_by m (core_of s) c k)
   fine_by first Taken s c k f = (fine first s c k f, one first s c k f)
   fine_by first Kept s c k f = (f, refl)
 
@@ -145,9 +146,13 @@ module _ (l : Laws core_words) (wait : InDoubtWait) (fits : ActionsFit) where
       let rest = all_told first ls (told_by x.mark s x.conversation x.call) here.0 in
       (rest.0, rest.1 ∙ ap (λ (t : CoreState). replay ls t) here.1)
 
+  pub fine_start : (s : Store) (units : List Held) (branches : List Branch) → is_store s ≡ true → AllLie core_words core_units s units → IsRising (λ (b : Branch). b.xid) branches
+      → ((o : Owner) → has_work (unit_of o units) ≡ true → is_prepared branches o ≡ true) → Fine s (record { branches = branches; world = start core_words core_units s units })
+  fine_start s units branches good lie up in_doubt = record { holds = at_start core_words l core_units core_kept s units good lie; in_doubt = in_doubt; rises = up }
+
   pub histories_are_serial : HistoriesAreSerial
   histories_are_serial s units branches history good lie up in_doubt =
       let first : Story = record { branches = branches; world = start core_words core_units s units } in
-      let r = all_told s history first (record { holds = at_start core_words l core_units core_kept s units good lie; in_doubt = in_doubt; rises = up }) in
+      let r = all_told s history first (fine_start s units branches good lie up in_doubt) in
       let end = story history first in
       (subst (λ (t : Store). Serially core_words s end.world.ended t) (ap (λ (c : CoreState). c.base.store) r.1) r.0.holds.serial, r.1)

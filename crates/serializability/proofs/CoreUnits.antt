@@ -52,12 +52,12 @@ same_one : (c : Claim) (ds : List Claim) → list_any (clash c) ds ≡ clashes_o
 same_one c [] = refl
 same_one c (d ∷ ds) = either_if (clash c d) (list_any (clash c) ds) ∙ ap (λ b. if clash c d then true else b) (same_one c ds)
 
-same_clashes : (cs ds : List Claim) → units.clashes cs ds ≡ clashes core_words cs ds
+pub same_clashes : (cs ds : List Claim) → units.clashes cs ds ≡ clashes core_words cs ds
 same_clashes [] ds = refl
 same_clashes (c ∷ cs) ds =
     either_if (list_any (clash c) ds) (units.clashes cs ds) ∙ (λ i. if same_one c ds i then true else same_clashes cs ds i)
 
-same_view : (xs : List Change) (s : Store) → units.apply_all xs s ≡ apply_all core_words xs s
+pub same_view : (xs : List Change) (s : Store) → units.apply_all xs s ≡ apply_all core_words xs s
 same_view [] s = refl
 same_view (x ∷ xs) s = same_view xs (apply x s)
 

@@ -11,3 +11,6 @@ pub mod SqlLaws
 pub mod CoreLaws
 pub mod CoreUnits
 pub mod CoreHistories
+pub mod Belonging
+pub mod Answering
+pub mod SerialRuns

@@ -8,3 +8,5 @@ pub mod SmallStore
 pub mod SqlWords
 pub mod CoreWords
 pub mod Histories
+pub mod Belonging
+pub mod Answered

@@ -1,0 +1,12 @@
+//! Laws of the definitions. The functions do nothing: their contracts are the laws.
+
+ghost use Rattle.drda_node.specs.Closing.{OnlyFailedDevicesClose};
+
+use serializability::answers::answers_belong_to_calls;
+
+/// A command closes its conversation, by AGNPRMRM, only where the device has failed, in this call or before it.
+pub fn only_failed_devices_close()
+    ensures { OnlyFailedDevicesClose }
+{
+    answers_belong_to_calls();
+}

@@ -1,0 +1,8 @@
+use Rattle.recovery_laws.proofs.Beginning.{images_begin, openings_begin}
+use Rattle.recovery_laws.proofs.openings.openings_begin_histories.Goals as goal
+
+pub returns-clause-states : goal.returns-clause-states
+returns-clause-states c = openings_begin c.openings_are_kept.ensures
+
+pub returns-clause-images : goal.returns-clause-images
+returns-clause-images c = images_begin c.openings_are_kept.ensures c.records_lead_to_sound_states.ensures
