@@ -1,0 +1,61 @@
+-- A run over a disk in memory behind a fuse, a crash, and an opening.
+use Rattle.std.proofs.Common.{◌≡◌, ◌⊎◌, ℕ, Bool, true, IsTrue, List, [], Some, Result, Ok, Err, refl, sym, ◌∙◌, ap, subst, inl, inr}
+use Rattle.std.specs.Prelude.{IfErr, IfOk}
+use Rattle.drda_disk.specs.Disk.{Life, Now, Stays}
+use Rattle.drda_disk.specs.MemDisk.{life_of, read_of}
+use Rattle.drda_disk.specs.FuseDisk as fuse
+use Rattle.drda_disk.specs.FuseDisk.{inner_of}
+use Rattle.drda_disk.specs.declared.fuse.FuseDisk.{FuseDisk}
+use Rattle.drda_disk.specs.declared.memory.MemDisk.{MemDisk}
+use Rattle.core_model.specs.Step.{CoreState}
+use Rattle.recovery.specs.Durable.{Durable}
+use Rattle.recovery_laws.specs.Part.{opened}
+use Rattle.recovery_laws.specs.Opens.{OpensTo}
+use Rattle.drda_node.specs.declared.serving.RunEnd.{RunEnd}
+use Rattle.durable_core.specs.declared.errors.OpenError.{OpenError}
+use Rattle.store_service.specs.Running.{HasRun, IsRefused, IsStore, RunsFrom}
+use Rattle.store_service.specs.Surviving.{HasSurvived, Survives}
+
+-- the life of a disk in memory behind a fuse
+abbrev pub fused : FuseDisk MemDisk → Life
+fused f = fuse.life_of life_of f
+
+-- a fuse changes nothing of what is read, or left by a crash
+pub behind_fuse : (name : List ℕ) (d : Durable) (disk : MemDisk) (f : FuseDisk MemDisk) → inner_of f ≡ disk → IsStore true name d (life_of disk) → IsStore true name d (fused f)
+behind_fuse name d disk f is store =
+    let inside : IsStore true name d (life_of (inner_of f)) = subst (λ (m : MemDisk). IsStore true name d (life_of m)) (sym is) store in
+    record { modelled_is = inside.modelled_is; only = inside.only; opens = inside.opens }
+
+-- the state that an image opens to after it all
+pub record LeftState (name : List ℕ) (d : Durable) (user password input image : List ℕ) : Type 0 where
+  pub state : Durable
+  pub opens : OpensTo name state image
+  pub survives : (told : CoreState) → told ≡ opened state → Survives name d user password input told
+
+module _ (name : List ℕ) (d : Durable) (user password input : List ℕ) (f left : FuseDisk MemDisk) (store : IsStore true name d (fused f)) (replies image : List ℕ) (now : Now (fused left) image) where
+  pub left_state : (r : Result RunEnd OpenError) → RunsFrom fused name d user password f (Some input) (Some []) left r (Some replies) → LeftState name d user password input image
+  left_state (Ok end) ran =
+      let after = ran.left image now in
+      record {
+        state = after.after.state;
+        opens = after.after.opens;
+        survives = λ told is. inl (record {
+          room = ran.room;
+          last = ran.last;
+          end = end;
+          replies = replies;
+          runs = ran.runs;
+          records = ran.records;
+          made = ran.made;
+          image = image;
+          after = after;
+          told_is = is;
+        });
+      }
+  left_state (Err error) refused =
+      let same : image ≡ (fused f).seen = store.only image (refused.stays.no_more image now) in
+      record {
+        state = d;
+        opens = subst (λ (i : List ℕ). OpensTo name d i) (sym same) store.opens;
+        survives = λ told is. inr is;
+      }

@@ -1,0 +1,46 @@
+//! What is left of a store whose device fails in a run, after a crash.
+
+ghost use Rattle.std.specs.Prelude.{IfErr, IfOk, List, true, ℕ};
+ghost use Rattle.drda_disk.specs.MemDisk.{life_of};
+ghost use Rattle.recovery.specs.Durable.{Durable};
+ghost use Rattle.store_service.specs.Running.{IsRefusal, IsStore};
+ghost use Rattle.store_service.specs.Surviving.{Survives};
+
+use crate::running::run_store;
+use drda_disk::{FuseDisk, MemDisk};
+use drda_node::open;
+use durable_core::OpenError;
+use rdb_core::PlainState;
+use std::alloc::{AllocError, Global};
+
+/// Runs over the store of a disk as `run_store` does, with a device that fails after so many calls, takes an
+/// image that a crash leaves then, opens it, and tells its state as plain lists. It is the state after all
+/// records of what the run committed, prepared and decided, or all but the last; no premise on disks is left.
+/// `pick` chooses the image, as for `MemDisk::after_crash`.
+///
+/// It is refused for want of memory, or where the name of the store is none of a database.
+pub fn survives(
+    alloc: Global,
+    disk: MemDisk,
+    calls: u64,
+    pick: u64,
+    user: &str,
+    password: &str,
+    input: &[u8],
+) -> Result<PlainState, OpenError>
+    ensures ok { (name : List ℕ) (d : Durable) → IsStore true name d (life_of disk) → IfOk result (Survives name d user.now password.now input.now) }
+    ensures err { (name : List ℕ) (d : Durable) → IsStore true name d (life_of disk) → IfErr result (IsRefusal name) }
+{
+    let mut reader = input;
+    let mut written = Vec::new(alloc);
+    let fuse = FuseDisk::new(disk, calls, false);
+    let (left, _end) = run_store(alloc, fuse, user, password, &mut reader, &mut written);
+    let crashed = left.into_inner().after_crash(pick);
+    match open(alloc, crashed) {
+        Ok(core) => match core.plain() {
+            Ok(plain) => Ok(plain),
+            Err(AllocError) => Err(OpenError::NoMemory),
+        },
+        Err(refused) => Err(refused.error),
+    }
+}
