@@ -12,17 +12,16 @@ use Rattle.drda_node.specs.Asking.{AskedCore, asked_of, asks, left_by}
 
 module _ {D : Type 0} (life : D → Life) where
   same_core : (old new : OnDisk D) → IsUnchanged (shown_on life old) (shown_on life new) → asked_of new ≡ asked_of old
-  same_core old new e = λ i. record { state = e.state i; has_failed = e.is_failed i; made = e.made i }
+  same_core old new e = λ i. record { state = e.state i; room = e.room i; has_failed = e.is_failed i; made = e.made i }
 
   -- a call is asked
   pub core_asks : (old new : OnDisk D) (place : ℕ) (call : Call) (answer : Answer) → Steps (shown_on life old) place call answer (shown_on life new) → asks place (asked_of old) call answer (asked_of new)
-  core_asks old new place call answer (inl t) = inl (record { going = t.going; answer_is = t.answer_is; state = t.state; still = t.still; made = t.made })
+  core_asks old new place call answer (inl t) = inl (record { going = t.going; answer_is = t.answer_is; state = t.state; room = t.room; still = t.still; made = t.made })
   core_asks old new place call answer (inr (inl t)) = inr (inl (record { going = t.going; wanting = t.wanting; answer_is = t.answer_is; same = same_core old new t.same }))
   core_asks old new place call answer (inr (inr (inl t))) = inr (inr (inl (record {
     going = t.going;
     record_is = t.record_is;
     due = t.due;
-    room = old.room;
     answer_is = t.answer_is;
     less = t.less;
     same = same_core old new t.same;
@@ -33,6 +32,7 @@ module _ {D : Type 0} (life : D → Life) where
     due = t.due;
     answer_is = t.answer_is;
     state = t.state;
+    room = t.room;
     failed = t.failed;
     made = t.made;
   }))))
@@ -40,9 +40,10 @@ module _ {D : Type 0} (life : D → Life) where
 
   -- ---- what a loss leaves
 
-  left_going : (old : OnDisk D) (place : ℕ) (new : AskedCore) → old.is_failed ≡ false → new.state ≡ step_state old.state place call.lost → new.has_failed ≡ false → new.made ≡ old.made ++ [] → new ≡ left_by (asked_of old) place
-  left_going old place new going state still made = λ i. record {
+  left_going : (old : OnDisk D) (place : ℕ) (new : AskedCore) → old.is_failed ≡ false → new.state ≡ step_state old.state place call.lost → new.room ≡ old.room → new.has_failed ≡ false → new.made ≡ old.made ++ [] → new ≡ left_by (asked_of old) place
+  left_going old place new going state room still made = λ i. record {
     state = (state ∙ ap (λ (b : Bool). if b then old.state else step_state old.state place call.lost) (sym going)) i;
+    room = room i;
     has_failed = (still ∙ sym going) i;
     made = (made ∙ append-nil old.made) i;
   }
@@ -50,10 +51,11 @@ module _ {D : Type 0} (life : D → Life) where
   left_failed : (old : OnDisk D) (place : ℕ) (new : AskedCore) → old.is_failed ≡ true → new ≡ asked_of old → new ≡ left_by (asked_of old) place
   left_failed old place new failed same = λ i. record {
     state = (ap (λ (c : AskedCore). c.state) same ∙ ap (λ (b : Bool). if b then old.state else step_state old.state place call.lost) (sym failed)) i;
+    room = (ap (λ (c : AskedCore). c.room) same) i;
     has_failed = (ap (λ (c : AskedCore). c.has_failed) same) i;
     made = (ap (λ (c : AskedCore). c.made) same) i;
   }
 
   pub core_loses : (old new : OnDisk D) (place : ℕ) (answer : Answer) → Loses (shown_on life old) place answer (shown_on life new) → asked_of new ≡ left_by (asked_of old) place
-  core_loses old new place answer (inl t) = left_going old place (asked_of new) t.going t.state t.still t.made
+  core_loses old new place answer (inl t) = left_going old place (asked_of new) t.going t.state t.room t.still t.made
   core_loses old new place answer (inr t) = left_failed old place (asked_of new) t.failed (same_core old new t.same)

@@ -10,11 +10,11 @@ use Rattle.drda_node.proofs.Askers.{IsAskedOnce}
 module _ {D : Type 0} (modelled : Bool) (life : D → Life) (go_on : CallsGoOn life) where
   -- no call
   pub none : (s : OnDisk D) → (IsTrue modelled → s.is_failed ≡ false → IsDurable (shown_on life s)) → IsJournaled modelled life s s
-  none s durable honest = go_on.none s (durable honest)
+  none s durable = go_on.none modelled s durable
 
   -- some calls, and some more
   pub more : (a b c : OnDisk D) → IsJournaled modelled life a b → IsJournaled modelled life b c → IsJournaled modelled life a c
-  more a b c p q honest = go_on.both a b c (p honest) (q honest)
+  more a b c p q = go_on.both modelled a b c p q
 
   -- none, and what is the same behind them
   pub none_to : (a b : OnDisk D) → b ≡ a → (IsTrue modelled → a.is_failed ≡ false → IsDurable (shown_on life a)) → IsJournaled modelled life a b

@@ -9,5 +9,6 @@ pub mod Pieces
 pub mod Recording
 pub mod Runs
 pub mod Rows
-pub mod Heard
+pub mod Listening
 pub mod Refusing
+pub mod Histories

@@ -7,7 +7,7 @@ use Rattle.drda_node.specs.Machine.{Conversation, Machine}
 use Rattle.drda_node.specs.Asking.{AskedCore}
 use Rattle.session_commands.specs.Settings.{Settings}
 use Rattle.drda_node.specs.Feeding.{shown_held}
-use Rattle.drda_node.specs.Register.{shown, Register}
+use Rattle.drda_node.specs.Register.{shown}
 
 module _ {X Y : Type 0} (view : X → Y) where
   pub view_at : (xs : List X) (i : ℕ) (d : X) (y : Y) → slice_get (map view xs) i ≡ Some y → view (slice_index_or xs i d) ≡ y
@@ -85,11 +85,7 @@ not_full (None ∷ row) place free full = cc full
 not_full (Some c ∷ row) zero free full = cc free
 not_full (Some c ∷ row) (suc place) free full = not_full row place free full
 
--- a machine whose row and core are these
-pub same_machine : (settings : Settings) (rows row : List (Option Conversation)) (cores core : AskedCore) → rows ≡ row → cores ≡ core
-    → (let m : Machine = record { settings = settings; row = rows; core = cores.state; has_failed = cores.has_failed; made = cores.made } in m)
-    ≡ record { settings = settings; row = row; core = core.state; has_failed = core.has_failed; made = core.made }
-same_machine settings rows row cores core e f = λ i. record { settings = settings; row = e i; core = (f i).state; has_failed = (f i).has_failed; made = (f i).made }
-
-pub same_numbers : (numbers before : List ℕ) (given : ℕ) → numbers ≡ before → (let r : Register = record { numbers = numbers; given = given } in r) ≡ record { numbers = before; given = given }
-same_numbers numbers before given e = ap (λ (ns : List ℕ). let r : Register = record { numbers = ns; given = given } in r) e
+-- a machine whose row, count and core are these
+pub same_machine : (settings : Settings) (rows row : List (Option Conversation)) (givens given : ℕ) (cores core : AskedCore) → rows ≡ row → givens ≡ given → cores ≡ core
+    → (let m : Machine = record { settings = settings; row = rows; given = givens; core = cores } in m) ≡ record { settings = settings; row = row; given = given; core = core }
+same_machine settings rows row givens given cores core e f h = λ i. record { settings = settings; row = e i; given = f i; core = h i }

@@ -11,10 +11,10 @@ use Rattle.drda_node.specs.declared.serving.RunEnd.{RunEnd}
 use Rattle.drda_node.specs.declared.serving.RunEnd.TheVariants.{Ended, BadEvent, ReadFault, WriteFault, NoMemory}
 use Rattle.drda_node.specs.Machine.{Machine}
 use Rattle.drda_node.specs.Records.{Event, event_text, IsAllowed, IsBad}
-use Rattle.drda_node.specs.Happening.{Happens, HappenAll}
+use Rattle.drda_node.specs.Happening.{BreaksOff, Happens, HappenAll}
 use Rattle.drda_node.specs.Gathering.{Ends, PassesOn, WritesFront}
 use Rattle.drda_node.specs.Reading.{Receives}
-use Rattle.drda_node.specs.Serving.{Answered, Serves, Runs}
+use Rattle.drda_node.specs.Serving.{Answered, GoesOn, Leaves, Runs, Serves}
 
 happen_next : (events : List Event) (event : Event) (first between last : Machine) (x y : List ℕ) → HappenAll first events x between → Happens between event y last → HappenAll first (events ++ event ∷ []) (x ++ y) last
 happen_next [] event first between last x y p q =
@@ -23,17 +23,14 @@ happen_next [] event first between last x y p q =
 happen_next (e ∷ events) event first between last x y p q =
     (p.0, p.1 ++ y, p.2, p.3, ap (λ (z : List ℕ). z ++ y) p.4 ∙ append_assoc p.0 p.1 y, happen_next events event p.2 between last p.1 y p.5 q)
 
--- The events that were read are answered, and the rest is still to be read. Of the answers a front is written, which
--- answers some of the events, and the others are gathered.
+-- The events that were read are answered, and the rest is still to be read. Of the answers a prefix is written, and the
+-- others are gathered.
 pub record Gathers (first : Machine) (input : List ℕ) (w0 : Option (List ℕ)) (left : List ℕ) (w : Option (List ℕ)) (gathered : List ℕ) (now : Machine) : Type 0 where
   pub written : List ℕ
   pub answered : Answered first input written left now
   pub sent : List ℕ
   pub appended : Appends w0 w sent
   pub parts : written ≡ sent ++ gathered
-  pub rest : List ℕ
-  pub between : Machine
-  pub some : Answered first input sent rest between
 
 abbrev pub SoFar : Machine → Option (List ℕ) → Option (List ℕ) → Option (List ℕ) → Option (List ℕ) → List ℕ → Machine → Type 0
 SoFar first r0 r w0 w gathered now = IfSome r0 (λ input. MatchOption r ⊥ (λ left. Gathers first input w0 left w gathered now))
@@ -49,9 +46,6 @@ starts (Some input) w first = record {
   sent = [];
   appended = Appends-nil w;
   parts = refl;
-  rest = input;
-  between = first;
-  some = none_answered input first;
 }
 
 answered_next : (first between last : Machine) (input x left y left' : List ℕ) (event : Event) → Answered first input x left between → IsAllowed event → left ≡ event_text event ++ left' → Happens between event y last
@@ -76,22 +70,15 @@ one_more (Some input) (Some left) (Some left') w0 w w' first between last event 
       sent = so_far.sent;
       appended = subst (λ (z : List ℕ). Appends w0 w' z) (append-nil so_far.sent) (Appends-trans w0 w w' so_far.sent [] so_far.appended none);
       parts = ap (λ (z : List ℕ). z ++ y) so_far.parts ∙ append_assoc so_far.sent gathered y ∙ ap (λ (z : List ℕ). so_far.sent ++ z) (sym more);
-      rest = so_far.rest;
-      between = so_far.between;
-      some = so_far.some;
     }
 one_more (Some input) (Some left) (Some left') w0 w w' first between last event y gathered gathered' so_far received happens (inr (all, nothing)) =
-    let answered : Answered first input (so_far.written ++ y) left' last = answered_next first between last input so_far.written left y left' event so_far.answered received.allowed received.consumed happens in
     let sent_is : so_far.written ++ y ≡ so_far.sent ++ (gathered ++ y) = ap (λ (z : List ℕ). z ++ y) so_far.parts ∙ append_assoc so_far.sent gathered y in
     record {
       written = so_far.written ++ y;
-      answered = answered;
+      answered = answered_next first between last input so_far.written left y left' event so_far.answered received.allowed received.consumed happens;
       sent = so_far.sent ++ (gathered ++ y);
       appended = Appends-trans w0 w w' so_far.sent (gathered ++ y) so_far.appended all;
       parts = sent_is ∙ sym (append-nil (so_far.sent ++ (gathered ++ y))) ∙ ap (λ (z : List ℕ). (so_far.sent ++ (gathered ++ y)) ++ z) (sym nothing);
-      rest = left';
-      between = last;
-      some = subst (λ (z : List ℕ). Answered first input z left' last) sent_is answered;
     }
 
 -- all that was gathered is written
@@ -102,14 +89,25 @@ whole first now input left gathered w0 w w' so_far wrote = record {
   appended = subst (λ (z : List ℕ). Appends w0 w' z) (sym so_far.parts) (Appends-trans w0 w w' so_far.sent gathered so_far.appended wrote);
 }
 
--- a front of it is written
-broken_off : (first now : Machine) (input left gathered : List ℕ) (w0 w w' : Option (List ℕ)) → Gathers first input w0 left w gathered now → (count : ℕ) × Appends w w' (take count gathered) → Runs first input w0 WriteFault w' now
-broken_off first now input left gathered w0 w w' so_far wrote = (
+-- ---- what is left behind the events that are answered
+
+same_goes_on : (m : Machine) → GoesOn m m
+same_goes_on m = record { settings = refl; more = []; made = sym (append-nil m.core.made); failed = λ failed. failed }
+
+none_begun : (m : Machine) (rest : List ℕ) → Leaves m rest m
+none_begun m rest = record { goes_on = same_goes_on m; begun = inl refl }
+
+-- a prefix of it is written
+broken_off : (first now last : Machine) (input left gathered : List ℕ) (w0 w w' : Option (List ℕ)) → Gathers first input w0 left w gathered now → (count : ℕ) × Appends w w' (take count gathered) → Leaves now left last
+    → Runs first input w0 WriteFault w' last
+broken_off first now last input left gathered w0 w w' so_far wrote leaves = (
   so_far.written,
   left,
   length so_far.sent + wrote.0,
+  now,
   so_far.answered,
   subst (λ (z : List ℕ). Appends w0 w' (take (length so_far.sent + wrote.0) z)) (sym so_far.parts) (appends_front w0 w w' so_far.sent gathered wrote.0 so_far.appended wrote.1),
+  leaves,
 )
 
 pub ends : (r0 r w0 w w' : Option (List ℕ)) (first now : Machine) (gathered : List ℕ) (end : RunEnd) → SoFar first r0 r w0 w gathered now → IfSome r (λ left. left ≡ []) → Ends w gathered Ended end w' → IfSome r0 (λ input. Runs first input w0 end w' now)
@@ -118,7 +116,7 @@ ends (Some input) None w0 w w' first now gathered end so_far nothing finished = 
 ends (Some input) (Some left) w0 w w' first now gathered end so_far nothing (inl (is, wrote)) =
     subst (λ (e : RunEnd). Runs first input w0 e w' now) (sym is) (subst (λ (z : List ℕ). Serves first input w0 z w' now) nothing (whole first now input left gathered w0 w w' so_far wrote))
 ends (Some input) (Some left) w0 w w' first now gathered end so_far nothing (inr (is, wrote)) =
-    subst (λ (e : RunEnd). Runs first input w0 e w' now) (sym is) (broken_off first now input left gathered w0 w w' so_far wrote)
+    subst (λ (e : RunEnd). Runs first input w0 e w' now) (sym is) (broken_off first now now input left gathered w0 w w' so_far wrote (none_begun now left))
 
 pub is_bad : (r0 r w0 w w' : Option (List ℕ)) (first now : Machine) (gathered : List ℕ) (end : RunEnd) → SoFar first r0 r w0 w gathered now → IfSome r IsBad → Ends w gathered BadEvent end w' → IfSome r0 (λ input. Runs first input w0 end w' now)
 is_bad None r w0 w w' first now gathered end so_far bad finished = tt
@@ -126,7 +124,7 @@ is_bad (Some input) None w0 w w' first now gathered end so_far bad finished = ab
 is_bad (Some input) (Some left) w0 w w' first now gathered end so_far bad (inl (is, wrote)) =
     subst (λ (e : RunEnd). Runs first input w0 e w' now) (sym is) (left, bad, whole first now input left gathered w0 w w' so_far wrote)
 is_bad (Some input) (Some left) w0 w w' first now gathered end so_far bad (inr (is, wrote)) =
-    subst (λ (e : RunEnd). Runs first input w0 e w' now) (sym is) (broken_off first now input left gathered w0 w w' so_far wrote)
+    subst (λ (e : RunEnd). Runs first input w0 e w' now) (sym is) (broken_off first now now input left gathered w0 w w' so_far wrote (none_begun now left))
 
 pub read_fault : (r0 r w0 w w' : Option (List ℕ)) (first now : Machine) (gathered : List ℕ) (end : RunEnd) → SoFar first r0 r w0 w gathered now → Ends w gathered ReadFault end w' → IfSome r0 (λ input. Runs first input w0 end w' now)
 read_fault None r w0 w w' first now gathered end so_far finished = tt
@@ -134,13 +132,29 @@ read_fault (Some input) None w0 w w' first now gathered end so_far finished = ab
 read_fault (Some input) (Some left) w0 w w' first now gathered end so_far (inl (is, wrote)) =
     subst (λ (e : RunEnd). Runs first input w0 e w' now) (sym is) (left, whole first now input left gathered w0 w w' so_far wrote)
 read_fault (Some input) (Some left) w0 w w' first now gathered end so_far (inr (is, wrote)) =
-    subst (λ (e : RunEnd). Runs first input w0 e w' now) (sym is) (broken_off first now input left gathered w0 w w' so_far wrote)
+    subst (λ (e : RunEnd). Runs first input w0 e w' now) (sym is) (broken_off first now now input left gathered w0 w w' so_far wrote (none_begun now left))
 
--- what was gathered is not written
-pub no_memory : (r0 r w0 w : Option (List ℕ)) (first between now : Machine) (gathered : List ℕ) → SoFar first r0 r w0 w gathered between → IfSome r0 (λ input. Runs first input w0 NoMemory w now)
-no_memory None r w0 w first between now gathered so_far = tt
-no_memory (Some input) None w0 w first between now gathered so_far = absurd so_far
-no_memory (Some input) (Some left) w0 w first between now gathered so_far = (so_far.rest, so_far.between, record { written = so_far.sent; answered = so_far.some; appended = so_far.appended })
+-- nothing was read
+pub not_begun : (r w : Option (List ℕ)) (first : Machine) → IfSome r (λ input. Runs first input w NoMemory w first)
+not_begun None w first = tt
+not_begun (Some input) w first = (input, first, record { written = []; answered = none_answered input first; appended = Appends-nil w }, none_begun first input)
+
+-- an event was read and is not answered
+pub no_memory : (r0 r r' w0 w w' : Option (List ℕ)) (first between last : Machine) (event : Event) (gathered : List ℕ) (end : RunEnd) → SoFar first r0 r w0 w gathered between → Receives r r' event
+    → BreaksOff between event last → GoesOn between last → Ends w gathered NoMemory end w' → IfSome r0 (λ input. Runs first input w0 end w' last)
+no_memory None r r' w0 w w' first between last event gathered end so_far received breaks goes_on finished = tt
+no_memory (Some input) None r' w0 w w' first between last event gathered end so_far received breaks goes_on finished = absurd so_far
+no_memory (Some input) (Some left) None w0 w w' first between last event gathered end so_far received breaks goes_on finished = absurd received.consumed
+no_memory (Some input) (Some left) (Some left') w0 w w' first between last event gathered end so_far received breaks goes_on (inl (is, wrote)) =
+    subst (λ (e : RunEnd). Runs first input w0 e w' last) (sym is) (
+      left,
+      between,
+      whole first between input left gathered w0 w w' so_far wrote,
+      record { goes_on = goes_on; begun = inr (event, left', received.allowed, received.consumed, breaks) },
+    )
+no_memory (Some input) (Some left) (Some left') w0 w w' first between last event gathered end so_far received breaks goes_on (inr (is, wrote)) =
+    subst (λ (e : RunEnd). Runs first input w0 e w' last) (sym is)
+    (broken_off first between last input left gathered w0 w w' so_far wrote (record { goes_on = goes_on; begun = inr (event, left', received.allowed, received.consumed, breaks) }))
 
 pub write_fault : (r0 r r' w0 w w' : Option (List ℕ)) (first between last : Machine) (event : Event) (y gathered : List ℕ) → SoFar first r0 r w0 w gathered between → Receives r r' event → Happens between event y last
     → WritesFront w w' gathered y → IfSome r0 (λ input. Runs first input w0 WriteFault w' last)
@@ -152,6 +166,8 @@ write_fault (Some input) (Some left) (Some left') w0 w w' first between last eve
       so_far.written ++ y,
       left',
       length so_far.sent + wrote.0,
+      last,
       answered_next first between last input so_far.written left y left' event so_far.answered received.allowed received.consumed happens,
       subst (λ (z : List ℕ). Appends w0 w' (take (length so_far.sent + wrote.0) z)) (sym sent_is) (appends_front w0 w w' so_far.sent (gathered ++ y) wrote.0 so_far.appended wrote.1),
+      none_begun last left',
     )

@@ -1,6 +1,6 @@
 -- Who is asked: the core, for one conversation, which it knows by its place in the row. What a conversation
 -- leaves unfinished goes with it when it is lost, so that another one may have its place.
-use Rattle.std.specs.Prelude.{◌≡◌, ◌⊎◌, ℕ, ◌+◌, ◌-◌, ◌^◌, ◌<◌, min, Bool, true, false, IsTrue, List, [], ◌∷◌, ◌++◌, Some, if◌then◌else◌}
+use Rattle.std.specs.Prelude.{◌≡◌, ◌⊎◌, ℕ, ◌+◌, ◌-◌, ◌^◌, ◌<◌, min, Bool, true, false, List, [], ◌∷◌, ◌++◌, Some, if◌then◌else◌}
 use Rattle.drda_disk.specs.Disk.{Life}
 use Rattle.unit_journal.specs.Record.{Entry}
 use Rattle.unit_records.specs.Records.{UnitRecord, entry_of}
@@ -11,21 +11,23 @@ use Rattle.core_calls.specs.Answer.{Answer, closed, device_failed, full, no_memo
 use Rattle.core_model.specs.Step.{CoreState, answer as answer_to, step_state}
 use Rattle.unit_records.specs.Due.{record_due}
 use Rattle.recovery_laws.specs.Journaled.{Journaled, OnDisk, shown_on}
-use Rattle.durable_core.specs.Steps.{MayWantMemory, due_entries}
+use Rattle.durable_core.specs.Steps.{MayWantMemory, RoomAfter, due_entries}
 use Rattle.drda_node.specs.declared.asker.Asker.{Asker}
 
--- what a core is to those who ask it: its state, whether the device has failed, and the records that were due of its
--- calls so far, in their order; the last may be of a call in which the device failed
+-- what a core is to those who ask it: its state, the bytes that are left for records, whether the device has failed, and
+-- the records that were due of its calls so far, in their order; the last may be of a call in which the device failed
 pub record AskedCore : Type 0 where
   pub state : CoreState
+  pub room : ℕ
   pub has_failed : Bool
   pub made : List Entry
 
--- the answer and the state behind it are those of the step
+-- the answer and the state behind it are those of the step; a record that was due is in the room
 pub record IsTaken (old : AskedCore) (place : ℕ) (call : Call) (answer : Answer) (new : AskedCore) : Type 0 where
   pub going : old.has_failed ≡ false
   pub answer_is : answer ≡ answer_to old.state.branches old.state.base place call
   pub state : new.state ≡ step_state old.state place call
+  pub room : RoomAfter (record_due old.state place call) old.room new.room
   pub still : new.has_failed ≡ false
   pub made : new.made ≡ old.made ++ due_entries (record_due old.state place call)
 
@@ -38,14 +40,13 @@ pub record FindsNoMemory (old : AskedCore) (place : ℕ) (call : Call) (answer :
   pub answer_is : answer ≡ no_memory
   pub same : new ≡ old
 
--- the record that is due, and what it holds back, are longer than the room of the journal and what it releases
+-- the record that is due, and what it holds back, are longer than the room and what it releases
 pub record FindsNoRoom (old : AskedCore) (place : ℕ) (call : Call) (answer : Answer) (new : AskedCore) : Type 0 where
   pub going : old.has_failed ≡ false
   pub record_is : UnitRecord
   pub due : record_due old.state place call ≡ Some record_is
-  pub room : ℕ
-  pub answer_is : answer ≡ full (min (taken record_is + held record_is - released record_is) (2 ^ 64 - 1)) room
-  pub less : room + released record_is < taken record_is + held record_is
+  pub answer_is : answer ≡ full (min (taken record_is + held record_is - released record_is) (2 ^ 64 - 1)) old.room
+  pub less : old.room + released record_is < taken record_is + held record_is
   pub same : new ≡ old
 
 -- the device failed where the call's record was to be made
@@ -55,6 +56,7 @@ pub record FailsHere (old : AskedCore) (place : ℕ) (call : Call) (answer : Ans
   pub due : record_due old.state place call ≡ Some record_is
   pub answer_is : answer ≡ device_failed
   pub state : new.state ≡ old.state
+  pub room : new.room ≡ old.room
   pub failed : new.has_failed ≡ true
   pub made : new.made ≡ old.made ++ entry_of record_is ∷ []
 
@@ -75,12 +77,12 @@ asks place old call answer new = IsTaken old place call answer new ⊎ IsExcused
 -- what is left of the core where a conversation is lost: its units end, and no record is due of that; once the device
 -- has failed nothing is done
 abbrev pub left_by : AskedCore → ℕ → AskedCore
-left_by old place = record { state = if old.has_failed then old.state else step_state old.state place call.lost; has_failed = old.has_failed; made = old.made }
+left_by old place = record old { state = if old.has_failed then old.state else step_state old.state place call.lost }
 
 -- ---- in code
 
 abbrev pub asked_of : {D : Type 0} → OnDisk D → AskedCore
-asked_of s = record { state = s.state; has_failed = s.is_failed; made = s.made }
+asked_of s = record { state = s.state; room = s.room; has_failed = s.is_failed; made = s.made }
 
 abbrev pub core_of : {D : Type 0} → Asker D → AskedCore
 core_of asker = asked_of asker.core.now
@@ -90,9 +92,9 @@ pub record IsSameAsker {D : Type 0} (old new : Asker D) : Type 0 where
   pub core : new.core.ghost_name ≡ old.core.ghost_name
   pub conversation : new.conversation ≡ old.conversation
 
--- what a crash leaves, where the disk gives back what was written
+-- what the device does, of any disk, and what a crash leaves, where the disk gives back what was written
 abbrev pub IsJournaled : {D : Type 0} → Bool → (D → Life) → OnDisk D → OnDisk D → Type 0
-IsJournaled modelled life old new = IsTrue modelled → Journaled (shown_on life old) (shown_on life new)
+IsJournaled modelled life old new = Journaled modelled (shown_on life old) (shown_on life new)
 
 abbrev pub asks_of : {D : Type 0} → Bool → (D → Life) → Asker D → Call → Answer → Asker D → Type 0
 asks_of modelled life old call answer new =

@@ -1,12 +1,12 @@
 -- What an event does to the machine, and the records that answer it.
-use Rattle.std.specs.Prelude.{◌≡◌, ◌⊎◌, ℕ, Bool, List, [], ◌∷◌, ◌++◌, Option, Some, None, slice_get, if◌then◌else◌}
+use Rattle.std.specs.Prelude.{◌≡◌, ◌⊎◌, ℕ, ◌+◌, ◌<◌, ◌^◌, Bool, List, [], ◌∷◌, ◌++◌, Option, Some, None, slice_get, if◌then◌else◌}
 use Rattle.drda_node.specs.Machine.{Conversation, Machine, opened, lost}
-use Rattle.drda_node.specs.Hearing.{Attended, attended, attended_at, Hears}
+use Rattle.drda_node.specs.Hearing.{Attended, attended, attended_at, Hears, HearsAt}
 use Rattle.drda_node.specs.Records.{record_text, Event, opens, sends, loses, checkpoints}
 
 -- ---- the records that go out
 
--- 06: the event was refused: 01 its number can't be opened, 02 it is not open, 03 there is no memory
+-- 06: the event was refused: 01 its number can't be opened, 02 it is not open, 03 2^64 - 1 conversations were opened before
 abbrev pub refusal : ℕ → ℕ → List ℕ
 refusal number reason = record_text 6 number (reason ∷ [])
 
@@ -21,8 +21,8 @@ abbrev pub OpensAt : Option (Option Conversation) → Machine → ℕ → List �
 OpensAt None machine number written new = (written ≡ refusal number 1) × (new ≡ machine)
 OpensAt (Some (Some conversation)) machine number written new = (written ≡ refusal number 1) × (new ≡ machine)
 OpensAt (Some None) machine number written new =
-    ((written ≡ record_text 1 number []) × (new ≡ opened machine number))
-    ⊎ ((written ≡ refusal number 3) × (new ≡ machine))
+    ((machine.given + 1 < 2 ^ 64) × (written ≡ record_text 1 number []) × (new ≡ opened machine number))
+    ⊎ ((machine.given + 1 ≡ 2 ^ 64) × (written ≡ refusal number 3) × (new ≡ machine))
 
 -- the replies of a conversation to bytes that came, and whether it is closed then
 pub record Replies (before : Conversation) (machine : Machine) (number : ℕ) (bytes written : List ℕ) (new : Machine) : Type 0 where
@@ -55,3 +55,16 @@ abbrev pub HappenAll : Machine → List Event → List ℕ → Machine → Type 
 HappenAll machine [] written last = (written ≡ []) × (last ≡ machine)
 HappenAll machine (event ∷ events) written last =
     (first others : List ℕ) × (next : Machine) × Happens machine event first next × (written ≡ first ++ others) × HappenAll next events others last
+
+-- ---- where memory is refused
+
+-- a prefix of the bytes that an event sends is heard
+abbrev pub SendsPart : Machine → Event → Machine → Type 0
+SendsPart machine (opens number) new = ⊥
+SendsPart machine (sends number bytes) new = (heard rest replies : List ℕ) × (after : Attended) × (bytes ≡ heard ++ rest) × HearsAt machine number heard replies after new
+SendsPart machine (loses number) new = ⊥
+SendsPart machine (checkpoints number) new = ⊥
+
+-- an event that is not answered, as memory was refused: it does nothing, or all that it does, or a prefix of its bytes is heard
+abbrev pub BreaksOff : Machine → Event → Machine → Type 0
+BreaksOff machine event new = (new ≡ machine) ⊎ (((written : List ℕ) × Happens machine event written new) ⊎ SendsPart machine event new)

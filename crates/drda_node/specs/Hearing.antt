@@ -1,10 +1,12 @@
 -- What a conversation answers to bytes, and what it makes of the core that it asks.
-use Rattle.std.specs.Prelude.{◌≡◌, ◌⊎◌, ℕ, true, false, List, [], ◌++◌, Some, slice_get, slice_set}
+use Rattle.std.specs.Prelude.{◌≡◌, ◌⊎◌, ℕ, true, false, List, [], ◌++◌, length, Some, slice_get, slice_set}
 use Rattle.session_commands.specs.Settings.{Settings}
 use Rattle.conversation.specs.Standing.{Standing}
 use Rattle.conversation.specs.Steps.{Converses}
 use Rattle.drda_node.specs.Asking.{AskedCore, asks}
-use Rattle.drda_node.specs.Machine.{Conversation, Machine, asked_in}
+use Rattle.drda_node.specs.declared.fed.Heard.{Heard}
+use Rattle.drda_node.specs.declared.fed.Heard.TheVariants.{Open, Closed, NoMemory}
+use Rattle.drda_node.specs.Machine.{Conversation, Machine}
 
 -- the bytes after the last completed command of a conversation, and how it stands with the core
 pub record Attended : Type 0 where
@@ -14,7 +16,7 @@ pub record Attended : Type 0 where
 abbrev pub attended : Machine → Conversation → Attended
 attended machine conversation = record {
   rest = conversation.rest;
-  standing = record { session = conversation.session; statements = conversation.statements; asked = asked_in machine };
+  standing = record { session = conversation.session; statements = conversation.statements; asked = machine.core };
 }
 
 abbrev pub conversation_of : Attended → Conversation
@@ -22,7 +24,7 @@ conversation_of a = record { rest = a.rest; session = a.standing.session; statem
 
 -- the conversation stands at the place then, with the core as it leaves it; all other conversations stay
 abbrev pub attended_at : Machine → ℕ → Attended → Machine
-attended_at machine place after = record machine { row = slice_set machine.row place (Some (conversation_of after)); core = after.standing.asked.state; has_failed = after.standing.asked.has_failed; made = after.standing.asked.made }
+attended_at machine place after = record machine { row = slice_set machine.row place (Some (conversation_of after)); core = after.standing.asked }
 
 -- An open conversation does each command that is whole with these bytes, in order, and keeps the rest. A
 -- fault of the framing is answered and closes it, and so does a command that is answered by AGNPRMRM.
@@ -45,3 +47,42 @@ pub record HearsAt (old : Machine) (place : ℕ) (bytes replies : List ℕ) (aft
   pub was : slice_get old.row place ≡ Some (Some before)
   pub hears : Hears old.settings place (attended old before) bytes replies after
   pub row : new ≡ attended_at old place after
+
+-- ---- a piece of bytes, by how hearing it ends
+
+-- all of it, whose replies were appended, and the conversation is open
+pub record HearsAll (old : Machine) (place : ℕ) (piece out : List ℕ) (new : Machine) (out' : List ℕ) : Type 0 where
+  pub replies : List ℕ
+  pub after : Attended
+  pub hears : HearsAt old place piece replies after new
+  pub still_open : after.standing.session.is_closed ≡ false
+  pub appended : out' ≡ out ++ replies
+
+-- the same, and the conversation is closed, so that it hears nothing of whatever comes after the piece
+pub record HearsLast (old : Machine) (place : ℕ) (piece out : List ℕ) (new : Machine) (out' : List ℕ) : Type 0 where
+  pub replies : List ℕ
+  pub after : Attended
+  pub hears : (more : List ℕ) → HearsAt old place (piece ++ more) replies after new
+  pub closed : after.standing.session.is_closed ≡ true
+  pub appended : out' ≡ out ++ replies
+
+-- the bytes of the reply that says that a command found no memory
+abbrev pub IsShortReply : List ℕ → Type 0
+IsShortReply bytes = length bytes ≡ 16
+
+-- a prefix of it, whose replies were appended, but perhaps not the last, which says that a command found no memory
+pub record HearsPart (old : Machine) (place : ℕ) (piece out : List ℕ) (new : Machine) (out' : List ℕ) : Type 0 where
+  pub heard : List ℕ
+  pub rest : List ℕ
+  pub replies : List ℕ
+  pub unsaid : List ℕ
+  pub after : Attended
+  pub parts : piece ≡ heard ++ rest
+  pub hears : HearsAt old place heard (replies ++ unsaid) after new
+  pub short : (unsaid ≡ []) ⊎ IsShortReply unsaid
+  pub appended : out' ≡ out ++ replies
+
+abbrev pub HearsPiece : Machine → ℕ → List ℕ → List ℕ → Heard → Machine → List ℕ → Type 0
+HearsPiece old place piece out Open new out' = HearsAll old place piece out new out'
+HearsPiece old place piece out Closed new out' = HearsLast old place piece out new out'
+HearsPiece old place piece out NoMemory new out' = HearsPart old place piece out new out'

@@ -10,3 +10,4 @@ pub mod Gathering
 pub mod Register
 pub mod Serving
 pub mod Sharing
+pub mod Calls

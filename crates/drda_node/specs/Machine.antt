@@ -1,10 +1,7 @@
 -- The machine that a node is: what it was started with, a row of places, each free or with one
--- conversation, and the core that all of them ask, with whether the device below it has failed, and the records that
--- were due of its calls so far.
-use Rattle.std.specs.Prelude.{◌≡◌, ℕ, List, [], Option, Some, None, Bool, slice_get, slice_set, is_some, replicate}
+-- conversation, how many numbers of conversations were given, and the core that all of them ask.
+use Rattle.std.specs.Prelude.{◌≡◌, ℕ, ◌+◌, List, [], Option, Some, None, Bool, slice_get, slice_set, is_some, replicate}
 use Rattle.std.specs.List.{list_all}
-use Rattle.unit_journal.specs.Record.{Entry}
-use Rattle.core_model.specs.Step.{CoreState}
 use Rattle.drda_node.specs.Asking.{AskedCore, left_by}
 use Rattle.command_kit.specs.Statements.{fresh as no_statements}
 use Rattle.command_kit.specs.declared.statements.Statements.{Statements}
@@ -22,33 +19,25 @@ pub record Conversation : Type 0 where
 pub record Machine : Type 0 where
   pub settings : Settings
   pub row : List (Option Conversation)
-  pub core : CoreState
-  pub has_failed : Bool
-  pub made : List Entry
+  pub given : ℕ
+  pub core : AskedCore
 
 -- no conversation is open
 abbrev pub at_start : Settings → AskedCore → Machine
-at_start settings asked = record { settings = settings; row = replicate 64 None; core = asked.state; has_failed = asked.has_failed; made = asked.made }
+at_start settings core = record { settings = settings; row = replicate 64 None; given = 0; core = core }
 
 -- a conversation of which nothing has come
 abbrev pub beginning : Conversation
 beginning = record { rest = []; session = fresh; statements = no_statements }
 
--- this stands at the place then, and all others stay as they are
-abbrev pub with_place : Machine → ℕ → Option Conversation → Machine
-with_place machine place now = record machine { row = slice_set machine.row place now }
-
+-- a conversation is opened under the next number
 abbrev pub opened : Machine → ℕ → Machine
-opened machine place = with_place machine place (Some beginning)
-
--- its core, as those who ask it know it
-abbrev pub asked_in : Machine → AskedCore
-asked_in machine = record { state = machine.core; has_failed = machine.has_failed; made = machine.made }
+opened machine place = record machine { row = slice_set machine.row place (Some beginning); given = machine.given + 1 }
 
 -- A conversation that is lost leaves its place free, and the core ends what was its alone. A command that
 -- had not come whole is not asked.
 abbrev pub lost : Machine → ℕ → Machine
-lost machine place = record machine { row = slice_set machine.row place None; core = (left_by (asked_in machine) place).state }
+lost machine place = record machine { row = slice_set machine.row place None; core = left_by machine.core place }
 
 abbrev pub IsOpen : Machine → ℕ → Type 0
 IsOpen machine place = (conversation : Conversation) × (slice_get machine.row place ≡ Some (Some conversation))

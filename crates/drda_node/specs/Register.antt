@@ -1,9 +1,10 @@
 -- Which conversation is meant: a place, and the number that was given to the one that stands there.
-use Rattle.std.specs.Prelude.{◌≡◌, ℕ, ◌+◌, List, map, Option, Some, None, slice_get, slice_set, if◌then◌else◌}
+use Rattle.std.specs.Prelude.{◌≡◌, ℕ, ◌+◌, ◌<◌, ◌^◌, List, map, Option, Some, None, slice_get, slice_set, if◌then◌else◌}
 use Rattle.recovery_laws.specs.Journaled.{OnDisk}
 use Rattle.drda_node.specs.declared.node.Node.{Node}
 use Rattle.drda_node.specs.declared.slot.Slot.{Slot}
 use Rattle.drda_node.specs.declared.node.ConversationId.{ConversationId}
+use Rattle.drda_node.specs.Asking.{asked_of}
 use Rattle.drda_node.specs.Machine.{Conversation, Machine, IsOpen, opened}
 use Rattle.drda_node.specs.Feeding.{shown_held}
 
@@ -19,34 +20,29 @@ abbrev pub machine : {D : Type 0} {d : _} → Node D d → Machine
 machine node = record {
   settings = node.settings;
   row = map shown node.places.items;
-  core = (core_in node).state;
-  has_failed = (core_in node).is_failed;
-  made = (core_in node).made;
+  given = node.next_number;
+  core = asked_of (core_in node);
 }
-
--- the number that was last given at each place, and how many numbers were given
-pub record Register : Type 0 where
-  pub numbers : List ℕ
-  pub given : ℕ
 
 abbrev pub number_of : Slot → ℕ
 number_of place = place.number
 
-abbrev pub register : {D : Type 0} {d : _} → Node D d → Register
-register node = record { numbers = map number_of node.places.items; given = node.next_number }
+-- the number that was last given at each place
+abbrev pub numbers : {D : Type 0} {d : _} → Node D d → List ℕ
+numbers node = map number_of node.places.items
 
 abbrev pub place_of : ConversationId → ℕ
 place_of id = id.place
 
 -- the conversation that this was given for is open
-pub record Names (machine : Machine) (register : Register) (id : ConversationId) : Type 0 where
+pub record Names (machine : Machine) (numbers : List ℕ) (id : ConversationId) : Type 0 where
   pub is_there : IsOpen machine id.place
-  pub number : slice_get register.numbers id.place ≡ Some id.number
+  pub number : slice_get numbers id.place ≡ Some id.number
 
 -- A free place was opened, under the next number. Numbers rise, so none is ever given twice.
-pub record Opens (old : Machine) (before : Register) (id : ConversationId) (new : Machine) (after : Register) : Type 0 where
+pub record Opens (old : Machine) (before : List ℕ) (id : ConversationId) (new : Machine) (after : List ℕ) : Type 0 where
   pub free : slice_get old.row id.place ≡ Some None
+  pub left : old.given + 1 < 2 ^ 64
   pub row : new ≡ opened old id.place
-  pub number : id.number ≡ before.given
-  pub numbers : after.numbers ≡ slice_set before.numbers id.place id.number
-  pub given : after.given ≡ before.given + 1
+  pub number : id.number ≡ old.given
+  pub numbers : after ≡ slice_set before id.place id.number

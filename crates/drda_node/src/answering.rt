@@ -1,19 +1,18 @@
 //! Events done by a node, and the records that answer them.
 
-ghost use Rattle.std.specs.Prelude.{◌≡◌, ◌≤◌, ◌+◌, [], ◌++◌, ℕ, List, OnOk, IfOk, length, drop};
+ghost use Rattle.std.specs.Prelude.{◌≡◌, ◌≤◌, ◌+◌, [], ◌++◌, ℕ, List, IfOk, OnErr, OnOk, length, drop};
 ghost use Rattle.drda_node.specs.Machine.{IsOpen};
 ghost use Rattle.drda_node.specs.Hearing.{Attended, HearsAt};
 ghost use Rattle.drda_node.specs.Records.{StartsUnsized, opens, sends, loses, checkpoints, record_text};
 ghost use Rattle.drda_node.specs.Reading.{event_of, size_of};
-ghost use Rattle.drda_node.specs.Happening.{Happens, refusal, closing};
+ghost use Rattle.drda_node.specs.Happening.{BreaksOff, Happens, closing, refusal};
 ghost use Rattle.drda_node.specs.Asking.{IsJournaled};
 ghost use Rattle.drda_node.specs.Register.{core_in, machine};
 
 use crate::event::{HEAD_SIZE, Head, push_record};
-use crate::fed::FedState;
+use crate::fed::Heard;
 use crate::node::{Done, Node};
 use drda_disk::Disk;
-use dss_frames::stays_read;
 use recovery_laws::images::calls_go_on;
 use std::alloc::AllocError;
 
@@ -44,7 +43,8 @@ fn refuse(text: &mut Vec<u8>, number: u8, reason: u8) -> Result<(), AllocError>
 }
 
 /// Does an event, its bytes to the front of `bytes`, and writes the records that answer it in place of
-/// what the text was. For want of memory nothing is said of the text.
+/// what the text was. For want of memory nothing is said of the text; the event did nothing then, or all
+/// that it does, or a prefix of its bytes was heard.
 pub(crate) fn answer<D: Disk>(
     node: &mut Node<D>,
     head: Head,
@@ -53,6 +53,7 @@ pub(crate) fn answer<D: Disk>(
 ) -> Result<(), AllocError>
     requires { size_of head ≤ length bytes.now }
     ensures happens { OnOk result (Happens (machine node.old) (event_of head bytes.now) text.new.items (machine node.new)) }
+    ensures breaks_off { OnErr result (BreaksOff (machine node.old) (event_of head bytes.now) (machine node.new)) }
     ensures journaled { IsJournaled D.is_modelled D.life (core_in node.old) (core_in node.new) }
 {
     text.clear();
@@ -74,6 +75,7 @@ fn answer_open<D: Disk>(
 ) -> Result<(), AllocError>
     requires { text.old.items ≡ [] }
     ensures happens { OnOk result (Happens (machine node.old) (opens number) text.new.items (machine node.new)) }
+    ensures breaks_off { OnErr result (BreaksOff (machine node.old) (opens number) (machine node.new)) }
     ensures journaled { IsJournaled D.is_modelled D.life (core_in node.old) (core_in node.new) }
 {
     calls_go_on::<D>();
@@ -96,6 +98,7 @@ fn answer_bytes<D: Disk>(
 ) -> Result<(), AllocError>
     requires { text.old.items ≡ [] }
     ensures happens { OnOk result (Happens (machine node.old) (sends number bytes.now) text.new.items (machine node.new)) }
+    ensures breaks_off { OnErr result (BreaksOff (machine node.old) (sends number bytes.now) (machine node.new)) }
     ensures journaled { IsJournaled D.is_modelled D.life (core_in node.old) (core_in node.new) }
 {
     calls_go_on::<D>();
@@ -105,7 +108,7 @@ fn answer_bytes<D: Disk>(
         return refuse(text, number, NOT_OPEN);
     }
     text.extend_from_slice(&[REPLIES, number, 0, 0, 0, 0])?;
-    let is_closed = feed_all(node, place, bytes, text)?;
+    let is_closed = hear_all(node, place, bytes, text)?;
     let size = text.len() - HEAD_SIZE;
     if size > u32::MAX as usize {
         return Err(AllocError);
@@ -115,6 +118,28 @@ fn answer_bytes<D: Disk>(
         push_record(text, CLOSED, number, &[])?;
     }
     Ok(())
+}
+
+// Gives a conversation all of these bytes, and appends its replies. Says whether it is closed then.
+fn hear_all<D: Disk>(
+    node: &mut Node<D>,
+    place: usize,
+    bytes: &[u8],
+    text: &mut Vec<u8>,
+) -> Result<bool, AllocError>
+    requires { IsOpen (machine node.old) place }
+    ensures hears { IfOk result (λ is_closed. (after : Attended) × (written : List ℕ)
+        × (text.new.items ≡ text.old.items ++ written)
+        × HearsAt (machine node.old) place bytes.now written after (machine node.new)
+        × (after.standing.session.is_closed ≡ is_closed)) }
+    ensures anyway { BreaksOff (machine node.old) (sends place bytes.now) (machine node.new) }
+    ensures journaled { IsJournaled D.is_modelled D.life (core_in node.old) (core_in node.new) }
+{
+    match node.feed_all_at(place, bytes, text) {
+        Heard::Open => Ok(false),
+        Heard::Closed => Ok(true),
+        Heard::NoMemory => Err(AllocError),
+    }
 }
 
 // The head of a record of replies, whose size was left out.
@@ -137,6 +162,7 @@ fn answer_lost<D: Disk>(
 ) -> Result<(), AllocError>
     requires { text.old.items ≡ [] }
     ensures happens { OnOk result (Happens (machine node.old) (loses number) text.new.items (machine node.new)) }
+    ensures breaks_off { OnErr result (BreaksOff (machine node.old) (loses number) (machine node.new)) }
     ensures journaled { IsJournaled D.is_modelled D.life (core_in node.old) (core_in node.new) }
 {
     calls_go_on::<D>();
@@ -147,35 +173,4 @@ fn answer_lost<D: Disk>(
     }
     node.lose_at(place);
     push_record(text, LOST, number, &[])
-}
-
-/// Gives a conversation all of these bytes, and appends its replies, those that say that a command
-/// found no memory among them. Says whether the conversation is closed then.
-fn feed_all<D: Disk>(
-    node: &mut Node<D>,
-    place: usize,
-    bytes: &[u8],
-    replies: &mut Vec<u8>,
-) -> Result<bool, AllocError>
-    requires { IsOpen (machine node.old) place }
-    ensures hears { IfOk result (λ is_closed. (after : Attended) × (written : List ℕ)
-        × (replies.new.items ≡ replies.old.items ++ written)
-        × HearsAt (machine node.old) place bytes.now written after (machine node.new)
-        × (after.standing.session.is_closed ≡ is_closed)) }
-    ensures journaled { IsJournaled D.is_modelled D.life (core_in node.old) (core_in node.new) }
-{
-    stays_read();
-    calls_go_on::<D>();
-    node.core.is_durable();
-    let mut at = 0;
-    'feeding: loop {
-        let fed = node.feed_at(place, &bytes[at..], replies);
-        at += fed.taken;
-        match fed.state {
-            FedState::Open => return Ok(false),
-            FedState::Closed => return Ok(true),
-            FedState::Short(reply) => replies.extend_from_slice(&reply)?,
-            FedState::Later => return Err(AllocError),
-        }
-    }
 }

@@ -25,3 +25,14 @@ pub enum FedState {
     /// some, unless the piece was empty), and is to be fed again.
     Later,
 }
+
+/// How a conversation stands that was given all of a piece.
+#[derive(Clone, Copy, Debug, PartialEq, Eq)]
+pub enum Heard {
+    /// It heard all of the piece and waits for more.
+    Open,
+    /// It is closed, and hears nothing that comes after the piece.
+    Closed,
+    /// Memory was refused: not all of the piece was heard, or not all replies were appended.
+    NoMemory,
+}

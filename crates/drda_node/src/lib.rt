@@ -8,6 +8,7 @@ mod event;
 mod fed;
 mod feeding;
 mod gathering;
+pub mod laws;
 mod node;
 mod reading;
 mod ready;
@@ -19,7 +20,7 @@ mod writing;
 // What a node is started with.
 pub use conversation::{Settings, SettingsError};
 pub use durable_core::{DurableCore, open};
-pub use fed::{Fed, FedState};
+pub use fed::{Fed, FedState, Heard};
 pub use node::{ConversationId, Done, Node, OpenError};
 pub use ready::Ready;
 pub use serving::{RunEnd, run};

@@ -4,11 +4,12 @@ ghost use Rattle.std.specs.Prelude.{◌≡◌, length};
 ghost use Rattle.drda_node.specs.Sharing.{AllServe};
 
 use crate::asker::Asker;
-use crate::fed::Fed;
+use crate::fed::{Fed, FedState, Heard};
 use crate::row::{PLACES, free_places};
 use crate::slot::Slot;
 use conversation::Settings;
 use drda_disk::Disk;
+use dss_frames::stays_read;
 use durable_core::DurableCore;
 use recovery_laws::images::calls_go_on;
 use std::alloc::Global;
@@ -57,7 +58,8 @@ impl<D: Disk> Node<D> {
     ghost use Rattle.drda_node.specs.Asking.{IsJournaled, asked_of};
     ghost use Rattle.drda_node.specs.Machine.{at_start, is_full, lost, IsOpen, opened};
     ghost use Rattle.drda_node.specs.Feeding.{Feeds};
-    ghost use Rattle.drda_node.specs.Register.{core_in, machine, register, place_of, Names, Opens};
+    ghost use Rattle.drda_node.specs.Hearing.{HearsPiece};
+    ghost use Rattle.drda_node.specs.Register.{core_in, machine, numbers, place_of, Names, Opens};
 
     /// A node with no conversation, over this core. Out of memory, the core is handed back.
     pub fn start(
@@ -107,11 +109,11 @@ impl<D: Disk> Node<D> {
     /// Opens a conversation. TooMany exactly where 64 are open, else NoMemory exactly where no number
     /// is left; where it refuses, nothing changes.
     pub fn open_conversation(&mut self) -> Result<ConversationId, OpenError>
-        ensures opened { IfOk result (λ id. Opens (machine self.old) (register self.old) id (machine self.new) (register self.new)) }
+        ensures opened { IfOk result (λ id. Opens (machine self.old) (numbers self.old) id (machine self.new) (numbers self.new)) }
         ensures refused { OnErr result (machine self.new ≡ machine self.old) }
-        ensures none_given { OnErr result (register self.new ≡ register self.old) }
+        ensures none_given { OnErr result (numbers self.new ≡ numbers self.old) }
         ensures too_many { (result ≡ Err OpenError.TooMany) ↔ (is_full (machine self.old) ≡ true) }
-        ensures no_memory { (result ≡ Err OpenError.NoMemory) ↔ ((is_full (machine self.old) ≡ false) × ((register self.old).given + 1 ≡ 2 ^ 64)) }
+        ensures no_memory { (result ≡ Err OpenError.NoMemory) ↔ ((is_full (machine self.old) ≡ false) × ((machine self.old).given + 1 ≡ 2 ^ 64)) }
         ensures places { length (machine self.old).row ≡ 64 }
         ensures journaled { IsJournaled D.is_modelled D.life (core_in self.old) (core_in self.new) }
     {
@@ -128,12 +130,12 @@ impl<D: Disk> Node<D> {
     /// Opens a conversation at a free place; NoMemory where no number is left.
     pub(crate) fn open_at(&mut self, place: usize) -> Result<ConversationId, OpenError>
         requires { slice_get (machine self.old).row place ≡ Some None }
-        ensures opened { IfOk result (λ id. Opens (machine self.old) (register self.old) id (machine self.new) (register self.new)) }
+        ensures opened { IfOk result (λ id. Opens (machine self.old) (numbers self.old) id (machine self.new) (numbers self.new)) }
         ensures place { IfOk result (λ id. place_of id ≡ place) }
         ensures refused { OnErr result (machine self.new ≡ machine self.old) }
-        ensures none_given { OnErr result (register self.new ≡ register self.old) }
+        ensures none_given { OnErr result (numbers self.new ≡ numbers self.old) }
         ensures not_full { result ≢ Err OpenError.TooMany }
-        ensures no_memory { (result ≡ Err OpenError.NoMemory) ↔ ((register self.old).given + 1 ≡ 2 ^ 64) }
+        ensures no_memory { (result ≡ Err OpenError.NoMemory) ↔ ((machine self.old).given + 1 ≡ 2 ^ 64) }
         ensures journaled { IsJournaled D.is_modelled D.life (core_in self.old) (core_in self.new) }
     {
         calls_go_on::<D>();
@@ -150,7 +152,7 @@ impl<D: Disk> Node<D> {
     /// Whether the conversation is open: from when its name was given until it is lost, closed by a
     /// fault or not.
     pub fn is_open(&self, id: ConversationId) -> bool
-        ensures { IsTrue result ↔ Names (machine self.now) (register self.now) id }
+        ensures { IsTrue result ↔ Names (machine self.now) (numbers self.now) id }
     {
         self.has(id.place) && self.places[id.place].number == id.number
     }
@@ -173,9 +175,9 @@ impl<D: Disk> Node<D> {
     /// a device call too, leaves a disk that opens to the tables and the units in doubt after the first of
     /// the records that its commands made.
     pub fn feed(&mut self, id: ConversationId, piece: &[u8], out: &mut Vec<u8>) -> Fed
-        requires { Names (machine self.old) (register self.old) id }
+        requires { Names (machine self.old) (numbers self.old) id }
         ensures feeds { Feeds (machine self.old) (place_of id) piece.now out.old.items result (machine self.new) out.new.items }
-        ensures register { register self.new ≡ register self.old }
+        ensures numbers { numbers self.new ≡ numbers self.old }
         ensures journaled { IsJournaled D.is_modelled D.life (core_in self.old) (core_in self.new) }
     {
         self.feed_at(id.place, piece, out)
@@ -185,7 +187,7 @@ impl<D: Disk> Node<D> {
     pub(crate) fn feed_at(&mut self, place: usize, piece: &[u8], out: &mut Vec<u8>) -> Fed
         requires { IsOpen (machine self.old) place }
         ensures feeds { Feeds (machine self.old) place piece.now out.old.items result (machine self.new) out.new.items }
-        ensures register { register self.new ≡ register self.old }
+        ensures numbers { numbers self.new ≡ numbers self.old }
         ensures journaled { IsJournaled D.is_modelled D.life (core_in self.old) (core_in self.new) }
     {
         let mut asker = Asker {
@@ -195,14 +197,54 @@ impl<D: Disk> Node<D> {
         self.places[place].feed(&mut asker, piece, out)
     }
 
+    /// Gives a conversation all of these bytes, and appends its replies to `out`, those that say that a command
+    /// found no memory among them. Where memory is refused, a prefix of the bytes was heard, and all of its
+    /// replies were appended, but perhaps not the last, which says that a command found no memory.
+    pub fn feed_all(&mut self, id: ConversationId, piece: &[u8], out: &mut Vec<u8>) -> Heard
+        requires { Names (machine self.old) (numbers self.old) id }
+        ensures hears { HearsPiece (machine self.old) (place_of id) piece.now out.old.items result (machine self.new) out.new.items }
+        ensures numbers { numbers self.new ≡ numbers self.old }
+        ensures named { Names (machine self.new) (numbers self.new) id }
+        ensures journaled { IsJournaled D.is_modelled D.life (core_in self.old) (core_in self.new) }
+    {
+        self.feed_all_at(id.place, piece, out)
+    }
+
+    /// Gives the conversation at this place all of these bytes.
+    pub(crate) fn feed_all_at(&mut self, place: usize, piece: &[u8], out: &mut Vec<u8>) -> Heard
+        requires { IsOpen (machine self.old) place }
+        ensures hears { HearsPiece (machine self.old) place piece.now out.old.items result (machine self.new) out.new.items }
+        ensures there { IsOpen (machine self.new) place }
+        ensures numbers { numbers self.new ≡ numbers self.old }
+        ensures journaled { IsJournaled D.is_modelled D.life (core_in self.old) (core_in self.new) }
+    {
+        stays_read();
+        calls_go_on::<D>();
+        self.core.is_durable();
+        let mut at = 0;
+        'feeding: loop {
+            let fed = self.feed_at(place, &piece[at..], out);
+            at += fed.taken;
+            match fed.state {
+                FedState::Open => return Heard::Open,
+                FedState::Closed => return Heard::Closed,
+                FedState::Later => return Heard::NoMemory,
+                FedState::Short(reply) => match out.extend_from_slice(&reply) {
+                    Ok(()) => {}
+                    Err(_) => return Heard::NoMemory,
+                },
+            }
+        }
+    }
+
     /// Takes a conversation away: its place is free, what it had not sent whole is dropped, and its
     /// memory is given back. Its unit of work ends without its changes, and so does each branch that it
     /// was the last to start or join, and that is not prepared; once the device has failed the core does
     /// nothing more, and only the place is free. Takes no memory.
     pub fn lost(&mut self, id: ConversationId)
-        requires { Names (machine self.old) (register self.old) id }
+        requires { Names (machine self.old) (numbers self.old) id }
         ensures machine { machine self.new ≡ lost (machine self.old) (place_of id) }
-        ensures register { register self.new ≡ register self.old }
+        ensures numbers { numbers self.new ≡ numbers self.old }
         ensures journaled { IsJournaled D.is_modelled D.life (core_in self.old) (core_in self.new) }
     {
         self.lose_at(id.place);
@@ -212,7 +254,7 @@ impl<D: Disk> Node<D> {
     pub(crate) fn lose_at(&mut self, place: usize)
         requires { IsOpen (machine self.old) place }
         ensures machine { machine self.new ≡ lost (machine self.old) place }
-        ensures register { register self.new ≡ register self.old }
+        ensures numbers { numbers self.new ≡ numbers self.old }
         ensures journaled { IsJournaled D.is_modelled D.life (core_in self.old) (core_in self.new) }
     {
         self.places[place].close(self.alloc);
@@ -222,7 +264,7 @@ impl<D: Disk> Node<D> {
     /// Checkpoints the store. There is none yet, so nothing changes.
     pub fn checkpoint(&mut self) -> Done
         ensures machine { machine self.new ≡ machine self.old }
-        ensures register { register self.new ≡ register self.old }
+        ensures numbers { numbers self.new ≡ numbers self.old }
         ensures journaled { IsJournaled D.is_modelled D.life (core_in self.old) (core_in self.new) }
     {
         calls_go_on::<D>();

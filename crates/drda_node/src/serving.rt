@@ -35,11 +35,12 @@ pub enum RunEnd {
 /// records that came together are written together: where the next record is not ready, those before it
 /// are answered first, so that whoever waits for an answer has it.
 ///
-/// What is written is what the machine answers: on Ended to exactly the events of the input, and
-/// nothing stands behind them; on BadEvent to exactly the events in front of what is no event; on
-/// ReadFault and NoMemory to some events in front; on WriteFault a front of such answers. A crash at any
-/// moment leaves a disk that opens to the tables and the units in doubt after the first of the records
-/// that the events made due.
+/// What is written is what the machine answers: on Ended to exactly the events of the input; on BadEvent to
+/// exactly the events before what is no event; on ReadFault and NoMemory to some events at its beginning; on
+/// WriteFault a prefix of such answers. Where memory was refused one more event may have begun, which is not
+/// answered. A crash at any moment leaves a disk that opens to the tables and the units in doubt after the
+/// first of the records that the events made due; a crash now, after all of them, or all but the last where
+/// the device failed.
 pub fn run<D: Disk, R: Ready, W: Write>(
     alloc: Global,
     node: &mut Node<D>,
@@ -61,7 +62,7 @@ pub fn run<D: Disk, R: Ready, W: Write>(
         match read_event(reader, &mut buffer) {
             Incoming::Event(head) => {
                 let Ok(()) = answer(node, head, &buffer, &mut text) else {
-                    return RunEnd::NoMemory;
+                    return finish(writer, &gathered, RunEnd::NoMemory);
                 };
                 let waits = !holds_record(reader.ready());
                 let Ok(()) = pass_on(writer, &mut gathered, &text, waits) else {

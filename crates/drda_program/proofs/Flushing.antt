@@ -28,16 +28,16 @@ runs_kept : (first last : Machine) (input : List ℕ) (before mid now : Option (
 runs_kept first last input before mid now ends.Ended k r = serves_kept first last input [] before mid now k r
 runs_kept first last input before mid now ends.BadEvent k (rest, bad, s) = (rest, bad, serves_kept first last input rest before mid now k s)
 runs_kept first last input before mid now ends.ReadFault k (rest, s) = (rest, serves_kept first last input rest before mid now k s)
-runs_kept first last input before mid now ends.NoMemory k (rest, between, s) = (rest, between, serves_kept first between input rest before mid now k s)
-runs_kept first last input before mid now ends.WriteFault k (written, rest, count, a, w) = (written, rest, count, a, appended_kept before mid now (take count written) w k)
+runs_kept first last input before mid now ends.NoMemory k (rest, answered, s, leaves) = (rest, answered, serves_kept first answered input rest before mid now k s, leaves)
+runs_kept first last input before mid now ends.WriteFault k (written, rest, count, answered, a, w, leaves) = (written, rest, count, answered, a, appended_kept before mid now (take count written) w k, leaves)
 
 -- of what stood in the reader, where it tells
-pub has_run : (settings : Settings) (first last : Machine) (before mid now : Option (List ℕ)) (end : RunEnd) (o : Option (List ℕ)) → first ≡ at_start settings new_core → Keeps mid now
+pub has_run : (settings : Settings) (room : ℕ) (first last : Machine) (before mid now : Option (List ℕ)) (end : RunEnd) (o : Option (List ℕ)) → first ≡ at_start settings (new_core room) → Keeps mid now
     → IfSome o (λ input. Runs first input before end mid last) → IfSome o (λ input. HasRun settings input before end now)
-has_run settings first last before mid now end None is k r = tt
-has_run settings first last before mid now end (Some input) is k r =
+has_run settings room first last before mid now end None is k r = tt
+has_run settings room first last before mid now end (Some input) is k r =
     let P : Machine → Type 0 = λ m. Runs m input before end now last in
-    (last, subst P is (runs_kept first last input before mid now end k r))
+    (room, last, subst P is (runs_kept first last input before mid now end k r))
 
 -- ---- of a text
 

@@ -47,7 +47,7 @@ piped rdb login input before now outcome core begun pipes =
     inr (is, pipes rdb begun.1 is)
 
 -- what is started over it
-pub starts_fresh : {D : Type 0} (name : List ℕ) (login : Login) (core : OnDisk D) → IsOpenedTo name fresh core → at_start (settings_of login core.name) (asked_of core) ≡ at_start (settings_of login name) new_core
+pub starts_fresh : {D : Type 0} (name : List ℕ) (login : Login) (core : OnDisk D) → IsOpenedTo name fresh core → at_start (settings_of login core.name) (asked_of core) ≡ at_start (settings_of login name) (new_core core.room)
 starts_fresh name login core is =
-    let opened_fresh : asked_of core ≡ new_core = λ i. record { state = is.state i; has_failed = is.going i; made = is.made i } in
+    let opened_fresh : asked_of core ≡ new_core core.room = λ i. record { state = is.state i; room = core.room; has_failed = is.going i; made = is.made i } in
     ap₂ (λ (n : List ℕ) (a : AskedCore). at_start (settings_of login n) a) is.named opened_fresh

@@ -22,13 +22,13 @@ use Rattle.drda_program.specs.declared.fault.Fault.TheVariants.{BadArguments, Ba
 abbrev pub settings_of : Login → List ℕ → Settings
 settings_of login rdb = record { user = login.user; password = login.password; rdb = rdb }
 
--- over a store that was just made
-abbrev pub new_core : AskedCore
-new_core = record { state = opened fresh; has_failed = false; made = [] }
+-- over a store that was just made, with so many bytes for records
+abbrev pub new_core : ℕ → AskedCore
+new_core room = record { state = opened fresh; room = room; has_failed = false; made = [] }
 
 -- a machine that is started with these settings over a fresh store has run over the input and ended so
 abbrev pub HasRun : Settings → List ℕ → Option (List ℕ) → RunEnd → Option (List ℕ) → Type 0
-HasRun settings input before end now = (last : Machine) × Runs (at_start settings new_core) input before end now last
+HasRun settings input before end now = (room : ℕ) × (last : Machine) × Runs (at_start settings (new_core room)) input before end now last
 
 -- memory was refused, or the memory disk failed for want of it, before the first event: nothing is written
 abbrev pub IsNotBegun : Result (Unit {0}) Fault → Option (List ℕ) → Option (List ℕ) → Type 0

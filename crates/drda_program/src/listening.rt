@@ -56,10 +56,21 @@ fn converse<D: Disk, S: Read + Write + OpenStream + Drop>(
         return Ok(());
     };
     match serve_one(alloc, node, &mut reader, &mut writer) {
-        Served::Done | Served::ReadFault | Served::WriteFault => Ok(()),
+        Served::Done | Served::ReadFault => Ok(()),
+        Served::WriteFault => go_on(node),
         Served::DeviceFailed => Err(Fault::Device),
         Served::NoMemory => Err(Fault::NoMemory),
     }
+}
+
+// A stream that failed ends its own conversation alone, unless the device has failed too.
+fn go_on<D: Disk>(node: &Node<D>) -> Result<(), Fault>
+    ensures { IfErr result IsOfDevice }
+{
+    if node.core().is_failed() {
+        return Err(Fault::Device);
+    }
+    Ok(())
 }
 
 // Says the port that it listens on.

@@ -26,7 +26,7 @@ use Rattle.journal_recorder.specs.Recording.{Allows, Fails, IsLeftOpen, Records,
 use Rattle.journal_recorder.specs.declared.recorder.DiskRecorder.{DiskRecorder}
 use Rattle.recovery_laws.specs.Opens.{Holds}
 use Rattle.recovery_laws.specs.ImageLaws.{RecordsStay}
-use Rattle.recovery_laws.specs.Journaled.{FaultsAfter, IsDurable, IsUnchanged, IsUntouched, Journaled, OneCallIsMade, shown_on}
+use Rattle.recovery_laws.specs.Journaled.{FaultsAfter, IsDurable, IsUnchanged, IsUntouched, Journaled, Made, OnDisk, OneCallIsMade, shown_on}
 use Rattle.rdb_core.specs.Recorded as told
 use Rattle.rdb_core.specs.Steps as core
 use Rattle.durable_core.specs.Recorded.{IsOnDisk, IsRecorded, core_on}
@@ -46,12 +46,23 @@ pub record Laws {D : Type 0} (life : D → Life) : Type 0 where
 fits : (at len l need hold free before after room : ℕ) → room ≡ at + len - (at + l) - 1 - before → l + 1 + before ≤ len → need + hold ≤ room + free → after + free ≡ before + hold → l + need + 1 + after ≤ len
 fits at len l need hold free before after room is inside less same = omega (arith, is, inside, less, same)
 
+-- a core that has failed does nothing
+pub stays_failed : {D : Type 0} (modelled : Bool) (life : D → Life) → OneCallIsMade life → (s : OnDisk D) → s.is_failed ≡ true → Journaled modelled (shown_on life s) (shown_on life s)
+stays_failed modelled life made s failed = record {
+  name = refl;
+  more = [];
+  made = sym (append-nil s.made);
+  faults = λ going. absurd (false≢true (sym going ∙ failed));
+  failed = λ before. made.failed s s before refl;
+  records = λ modelled_disk going. absurd (false≢true (sym going ∙ failed));
+}
+
 module _ {D : Type 0} (modelled : Bool) (life : D → Life) (name : List ℕ) where
   -- what became of a call of a core
   pub record IsDone (s : CoreState) (r : DiskRecorder D) (conversation : ℕ) (k : Call) (said : Answer) (new : CoreState) (after : DiskRecorder D) : Type 0 where
     pub recorded : IsRecorded modelled life name new after
     pub steps : Steps (shown_on life (core_on name s r)) conversation k said (shown_on life (core_on name new after))
-    pub journaled : IsTrue modelled → Journaled (shown_on life (core_on name s r)) (shown_on life (core_on name new after))
+    pub journaled : Journaled modelled (shown_on life (core_on name s r)) (shown_on life (core_on name new after))
 
   untouched : (r : DiskRecorder D) → IsUntouched (life (disk_of r)) (life (disk_of r))
   untouched r = record { stays = Stays-refl (life (disk_of r)); moment = refl; faults = refl }
@@ -70,9 +81,6 @@ module _ {D : Type 0} (modelled : Bool) (life : D → Life) (name : List ℕ) wh
     durable modelled_disk going = durable_from laws.calls_made s r is modelled_disk going
 
     -- once it has failed nothing is done
-    pub failed : has_failed r ≡ true → Journaled (shown_on life (core_on name s r)) (shown_on life (core_on name s r))
-    failed is_failed = (λ going. absurd (false≢true (sym going ∙ is_failed)), λ before. laws.calls_made.failed (core_on name s r) (core_on name s r) before refl)
-
     pub is_closed : has_failed r ≡ true → IsClosed (shown_on life (core_on name s r)) closed (shown_on life (core_on name s r))
     is_closed is_failed = record { failed = is_failed; answer_is = refl; same = unchanged s r }
 
@@ -90,11 +98,15 @@ module _ {D : Type 0} (modelled : Bool) (life : D → Life) (name : List ℕ) wh
       no_fault : FaultsAfter (has_failed r) (life (disk_of r)).faults (life (disk_of r)).faults
       no_fault = subst (λ (f : Bool). FaultsAfter f (life (disk_of r)).faults (life (disk_of r)).faults) (sym going) (omega arith)
 
-      silent_journaled : (new : CoreState) → durable_part new ≡ durable_part s → IsTrue modelled → Journaled (shown_on life (core_on name s r)) (shown_on life (core_on name new r))
-      silent_journaled new same modelled_disk = (
-        λ still. ([], laws.calls_made.silent (core_on name s r) (core_on name new r) (durable modelled_disk going) (Stays-refl (life (disk_of r))) refl same refl no_fault),
-        λ is_failed. absurd (false≢true (sym going ∙ is_failed)),
-      )
+      silent_journaled : (new : CoreState) → durable_part new ≡ durable_part s → Journaled modelled (shown_on life (core_on name s r)) (shown_on life (core_on name new r))
+      silent_journaled new same = record {
+        name = refl;
+        more = [];
+        made = sym (append-nil (made_of r));
+        faults = λ still. no_fault;
+        failed = λ is_failed. absurd (false≢true (sym going ∙ is_failed));
+        records = λ modelled_disk still. ([], laws.calls_made.silent (core_on name s r) (core_on name new r) (durable modelled_disk going) (Stays-refl (life (disk_of r))) same refl);
+      }
 
       silent_recorded : (new : CoreState) → IsKept new → durable_part new ≡ durable_part s → IsRecorded modelled life name new r
       silent_recorded new kept same = record {
@@ -167,17 +179,26 @@ module _ {D : Type 0} (modelled : Bool) (life : D → Life) (name : List ℕ) wh
                     there.holds made.good leads (fit there less) made.others here);
               }
 
-          record_journaled : IsTrue modelled → Journaled (shown_on life (core_on name s r)) (shown_on life (core_on name (step_state s conversation k) after))
-          record_journaled modelled_disk =
-              let there = is.on_disk modelled_disk going in (
-                λ still. (
-                  said ∷ [],
-                  laws.calls_made.recorded (core_on name s r) (core_on name (step_state s conversation k) after) (region_of (journal_of r)) there.entries said
-                      (durable_part (step_state s conversation k)) there.holds made.good leads (fit there less) (made.moments there.entries there.settled) refl (λ more. refl) made.made
-                      (subst (λ (f : Bool). FaultsAfter f (life (disk_of r)).faults (life (disk_of after)).faults) (sym made.going) (omega (arith, made.faults))),
-                ),
-                λ is_failed. absurd (false≢true (sym going ∙ is_failed)),
-              )
+          durable_after : IsTrue modelled → IsDurable (shown_on life (core_on name (step_state s conversation k) after))
+          durable_after modelled_disk =
+              let here = record_on_disk modelled_disk in
+              laws.calls_made.durable (core_on name (step_state s conversation k) after) (region_of (journal_of after)) here.entries here.settled.durable here.holds
+
+          record_made : IsTrue modelled → Made (said ∷ []) (shown_on life (core_on name s r)) (shown_on life (core_on name (step_state s conversation k) after))
+          record_made modelled_disk =
+              let there = is.on_disk modelled_disk going in
+              laws.calls_made.recorded (core_on name s r) (core_on name (step_state s conversation k) after) (region_of (journal_of r)) there.entries said
+              (durable_part (step_state s conversation k)) there.holds made.good leads (fit there less) (made.moments there.entries there.settled) refl (λ more. refl) (λ more. durable_after modelled_disk) made.made
+
+          record_journaled : Journaled modelled (shown_on life (core_on name s r)) (shown_on life (core_on name (step_state s conversation k) after))
+          record_journaled = record {
+            name = refl;
+            more = entry_of said ∷ [];
+            made = made.made;
+            faults = λ still. subst (λ (f : Bool). FaultsAfter f (life (disk_of r)).faults (life (disk_of after)).faults) (sym made.going) (omega (arith, made.faults));
+            failed = λ is_failed. absurd (false≢true (sym going ∙ is_failed));
+            records = λ modelled_disk still. (said ∷ [], record_made modelled_disk);
+          }
 
           recorded_step : IsDone s r conversation k (answer s.branches s.base conversation k) (step_state s conversation k) after
           recorded_step = record {
@@ -202,18 +223,22 @@ module _ {D : Type 0} (modelled : Bool) (life : D → Life) (name : List ℕ) wh
         -- ---- the device failed
 
         module _ (after : DiskRecorder D) (left : IsLeftOpen modelled life r said after) where
-          left_journaled : IsTrue modelled → Journaled (shown_on life (core_on name s r)) (shown_on life (core_on name s after))
-          left_journaled modelled_disk =
-              let there = is.on_disk modelled_disk going in (
-                λ still. (
-                  said ∷ [],
-                  laws.calls_made.recorded (core_on name s r) (core_on name s after) (region_of (journal_of r)) there.entries said
-                      (durable_part (step_state s conversation k)) there.holds left.good leads (fit there left.fits) (left.moments there.entries there.settled) refl
-                      (λ more. absurd (false≢true (sym more ∙ left.failed))) left.made
-                      (subst (λ (f : Bool). FaultsAfter f (life (disk_of r)).faults (life (disk_of after)).faults) (sym left.failed) left.faults),
-                ),
-                λ is_failed. absurd (false≢true (sym going ∙ is_failed)),
-              )
+          left_made : IsTrue modelled → Made (said ∷ []) (shown_on life (core_on name s r)) (shown_on life (core_on name s after))
+          left_made modelled_disk =
+              let there = is.on_disk modelled_disk going in
+              laws.calls_made.recorded (core_on name s r) (core_on name s after) (region_of (journal_of r)) there.entries said
+              (durable_part (step_state s conversation k)) there.holds left.good leads (fit there left.fits) (left.moments there.entries there.settled) refl
+              (λ more. absurd (false≢true (sym more ∙ left.failed))) (λ more. absurd (false≢true (sym more ∙ left.failed))) left.made
+
+          left_journaled : Journaled modelled (shown_on life (core_on name s r)) (shown_on life (core_on name s after))
+          left_journaled = record {
+            name = refl;
+            more = entry_of said ∷ [];
+            made = left.made;
+            faults = λ still. subst (λ (f : Bool). FaultsAfter f (life (disk_of r)).faults (life (disk_of after)).faults) (sym left.failed) left.faults;
+            failed = λ is_failed. absurd (false≢true (sym going ∙ is_failed));
+            records = λ modelled_disk still. (said ∷ [], left_made modelled_disk);
+          }
 
           failed_step : (said_so : Answer) → said_so ≡ told.refusal_answer error.DeviceFailed → IsDone s r conversation k said_so s after
           failed_step said_so answer_is = record {

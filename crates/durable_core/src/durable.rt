@@ -54,7 +54,7 @@ impl<D: Disk> DurableCore<D> {
     /// the call or behind it.
     pub fn step(&mut self, conversation: u64, call: &CoreCall<'_, '_>) -> Answer
         ensures step { Steps (shown_on D.life self.old) conversation (call_of call.now) (answer_of result) (shown_on D.life self.new) }
-        ensures journaled { IsTrue D.is_modelled → Journaled (shown_on D.life self.old) (shown_on D.life self.new) }
+        ensures journaled { Journaled D.is_modelled (shown_on D.life self.old) (shown_on D.life self.new) }
     {
         steps_are_recorded();
         doubts_hold_their_decisions();
@@ -70,7 +70,7 @@ impl<D: Disk> DurableCore<D> {
     /// start or join, and that is not prepared. Nothing is recorded, and no memory is taken.
     pub fn lose(&mut self, conversation: u64) -> Answer
         ensures step { Loses (shown_on D.life self.old) conversation (answer_of result) (shown_on D.life self.new) }
-        ensures journaled { IsTrue D.is_modelled → Journaled (shown_on D.life self.old) (shown_on D.life self.new) }
+        ensures journaled { Journaled D.is_modelled (shown_on D.life self.old) (shown_on D.life self.new) }
     {
         steps_are_recorded();
         doubts_hold_their_decisions();

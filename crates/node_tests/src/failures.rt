@@ -1,8 +1,8 @@
-//! Conversations over a device that fails in a commit.
+//! Conversations over a device that fails in a commit, and what a crash leaves then.
 
-use crate::stories::{Act, CREATE, CREATED, ONE, Step, is_told};
+use crate::stories::{Act, CREATE, CREATED, FIRST_ROW, ONE, Step, TWO, is_told, push_piece};
 use drda_disk::{FuseDisk, MemDisk};
-use drda_node::Node;
+use drda_node::{Node, RunEnd, run};
 use std::alloc::Global;
 use std::test::Fail;
 use test_bytes::COMMITTED;
@@ -61,6 +61,42 @@ fn a_commit_tells_that_the_device_failed(rt: HostRuntime) -> Result<(), Fail> {
     for place in 0..4 {
         let failed = fails_behind(rt.alloc(), first.saturating_add(place));
         assert!(rt; failed == Some(true), "{place}");
+    }
+    Ok(())
+}
+
+// Two units, sent in one piece.
+const TWO_COMMITS: [Act; 4] = [
+    Act::Runs(CREATE),
+    Act::Commits,
+    Act::Runs(ONE),
+    Act::Commits,
+];
+
+// What the first of them made is there.
+const FIRST_IS_THERE: &[Step] = &[(0, Act::Opens, ""), (0, Act::Runs(TWO), FIRST_ROW)];
+
+// Whether what the first of two commits of one piece made is there, where the device failed behind so many calls.
+fn leaves_the_first(alloc: Global, calls: u64, pick: u64) -> Option<bool> {
+    let mut node = node_with(alloc, calls)?;
+    let mut input = Vec::new(alloc);
+    push_piece(alloc, &mut input, 0, &TWO_COMMITS)?;
+    let mut reader = input.as_slice();
+    let mut written = Vec::new(alloc);
+    let end = run(alloc, &mut node, &mut reader, &mut written);
+    let disk = node.into_core().into_disk().into_inner();
+    let mut opened = node_over(alloc, disk.after_crash(pick))?;
+    Some(end == RunEnd::Ended && is_told(alloc, &mut opened, FIRST_IS_THERE)?)
+}
+
+#[test]
+fn the_first_commit_of_a_piece_stays(rt: HostRuntime) -> Result<(), Fail> {
+    let (first, count) = commit_calls(rt.alloc()).ok_or("memory")?;
+    let second = first.saturating_add(count);
+    for case in 0..32 {
+        let (place, pick) = (case / 8, case % 8);
+        let stays = leaves_the_first(rt.alloc(), second.saturating_add(place), pick);
+        assert!(rt; stays == Some(true), "{place} {pick}");
     }
     Ok(())
 }

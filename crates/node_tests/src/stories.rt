@@ -35,7 +35,7 @@ const ROLLBACK: &str = "000A D001 0006 0004 200F";
 pub const CREATED: &str = "0026 D052 0006 0020 2218 0006 1149 0000 0016 2110 53484F50 20*14
     0047 D003 0006 0041 2408 00 00000000 3030303030 5244413031303030 00 00*8 00000000 00*12 20*11 0000 0000 0000 FF";
 
-const FIRST_ROW: &str = "0026 D052 0006 0020 2218 0006 1149 0000 0016 2110 53484F50 20*14
+pub const FIRST_ROW: &str = "0026 D052 0006 0020 2218 0006 1149 0000 0016 2110 53484F50 20*14
     0047 D003 0006 0041 2408 00 00000000 3030303030 5244413031303030 00 00*8 00000001 00*12 20*11 0000 0000 0000 FF";
 
 const NEXT_ROW: &str =
@@ -83,7 +83,7 @@ pub const CREATE: &str = "CREATE TABLE T (K INTEGER NOT NULL, V VARCHAR(600), PR
 
 pub const ONE: &str = "INSERT INTO T VALUES (1, 'a')";
 
-const TWO: &str = "INSERT INTO T VALUES (2, 'b')";
+pub const TWO: &str = "INSERT INTO T VALUES (2, 'b')";
 
 const STORIES: [&[Step]; 5] = [
     // What is committed is there for another conversation.
@@ -166,19 +166,35 @@ fn statement(alloc: Global, text: &str) -> Option<Vec<u8>> {
     Some(bytes)
 }
 
+// What a conversation sends.
+fn bytes_sent(alloc: Global, act: Act) -> Option<Vec<u8>> {
+    match act {
+        Act::Opens => bytes_of(alloc, &[EXCSAT_ALONE, ACCSEC, SECCHK_ALONE, ACCRDB]).ok(),
+        Act::Runs(text) => statement(alloc, text),
+        Act::Commits => bytes_of(alloc, &[COMMIT]).ok(),
+        Act::RollsBack => bytes_of(alloc, &[ROLLBACK]).ok(),
+        Act::Sends(command) => bytes_of(alloc, &[command]).ok(),
+        Act::IsLost | Act::IsClosed => Some(Vec::new(alloc)),
+    }
+}
+
 fn push_event(alloc: Global, records: &mut Vec<u8>, number: u8, act: Act) -> Option<()> {
-    let bytes = match act {
-        Act::Opens => {
-            push_record(records, 1, number, &[])?;
-            bytes_of(alloc, &[EXCSAT_ALONE, ACCSEC, SECCHK_ALONE, ACCRDB]).ok()?
-        }
-        Act::Runs(text) => statement(alloc, text)?,
-        Act::Commits => bytes_of(alloc, &[COMMIT]).ok()?,
-        Act::RollsBack => bytes_of(alloc, &[ROLLBACK]).ok()?,
-        Act::Sends(command) => bytes_of(alloc, &[command]).ok()?,
+    match act {
+        Act::Opens => push_record(records, 1, number, &[])?,
         Act::IsLost => return push_record(records, 3, number, &[]),
         Act::IsClosed => return Some(()),
-    };
+        _ => {}
+    }
+    push_record(records, 2, number, &bytes_sent(alloc, act)?)
+}
+
+/// Appends the events of a conversation that opens, and sends all that it does in one piece.
+pub fn push_piece(alloc: Global, records: &mut Vec<u8>, number: u8, acts: &[Act]) -> Option<()> {
+    push_record(records, 1, number, &[])?;
+    let mut bytes = bytes_sent(alloc, Act::Opens)?;
+    for act in acts {
+        bytes.extend_from_slice(&bytes_sent(alloc, *act)?).ok()?;
+    }
     push_record(records, 2, number, &bytes)
 }
 

@@ -23,3 +23,4 @@ pub mod Reading
 pub mod Adding
 pub mod Going
 pub mod Making
+pub mod Staying

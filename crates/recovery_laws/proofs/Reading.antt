@@ -91,7 +91,6 @@ fresh_stores_open name image is =
       short = tt;
     } in (
       region,
-      [],
       record {
         store = record { name = name; half = First; header = first_header };
         active = is.active;

@@ -52,6 +52,6 @@ RecordsStay =
     → SameOutside region seen image → Stands region (es ++ entry_of r ∷ []) image
     → Holds name region (es ++ entry_of r ∷ []) e image
 
--- a store that was just made has no tables
+-- a store that was just made has no tables, and no records
 abbrev pub FreshStoresOpen : Type 0
-FreshStoresOpen = (name image : List ℕ) → IsFresh name image → OpensTo name fresh image
+FreshStoresOpen = (name image : List ℕ) → IsFresh name image → (region : Region) × Holds name region [] fresh image

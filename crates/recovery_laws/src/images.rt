@@ -1,6 +1,6 @@
 //! Laws of the definitions. The functions do nothing: their contracts are the laws.
 
-ghost use Rattle.recovery_laws.specs.Journaled.{CallsGoOn, OneCallIsMade};
+ghost use Rattle.recovery_laws.specs.Journaled.{AnsweredStays, CallsGoOn, OneCallIsMade};
 ghost use Rattle.recovery_laws.specs.ImageLaws.{FreshStoresOpen, OpensThere, OpensToOne, RecordsOpen, RecordsStay};
 
 use drda_disk::Disk;
@@ -35,7 +35,8 @@ pub fn records_stay()
     records_have_one_reading();
 }
 
-/// A store that was just made opens without tables and without units in doubt.
+/// A store that was just made opens without tables and without units in doubt, and its journal has no
+/// records.
 pub fn fresh_stores_open()
     ensures { FreshStoresOpen }
 {}
@@ -54,3 +55,9 @@ pub fn calls_make_records<D: Disk>()
 {
     records_have_one_reading();
 }
+
+/// What calls have answered is in each image that a crash leaves from then on, though the device failed
+/// later in the same call.
+pub fn answered_units_stay<D: Disk>()
+    ensures { AnsweredStays D.life }
+{}

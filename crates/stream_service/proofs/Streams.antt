@@ -1,23 +1,24 @@
 -- How far a stream was served, one piece further on, and at its end.
-use Rattle.std.proofs.Common.{◌≡◌, ◌↔◌, ℕ, zero, suc, ◌+◌, Bool, true, false, List, [], ◌∷◌, ◌++◌, map, length, take, drop, take-append-drop, Option, Some, None, slice_get, refl, sym, ap, subst, ◌∙◌, append_assoc, append-nil, inl, inr}
+use Rattle.std.proofs.Common.{◌≡◌, ◌⊎◌, ℕ, zero, suc, ◌+◌, ◌^◌, Bool, true, false, List, [], ◌∷◌, ◌++◌, map, length, take, drop, take-append-drop, Option, Some, None, Result, Err, slice_get, refl, sym, ap, subst, ◌∙◌, append_assoc, append-nil, inl, inr}
 use Rattle.std.specs.Prelude.{IfSome, MatchOption}
 use Rattle.std.specs.Io.KnownBytes.{Appends, Consumes, IsAtEnd}
 use Rattle.std.proofs.KnownBytes.{Appends-nil, Appends-trans}
-use Rattle.std.proofs.Math.Seq.{take-append-add, take-append_seam, take-length}
+use Rattle.std.proofs.Math.Seq.{take-append-add, take-append_seam}
 use Rattle.std.proofs.lemmas.List.{set-set}
 use Rattle.dss_frames.specs.declared.fault.FrameFault.{FrameFault}
 use Rattle.dss_frames.specs.Fault.{FaultAt}
-use Rattle.drda_node.specs.Machine.{Conversation, Machine, beginning, lost, opened}
+use Rattle.drda_node.specs.Machine.{Conversation, Machine, beginning, is_full, lost, opened}
 use Rattle.drda_node.specs.declared.node.ConversationId.{ConversationId}
 use Rattle.drda_node.specs.declared.slot.Slot.{Slot}
-use Rattle.drda_node.specs.Register.{Names, Opens, Register, number_of, shown}
-use Rattle.drda_node.specs.Hearing.{Attended, Hears, attended, attended_at, conversation_of}
+use Rattle.drda_node.specs.Register.{Names, Opens, number_of, shown}
+use Rattle.drda_node.specs.Hearing.{Attended, Hears, HearsAll, HearsAt, HearsLast, HearsPart, HearsPiece, attended, attended_at, conversation_of}
 use Rattle.drda_node.proofs.Conversing.{hears_then}
 use Rattle.drda_node.proofs.Rows.{get_set, one_value}
-use Rattle.stream_service.specs.Pieces.{Answered, HearsAll, HearsFront, HearsLast, HearsPiece}
-use Rattle.stream_service.specs.declared.feeding.Heard.{Heard as HeardState}
-use Rattle.stream_service.specs.declared.feeding.Heard.TheVariants as piece_is
-use Rattle.stream_service.specs.Serving.{BreaksOff, Converses, HasServed, Heard, Serves, unless_failed}
+use Rattle.drda_node.specs.declared.fed.Heard.{Heard as PieceHeard}
+use Rattle.drda_node.specs.declared.fed.Heard.TheVariants as piece_is
+use Rattle.drda_node.specs.declared.node.OpenError.{OpenError}
+use Rattle.drda_node.specs.declared.node.OpenError.TheVariants.{TooMany, NoMemory as NoNumber}
+use Rattle.stream_service.specs.Serving.{AnswersButShort, BreaksOff, Converses, HasServed, Heard, Serves, unless_failed}
 use Rattle.stream_service.specs.declared.serving.Served.{Served}
 use Rattle.stream_service.specs.declared.serving.Served.TheVariants.{Done, ReadFault, WriteFault, NoMemory, DeviceFailed}
 
@@ -30,60 +31,58 @@ cut_in_front count xs ys =
 
 set_again : (machine : Machine) (place : ℕ) (x y : Attended) → attended_at (attended_at machine place x) place y ≡ attended_at machine place y
 set_again machine place x y =
-    ap (λ (row : List (Option Conversation)). let m : Machine = record { settings = machine.settings; row = row; core = y.standing.asked.state; has_failed = y.standing.asked.has_failed; made = y.standing.asked.made } in m) (set-set machine.row place (Some (conversation_of x)) (Some (conversation_of y)))
+    ap (λ (row : List (Option Conversation)). let m : Machine = record { settings = machine.settings; row = row; given = machine.given; core = y.standing.asked } in m) (set-set machine.row place (Some (conversation_of x)) (Some (conversation_of y)))
 
 module _ (fault_more : (bytes more : List ℕ) (fault : FrameFault) → FaultAt bytes fault → FaultAt (bytes ++ more) fault) where
-  answered_then : (old mid new : Machine) (place : ℕ) (p q x y : List ℕ) → Answered old place p x mid → Answered mid place q y new → Answered old place (p ++ q) (x ++ y) new
-  answered_then old mid new place p q x y a b =
-      let h = a.hears in
-      let f = b.hears in
-      let between = a.after in
+  answered_then : (old mid new : Machine) (place : ℕ) (p q x y : List ℕ) (between after : Attended) → HearsAt old place p x between mid → HearsAt mid place q y after new → HearsAt old place (p ++ q) (x ++ y) after new
+  answered_then old mid new place p q x y between after h f =
       let now : slice_get mid.row place ≡ Some (Some (conversation_of between)) =
       subst (λ (m : Machine). slice_get m.row place ≡ Some (Some (conversation_of between))) (sym h.row) (get_set old.row place (Some h.before) (Some (conversation_of between)) h.was) in
       let both : Some f.before ≡ Some (conversation_of between) = one_value (slice_get mid.row place) (Some f.before) (Some (conversation_of between)) f.was now in
       let same : f.before ≡ conversation_of between = cc both in
-      let here : Hears old.settings place (attended (attended_at old place between) f.before) q y b.after =
-      subst (λ (m : Machine). Hears m.settings place (attended m f.before) q y b.after) h.row f.hears in
-      let next : Hears old.settings place between q y b.after =
-      subst (λ (c : Conversation). Hears old.settings place (attended (attended_at old place between) c) q y b.after) same here in
+      let here : Hears old.settings place (attended (attended_at old place between) f.before) q y after =
+      subst (λ (m : Machine). Hears m.settings place (attended m f.before) q y after) h.row f.hears in
+      let next : Hears old.settings place between q y after =
+      subst (λ (c : Conversation). Hears old.settings place (attended (attended_at old place between) c) q y after) same here in
       record {
-        after = b.after;
-        hears = record {
-          before = h.before;
-          was = h.was;
-          hears = hears_then old.settings place fault_more (attended old h.before) between b.after p q x y h.hears next;
-          row = f.row ∙ ap (λ (m : Machine). attended_at m place b.after) h.row ∙ set_again old place between b.after;
-        };
+        before = h.before;
+        was = h.was;
+        hears = hears_then old.settings place fault_more (attended old h.before) between after p q x y h.hears next;
+        row = f.row ∙ ap (λ (m : Machine). attended_at m place after) h.row ∙ set_again old place between after;
       }
 
-  pub heard_then : (old mid new : Machine) (place : ℕ) (p q x y : List ℕ) → Heard old place p x mid → Answered mid place q y new → Heard old place (p ++ q) (x ++ y) new
-  heard_then old mid new place p q x y (inl (none, silent, same)) b =
-      let here : Answered old place q y new = subst (λ (m : Machine). Answered m place q y new) same b in
-      inr (subst (λ (z : List ℕ). Answered old place (p ++ q) (z ++ y) new) (sym silent) (subst (λ (z : List ℕ). Answered old place (z ++ q) y new) (sym none) here))
-  heard_then old mid new place p q x y (inr a) b = inr (answered_then old mid new place p q x y a b)
+  pub heard_then : (old mid new : Machine) (place : ℕ) (p q x y : List ℕ) (after : Attended) → Heard old place p x mid → HearsAt mid place q y after new → Heard old place (p ++ q) (x ++ y) new
+  heard_then old mid new place p q x y after (inl (none, silent, same)) b =
+      let here : HearsAt old place q y after new = subst (λ (m : Machine). HearsAt m place q y after new) same b in
+      inr (after, subst (λ (z : List ℕ). HearsAt old place (p ++ q) (z ++ y) after new) (sym silent) (subst (λ (z : List ℕ). HearsAt old place (z ++ q) y after new) (sym none) here))
+  heard_then old mid new place p q x y after (inr a) b = inr (after, answered_then old mid new place p q x y a.0 after a.1 b)
 
 -- ---- a piece in any state
 
-pub in_front : (state : HeardState) (old new : Machine) (place : ℕ) (piece out out' : List ℕ) → HearsPiece old place piece out state new out' → HearsFront old place piece out new out'
-in_front piece_is.Open old new place piece out out' h = record {
+pub in_part : (state : PieceHeard) (old new : Machine) (place : ℕ) (piece out out' : List ℕ) → HearsPiece old place piece out state new out' → HearsPart old place piece out new out'
+in_part piece_is.Open old new place piece out out' h = record {
   heard = piece;
   rest = [];
   replies = h.replies;
-  behind = [];
-  front = sym (append-nil piece);
-  answered = subst (λ (z : List ℕ). Answered old place piece z new) (sym (append-nil h.replies)) h.answered;
+  unsaid = [];
+  after = h.after;
+  parts = sym (append-nil piece);
+  hears = subst (λ (z : List ℕ). HearsAt old place piece z h.after new) (sym (append-nil h.replies)) h.hears;
+  short = inl refl;
   appended = h.appended;
 }
-in_front piece_is.Closed old new place piece out out' h = record {
+in_part piece_is.Closed old new place piece out out' h = record {
   heard = piece;
   rest = [];
   replies = h.replies;
-  behind = [];
-  front = sym (append-nil piece);
-  answered = subst (λ (z : List ℕ). Answered old place piece z new) (sym (append-nil h.replies)) (subst (λ (z : List ℕ). Answered old place z h.replies new) (append-nil piece) (h.answered []));
+  unsaid = [];
+  after = h.after;
+  parts = sym (append-nil piece);
+  hears = subst (λ (z : List ℕ). HearsAt old place piece z h.after new) (sym (append-nil h.replies)) (subst (λ (z : List ℕ). HearsAt old place z h.replies h.after new) (append-nil piece) (h.hears []));
+  short = inl refl;
   appended = h.appended;
 }
-in_front piece_is.NoMemory old new place piece out out' h = h
+in_part piece_is.NoMemory old new place piece out out' h = h
 
 -- ---- so far
 
@@ -110,7 +109,7 @@ module _ (fault_more : (bytes more : List ℕ) (fault : FrameFault) → FaultAt 
     front = t.front ++ piece;
     replies = t.replies ++ h.replies;
     input_is = t.input_is ∙ ap (λ (z : List ℕ). t.front ++ z) took ∙ sym (append_assoc t.front piece left');
-    heard = heard_then fault_more old mid new place t.front piece t.replies h.replies t.heard h.answered;
+    heard = heard_then fault_more old mid new place t.front piece t.replies h.replies h.after t.heard h.hears;
     written = Appends-trans w0 w w' t.replies h.replies t.written (subst (λ (z : List ℕ). Appends w w' z) h.appended wrote);
   }
 
@@ -130,34 +129,56 @@ module _ (fault_more : (bytes more : List ℕ) (fault : FrameFault) → FaultAt 
   closes old mid new place piece out' (Some input) (Some left) (Some left') w0 w w' s took h wrote = record {
     replies = s.replies ++ h.replies;
     heard = subst (λ (z : List ℕ). Heard old place z (s.replies ++ h.replies) new) (sym (s.input_is ∙ ap (λ (z : List ℕ). s.front ++ z) took))
-        (heard_then fault_more old mid new place s.front (piece ++ left') s.replies h.replies s.heard (h.answered left'));
+        (heard_then fault_more old mid new place s.front (piece ++ left') s.replies h.replies h.after s.heard (h.hears left'));
     written = Appends-trans w0 w w' s.replies h.replies s.written (subst (λ (z : List ℕ). Appends w w' z) h.appended wrote);
   }
 
-  -- of the answers to a front of the input a front is written
-  broken : (old mid new : Machine) (place : ℕ) (input left piece left' out' : List ℕ) (w0 w w' : Option (List ℕ)) (count : ℕ) → Talked old place input w0 left w mid → left ≡ piece ++ left' → HearsFront mid place piece [] new out'
+  -- of the answers to a prefix of the input a prefix is written
+  broken : (old mid new : Machine) (place : ℕ) (input left piece left' out' : List ℕ) (w0 w w' : Option (List ℕ)) (count : ℕ) → Talked old place input w0 left w mid → left ≡ piece ++ left' → HearsPart mid place piece [] new out'
       → Appends w w' (take count out') → BreaksOff old place input w0 w' new
   broken old mid new place input left piece left' out' w0 w w' count t took h wrote =
       let wrote_replies : Appends w w' (take count h.replies) = subst (λ (z : List ℕ). Appends w w' (take count z)) h.appended wrote in
-      let cut : take count h.replies ≡ take (length (take count h.replies)) (h.replies ++ h.behind) = sym (cut_in_front count h.replies h.behind) in
-      let wrote_cut : Appends w w' (take (length (take count h.replies)) (h.replies ++ h.behind)) = subst (λ (z : List ℕ). Appends w w' z) cut wrote_replies in
+      let cut : take count h.replies ≡ take (length (take count h.replies)) (h.replies ++ h.unsaid) = sym (cut_in_front count h.replies h.unsaid) in
+      let wrote_cut : Appends w w' (take (length (take count h.replies)) (h.replies ++ h.unsaid)) = subst (λ (z : List ℕ). Appends w w' z) cut wrote_replies in
       record {
         front = t.front ++ h.heard;
         rest = h.rest ++ left';
-        replies = t.replies ++ (h.replies ++ h.behind);
+        replies = t.replies ++ (h.replies ++ h.unsaid);
         count = length t.replies + length (take count h.replies);
-        input_is = t.input_is ∙ ap (λ (z : List ℕ). t.front ++ z) (took ∙ ap (λ (z : List ℕ). z ++ left') h.front ∙ append_assoc h.heard h.rest left') ∙ sym (append_assoc t.front h.heard (h.rest ++ left'));
-        heard = heard_then fault_more old mid new place t.front h.heard t.replies (h.replies ++ h.behind) t.heard h.answered;
-        written = subst (λ (z : List ℕ). Appends w0 w' z) (sym (take-append-add t.replies (h.replies ++ h.behind) (length (take count h.replies))))
-            (Appends-trans w0 w w' t.replies (take (length (take count h.replies)) (h.replies ++ h.behind)) t.written wrote_cut);
+        input_is = t.input_is ∙ ap (λ (z : List ℕ). t.front ++ z) (took ∙ ap (λ (z : List ℕ). z ++ left') h.parts ∙ append_assoc h.heard h.rest left') ∙ sym (append_assoc t.front h.heard (h.rest ++ left'));
+        heard = heard_then fault_more old mid new place t.front h.heard t.replies (h.replies ++ h.unsaid) h.after t.heard h.hears;
+        written = subst (λ (z : List ℕ). Appends w0 w' z) (sym (take-append-add t.replies (h.replies ++ h.unsaid) (length (take count h.replies))))
+            (Appends-trans w0 w w' t.replies (take (length (take count h.replies)) (h.replies ++ h.unsaid)) t.written wrote_cut);
       }
 
-  pub breaks_off : (old mid new : Machine) (place : ℕ) (piece out' : List ℕ) (r0 r r' w0 w w' : Option (List ℕ)) → SoFar old place r0 r w0 w mid → Consumes r r' piece → HearsFront mid place piece [] new out'
+  pub breaks_off : (old mid new : Machine) (place : ℕ) (piece out' : List ℕ) (r0 r r' w0 w w' : Option (List ℕ)) → SoFar old place r0 r w0 w mid → Consumes r r' piece → HearsPart mid place piece [] new out'
       → (count : ℕ) × Appends w w' (take count out') → IfSome r0 (λ input. BreaksOff old place input w0 w' new)
   breaks_off old mid new place piece out' None r r' w0 w w' s took h wrote = tt
   breaks_off old mid new place piece out' (Some input) None r' w0 w w' s took h wrote = absurd s
   breaks_off old mid new place piece out' (Some input) (Some left) None w0 w w' s took h wrote = absurd took
   breaks_off old mid new place piece out' (Some input) (Some left) (Some left') w0 w w' s took h (count, wrote) = broken old mid new place input left piece left' out' w0 w w' count s took h wrote
+
+  -- all of them are, but perhaps the last, which is short
+  but_short : (old mid new : Machine) (place : ℕ) (input left piece left' out' : List ℕ) (w0 w w' : Option (List ℕ)) → Talked old place input w0 left w mid → left ≡ piece ++ left' → HearsPart mid place piece [] new out'
+      → Appends w w' out' → AnswersButShort old place input w0 w' new
+  but_short old mid new place input left piece left' out' w0 w w' t took h wrote = record {
+    front = t.front ++ h.heard;
+    rest = h.rest ++ left';
+    replies = t.replies ++ h.replies;
+    unsaid = h.unsaid;
+    input_is = t.input_is ∙ ap (λ (z : List ℕ). t.front ++ z) (took ∙ ap (λ (z : List ℕ). z ++ left') h.parts ∙ append_assoc h.heard h.rest left') ∙ sym (append_assoc t.front h.heard (h.rest ++ left'));
+    heard = subst (λ (z : List ℕ). Heard old place (t.front ++ h.heard) z new) (sym (append_assoc t.replies h.replies h.unsaid))
+        (heard_then fault_more old mid new place t.front h.heard t.replies (h.replies ++ h.unsaid) h.after t.heard h.hears);
+    short = h.short;
+    written = Appends-trans w0 w w' t.replies h.replies t.written (subst (λ (z : List ℕ). Appends w w' z) h.appended wrote);
+  }
+
+  pub answers_but_short : (old mid new : Machine) (place : ℕ) (piece out' : List ℕ) (r0 r r' w0 w w' : Option (List ℕ)) → SoFar old place r0 r w0 w mid → Consumes r r' piece → HearsPart mid place piece [] new out'
+      → Appends w w' out' → IfSome r0 (λ input. AnswersButShort old place input w0 w' new)
+  answers_but_short old mid new place piece out' None r r' w0 w w' s took h wrote = tt
+  answers_but_short old mid new place piece out' (Some input) None r' w0 w w' s took h wrote = absurd s
+  answers_but_short old mid new place piece out' (Some input) (Some left) None w0 w w' s took h wrote = absurd took
+  answers_but_short old mid new place piece out' (Some input) (Some left) (Some left') w0 w w' s took h wrote = but_short old mid new place input left piece left' out' w0 w w' s took h wrote
 
 -- ---- at the end of the input, at a fault, or with nothing done
 
@@ -178,31 +199,20 @@ read_fault old now place (Some input) (Some left) w0 w s = record { front = s.fr
 
 pub none_done : (old : Machine) (place : ℕ) (r0 w0 : Option (List ℕ)) → IfSome r0 (λ input. Converses old place input w0 NoMemory w0 old)
 none_done old place None w0 = tt
-none_done old place (Some input) w0 = record { front = []; rest = input; replies = []; count = 0; input_is = refl; heard = inl (refl, refl, refl); written = Appends-nil w0 }
+none_done old place (Some input) w0 = record { front = []; rest = input; replies = []; unsaid = []; input_is = refl; heard = inl (refl, refl, refl); short = inl refl; written = Appends-nil w0 }
 
--- a device that has failed says less
-pub device : (served : Served) (old now : Machine) (place : ℕ) (input : List ℕ) (w0 w : Option (List ℕ)) → Converses old place input w0 served w now → BreaksOff old place input w0 w now
-device Done old now place input w0 w c = record {
-  front = input;
-  rest = [];
-  replies = c.replies;
-  count = length c.replies;
-  input_is = sym (append-nil input);
-  heard = c.heard;
-  written = subst (λ (z : List ℕ). Appends w0 w z) (sym (take-length c.replies)) c.written;
+-- nothing is unsaid
+all_said : (old now : Machine) (place : ℕ) (input front rest replies : List ℕ) (w0 w : Option (List ℕ)) → input ≡ front ++ rest → Heard old place front replies now → Appends w0 w replies → AnswersButShort old place input w0 w now
+all_said old now place input front rest replies w0 w input_is heard written = record {
+  front = front;
+  rest = rest;
+  replies = replies;
+  unsaid = [];
+  input_is = input_is;
+  heard = subst (λ (z : List ℕ). Heard old place front z now) (sym (append-nil replies)) heard;
+  short = inl refl;
+  written = written;
 }
-device ReadFault old now place input w0 w c = record {
-  front = c.front;
-  rest = c.rest;
-  replies = c.replies;
-  count = length c.replies;
-  input_is = c.input_is;
-  heard = c.heard;
-  written = subst (λ (z : List ℕ). Appends w0 w z) (sym (take-length c.replies)) c.written;
-}
-device WriteFault old now place input w0 w c = c
-device NoMemory old now place input w0 w c = c
-device DeviceFailed old now place input w0 w c = c
 
 -- ---- a conversation that was opened, served and lost
 
@@ -212,14 +222,14 @@ number_there (p ∷ ps) zero x is = (number_of p, refl)
 number_there (p ∷ ps) (suc i) x is = number_there ps i x is
 
 -- what was opened is named
-pub named : (places : List Slot) (old new : Machine) (before after : Register) (id : ConversationId) → old.row ≡ map shown places → before.numbers ≡ map number_of places → Opens old before id new after → Names new after id
+pub named : (places : List Slot) (old new : Machine) (before after : List ℕ) (id : ConversationId) → old.row ≡ map shown places → before ≡ map number_of places → Opens old before id new after → Names new after id
 named places old new before after id rows numbers o =
     let free : slice_get (map shown places) id.place ≡ Some None = subst (λ (r : List (Option Conversation)). slice_get r id.place ≡ Some None) rows o.free in
     let had = number_there places id.place None free in
-    let at : slice_get before.numbers id.place ≡ Some had.0 = subst (λ (ns : List ℕ). slice_get ns id.place ≡ Some had.0) (sym numbers) had.1 in
+    let at : slice_get before id.place ≡ Some had.0 = subst (λ (ns : List ℕ). slice_get ns id.place ≡ Some had.0) (sym numbers) had.1 in
     record {
       is_there = (beginning, subst (λ (m : Machine). slice_get m.row id.place ≡ Some (Some beginning)) (sym o.row) (get_set old.row id.place None (Some beginning) o.free));
-      number = subst (λ (ns : List ℕ). slice_get ns id.place ≡ Some id.number) (sym o.numbers) (get_set before.numbers id.place had.0 id.number at);
+      number = subst (λ (ns : List ℕ). slice_get ns id.place ≡ Some id.number) (sym o.numbers) (get_set before id.place had.0 id.number at);
     }
 
 has_served : (old mid last new : Machine) (place : ℕ) (input : List ℕ) (w0 w : Option (List ℕ)) (served : Served) → slice_get old.row place ≡ Some None → mid ≡ opened old place → new ≡ lost last place
@@ -232,32 +242,54 @@ has_served old mid last new place input w0 w served free was then c = record {
   lost_then = then;
 }
 
-as_told : (served : Served) (old new : Machine) (input : List ℕ) (w0 w : Option (List ℕ)) → HasServed old input w0 served w new → Serves old input w0 served w new
-as_told Done old new input w0 w h = h
-as_told ReadFault old new input w0 w h = h
-as_told WriteFault old new input w0 w h = h
-as_told NoMemory old new input w0 w h = inr h
-as_told DeviceFailed old new input w0 w h = inr h
-
+-- a device that has failed is told where no write has failed
 serves_input : (failed : Bool) (served : Served) (old mid last new : Machine) (place : ℕ) (input : List ℕ) (w0 w : Option (List ℕ)) → slice_get old.row place ≡ Some None → mid ≡ opened old place → new ≡ lost last place
     → Converses mid place input w0 served w last → Serves old input w0 (unless_failed failed served) w new
-serves_input true served old mid last new place input w0 w free was then c = inr (has_served old mid last new place input w0 w DeviceFailed free was then (device served mid last place input w0 w c))
-serves_input false served old mid last new place input w0 w free was then c = as_told served old new input w0 w (has_served old mid last new place input w0 w served free was then c)
+serves_input true Done old mid last new place input w0 w free was then c =
+    inr (has_served old mid last new place input w0 w DeviceFailed free was then (all_said mid last place input input [] c.replies w0 w (sym (append-nil input)) c.heard c.written))
+serves_input true ReadFault old mid last new place input w0 w free was then c =
+    inr (has_served old mid last new place input w0 w DeviceFailed free was then (all_said mid last place input c.front c.rest c.replies w0 w c.input_is c.heard c.written))
+serves_input true WriteFault old mid last new place input w0 w free was then c = has_served old mid last new place input w0 w WriteFault free was then c
+serves_input true NoMemory old mid last new place input w0 w free was then c = inr (has_served old mid last new place input w0 w DeviceFailed free was then c)
+serves_input true DeviceFailed old mid last new place input w0 w free was then c = inr (has_served old mid last new place input w0 w DeviceFailed free was then c)
+serves_input false Done old mid last new place input w0 w free was then c = has_served old mid last new place input w0 w Done free was then c
+serves_input false ReadFault old mid last new place input w0 w free was then c = has_served old mid last new place input w0 w ReadFault free was then c
+serves_input false WriteFault old mid last new place input w0 w free was then c = has_served old mid last new place input w0 w WriteFault free was then c
+serves_input false NoMemory old mid last new place input w0 w free was then c = inr (has_served old mid last new place input w0 w NoMemory free was then c)
+serves_input false DeviceFailed old mid last new place input w0 w free was then c = inr (has_served old mid last new place input w0 w DeviceFailed free was then c)
 
 pub serves : (failed : Bool) (served : Served) (old mid last new : Machine) (place : ℕ) (r0 w0 w : Option (List ℕ)) → slice_get old.row place ≡ Some None → mid ≡ opened old place → new ≡ lost last place
     → IfSome r0 (λ input. Converses mid place input w0 served w last) → IfSome r0 (λ input. Serves old input w0 (unless_failed failed served) w new)
 serves failed served old mid last new place None w0 w free was then c = tt
 serves failed served old mid last new place (Some input) w0 w free was then c = serves_input failed served old mid last new place input w0 w free was then c
 
-no_place : (failed : Bool) (old new : Machine) (input : List ℕ) (w : Option (List ℕ)) → new ≡ old → Serves old input w (unless_failed failed NoMemory) w new
-no_place true old new input w same = inl (record { same = same; silent = refl })
-no_place false old new input w same = inl (record { same = same; silent = refl })
+-- why no conversation is opened
+pub no_place_for : (old : Machine) (error : OpenError) (r : Result ConversationId OpenError) → r ≡ Err error → (r ≡ Err TooMany → is_full old ≡ true) → (r ≡ Err NoNumber → (is_full old ≡ false) × (old.given + 1 ≡ 2 ^ 64))
+    → (is_full old ≡ true) ⊎ (old.given + 1 ≡ 2 ^ 64)
+no_place_for old TooMany r is many none = inl (many is)
+no_place_for old NoNumber r is many none = inr (none is).1
 
-pub finds_no_place : (failed : Bool) (old new : Machine) (r0 w : Option (List ℕ)) → new ≡ old → IfSome r0 (λ input. Serves old input w (unless_failed failed NoMemory) w new)
-finds_no_place failed old new None w same = tt
-finds_no_place failed old new (Some input) w same = no_place failed old new input w same
+no_place : (failed : Bool) (old new : Machine) (input : List ℕ) (w : Option (List ℕ)) → (is_full old ≡ true) ⊎ (old.given + 1 ≡ 2 ^ 64) → new ≡ old → Serves old input w (unless_failed failed NoMemory) w new
+no_place true old new input w none same = inl (record { none = none; same = same; silent = refl })
+no_place false old new input w none same = inl (record { none = none; same = same; silent = refl })
+
+pub finds_no_place : (failed : Bool) (old new : Machine) (r0 w : Option (List ℕ)) → (is_full old ≡ true) ⊎ (old.given + 1 ≡ 2 ^ 64) → new ≡ old → IfSome r0 (λ input. Serves old input w (unless_failed failed NoMemory) w new)
+finds_no_place failed old new None w none same = tt
+finds_no_place failed old new (Some input) w none same = no_place failed old new input w none same
 
 -- a device that has failed is told, and no other
-pub told : (failed : Bool) (served : Served) → (served ≡ DeviceFailed → failed ≡ true) → (unless_failed failed served ≡ DeviceFailed) ↔ (failed ≡ true)
-told true served only = ((λ is. refl), (λ is. refl))
-told false served only = (only, (λ is. absurd (cc is)))
+pub only_failed : (failed : Bool) (served : Served) → (served ≡ DeviceFailed → failed ≡ true) → unless_failed failed served ≡ DeviceFailed → failed ≡ true
+only_failed true served only is = refl
+only_failed false Done only is = absurd (cc is)
+only_failed false ReadFault only is = absurd (cc is)
+only_failed false WriteFault only is = absurd (cc is)
+only_failed false NoMemory only is = absurd (cc is)
+only_failed false DeviceFailed only is = only refl
+
+pub told : (failed : Bool) (served : Served) → failed ≡ true → (unless_failed failed served ≡ DeviceFailed) ⊎ (unless_failed failed served ≡ WriteFault)
+told true Done is = inl refl
+told true ReadFault is = inl refl
+told true WriteFault is = inr refl
+told true NoMemory is = inl refl
+told true DeviceFailed is = inl refl
+told false served is = absurd (cc is)

@@ -1,19 +1,23 @@
 -- What serving a stream comes to: what stood in the input, what the writer held before and holds now, and the
 -- machine before and now.
-use Rattle.std.specs.Prelude.{◌≡◌, ◌⊎◌, ℕ, Bool, if◌then◌else◌, List, [], ◌++◌, Option, Some, None, slice_get, take}
+use Rattle.std.specs.Prelude.{◌≡◌, ◌⊎◌, ℕ, ◌+◌, ◌^◌, Bool, true, if◌then◌else◌, List, [], ◌++◌, Option, Some, None, slice_get, take}
 use Rattle.std.specs.Io.KnownBytes.{Appends}
-use Rattle.drda_node.specs.Machine.{Machine, lost, opened}
-use Rattle.stream_service.specs.Pieces.{Answered}
+use Rattle.drda_node.specs.Machine.{Machine, is_full, lost, opened}
+use Rattle.drda_node.specs.Hearing.{Attended, HearsAt, IsShortReply}
 use Rattle.stream_service.specs.declared.serving.Served.{Served}
 use Rattle.stream_service.specs.declared.serving.Served.TheVariants.{Done, ReadFault, WriteFault, NoMemory, DeviceFailed}
 
--- a core that has failed is told before anything else
+-- a core that has failed is told before anything else but a write that failed
 abbrev pub unless_failed : Bool → Served → Served
-unless_failed has_failed served = if has_failed then DeviceFailed else served
+unless_failed has_failed Done = if has_failed then DeviceFailed else Done
+unless_failed has_failed ReadFault = if has_failed then DeviceFailed else ReadFault
+unless_failed has_failed WriteFault = WriteFault
+unless_failed has_failed NoMemory = if has_failed then DeviceFailed else NoMemory
+unless_failed has_failed DeviceFailed = DeviceFailed
 
 -- nothing has come yet, or the conversation heard these bytes and was answered so
 abbrev pub Heard : Machine → ℕ → List ℕ → List ℕ → Machine → Type 0
-Heard old place bytes replies new = ((bytes ≡ []) × (replies ≡ []) × (new ≡ old)) ⊎ Answered old place bytes replies new
+Heard old place bytes replies new = ((bytes ≡ []) × (replies ≡ []) × (new ≡ old)) ⊎ ((after : Attended) × HearsAt old place bytes replies after new)
 
 -- all of the input was heard, and its answers are written
 pub record AnswersAll (old : Machine) (place : ℕ) (input : List ℕ) (before now : Option (List ℕ)) (new : Machine) : Type 0 where
@@ -21,8 +25,8 @@ pub record AnswersAll (old : Machine) (place : ℕ) (input : List ℕ) (before n
   pub heard : Heard old place input replies new
   pub written : Appends before now replies
 
--- a front of the input was heard, and its answers are written
-pub record AnswersFront (old : Machine) (place : ℕ) (input : List ℕ) (before now : Option (List ℕ)) (new : Machine) : Type 0 where
+-- a prefix of the input was heard, and its answers are written
+pub record AnswersPrefix (old : Machine) (place : ℕ) (input : List ℕ) (before now : Option (List ℕ)) (new : Machine) : Type 0 where
   pub front : List ℕ
   pub rest : List ℕ
   pub replies : List ℕ
@@ -30,7 +34,18 @@ pub record AnswersFront (old : Machine) (place : ℕ) (input : List ℕ) (before
   pub heard : Heard old place front replies new
   pub written : Appends before now replies
 
--- a front of the input was heard, and a front of its answers is written
+-- the same, but perhaps for the last answer, which says that a command found no memory
+pub record AnswersButShort (old : Machine) (place : ℕ) (input : List ℕ) (before now : Option (List ℕ)) (new : Machine) : Type 0 where
+  pub front : List ℕ
+  pub rest : List ℕ
+  pub replies : List ℕ
+  pub unsaid : List ℕ
+  pub input_is : input ≡ front ++ rest
+  pub heard : Heard old place front (replies ++ unsaid) new
+  pub short : (unsaid ≡ []) ⊎ IsShortReply unsaid
+  pub written : Appends before now replies
+
+-- a prefix of the input was heard, and a prefix of its answers is written
 pub record BreaksOff (old : Machine) (place : ℕ) (input : List ℕ) (before now : Option (List ℕ)) (new : Machine) : Type 0 where
   pub front : List ℕ
   pub rest : List ℕ
@@ -43,10 +58,10 @@ pub record BreaksOff (old : Machine) (place : ℕ) (input : List ℕ) (before no
 -- by how it ends, from a conversation that is open at this place to before it is lost
 abbrev pub Converses : Machine → ℕ → List ℕ → Option (List ℕ) → Served → Option (List ℕ) → Machine → Type 0
 Converses old place input before Done now new = AnswersAll old place input before now new
-Converses old place input before ReadFault now new = AnswersFront old place input before now new
+Converses old place input before ReadFault now new = AnswersPrefix old place input before now new
 Converses old place input before WriteFault now new = BreaksOff old place input before now new
-Converses old place input before NoMemory now new = BreaksOff old place input before now new
-Converses old place input before DeviceFailed now new = BreaksOff old place input before now new
+Converses old place input before NoMemory now new = AnswersButShort old place input before now new
+Converses old place input before DeviceFailed now new = AnswersButShort old place input before now new
 
 -- a conversation was opened at a free place, served, and lost
 pub record HasServed (old : Machine) (input : List ℕ) (before : Option (List ℕ)) (result : Served) (now : Option (List ℕ)) (new : Machine) : Type 0 where
@@ -58,6 +73,7 @@ pub record HasServed (old : Machine) (input : List ℕ) (before : Option (List �
 
 -- there was no place or no number for it, and nothing is done
 pub record FindsNoPlace (old : Machine) (before now : Option (List ℕ)) (new : Machine) : Type 0 where
+  pub none : (is_full old ≡ true) ⊎ (old.given + 1 ≡ 2 ^ 64)
   pub same : new ≡ old
   pub silent : now ≡ before
 

@@ -1,13 +1,12 @@
 //! A conversation over two halves of a stream.
 
-ghost use Rattle.std.specs.Prelude.{◌≡◌, ◌↔◌, true, IfSome};
+ghost use Rattle.std.specs.Prelude.{◌≡◌, ◌⊎◌, true, IfSome};
 ghost use Rattle.drda_node.specs.Asking.{IsJournaled};
-ghost use Rattle.drda_node.specs.Register.{Names, core_in, machine, place_of, register};
+ghost use Rattle.drda_node.specs.Register.{Names, core_in, machine, numbers, place_of};
 ghost use Rattle.stream_service.specs.Serving.{Converses, Serves, unless_failed};
 
-use crate::feeding::{Heard, feed_all};
 use drda_disk::Disk;
-use drda_node::{ConversationId, Node, write_whole};
+use drda_node::{ConversationId, Heard, Node, write_whole};
 use dss_frames::stays_read;
 use recovery_laws::images::calls_go_on;
 use std::alloc::{AllocError, Global};
@@ -23,11 +22,11 @@ pub enum Served {
     Done,
     /// Reading failed, or 2^63 reads were not enough.
     ReadFault,
-    /// Writing failed.
+    /// Writing failed, whether the device has failed too or not.
     WriteFault,
     /// Memory was refused, or the node had no place or no number for a conversation.
     NoMemory,
-    /// The device below the node's core has failed.
+    /// The device below the node's core has failed. The answer that says so is written.
     DeviceFailed,
 }
 
@@ -37,9 +36,10 @@ pub enum Served {
 /// or memory is refused. Then the conversation is lost: a unit of work that it left open ends without
 /// its changes.
 ///
-/// `Done` comes only where the conversation was answered all of the input. `DeviceFailed` comes exactly
-/// where the core has failed, whatever else happened. At a fault of the stream what was heard was done,
-/// and of its answers a front is written.
+/// `Done` comes only where the conversation was answered all of the input. Where the core has failed,
+/// `DeviceFailed` comes, or `WriteFault` where a write failed. What was heard was done, and its answers are
+/// written: all of them but perhaps the last, which says that a command found no memory, on `NoMemory` and
+/// `DeviceFailed`; a prefix of them on `WriteFault`.
 pub fn serve_one<D: Disk, R: Read, W: Write>(
     alloc: Global,
     node: &mut Node<D>,
@@ -47,28 +47,34 @@ pub fn serve_one<D: Disk, R: Read, W: Write>(
     writer: &mut W,
 ) -> Served
     ensures serves { IfSome (R.remaining reader.old) (λ input. Serves (machine node.old) input (W.contents writer.old) result (W.contents writer.new) (machine node.new)) }
-    ensures device { (result ≡ Served.DeviceFailed) ↔ ((machine node.new).has_failed ≡ true) }
+    ensures device { (result ≡ Served.DeviceFailed) → (machine node.new).core.has_failed ≡ true }
+    ensures told { (machine node.new).core.has_failed ≡ true → (result ≡ Served.DeviceFailed) ⊎ (result ≡ Served.WriteFault) }
     ensures journaled { IsJournaled D.is_modelled D.life (core_in node.old) (core_in node.new) }
 {
     calls_go_on::<D>();
     node.core().is_durable();
-    let Ok(id) = node.open_conversation() else {
-        return unless_failed(node, Served::NoMemory);
+    let id = match node.open_conversation() {
+        Ok(id) => id,
+        Err(_) => return unless_failed(node, Served::NoMemory),
     };
     let served = converse(alloc, node, id, reader, writer);
     node.lost(id);
     unless_failed(node, served)
 }
 
-// This, unless the core has failed.
+// This, unless the core has failed and no write has.
 fn unless_failed<D: Disk>(node: &Node<D>, served: Served) -> Served
-    ensures { result ≡ unless_failed (machine node.now).has_failed served }
+    ensures { result ≡ unless_failed (machine node.now).core.has_failed served }
 {
     let core = node.core();
-    if core.is_failed() {
-        return Served::DeviceFailed;
+    let is_failed = core.is_failed();
+    match served {
+        Served::Done if !is_failed => Served::Done,
+        Served::ReadFault if !is_failed => Served::ReadFault,
+        Served::NoMemory if !is_failed => Served::NoMemory,
+        Served::WriteFault => Served::WriteFault,
+        _ => Served::DeviceFailed,
     }
-    served
 }
 
 // Until the stream ends or fails, the conversation is closed, the device fails or memory is refused.
@@ -79,10 +85,10 @@ fn converse<D: Disk, R: Read, W: Write>(
     reader: &mut R,
     writer: &mut W,
 ) -> Served
-    requires { Names (machine node.old) (register node.old) id }
+    requires { Names (machine node.old) (numbers node.old) id }
     ensures converses { IfSome (R.remaining reader.old) (λ input. Converses (machine node.old) (place_of id) input (W.contents writer.old) result (W.contents writer.new) (machine node.new)) }
-    ensures named { Names (machine node.new) (register node.new) id }
-    ensures device { (result ≡ Served.DeviceFailed) → (machine node.new).has_failed ≡ true }
+    ensures named { Names (machine node.new) (numbers node.new) id }
+    ensures device { (result ≡ Served.DeviceFailed) → (machine node.new).core.has_failed ≡ true }
     ensures journaled { IsJournaled D.is_modelled D.life (core_in node.old) (core_in node.new) }
 {
     stays_read();
@@ -99,7 +105,7 @@ fn converse<D: Disk, R: Read, W: Write>(
             Err(_) => return Served::ReadFault,
         };
         replies.clear();
-        let heard = feed_all(node, id, &buffer[..count], &mut replies);
+        let heard = node.feed_all(id, &buffer[..count], &mut replies);
         overwrite(&mut buffer, count);
         let Ok(()) = write_whole(writer, &replies) else {
             return Served::WriteFault;

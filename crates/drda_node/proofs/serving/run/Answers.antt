@@ -1,20 +1,18 @@
 use Rattle.std.proofs.Common.{◌≡◌, ℕ, List, length, drop, ap, subst, ◌∙◌, arith, [], sym}
 use Rattle.drda_node.specs.Register.{core_in, machine}
 use Rattle.drda_node.proofs.Journal.{more, none}
-use Rattle.drda_node.specs.declared.serving.RunEnd.TheVariants.{Ended, BadEvent, ReadFault}
+use Rattle.drda_node.specs.declared.serving.RunEnd.TheVariants.{Ended, BadEvent, NoMemory, ReadFault}
 use Rattle.drda_node.specs.Gathering.{Ends, PassesOn, WritesFront}
 use Rattle.drda_node.specs.Reading.{event_of}
-use Rattle.drda_node.specs.Happening.{Happens}
+use Rattle.drda_node.specs.Happening.{BreaksOff, Happens}
+use Rattle.drda_node.specs.Serving.{GoesOn}
+use Rattle.drda_node.proofs.Refusing.{broken_keep}
 use Rattle.drda_node.proofs.Written.{take_front}
-use Rattle.drda_node.proofs.Runs.{SoFar, starts, one_more, ends, is_bad, read_fault, no_memory, write_fault}
+use Rattle.drda_node.proofs.Runs.{SoFar, ends, is_bad, no_memory, not_begun, one_more, read_fault, starts, write_fault}
 use Rattle.drda_node.proofs.serving.run.Goals as goal
 
 pub returns-in_default-clause-runs : goal.returns-in_default-clause-runs
-returns-in_default-clause-runs g c =
-    let r = g.R.Read.remaining c.args.reader.now in
-    let w = g.W.Write.contents c.args.writer.now in
-    let m = machine c.args.node.now in
-    no_memory r r w w m m m [] (starts r w m)
+returns-in_default-clause-runs g c = not_begun (g.R.Read.remaining c.args.reader.now) (g.W.Write.contents c.args.writer.now) (machine c.args.node.now)
 
 pub answer-requires : goal.answer-requires
 answer-requires g c =
@@ -29,8 +27,27 @@ answer-requires g c =
 
 pub returns-in_default-answer-clause-runs : goal.returns-in_default-answer-clause-runs
 returns-in_default-answer-clause-runs g c =
-    no_memory (g.R.Read.remaining c.args.reader.now) (g.R.Read.remaining c.events.reader) (g.W.Write.contents c.args.writer.now) (g.W.Write.contents c.events.writer) (machine c.args.node.now) (machine c.events.node) (machine c.answer.new.node)
-    c.events.gathered.items c.events.invariant.so_far
+    let buffer = c.read_event.new.buffer in
+    let behind = drop (length c.read_event.new.buffer) c.events.buffer.items in
+    let lent : length c.deref_mut.result.now ≡ 65536 = ap length c.deref_mut.ensures.value ∙ c.events.invariant.room in
+    let full : length c.read_event.new.buffer ≡ 65536 = omega (arith, lent) in
+    let count : length c.read_event.new.buffer ≡ c.events.buffer.len = omega (arith, lent, full) in
+    let back = take_front c.events.buffer.len buffer behind count in
+    let same : c.deref.result.now ≡ buffer = c.deref.ensures.value ∙ back in
+    let between = machine c.events.node in
+    let last = machine c.answer.new.node in
+    let event = event_of c.in-Event.head buffer in
+    let breaks = subst (λ (z : List ℕ). BreaksOff between (event_of c.in-Event.head z) last) same c.in_default-answer.ensures.breaks_off in
+    let journaled = c.answer.ensures.journaled in
+    let goes_on : GoesOn between last = record {
+      settings = broken_keep between last event breaks;
+      more = journaled.more;
+      made = journaled.made;
+      failed = λ failed. (journaled.failed failed).failed;
+    } in
+    no_memory (g.R.Read.remaining c.args.reader.now) (g.R.Read.remaining c.events.reader) (g.R.Read.remaining c.read_event.new.reader) (g.W.Write.contents c.args.writer.now) (g.W.Write.contents c.events.writer)
+    (g.W.Write.contents c.finish.new.writer) (machine c.args.node.now) between last event c.events.gathered.items c.finish.result c.events.invariant.so_far c.in-Event.ensures.reads breaks goes_on
+    (subst (λ (z : List ℕ). Ends (g.W.Write.contents c.events.writer) z NoMemory c.finish.result (g.W.Write.contents c.finish.new.writer)) c.deref-in_default-answer.ensures.value c.finish.ensures)
 
 pub returns-in_default-pass_on-clause-runs : goal.returns-in_default-pass_on-clause-runs
 returns-in_default-pass_on-clause-runs g c =
@@ -59,9 +76,9 @@ returns-in_default-pass_on-clause-runs g c =
 
 pub returns-in-Ended-clause-runs : goal.returns-in-Ended-clause-runs
 returns-in-Ended-clause-runs g c =
-    ends (g.R.Read.remaining c.args.reader.now) (g.R.Read.remaining c.events.reader) (g.W.Write.contents c.args.writer.now) (g.W.Write.contents c.events.writer) (g.W.Write.contents c.finish.new.writer) (machine c.args.node.now) (machine c.events.node)
-    c.events.gathered.items c.finish.result c.events.invariant.so_far c.in-Ended.ensures.reads
-    (subst (λ (z : List ℕ). Ends (g.W.Write.contents c.events.writer) z Ended c.finish.result (g.W.Write.contents c.finish.new.writer)) c.deref-in-Ended.ensures.value c.finish.ensures)
+    ends (g.R.Read.remaining c.args.reader.now) (g.R.Read.remaining c.events.reader) (g.W.Write.contents c.args.writer.now) (g.W.Write.contents c.events.writer) (g.W.Write.contents c.finish-in-Ended.new.writer) (machine c.args.node.now) (machine c.events.node)
+    c.events.gathered.items c.finish-in-Ended.result c.events.invariant.so_far c.in-Ended.ensures.reads
+    (subst (λ (z : List ℕ). Ends (g.W.Write.contents c.events.writer) z Ended c.finish-in-Ended.result (g.W.Write.contents c.finish-in-Ended.new.writer)) c.deref-in-Ended.ensures.value c.finish-in-Ended.ensures)
 
 pub returns-in-Bad-clause-runs : goal.returns-in-Bad-clause-runs
 returns-in-Bad-clause-runs g c =

@@ -17,7 +17,7 @@ returns-clause-fresh g c name opened is =
       end = c.run-end.result;
       is_flushed = c.is_ok-is_flushed.result;
       reported = c.result_of.ensures;
-      has_run = has_run (settings_of login name) _ _ _ _ _ c.run-end.result (g.R.Read.remaining c.args.reader.now) starts c.flush.ensures.bytes c.run-end.ensures.runs;
+      has_run = has_run (settings_of login name) c.args.core.room _ _ _ _ _ c.run-end.result (g.R.Read.remaining c.args.reader.now) starts c.flush.ensures.bytes c.run-end.ensures.runs;
     })
 
 pub returns-clause-cause : goal.returns-clause-cause

@@ -2,12 +2,11 @@ use Rattle.std.proofs.Common.{◌≡◌, ℕ, List, [], ◌++◌, length, take, 
 use Rattle.std.specs.Prelude.{IsTrue, false}
 use Rattle.recovery_laws.specs.Journaled.{IsDurable, OnDisk, shown_on}
 use Rattle.std.specs.Io.KnownBytes.{Appends, Consumes}
-use Rattle.std.proofs.Math.Seq.{take-length}
 use Rattle.drda_node.specs.Register.{core_in, machine, place_of}
 use Rattle.drda_node.proofs.Journal.{more, none}
 use Rattle.drda_node.proofs.Written.{take_front}
-use Rattle.stream_service.specs.Pieces.{HearsAll, HearsFront, HearsLast}
-use Rattle.stream_service.proofs.Streams.{breaks_off, closes, ends, goes_on, in_front, none_done, read_fault, starts}
+use Rattle.drda_node.specs.Hearing.{HearsAll, HearsLast, HearsPart}
+use Rattle.stream_service.proofs.Streams.{answers_but_short, breaks_off, closes, ends, goes_on, in_part, none_done, read_fault, starts}
 use Rattle.stream_service.proofs.serving.converse.Goals as goal
 
 pub returns-in_default-clause-converses : goal.returns-in_default-clause-converses
@@ -50,10 +49,10 @@ returns-in_default-write_whole-clause-converses g c =
     let n = c.in-Ok-read.count in
     let old = machine c.args.node.now in
     let mid = machine c.talking.node in
-    let new = machine c.feed_all-heard.new.node in
+    let new = machine c.feed_all-heard.new.self in
     let place = place_of c.args.id in
     let out = c.clear.new.self.items in
-    let out' = c.feed_all-heard.new.replies.items in
+    let out' = c.feed_all-heard.new.out.items in
     let r0 = g.R.Read.remaining c.args.reader.now in
     let r = g.R.Read.remaining c.talking.reader in
     let r' = g.R.Read.remaining c.read.new.self in
@@ -62,16 +61,16 @@ returns-in_default-write_whole-clause-converses g c =
     let w' = g.W.Write.contents c.write_whole.new.writer in
     let more_fault = c.stays_read.ensures.fault in
     let took : Consumes r r' (take n buffer) = c.in-Ok-read.ensures.bytes.0 in
-    let heard = in_front c.feed_all-heard.result mid new place (take n c.deref.result.now) out out' c.feed_all-heard.ensures.hears in
-    let here : HearsFront mid place (take n buffer) [] new out' =
-    subst (λ (z : List ℕ). HearsFront mid place (take n buffer) z new out') c.clear.ensures.items
-    (subst (λ (z : List ℕ). HearsFront mid place (take n z) out new out') same heard) in
+    let heard = in_part c.feed_all-heard.result mid new place (take n c.deref.result.now) out out' c.feed_all-heard.ensures.hears in
+    let here : HearsPart mid place (take n buffer) [] new out' =
+    subst (λ (z : List ℕ). HearsPart mid place (take n buffer) z new out') c.clear.ensures.items
+    (subst (λ (z : List ℕ). HearsPart mid place (take n z) out new out') same heard) in
     let wrote = subst (λ (z : List ℕ). (count : ℕ) × Appends w w' (take count z)) c.deref-in-talking.ensures.value c.in_default-write_whole.ensures.err in
     breaks_off more_fault old mid new place (take n buffer) out' r0 r r' w0 w w' c.talking.invariant.so_far took here wrote
 
 pub returns-in_default-write_whole-clause-journaled : goal.returns-in_default-write_whole-clause-journaled
 returns-in_default-write_whole-clause-journaled g c =
-    more g.D.Disk.is_modelled g.D.Disk.life c.calls_go_on.ensures (core_in c.args.node.now) (core_in c.talking.node) (core_in c.feed_all-heard.new.node) c.talking.invariant.journaled c.feed_all-heard.ensures.journaled
+    more g.D.Disk.is_modelled g.D.Disk.life c.calls_go_on.ensures (core_in c.args.node.now) (core_in c.talking.node) (core_in c.feed_all-heard.new.self) c.talking.invariant.journaled c.feed_all-heard.ensures.journaled
 
 pub returns-in-Closed-clause-converses : goal.returns-in-Closed-clause-converses
 returns-in-Closed-clause-converses g c =
@@ -85,10 +84,10 @@ returns-in-Closed-clause-converses g c =
     let n = c.in-Ok-read.count in
     let old = machine c.args.node.now in
     let mid = machine c.talking.node in
-    let new = machine c.feed_all-heard.new.node in
+    let new = machine c.feed_all-heard.new.self in
     let place = place_of c.args.id in
     let out = c.clear.new.self.items in
-    let out' = c.feed_all-heard.new.replies.items in
+    let out' = c.feed_all-heard.new.out.items in
     let r0 = g.R.Read.remaining c.args.reader.now in
     let r = g.R.Read.remaining c.talking.reader in
     let r' = g.R.Read.remaining c.read.new.self in
@@ -105,7 +104,7 @@ returns-in-Closed-clause-converses g c =
 
 pub returns-in-Closed-clause-journaled : goal.returns-in-Closed-clause-journaled
 returns-in-Closed-clause-journaled g c =
-    more g.D.Disk.is_modelled g.D.Disk.life c.calls_go_on.ensures (core_in c.args.node.now) (core_in c.talking.node) (core_in c.feed_all-heard.new.node) c.talking.invariant.journaled c.feed_all-heard.ensures.journaled
+    more g.D.Disk.is_modelled g.D.Disk.life c.calls_go_on.ensures (core_in c.args.node.now) (core_in c.talking.node) (core_in c.feed_all-heard.new.self) c.talking.invariant.journaled c.feed_all-heard.ensures.journaled
 
 pub returns-in-NoMemory-clause-converses : goal.returns-in-NoMemory-clause-converses
 returns-in-NoMemory-clause-converses g c =
@@ -119,10 +118,10 @@ returns-in-NoMemory-clause-converses g c =
     let n = c.in-Ok-read.count in
     let old = machine c.args.node.now in
     let mid = machine c.talking.node in
-    let new = machine c.feed_all-heard.new.node in
+    let new = machine c.feed_all-heard.new.self in
     let place = place_of c.args.id in
     let out = c.clear.new.self.items in
-    let out' = c.feed_all-heard.new.replies.items in
+    let out' = c.feed_all-heard.new.out.items in
     let r0 = g.R.Read.remaining c.args.reader.now in
     let r = g.R.Read.remaining c.talking.reader in
     let r' = g.R.Read.remaining c.read.new.self in
@@ -131,17 +130,16 @@ returns-in-NoMemory-clause-converses g c =
     let w' = g.W.Write.contents c.write_whole.new.writer in
     let more_fault = c.stays_read.ensures.fault in
     let took : Consumes r r' (take n buffer) = c.in-Ok-read.ensures.bytes.0 in
-    let heard = in_front c.feed_all-heard.result mid new place (take n c.deref.result.now) out out' c.feed_all-heard.ensures.hears in
-    let here : HearsFront mid place (take n buffer) [] new out' =
-    subst (λ (z : List ℕ). HearsFront mid place (take n buffer) z new out') c.clear.ensures.items
-    (subst (λ (z : List ℕ). HearsFront mid place (take n z) out new out') same heard) in
+    let heard = in_part c.feed_all-heard.result mid new place (take n c.deref.result.now) out out' c.feed_all-heard.ensures.hears in
+    let here : HearsPart mid place (take n buffer) [] new out' =
+    subst (λ (z : List ℕ). HearsPart mid place (take n buffer) z new out') c.clear.ensures.items
+    (subst (λ (z : List ℕ). HearsPart mid place (take n z) out new out') same heard) in
     let wrote : Appends w w' out' = subst (λ (z : List ℕ). Appends w w' z) c.deref-in-talking.ensures.value c.in-Ok-write_whole.ensures.ok in
-    let all : (count : ℕ) × Appends w w' (take count out') = (length out', subst (λ (z : List ℕ). Appends w w' z) (sym (take-length out')) wrote) in
-    breaks_off more_fault old mid new place (take n buffer) out' r0 r r' w0 w w' c.talking.invariant.so_far took here all
+    answers_but_short more_fault old mid new place (take n buffer) out' r0 r r' w0 w w' c.talking.invariant.so_far took here wrote
 
 pub returns-in-NoMemory-clause-journaled : goal.returns-in-NoMemory-clause-journaled
 returns-in-NoMemory-clause-journaled g c =
-    more g.D.Disk.is_modelled g.D.Disk.life c.calls_go_on.ensures (core_in c.args.node.now) (core_in c.talking.node) (core_in c.feed_all-heard.new.node) c.talking.invariant.journaled c.feed_all-heard.ensures.journaled
+    more g.D.Disk.is_modelled g.D.Disk.life c.calls_go_on.ensures (core_in c.args.node.now) (core_in c.talking.node) (core_in c.feed_all-heard.new.self) c.talking.invariant.journaled c.feed_all-heard.ensures.journaled
 
 pub returns-then-is_failed-clause-converses : goal.returns-then-is_failed-clause-converses
 returns-then-is_failed-clause-converses g c =
@@ -155,10 +153,10 @@ returns-then-is_failed-clause-converses g c =
     let n = c.in-Ok-read.count in
     let old = machine c.args.node.now in
     let mid = machine c.talking.node in
-    let new = machine c.feed_all-heard.new.node in
+    let new = machine c.feed_all-heard.new.self in
     let place = place_of c.args.id in
     let out = c.clear.new.self.items in
-    let out' = c.feed_all-heard.new.replies.items in
+    let out' = c.feed_all-heard.new.out.items in
     let r0 = g.R.Read.remaining c.args.reader.now in
     let r = g.R.Read.remaining c.talking.reader in
     let r' = g.R.Read.remaining c.read.new.self in
@@ -167,17 +165,16 @@ returns-then-is_failed-clause-converses g c =
     let w' = g.W.Write.contents c.write_whole.new.writer in
     let more_fault = c.stays_read.ensures.fault in
     let took : Consumes r r' (take n buffer) = c.in-Ok-read.ensures.bytes.0 in
-    let heard = in_front c.feed_all-heard.result mid new place (take n c.deref.result.now) out out' c.feed_all-heard.ensures.hears in
-    let here : HearsFront mid place (take n buffer) [] new out' =
-    subst (λ (z : List ℕ). HearsFront mid place (take n buffer) z new out') c.clear.ensures.items
-    (subst (λ (z : List ℕ). HearsFront mid place (take n z) out new out') same heard) in
+    let heard = in_part c.feed_all-heard.result mid new place (take n c.deref.result.now) out out' c.feed_all-heard.ensures.hears in
+    let here : HearsPart mid place (take n buffer) [] new out' =
+    subst (λ (z : List ℕ). HearsPart mid place (take n buffer) z new out') c.clear.ensures.items
+    (subst (λ (z : List ℕ). HearsPart mid place (take n z) out new out') same heard) in
     let wrote : Appends w w' out' = subst (λ (z : List ℕ). Appends w w' z) c.deref-in-talking.ensures.value c.in-Ok-write_whole.ensures.ok in
-    let all : (count : ℕ) × Appends w w' (take count out') = (length out', subst (λ (z : List ℕ). Appends w w' z) (sym (take-length out')) wrote) in
-    breaks_off more_fault old mid new place (take n buffer) out' r0 r r' w0 w w' c.talking.invariant.so_far took here all
+    answers_but_short more_fault old mid new place (take n buffer) out' r0 r r' w0 w w' c.talking.invariant.so_far took here wrote
 
 pub returns-then-is_failed-clause-journaled : goal.returns-then-is_failed-clause-journaled
 returns-then-is_failed-clause-journaled g c =
-    more g.D.Disk.is_modelled g.D.Disk.life c.calls_go_on.ensures (core_in c.args.node.now) (core_in c.talking.node) (core_in c.feed_all-heard.new.node) c.talking.invariant.journaled c.feed_all-heard.ensures.journaled
+    more g.D.Disk.is_modelled g.D.Disk.life c.calls_go_on.ensures (core_in c.args.node.now) (core_in c.talking.node) (core_in c.feed_all-heard.new.self) c.talking.invariant.journaled c.feed_all-heard.ensures.journaled
 
 pub talking-preserved : goal.talking-preserved
 talking-preserved g c =
@@ -191,10 +188,10 @@ talking-preserved g c =
     let n = c.in-Ok-read.count in
     let old = machine c.args.node.now in
     let mid = machine c.talking.node in
-    let new = machine c.feed_all-heard.new.node in
+    let new = machine c.feed_all-heard.new.self in
     let place = place_of c.args.id in
     let out = c.clear.new.self.items in
-    let out' = c.feed_all-heard.new.replies.items in
+    let out' = c.feed_all-heard.new.out.items in
     let r0 = g.R.Read.remaining c.args.reader.now in
     let r = g.R.Read.remaining c.talking.reader in
     let r' = g.R.Read.remaining c.read.new.self in
@@ -212,7 +209,7 @@ talking-preserved g c =
     record {
       room = ap length still ∙ kept;
       named = c.feed_all-heard.ensures.named;
-      journaled = more g.D.Disk.is_modelled g.D.Disk.life c.calls_go_on.ensures (core_in c.args.node.now) (core_in c.talking.node) (core_in c.feed_all-heard.new.node) c.talking.invariant.journaled c.feed_all-heard.ensures.journaled;
+      journaled = more g.D.Disk.is_modelled g.D.Disk.life c.calls_go_on.ensures (core_in c.args.node.now) (core_in c.talking.node) (core_in c.feed_all-heard.new.self) c.talking.invariant.journaled c.feed_all-heard.ensures.journaled;
       so_far = goes_on more_fault old mid new place (take n buffer) out' r0 r r' w0 w w' c.talking.invariant.so_far took here wrote;
     }
 

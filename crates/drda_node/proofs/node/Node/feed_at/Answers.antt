@@ -4,7 +4,7 @@ use Rattle.drda_node.specs.Feeding.{shown_held, Takes, with_core}
 use Rattle.drda_node.specs.Asking.{asked_of, core_of}
 use Rattle.drda_node.specs.declared.slot.Slot.{Slot}
 use Rattle.drda_node.specs.Register.{shown, number_of}
-use Rattle.drda_node.proofs.Rows.{below_view, view_at, view_set, view_kept, shows_open, open_shows, same_machine, same_numbers}
+use Rattle.drda_node.proofs.Rows.{below_view, view_at, view_set, view_kept, shows_open, open_shows, same_machine}
 use Rattle.drda_node.proofs.node.Node.feed_at.Goals as goal
 
 pub returns-clause-feeds : goal.returns-clause-feeds
@@ -20,11 +20,11 @@ returns-clause-feeds g c =
       before = shown_held place.front;
       after = with_core new.front (core_of c.feed.new.asker);
       was = here ∙ ap (λ o. Some o) (sym is ∙ shows);
-      row = same_machine c.args.self.now.settings _ _ _ _ (view_set shown items c.args.place new (Some (shown_held new.front)) (open_shows new c.feed.ensures.open)) refl;
+      row = same_machine c.args.self.now.settings _ _ _ _ _ _ (view_set shown items c.args.place new (Some (shown_held new.front)) (open_shows new c.feed.ensures.open)) refl refl;
       takes = subst (λ (v : Settings). Takes v c.args.place (with_core place.front (asked_of c.args.self.now.core)) c.args.piece.now c.args.out.now.items c.feed.result (with_core new.front (core_of c.feed.new.asker)) c.feed.new.out.items) settings c.feed.ensures.takes;
     }
 
-pub returns-clause-register : goal.returns-clause-register
-returns-clause-register g c =
+pub returns-clause-numbers : goal.returns-clause-numbers
+returns-clause-numbers g c =
     let place = c.index_mut.result.now in
-    same_numbers _ _ c.args.self.now.next_number (view_kept number_of c.args.self.now.places.items c.args.place place c.feed.new.self (c.feed.ensures.number ∙ ap number_of c.index_mut.ensures.value))
+    view_kept number_of c.args.self.now.places.items c.args.place place c.feed.new.self (c.feed.ensures.number ∙ ap number_of c.index_mut.ensures.value)

@@ -2,7 +2,7 @@ use Rattle.std.proofs.Common.{◌≡◌, ◌<◌, ◌+◌, ◌^◌, Bool, true, 
 use Rattle.std.specs.Prelude.{IfOk, OnErr}
 use Rattle.drda_node.specs.declared.node.Node.{Node}
 use Rattle.drda_node.specs.Machine.{is_full}
-use Rattle.drda_node.specs.Register.{shown, machine, register, Opens}
+use Rattle.drda_node.specs.Register.{shown, machine, numbers, Opens}
 use Rattle.drda_node.proofs.Rows.{length_view, full_when, not_full}
 use Rattle.drda_node.proofs.node.Node.open_conversation.Goals as goal
 
@@ -12,7 +12,7 @@ not_true false no_such = refl
 
 pub returns-then-is_free-clause-opened : goal.returns-then-is_free-clause-opened
 returns-then-is_free-clause-opened g c =
-    subst (λ (n : Node _ _). IfOk c.open_at.result (λ id. Opens (machine n) (register n) id (machine c.open_at.new.self) (register c.open_at.new.self))) c.loop-place.invariant.same c.open_at.ensures.opened
+    subst (λ (n : Node _ _). IfOk c.open_at.result (λ id. Opens (machine n) (numbers n) id (machine c.open_at.new.self) (numbers c.open_at.new.self))) c.loop-place.invariant.same c.open_at.ensures.opened
 
 pub returns-then-is_free-clause-refused : goal.returns-then-is_free-clause-refused
 returns-then-is_free-clause-refused g c =
@@ -20,7 +20,7 @@ returns-then-is_free-clause-refused g c =
 
 pub returns-then-is_free-clause-none_given : goal.returns-then-is_free-clause-none_given
 returns-then-is_free-clause-none_given g c =
-    subst (λ (n : Node _ _). OnErr c.open_at.result (register c.open_at.new.self ≡ register n)) c.loop-place.invariant.same c.open_at.ensures.none_given
+    subst (λ (n : Node _ _). OnErr c.open_at.result (numbers c.open_at.new.self ≡ numbers n)) c.loop-place.invariant.same c.open_at.ensures.none_given
 
 pub returns-then-is_free-clause-too_many : goal.returns-then-is_free-clause-too_many
 returns-then-is_free-clause-too_many g c =
@@ -33,7 +33,7 @@ pub returns-clause-refused : goal.returns-clause-refused
 returns-clause-refused g c = ap machine c.loop-place.invariant.same
 
 pub returns-clause-none_given : goal.returns-clause-none_given
-returns-clause-none_given g c = ap register c.loop-place.invariant.same
+returns-clause-none_given g c = ap numbers c.loop-place.invariant.same
 
 pub returns-clause-too_many : goal.returns-clause-too_many
 returns-clause-too_many g c =
@@ -49,9 +49,9 @@ returns-then-is_free-clause-no_memory g c =
     let same = c.loop-place.invariant.same in (
       λ none. (
         subst (λ (n : Node _ _). is_full (machine n) ≡ false) same (not_true (is_full (machine c.loop-place.self)) (λ full. not_full (machine c.loop-place.self).row c.loop-place.place free full)),
-        subst (λ (n : Node _ _). (register n).given + 1 ≡ 2 ^ 64) same (c.open_at.ensures.no_memory.0 none),
+        subst (λ (n : Node _ _). (machine n).given + 1 ≡ 2 ^ 64) same (c.open_at.ensures.no_memory.0 none),
       ),
-      λ last. c.open_at.ensures.no_memory.1 (subst (λ (n : Node _ _). (register n).given + 1 ≡ 2 ^ 64) (sym same) last.1),
+      λ last. c.open_at.ensures.no_memory.1 (subst (λ (n : Node _ _). (machine n).given + 1 ≡ 2 ^ 64) (sym same) last.1),
     )
 
 pub returns-clause-no_memory : goal.returns-clause-no_memory

@@ -1,12 +1,12 @@
 -- What a conversation of a node heard so far, and one piece further on.
-use Rattle.std.proofs.Common.{◌≡◌, ◌⊎◌, ◌≤◌, ◌+◌, ℕ, true, List, [], ◌++◌, length, take, drop, Option, Some, slice_get, refl, sym, ap, subst, ◌∙◌, append_assoc, append-nil, take_all, take-append-drop, inl, inr, arith}
+use Rattle.std.proofs.Common.{◌≡◌, ◌⊎◌, ◌≤◌, ◌+◌, ℕ, true, false, List, [], ◌++◌, length, take, drop, Option, Some, slice_get, refl, sym, ap, subst, ◌∙◌, append_assoc, append-nil, take_all, take-append-drop, inl, inr, arith}
 use Rattle.std.proofs.lemmas.List.{set-set}
 use Rattle.std.proofs.Math.Seq.{take-add}
 use Rattle.dss_frames.specs.declared.fault.FrameFault.{FrameFault}
 use Rattle.dss_frames.specs.Fault.{FaultAt}
 use Rattle.drda_node.specs.declared.fed.Fed.{Fed}
 use Rattle.drda_node.specs.Machine.{Conversation, Machine, IsOpen}
-use Rattle.drda_node.specs.Hearing.{Attended, Hears, HearsAt, attended, attended_at, conversation_of}
+use Rattle.drda_node.specs.Hearing.{Attended, Hears, HearsAll, HearsAt, HearsLast, HearsPart, IsShortReply, attended, attended_at, conversation_of}
 use Rattle.drda_node.specs.Feeding.{Feeds, Told, bytes_behind}
 use Rattle.drda_node.proofs.Conversing.{hears_then}
 use Rattle.drda_node.proofs.Stepping.{told_then}
@@ -14,7 +14,7 @@ use Rattle.drda_node.proofs.Rows.{get_set, one_value}
 
 set_again : (machine : Machine) (place : ℕ) (x y : Attended) → attended_at (attended_at machine place x) place y ≡ attended_at machine place y
 set_again machine place x y =
-    ap (λ (row : List (Option Conversation)). let m : Machine = record { settings = machine.settings; row = row; core = y.standing.asked.state; has_failed = y.standing.asked.has_failed; made = y.standing.asked.made } in m) (set-set machine.row place (Some (conversation_of x)) (Some (conversation_of y)))
+    ap (λ (row : List (Option Conversation)). let m : Machine = record { settings = machine.settings; row = row; given = machine.given; core = y.standing.asked } in m) (set-set machine.row place (Some (conversation_of x)) (Some (conversation_of y)))
 
 pub record Heard (old : Machine) (place : ℕ) (bytes out behind : List ℕ) (after : Attended) (new : Machine) (out' : List ℕ) : Type 0 where
   pub before : Conversation
@@ -67,25 +67,58 @@ module _ (fault_more : (bytes more : List ℕ) (fault : FrameFault) → FaultAt 
       }
 
   -- all bytes were taken
-  pub heard_all : (old new : Machine) (place count : ℕ) (bytes out out' : List ℕ) (after : Attended) → length bytes ≤ count → (h : Heard old place (take count bytes) out [] after new out')
-      → HearsAt old place bytes (h.told.replies ++ []) after new
-  heard_all old new place count bytes out out' after whole h = record {
-    before = h.before;
-    was = h.was;
-    hears = subst (λ (z : List ℕ). Hears old.settings place (attended old h.before) z (h.told.replies ++ []) after) (take_all count bytes whole) h.told.hears;
-    row = h.row;
+  pub all : (old new : Machine) (place count : ℕ) (piece out out' : List ℕ) (after : Attended) → length piece ≤ count → after.standing.session.is_closed ≡ false → Heard old place (take count piece) out [] after new out'
+      → HearsAll old place piece out new out'
+  all old new place count piece out out' after whole still_open h = record {
+    replies = h.told.replies ++ [];
+    after = after;
+    hears = record {
+      before = h.before;
+      was = h.was;
+      hears = subst (λ (z : List ℕ). Hears old.settings place (attended old h.before) z (h.told.replies ++ []) after) (take_all count piece whole) h.told.hears;
+      row = h.row;
+    };
+    still_open = still_open;
+    appended = h.told.appended ∙ ap (λ (z : List ℕ). out ++ z) (sym (append-nil h.told.replies));
   }
 
-  -- the conversation is closed, whatever stands behind
-  pub heard_closed : (old new : Machine) (place count : ℕ) (bytes out out' : List ℕ) (after : Attended) → after.standing.session.is_closed ≡ true → (h : Heard old place (take count bytes) out [] after new out')
-      → HearsAt old place bytes ((h.told.replies ++ []) ++ []) after new
-  heard_closed old new place count bytes out out' after shut h = record {
-    before = h.before;
-    was = h.was;
-    hears = subst (λ (z : List ℕ). Hears old.settings place (attended old h.before) z ((h.told.replies ++ []) ++ []) after) (take-append-drop count bytes)
-        (hears_then old.settings place fault_more (attended old h.before) after after (take count bytes) (drop count bytes) (h.told.replies ++ []) [] h.told.hears (inr (record { closed = shut; silent = refl; same = refl })));
-    row = h.row;
+  -- the conversation is closed, whatever comes after
+  pub last : (old new : Machine) (place count : ℕ) (piece out out' : List ℕ) (after : Attended) → after.standing.session.is_closed ≡ true → Heard old place (take count piece) out [] after new out' → HearsLast old place piece out new out'
+  last old new place count piece out out' after shut h = record {
+    replies = (h.told.replies ++ []) ++ [];
+    after = after;
+    hears = λ more.
+        let there : take count piece ++ (drop count piece ++ more) ≡ piece ++ more =
+        sym (append_assoc (take count piece) (drop count piece) more) ∙ ap (λ (z : List ℕ). z ++ more) (take-append-drop count piece) in
+        record {
+          before = h.before;
+          was = h.was;
+          hears = subst (λ (z : List ℕ). Hears old.settings place (attended old h.before) z ((h.told.replies ++ []) ++ []) after) there
+              (hears_then old.settings place fault_more (attended old h.before) after after (take count piece) (drop count piece ++ more) (h.told.replies ++ []) [] h.told.hears
+              (inr (record { closed = shut; silent = refl; same = refl })));
+          row = h.row;
+        };
+    closed = shut;
+    appended = h.told.appended ∙ ap (λ (z : List ℕ). out ++ z) (sym (append-nil (h.told.replies ++ []) ∙ append-nil h.told.replies));
   }
+
+-- not all replies were appended, or not all bytes were taken
+pub part : (old new : Machine) (place count : ℕ) (piece out unsaid out' : List ℕ) (after : Attended) → (unsaid ≡ []) ⊎ IsShortReply unsaid → Heard old place (take count piece) out unsaid after new out' → HearsPart old place piece out new out'
+part old new place count piece out unsaid out' after short h = record {
+  heard = take count piece;
+  rest = drop count piece;
+  replies = h.told.replies;
+  unsaid = unsaid;
+  after = after;
+  parts = sym (take-append-drop count piece);
+  hears = record { before = h.before; was = h.was; hears = h.told.hears; row = h.row };
+  short = short;
+  appended = h.told.appended;
+}
+
+pub heard_there : (old new : Machine) (place : ℕ) (bytes out behind out' : List ℕ) (after : Attended) → Heard old place bytes out behind after new out' → IsOpen new place
+heard_there old new place bytes out behind out' after h =
+    (conversation_of after, subst (λ (m : Machine). slice_get m.row place ≡ Some (Some (conversation_of after))) (sym h.row) (get_set old.row place (Some h.before) (Some (conversation_of after)) h.was))
 
 -- the reply that came behind was appended too
 pub said_behind : (old new : Machine) (place : ℕ) (bytes out behind out' out'' : List ℕ) (after : Attended) → Heard old place bytes out behind after new out' → out'' ≡ out' ++ behind

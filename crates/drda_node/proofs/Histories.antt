@@ -1,0 +1,179 @@
+-- What a machine does to its core is a history of calls.
+use Rattle.std.proofs.Common.{◌≡◌, ◌⊎◌, ℕ, Bool, true, false, List, [], ◌∷◌, ◌++◌, Option, Some, None, slice_get, refl, sym, ap, subst, ◌∙◌, inl, inr, append-nil}
+use Rattle.std.specs.Prelude.{if◌then◌else◌}
+use Rattle.dss_frames.specs.Dss.{Dss}
+use Rattle.dss_frames.specs.Reading.{End, faulty, unfinished}
+use Rattle.sqlam_replies.specs.Reply.{Reply}
+use Rattle.command_kit.specs.declared.statements.Statements.{Statements}
+use Rattle.command_kit.specs.Doing.{Doing, asking, finished}
+use Rattle.command_kit.specs.Done.{WasDone}
+use Rattle.session_commands.specs.Settings.{Settings}
+use Rattle.conversation.specs.Standing.{Standing}
+use Rattle.conversation.specs.Done.{Does, DoesAll, Exchanges, IsExcused as IsShort}
+use Rattle.conversation.specs.Steps.{Converses, Ends}
+use Rattle.core_calls.specs.Call.{Call}
+use Rattle.core_calls.specs.Call as call
+use Rattle.core_calls.specs.Answer.{Answer, closed}
+use Rattle.core_model.specs.Step.{CoreState, Kept, Mark, Taken, answer, replay, step_by, step_state}
+use Rattle.drda_node.specs.Asking.{AskedCore, IsExcused, asks, left_by}
+use Rattle.drda_node.specs.Machine as machine
+use Rattle.drda_node.specs.Machine.{Conversation, Machine, opened}
+use Rattle.drda_node.specs.Hearing.{Attended, Hears, HearsAt, attended_at}
+use Rattle.drda_node.specs.Records.{Event, checkpoints, loses, opens, sends}
+use Rattle.drda_node.specs.Happening.{BreaksOff, HappenAll, Happens, LosesAt, OpensAt, SendsAt, SendsPart}
+use Rattle.drda_node.specs.Calls.{AreOf, AskedCall, CallsAreHistories, IsAsked, IsHistory, marked}
+
+-- ---- of one conversation
+
+abbrev Calls : ℕ → AskedCore → AskedCore → Type 0
+Calls place old new = (calls : List AskedCall) × AreOf place calls × IsHistory old calls new
+
+none : (place : ℕ) (old new : AskedCore) → new ≡ old → Calls place old new
+none place old new same = ([], tt, same)
+
+one : (place : ℕ) (old : AskedCore) (call : Call) (said : Answer) (new : AskedCore) → asks place old call said new → Calls place old new
+one place old call said new (inl t) = (record { conversation = place; call = call; answer = said; mark = Taken } ∷ [], (refl, tt), (new, t, refl))
+one place old call said new (inr t) = (record { conversation = place; call = call; answer = said; mark = Kept } ∷ [], (refl, tt), (new, t, refl))
+
+are_both : (place : ℕ) (xs ys : List AskedCall) → AreOf place xs → AreOf place ys → AreOf place (xs ++ ys)
+are_both place [] ys p q = q
+are_both place (x ∷ xs) ys (is, p) q = (is, are_both place xs ys p q)
+
+history_both : (a b c : AskedCore) (xs ys : List AskedCall) → IsHistory a xs b → IsHistory b ys c → IsHistory a (xs ++ ys) c
+history_both a b c [] ys p q = subst (λ (o : AskedCore). IsHistory o ys c) p q
+history_both a b c (x ∷ xs) ys (between, first, p) q = (between, first, history_both between b c xs ys p q)
+
+calls_both : (place : ℕ) (a b c : AskedCore) → Calls place a b → Calls place b c → Calls place a c
+calls_both place a b c (xs, p, f) (ys, q, g) = (xs ++ ys, are_both place xs ys p q, history_both a b c xs ys f g)
+
+module _ (settings : Settings) (place : ℕ) where
+  done : (doing : Doing) (old new : AskedCore) (k : Statements) (before after : List Reply) → WasDone (asks place) doing old new k before after → Calls place old new
+  done (finished r) old new k before after w = none place old new w.0
+  done (asking call answered) old new k before after w = one place old call w.answer new w.asked
+
+  exchanges : (s s' : Standing AskedCore) (command : List Dss) (bytes : List ℕ) → Exchanges (asks place) settings s command bytes s' → Calls place s.asked s'.asked
+  exchanges s s' [] bytes e = none place s.asked s'.asked (ap (λ (t : Standing AskedCore). t.asked) e.1)
+  exchanges s s' (request ∷ objects) bytes (inl p) = none place s.asked s'.asked (ap (λ (t : Standing AskedCore). t.asked) p.same)
+  exchanges s s' (request ∷ objects) bytes (inr e) = done _ s.asked s'.asked s'.statements [] e.followed.replies e.followed.done
+
+  does : (s s' : Standing AskedCore) (command : List Dss) (bytes : List ℕ) → Exchanges (asks place) settings s command bytes s' ⊎ IsShort s command bytes s' → Calls place s.asked s'.asked
+  does s s' command bytes (inl e) = exchanges s s' command bytes e
+  does s s' command bytes (inr e) = none place s.asked s'.asked (ap (λ (t : Standing AskedCore). t.asked) e.same)
+
+  does_all : (commands : List (List Dss)) (s last : Standing AskedCore) (bytes : List ℕ) → DoesAll (asks place) settings s commands bytes last → Calls place s.asked last.asked
+  does_all [] s last bytes d = none place s.asked last.asked (ap (λ (t : Standing AskedCore). t.asked) d.1)
+  does_all (command ∷ commands) s last bytes (first, others, between, d, same, more) = calls_both place s.asked between.asked last.asked (does s between command first d.does) (does_all commands between last others more)
+
+  ends : (end : End) (s last : Standing AskedCore) (bytes left : List ℕ) → Ends (asks place) s end bytes left last → last.asked ≡ s.asked
+  ends (unfinished rest) s last bytes left e = ap (λ (t : Standing AskedCore). t.asked) e.2
+  ends (faulty fault) s last bytes left e = ap (λ (t : Standing AskedCore). t.asked) e.1
+
+  converses : (s last : Standing AskedCore) (text bytes left : List ℕ) → Converses (asks place) settings s text bytes left last → Calls place s.asked last.asked
+  converses s last text bytes left (inl c) =
+      subst (λ (o : AskedCore). Calls place s.asked o) (sym (ends c.end c.between last c.closing left c.ends)) (does_all c.commands s c.between c.replies c.does)
+  converses s last text bytes left (inr c) = does_all c.commands s last bytes c.does
+
+  hears : (before after : Attended) (bytes replies : List ℕ) → Hears settings place before bytes replies after → Calls place before.standing.asked after.standing.asked
+  hears before after bytes replies (inl l) = converses before.standing after.standing (before.rest ++ bytes) replies after.rest l.converses
+  hears before after bytes replies (inr h) = none place before.standing.asked after.standing.asked (ap (λ (a : Attended). a.standing.asked) h.same)
+
+heard : (old new : Machine) (place : ℕ) (bytes replies : List ℕ) (after : Attended) → HearsAt old place bytes replies after new → Calls place old.core new.core
+heard old new place bytes replies after h =
+    subst (λ (m : Machine). Calls place old.core m.core) (sym h.row) (hears old.settings place _ after bytes replies h.hears)
+
+-- ---- a loss
+
+lost_by : (failed : Bool) (old : AskedCore) (place : ℕ) → old.has_failed ≡ failed → Calls place old (left_by old place)
+lost_by true old place is =
+    let same : left_by old place ≡ old = λ i. record old { state = (ap (λ (b : Bool). if b then old.state else step_state old.state place call.lost) is) i } in
+    none place old (left_by old place) same
+lost_by false old place is =
+    one place old call.lost (answer old.state.branches old.state.base place call.lost) (left_by old place) (inl (record {
+      going = is;
+      answer_is = refl;
+      state = ap (λ (b : Bool). if b then old.state else step_state old.state place call.lost) is;
+      room = refl;
+      still = is;
+      made = sym (append-nil old.made);
+    }))
+
+lost : (old : Machine) (place : ℕ) → Calls place old.core (machine.lost old place).core
+lost old place = lost_by old.core.has_failed old.core place refl
+
+-- ---- events
+
+abbrev SomeCalls : AskedCore → AskedCore → Type 0
+SomeCalls old new = (calls : List AskedCall) × IsHistory old calls new
+
+of_all : (place : ℕ) (old new : AskedCore) → Calls place old new → SomeCalls old new
+of_all place old new (calls, are, history) = (calls, history)
+
+unasked : (old new : Machine) → new.core ≡ old.core → SomeCalls old.core new.core
+unasked old new same = ([], same)
+
+opens_calls : (o : Option (Option Conversation)) (old new : Machine) (number : ℕ) (written : List ℕ) → OpensAt o old number written new → new.core ≡ old.core
+opens_calls None old new number written h = ap (λ (m : Machine). m.core) h.1
+opens_calls (Some (Some c)) old new number written h = ap (λ (m : Machine). m.core) h.1
+opens_calls (Some None) old new number written (inl h) = ap (λ (m : Machine). m.core) h.2
+opens_calls (Some None) old new number written (inr h) = ap (λ (m : Machine). m.core) h.2
+
+sends_calls : (o : Option (Option Conversation)) (old new : Machine) (number : ℕ) (bytes written : List ℕ) → SendsAt o old number bytes written new → SomeCalls old.core new.core
+sends_calls None old new number bytes written h = unasked old new (ap (λ (m : Machine). m.core) h.1)
+sends_calls (Some None) old new number bytes written h = unasked old new (ap (λ (m : Machine). m.core) h.1)
+sends_calls (Some (Some c)) old new number bytes written h =
+    subst (λ (m : Machine). SomeCalls old.core m.core) (sym h.row) (of_all number old.core h.after.standing.asked (hears old.settings number _ h.after bytes h.replies h.hears))
+
+loses_calls : (o : Option (Option Conversation)) (old new : Machine) (number : ℕ) (written : List ℕ) → LosesAt o old number written new → SomeCalls old.core new.core
+loses_calls None old new number written h = unasked old new (ap (λ (m : Machine). m.core) h.1)
+loses_calls (Some None) old new number written h = unasked old new (ap (λ (m : Machine). m.core) h.1)
+loses_calls (Some (Some c)) old new number written h = subst (λ (m : Machine). SomeCalls old.core m.core) (sym h.1) (of_all number old.core (machine.lost old number).core (lost old number))
+
+happens : (old new : Machine) (event : Event) (written : List ℕ) → Happens old event written new → SomeCalls old.core new.core
+happens old new (opens number) written h = unasked old new (opens_calls (slice_get old.row number) old new number written h)
+happens old new (sends number bytes) written h = sends_calls (slice_get old.row number) old new number bytes written h
+happens old new (loses number) written h = loses_calls (slice_get old.row number) old new number written h
+happens old new (checkpoints number) written h = unasked old new (ap (λ (m : Machine). m.core) h.1)
+
+some_both : (a b c : AskedCore) → SomeCalls a b → SomeCalls b c → SomeCalls a c
+some_both a b c (xs, f) (ys, g) = (xs ++ ys, history_both a b c xs ys f g)
+
+happen_all : (events : List Event) (old new : Machine) (written : List ℕ) → HappenAll old events written new → SomeCalls old.core new.core
+happen_all [] old new written h = unasked old new (ap (λ (m : Machine). m.core) h.1)
+happen_all (event ∷ events) old new written h = some_both old.core h.2.core new.core (happens old h.2 event h.0 h.3) (happen_all events h.2 new h.1 h.5)
+
+sends_part : (old new : Machine) (event : Event) → SendsPart old event new → SomeCalls old.core new.core
+sends_part old new (opens number) h = absurd h
+sends_part old new (sends number bytes) h = of_all number old.core new.core (heard old new number h.0 h.2 h.3 h.5)
+sends_part old new (loses number) h = absurd h
+sends_part old new (checkpoints number) h = absurd h
+
+begun : (old new : Machine) (event : Event) → BreaksOff old event new → SomeCalls old.core new.core
+begun old new event (inl same) = unasked old new (ap (λ (m : Machine). m.core) same)
+begun old new event (inr (inl (written, h))) = happens old new event written h
+begun old new event (inr (inr h)) = sends_part old new event h
+
+-- ---- the replay
+
+excused_stays : (place : ℕ) (old : AskedCore) (call : Call) (said : Answer) (new : AskedCore) → IsExcused old place call said new → new.state ≡ old.state
+excused_stays place old call said new (inl t) = ap (λ (c : AskedCore). c.state) t.same
+excused_stays place old call said new (inr (inl t)) = ap (λ (c : AskedCore). c.state) t.same
+excused_stays place old call said new (inr (inr (inl t))) = t.state
+excused_stays place old call said new (inr (inr (inr t))) = ap (λ (c : AskedCore). c.state) t.same
+
+stepped : (mark : Mark) (old : AskedCore) (place : ℕ) (call : Call) (said : Answer) (new : AskedCore) → IsAsked mark old place call said new → new.state ≡ step_by mark old.state place call
+stepped Taken old place call said new t = t.state
+stepped Kept old place call said new t = excused_stays place old call said new t
+
+replayed : (calls : List AskedCall) (old new : AskedCore) → IsHistory old calls new → new.state ≡ replay (marked calls) old.state
+replayed [] old new h = ap (λ (c : AskedCore). c.state) h
+replayed (a ∷ calls) old new (between, t, h) = replayed calls between new h ∙ ap (replay (marked calls)) (stepped a.mark old a.conversation a.call a.answer between t)
+
+pub calls_are_histories : CallsAreHistories
+calls_are_histories = record {
+  heard = heard;
+  lost = lost;
+  happened = λ old new events written. happen_all events old new written;
+  begun = begun;
+  both = λ a b c before after f g. (before ++ after, history_both a b c before after f g);
+  replayed = λ old new calls. replayed calls old new;
+}

@@ -1,0 +1,52 @@
+-- The calls that a machine asks of its core: what was really asked and answered, as a history that the law of serial order
+-- speaks of.
+use Rattle.std.specs.Prelude.{◌≡◌, ℕ, List, [], ◌∷◌}
+use Rattle.core_calls.specs.Call.{Call}
+use Rattle.core_calls.specs.Answer.{Answer}
+use Rattle.core_model.specs.Step.{Kept, Mark, MarkedCall, Taken, replay}
+use Rattle.drda_node.specs.Asking.{AskedCore, IsExcused, IsTaken}
+use Rattle.drda_node.specs.Machine as machine
+use Rattle.drda_node.specs.Machine.{Machine}
+use Rattle.drda_node.specs.Hearing.{Attended, HearsAt}
+use Rattle.drda_node.specs.Records.{Event}
+use Rattle.drda_node.specs.Happening.{BreaksOff, HappenAll}
+
+-- a call, who asked it, what it was answered, and whether its step was taken
+pub record AskedCall : Type 0 where
+  pub conversation : ℕ
+  pub call : Call
+  pub answer : Answer
+  pub mark : Mark
+
+-- the answer and the step are the core's; or an excuse was answered, and there was no step
+abbrev pub IsAsked : Mark → AskedCore → ℕ → Call → Answer → AskedCore → Type 0
+IsAsked Taken old conversation call answer new = IsTaken old conversation call answer new
+IsAsked Kept old conversation call answer new = IsExcused old conversation call answer new
+
+-- these calls, in this order, lead from one core to the other
+abbrev pub IsHistory : AskedCore → List AskedCall → AskedCore → Type 0
+IsHistory old [] new = new ≡ old
+IsHistory old (a ∷ calls) new = (between : AskedCore) × IsAsked a.mark old a.conversation a.call a.answer between × IsHistory between calls new
+
+-- without the answers, which the state at each call determines where its step was taken
+abbrev pub marked : List AskedCall → List MarkedCall
+marked [] = []
+marked (a ∷ calls) = record { conversation = a.conversation; call = a.call; mark = a.mark } ∷ marked calls
+
+abbrev pub AreOf : ℕ → List AskedCall → Type 0
+AreOf conversation [] = Unit {0}
+AreOf conversation (a ∷ calls) = (a.conversation ≡ conversation) × AreOf conversation calls
+
+-- what a machine does to its core is a history
+pub record CallsAreHistories : Type 0 where
+  -- of what one conversation hears, its own calls
+  pub heard : (old new : Machine) (place : ℕ) (bytes replies : List ℕ) (after : Attended) → HearsAt old place bytes replies after new → (calls : List AskedCall) × AreOf place calls × IsHistory old.core calls new.core
+  -- of a loss, one call
+  pub lost : (old : Machine) (place : ℕ) → (calls : List AskedCall) × AreOf place calls × IsHistory old.core calls (machine.lost old place).core
+  -- of events, the calls of all conversations in the order in which they were asked
+  pub happened : (old new : Machine) (events : List Event) (written : List ℕ) → HappenAll old events written new → (calls : List AskedCall) × IsHistory old.core calls new.core
+  pub begun : (old new : Machine) (event : Event) → BreaksOff old event new → (calls : List AskedCall) × IsHistory old.core calls new.core
+  -- one after another
+  pub both : (a b c : AskedCore) (before after : List AskedCall) → IsHistory a before b → IsHistory b after c → (calls : List AskedCall) × IsHistory a calls c
+  -- and a history leads where its replay leads
+  pub replayed : (old new : AskedCore) (calls : List AskedCall) → IsHistory old calls new → new.state ≡ replay (marked calls) old.state
