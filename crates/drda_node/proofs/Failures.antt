@@ -104,7 +104,7 @@ only_failed_devices_close belong settings place s next command bytes does closed
 -- ---- all that is heard
 
 module _ (belong : AnswersBelong) (settings : Settings) (place : ℕ) where
-  -- behind the command that closes there is none
+  -- after the command that closes there is none
   closed_there : (commands : List (List Dss)) (s last : Standing AskedCore) (bytes : List ℕ) → s.session.is_closed ≡ true → DoesAll (asks place) settings s commands bytes last → last ≡ s
   closed_there [] s last bytes closed d = d.1
   closed_there (command ∷ commands) s last bytes closed d = both s.session.is_closed closed d.3.still_open
