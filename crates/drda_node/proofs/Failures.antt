@@ -1,6 +1,6 @@
 -- A command closes its conversation only where the device has failed: what a step answers can be used, and so can the
 -- excuses that there was no memory or no room.
-use Rattle.std.proofs.Common.{◌≡◌, ◌⊎◌, inl, inr, ⊎_elim, ℕ, Bool, true, false, Option, Some, None, refl, sym, ◌∙◌, ap, subst}
+use Rattle.std.proofs.Common.{◌≡◌, ◌⊎◌, inl, inr, ⊎_elim, ℕ, Bool, true, false, List, [], ◌∷◌, ◌++◌, Option, Some, None, refl, sym, ◌∙◌, ap, subst}
 use Rattle.xa_calls.specs.declared.request.Request.{Request}
 use Rattle.xa_calls.specs.declared.request.Request.TheVariants as request
 use Rattle.core_calls.specs.Call as call
@@ -10,14 +10,25 @@ use Rattle.core_calls.specs.Answer.{Answer}
 use Rattle.core_calls.specs.declared.call.Side.{Side}
 use Rattle.core_calls.specs.declared.call.Side.TheVariants as side
 use Rattle.serializability.specs.Belonging.{AnswersBelong, Belongs, IsSide, IsXaAnswer}
+use Rattle.dss_frames.specs.Dss.{Dss}
+use Rattle.dss_frames.specs.Reading.{End, ReadsAs, faulty, unfinished}
+use Rattle.session_commands.specs.Settings.{Settings}
+use Rattle.conversation.specs.Standing.{Standing}
+use Rattle.conversation.specs.Done.{DoesAll}
+use Rattle.conversation.specs.Steps.{Ends}
 use Rattle.conversation.specs.Usable.{is_description, is_end, is_usable, is_xa_answer}
 use Rattle.conversation.proofs.Failing.{only_unusable_answers}
 use Rattle.drda_node.specs.Asking.{AskedCore, IsExcused, asks}
-use Rattle.drda_node.specs.Closing.{OnlyFailedDevicesClose}
+use Rattle.drda_node.specs.Closing.{IsFaulty, OnlyFailedDevicesClose, OnlyFaultsClose}
+use Rattle.drda_node.specs.Hearing.{Attended, Hears}
 
 both : {X : Type 0} (b : Bool) → b ≡ true → b ≡ false → X
 both true so ne = absurd (let e : true ≡ false = ne in cc)
 both false so ne = absurd (let e : false ≡ true = so in cc)
+
+which : (b : Bool) → (b ≡ true) ⊎ (b ≡ false)
+which true = inl refl
+which false = inr refl
 
 -- ---- what belongs to a call can be used
 
@@ -89,3 +100,38 @@ pub only_failed_devices_close : AnswersBelong → OnlyFailedDevicesClose
 only_failed_devices_close belong settings place s next command bytes does closed =
     let v = only_unusable_answers (asks place) settings s next command bytes does closed in
     by_asks place s.asked next.asked v.call v.answer v.unusable belong v.asked
+
+-- ---- all that is heard
+
+module _ (belong : AnswersBelong) (settings : Settings) (place : ℕ) where
+  -- after the command that closes there is none
+  closed_there : (commands : List (List Dss)) (s last : Standing AskedCore) (bytes : List ℕ) → s.session.is_closed ≡ true → DoesAll (asks place) settings s commands bytes last → last ≡ s
+  closed_there [] s last bytes closed d = d.1
+  closed_there (command ∷ commands) s last bytes closed d = both s.session.is_closed closed d.3.still_open
+
+  closed_all : (commands : List (List Dss)) (s last : Standing AskedCore) (bytes : List ℕ) → s.session.is_closed ≡ false → last.session.is_closed ≡ true
+      → DoesAll (asks place) settings s commands bytes last → last.asked.has_failed ≡ true
+  closed_all [] s last bytes still_open closed d = both last.session.is_closed closed (ap (λ (t : Standing AskedCore). t.session.is_closed) d.1 ∙ still_open)
+  closed_all (command ∷ commands) s last bytes still_open closed d =
+      let then = d.2 in
+      ⊎_elim
+      (λ so. ap (λ (t : Standing AskedCore). t.asked.has_failed) (closed_there commands then last d.1 so d.5) ∙ only_failed_devices_close belong settings place s then command d.0 d.3 so)
+      (λ n. closed_all commands then last d.1 n closed d.5)
+      (which then.session.is_closed)
+
+  by_end : (text bytes left : List ℕ) (commands : List (List Dss)) (end : End) (between last : Standing AskedCore) → ReadsAs text commands end → between.session.is_closed ≡ false → last.session.is_closed ≡ true
+      → Ends (asks place) between end bytes left last → IsFaulty text
+  by_end text bytes left commands (unfinished rest) between last reads still_open closed e = both last.session.is_closed closed (ap (λ (t : Standing AskedCore). t.session.is_closed) e.2 ∙ still_open)
+  by_end text bytes left commands (faulty fault) between last reads still_open closed e = record { commands = commands; fault = fault; reads = reads }
+
+  by_hearing : (before after : Attended) (bytes replies : List ℕ) → before.standing.session.is_closed ≡ false → after.standing.session.is_closed ≡ true
+      → Hears settings place before bytes replies after → IsFaulty (before.rest ++ bytes) ⊎ (after.standing.asked.has_failed ≡ true)
+  by_hearing before after bytes replies still_open closed (inr h) = both before.standing.session.is_closed h.closed still_open
+  by_hearing before after bytes replies still_open closed (inl l) =
+      ⊎_elim
+      (λ c. inl (by_end (before.rest ++ bytes) c.closing after.rest c.commands c.end c.between after.standing c.reads c.still_open closed c.ends))
+      (λ c. inr (closed_all c.commands before.standing after.standing replies still_open closed c.does))
+      l.converses
+
+pub only_faults_close : AnswersBelong → OnlyFaultsClose
+only_faults_close belong settings place before after bytes replies hears still_open closed = by_hearing belong settings place before after bytes replies still_open closed hears

@@ -12,3 +12,4 @@ pub mod Rows
 pub mod Listening
 pub mod Refusing
 pub mod Histories
+pub mod SerialOrder

@@ -11,3 +11,4 @@ pub mod Register
 pub mod Serving
 pub mod Sharing
 pub mod Calls
+pub mod Serial

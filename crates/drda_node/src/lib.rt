@@ -13,6 +13,7 @@ mod node;
 mod reading;
 mod ready;
 mod row;
+pub mod serial;
 mod serving;
 mod slot;
 mod writing;

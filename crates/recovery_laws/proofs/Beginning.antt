@@ -97,18 +97,18 @@ openings_stay_sane s sane =
       few = each (λ (u : Work). (length u.claims ≤ 65535) × AreDistinct u.claims) (ltb-false 65535 0 refl, tt) hs sane.few xids;
     }
 
--- ---- records of calls behind others
+-- ---- records of calls that follow others
 
-behind_both : (xs ys zs : List UnitRecord) → xs ++ (ys ++ zs) ≡ (xs ++ ys) ++ zs
-behind_both [] ys zs = refl
-behind_both (x ∷ xs) ys zs = ap (λ (rs : List UnitRecord). x ∷ rs) (behind_both xs ys zs)
+joined : (xs ys zs : List UnitRecord) → xs ++ (ys ++ zs) ≡ (xs ++ ys) ++ zs
+joined [] ys zs = refl
+joined (x ∷ xs) ys zs = ap (λ (rs : List UnitRecord). x ∷ rs) (joined xs ys zs)
 
 pub records_go_on : RecordsGoOn
 records_go_on [] more s = refl
 records_go_on (l ∷ ls) more s =
     let here = records_by l.mark s l.conversation l.call in
     let next = step_by l.mark s l.conversation l.call in
-    ap (λ (rs : List UnitRecord). here ++ rs) (records_go_on ls more next) ∙ behind_both here (records_of ls next) (records_of more (replay ls next))
+    ap (λ (rs : List UnitRecord). here ++ rs) (records_go_on ls more next) ∙ joined here (records_of ls next) (records_of more (replay ls next))
 
 -- ---- what a crash leaves
 

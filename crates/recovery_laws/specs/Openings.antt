@@ -47,7 +47,7 @@ abbrev pub records_of : List MarkedCall → CoreState → List UnitRecord
 records_of [] s = []
 records_of (l ∷ ls) s = records_by l.mark s l.conversation l.call ++ records_of ls (step_by l.mark s l.conversation l.call)
 
--- calls behind others: theirs are behind those of the others
+-- the records of calls that follow others follow those of the others
 abbrev pub RecordsGoOn : Type 0
 RecordsGoOn =
     (history more : List MarkedCall) (s : CoreState)

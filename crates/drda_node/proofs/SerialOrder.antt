@@ -1,0 +1,34 @@
+-- What a machine answers is in serial order.
+use Rattle.std.proofs.Common.{◌≡◌, ◌⊎◌, inl, inr, List, [], ◌∷◌, true, refl, sym, ◌∙◌, ap, subst}
+use Rattle.core_calls.specs.Call.{Call}
+use Rattle.core_calls.specs.Answer.{Answer}
+use Rattle.core_model.specs.Step.{CoreState, Kept, Mark, Taken, step_by}
+use Rattle.serializability.specs.Belonging.{is_excuse}
+use Rattle.serializability.specs.Answered.{AnsweredCall, AnswersAreSerial, CallsLead, CallsLeadOn, IsAnswer}
+use Rattle.drda_node.specs.Asking.{AskedCore, IsExcused}
+use Rattle.drda_node.specs.Calls.{AskedCall, IsAsked, IsHistory}
+use Rattle.drda_node.specs.Serial.{HistoriesLead, MachinesAreSerial, SaneOpeningsBegin, answered}
+
+excused : (old new : AskedCore) (place : _) (k : Call) (a : Answer) → IsExcused old place k a new → (is_excuse a ≡ true) × (new.state ≡ old.state)
+excused old new place k a (inl x) = (ap is_excuse x.answer_is, ap (λ (c : AskedCore). c.state) x.same)
+excused old new place k a (inr (inl x)) = (ap is_excuse x.answer_is, ap (λ (c : AskedCore). c.state) x.same)
+excused old new place k a (inr (inr (inl x))) = (ap is_excuse x.answer_is, x.state)
+excused old new place k a (inr (inr (inr x))) = (ap is_excuse x.answer_is, ap (λ (c : AskedCore). c.state) x.same)
+
+one : (m : Mark) (old new : AskedCore) (place : _) (k : Call) (a : Answer) → IsAsked m old place k a new → IsAnswer m old.state place k a × (new.state ≡ step_by m old.state place k)
+one Taken old new place k a x = (x.answer_is, x.state)
+one Kept old new place k a x = excused old new place k a x
+
+pub histories_lead : CallsLeadOn → HistoriesLead
+histories_lead on old new [] same = subst (λ (s : CoreState). CallsLead old.state [] s) (ap (λ (c : AskedCore). c.state) (sym same)) (on.none old.state)
+histories_lead on old new (a ∷ calls) h =
+    let first = one a.mark old h.0 a.conversation a.call a.answer h.1 in
+    let l : AnsweredCall = record { conversation = a.conversation; call = a.call; mark = a.mark; answer = a.answer } in
+    on.both old.state h.0.state new.state (l ∷ []) (answered calls)
+    (subst (λ (s : CoreState). CallsLead old.state (l ∷ []) s) (sym first.1) (on.one old.state l first.0)) (histories_lead on h.0 new calls h.2)
+
+pub sane_openings_begin : SaneOpeningsBegin
+sane_openings_begin d opening sane = record { sound = opening.sound; lie = sane.lie; rising = opening.rising; prepared = opening.prepared }
+
+pub machines_are_serial : CallsLeadOn → AnswersAreSerial → MachinesAreSerial
+machines_are_serial on serial old new calls begins h = serial old.state new.state (answered calls) begins (histories_lead on old new calls h)
