@@ -1,7 +1,7 @@
 //! Catalogues that are written and read.
 ghost use Rattle.std.specs.Prelude.{◌≡◌};
 
-use crate::tables::{Run, STORE_BYTES, new_store};
+use crate::fixtures::{Run, STORE_BYTES, new_store};
 use checkpoint_writer::{
     CatalogueError, ImageError, StoredTable, TablePlace, read_catalogue, write_catalogue,
 };

@@ -4,6 +4,6 @@
 #[cfg(test)]
 mod catalogues;
 #[cfg(test)]
-mod tables;
+mod fixtures;
 #[cfg(test)]
 mod written;

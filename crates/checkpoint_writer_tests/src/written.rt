@@ -1,5 +1,5 @@
 //! Tables that are written, read and written again.
-use crate::tables::{Change, NO_PAGES, has_lengths, new_store, pages_for, rewritten};
+use crate::fixtures::{Change, NO_PAGES, has_lengths, new_store, pages_for, rewritten};
 use checkpoint_writer::ImageError;
 use drda_disk::FuseDisk;
 use half_store::Full;

@@ -6,4 +6,6 @@ mod cache;
 #[cfg(test)]
 mod laying;
 #[cfg(test)]
+mod places;
+#[cfg(test)]
 mod tests;

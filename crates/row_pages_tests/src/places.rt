@@ -1,5 +1,5 @@
 //! Rows by their places.
-use drda_disk::MemDisk;
+use drda_disk::{Disk, MemDisk};
 use row_pages::{KeptPage, PageBuilder, PageCache, PageFault, PageKind};
 use std::alloc::{AllocError, Global};
 use std::test::Fail;
@@ -40,6 +40,13 @@ fn rows_found(alloc: Global, disk: &mut MemDisk) -> Result<Option<usize>, PageFa
     })
 }
 
+// Writes a page over the disk, where it is as long.
+fn write(disk: &mut MemDisk, page: &[u8]) {
+    if disk.size() == page.len() {
+        let _ = disk.write_at(0, page);
+    }
+}
+
 const LENGTHS: [&'static [usize]; 6] = [
     &[],
     &[0],
@@ -55,9 +62,7 @@ fn each_row_is_found_at_its_place(rt: HostRuntime) -> Result<(), Fail> {
     for lengths in LENGTHS {
         let mut disk = MemDisk::new(alloc, 8_192)?;
         let page = page_of(alloc, lengths)?;
-        if disk.size() == page.len() {
-            disk.write_at(0, page.as_slice())?;
-        }
+        write(&mut disk, page.as_slice());
         assert_eq!(rt;
             rows_found(alloc, &mut disk),
             Ok(Some(lengths.len())),

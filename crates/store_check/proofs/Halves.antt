@@ -1,11 +1,10 @@
 -- Halves that are whole, and halves that are not.
-use Rattle.std.proofs.Common.{◌≡◌, ◌≢◌, inl, inr, ℕ, ◌+◌, ◌*◌, List, [], ◌∷◌, ◌++◌, Result, Ok, Err, map, refl, sym, ap, subst, ◌∙◌}
-use Rattle.std.specs.List.{AllByRecursion}
+use Rattle.std.proofs.Common.{◌≡◌, inl, inr, ℕ, List, [], ◌∷◌, ◌++◌, refl, sym, ap, subst, ◌∙◌}
 use Rattle.row_pages.specs.Parsing.{OnePage}
 use Rattle.checkpoint_writer.specs.Catalogue.{Entry}
 use Rattle.store_check.specs.Listed.{entries_over}
 use Rattle.store_check.specs.Whole.{IsFirstBad}
-use Rattle.store_check.specs.Half.{AreTables, BreaksAmong, BreaksHalf, BreaksInCatalogue, BreaksInRows, BreaksInTable, HalfPages, IsCatalogue, IsTable, IsWholeHalf, KeysBySchema, TableRows, entries_of, page_at, pages_over}
+use Rattle.store_check.specs.Half.{AreTables, BreaksAmong, BreaksHalf, BreaksInCatalogue, HalfPages, IsCatalogue, IsTable, IsWholeHalf, KeysBySchema, TableRows, entries_of, page_at, pages_over}
 use Rattle.store_check.proofs.Listed.{listed_not_bad, listed_one_bad, one_listing}
 use Rattle.store_check.proofs.Whole.{never_bad, one_bad, one_list}
 

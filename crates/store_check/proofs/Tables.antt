@@ -1,7 +1,5 @@
 -- Tables whose pages were checked, one behind another.
-use Rattle.std.proofs.Common.{◌≡◌, ◌≢◌, inl, inr, ℕ, ◌+◌, ◌*◌, ◌≤◌, Bool, true, false, ◌&&◌, ◌==◌, cond, nat_le, List, [], ◌∷◌, ◌++◌, Result, Ok, Err, map, refl, sym, ap, subst, ◌∙◌, arith, append_assoc, append-nil}
-use Rattle.std.specs.List.{AllByRecursion}
-use Rattle.std.specs.Global.{Vec}
+use Rattle.std.proofs.Common.{◌≡◌, ℕ, ◌+◌, ◌≤◌, Bool, true, false, ◌&&◌, ◌==◌, cond, nat_le, List, [], ◌∷◌, ◌++◌, Ok, map, refl, sym, ap, ◌∙◌, arith}
 use Rattle.std.proofs.lemmas.Bool.{and_parts, eqb-true, leb-true}
 use Rattle.std.proofs.lemmas.List.{map-append}
 use Rattle.table_map.specs.Stored.{Places}
@@ -10,10 +8,7 @@ use Rattle.checkpoint_writer.specs.declared.entry.StoredTable.{StoredTable}
 use Rattle.store_check.specs.Listed.{are_listed, first_page_of, lie_from, names_rise}
 use Rattle.store_check.specs.Whole.{ChecksTable}
 use Rattle.store_check.specs.Half.{AreTables, IsTable, KeysBySchema, TableRows, entries_of, page_at, pages_over, placed, told_of}
-use Rattle.store_check.specs.Halving.{ChecksRows}
 use Rattle.store_check.specs.declared.half.CheckedTable.{CheckedTable}
-use Rattle.store_check.specs.declared.errors.CheckError.{CheckError}
-use Rattle.store_check.specs.declared.errors.CheckError.TheVariants.{NoMemory, DeviceFailed, Damaged}
 use Rattle.store_check.proofs.Standing.{all_more}
 
 -- ---- where the pages of the next table lie

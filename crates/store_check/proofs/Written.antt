@@ -14,7 +14,7 @@ use Rattle.checkpoint_writer.specs.Laying.{StandAt}
 use Rattle.checkpoint_writer.specs.Stored.{IsImageOf}
 use Rattle.store_check.specs.Whole.{IsWhole}
 use Rattle.store_check.specs.Listed.{EntriesAt, IsListing, are_listed, entries_over}
-use Rattle.store_check.specs.Half.{AreTables, HalfPages, IsTable, IsWholeHalf, KeysBySchema, TableRows, entries_of, page_at, pages_over}
+use Rattle.store_check.specs.Half.{AreTables, HalfPages, IsTable, IsWholeHalf, KeysBySchema, entries_of, page_at, pages_over}
 use Rattle.store_check.specs.Written.{IsWritten, IsWrittenHalf, WrittenTable, entries_written, laid_table}
 
 many_first : (key_of : List ℕ → List ℕ) (pages : List (List (List ℕ))) → length (first_keys key_of pages) ≡ length pages

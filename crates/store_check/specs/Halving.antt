@@ -3,7 +3,7 @@ use Rattle.std.specs.Prelude.{◌≡◌, ◌⊎◌, ℕ, List, map, Result, Ok, 
 use Rattle.std.specs.Global.{Vec}
 use Rattle.checkpoint_writer.specs.Catalogue.{Entry, entry_of}
 use Rattle.checkpoint_writer.specs.declared.entry.StoredTable.{StoredTable}
-use Rattle.store_check.specs.Half.{AreTables, BreaksAmong, BreaksAtEnd, BreaksInCatalogue, HalfPages, IsCatalogue, KeysBySchema, TableRows, catalogue_end, entries_of, pages_over, placed, told_of}
+use Rattle.store_check.specs.Half.{AreTables, BreaksAmong, BreaksAtEnd, BreaksInCatalogue, HalfPages, IsCatalogue, KeysBySchema, TableRows, entries_of, pages_over, placed, told_of}
 use Rattle.store_check.specs.declared.half.CheckedTable.{CheckedTable}
 use Rattle.store_check.specs.declared.errors.CheckError.{CheckError}
 use Rattle.store_check.specs.declared.errors.CheckError.TheVariants.{NoMemory, DeviceFailed, Damaged}

@@ -32,12 +32,7 @@ pub struct RowForms;
 impl KeysBySchema for RowForms {
     ghost key_of = { λ _ schema row. row_form schema row };
 
-    fn key(
-        &self,
-        alloc: Global,
-        schema: &TableSchema,
-        row: &[u8],
-    ) -> Result<Vec<u8>, AllocError> {
+    fn key(&self, alloc: Global, schema: &TableSchema, row: &[u8]) -> Result<Vec<u8>, AllocError> {
         row_form(alloc, schema, row)
     }
 

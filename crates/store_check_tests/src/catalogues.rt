@@ -1,5 +1,5 @@
 //! Catalogues that are whole, and such that are not.
-use crate::tables::{DISK_BYTES, TABLE_AT, at_page, put};
+use crate::fixtures::{DISK_BYTES, TABLE_AT, at_page, put};
 use drda_disk::{Disk, MemDisk};
 use row_pages::PageKind::{Catalogue, Rows};
 use row_pages::{PageBuilder, PageCache, PageKind};

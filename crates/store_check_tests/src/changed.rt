@@ -1,5 +1,5 @@
 //! Bytes of a page that are changed.
-use crate::tables::{Rows, TABLE_AT, checked, disk_with, put};
+use crate::fixtures::{Rows, TABLE_AT, checked, disk_with, put};
 use row_pages::PageKind::Rows as OfRows;
 use std::alloc::Global;
 use std::test::Fail;

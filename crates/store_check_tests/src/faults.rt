@@ -1,5 +1,5 @@
 //! Devices that fail.
-use crate::tables::{Rows, TABLE_AT, checked, disk_with};
+use crate::fixtures::{Rows, TABLE_AT, checked, disk_with};
 use drda_disk::FuseDisk;
 use row_pages::PageKind::Rows as OfRows;
 use std::alloc::Global;

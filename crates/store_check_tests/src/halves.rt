@@ -1,5 +1,5 @@
 //! Halves that are whole, and such that are not.
-use crate::tables::{FirstColumn, TABLE_AT, at_page, put};
+use crate::fixtures::{FirstColumn, TABLE_AT, at_page, put};
 use drda_disk::{Disk, FuseDisk, MemDisk, Region};
 use half_store::{Active, Half};
 use row_pages::PageKind::{Catalogue, Rows};

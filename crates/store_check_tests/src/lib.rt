@@ -8,8 +8,8 @@ mod changed;
 #[cfg(test)]
 mod faults;
 #[cfg(test)]
+mod fixtures;
+#[cfg(test)]
 mod halves;
 #[cfg(test)]
 mod pages;
-#[cfg(test)]
-mod tables;

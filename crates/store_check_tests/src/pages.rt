@@ -1,5 +1,5 @@
 //! Pages that are a table's, and pages that are none.
-use crate::tables::{Rows, at_page, checked, disk_with};
+use crate::fixtures::{Rows, at_page, checked, disk_with};
 use row_pages::PageKind::{Catalogue, Rows as OfRows};
 use std::alloc::Global;
 use std::test::Fail;

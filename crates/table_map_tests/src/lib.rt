@@ -2,10 +2,10 @@
 #![tactic(auto)]
 
 #[cfg(test)]
+mod fixtures;
+#[cfg(test)]
 mod lookups;
 #[cfg(test)]
 mod scans;
 #[cfg(test)]
 mod schemas;
-#[cfg(test)]
-mod tables;

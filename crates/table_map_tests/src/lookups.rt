@@ -1,5 +1,5 @@
 //! Keys that are looked up.
-use crate::tables::{PAGES, TABLE_AT, disk_with_table, found, page_of, put};
+use crate::fixtures::{PAGES, TABLE_AT, disk_with_table, found, page_of, put};
 use drda_disk::FuseDisk;
 use row_pages::{PageFault, PageKind};
 use std::test::Fail;

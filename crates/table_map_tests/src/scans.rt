@@ -1,5 +1,5 @@
 //! All rows of a table, and how many pages they take.
-use crate::tables::{disk_with_table, pages_with, scans};
+use crate::fixtures::{disk_with_table, pages_with, scans};
 use drda_disk::FuseDisk;
 use row_pages::PageFault;
 use std::test::Fail;

@@ -1,7 +1,7 @@
 //! Rows of a schema whose key is a text and a number: keys that share long fronts, and long rows.
 ghost use Rattle.std.specs.Prelude.{◌≡◌, ◌+◌, ◌*◌, ◌≤◌, IfOk, length};
 
-use crate::tables::{TABLE_AT, put};
+use crate::fixtures::{TABLE_AT, put};
 use drda_disk::{Disk, MemDisk};
 use row_forms::row_form;
 use row_pages::{PageBuilder, PageCache, PageFault, PageKind};

@@ -1,4 +1,4 @@
-use Rattle.std.proofs.Common.{rules, ◌≡◌, ◌+◌, ◌*◌, ◌∙◌, ◌∷◌, [], ℕ, true, List, Ok, Err, map, sym, ap, subst, arith}
+use Rattle.std.proofs.Common.{◌≡◌, ◌∙◌, ℕ, true, List, Ok, map, sym, ap, subst, arith}
 use Rattle.std.specs.List.{AllByRecursion}
 use Rattle.drda_disk.proofs.Moments.{Stays-trans}
 use Rattle.checkpoint_writer.specs.Catalogue.{Entry, entry_of}

@@ -9,7 +9,7 @@ use std::cmp::Ordering;
 use std::test::Fail;
 use store_check::{CheckError, KeysBySchema, check_table};
 use table_map::{RowKeys, TableMap};
-use tables::Rows;
+use tables::Rows as RowList;
 
 /// The keys of the rows, none of which is negative: the bytes of the first column.
 pub struct FirstColumn;
@@ -137,7 +137,7 @@ pub fn checked<D: Disk>(alloc: Global, disk: &mut D, count: usize) -> Result<usi
         count,
     )?;
     let table = TableMap::new(alloc, pages);
-    let mut rows = Rows::new(alloc);
+    let mut rows = RowList::new(alloc);
     match table.scan_into(alloc, &FirstColumn, &mut cache, disk, &mut rows) {
         Ok(()) => Ok(rows.len()),
         Err(_) => Err(CheckError::DeviceFailed),
