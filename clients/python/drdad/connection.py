@@ -21,13 +21,13 @@ class Connection:
     DataError, OperationalError, IntegrityError = errors.DataError, errors.OperationalError, errors.IntegrityError
     InternalError, ProgrammingError, NotSupportedError = errors.InternalError, errors.ProgrammingError, errors.NotSupportedError
 
-    def __init__(self, host, port, database, user, password, timeout=10.0, autocommit=False):
+    def __init__(self, host, port, database, user, password, timeout=10.0, autocommit=False, watch=None):
         if not 0 < timeout < math.inf:
             raise ProgrammingError("the timeout is a number of seconds above 0")
         names = [_checked_name(name) for name in (database, user, password)]
         self._autocommit, self._has_work, self._branch = bool(autocommit), False, None
         self._queries, self._abandoned = weakref.WeakSet(), []
-        self._link = Link(host, port, timeout)
+        self._link = Link(host, port, timeout, watch)
         try:
             with self._judged():
                 self._open(*names)
