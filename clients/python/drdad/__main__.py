@@ -1,10 +1,12 @@
 """python3 -m drdad HOST:PORT/RDB --user USER [--password-file FILE]: the shell. A password that is not in a file is asked for, or
 read from the environment variable DRDAD_PASSWORD. Status 0; 1 where a statement of a script failed, 2 where no connection came."""
-import argparse, getpass, os, re, sys
+import argparse, contextlib, getpass, os, re, sys
 
 from . import connect
 from .errors import Error
 from .shell import Shell
+
+MOST_IN_HISTORY = 1000
 
 
 def words_of(arguments):
@@ -27,15 +29,27 @@ def password_of(words):
     return os.environ.get("DRDAD_PASSWORD") or getpass.getpass()
 
 
-def lines_of(shell, is_script):
-    """The lines of standard input, with a prompt and a history where a person types them."""
-    if is_script:
-        yield from sys.stdin
-        return
+@contextlib.contextmanager
+def history():
+    """What a person types can be edited, and is remembered over sessions, where this Python has readline."""
     try:
-        import readline  # noqa: F401, a history and editing for input
+        import readline
     except ImportError:
-        pass
+        yield
+        return
+    path = os.environ.get("DRDAD_HISTORY") or os.path.expanduser("~/.drdad_history")
+    with contextlib.suppress(OSError):
+        readline.read_history_file(path)
+    try:
+        yield
+    finally:
+        with contextlib.suppress(OSError):
+            readline.set_history_length(MOST_IN_HISTORY)
+            readline.write_history_file(path)
+
+
+def typed_lines(shell):
+    """The lines that a person types, each behind a prompt."""
     while True:
         try:
             yield input(shell.prompt()) + "\n"
@@ -47,22 +61,38 @@ def lines_of(shell, is_script):
             return
 
 
-def main(arguments=None):
-    words = words_of(arguments)
-    host, port, database = words.parts.groups()
-    try:
-        connection = connect(host, int(port), database, words.user, password_of(words), words.timeout, autocommit=True)
-    except (Error, OSError) as failure:
-        print(f"drdad: {failure}", file=sys.stderr)
-        return 2
-    is_script = not sys.stdin.isatty()
-    shell = Shell(connection, sys.stdout, sys.stderr, is_script)
-    for line in lines_of(shell, is_script):
+def run(shell, lines):
+    for line in lines:
         if shell.take(line) is False:
             break
     shell.finish()
     return int(shell.has_failed)
 
 
+def main(arguments=None):
+    words = words_of(arguments)
+    host, port, database = words.parts.groups()
+    # What is no UTF-8 is told by the statement that it stands in; what the terminal can't show is spelled out.
+    sys.stdin.reconfigure(errors="surrogateescape")
+    sys.stdout.reconfigure(errors="backslashreplace")
+    try:
+        connection = connect(host, int(port), database, words.user, password_of(words), words.timeout, autocommit=True)
+    except (Error, OSError, UnicodeError) as failure:
+        print(f"drdad: {failure}", file=sys.stderr)
+        return 2
+    is_script = not sys.stdin.isatty()
+    with connection:
+        shell = Shell(connection, sys.stdout, sys.stderr, is_script)
+        if is_script:
+            return run(shell, sys.stdin)
+        with history():
+            return run(shell, typed_lines(shell))
+
+
 if __name__ == "__main__":
-    sys.exit(main())
+    try:
+        sys.exit(main())
+    except (BrokenPipeError, KeyboardInterrupt):
+        # Nobody reads what is printed, or wants more of it.
+        os.dup2(os.open(os.devnull, os.O_WRONLY), sys.stdout.fileno())
+        sys.exit(1)

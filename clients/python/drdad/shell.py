@@ -1,8 +1,7 @@
 """A shell: SQL over lines ended by `;`, results as tables, and commands behind a backslash."""
-import csv, sys, time, unicodedata
+import csv, time, unicodedata
 
-from . import wire
-from .errors import DataError, Error, OperationalError, ProgrammingError
+from .errors import DataError, Error, ProgrammingError
 from .type_objects import BINARY, NUMBER, Xid
 
 HELP = r"""Statements go over lines and end with ;   A line that begins with -- in front of one is passed over.
@@ -13,6 +12,7 @@ HELP = r"""Statements go over lines and end with ;   A line that begins with -- 
 \rollback [XID]  rolls it back
 \recover       lists the XIDs of the global units that are prepared and wait for a decision
 \autocommit [on|off]  whether each statement is a unit of its own
+\timing [on|off]  whether it is said how long each thing took
 \d [TABLE]     the columns of a table
 \copy TABLE FROM FILE  inserts the rows of a CSV file; its first line may name the columns
 \?             this
@@ -160,12 +160,15 @@ class Copy:
 # ---- the shell
 
 class Shell:
+    """Does what lines ask over a connection. Results go to one stream, what failed and how far a copy is to another."""
+
     def __init__(self, connection, out, errors, is_script):
         self._connection, self._out, self._errors, self._is_script = connection, out, errors, is_script
-        self._splitter, self.has_failed, self._begun = Splitter(), False, None
+        self._splitter, self.has_failed, self._is_timed = Splitter(), False, True
         self._commands = {
             "begin": self._begin, "end": self._end, "prepare": self._prepare, "commit": self._commit, "rollback": self._roll_back,
-            "recover": self._recover, "autocommit": self._set_autocommit, "d": self._describe, "copy": self._copy, "?": self._help,
+            "recover": self._recover, "autocommit": self._set_autocommit, "timing": self._set_timing, "d": self._describe, "copy": self._copy,
+            "?": self._help,
         }
 
     def prompt(self):
@@ -196,7 +199,8 @@ class Shell:
             self._fail(number, failure)
             return self._connection.is_open()
         if said:
-            self._out.write(f"{said} ({(time.monotonic() - began) * 1000:.1f} ms)\n")
+            took = f" ({(time.monotonic() - began) * 1000:.1f} ms)" if self._is_timed else ""
+            self._out.write(f"{said}{took}\n")
         self._out.flush()
         return True
 
@@ -263,10 +267,13 @@ class Shell:
 
     def _set_autocommit(self, text):
         if text:
-            if text.lower() not in ("on", "off"):
-                raise ProgrammingError("\\autocommit is on or off")
-            self._connection.autocommit = text.lower() == "on"
+            self._connection.autocommit = is_on("autocommit", text)
         return f"autocommit {'on' if self._connection.autocommit else 'off'}"
+
+    def _set_timing(self, text):
+        if text:
+            self._is_timed = is_on("timing", text)
+        return f"timing {'on' if self._is_timed else 'off'}"
 
     def _describe(self, name):
         if not name:
@@ -317,6 +324,12 @@ class Shell:
         if self._errors.isatty():
             self._errors.write(text)
             self._errors.flush()
+
+
+def is_on(what, text):
+    if text.lower() not in ("on", "off"):
+        raise ProgrammingError(f"\\{what} is on or off")
+    return text.lower() == "on"
 
 
 def counted(count, what="row"):

@@ -551,7 +551,7 @@ def encoded(value):
     type."""
     if value is None:
         return (OF_SMALLINT | 1, 2), b"\xff"
-    if isinstance(value, int):
+    if isinstance(value, int) and not isinstance(value, bool):
         if not LEAST_NUMBER <= value <= GREATEST_NUMBER:
             raise ValueError("the number is out of BIGINT")
         return (OF_BIGINT, 8), NUMBERS[OF_BIGINT].pack(value)
