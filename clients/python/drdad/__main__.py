@@ -72,15 +72,15 @@ def run(shell, lines):
 def main(arguments=None):
     words = words_of(arguments)
     host, port, database = words.parts.groups()
-    # What is no UTF-8 is told by the statement that it stands in; what the terminal can't show is spelled out.
-    sys.stdin.reconfigure(errors="surrogateescape")
+    # A script is UTF-8, and what is not is told by the statement that it stands in; what can't be shown is spelled out.
+    is_script = not sys.stdin.isatty()
+    sys.stdin.reconfigure(encoding="utf-8" if is_script else None, errors="surrogateescape")
     sys.stdout.reconfigure(errors="backslashreplace")
     try:
         connection = connect(host, int(port), database, words.user, password_of(words), words.timeout, autocommit=True)
     except (Error, OSError, UnicodeError) as failure:
         print(f"drdad: {failure}", file=sys.stderr)
         return 2
-    is_script = not sys.stdin.isatty()
     with connection:
         shell = Shell(connection, sys.stdout, sys.stderr, is_script)
         if is_script:

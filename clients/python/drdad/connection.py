@@ -81,7 +81,8 @@ class Connection:
         try:
             _raise_first(answers, self._judged)
         except Error as failure:
-            failure.place -= len(closing)
+            if failure.place is not None:
+                failure.place -= len(closing)
             if commits:
                 self._end_refused(answers[-1])
             raise
