@@ -74,7 +74,8 @@ class Connection:
         chain = [*(section.closes() for section in closing), *commands, *([COMMITS] if commits and commands else [])]
         if not chain:
             return []
-        self._has_work = not commits
+        if self._branch is None:
+            self._has_work = not commits
         answers = self._link.exchange(chain)
         for section in closing:
             self._sections.give_back(section)

@@ -45,6 +45,19 @@ class TwoPhase(OverAServer):
                 self.assertEqual(self.keys(cursor), [0, 1, 2])
                 connection.commit()
 
+    def test_one_unit_after_the_other(self):
+        """Behind the end of a global unit nothing is under way: the next one can begin, and so can local work."""
+        connection, cursor = self.with_table()
+        ends = (lambda: connection.tpc_commit(), lambda: connection.tpc_rollback(),
+                lambda: (connection.tpc_prepare(), connection.tpc_commit()), lambda: (connection.tpc_prepare(), connection.tpc_rollback()))
+        for number, end in enumerate(ends):
+            connection.tpc_begin((1, b"G", bytes([number])))
+            cursor.execute(INSERT, (number, "x"))
+            end()
+        connection.tpc_begin(UNIT)
+        connection.tpc_rollback()
+        self.assertEqual(self.keys(cursor), [0, 2])
+
     def test_a_unit_that_reads_only(self):
         connection, cursor = self.with_rows()
         connection.tpc_begin(UNIT)
