@@ -3,6 +3,7 @@ import csv, time, unicodedata
 
 from .errors import DataError, Error, ProgrammingError
 from .type_objects import BINARY, NUMBER, Xid
+from .units import ROWS_AT_ONCE, in_units
 
 HELP = r"""Statements go over lines and end with ;   A line that begins with -- in front of one is passed over.
 \begin XID     begins a global unit; an XID is FORMAT:GLOBALHEX:BRANCHHEX, as in 1:6761:62
@@ -19,9 +20,6 @@ HELP = r"""Statements go over lines and end with ;   A line that begins with -- 
 \q             ends"""
 
 NO_LIST = "the server can't list its tables; \\d TABLE shows the columns of one"
-ROWS_AT_ONCE = 1000
-# Changes of a unit are at most 1,048,576 bytes; a row in its record takes a little more than its values.
-BYTES_AT_ONCE = 262144
 
 
 class Splitter:
@@ -120,19 +118,10 @@ class Copy:
         marks = ", ".join("?" * len(self._columns))
         self.statement = f"INSERT INTO {table} ({names}) VALUES ({marks})"
 
-    def rows(self):
-        """Lists of rows, as many as go at once, with the numbers of their lines."""
-        rows, lines, size = [], [], 0
-        for fields in self._all():
-            if fields:
-                rows.append(self._row(fields))
-                lines.append(self._reader.line_num)
-                size += sum(map(len, fields)) + 16 * len(fields)
-            if len(rows) == ROWS_AT_ONCE or size > BYTES_AT_ONCE:
-                yield rows, lines
-                rows, lines, size = [], [], 0
-        if rows:
-            yield rows, lines
+    def units(self):
+        """Lists of rows, as many as go at once, each row with the number of its line."""
+        rows = ((self._row(fields), self._reader.line_num) for fields in self._all() if fields)
+        return in_units(rows, lambda item: item[0])
 
     def _all(self):
         if self.first is not None:
@@ -300,9 +289,9 @@ class Shell:
         """Inserts the rows, list by list; in autocommit mode each list is a unit."""
         count, cursor = 0, self._connection.cursor()
         try:
-            for rows, lines in copy.rows():
-                self._insert(cursor, copy.statement, rows, lines)
-                count += len(rows)
+            for unit in copy.units():
+                self._insert(cursor, copy.statement, *zip(*unit))
+                count += len(unit)
                 self._progress(f"\r{count} rows")
         except Error as failure:
             kept = "in" if self._connection.autocommit else "inserted in the unit under way"
