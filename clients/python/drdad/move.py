@@ -53,11 +53,18 @@ def move(source, target, table, say):
     return count
 
 
+def show_progress(text):
+    """A line that the next one writes over, where somebody looks."""
+    if sys.stderr.isatty():
+        print(f"\r{text}", end="", file=sys.stderr, flush=True)
+
+
 def move_all(source, target, tables):
     if source.tpc_recover():
         raise ProgrammingError("units are in doubt where the rows are: decide them first")
     for table in tables:
-        count = move(source, target, table, lambda text: print(f"\r{text}", end="", file=sys.stderr, flush=True) if sys.stderr.isatty() else None)
+        count = move(source, target, table, show_progress)
+        show_progress("")
         print(f"{table}: {count} rows moved, and read back", flush=True)
 
 

@@ -156,8 +156,8 @@ class Shell:
         self._splitter, self.has_failed, self._is_timed = Splitter(), False, True
         self._commands = {
             "begin": self._begin, "end": self._end, "prepare": self._prepare, "commit": self._commit, "rollback": self._roll_back,
-            "recover": self._recover, "autocommit": self._set_autocommit, "timing": self._set_timing, "d": self._describe, "copy": self._copy,
-            "?": self._help,
+            "recover": self._recover, "autocommit": self._set_autocommit, "timing": self._set_timing, "d": self._describe,
+            "copy": self._copy, "?": self._help,
         }
 
     def prompt(self):

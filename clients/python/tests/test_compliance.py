@@ -9,6 +9,9 @@ EXCEPTIONS = {
     "ProgrammingError": "DatabaseError", "NotSupportedError": "DatabaseError",
 }
 
+OF_CONNECTIONS = ("close", "commit", "rollback", "cursor")
+OF_TWO_PHASES = ("xid", "tpc_begin", "tpc_prepare", "tpc_commit", "tpc_rollback", "tpc_recover")
+
 
 class Module(unittest.TestCase):
     def test_globals(self):
@@ -49,7 +52,7 @@ class TypesAndConstructors(unittest.TestCase):
 class Connections(OverAServer):
     def test_attributes(self):
         connection = self.connect()
-        for name in ("close", "commit", "rollback", "cursor", "xid", "tpc_begin", "tpc_prepare", "tpc_commit", "tpc_rollback", "tpc_recover"):
+        for name in (*OF_CONNECTIONS, *OF_TWO_PHASES):
             self.assertTrue(callable(getattr(connection, name)), name)
 
     def test_commit(self):
@@ -77,7 +80,8 @@ class Connections(OverAServer):
         connection.close()
         calls = (connection.cursor, connection.commit, connection.rollback, connection.tpc_recover, connection.tpc_prepare,
                  lambda: connection.tpc_begin((1, b"G", b"B")), lambda: cursor.execute("SELECT * FROM T"), cursor.fetchone,
-                 cursor.fetchmany, cursor.fetchall, lambda: cursor.executemany(INSERT, [(9, "")]), lambda: setattr(connection, "autocommit", True))
+                 cursor.fetchmany, cursor.fetchall, lambda: cursor.executemany(INSERT, [(9, "")]),
+                 lambda: setattr(connection, "autocommit", True))
         for at, call in enumerate(calls):
             with self.subTest(at), self.assertRaises(drdad.Error):
                 call()

@@ -5,6 +5,46 @@ from over_a_server import CLIENT, PROGRAM, OverAServer
 
 CREATE = "CREATE TABLE T (K INTEGER NOT NULL,\n  V VARCHAR(20), B VARBINARY(8), PRIMARY KEY (K));\n"
 WAITS = 60
+PIPES = {"stdin": subprocess.PIPE, "stdout": subprocess.PIPE, "stderr": subprocess.PIPE, "text": True}
+
+OVER_LINES = CREATE + """-- a remark; with one more
+INSERT INTO T VALUES (1, 'a;b''c', NULL); INSERT INTO T VALUES
+(20, 'ä', X'00FF');
+SELECT * FROM T;
+"""
+SHOWN = """done
+1 row
+1 row
+ K | V     | B
+---+-------+--------
+ 1 | a;b'c | NULL
+20 | ä     | X'00FF'
+2 rows
+"""
+WITH_FAILURES = CREATE + """SELECT * FROM NOSUCH;
+INSERT INTO T VALUES (1, NULL, NULL);
+
+INSERT INTO T
+VALUES (1, NULL, NULL);
+"""
+LOCAL_UNITS = CREATE + """\\autocommit off
+INSERT INTO T VALUES (1, NULL, NULL);
+\\commit
+DELETE FROM T;
+\\rollback
+\\q
+SELECT;
+"""
+NO_COMMANDS = (
+    ("\\nothing", "there is no \\nothing"), ("\\begin", "FORMAT:GLOBALHEX:BRANCHHEX"), ("\\copy T", "\\copy TABLE FROM FILE"),
+    ("\\timing perhaps", "on or off"), ("\\commit 1:47", "FORMAT:GLOBALHEX:BRANCHHEX"),
+)
+NO_ROWS = (
+    ("x,one,\n", "line 1: 'x' is no value of K"), ("1,one,\n2\n", "line 2 has 1 fields, and not 3"),
+    ("1,one,0\n", "line 1: '0' is no value of B"), ("99999999999,one,\n", "SQLCODE -413, SQLSTATE 22003"),
+    (b"1,\xff,\n", "file.csv: 'utf-8'"), ('1,"one\n', "file.csv"), (f"1,{'x' * 21},\n", "SQLCODE -433, SQLSTATE 22001"),
+    (f"1,{'x' * 2001},\n", "and a column takes at most 2000"),
+)
 
 
 class OfAShell(OverAServer):
@@ -28,18 +68,14 @@ class OfAShell(OverAServer):
 
 class Scripts(OfAShell):
     def test_statements_over_lines(self):
-        script = CREATE + "-- a remark; with one more\nINSERT INTO T VALUES (1, 'a;b''c', NULL); INSERT INTO T VALUES\n(20, 'ä', X'00FF');\nSELECT * FROM T;\n"
-        status, out, errors = self.ran("\\timing off\n" + script)
-        self.assertEqual((status, errors), (0, ""))
-        self.assertEqual(out.splitlines(), [
-            "timing off", "done", "1 row", "1 row", " K | V     | B", "---+-------+--------", " 1 | a;b'c | NULL", "20 | ä     | X'00FF'", "2 rows"])
+        self.assertEqual(self.ran("\\timing off\n" + OVER_LINES), (0, "timing off\n" + SHOWN, ""))
 
     def test_how_long_it_took(self):
         out = self.ran(CREATE)[1]
         self.assertRegex(out, r"^done \(\d+\.\d ms\)$")
 
     def test_a_failure_and_its_line(self):
-        status, out, errors = self.ran(CREATE + "SELECT * FROM NOSUCH;\nINSERT INTO T VALUES (1, NULL, NULL);\n\nINSERT INTO T\nVALUES (1, NULL, NULL);\n")
+        status, out, errors = self.ran(WITH_FAILURES)
         self.assertEqual(status, 1)
         self.assertIn("line 3: error: SQLCODE -204, SQLSTATE 42704: no table has this name", errors)
         self.assertIn("line 6: error: SQLCODE -803, SQLSTATE 23505", errors)
@@ -50,8 +86,7 @@ class Scripts(OfAShell):
         self.assertEqual((status, errors), (1, "line 1: error: the last statement has no ; behind it\n"))
 
     def test_commands_that_are_none(self):
-        for text, said in (("\\nothing", "there is no \\nothing"), ("\\begin", "FORMAT:GLOBALHEX:BRANCHHEX"), ("\\copy T", "\\copy TABLE FROM FILE"),
-                           ("\\timing perhaps", "on or off"), ("\\commit 1:47", "FORMAT:GLOBALHEX:BRANCHHEX")):
+        for text, said in NO_COMMANDS:
             with self.subTest(text):
                 status, _, errors = self.ran(text + "\n")
                 self.assertEqual(status, 1)
@@ -66,7 +101,7 @@ class Scripts(OfAShell):
         self.assertIn("B      | VARBINARY(8) |", out)
 
     def test_autocommit(self):
-        status, out, _ = self.ran(CREATE + "\\autocommit off\nINSERT INTO T VALUES (1, NULL, NULL);\n\\commit\nDELETE FROM T;\n\\rollback\n\\q\nSELECT;\n")
+        status, out, _ = self.ran(LOCAL_UNITS)
         self.assertEqual(status, 0)
         self.assertEqual(self.keys(self.connect().cursor()), [1])
         self.assertIn("autocommit off", out)
@@ -105,7 +140,7 @@ class Scripts(OfAShell):
         self.assertIn("\\xe4", out)
 
     def test_a_server_that_ends(self):
-        process = subprocess.Popen(self.words(), env=self.around, stdin=subprocess.PIPE, stdout=subprocess.PIPE, stderr=subprocess.PIPE, text=True)
+        process = subprocess.Popen(self.words(), env=self.around, **PIPES)
         with process:
             process.stdin.write(CREATE)
             process.stdin.flush()
@@ -117,7 +152,7 @@ class Scripts(OfAShell):
         self.assertEqual(errors.count("error"), 1)
 
     def test_nobody_reads_what_is_printed(self):
-        process = subprocess.Popen(self.words(), env=self.around, stdin=subprocess.PIPE, stdout=subprocess.PIPE, stderr=subprocess.PIPE, text=True)
+        process = subprocess.Popen(self.words(), env=self.around, **PIPES)
         with process:
             process.stdout.close()
             process.stdin.write("\\?\n" * 3)
@@ -157,9 +192,7 @@ class Copies(OfAShell):
         self.assertEqual(len(self.rows()), 10000)
 
     def test_what_is_no_row(self):
-        for text, said in (("x,one,\n", "line 1: 'x' is no value of K"), ("1,one,\n2\n", "line 2 has 1 fields, and not 3"), ("1,one,0\n", "line 1: '0' is no value of B"),
-                           ("99999999999,one,\n", "SQLCODE -413, SQLSTATE 22003"), (b"1,\xff,\n", "file.csv: 'utf-8'"), ('1,"one\n', "file.csv"),
-                           (f"1,{'x' * 21},\n", "SQLCODE -433, SQLSTATE 22001"), (f"1,{'x' * 2001},\n", "and a column takes at most 2000")):
+        for text, said in NO_ROWS:
             with self.subTest(text[:30]):
                 status, _, errors = self.copied(text)
                 self.assertEqual(status, 1)
@@ -191,8 +224,11 @@ class Connecting(OfAShell):
     def test_what_gives_no_connection(self):
         path = self.folder / "password"
         path.write_bytes(b"\xff\n")
-        for more, around, said in (((), {"DRDAD_PASSWORD": "no"}, "the password is wrong"), (("--password-file", "/nothing"), {}, "No such file"),
-                                   (("--password-file", str(path)), {}, "utf-8"), (("--timeout", "0"), {}, "the timeout")):
+        cases = (
+            ((), {"DRDAD_PASSWORD": "no"}, "the password is wrong"), (("--password-file", "/nothing"), {}, "No such file"),
+            (("--password-file", str(path)), {}, "utf-8"), (("--timeout", "0"), {}, "the timeout"),
+        )
+        for more, around, said in cases:
             with self.subTest(said):
                 status, out, errors = self.ran("\\recover\n", *more, **around)
                 self.assertEqual((status, out), (2, ""))
@@ -202,7 +238,8 @@ class Connecting(OfAShell):
     def test_words_that_are_none(self):
         for words in ([], ["nowhere", "--user", "ana"], ["127.0.0.1:1527", "--user", "ana"], ["127.0.0.1:1527/SHOP"]):
             with self.subTest(words):
-                ran = subprocess.run([sys.executable, "-m", "drdad", *words], env=self.around, capture_output=True, text=True, timeout=WAITS)
+                words = [sys.executable, "-m", "drdad", *words]
+                ran = subprocess.run(words, env=self.around, capture_output=True, text=True, timeout=WAITS)
                 self.assertEqual(ran.returncode, 2)
                 self.assertIn("usage:", ran.stderr)
 
@@ -213,7 +250,8 @@ class ATerminal(OfAShell):
     def typed(self, *lines):
         """What the terminal shows of a session in which these lines are typed, and how it ends."""
         ours, theirs = pty.openpty()
-        process = subprocess.Popen(self.words(), env={**self.around, "TERM": "dumb"}, stdin=theirs, stdout=theirs, stderr=theirs, start_new_session=True)
+        streams = {"stdin": theirs, "stdout": theirs, "stderr": theirs, "start_new_session": True}
+        process = subprocess.Popen(self.words(), env={**self.around, "TERM": "dumb"}, **streams)
         os.close(theirs)
         seen, left, late = b"", list(lines), time.monotonic() + WAITS
         while time.monotonic() < late:
@@ -230,7 +268,7 @@ class ATerminal(OfAShell):
     def test_a_session(self):
         path = self.folder / "file.csv"
         path.write_text("".join(f"{number},x,\n" for number in range(3000)))
-        status, seen = self.typed("CREATE TABLE T (K INTEGER NOT NULL, V VARCHAR(20), B VARBINARY(8),", "PRIMARY KEY (K));", f"\\copy T FROM {path}", "SELEC;", "\\q")
+        status, seen = self.typed(*CREATE.splitlines(), f"\\copy T FROM {path}", "SELEC;", "\\q")
         self.assertEqual(status, 1)
         for said in ("drdad> ", "   ... ", "done (", "1000 rows", "2000 rows", "3000 rows", "error: SQLCODE -104"):
             self.assertIn(said, seen)
