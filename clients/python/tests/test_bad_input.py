@@ -225,6 +225,47 @@ class BeforeAnythingIsSent(OverAServer):
         self.assertEqual(self.keys(self.cursor), [1, 2])
 
 
+class Full(OverAServer):
+    """A store that has no more room tells it, and what was committed stays; a unit that is prepared can be decided."""
+
+    size = 2 << 20
+    TEXT = "x" * 600
+    MOST_ROWS = 3000
+
+    def filled(self, connection, cursor, first):
+        """Commits rows until there is no room for more: how many are in."""
+        for at in range(first, self.MOST_ROWS, 100):
+            try:
+                cursor.executemany(INSERT, [(number, self.TEXT) for number in range(at, at + 100)])
+                connection.commit()
+            except drdad.OperationalError as failure:
+                self.assertIn("RSCLMTRM", str(failure))
+                connection.rollback()
+                return at
+        self.fail(f"{self.MOST_ROWS} rows had room")
+
+    def test_it_tells_and_keeps(self):
+        connection, cursor = self.with_table()
+        connection.tpc_begin((1, b"G", b"B"))
+        cursor.execute(INSERT, (0, "in doubt"))
+        connection.tpc_prepare()
+        connection.close()
+        connection = self.connect()
+        cursor = connection.cursor()
+        end = self.filled(connection, cursor, 1)
+        self.assertGreater(end, 1000)
+        connection.tpc_commit((1, b"G", b"B"))
+        self.assertEqual(self.keys(cursor), list(range(end)))
+
+    def test_a_unit_with_too_many_changes(self):
+        connection, cursor = self.with_table()
+        with self.assertRaises(drdad.OperationalError) as raised:
+            cursor.executemany(INSERT, [(number, self.TEXT) for number in range(2000)])
+        self.assertEqual(raised.exception.sqlcode, -904)
+        connection.rollback()
+        self.assertEqual(self.keys(cursor), [])
+
+
 class Refused(OverAServer):
     def test_a_wrong_password(self):
         with self.assertRaises(drdad.OperationalError) as raised:

@@ -1,7 +1,7 @@
 """A hundred thousand rows, there and back."""
 import sys, time, unittest
 
-from over_a_server import CREATE, INSERT, OverAServer
+from over_a_server import INSERT, OverAServer
 
 ROWS = 100_000
 # The changes of a unit are at most 1,048,576 bytes.

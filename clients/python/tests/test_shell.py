@@ -1,7 +1,7 @@
 """The shell as a person and a script use it: python3 -m drdad over a server."""
 import os, pathlib, pty, subprocess, sys, tempfile, time, unittest
 
-from over_a_server import CLIENT, PROGRAM, OverAServer
+from over_a_server import CLIENT, OverAServer
 
 CREATE = "CREATE TABLE T (K INTEGER NOT NULL,\n  V VARCHAR(20), B VARBINARY(8), PRIMARY KEY (K));\n"
 WAITS = 60
