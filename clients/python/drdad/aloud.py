@@ -31,7 +31,12 @@ class Aloud:
         yield from self._objects(one.contents, 2)
 
     def _objects(self, data, depth):
-        for code, inside in wire.objects(data):
+        try:
+            found = wire.objects(data)
+        except wire.WireFault as fault:
+            yield f"{INDENT * depth}({fault}) {data.hex(' ', 2)}"
+            return
+        for code, inside in found:
             name = INDENT * depth + wire.named(code)
             if code in CONTAINERS:
                 yield name

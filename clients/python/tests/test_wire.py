@@ -84,6 +84,7 @@ class ReadAloud(unittest.TestCase):
 
     def test_what_is_otherwise_than_it_should_be(self):
         self.assertIn("SQLCARD 0001", self.read(wire.ddm(wire.SQLCARD, b"\0\1")))
+        self.assertIn("(an object is cut off) 00", self.read(b"\0"))
 
 
 class TransactionIds(unittest.TestCase):
