@@ -1,6 +1,6 @@
 """The programs that stand under out/, the proved one and the one that is built without proof, and whether each is of the sources as
 they are: beside a program stands a stamp, the sum of all that went into it."""
-import contextlib, glob, hashlib, os, subprocess
+import contextlib, glob, hashlib, os, shutil, subprocess, sys
 
 from crates import TOP, crates_now
 
@@ -19,10 +19,17 @@ def below(name, crates):
     return sorted(found)
 
 
+def version():
+    """The toolchain's one line; without a toolchain the script ends."""
+    if shutil.which("rt") is None:
+        sys.exit("the Rattle toolchain is not there: its command rt has to be on the path")
+    return subprocess.run(["rt", "version"], capture_output=True, check=True).stdout
+
+
 def sum_of(folders):
     """A sum of the toolchain's version, of what stands on what, and of each file in these folders of the crates of drdad."""
     crates = crates_now()
-    found = hashlib.sha256(subprocess.run(["rt", "version"], capture_output=True, check=True).stdout)
+    found = hashlib.sha256(version())
     for crate in below("drdad", crates):
         found.update(f"{crate}: {sorted(crates[crate])}\n".encode())
         for path in sorted(it for folder in folders for it in glob.glob(f"{TOP}/crates/{crate}/{folder}/**/*.*t*", recursive=True)):

@@ -1,5 +1,5 @@
 """The shell as a person and a script use it: python3 -m drdad over a server."""
-import os, pathlib, pty, subprocess, sys, tempfile, time, unittest
+import os, pathlib, pty, socket, subprocess, sys, tempfile, time, unittest
 
 from over_a_server import CLIENT, OverAServer
 
@@ -234,6 +234,16 @@ class Connecting(OfAShell):
                 self.assertEqual((status, out), (2, ""))
                 self.assertIn(said, errors)
                 self.assertNotIn("Traceback", errors)
+
+    def test_a_server_that_says_nothing_and_none(self):
+        with socket.create_server(("127.0.0.1", 0)) as listener:
+            address = f"127.0.0.1:{listener.getsockname()[1]}/SHOP"
+            words = [sys.executable, "-m", "drdad", address, "--user", "ana", "--timeout", "0.5"]
+            ran = subprocess.run(words, env=self.around, stdin=subprocess.DEVNULL, capture_output=True, text=True, timeout=WAITS)
+        self.assertEqual((ran.returncode, ran.stderr), (2, "drdad: the connection broke: the server was silent for 0.5 s\n"))
+        ran = subprocess.run(words, env=self.around, stdin=subprocess.DEVNULL, capture_output=True, text=True, timeout=WAITS)
+        self.assertEqual(ran.returncode, 2)
+        self.assertIn("drdad: no connection to 127.0.0.1", ran.stderr)
 
     def test_words_that_are_none(self):
         for words in ([], ["nowhere", "--user", "ana"], ["127.0.0.1:1527", "--user", "ana"], ["127.0.0.1:1527/SHOP"]):
