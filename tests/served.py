@@ -1,6 +1,6 @@
 """The program drdad over a store: made, served, killed and served again, and read by `pipe`. The client of clients/python is on the
 path of whoever imports this."""
-import os, pathlib, re, subprocess, sys
+import os, pathlib, re, subprocess, sys, threading
 
 TOP = pathlib.Path(__file__).resolve().parent.parent
 sys.path.insert(0, os.fspath(TOP / "clients" / "python"))
@@ -39,10 +39,13 @@ class Server:
         return subprocess.run([self.program, *words], capture_output=True, **options)
 
     def start(self, *words):
-        """Serves the store on a free port, and returns once the server listens."""
+        """Serves the store on a free port, and returns once the server listens; one that does not in time is killed."""
         command = [self.program, "serve", self.store, "--port", "0", "--user", f"{USER}:{PASSWORD}", *words]
         self.process = subprocess.Popen(command, stdout=subprocess.PIPE, stdin=subprocess.DEVNULL, text=True)
+        late = threading.Timer(WAITS, self.process.kill)
+        late.start()
         found = re.fullmatch(r"listening (\d+)\n", self.process.stdout.readline())
+        late.cancel()
         if not found:
             raise RuntimeError(f"the server ended with status {self.process.wait()}")
         self.port = int(found[1])

@@ -6,18 +6,18 @@ from .type_objects import BINARY, NUMBER, Xid
 from .units import ROWS_AT_ONCE, in_units
 
 HELP = r"""Statements go over lines and end with ;   A line that begins with -- in front of one is passed over.
-\begin XID     begins a global unit; an XID is FORMAT:GLOBALHEX:BRANCHHEX, as in 1:6761:62
-\end           ends the work in it
-\prepare       prepares it (and ends the work in it)
-\commit [XID]  commits the unit under way, or the prepared one of an XID
-\rollback [XID]  rolls it back
-\recover       lists the XIDs of the global units that are prepared and wait for a decision
-\autocommit [on|off]  whether each statement is a unit of its own
-\timing [on|off]  whether it is said how long each thing took
-\d [TABLE]     the columns of a table
-\copy TABLE FROM FILE  inserts the rows of a CSV file; its first line may name the columns
-\?             this
-\q             ends"""
+\begin XID              begins a global unit; an XID is FORMAT:GLOBALHEX:BRANCHHEX, as in 1:6761:62
+\end                    ends the work in it
+\prepare                prepares it (and ends the work in it)
+\commit [XID]           commits the unit under way, or the prepared one of an XID
+\rollback [XID]         rolls it back
+\recover                lists the XIDs of the global units that are prepared and wait for a decision
+\autocommit [on|off]    whether each statement is a unit of its own
+\timing [on|off]        whether it is said how long each thing took
+\d [TABLE]              the columns of a table
+\copy TABLE FROM FILE   inserts the rows of a CSV file; its first line may name the columns
+\?                      this
+\q                      ends"""
 
 NO_LIST = "the server can't list its tables; \\d TABLE shows the columns of one"
 
