@@ -1,26 +1,18 @@
 # The entry points of the README.
 SHELL := bash
 .SHELLFLAGS := -eu -o pipefail -c
-.PHONY: run try test gate edits names vectors outside
+.PHONY: run try build test gate edits names vectors outside
 
-# A first look, in a minute: two conversations as event records, request and reply by name.
-try: | out
-	@echo 'built without proof (rt try): a first look; make run proves first'
-	@tests/sql_request > out/request.bin
-	@echo '---- drdad pipe --user ana:pw reads'; tests/show < out/request.bin
-	@(cd crates/drdad && rt try -- pipe --user ana:pw < ../../out/request.bin 2> ../../out/try.log) > out/reply.bin || { cat out/try.log >&2; exit 1; }
-	@echo '---- and writes'; tests/show --replies < out/reply.bin
+# A first look, within three minutes: the program, built without proof where no proved one is there, makes a store and serves it; one
+# conversation is shown, the server is killed and served again, and the rows are there.
+run:
+	@program=$$(tools/ready_program); tests/serve_shown "$$program"
 
-run: | out
-	@tests/sql_request > out/request.bin
-	@echo '---- drdad pipe --user ana:pw reads'; tests/show < out/request.bin
-	@echo '---- (proved and built first, which takes minutes where nothing is proved yet)'
-	@tests/prove_below drdad
-	@(cd crates/drdad && rt run -- pipe --user ana:pw < ../../out/request.bin 2> ../../out/run.log) > out/reply.bin || { cat out/run.log >&2; exit 1; }
-	@echo '---- and writes'; tests/show --replies < out/reply.bin
+try: run
 
-out:
-	@mkdir -p out
+# Proves and builds out/drdad, on all processors, with a line of progress a crate.
+build:
+	@tools/built_program
 
 # Every proof from nothing, every test, and the program. SINCE=COMMIT: with the edits of the crates that were touched since.
 test:
@@ -40,7 +32,7 @@ names:
 
 # Conversations kept as event records, through the built program, and its statuses.
 vectors:
-	@tests/run_vectors "$$(tools/built_program)"
+	@program=$$(tools/built_program); tests/run_vectors "$$program"
 
 # Every check that is not in the gate, with one line of result each.
 outside:

@@ -1,24 +1,27 @@
 """Conversations as event records (docs/PROTOCOL.md, "Event records"), those that are kept as files, and runs of the
-program `drdad pipe` over them."""
-import pathlib, struct, subprocess
+program `drdad pipe` over them. The client of clients/python is on the path of whoever imports this."""
+import os, pathlib, struct, subprocess, sys
 
 HERE = pathlib.Path(__file__).resolve().parent
+sys.path.insert(0, os.fspath(HERE.parent / "clients" / "python"))
+
 OPENS, SENDS, IS_LOST, IS_CLOSED, IS_REFUSED = 1, 2, 3, 5, 6
 USER = ("--user", "ana:pw")
 STORE_SIZE = "2097152"
+HEAD = struct.Struct(">BBI")
 
 
 def record(kind, number, data=b""):
-    return struct.pack(">BBI", kind, number, len(data)) + data
+    return HEAD.pack(kind, number, len(data)) + data
 
 
 def records(data):
     """The records that a stream holds: kind, number of the conversation, bytes."""
     found, at = [], 0
     while at < len(data):
-        kind, number, size = struct.unpack_from(">BBI", data, at)
-        found.append((kind, number, data[at + 6:at + 6 + size]))
-        at += 6 + size
+        kind, number, size = HEAD.unpack_from(data, at)
+        found.append((kind, number, data[at + HEAD.size:at + HEAD.size + size]))
+        at += HEAD.size + size
     assert at == len(data), "the stream ends inside of a record"
     return found
 

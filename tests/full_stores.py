@@ -2,14 +2,14 @@
 answer them, written out."""
 import struct
 
-import drda_client as drda
 import event_records as events
+from drdad import wire
 
 ROW = "v" * 1990
-BRANCH = struct.pack(">III", 1, 1, 1) + b"GB"
+BRANCH = wire.xid_bytes(1, b"G", b"B")
 
 # The replies, as whole DSSs.
-CHANGED = drda.dss(0x52, 6, bytes.fromhex("0020 2218 0006 1149 0000 0016 2110") + b"SHOP".ljust(18))
+CHANGED = wire.dss(0x52, 6, bytes.fromhex("0020 2218 0006 1149 0000 0016 2110") + b"SHOP".ljust(18))
 COMMITTED = bytes.fromhex("0015 D052 0007 000F 220C 0006 1149 0004 0005 2115 01 000B D003 0007 0005 2408 FF")
 ROLLED_BACK = bytes.fromhex("0015 D052 0007 000F 220C 0006 1149 0004 0005 2115 02 000B D003 0007 0005 2408 FF")
 NO_ROOM = bytes.fromhex("0010 D002 000C 000A 1233 0006 1149 0008")
@@ -20,23 +20,22 @@ def card(code, state, rows):
     """An SQLCARD with texts of no bytes."""
     numbers = struct.pack(">6i", 0, 0, rows, 0, 0, 0)
     body = b"\0" + struct.pack(">i", code) + state + b"RDA01000\0" + numbers + b" " * 11 + bytes(6) + b"\xff"
-    return drda.dss(0x03, 6, drda.ddm(drda.SQLCARD, body))
+    return wire.dss(wire.OBJECT, 6, wire.ddm(wire.SQLCARD, body))
 
 
 def run(text):
     """EXCSQLIMM of a statement, with the correlator 6."""
-    sqlstt = b"\0" + struct.pack(">I", len(text)) + text.encode() + b"\xff"
-    return drda.dss(0x51, 6, drda.ddm(drda.EXCSQLIMM)) + drda.dss(0x03, 6, drda.ddm(drda.SQLSTT, sqlstt))
+    return wire.command(6, wire.ddm(wire.EXCSQLIMM), wire.statement(text))
 
 
 def ask(correlator, code, parameters=b""):
-    return drda.dss(0x01, correlator, drda.ddm(code, parameters))
+    return wire.command(correlator, wire.ddm(code, parameters))
 
 
 def branch(call, flags=None):
     """A call of XA on the branch with the global part G and the branch part B."""
-    named = drda.ddm(drda.SYNCTYPE, bytes([call])) + drda.ddm(drda.XID, BRANCH)
-    return ask(16, drda.SYNCCTL, named + (drda.ddm(drda.XAFLAGS, struct.pack(">I", flags)) if flags else b""))
+    named = wire.number_object(wire.SYNCTYPE, call, 1) + wire.ddm(wire.XID, BRANCH)
+    return ask(16, wire.SYNCCTL, named + (wire.number_object(wire.XAFLAGS, flags) if flags else b""))
 
 
 def inserted(key, value):
@@ -63,7 +62,7 @@ class Story:
     def creates(self):
         """The first conversation creates the table and commits it."""
         create = run("CREATE TABLE B (K INTEGER NOT NULL, V VARCHAR(2000), PRIMARY KEY (K))")
-        self.sends(0, create + ask(7, drda.RDBCMM), CHANGED + card(0, b"00000", 0) + COMMITTED)
+        self.sends(0, create + ask(7, wire.RDBCMM), CHANGED + card(0, b"00000", 0) + COMMITTED)
 
     def inserts(self, count):
         """And inserts so many rows in one unit."""
@@ -82,14 +81,14 @@ def journal_full():
     story.opens(0)
     story.opens(1)
     story.creates()
-    story.sends(1, branch(drda.START), XA_OK)
+    story.sends(1, branch(wire.START), XA_OK)
     story.sends(1, inserted(1000, "q"), CHANGED + card(0, b"00000", 1))
-    story.sends(1, branch(drda.END, drda.TMSUCCESS), XA_OK)
-    story.sends(1, branch(drda.PREPARE), XA_OK)
+    story.sends(1, branch(wire.END, wire.TMSUCCESS), XA_OK)
+    story.sends(1, branch(wire.PREPARE), XA_OK)
     story.inserts(520)
-    story.sends(0, ask(12, drda.RDBCMM), NO_ROOM)
-    story.sends(1, branch(drda.COMMIT), XA_OK)
-    story.sends(0, ask(7, drda.RDBRLLBCK), ROLLED_BACK)
+    story.sends(0, ask(12, wire.RDBCMM), NO_ROOM)
+    story.sends(1, branch(wire.COMMIT), XA_OK)
+    story.sends(0, ask(7, wire.RDBRLLBCK), ROLLED_BACK)
     return story.sent, story.answered
 
 
@@ -101,7 +100,7 @@ def limit_changes():
     story.inserts(523)
     story.sends(0, inserted(523, "v" * 995), card(-904, b"57011", 0))
     story.sends(0, inserted(523, "v" * 994), card(0, b"00000", 1))
-    story.sends(0, ask(12, drda.RDBCMM), NO_ROOM)
+    story.sends(0, ask(12, wire.RDBCMM), NO_ROOM)
     return story.sent, story.answered
 
 

@@ -1,8 +1,8 @@
 #!/usr/bin/env python3
 """bench/pipe/measure.py [PROGRAM]: EXCSAT commands through `drdad pipe`, from event records in a file.
 
-PROGRAM is the built program, crates/drdad/out/drdad where none is given (`rt run` in crates/drdad builds
-it). Prints, for each file, the commands and the processor time.
+PROGRAM is the built program, out/drdad where none is given (`make build`). Prints, for each file, the commands and the
+processor time.
 """
 import os
 import pathlib
@@ -11,12 +11,18 @@ import subprocess
 import sys
 import tempfile
 
-COMMAND = bytes.fromhex("000AD001000100041041")
-OPEN = bytes([1, 0, 0, 0, 0, 0])
+TOP = pathlib.Path(__file__).resolve().parents[2]
+sys.dont_write_bytecode = True
+sys.path.insert(0, os.fspath(TOP / "tests"))
+import event_records as events
+from drdad import wire
+
+COMMAND = wire.command(1, wire.ddm(wire.EXCSAT))
+OPEN = events.record(events.OPENS, 0)
 
 
 def record(data):
-    return bytes([2, 0]) + len(data).to_bytes(4, "big") + data
+    return events.record(events.SENDS, 0, data)
 
 
 def processor_time():
@@ -38,8 +44,7 @@ def measure(program, name, text, times, commands):
     print(f"{name}: {commands * times} commands, {took:.2f} s, {commands * times / max(took, 0.001) / 1e6:.1f} million a second")
 
 
-top = pathlib.Path(__file__).resolve().parents[2]
-program = sys.argv[1] if len(sys.argv) > 1 else os.fspath(top / "crates/drdad/out/drdad")
+program = sys.argv[1] if len(sys.argv) > 1 else os.fspath(TOP / "out/drdad")
 whole = record(COMMAND * 6553)
 pieces = b"".join(record(bytes([byte])) for byte in COMMAND)
 measure(program, "whole records", whole, 200, 6553)

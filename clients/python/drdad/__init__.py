@@ -14,6 +14,7 @@ threadsafety = 1
 paramstyle = "qmark"
 
 
-def connect(host, port, database, user, password, timeout=10.0, autocommit=False):
-    """A connection to a database. `timeout` is how long, in seconds, the server may be silent."""
-    return Connection(host, port, database, user, password, timeout, autocommit)
+def connect(host, port, database, user, password, timeout=10.0, autocommit=False, watch=None):
+    """A connection to a database. `timeout` is how long, in seconds, the server may be silent; `watch` is called with each DSS that
+    goes out or comes in (`drdad.aloud` reads it)."""
+    return Connection(host, port, database, user, password, timeout, autocommit, watch)

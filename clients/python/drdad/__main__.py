@@ -1,41 +1,43 @@
 """python3 -m drdad HOST:PORT/RDB --user USER [--password-file FILE]: the shell. A password that is not in a file is asked for, or
 read from the environment variable DRDAD_PASSWORD. Status 0; 1 where a statement of a script failed, 2 where no connection came."""
-import argparse, getpass, os, re, sys
+import argparse, contextlib, os, sys
 
 from . import connect
 from .errors import Error
 from .shell import Shell
+from .words import add_user, address, password_of
+
+MOST_IN_HISTORY = 1000
 
 
 def words_of(arguments):
     parser = argparse.ArgumentParser(prog="python3 -m drdad", description="A shell for drdad, the DRDA server.")
-    parser.add_argument("address", metavar="HOST:PORT/RDB", help="where the server listens, and the name of its database")
-    parser.add_argument("--user", required=True, help="the user's name")
-    parser.add_argument("--password-file", metavar="FILE", help="a file whose first line is the password")
-    parser.add_argument("--timeout", type=float, default=10.0, help="how many seconds the server may be silent")
-    words = parser.parse_args(arguments)
-    words.parts = re.fullmatch(r"(.+):(\d{1,5})/(\S{1,18})", words.address)
-    if not words.parts:
-        parser.error("the address is HOST:PORT/RDB")
-    return words
+    parser.add_argument("address", type=address, metavar="HOST:PORT/RDB", help="where the server listens, and the name of its database")
+    add_user(parser)
+    return parser.parse_args(arguments)
 
 
-def password_of(words):
-    if words.password_file:
-        with open(words.password_file, encoding="utf-8") as file:
-            return file.readline().rstrip("\r\n")
-    return os.environ.get("DRDAD_PASSWORD") or getpass.getpass()
-
-
-def lines_of(shell, is_script):
-    """The lines of standard input, with a prompt and a history where a person types them."""
-    if is_script:
-        yield from sys.stdin
-        return
+@contextlib.contextmanager
+def history():
+    """What a person types can be edited, and is remembered over sessions, where this Python has readline."""
     try:
-        import readline  # noqa: F401, a history and editing for input
+        import readline
     except ImportError:
-        pass
+        yield
+        return
+    path = os.environ.get("DRDAD_HISTORY") or os.path.expanduser("~/.drdad_history")
+    with contextlib.suppress(OSError):
+        readline.read_history_file(path)
+    try:
+        yield
+    finally:
+        with contextlib.suppress(OSError):
+            readline.set_history_length(MOST_IN_HISTORY)
+            readline.write_history_file(path)
+
+
+def typed_lines(shell):
+    """The lines that a person types, each behind a prompt."""
     while True:
         try:
             yield input(shell.prompt()) + "\n"
@@ -47,22 +49,37 @@ def lines_of(shell, is_script):
             return
 
 
-def main(arguments=None):
-    words = words_of(arguments)
-    host, port, database = words.parts.groups()
-    try:
-        connection = connect(host, int(port), database, words.user, password_of(words), words.timeout, autocommit=True)
-    except (Error, OSError) as failure:
-        print(f"drdad: {failure}", file=sys.stderr)
-        return 2
-    is_script = not sys.stdin.isatty()
-    shell = Shell(connection, sys.stdout, sys.stderr, is_script)
-    for line in lines_of(shell, is_script):
+def run(shell, lines):
+    for line in lines:
         if shell.take(line) is False:
             break
     shell.finish()
     return int(shell.has_failed)
 
 
+def main(arguments=None):
+    words = words_of(arguments)
+    # A script is UTF-8, and what is not is told by the statement that it stands in; what can't be shown is spelled out.
+    is_script = not sys.stdin.isatty()
+    sys.stdin.reconfigure(encoding="utf-8" if is_script else None, errors="surrogateescape")
+    sys.stdout.reconfigure(errors="backslashreplace")
+    try:
+        connection = connect(*words.address, words.user, password_of(words), words.timeout, autocommit=True)
+    except (Error, OSError, UnicodeError) as failure:
+        print(f"drdad: {failure}", file=sys.stderr)
+        return 2
+    with connection:
+        shell = Shell(connection, sys.stdout, sys.stderr, is_script)
+        if is_script:
+            return run(shell, sys.stdin)
+        with history():
+            return run(shell, typed_lines(shell))
+
+
 if __name__ == "__main__":
-    sys.exit(main())
+    try:
+        sys.exit(main())
+    except (BrokenPipeError, KeyboardInterrupt):
+        # Nobody reads what is printed, or wants more of it.
+        os.dup2(os.open(os.devnull, os.O_WRONLY), sys.stdout.fileno())
+        sys.exit(1)

@@ -21,13 +21,13 @@ class Connection:
     DataError, OperationalError, IntegrityError = errors.DataError, errors.OperationalError, errors.IntegrityError
     InternalError, ProgrammingError, NotSupportedError = errors.InternalError, errors.ProgrammingError, errors.NotSupportedError
 
-    def __init__(self, host, port, database, user, password, timeout=10.0, autocommit=False):
+    def __init__(self, host, port, database, user, password, timeout=10.0, autocommit=False, watch=None):
         if not 0 < timeout < math.inf:
             raise ProgrammingError("the timeout is a number of seconds above 0")
         names = [_checked_name(name) for name in (database, user, password)]
         self._autocommit, self._has_work, self._branch = bool(autocommit), False, None
         self._queries, self._abandoned = weakref.WeakSet(), []
-        self._link = Link(host, port, timeout)
+        self._link = Link(host, port, timeout, watch)
         try:
             with self._judged():
                 self._open(*names)
@@ -74,14 +74,16 @@ class Connection:
         chain = [*(section.closes() for section in closing), *commands, *([COMMITS] if commits and commands else [])]
         if not chain:
             return []
-        self._has_work = not commits
+        if self._branch is None:
+            self._has_work = not commits
         answers = self._link.exchange(chain)
         for section in closing:
             self._sections.give_back(section)
         try:
             _raise_first(answers, self._judged)
         except Error as failure:
-            failure.place -= len(closing)
+            if failure.place is not None:
+                failure.place -= len(closing)
             if commits:
                 self._end_refused(answers[-1])
             raise

@@ -12,10 +12,11 @@ MOST_OBJECTS = 64
 
 
 class Link:
-    """A conversation with a server. Whatever goes wrong closes it."""
+    """A conversation with a server. Whatever goes wrong closes it. `watch` is called with each DSS that goes out or comes in, those
+    of a chain before it is sent, and those of its replies as they come."""
 
-    def __init__(self, host, port, timeout):
-        self._timeout, self._reader, self._socket = timeout, wire.Reader(), None
+    def __init__(self, host, port, timeout, watch=None):
+        self._timeout, self._watch, self._reader, self._socket = timeout, watch, wire.Reader(), None
         self._selector = selectors.DefaultSelector()
         try:
             self._socket = socket.create_connection((host, port), timeout=timeout)
@@ -42,8 +43,10 @@ class Link:
             raise InterfaceError("the connection is closed")
         last = len(commands)
         sent = b"".join(wire.command(at, *parts, chained=at < last) for at, parts in enumerate(commands, 1))
+        for one in wire.dsss(sent) if self._watch else ():
+            self._watch(one)
         try:
-            return self._talk(memoryview(sent), Replies(last))
+            return self._talk(memoryview(sent), Replies(last, self._watch))
         except wire.WireFault as fault:
             self.close()
             raise InterfaceError(f"what came is not DRDA: {fault}") from fault
@@ -105,9 +108,9 @@ class Link:
 class Replies:
     """The objects that answer the commands of a chain, as they come."""
 
-    def __init__(self, count):
+    def __init__(self, count, watch=None):
         self.answers, self.ended, self.worst = [[] for _ in range(count)], False, 0
-        self._at = 0
+        self._at, self._watch = 0, watch
 
     def take(self, reader):
         """Takes the replies that have come whole, and gives how many they are."""
@@ -115,6 +118,8 @@ class Replies:
         while (one := reader.next()) is not None:
             count += 1
             self._judge(one)
+            if self._watch:
+                self._watch(one)
             self._at = one.correlator
             answer = self.answers[self._at - 1]
             answer += wire.objects(one.contents)

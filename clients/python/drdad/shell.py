@@ -1,27 +1,25 @@
 """A shell: SQL over lines ended by `;`, results as tables, and commands behind a backslash."""
-import csv, sys, time, unicodedata
+import csv, time, unicodedata
 
-from . import wire
-from .errors import DataError, Error, OperationalError, ProgrammingError
+from .errors import DataError, Error, ProgrammingError
 from .type_objects import BINARY, NUMBER, Xid
+from .units import ROWS_AT_ONCE, in_units
 
 HELP = r"""Statements go over lines and end with ;   A line that begins with -- in front of one is passed over.
-\begin XID     begins a global unit; an XID is FORMAT:GLOBALHEX:BRANCHHEX, as in 1:6761:62
-\end           ends the work in it
-\prepare       prepares it (and ends the work in it)
-\commit [XID]  commits the unit under way, or the prepared one of an XID
-\rollback [XID]  rolls it back
-\recover       lists the XIDs of the global units that are prepared and wait for a decision
-\autocommit [on|off]  whether each statement is a unit of its own
-\d [TABLE]     the columns of a table
-\copy TABLE FROM FILE  inserts the rows of a CSV file; its first line may name the columns
-\?             this
-\q             ends"""
+\begin XID              begins a global unit; an XID is FORMAT:GLOBALHEX:BRANCHHEX, as in 1:6761:62
+\end                    ends the work in it
+\prepare                prepares it (and ends the work in it)
+\commit [XID]           commits the unit under way, or the prepared one of an XID
+\rollback [XID]         rolls it back
+\recover                lists the XIDs of the global units that are prepared and wait for a decision
+\autocommit [on|off]    whether each statement is a unit of its own
+\timing [on|off]        whether it is said how long each thing took
+\d [TABLE]              the columns of a table
+\copy TABLE FROM FILE   inserts the rows of a CSV file; its first line may name the columns
+\?                      this
+\q                      ends"""
 
 NO_LIST = "the server can't list its tables; \\d TABLE shows the columns of one"
-ROWS_AT_ONCE = 1000
-# Changes of a unit are at most 1,048,576 bytes; a row in its record takes a little more than its values.
-BYTES_AT_ONCE = 262144
 
 
 class Splitter:
@@ -120,19 +118,10 @@ class Copy:
         marks = ", ".join("?" * len(self._columns))
         self.statement = f"INSERT INTO {table} ({names}) VALUES ({marks})"
 
-    def rows(self):
-        """Lists of rows, as many as go at once, with the numbers of their lines."""
-        rows, lines, size = [], [], 0
-        for fields in self._all():
-            if fields:
-                rows.append(self._row(fields))
-                lines.append(self._reader.line_num)
-                size += sum(map(len, fields)) + 16 * len(fields)
-            if len(rows) == ROWS_AT_ONCE or size > BYTES_AT_ONCE:
-                yield rows, lines
-                rows, lines, size = [], [], 0
-        if rows:
-            yield rows, lines
+    def units(self):
+        """Lists of rows, as many as go at once, each row with the number of its line."""
+        rows = ((self._row(fields), self._reader.line_num) for fields in self._all() if fields)
+        return in_units(rows, lambda item: item[0])
 
     def _all(self):
         if self.first is not None:
@@ -160,12 +149,15 @@ class Copy:
 # ---- the shell
 
 class Shell:
+    """Does what lines ask over a connection. Results go to one stream, what failed and how far a copy is to another."""
+
     def __init__(self, connection, out, errors, is_script):
         self._connection, self._out, self._errors, self._is_script = connection, out, errors, is_script
-        self._splitter, self.has_failed, self._begun = Splitter(), False, None
+        self._splitter, self.has_failed, self._is_timed = Splitter(), False, True
         self._commands = {
             "begin": self._begin, "end": self._end, "prepare": self._prepare, "commit": self._commit, "rollback": self._roll_back,
-            "recover": self._recover, "autocommit": self._set_autocommit, "d": self._describe, "copy": self._copy, "?": self._help,
+            "recover": self._recover, "autocommit": self._set_autocommit, "timing": self._set_timing, "d": self._describe,
+            "copy": self._copy, "?": self._help,
         }
 
     def prompt(self):
@@ -196,7 +188,8 @@ class Shell:
             self._fail(number, failure)
             return self._connection.is_open()
         if said:
-            self._out.write(f"{said} ({(time.monotonic() - began) * 1000:.1f} ms)\n")
+            took = f" ({(time.monotonic() - began) * 1000:.1f} ms)" if self._is_timed else ""
+            self._out.write(f"{said}{took}\n")
         self._out.flush()
         return True
 
@@ -263,10 +256,13 @@ class Shell:
 
     def _set_autocommit(self, text):
         if text:
-            if text.lower() not in ("on", "off"):
-                raise ProgrammingError("\\autocommit is on or off")
-            self._connection.autocommit = text.lower() == "on"
+            self._connection.autocommit = is_on("autocommit", text)
         return f"autocommit {'on' if self._connection.autocommit else 'off'}"
+
+    def _set_timing(self, text):
+        if text:
+            self._is_timed = is_on("timing", text)
+        return f"timing {'on' if self._is_timed else 'off'}"
 
     def _describe(self, name):
         if not name:
@@ -293,9 +289,9 @@ class Shell:
         """Inserts the rows, list by list; in autocommit mode each list is a unit."""
         count, cursor = 0, self._connection.cursor()
         try:
-            for rows, lines in copy.rows():
-                self._insert(cursor, copy.statement, rows, lines)
-                count += len(rows)
+            for unit in copy.units():
+                self._insert(cursor, copy.statement, *zip(*unit))
+                count += len(unit)
                 self._progress(f"\r{count} rows")
         except Error as failure:
             kept = "in" if self._connection.autocommit else "inserted in the unit under way"
@@ -317,6 +313,12 @@ class Shell:
         if self._errors.isatty():
             self._errors.write(text)
             self._errors.flush()
+
+
+def is_on(what, text):
+    if text.lower() not in ("on", "off"):
+        raise ProgrammingError(f"\\{what} is on or off")
+    return text.lower() == "on"
 
 
 def counted(count, what="row"):

@@ -1,10 +1,10 @@
-"""Type objects and constructors of PEP 249, and transaction IDs. Columns are numbers, texts and bytes; there is no other
-type."""
-import re
+"""Type objects and constructors of PEP 249, and transaction IDs. Columns are numbers, texts and bytes; there is no other type, so
+that a date or a time is refused where it is given as a parameter."""
+import datetime, re
 from collections import namedtuple
 
 from . import wire
-from .errors import NotSupportedError, ProgrammingError
+from .errors import ProgrammingError
 
 
 class TypeObject:
@@ -30,13 +30,13 @@ DATETIME = TypeObject("DATETIME")
 ROWID = TypeObject("ROWID")
 
 Binary = bytes
+Date, Time, Timestamp = datetime.date, datetime.time, datetime.datetime
+DateFromTicks, TimestampFromTicks = datetime.date.fromtimestamp, datetime.datetime.fromtimestamp
 
 
-def _no_times(*_):
-    raise NotSupportedError("no column takes a date or a time")
+def TimeFromTicks(ticks):  # noqa: N802, by the letter of PEP 249
+    return TimestampFromTicks(ticks).time()
 
-
-Date = Time = Timestamp = DateFromTicks = TimeFromTicks = TimestampFromTicks = _no_times
 
 TYPE_CODES = {wire.SMALLINT: "SMALLINT", wire.INTEGER: "INTEGER", wire.BIGINT: "BIGINT", wire.VARCHAR: "VARCHAR"}
 

@@ -324,6 +324,15 @@ def text_object(code, text):
     return ddm(code, b"\0" + struct.pack(">I", len(text)) + text + b"\xff")
 
 
+def text_of(data):
+    """The text of an SQLSTT or SQLATTR, be it one of mixed characters or of single-byte ones."""
+    at = 0 if data[:1] == b"\0" else 1
+    size = int.from_bytes(data[at + 1:at + 5], "big")
+    if data[at:at + 1] != b"\0" or len(data) < at + 5 + size:
+        raise WireFault("a text has another form")
+    return name_text(data[at + 5:at + 5 + size])
+
+
 def statement(text):
     return text_object(SQLSTT, text)
 
@@ -542,7 +551,7 @@ def encoded(value):
     type."""
     if value is None:
         return (OF_SMALLINT | 1, 2), b"\xff"
-    if isinstance(value, int):
+    if isinstance(value, int) and not isinstance(value, bool):
         if not LEAST_NUMBER <= value <= GREATEST_NUMBER:
             raise ValueError("the number is out of BIGINT")
         return (OF_BIGINT, 8), NUMBERS[OF_BIGINT].pack(value)

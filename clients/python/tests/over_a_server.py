@@ -1,0 +1,78 @@
+"""What the tests of the client share: a store of its own for each test, served by the built program that the environment variable
+DRDAD names, and servers that are none."""
+import os, pathlib, socket, sys, tempfile, threading, unittest
+
+TOP = pathlib.Path(__file__).resolve().parents[3]
+CLIENT = TOP / "clients" / "python"
+sys.path.insert(0, os.fspath(TOP / "tests"))
+from served import Server, drdad
+
+PROGRAM = os.environ.get("DRDAD")
+CREATE = "CREATE TABLE T (K INTEGER NOT NULL, V VARCHAR(600), PRIMARY KEY (K))"
+INSERT = "INSERT INTO T VALUES (?, ?)"
+SILENT_SECONDS = 0.5
+
+
+@unittest.skipUnless(PROGRAM, "DRDAD names no program")
+class OverAServer(unittest.TestCase):
+    """Each test has a store of its own, which is served, and a connection to it where it asks for one."""
+
+    size = 16 << 20
+
+    def setUp(self):
+        folder = tempfile.TemporaryDirectory()
+        self.addCleanup(folder.cleanup)
+        self.server = self.enterContext(Server(PROGRAM, f"{folder.name}/store", self.size)).start()
+
+    def enterContext(self, context):
+        """As Python 3.11 has it."""
+        entered = context.__enter__()
+        self.addCleanup(context.__exit__, None, None, None)
+        return entered
+
+    def connect(self, **words):
+        return self.enterContext(self.server.connect(**words))
+
+    def with_table(self, **words):
+        """A connection that has created the table T and committed it, and a cursor."""
+        connection = self.connect(**words)
+        cursor = connection.cursor()
+        cursor.execute(CREATE)
+        if not connection.autocommit:
+            connection.commit()
+        return connection, cursor
+
+    def with_rows(self, count=3, **words):
+        """The same with rows of the keys from 0 on, committed."""
+        connection, cursor = self.with_table(**words)
+        cursor.executemany(INSERT, [(number, f"row {number}") for number in range(count)])
+        if not connection.autocommit:
+            connection.commit()
+        return connection, cursor
+
+    def keys(self, cursor):
+        cursor.execute("SELECT K FROM T")
+        return [key for key, in cursor.fetchall()]
+
+
+class OverABadServer(unittest.TestCase):
+    """A server that a test plays: it answers the first connection as the test says."""
+
+    def served(self, behave):
+        """The port of a server that behaves so on its first stream."""
+        listener = socket.create_server(("127.0.0.1", 0))
+        self.addCleanup(listener.close)
+
+        def serve():
+            stream, _ = listener.accept()
+            with stream:
+                behave(stream)
+
+        thread = threading.Thread(target=serve, daemon=True)
+        thread.start()
+        self.addCleanup(thread.join, 10)
+        return listener.getsockname()[1]
+
+    def connect(self, behave, **words):
+        words = {"timeout": SILENT_SECONDS, **words}
+        return drdad.connect("127.0.0.1", self.served(behave), "SHOP", "ana", "pw", **words)
