@@ -98,7 +98,7 @@ module _ {D : Type 0} (modelled : Bool) (life : D → Life) (sound : LeadsAreSou
 
 -- ---- a store that was not opened
 
-refusal_of : (name : List ℕ) (error : OpenError) → IsExcused error → IsRefusal name error
+pub refusal_of : (name : List ℕ) (error : OpenError) → IsExcused error → IsRefusal name error
 refusal_of name NotAStore is = absurd is
 refusal_of name (Damaged at) is = absurd is
 refusal_of name DeviceFailed is = tt

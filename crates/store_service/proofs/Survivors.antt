@@ -13,8 +13,10 @@ use Rattle.recovery_laws.specs.Part.{opened}
 use Rattle.recovery_laws.specs.Opens.{OpensTo}
 use Rattle.drda_node.specs.declared.serving.RunEnd.{RunEnd}
 use Rattle.durable_core.specs.declared.errors.OpenError.{OpenError}
-use Rattle.store_service.specs.Running.{HasRun, IsRefused, IsStore, RunsFrom}
+use Rattle.durable_core.specs.Reads.{IsExcused}
+use Rattle.store_service.specs.Running.{HasRun, IsRefusal, IsRefused, IsStore, RunsFrom}
 use Rattle.store_service.specs.Surviving.{HasSurvived, Survives}
+use Rattle.store_service.proofs.Stores.{refusal_of}
 
 -- the life of a disk in memory behind a fuse
 abbrev pub fused : FuseDisk MemDisk → Life
@@ -59,3 +61,17 @@ module _ (name : List ℕ) (d : Durable) (user password input : List ℕ) (f lef
         opens = subst (λ (i : List ℕ). OpensTo name d i) (sym same) store.opens;
         survives = λ told is. inr is;
       }
+
+-- ---- what is told of it
+
+pub told_so : (name : List ℕ) (d : Durable) (user password input image : List ℕ) (left : LeftState name d user password input image) (r : Result CoreState OpenError) → IfOk r (λ told. told ≡ opened left.state) → IfOk r (Survives name d user password input)
+told_so name d user password input image left (Ok told) is = left.survives told is
+told_so name d user password input image left (Err error) is = tt
+
+pub refused_so : (name : List ℕ) (r : Result CoreState OpenError) → IfErr r IsExcused → IfErr r (IsRefusal name)
+refused_so name (Ok told) is = tt
+refused_so name (Err error) is = refusal_of name error is
+
+pub opened_so : (d : Durable) (r : Result CoreState OpenError) (state : CoreState) → state ≡ opened d → IfOk r (λ told. told ≡ state) → IfOk r (λ told. told ≡ opened d)
+opened_so d (Ok told) state is same = same ∙ is
+opened_so d (Err error) state is same = tt

@@ -1,14 +1,17 @@
 //! What is left of a store whose device fails in a run, after a crash.
 
-ghost use Rattle.std.specs.Prelude.{IfErr, IfOk, List, true, ℕ};
+ghost use Rattle.std.specs.Prelude.{◌≡◌, IfErr, IfOk, List, true, ℕ};
 ghost use Rattle.drda_disk.specs.MemDisk.{life_of};
 ghost use Rattle.recovery.specs.Durable.{Durable};
+ghost use Rattle.recovery_laws.specs.Opens.{OpensTo};
+ghost use Rattle.recovery_laws.specs.Part.{opened};
+ghost use Rattle.durable_core.specs.Reads.{IsExcused};
 ghost use Rattle.store_service.specs.Running.{IsRefusal, IsStore};
 ghost use Rattle.store_service.specs.Surviving.{Survives};
 
 use crate::running::run_store;
 use drda_disk::{FuseDisk, MemDisk};
-use drda_node::open;
+use drda_node::{DurableCore, open};
 use durable_core::OpenError;
 use rdb_core::PlainState;
 use std::alloc::{AllocError, Global};
@@ -35,12 +38,27 @@ pub fn survives(
     let mut written = Vec::new(alloc);
     let fuse = FuseDisk::new(disk, calls, false);
     let (left, _end) = run_store(alloc, fuse, user, password, &mut reader, &mut written);
-    let crashed = left.into_inner().after_crash(pick);
-    match open(alloc, crashed) {
-        Ok(core) => match core.plain() {
-            Ok(plain) => Ok(plain),
-            Err(AllocError) => Err(OpenError::NoMemory),
-        },
+    tell(alloc, left.into_inner().after_crash(pick))
+}
+
+// The state that a disk opens to.
+fn tell(alloc: Global, disk: MemDisk) -> Result<PlainState, OpenError>
+    ensures ok { (name : List ℕ) (d : Durable) → OpensTo name d (life_of disk).seen → IfOk result (λ told. told ≡ opened d) }
+    ensures err { (name : List ℕ) (d : Durable) → OpensTo name d (life_of disk).seen → IfErr result IsExcused }
+{
+    match open(alloc, disk) {
+        Ok(core) => plain_of(&core),
         Err(refused) => Err(refused.error),
+    }
+}
+
+// The state of a core, as plain lists.
+fn plain_of(core: &DurableCore<MemDisk>) -> Result<PlainState, OpenError>
+    ensures ok { IfOk result (λ told. told ≡ core.now.state) }
+    ensures err { IfErr result IsExcused }
+{
+    match core.plain() {
+        Ok(plain) => Ok(plain),
+        Err(AllocError) => Err(OpenError::NoMemory),
     }
 }
