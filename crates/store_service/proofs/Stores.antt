@@ -1,17 +1,17 @@
 -- From an opening and a run over its core to the whole.
-use Rattle.std.proofs.Common.{◌≡◌, ℕ, Bool, false, IsTrue, List, [], ◌++◌, map, Option, Some, IfSome, Result, Ok, Err, refl, sym, ◌∙◌, ap, subst}
-use Rattle.drda_disk.specs.Disk.{LeavesOnly, Life, Now, Only, Stays}
+use Rattle.std.proofs.Common.{◌≡◌, ℕ, Bool, List, ◌++◌, map, Option, Some, IfSome, Result, Ok, Err, refl, sym, ◌∙◌, ap, subst}
+use Rattle.drda_disk.specs.Disk.{LeavesOnly, Life, Now, Stays}
 use Rattle.drda_disk.proofs.Moments.{stays_and, weaker}
 use Rattle.session_commands.specs.Settings.{Settings}
 use Rattle.unit_journal.specs.Record.{Entry}
 use Rattle.unit_records.specs.Records.{UnitRecord, entry_of}
 use Rattle.recovery.specs.Durable.{Durable, replayed_from}
-use Rattle.recovery.specs.Sound.{IsSound, LeadsAreSound}
+use Rattle.recovery.specs.Sound.{LeadsAreSound}
 use Rattle.recovery_laws.specs.Part.{durable_part, opened}
 use Rattle.recovery_laws.specs.Opens.{OpensTo}
 use Rattle.recovery_laws.specs.StepLaws.{OpeningsAreKept}
-use Rattle.recovery_laws.specs.Journaled.{Journaled, Made, OnDisk, OpensAfterAll, OpensAfterSome, Shown, shown_on}
-use Rattle.durable_core.specs.Opening.{Finds, IsOpenedTo}
+use Rattle.recovery_laws.specs.Journaled.{OnDisk, OpensAfterAll, OpensAfterSome}
+use Rattle.durable_core.specs.Opening.{IsOpenedTo}
 use Rattle.durable_core.specs.Reads.{IsExcused}
 use Rattle.durable_core.specs.declared.errors.Refused.{Refused}
 use Rattle.durable_core.specs.declared.errors.OpenError.{OpenError}

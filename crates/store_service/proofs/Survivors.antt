@@ -1,8 +1,8 @@
 -- A run over a disk in memory behind a fuse, a crash, and an opening.
-use Rattle.std.proofs.Common.{◌≡◌, ◌⊎◌, ℕ, Bool, true, IsTrue, List, [], Some, Result, Ok, Err, refl, sym, ◌∙◌, ap, subst, inl, inr}
+use Rattle.std.proofs.Common.{◌≡◌, ℕ, true, List, [], Some, Result, Ok, Err, sym, ◌∙◌, subst, inl, inr}
 use Rattle.std.specs.Prelude.{IfErr, IfOk}
-use Rattle.drda_disk.specs.Disk.{Life, Now, Stays}
-use Rattle.drda_disk.specs.MemDisk.{life_of, read_of}
+use Rattle.drda_disk.specs.Disk.{Life, Now}
+use Rattle.drda_disk.specs.MemDisk.{life_of}
 use Rattle.drda_disk.specs.FuseDisk as fuse
 use Rattle.drda_disk.specs.FuseDisk.{inner_of}
 use Rattle.drda_disk.specs.declared.fuse.FuseDisk.{FuseDisk}
@@ -14,8 +14,8 @@ use Rattle.recovery_laws.specs.Opens.{OpensTo}
 use Rattle.drda_node.specs.declared.serving.RunEnd.{RunEnd}
 use Rattle.durable_core.specs.declared.errors.OpenError.{OpenError}
 use Rattle.durable_core.specs.Reads.{IsExcused}
-use Rattle.store_service.specs.Running.{HasRun, IsRefusal, IsRefused, IsStore, RunsFrom}
-use Rattle.store_service.specs.Surviving.{HasSurvived, Survives}
+use Rattle.store_service.specs.Running.{IsRefusal, IsStore, RunsFrom}
+use Rattle.store_service.specs.Surviving.{Survives}
 use Rattle.store_service.proofs.Stores.{refusal_of}
 
 -- the life of a disk in memory behind a fuse

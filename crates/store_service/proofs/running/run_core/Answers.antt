@@ -1,5 +1,4 @@
-use Rattle.std.proofs.Common.{ap, ◌∙◌, string_bytes}
-use Rattle.session_commands.specs.Settings.{Settings}
+use Rattle.std.proofs.Common.{ap, ◌∙◌}
 use Rattle.drda_node.specs.Register.{core_in, machine}
 use Rattle.store_service.proofs.Stores.{ran}
 use Rattle.store_service.proofs.running.run_core.Goals as goal

@@ -1,4 +1,3 @@
-use Rattle.durable_core.specs.Opening.{Finds}
 use Rattle.store_service.proofs.Stores.{refused_so, runs_over}
 use Rattle.store_service.proofs.running.run_store.Goals as goal
 

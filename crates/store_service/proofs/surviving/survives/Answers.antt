@@ -9,23 +9,23 @@ use Rattle.store_service.proofs.surviving.survives.Goals as goal
 pub returns-clause-ok : goal.returns-clause-ok
 returns-clause-ok c name d store =
     let f = c.new-fuse.result in
-    let left = c.run_store.result.0 in
+    let left = c.run_store-left.result.0 in
     let image = read_of c.after_crash.result in
     let fused_store = behind_fuse name d c.args.disk f c.new-fuse.ensures.inner store in
     let now : Now (fused left) image = subst (λ (m : MemDisk). Now (life_of m) image) c.into_inner.ensures c.after_crash.ensures.image in
-    let ran : RunsFrom fused name d c.args.user.now c.args.password.now f (Some c.args.input.now) (Some []) left c.run_store.result.1 (Some c.run_store.new.writer.items) =
-    subst (λ (w : List ℕ). RunsFrom fused name d c.args.user.now c.args.password.now f (Some c.args.input.now) (Some w) left c.run_store.result.1 (Some c.run_store.new.writer.items)) c.new-written.ensures.items (c.run_store.ensures name d fused_store) in
-    let there = left_state name d c.args.user.now c.args.password.now c.args.input.now f left fused_store c.run_store.new.writer.items image now c.run_store.result.1 ran in
+    let ran : RunsFrom fused name d c.args.user.now c.args.password.now f (Some c.args.input.now) (Some []) left c.run_store-left.result.1 (Some c.run_store-left.new.writer.items) =
+    subst (λ (w : List ℕ). RunsFrom fused name d c.args.user.now c.args.password.now f (Some c.args.input.now) (Some w) left c.run_store-left.result.1 (Some c.run_store-left.new.writer.items)) c.new-written.ensures.items (c.run_store-left.ensures name d fused_store) in
+    let there = left_state name d c.args.user.now c.args.password.now c.args.input.now f left fused_store c.run_store-left.new.writer.items image now c.run_store-left.result.1 ran in
     told_so name d c.args.user.now c.args.password.now c.args.input.now image there c.tell.result (c.tell.ensures.ok name there.state there.opens)
 
 pub returns-clause-err : goal.returns-clause-err
 returns-clause-err c name d store =
     let f = c.new-fuse.result in
-    let left = c.run_store.result.0 in
+    let left = c.run_store-left.result.0 in
     let image = read_of c.after_crash.result in
     let fused_store = behind_fuse name d c.args.disk f c.new-fuse.ensures.inner store in
     let now : Now (fused left) image = subst (λ (m : MemDisk). Now (life_of m) image) c.into_inner.ensures c.after_crash.ensures.image in
-    let ran : RunsFrom fused name d c.args.user.now c.args.password.now f (Some c.args.input.now) (Some []) left c.run_store.result.1 (Some c.run_store.new.writer.items) =
-    subst (λ (w : List ℕ). RunsFrom fused name d c.args.user.now c.args.password.now f (Some c.args.input.now) (Some w) left c.run_store.result.1 (Some c.run_store.new.writer.items)) c.new-written.ensures.items (c.run_store.ensures name d fused_store) in
-    let there = left_state name d c.args.user.now c.args.password.now c.args.input.now f left fused_store c.run_store.new.writer.items image now c.run_store.result.1 ran in
+    let ran : RunsFrom fused name d c.args.user.now c.args.password.now f (Some c.args.input.now) (Some []) left c.run_store-left.result.1 (Some c.run_store-left.new.writer.items) =
+    subst (λ (w : List ℕ). RunsFrom fused name d c.args.user.now c.args.password.now f (Some c.args.input.now) (Some w) left c.run_store-left.result.1 (Some c.run_store-left.new.writer.items)) c.new-written.ensures.items (c.run_store-left.ensures name d fused_store) in
+    let there = left_state name d c.args.user.now c.args.password.now c.args.input.now f left fused_store c.run_store-left.new.writer.items image now c.run_store-left.result.1 ran in
     refused_so name c.tell.result (c.tell.ensures.err name there.state there.opens)

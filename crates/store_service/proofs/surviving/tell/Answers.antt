@@ -1,4 +1,4 @@
-use Rattle.std.proofs.Common.{◌∙◌, refl, ap, subst}
+use Rattle.std.proofs.Common.{refl}
 use Rattle.store_service.proofs.Survivors.{opened_so}
 use Rattle.store_service.proofs.surviving.tell.Goals as goal
 

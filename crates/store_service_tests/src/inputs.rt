@@ -1,0 +1,34 @@
+//! What a conversation sends.
+
+use std::alloc::Global;
+use test_bytes::{ACCRDB, ACCSEC, EXCSAT_ALONE, RDBCMM, SECCHK_ALONE, bytes_of};
+
+/// CREATE TABLE T (K INTEGER NOT NULL, PRIMARY KEY (K)), as EXCSQLIMM.
+pub const CREATE: &str = "000A D051 0006 0004 200A 0044 D003 0006 003E 2414 00 00000034
+    435245415445205441424C45205420284B20494E5445474552204E4F54204E554C4C2C205052494D415259204B455920284B2929 FF";
+
+/// INSERT INTO T VALUES (1).
+pub const ONE: &str = "000A D051 0006 0004 200A 0028 D003 0006 0022 2414 00 00000018
+    494E5345525420494E544F20542056414C55455320283129 FF";
+
+/// INSERT INTO T VALUES (2).
+pub const TWO: &str = "000A D051 0006 0004 200A 0028 D003 0006 0022 2414 00 00000018
+    494E5345525420494E544F20542056414C55455320283229 FF";
+
+/// Three units, each with its commit.
+pub const THREE_UNITS: &[&str] = &[CREATE, RDBCMM, ONE, RDBCMM, TWO, RDBCMM];
+
+/// The event records of a conversation that opens the database, and sends all of this in one piece.
+pub fn piece(alloc: Global, commands: &[&str]) -> Option<Vec<u8>> {
+    let mut bytes = bytes_of(alloc, &[EXCSAT_ALONE, ACCSEC, SECCHK_ALONE, ACCRDB]).ok()?;
+    bytes
+        .extend_from_slice(&bytes_of(alloc, commands).ok()?)
+        .ok()?;
+    let [a, b, c, d] = u32::try_from(bytes.len()).ok()?.to_be_bytes();
+    let mut records = Vec::new(alloc);
+    records
+        .extend_from_slice(&[1, 0, 0, 0, 0, 0, 2, 0, a, b, c, d])
+        .ok()?;
+    records.extend_from_slice(&bytes).ok()?;
+    Some(records)
+}
