@@ -34,9 +34,10 @@ gate:
 edits:
 	@tools/try_edits $(EDITS)
 
-# Whether what the documents name is there.
+# Whether what the documents name is there, and each refusal that is made is a listed one.
 names:
 	@tools/check_map
+	@tools/check_refusals
 
 # Conversations kept as event records, through the built program, and its statuses.
 vectors:
