@@ -38,15 +38,21 @@ def long_ddm(code, data):
     return ddm(code, data) if len(data) <= 32763 else struct.pack(">HHI", 0x8008, code, len(data)) + data
 
 
+def chained(correlator, parts, form):
+    """DSSs of one command or of its replies, of which the last is chained as `form` says."""
+    last = len(parts) - 1
+    return b"".join(dss(kind | (ON | SAME if at < last else form & ON), correlator, data) for at, (kind, data) in enumerate(parts))
+
+
 def command(correlator, code, parameters=b"", *objects, form=0):
     """A command, with these data objects. `form` has ON where another command follows in its chain, and GO_ON."""
     parts = [(REQUEST | form & GO_ON, ddm(code, parameters)), *((OBJECT, one) for one in objects)]
-    return b"".join(dss(kind | (ON | SAME if at < len(parts) else form & ON), correlator, data) for at, (kind, data) in enumerate(parts, 1))
+    return chained(correlator, parts, form)
 
 
 def answer(correlator, *replies, form=0):
     """The replies to a command: kind and object of each."""
-    return b"".join(dss(kind | (ON | SAME if at < len(replies) else form & ON), correlator, data) for at, (kind, data) in enumerate(replies, 1))
+    return chained(correlator, replies, form)
 
 
 def text(words):
@@ -75,7 +81,8 @@ def named(code, severity, *parameters):
 
 def card(code=0, state=b"00000", rows=0):
     numbers = struct.pack(">6i", 0, 0, rows, 0, 0, 0)
-    return OBJECT, ddm(drda.SQLCARD, b"\0" + struct.pack(">i", code) + state + b"RDA01000\0" + numbers + b" " * 11 + bytes(6) + b"\xff")
+    head = b"\0" + struct.pack(">i", code) + state + b"RDA01000\0"
+    return OBJECT, ddm(drda.SQLCARD, head + numbers + b" " * 11 + bytes(6) + b"\xff")
 
 
 NOTHING = OBJECT, ddm(drda.SQLCARD, b"\xff")
@@ -89,7 +96,8 @@ NO_ROOM = message(0x1233, 8)
 DEPENDS = message(0x1218, 8)
 OUT_OF_TURN = message(0x1245, 8)
 CLASHES, KEY_EXISTS, NO_TABLE = card(-913, b"57033"), card(-803, b"23505"), card(-204, b"42704")
-OUT_OF_RANGE, NOT_PREPARED, WRONG_VALUES, TOO_MUCH = card(-413, b"22003"), card(-518, b"07003"), card(-313, b"07001"), card(-904, b"57011")
+OUT_OF_RANGE, NOT_PREPARED, WRONG_VALUES = card(-413, b"22003"), card(-518, b"07003"), card(-313, b"07001")
+TOO_LONG, TOO_MUCH = card(-433, b"22001"), card(-904, b"57011")
 
 
 def not_supported(code):
@@ -117,7 +125,8 @@ def rows(*found):
 def described(*parts):
     """SQLDARD of columns: length, type, CCSID and name of each."""
     told = b"".join(
-        bytes(4) + struct.pack(">QHHBHH", size, kind, ccsid, 0, 0, len(name)) + name + bytes(10) + b"\xff\xff" for size, kind, ccsid, name in parts
+        bytes(4) + struct.pack(">QHHBHH", size, kind, ccsid, 0, 0, len(name)) + name + bytes(10) + b"\xff\xff"
+        for size, kind, ccsid, name in parts
     )
     return OBJECT, ddm(0x2411, b"\xff\xff" + struct.pack(">H", len(parts)) + told)
 
@@ -154,8 +163,9 @@ def parameters(*values):
     triplets = b""
     for at in range(0, len(types), 84):
         part = types[at:at + 84]
-        triplets += bytes([3 + 3 * len(part), 0x7F if at else 0x76, 0 if at else 0xD0]) + b"".join(struct.pack(">BH", *one) for one in part)
-    return ddm(SQLDTA, ddm(0x0010, triplets + bytes.fromhex("0671E4D00001")) + ddm(0x147A, b"\0" + struct.pack(f">{len(values)}i", *values)))
+        triplets += bytes([3 + 3 * len(part), *((0x7F, 0) if at else (0x76, 0xD0))]) + b"".join(struct.pack(">BH", *one) for one in part)
+    data = b"\0" + struct.pack(f">{len(values)}i", *values)
+    return ddm(SQLDTA, ddm(0x0010, triplets + bytes.fromhex("0671E4D00001")) + ddm(0x147A, data))
 
 
 # Conversations as they go on.
@@ -233,6 +243,24 @@ class Talk:
     def changes(self, conversation, words, count, is_first=False):
         self.runs(conversation, words, *([UPDATED] if is_first else []), card(rows=count))
 
+    def says_all(self, conversation, pairs):
+        """Commands with their answers, as many in one record as it holds."""
+        sent = answered = b""
+        for command, told in pairs:
+            if len(sent) + len(command) > 65536:
+                self.says(conversation, sent, answered)
+                sent = answered = b""
+            sent, answered = sent + command, answered + told
+        self.says(conversation, sent, answered)
+
+    def says_together(self, conversation, statements, is_first=False, behind=(b"", b"")):
+        """Statements with their numbers of rows, and behind each of them the same."""
+        pairs = []
+        for words, count in statements:
+            updates = [UPDATED] if is_first and (behind[0] or not pairs) else []
+            pairs.append((command(6, EXCSQLIMM, b"", sqlstt(words)) + behind[0], answer(6, *updates, card(rows=count)) + behind[1]))
+        self.says_all(conversation, pairs)
+
     def commits(self, conversation):
         self.asks(conversation, drda.RDBCMM, b"", *COMMITTED)
 
@@ -253,7 +281,8 @@ class Talk:
     def finds(self, conversation, instance, *found, place=1, size=65536, is_held=False, kinds=T, objects=()):
         """A query whose rows fit in one block."""
         told = [rows(*found)] if found else []
-        self.queries(conversation, instance, kinds, *told, END_OF_QUERY, NO_ROW_MORE, place=place, size=size, is_held=is_held, objects=objects)
+        told = [kinds, *told, END_OF_QUERY, NO_ROW_MORE]
+        self.queries(conversation, instance, *told, place=place, size=size, is_held=is_held, objects=objects)
 
     def continues(self, conversation, *replies, place=1, size=None, more=b""):
         sized = number(QRYBLKSZ, size) if size else b""
@@ -327,9 +356,10 @@ def checks_of_users(talk):
 # What each manager is asked for, and what is agreed on.
 LEVELS = (
     ((drda.AGENT, 7), 7), ((drda.AGENT, 8), 7), ((drda.AGENT, 6), 6), ((drda.SQLAM, 7), 7), ((drda.SQLAM, 8), 7),
-    ((drda.RDB, 7), 7), ((drda.RDB, 8), 7), ((drda.SECMGR, 7), 7), ((drda.SECMGR, 8), 7), ((0x1474, 5), 5), ((0x1474, 6), 5), ((0x1474, 4), 4),
-    ((drda.XAMGR, 7), 7), ((drda.XAMGR, 8), 7), ((drda.XAMGR, 65535), 7), ((drda.XAMGR, 1), 1), ((drda.UNICODEMGR, 1208), 1208),
-    ((drda.UNICODEMGR, 1209), 0), ((drda.UNICODEMGR, 1207), 0), ((0x14C0, 5), 0), ((0x14C1, 5), 0), ((0x1444, 7), 0), ((drda.SQLAM, 0), 0),
+    ((drda.RDB, 7), 7), ((drda.RDB, 8), 7), ((drda.SECMGR, 7), 7), ((drda.SECMGR, 8), 7), ((0x1474, 5), 5), ((0x1474, 6), 5),
+    ((0x1474, 4), 4), ((drda.XAMGR, 7), 7), ((drda.XAMGR, 8), 7), ((drda.XAMGR, 65535), 7), ((drda.XAMGR, 1), 1),
+    ((drda.UNICODEMGR, 1208), 1208), ((drda.UNICODEMGR, 1209), 0), ((drda.UNICODEMGR, 1207), 0),
+    ((0x14C0, 5), 0), ((0x14C1, 5), 0), ((0x1444, 7), 0), ((drda.SQLAM, 0), 0),
 )
 
 
@@ -360,7 +390,8 @@ def attributes_twice(talk):
     talk.says(0, command(4, ACCRDB, ddm(drda.RDBNAM, SHOP) + TYPES), answer(4, named(0x2207, 8)))
     talk.says(0, command(1, EXCSAT, levels((drda.XAMGR, 1))), attributes(1, (drda.XAMGR, 1)))
     talk.calls(0, drda.START, b"D", -9)
-    talk.says(0, command(4, ACCRDB, ddm(drda.RDBNAM, SHOP_500) + ddm(drda.TYPDEFNAM, "QTDSQLASC".encode("cp500"))), answer(4, message(0x2207, 8, ddm(drda.RDBNAM, SHOP_500))))
+    opening = ddm(drda.RDBNAM, SHOP_500) + ddm(drda.TYPDEFNAM, "QTDSQLASC".encode("cp500"))
+    talk.says(0, command(4, ACCRDB, opening), answer(4, message(0x2207, 8, ddm(drda.RDBNAM, SHOP_500))))
 
 
 # TYPDEFOVR, and whether it is supported.
@@ -411,7 +442,8 @@ def chains_of_queries(talk):
     # The commit has closed the cursor.
     talk.queries(0, 2, *one)
     talk.says(0, command(6, OPNQRY, wide, form=ON) + commit, answer(6, named(0x220F, 8, section())))
-    talk.says(0, command(6, OPNQRY, wide, form=ON | GO_ON) + commit, answer(6, named(0x220F, 8, section()), form=ON) + answer(7, *COMMITTED))
+    is_open = named(0x220F, 8, section())
+    talk.says(0, command(6, OPNQRY, wide, form=ON | GO_ON) + commit, answer(6, is_open, form=ON) + answer(7, *COMMITTED))
     talk.continues(0, not_open(section()))
     duplicate = command(6, EXCSQLIMM, b"", sqlstt("INSERT INTO T VALUES (1, 'a')"), form=ON)
     talk.says(0, duplicate + commit, answer(6, KEY_EXISTS, form=ON) + answer(7, *COMMITTED))
@@ -469,8 +501,9 @@ def sizes_of_blocks(talk):
 
 # QRYBLKSZ and PKGNAMCSN, and whether they are supported.
 BLOCK_SIZES = (
-    (number(QRYBLKSZ, 511), False), (number(QRYBLKSZ, 512), True), (number(QRYBLKSZ, 10_485_760), True), (number(QRYBLKSZ, 10_485_761), False),
-    (number(QRYBLKSZ, 0), False), (number(QRYBLKSZ, 4_294_967_295), False), (number(QRYBLKSZ, 1024, 2), False), (number(QRYBLKSZ, 1024, 8), False),
+    (number(QRYBLKSZ, 511), False), (number(QRYBLKSZ, 512), True), (number(QRYBLKSZ, 10_485_760), True),
+    (number(QRYBLKSZ, 10_485_761), False), (number(QRYBLKSZ, 0), False), (number(QRYBLKSZ, 4_294_967_295), False),
+    (number(QRYBLKSZ, 1024, 2), False), (number(QRYBLKSZ, 1024, 8), False),
 )
 NAME_SIZES = (0, False), (63, False), (64, True), (65, True), (790, True), (791, True), (792, False)
 
@@ -493,7 +526,8 @@ def bounds_of_parameters(talk):
         replies = [NO_ROW_MORE] if is_supported else [not_supported(drda.PKGNAMCSN)]
         talk.asks(0, EXCSQLSTT, name, *([UPDATED] if length == 64 else []), *replies)
     for value, is_supported in ((0xEF, False), (0xF0, True), (0xF2, False)):
-        talk.asks(0, PRPSQLSTT, section() + number(RTNSQLDA, value, 1), NOTHING if is_supported else not_supported(RTNSQLDA), objects=[sqlstt("DELETE FROM T")])
+        reply = NOTHING if is_supported else not_supported(RTNSQLDA)
+        talk.asks(0, PRPSQLSTT, section() + number(RTNSQLDA, value, 1), reply, objects=[sqlstt("DELETE FROM T")])
     talk.asks(0, DSCSQLSTT, section() + number(TYPSQLDA, 6, 1), not_supported(TYPSQLDA))
     talk.asks(0, CLSQRY, section() + number(QRYINSID, 1, 4), not_supported(QRYINSID))
     talk.asks(0, SYNCCTL, number(drda.SYNCTYPE, 5, 1), not_supported(drda.SYNCTYPE))
@@ -502,7 +536,8 @@ def bounds_of_parameters(talk):
 
 # Statements.
 
-ALL_TYPES = "CREATE TABLE A (S SMALLINT NOT NULL, I INT, B BIGINT NOT NULL, V VARCHAR(7), X VARBINARY(2000) NOT NULL, N BIGINT, PRIMARY KEY (S))"
+ALL_TYPES = """CREATE TABLE A (S SMALLINT NOT NULL, I INT, B BIGINT NOT NULL, V VARCHAR(7), X VARBINARY(2000) NOT NULL,
+    N BIGINT, PRIMARY KEY (S))"""
 OF_ALL_TYPES = (
     (2, 500, 0, b"S"), (4, 497, 0, b"I"), (8, 492, 0, b"B"), (7, 449, 1208, b"V"), (2000, 448, 0, b"X"), (8, 493, 0, b"N"),
 )
@@ -518,8 +553,9 @@ def descriptions(talk):
     told = described(*OF_ALL_TYPES)
     talk.asks(0, PRPSQLSTT, section() + number(RTNSQLDA, 0xF1, 1), told, objects=[query])
     for value in range(6):
-        talk.asks(0, PRPSQLSTT, section() + number(RTNSQLDA, 0xF1, 1) + number(TYPSQLDA, value, 1), given if value % 2 else told, objects=[query])
-        talk.asks(0, DSCSQLSTT, section() + number(TYPSQLDA, value, 1), given if value % 2 else told)
+        side = given if value % 2 else told
+        talk.asks(0, PRPSQLSTT, section() + number(RTNSQLDA, 0xF1, 1) + number(TYPSQLDA, value, 1), side, objects=[query])
+        talk.asks(0, DSCSQLSTT, section() + number(TYPSQLDA, value, 1), side)
         talk.asks(0, PRPSQLSTT, section() + number(RTNSQLDA, 0xF0, 1) + number(TYPSQLDA, value, 1), NOTHING, objects=[query])
     talk.asks(0, DSCSQLSTT, section(), told)
     talk.asks(0, DSCSQLSTT, section(2), NOT_PREPARED)
@@ -588,7 +624,10 @@ def held_cursors(talk):
         talk.changes(0, f"INSERT INTO T VALUES ({key}, '{'v' * 500}')", 1, key == 0)
     found = [rows(row(key, b"v" * 500)) for key in range(5)]
     talk.commits(0)
-    texts = ("WITH HOLD", True), ("HOLD", False), ("FOR HOLD", False), ("", False), ("  for read only with   hold ", True), ("WITH  HOLDS", False), ("HOLD WITH", False)
+    texts = (
+        ("WITH HOLD", True), ("HOLD", False), ("FOR HOLD", False), ("", False), ("  for read only with   hold ", True),
+        ("WITH  HOLDS", False), ("HOLD WITH", False),
+    )
     for at, (attributes, _) in enumerate(texts, 1):
         talk.prepares(0, "SELECT * FROM T", at, attributes)
     instance = 0
@@ -641,3 +680,152 @@ def lost_and_recovered(talk):
     talk.finds(1, 1, row(1, b"a"), row(2, b"d"))
     talk.commits(1)
     talk.calls(1, drda.COMMIT, b"A", -4)
+
+
+# With much of everything.
+
+@conversation("thousand-rows")
+def thousand_rows(talk):
+    """One unit changes, reads, deletes, prepares and commits a thousand rows; then as many values as a statement may have."""
+    talk.opens(0)
+    talk.creates(0)
+    inserts = [(f"INSERT INTO T VALUES ({key}, '{'v' * 50}')", 1) for key in range(1000)]
+    talk.says_together(0, inserts, is_first=True)
+    talk.commits(0)
+    talk.works_in(0, b"A", (f"UPDATE T SET V = '{'w' * 50}'", 1000), ("DELETE FROM T WHERE K >= 500", 500))
+    talk.calls(0, drda.PREPARE, b"A", 0)
+    talk.runs(0, "DELETE FROM T WHERE K = 999", CLASHES)
+    talk.calls(0, drda.COMMIT, b"A", 0)
+    talk.prepares(0, "SELECT * FROM T")
+    found = [row(key, b"w" * 50) for key in range(500)]
+    talk.finds(0, 1, *found, size=1_048_576)
+    # 128 values, and one too many.
+    words = "DELETE FROM T WHERE " + " OR ".join(["K = ?"] * 128)
+    talk.prepares(0, words, 2)
+    talk.asks(0, EXCSQLSTT, section(2), UPDATED, card(rows=128), objects=[parameters(*range(0, 256, 2))])
+    talk.asks(0, EXCSQLSTT, section(2), WRONG_VALUES, objects=[parameters(*range(127))])
+    talk.asks(0, PRPSQLSTT, section(2), TOO_MUCH, objects=[sqlstt(words + " OR K = ?")])
+    talk.finds(0, 2, *[one for key, one in enumerate(found) if key % 2 or key >= 256], size=1_048_576)
+
+
+@conversation("long-values")
+def long_values(talk):
+    talk.opens(0)
+    talk.creates(0, "CREATE TABLE X (K VARBINARY(2000) NOT NULL, V VARCHAR(1990), PRIMARY KEY (K))")
+    key = bytes(at % 251 for at in range(2000))
+    talk.changes(0, f"INSERT INTO X VALUES (X'{key.hex()}', '{'v' * 1990}')", 1, True)
+    talk.runs(0, f"INSERT INTO X VALUES (X'{key.hex()}01', 'v')", TOO_LONG)
+    talk.commits(0)
+    talk.runs(0, f"INSERT INTO X VALUES (x'{key.hex().upper()}', 'w')", KEY_EXISTS)
+    talk.prepares(0, f"SELECT K, V FROM X WHERE K = X'{key.hex()}'")
+    told = b"\x07\xd0" + key + b"\0\x07\xc6" + b"v" * 1990
+    talk.finds(0, 1, told, kinds=columns((0x28, 2000), (0x3F, 1990)), size=512)
+
+
+@conversation("thousand-claims")
+def thousand_claims(talk):
+    """Two units of a thousand claims each, side by side."""
+    for place in (0, 1):
+        talk.opens(place)
+    talk.creates(0)
+    for place in (0, 1):
+        talk.says_together(place, [(f"INSERT INTO T VALUES ({key}, NULL)", 1) for key in range(place, 2000, 2)], is_first=True)
+    for place in (0, 1):
+        others = [command(6, EXCSQLIMM, b"", sqlstt(f"DELETE FROM T WHERE K = {key}")) for key in range(1 - place, 2000, 50)]
+        talk.says_all(place, [(other, answer(6, CLASHES)) for other in others])
+    talk.commits(1)
+    talk.runs(0, "DELETE FROM T WHERE K = 1999", card(rows=1))
+    talk.rolls_back(0)
+    talk.prepares(0, "SELECT K FROM T WHERE V IS NULL")
+    found = [struct.pack(">i", key) for key in range(1, 2000, 2)]
+    talk.finds(0, 1, *found, kinds=columns(INTEGER))
+
+
+@conversation("nine-of-each")
+def nine_of_each(talk):
+    """Nine tables, nine conversations with a unit each, nine sections of each with their cursors."""
+    talk.opens(0)
+    for number in range(9):
+        talk.changes(0, f"CREATE TABLE T{number} (K INTEGER NOT NULL, V VARCHAR(600), PRIMARY KEY (K))", 0, number == 0)
+    talk.commits(0)
+    for place in range(9):
+        if place:
+            talk.opens(place)
+        for number in range(9):
+            talk.changes(place, f"INSERT INTO T{number} VALUES ({place}, 'a')", 1, number == 0)
+            talk.prepares(place, f"SELECT * FROM T{number} WHERE K = {place}", number + 1)
+    for place in range(9):
+        for number in range(9):
+            talk.finds(place, number + 1, row(place, b"a"), place=number + 1)
+    for place in range(9):
+        if place % 2:
+            talk.rolls_back(place)
+        else:
+            talk.commits(place)
+    talk.prepares(8, "SELECT K FROM T8", 1)
+    talk.finds(8, 10, *[struct.pack(">i", place) for place in range(0, 9, 2)], kinds=columns(INTEGER))
+
+
+# A large store, which is opened again.
+
+BRANCHES = [struct.pack(">H", number) for number in range(256)]
+K_200, V_600 = (0x3E, 200), (0x3F, 600)
+
+
+def long_key(number):
+    return f"{number:05}" + "k" * 195
+
+
+def fills(talk):
+    """Over 1,000 records, one of them of more than 65,536 bytes, and 256 branches in doubt with ten claims each; keys of 200 bytes."""
+    talk.opens(0)
+    talk.creates(0, "CREATE TABLE L (K VARCHAR(200) NOT NULL, V VARCHAR(600), PRIMARY KEY (K))")
+    talk.says_together(0, [(f"INSERT INTO L VALUES ('{long_key(key)}', '{'v' * 600}')", 1) for key in range(150)], is_first=True)
+    talk.commits(0)
+    commit, committed = command(7, drda.RDBCMM), answer(7, *COMMITTED)
+    for first in range(0, 800, 100):
+        pairs = [(f"UPDATE L SET V = '{at}' WHERE K = '{long_key(at % 150)}'", 1) for at in range(first, first + 100)]
+        talk.says_together(0, pairs, is_first=True, behind=(commit, committed))
+    for number, name in enumerate(BRANCHES):
+        talk.calls(0, drda.START, name, 0)
+        keys = range(10_000 + 10 * number, 10_010 + 10 * number)
+        talk.says_together(0, [(f"INSERT INTO L VALUES ('{long_key(key)}', NULL)", 1) for key in keys], is_first=True)
+        talk.calls(0, drda.END, name, 0, drda.TMSUCCESS)
+        talk.calls(0, drda.PREPARE, name, 0)
+    talk.works_in(0, b"last", (f"INSERT INTO L VALUES ('{long_key(20_000)}', NULL)", 1))
+    talk.calls(0, drda.PREPARE, b"last", -3)
+
+
+def decides(talk):
+    """All of the branches are there with their claims. Every other one is committed, the rest are rolled back."""
+    talk.opens(1)
+    talk.asks(1, SYNCCTL, sync(RECOVER), in_doubt(*BRANCHES))
+    claimed = [command(6, EXCSQLIMM, b"", sqlstt(f"INSERT INTO L VALUES ('{long_key(key)}', 'a')")) for key in range(10_000, 12_560, 37)]
+    talk.says_all(1, [(one, answer(6, CLASHES)) for one in claimed])
+    talk.calls(1, drda.COMMIT, b"last", -4)
+    for number, name in enumerate(BRANCHES):
+        talk.calls(1, ROLL_BACK if number % 2 else drda.COMMIT, name, 0)
+    talk.asks(1, SYNCCTL, sync(RECOVER), in_doubt())
+
+
+def reads(talk):
+    talk.opens(0)
+    talk.asks(0, SYNCCTL, sync(RECOVER), in_doubt())
+    talk.prepares(0, "SELECT K, V FROM L")
+    last = [max(number for number in range(800) if number % 150 == key) for key in range(150)]
+    changed = [(key, str(number).encode()) for key, number in enumerate(last)]
+    added = [(10_000 + 10 * number + at, None) for number in range(0, 256, 2) for at in range(10)]
+    found = [b"\0\xc8" + long_key(key).encode() + row(0, value)[4:] for key, value in changed + added]
+    talk.finds(0, 1, *found, kinds=columns(K_200, V_600), size=10_485_760)
+
+
+def large_store():
+    runs = []
+    for said, crash in ((fills, "tears"), (decides, "loses"), (reads, "keeps"), (reads, "")):
+        talk = Talk()
+        said(talk)
+        runs.append((talk.sent, talk.answered, crash))
+    CONVERSATIONS.append(("large-store", "large", runs))
+
+
+large_store()

@@ -10,7 +10,8 @@ use test_nodes::node_over;
 /// The least store.
 const TWO_MIB: usize = 2_097_152;
 
-const LARGE: usize = 134_217_728;
+/// A little more than 64 MiB.
+const LARGE: usize = 67_117_056;
 
 /// A store, what is still to come in over it, and all that was written so far.
 #[derive(Drop)]
