@@ -4,78 +4,103 @@ use std::io::{self, ErrorKind, Read, Write};
 use std::net::{Ipv4Addr, Net, OpenListener, OpenStream, SocketAddr, SocketAddrV4};
 use std::os::fd::{AsRawFd, RawFd};
 
-/// A network whose ports are taken, or one of the port 4711 alone, whose callers have nothing to say and
-/// of which each or none is let in.
+/// Who calls. `Silent` has nothing to say, `Broken` can't be read, `Deaf` says bytes and can't be written
+/// to, `Alone` has no second handle, and `Talking` says bytes and hears all.
 #[derive(Clone, Copy, Debug, Drop, PartialEq, Eq)]
-pub enum Network {
+pub enum Caller {
+    Silent,
+    Broken,
+    Deaf,
+    Alone,
+    Talking,
+}
+
+/// A network whose ports are taken, or one whose listener is one of this machine alone, asked for the port 0
+/// or 4711 and found at 4711, of which each caller says the same, or none is let in.
+#[derive(Drop)]
+pub enum Network<'a> {
     Taken,
-    LetsIn,
+    LetsIn(Caller, &'a [u8]),
     Shut,
 }
 
 #[derive(Drop)]
-pub struct Door {
-    is_shut: bool,
+pub struct Door<'a> {
+    caller: Option<(Caller, &'a [u8])>,
 }
 
 #[derive(Drop)]
-pub struct Silent;
+pub struct Call<'a> {
+    caller: Caller,
+    said: &'a [u8],
+}
 
 fn refused<T>() -> io::Result<T> {
     Err(io::Error::from(ErrorKind::Other))
 }
 
-fn address() -> SocketAddr {
-    SocketAddr::V4(SocketAddrV4::new(Ipv4Addr::new(127, 0, 0, 1), 4711))
+fn address(port: u16) -> SocketAddr {
+    SocketAddr::V4(SocketAddrV4::new(Ipv4Addr::new(127, 0, 0, 1), port))
 }
 
-impl Net for Network {
-    type Stream = Silent;
+impl<'a> Net for Network<'a> {
+    type Stream = Call<'a>;
 
-    type Listener = Door;
+    type Listener = Door<'a>;
 
-    fn bind(&self, _addr: SocketAddr) -> io::Result<Door> {
+    fn bind(&self, addr: SocketAddr) -> io::Result<Door<'a>> {
+        if addr != address(0) && addr != address(4711) {
+            return refused();
+        }
         match self {
             Network::Taken => refused(),
-            Network::LetsIn => Ok(Door { is_shut: false }),
-            Network::Shut => Ok(Door { is_shut: true }),
+            Network::LetsIn(caller, said) => Ok(Door {
+                caller: Some((*caller, *said)),
+            }),
+            Network::Shut => Ok(Door { caller: None }),
         }
     }
 
-    fn connect(&self, _addr: SocketAddr) -> io::Result<Silent> {
+    fn connect(&self, _addr: SocketAddr) -> io::Result<Call<'a>> {
         refused()
     }
 }
 
-impl OpenListener for Door {
-    type Stream = Silent;
+impl<'a> OpenListener for Door<'a> {
+    type Stream = Call<'a>;
 
-    fn accept(&self) -> io::Result<(Silent, SocketAddr)> {
-        if self.is_shut {
-            return refused();
+    fn accept(&self) -> io::Result<(Call<'a>, SocketAddr)> {
+        match self.caller {
+            Some((caller, said)) => Ok((Call { caller, said }, address(4711))),
+            None => refused(),
         }
-        Ok((Silent, address()))
     }
 
     fn local_addr(&self) -> io::Result<SocketAddr> {
-        Ok(address())
+        Ok(address(4711))
     }
 }
 
-impl AsRawFd for Door {
+impl AsRawFd for Door<'_> {
     fn as_raw_fd(&self) -> RawFd {
         0
     }
 }
 
-impl Read for Silent {
-    fn read(&mut self, _buffer: &mut [u8]) -> io::Result<usize> {
-        Ok(0)
+impl Read for Call<'_> {
+    fn read(&mut self, buffer: &mut [u8]) -> io::Result<usize> {
+        if self.caller == Caller::Broken {
+            return refused();
+        }
+        self.said.read(buffer)
     }
 }
 
-impl Write for Silent {
+impl Write for Call<'_> {
     fn write(&mut self, bytes: &[u8]) -> io::Result<usize> {
+        if self.caller == Caller::Deaf {
+            return refused();
+        }
         Ok(bytes.len())
     }
 
@@ -84,13 +109,19 @@ impl Write for Silent {
     }
 }
 
-impl OpenStream for Silent {
-    fn try_clone(&self) -> io::Result<Silent> {
-        Ok(Silent)
+impl<'a> OpenStream for Call<'a> {
+    fn try_clone(&self) -> io::Result<Call<'a>> {
+        if self.caller == Caller::Alone {
+            return refused();
+        }
+        Ok(Call {
+            caller: self.caller,
+            said: &[],
+        })
     }
 }
 
-impl AsRawFd for Silent {
+impl AsRawFd for Call<'_> {
     fn as_raw_fd(&self) -> RawFd {
         0
     }
