@@ -38,6 +38,7 @@ edits:
 names:
 	@tools/check_map
 	@tools/check_refusals
+	@tests/planted_refusals
 	@tests/gate_conversations --check
 
 # Conversations kept as event records, through the built program, and its statuses.
