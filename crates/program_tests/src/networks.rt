@@ -15,18 +15,26 @@ pub enum Caller {
     Talking,
 }
 
-/// A network whose ports are taken, or one whose listener is one of this machine alone, asked for the port 0
-/// or 4711 and found at 4711, of which each caller says the same, or none is let in.
-#[derive(Drop)]
-pub enum Network<'a> {
+/// What becomes of who calls: the ports are taken, each is such a caller, or none is let in.
+#[derive(Clone, Copy, Drop)]
+pub enum Way {
     Taken,
-    LetsIn(Caller, &'a [u8]),
+    LetsIn(Caller),
     Shut,
+}
+
+/// A network with one listener, of this machine alone, asked for the port 0 or 4711 and found at 4711. Each
+/// caller says the same.
+#[derive(Drop)]
+pub struct Network<'a> {
+    pub way: Way,
+    pub said: &'a [u8],
 }
 
 #[derive(Drop)]
 pub struct Door<'a> {
-    caller: Option<(Caller, &'a [u8])>,
+    caller: Option<Caller>,
+    said: &'a [u8],
 }
 
 #[derive(Drop)]
@@ -52,17 +60,28 @@ impl<'a> Net for Network<'a> {
         if addr != address(0) && addr != address(4711) {
             return refused();
         }
-        match self {
-            Network::Taken => refused(),
-            Network::LetsIn(caller, said) => Ok(Door {
-                caller: Some((*caller, *said)),
-            }),
-            Network::Shut => Ok(Door { caller: None }),
-        }
+        let caller = match self.way {
+            Way::Taken => return refused(),
+            Way::LetsIn(caller) => Some(caller),
+            Way::Shut => None,
+        };
+        Ok(Door {
+            caller,
+            said: self.said,
+        })
     }
 
     fn connect(&self, _addr: SocketAddr) -> io::Result<Call<'a>> {
         refused()
+    }
+}
+
+impl<'a> Door<'a> {
+    fn call_of(&self, caller: Caller) -> Call<'a> {
+        Call {
+            caller,
+            said: self.said,
+        }
     }
 }
 
@@ -71,7 +90,7 @@ impl<'a> OpenListener for Door<'a> {
 
     fn accept(&self) -> io::Result<(Call<'a>, SocketAddr)> {
         match self.caller {
-            Some((caller, said)) => Ok((Call { caller, said }, address(4711))),
+            Some(caller) => Ok((self.call_of(caller), address(4711))),
             None => refused(),
         }
     }

@@ -9,7 +9,7 @@ use test_nodes::{fresh_store, node_of};
 const TWO_MIB: usize = 2_097_152;
 
 /// CREATE TABLE T (K INTEGER NOT NULL, PRIMARY KEY (K)).
-pub const CREATE: &str = "000A D051 0006 0004 200A 0044 D003 0006 003E 2414 00 00000034
+const CREATE: &str = "000A D051 0006 0004 200A 0044 D003 0006 003E 2414 00 00000034
     435245415445205441424C45205420284B20494E5445474552204E4F54204E554C4C2C205052494D415259204B455920284B2929 FF";
 
 /// Files by their names: `store` is a fresh store SHOP, `doubt` one with a unit in doubt, `zeros` none at
@@ -20,17 +20,17 @@ pub struct Shelf {
     alloc: Global,
     /// The size of the file that was made, 0 before.
     pub made: usize,
-    /// Behind how many calls the device of a file fails.
-    pub calls: u64,
+    // Behind how many calls the device of a file fails.
+    calls: u64,
 }
 
 impl Shelf {
-    /// No device fails.
-    pub fn new(alloc: Global) -> Shelf {
+    /// Each device fails behind so many calls.
+    pub fn new(alloc: Global, calls: u64) -> Shelf {
         Shelf {
             alloc,
             made: 0,
-            calls: u64::MAX,
+            calls,
         }
     }
 }
