@@ -9,5 +9,3 @@ mod events;
 mod failures;
 #[cfg(test)]
 mod stories;
-#[cfg(test)]
-mod vectors;

@@ -1,6 +1,6 @@
 //! Files in memory.
 
-use drda_disk::{Disk, FileFault, MemDisk};
+use drda_disk::{Disk, FileFault, FuseDisk, MemDisk};
 use drda_program::StoreFiles;
 use std::alloc::Global;
 use test_bytes::{ACCRDB, ACCSEC, EXCSAT_ALONE, RDBCMM, SECCHK_ALONE, bytes_of};
@@ -8,28 +8,48 @@ use test_nodes::{fresh_store, node_of};
 
 const TWO_MIB: usize = 2_097_152;
 
+/// CREATE TABLE T (K INTEGER NOT NULL, PRIMARY KEY (K)).
+const CREATE: &str = "000A D051 0006 0004 200A 0044 D003 0006 003E 2414 00 00000034
+    435245415445205441424C45205420284B20494E5445474552204E4F54204E554C4C2C205052494D415259204B455920284B2929 FF";
+
 /// Files by their names: `store` is a fresh store SHOP, `doubt` one with a unit in doubt, `zeros` none at
 /// all, and `damaged` one whose journal begins with a record of an unknown kind. The one that can be made
 /// is `new`.
 #[derive(Drop)]
 pub struct Shelf {
-    pub alloc: Global,
-    /// How many files were made.
-    pub made: u32,
+    alloc: Global,
+    /// The size of the file that was made, 0 before.
+    pub made: usize,
+    // Behind how many calls the device of a file fails.
+    calls: u64,
+}
+
+impl Shelf {
+    /// Each device fails behind so many calls.
+    pub fn new(alloc: Global, calls: u64) -> Shelf {
+        Shelf {
+            alloc,
+            made: 0,
+            calls,
+        }
+    }
 }
 
 impl StoreFiles for Shelf {
-    type Disk = MemDisk;
+    type Disk = FuseDisk<MemDisk>;
 
-    fn create(&mut self, path: &str, size: usize) -> Result<MemDisk, FileFault> {
+    fn create(&mut self, path: &str, size: usize) -> Result<FuseDisk<MemDisk>, FileFault> {
         if path != "new" {
             return Err(FileFault::InUse);
         }
-        self.made = self.made.wrapping_add(1);
-        MemDisk::new(self.alloc, size).ok().ok_or(FileFault::InUse)
+        self.made = size;
+        match MemDisk::new(self.alloc, size) {
+            Ok(disk) => Ok(FuseDisk::new(disk, self.calls, false)),
+            Err(_) => Err(FileFault::InUse),
+        }
     }
 
-    fn open(&mut self, path: &str) -> Result<MemDisk, FileFault> {
+    fn open(&mut self, path: &str) -> Result<FuseDisk<MemDisk>, FileFault> {
         let disk = match path {
             "store" => fresh_store(self.alloc),
             "doubt" => in_doubt(self.alloc),
@@ -37,7 +57,10 @@ impl StoreFiles for Shelf {
             "damaged" => damaged(self.alloc),
             _ => None,
         };
-        disk.ok_or(FileFault::InUse)
+        match disk {
+            Some(disk) => Ok(FuseDisk::new(disk, self.calls, false)),
+            None => Err(FileFault::InUse),
+        }
     }
 }
 
@@ -57,8 +80,7 @@ const DOUBTFUL: [&str; 10] = [
     ACCSEC,
     SECCHK_ALONE,
     ACCRDB,
-    "000A D051 0006 0004 200A 0044 D003 0006 003E 2414 00 00000034
-    435245415445205441424C45205420284B20494E5445474552204E4F54204E554C4C2C205052494D415259204B455920284B2929 FF",
+    CREATE,
     RDBCMM,
     "0021 D001 0010 001B 1055 0005 1187 09 0012 1801 00000001 00000001 00000001 4742",
     "000A D051 0006 0004 200A 0028 D003 0006 0022 2414 00 00000018

@@ -1,20 +1,11 @@
 //! Streams that fail.
 
-use crate::networks::Network;
-use crate::programs::run_streams;
-use crate::shelves::Shelf;
-use drda_program::{Ready, run_words};
-use std::alloc::Global;
+use drda_program::Ready;
 use std::io::{self, ErrorKind, Read, Write};
 
-const PIPE: [&str; 4] = ["drdad", "pipe", "--user", "ana:pw"];
-
-// A conversation is opened.
-const OPEN: [u8; 6] = [1, 0, 0, 0, 0, 0];
-
-// A stream that gives nothing and takes nothing.
+/// A stream that gives nothing and takes nothing.
 #[derive(Drop)]
-struct Broken;
+pub struct Broken;
 
 impl Read for Broken {
     fn read(&mut self, _buffer: &mut [u8]) -> io::Result<usize> {
@@ -40,10 +31,10 @@ impl Write for Broken {
     }
 }
 
-// A stream that takes all bytes, and fails at its flush.
+/// A stream that takes all bytes, and fails at its flush.
 #[derive(Drop)]
-struct Unflushed {
-    taken: Vec<u8>,
+pub struct Unflushed {
+    pub taken: Vec<u8>,
 }
 
 impl Write for Unflushed {
@@ -55,88 +46,4 @@ impl Write for Unflushed {
     fn flush(&mut self) -> io::Result<()> {
         Err(io::Error::from(ErrorKind::Other))
     }
-}
-
-// Whether the program tells of a fault of a stream.
-fn tells_of_fault<R: Read + Ready, W: Write>(
-    alloc: Global,
-    words: &[&str],
-    reader: &mut R,
-    out: &mut W,
-) -> bool {
-    let (status, err) = run_streams(alloc, words, reader, out);
-    status == 2 && err.as_slice() == b"drdad: file or device fault\n".as_slice()
-}
-
-// Whether it does where its input fails, and where its output does.
-fn tells_of_both(alloc: Global) -> bool {
-    let mut reader = OPEN.as_slice();
-    tells_of_fault(alloc, &PIPE, &mut Broken, &mut Vec::new(alloc))
-        && tells_of_fault(alloc, &PIPE, &mut reader, &mut Broken)
-}
-
-#[test]
-fn tells_of_broken_streams(rt: HostRuntime) {
-    assert!(rt; tells_of_both(rt.alloc()));
-}
-
-// Jobs that write, and all that they have written before the flush that fails.
-const WRITERS: [(&[&str], &[u8], &[u8]); 4] = [
-    // However the run had ended: by itself, or by a bad event.
-    (&PIPE, &[1, 0, 0, 0, 0, 0], &[1, 0, 0, 0, 0, 0]),
-    (&PIPE, &[1, 0, 0, 0, 0, 0, 9], &[1, 0, 0, 0, 0, 0]),
-    (
-        &["drdad", "init", "new", "--size", "2097152", "--rdb", "SHOP"],
-        b"",
-        b"formatted 2097152\n",
-    ),
-    (&["drdad", "indoubt", "doubt"], b"", b"1 47 42\n"),
-];
-
-// Whether the program tells of a flush that fails behind these bytes.
-fn tells_of_flush(alloc: Global, words: &[&str], input: &[u8], written: &[u8]) -> bool {
-    let mut reader = input;
-    let mut out = Unflushed {
-        taken: Vec::new(alloc),
-    };
-    let tells = tells_of_fault(alloc, words, &mut reader, &mut out);
-    tells && out.taken.as_slice() == written
-}
-
-// Whether it does where its output takes no bytes at all.
-fn tells_of_output(alloc: Global, words: &[&str], input: &[u8]) -> bool {
-    let mut reader = input;
-    tells_of_fault(alloc, words, &mut reader, &mut Broken)
-}
-
-#[test]
-fn tells_of_a_flush_that_fails(rt: HostRuntime) {
-    for (words, input, written) in &WRITERS {
-        assert!(rt;
-            tells_of_flush(rt.alloc(), words, input, written),
-            "{words:?}"
-        );
-        assert!(rt; tells_of_output(rt.alloc(), words, input), "{words:?}");
-    }
-}
-
-// The status behind a bad event, where what goes to standard error fails too.
-fn status_behind(alloc: Global) -> u8 {
-    let mut files = Shelf { alloc, made: 0 };
-    let mut reader: &[u8] = b"x";
-    let mut out = Vec::new(alloc);
-    run_words(
-        alloc,
-        &PIPE,
-        &mut files,
-        &Network::Taken,
-        &mut reader,
-        &mut out,
-        &mut Broken,
-    )
-}
-
-#[test]
-fn status_stays_where_nothing_can_be_said(rt: HostRuntime) {
-    assert!(rt; status_behind(rt.alloc()) == 4);
 }

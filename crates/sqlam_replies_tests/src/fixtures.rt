@@ -26,6 +26,23 @@ pub fn columns(alloc: Global) -> Result<Vec<Column>, Fail> {
     Ok(columns)
 }
 
+/// A column C of this type.
+pub fn one_column(
+    alloc: Global,
+    kind: Kind,
+    is_nullable: bool,
+    length: u16,
+) -> Result<Vec<Column>, Fail> {
+    let mut columns = Vec::new(alloc);
+    columns.push(Column {
+        name: String::from_str(alloc, "C")?,
+        kind,
+        is_nullable,
+        length,
+    })?;
+    Ok(columns)
+}
+
 fn row(alloc: Global, key: u8, length: u16) -> Result<Vec<u8>, Fail> {
     let mut row = [0, 0, 0, 0, key, 0].to_vec(alloc)?;
     row.extend_from_slice(&length.to_be_bytes())?;

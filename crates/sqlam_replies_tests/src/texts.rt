@@ -1,59 +1,129 @@
 //! The texts of replies.
 
-use crate::fixtures::{columns, rows};
+use crate::fixtures::{columns, one_column, rows};
+use row_values::Kind;
 use sqlam_replies::{
     ReplyMessage, UnitEnd, are_described, null_sqlcard, qrydsc, qrydta, reply_message, sqlcard,
     sqldard, synccrd, synccrd_with,
 };
+use std::alloc::Global;
 use std::test::Fail;
 use xa_calls::Xid;
 
 const SHOP: &[u8] = b"SHOP              ";
 
-/// Messages and their texts.
-const MESSAGES: [(ReplyMessage<'static>, &[u8]); 7] = [
+/// Messages, their severities and their texts.
+const MESSAGES: [(ReplyMessage<'static>, u16, &[u8]); 18] = [
     (
-        ReplyMessage::RdbUpdated(SHOP),
-        b"\x00\x20\x22\x18\x00\x06\x11\x49\x00\x00\x00\x16\x21\x10SHOP              ",
+        ReplyMessage::Syntax(0x0E),
+        8,
+        b"\x00\x0F\x12\x4C\x00\x06\x11\x49\x00\x08\x00\x05\x11\x4A\x0E",
     ),
     (
-        ReplyMessage::UnitEnded(UnitEnd::Committed),
-        b"\x00\x0F\x22\x0C\x00\x06\x11\x49\x00\x04\x00\x05\x21\x15\x01",
+        ReplyMessage::OutOfTurn,
+        8,
+        b"\x00\x0A\x12\x45\x00\x06\x11\x49\x00\x08",
     ),
     (
-        ReplyMessage::QueryOpened {
-            is_held: false,
-            instance: 1,
-        },
-        b"\x00\x21\x22\x05\x00\x06\x11\x49\x00\x00\x00\x06\x21\x02\x24\x17\x00\x05\x21\x1F\xF0\x00\x0C\x21\x5B\x00\x00\x00\x00\x00\x00\x00\x01",
+        ReplyMessage::CommandNotSupported(0x2FFF),
+        8,
+        b"\x00\x10\x12\x50\x00\x06\x11\x49\x00\x08\x00\x06\x00\x0C\x2F\xFF",
     ),
     (
-        ReplyMessage::EndOfQuery,
-        b"\x00\x0A\x22\x0B\x00\x06\x11\x49\x00\x04",
+        ReplyMessage::ValueNotSupported(0x2114),
+        8,
+        b"\x00\x10\x12\x52\x00\x06\x11\x49\x00\x08\x00\x06\x00\x0C\x21\x14",
+    ),
+    (
+        ReplyMessage::RdbNotFound(b"TOOL"),
+        8,
+        b"\x00\x12\x22\x11\x00\x06\x11\x49\x00\x08\x00\x08\x21\x10TOOL",
+    ),
+    (
+        ReplyMessage::CommandViolation(SHOP),
+        8,
+        b"\x00\x20\x22\x1D\x00\x06\x11\x49\x00\x08\x00\x16\x21\x10SHOP              ",
+    ),
+    (
+        ReplyMessage::OpenFailed(SHOP),
+        8,
+        b"\x00\x20\x22\x12\x00\x06\x11\x49\x00\x08\x00\x16\x21\x10SHOP              ",
     ),
     (
         ReplyMessage::QueryNotOpen {
             rdb: SHOP,
             section: b"S1",
         },
+        8,
         b"\x00\x26\x22\x02\x00\x06\x11\x49\x00\x08\x00\x16\x21\x10SHOP              \x00\x06\x21\x13S1",
     ),
     (
+        ReplyMessage::QueryOpen {
+            rdb: SHOP,
+            section: b"S1",
+        },
+        8,
+        b"\x00\x26\x22\x0F\x00\x06\x11\x49\x00\x08\x00\x16\x21\x10SHOP              \x00\x06\x21\x13S1",
+    ),
+    (
+        ReplyMessage::ManagerDependency,
+        8,
+        b"\x00\x0A\x12\x18\x00\x06\x11\x49\x00\x08",
+    ),
+    (
+        ReplyMessage::ResourceLimit,
+        8,
+        b"\x00\x0A\x12\x33\x00\x06\x11\x49\x00\x08",
+    ),
+    (
         ReplyMessage::AgentFailed,
+        64,
         b"\x00\x0A\x12\x32\x00\x06\x11\x49\x00\x40",
     ),
     (
-        ReplyMessage::ValueNotSupported(0x2114),
-        b"\x00\x10\x12\x52\x00\x06\x11\x49\x00\x08\x00\x06\x00\x0C\x21\x14",
+        ReplyMessage::UnitEnded(UnitEnd::Committed),
+        4,
+        b"\x00\x0F\x22\x0C\x00\x06\x11\x49\x00\x04\x00\x05\x21\x15\x01",
+    ),
+    (
+        ReplyMessage::UnitEnded(UnitEnd::RolledBack),
+        4,
+        b"\x00\x0F\x22\x0C\x00\x06\x11\x49\x00\x04\x00\x05\x21\x15\x02",
+    ),
+    (
+        ReplyMessage::RdbUpdated(SHOP),
+        0,
+        b"\x00\x20\x22\x18\x00\x06\x11\x49\x00\x00\x00\x16\x21\x10SHOP              ",
+    ),
+    (
+        ReplyMessage::QueryOpened {
+            is_held: false,
+            instance: 1,
+        },
+        0,
+        b"\x00\x21\x22\x05\x00\x06\x11\x49\x00\x00\x00\x06\x21\x02\x24\x17\x00\x05\x21\x1F\xF0\x00\x0C\x21\x5B\x00\x00\x00\x00\x00\x00\x00\x01",
+    ),
+    (
+        ReplyMessage::QueryOpened {
+            is_held: true,
+            instance: 0x0102_0304_0506_0708,
+        },
+        0,
+        b"\x00\x21\x22\x05\x00\x06\x11\x49\x00\x00\x00\x06\x21\x02\x24\x17\x00\x05\x21\x1F\xF1\x00\x0C\x21\x5B\x01\x02\x03\x04\x05\x06\x07\x08",
+    ),
+    (
+        ReplyMessage::EndOfQuery,
+        4,
+        b"\x00\x0A\x22\x0B\x00\x06\x11\x49\x00\x04",
     ),
 ];
 
 #[test]
 fn messages_are_written(rt: HostRuntime) -> Result<(), Fail> {
-    for (message, text) in MESSAGES {
+    for (message, severity, text) in MESSAGES {
         let mut out = Vec::new(rt.alloc());
         reply_message(&mut out, message)?;
-        assert_eq!(rt; out.as_slice(), text);
+        assert_eq!(rt; (message.severity(), out.as_slice()), (severity, text));
     }
     Ok(())
 }
@@ -104,6 +174,71 @@ fn columns_are_described(rt: HostRuntime) -> Result<(), Fail> {
     }
     assert_eq!(rt; out.as_slice(), DESCRIPTION);
     Ok(())
+}
+
+/// Of a column its type, whether it is nullable, the length that it is declared with, and what SQLDARD says
+/// of it: length, type and CCSID.
+const DESCRIBED: [(Kind, bool, u16, &[u8; 12]); 6] = [
+    (
+        Kind::SmallInt,
+        false,
+        0,
+        b"\x00\x00\x00\x00\x00\x00\x00\x02\x01\xF4\x00\x00",
+    ),
+    (
+        Kind::Integer,
+        true,
+        0,
+        b"\x00\x00\x00\x00\x00\x00\x00\x04\x01\xF1\x00\x00",
+    ),
+    (
+        Kind::BigInt,
+        false,
+        0,
+        b"\x00\x00\x00\x00\x00\x00\x00\x08\x01\xEC\x00\x00",
+    ),
+    (
+        Kind::BigInt,
+        true,
+        0,
+        b"\x00\x00\x00\x00\x00\x00\x00\x08\x01\xED\x00\x00",
+    ),
+    (
+        Kind::VarChar,
+        false,
+        1,
+        b"\x00\x00\x00\x00\x00\x00\x00\x01\x01\xC0\x04\xB8",
+    ),
+    (
+        Kind::VarBinary,
+        true,
+        2_000,
+        b"\x00\x00\x00\x00\x00\x00\x07\xD0\x01\xC1\x00\x00",
+    ),
+];
+
+// Whether SQLDARD says this of a column of a type.
+fn is_described(
+    alloc: Global,
+    (kind, is_nullable, length): (Kind, bool, u16),
+    described: &[u8],
+) -> Option<bool> {
+    let columns = one_column(alloc, kind, is_nullable, length).ok()?;
+    let mut out = Vec::new(alloc);
+    if !are_described(&columns) {
+        return None;
+    }
+    sqldard(&mut out, true, &columns).ok()?;
+    Some(out.get(12..24) == Some(described))
+}
+
+#[test]
+fn each_type_is_described(rt: HostRuntime) {
+    for (kind, is_nullable, length, described) in &DESCRIBED {
+        let column = (*kind, *is_nullable, *length);
+        let told = is_described(rt.alloc(), column, described.as_slice());
+        assert!(rt; told == Some(true), "{kind:?} {is_nullable}");
+    }
 }
 
 #[test]

@@ -4,6 +4,8 @@
 #[cfg(test)]
 mod code_page;
 #[cfg(test)]
+mod code_points;
+#[cfg(test)]
 mod frames;
 #[cfg(test)]
 mod objects;

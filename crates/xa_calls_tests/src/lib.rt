@@ -2,6 +2,8 @@
 #![tactic(auto)]
 
 #[cfg(test)]
+mod numbers;
+#[cfg(test)]
 mod requests;
 #[cfg(test)]
 mod xids;

@@ -2,7 +2,7 @@
 //! server's profile.
 
 use std::test::Fail;
-use xa_calls::{Ending, Request, Verb, XaCode, Xid};
+use xa_calls::{Ending, Request, Verb, Xid};
 
 const NONE: u32 = 0;
 
@@ -119,9 +119,4 @@ fn flags_are_of_four_bytes(rt: HostRuntime) {
             "{sync_type} {length:?}"
         );
     }
-}
-
-#[test]
-fn what_names_no_call_is_invalid(rt: HostRuntime) {
-    assert_eq!(rt; XaCode::Invalid.number(), -5);
 }

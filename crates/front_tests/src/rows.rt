@@ -1,0 +1,149 @@
+//! Rows of requests and replies.
+
+use crate::pieces::is_answered;
+use conversation::{Settings, SettingsError};
+use std::alloc::Global;
+use test_bytes::push_texts;
+
+/// Bytes by their name.
+#[derive(Drop)]
+struct Named {
+    name: Vec<u8>,
+    bytes: Vec<u8>,
+}
+
+// A copy of the bytes of this name.
+fn bytes_of(alloc: Global, named: &[Named], name: &[u8]) -> Option<Vec<u8>> {
+    for it in named {
+        if it.name.as_slice() == name {
+            return Vec::from_slice(alloc, &it.bytes).ok();
+        }
+    }
+    None
+}
+
+/// Which bytes the next words belong to.
+#[derive(Clone, Copy, Drop)]
+enum Target {
+    Name,
+    Request,
+    Reply,
+}
+
+/// The names so far, a row, and what became of those before it.
+#[derive(Drop)]
+pub struct Rows {
+    alloc: Global,
+    named: Vec<Named>,
+    target: Target,
+    request: Vec<u8>,
+    reply: Vec<u8>,
+    written: Vec<u8>,
+}
+
+impl Rows {
+    /// No row, and no name.
+    pub fn new(alloc: Global) -> Rows {
+        Rows {
+            alloc,
+            named: Vec::new(alloc),
+            target: Target::Name,
+            request: Vec::new(alloc),
+            reply: Vec::new(alloc),
+            written: Vec::new(alloc),
+        }
+    }
+
+    /// What became of the rows.
+    pub fn written(&self) -> &[u8] {
+        &self.written
+    }
+
+    /// Does what each word asks for. None where a name is unknown, and without memory.
+    pub fn follow(&mut self, text: &str) -> Option<()> {
+        for word in text.split_ascii_whitespace() {
+            self.take(word)?;
+        }
+        Some(())
+    }
+
+    // `>` begins a request and `<` its reply; `.` says whether the one is answered by the other, and `name` whether
+    // the request's bytes are a database's name. A word behind : is a name for the bytes that follow, and $ stands in
+    // front of it where they are meant. One behind # is written down. All else is bytes.
+    fn take(&mut self, word: &str) -> Option<()> {
+        match word {
+            ">" => self.begin(),
+            "<" => self.target = Target::Reply,
+            "." => return self.judge(),
+            "name" => return self.judge_name(),
+            _ => return self.take_text(word.as_bytes(), word),
+        }
+        Some(())
+    }
+
+    fn take_text(&mut self, bytes: &[u8], word: &str) -> Option<()> {
+        match bytes {
+            [b':', name @ ..] => self.define(name),
+            [b'$', name @ ..] => self.push_named(name),
+            [b'#', ..] => self.note(bytes),
+            _ => push_texts(self.bytes()?, &[word]).ok(),
+        }
+    }
+
+    fn begin(&mut self) {
+        self.request.clear();
+        self.reply.clear();
+        self.target = Target::Request;
+    }
+
+    fn bytes(&mut self) -> Option<&mut Vec<u8>> {
+        match self.target {
+            Target::Name => match self.named.last_mut() {
+                Some(named) => Some(&mut named.bytes),
+                None => None,
+            },
+            Target::Request => Some(&mut self.request),
+            Target::Reply => Some(&mut self.reply),
+        }
+    }
+
+    fn define(&mut self, name: &[u8]) -> Option<()> {
+        let name = Vec::from_slice(self.alloc, name).ok()?;
+        let bytes = Vec::new(self.alloc);
+        self.named.push(Named { name, bytes }).ok()?;
+        self.target = Target::Name;
+        Some(())
+    }
+
+    fn push_named(&mut self, name: &[u8]) -> Option<()> {
+        let bytes = bytes_of(self.alloc, &self.named, name)?;
+        match self.bytes() {
+            Some(target) => target.extend_from_slice(&bytes).ok(),
+            None => None,
+        }
+    }
+
+    fn note(&mut self, text: &[u8]) -> Option<()> {
+        self.written.extend_from_slice(text).ok()?;
+        self.written.push(b'\n').ok()
+    }
+
+    fn judge(&mut self) -> Option<()> {
+        let text: &[u8] = if is_answered(self.alloc, &self.request, &self.reply)? {
+            b"answered"
+        } else {
+            b"answered otherwise"
+        };
+        self.note(text)
+    }
+
+    fn judge_name(&mut self) -> Option<()> {
+        let name = str::from_utf8(&self.request).ok()?;
+        let text: &[u8] = match Settings::new(self.alloc, "ana", "pw", name) {
+            Ok(_) => b"a name",
+            Err(SettingsError::BadName) => b"no name",
+            Err(SettingsError::NoMemory) => return None,
+        };
+        self.note(text)
+    }
+}

@@ -1,0 +1,202 @@
+//! Trials of the program, a line each.
+
+use crate::networks::{Caller, Network, Way};
+use crate::shelves::Shelf;
+use crate::streams::{Broken, Unflushed};
+use drda_program::{Ready, run_words};
+use std::alloc::Global;
+use std::io::{Read, Write};
+use test_bytes::bytes_of;
+
+/// What a trial is about: behind how many calls devices fail, the network, and the input.
+#[derive(Drop)]
+struct Scene<'a> {
+    calls: u64,
+    net: &'a Network<'a>,
+    input: &'a [u8],
+}
+
+/// What the program has said on standard error, its status, and the size of the file that it has made, 0 where
+/// it has made none.
+#[derive(Drop)]
+struct Ended {
+    status: u8,
+    made: usize,
+    err: Vec<u8>,
+}
+
+/// What became of the trials.
+#[derive(Drop)]
+pub struct Trials {
+    alloc: Global,
+    written: Vec<u8>,
+}
+
+// The parts of a line, between upright lines.
+fn parts_of<'a>(alloc: Global, line: &'a str) -> Option<Vec<&'a str>> {
+    let mut parts = Vec::new(alloc);
+    for part in line.split('|') {
+        parts.push(part).ok()?;
+    }
+    Some(parts)
+}
+
+// The program over these words and streams.
+fn end_of<R: Read + Ready, W: Write>(
+    alloc: Global,
+    words: &[&str],
+    scene: &Scene<'_>,
+    reader: &mut R,
+    out: &mut W,
+) -> Ended {
+    let mut files = Shelf::new(alloc, scene.calls);
+    let mut err = Vec::new(alloc);
+    let status = run_words(alloc, words, &mut files, scene.net, reader, out, &mut err);
+    Ended {
+        status,
+        made: files.made,
+        err,
+    }
+}
+
+// A network's way by its name.
+fn way_of(name: &str) -> Option<Way> {
+    match name {
+        "taken" => Some(Way::Taken),
+        "shut" => Some(Way::Shut),
+        "silent" => Some(Way::LetsIn(Caller::Silent)),
+        "broken" => Some(Way::LetsIn(Caller::Broken)),
+        "deaf" => Some(Way::LetsIn(Caller::Deaf)),
+        "alone" => Some(Way::LetsIn(Caller::Alone)),
+        "talking" => Some(Way::LetsIn(Caller::Talking)),
+        _ => None,
+    }
+}
+
+impl Trials {
+    /// None so far.
+    pub fn new(alloc: Global) -> Trials {
+        Trials {
+            alloc,
+            written: Vec::new(alloc),
+        }
+    }
+
+    /// Each line with what the program came to: its status, the size of the file that it made, what it wrote
+    /// and what it said on standard error.
+    pub fn written(&self) -> &[u8] {
+        &self.written
+    }
+
+    /// Tries each line: the streams, the network, behind how many calls devices fail, the input in
+    /// hexadecimal, which a caller says too, and then the program's words. None where a line is none of these,
+    /// and without memory.
+    pub fn follow(&mut self, text: &str) -> Option<()> {
+        for line in text.split('\n') {
+            self.note(line.as_bytes())?;
+            if !line.is_empty() {
+                self.try_line(line)?;
+            }
+        }
+        Some(())
+    }
+
+    fn try_line(&mut self, line: &str) -> Option<()> {
+        let parts = parts_of(self.alloc, line)?;
+        match parts.as_slice() {
+            [streams, net, calls, input, words @ ..] => {
+                self.try_on(net, calls, input, streams, words)
+            }
+            _ => None,
+        }
+    }
+
+    fn try_on(
+        &mut self,
+        net: &str,
+        calls: &str,
+        input: &str,
+        streams: &str,
+        words: &[&str],
+    ) -> Option<()> {
+        let way = way_of(net)?;
+        let calls = calls.parse::<u64>().unwrap_or(u64::MAX);
+        let input = bytes_of(self.alloc, &[input]).ok()?;
+        let net = Network { way, said: &input };
+        let scene = Scene {
+            calls,
+            net: &net,
+            input: &input,
+        };
+        match streams {
+            "mute-in" => self.without_input(words, &scene),
+            "mute-out" => self.without_output(words, &scene),
+            "mute-err" => self.without_errors(words, &scene),
+            "unflushed" => self.without_flush(words, &scene),
+            _ => self.whole(words, &scene),
+        }
+    }
+
+    fn whole(&mut self, words: &[&str], scene: &Scene<'_>) -> Option<()> {
+        let mut reader = scene.input;
+        let mut out = Vec::new(self.alloc);
+        let ended = end_of(self.alloc, words, scene, &mut reader, &mut out);
+        self.tell(&ended, &out)
+    }
+
+    fn without_input(&mut self, words: &[&str], scene: &Scene<'_>) -> Option<()> {
+        let mut out = Vec::new(self.alloc);
+        let ended = end_of(self.alloc, words, scene, &mut Broken, &mut out);
+        self.tell(&ended, &out)
+    }
+
+    fn without_output(&mut self, words: &[&str], scene: &Scene<'_>) -> Option<()> {
+        let mut reader = scene.input;
+        let ended = end_of(self.alloc, words, scene, &mut reader, &mut Broken);
+        self.tell(&ended, &[])
+    }
+
+    fn without_flush(&mut self, words: &[&str], scene: &Scene<'_>) -> Option<()> {
+        let mut reader = scene.input;
+        let mut out = Unflushed {
+            taken: Vec::new(self.alloc),
+        };
+        let ended = end_of(self.alloc, words, scene, &mut reader, &mut out);
+        self.tell(&ended, &out.taken)
+    }
+
+    // Standard error takes nothing either.
+    fn without_errors(&mut self, words: &[&str], scene: &Scene<'_>) -> Option<()> {
+        let mut files = Shelf::new(self.alloc, scene.calls);
+        let mut reader = scene.input;
+        let mut out = Vec::new(self.alloc);
+        let status = run_words(
+            self.alloc,
+            words,
+            &mut files,
+            scene.net,
+            &mut reader,
+            &mut out,
+            &mut Broken,
+        );
+        let ended = Ended {
+            status,
+            made: files.made,
+            err: Vec::new(self.alloc),
+        };
+        self.tell(&ended, &out)
+    }
+
+    fn tell(&mut self, ended: &Ended, out: &[u8]) -> Option<()> {
+        let (status, made) = (ended.status, ended.made);
+        let text = format!(in self.alloc; "status {status}, a file of {made} bytes").ok()?;
+        self.note(text.as_bytes())?;
+        self.written.extend_from_slice(out).ok()?;
+        self.written.extend_from_slice(&ended.err).ok()
+    }
+
+    fn note(&mut self, line: &[u8]) -> Option<()> {
+        self.written.extend_from_slice(line).ok()?;
+        self.written.push(b'\n').ok()
+    }
+}
