@@ -5,5 +5,9 @@
 mod running;
 mod surviving;
 
+// What they answer.
+pub use drda_node::RunEnd;
+pub use durable_core::OpenError;
+pub use rdb_core::PlainState;
 pub use running::run_store;
 pub use surviving::survives;

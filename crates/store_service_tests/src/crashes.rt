@@ -2,10 +2,9 @@
 
 use crate::inputs::{THREE_UNITS, piece};
 use drda_disk::FuseDisk;
-use rdb_core::PlainState;
 use std::alloc::Global;
 use std::test::Fail;
-use store_service::{run_store, survives};
+use store_service::{PlainState, run_store, survives};
 use tables::TableView;
 use test_nodes::fresh_store;
 

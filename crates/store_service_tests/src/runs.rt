@@ -2,11 +2,9 @@
 
 use crate::inputs::{CREATE, ONE, TWO, piece};
 use drda_disk::MemDisk;
-use drda_node::RunEnd;
-use durable_core::OpenError;
 use std::alloc::Global;
 use std::test::Fail;
-use store_service::run_store;
+use store_service::{OpenError, RunEnd, run_store};
 use test_bytes::{COMMITTED, RDBCMM, bytes_of};
 use test_nodes::fresh_store;
 
