@@ -3,23 +3,23 @@ the table of X/Open XA, lost conversations and crashes, by docs/SQL.md and docs/
 tests/written_conversations.py. The same lists come at each run."""
 import random, struct
 
-import drda_client as drda
 import event_records as events
 import written_conversations as written
+from drdad import wire
 
 STORIES, RUNS, CALLS = 100, 2, 20
 TABLES, KEYS, PLACES, BRANCHES = ("T0", "T1"), range(4), range(3), (b"A", b"C", b"D")
 JOIN, SUSPEND, RESUME, FORGET = 0x00200000, 0x02000000, 0x08000000, 0x06
 ACTIVE, IDLE, PREPARED, ROLLBACK_ONLY = "active", "idle", "prepared", "rollback only"
-PREPARES, COMMITS, ENDS = (drda.PREPARE, None), (drda.COMMIT, None), (drda.END, drda.TMSUCCESS)
-ONE_PHASE, ROLLS_BACK, JOINS = (drda.COMMIT, written.TMONEPHASE), (written.ROLL_BACK, None), (drda.START, JOIN)
-ANY = ((drda.START, None), JOINS, (drda.START, RESUME), ENDS, (drda.END, SUSPEND), (drda.END, written.TMFAIL), PREPARES, COMMITS, ONE_PHASE,
+PREPARES, COMMITS, ENDS = (wire.PREPARE, None), (wire.COMMIT, None), (wire.END, wire.TMSUCCESS)
+ONE_PHASE, ROLLS_BACK, JOINS = (wire.COMMIT, written.TMONEPHASE), (written.ROLL_BACK, None), (wire.START, JOIN)
+ANY = ((wire.START, None), JOINS, (wire.START, RESUME), ENDS, (wire.END, SUSPEND), (wire.END, written.TMFAIL), PREPARES, COMMITS, ONE_PHASE,
        ROLLS_BACK, (FORGET, None))
 # What has something to do for a branch in each state.
 LIKELY = {
-    None: ((drda.START, None),),
-    ACTIVE: (ENDS, ENDS, ENDS, (drda.END, SUSPEND), (drda.END, written.TMFAIL)),
-    IDLE: (PREPARES, PREPARES, PREPARES, ONE_PHASE, ROLLS_BACK, JOINS, (drda.START, RESUME), ENDS),
+    None: ((wire.START, None),),
+    ACTIVE: (ENDS, ENDS, ENDS, (wire.END, SUSPEND), (wire.END, written.TMFAIL)),
+    IDLE: (PREPARES, PREPARES, PREPARES, ONE_PHASE, ROLLS_BACK, JOINS, (wire.START, RESUME), ENDS),
     PREPARED: (COMMITS, COMMITS, ROLLS_BACK, (FORGET, None), PREPARES),
     ROLLBACK_ONLY: (PREPARES, ONE_PHASE, ROLLS_BACK, JOINS, ENDS),
 }
@@ -92,11 +92,11 @@ class Core:
     def due(self, place, call, flags, name):
         """The code of a call of XA, which is made."""
         known = self.branches.get(name)
-        if call == drda.START:
+        if call == wire.START:
             return self.begins(place, name, known) if flags is None else self.joins(place, known)
         if known is None:
             return -4
-        if call == drda.END:
+        if call == wire.END:
             return self.leaves(place, known, flags)
         if call == FORGET:
             return -6
@@ -131,18 +131,18 @@ class Core:
         return 0
 
     def decides(self, name, known, call, flags):
-        is_two_phase = call == drda.COMMIT and flags is None
-        if known.state == ACTIVE or known.state == PREPARED and (call == drda.PREPARE or flags) or is_two_phase and known.state != PREPARED:
+        is_two_phase = call == wire.COMMIT and flags is None
+        if known.state == ACTIVE or known.state == PREPARED and (call == wire.PREPARE or flags) or is_two_phase and known.state != PREPARED:
             return -6
         if known.state == ROLLBACK_ONLY and call != written.ROLL_BACK:
             del self.branches[name]
             return 100
-        if call == drda.PREPARE and known.unit.changes:
+        if call == wire.PREPARE and known.unit.changes:
             known.state = PREPARED
             return 0
         del self.branches[name]
-        self.ends(known.unit, call == drda.COMMIT)
-        return 3 if call == drda.PREPARE else 0
+        self.ends(known.unit, call == wire.COMMIT)
+        return 3 if call == wire.PREPARE else 0
 
 
 class Story(written.Talk):
@@ -201,7 +201,7 @@ class Story(written.Talk):
         return self.finds(place, self.instances[place], *found, place=section, kinds=kinds, objects=objects)
 
     def ends_local(self, place, is_committed):
-        code, replies = (drda.RDBCMM, written.COMMITTED) if is_committed else (drda.RDBRLLBCK, written.ROLLED_BACK)
+        code, replies = (wire.RDBCMM, written.COMMITTED) if is_committed else (wire.RDBRLLBCK, written.ROLLED_BACK)
         if self.core.joined(place):
             return self.asks(place, code, b"", VIOLATION)
         self.core.ends(self.core.local.pop(place, Unit()), is_committed)
@@ -210,7 +210,7 @@ class Story(written.Talk):
 
     def asks_xa(self, place, call, flags, name):
         code = self.core.due(place, call, flags, name)
-        if code == 0 and call in (drda.START, drda.END):
+        if code == 0 and call in (wire.START, wire.END):
             self.told.discard(place)
         self.calls(place, call, name, code, flags)
 
@@ -232,7 +232,7 @@ class Story(written.Talk):
         call, flags = self.chance.choice(LIKELY[state] if self.chance.random() < 0.8 else ANY)
         last = self.core.branches[name].last if name in known else None
         idle = [one for one in self.instances if not (self.core.joined(one) or self.core.unit(one).has_work())]
-        fit = {drda.END: [last] if last in self.instances else [], drda.START: idle}.get(call)
+        fit = {wire.END: [last] if last in self.instances else [], wire.START: idle}.get(call)
         self.asks_xa(self.chance.choice(fit) if fit and self.chance.random() < 0.8 else place, call, flags, name)
 
     def goes_on(self):

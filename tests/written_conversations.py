@@ -3,20 +3,20 @@ what a server answered. CONVERSATIONS has for each its name, the word that makes
 its runs: the records in, those out, and the word of the crash behind them."""
 import struct
 
-import drda_client as drda
 import event_records as events
+from drdad import wire
 
 REQUEST, REPLY, OBJECT = 1, 2, 3
 ON, SAME, GO_ON = 0x40, 0x10, 0x20
-SECCHK, ACCSEC, ACCRDB, EXCSAT = drda.SECCHK, drda.ACCSEC, drda.ACCRDB, drda.EXCSAT
-EXCSQLIMM, PRPSQLSTT, OPNQRY, SYNCCTL = drda.EXCSQLIMM, drda.PRPSQLSTT, drda.OPNQRY, drda.SYNCCTL
+SECCHK, ACCSEC, ACCRDB, EXCSAT = wire.SECCHK, wire.ACCSEC, wire.ACCRDB, wire.EXCSAT
+EXCSQLIMM, PRPSQLSTT, OPNQRY, SYNCCTL = wire.EXCSQLIMM, wire.PRPSQLSTT, wire.OPNQRY, wire.SYNCCTL
 DSCSQLSTT, EXCSQLSTT, CNTQRY, CLSQRY, SQLATTR, SQLDTA = 0x2008, 0x200B, 0x2006, 0x2005, 0x2450, 0x2412
 TYPDEFOVR, CCSIDSBC, CCSIDDBC, CCSIDMBC = 0x0035, 0x119C, 0x119D, 0x119E
-RTNSQLDA, TYPSQLDA, QRYINSID, QRYBLKSZ = 0x2116, 0x2146, 0x215B, drda.QRYBLKSZ
+RTNSQLDA, TYPSQLDA, QRYINSID, QRYBLKSZ = 0x2116, 0x2146, 0x215B, wire.QRYBLKSZ
 NO_NAMES, RECOVER, ROLL_BACK = b"", 0x0C, 0x07
 TMFAIL, TMONEPHASE = 0x20000000, 0x40000000
 SHOP, SHOP_500 = b"SHOP".ljust(18), "SHOP".ljust(18).encode("cp500")
-ddm = drda.ddm
+ddm = wire.ddm
 
 CONVERSATIONS = []
 
@@ -26,7 +26,7 @@ CONVERSATIONS = []
 def dss(form, correlator, contents):
     """A DSS, in segments where it is long."""
     if len(contents) <= 32761:
-        return drda.dss(form, correlator, contents)
+        return wire.dss(form, correlator, contents)
     head, rest = struct.pack(">HBBH", 0xFFFF, 0xD0, form, correlator) + contents[:32761], contents[32761:]
     while len(rest) > 32765:
         head, rest = head + b"\xff\xff" + rest[:32765], rest[32765:]
@@ -60,11 +60,11 @@ def text(words):
 
 
 def sqlstt(words):
-    return long_ddm(drda.SQLSTT, text(words))
+    return long_ddm(wire.SQLSTT, text(words))
 
 
 def section(number=1):
-    return ddm(drda.PKGNAMCSN, SHOP + b"NULLID".ljust(18) + b"SYSSH200".ljust(18) + b"TOKENTOK" + struct.pack(">H", number))
+    return ddm(wire.PKGNAMCSN, SHOP + b"NULLID".ljust(18) + b"SYSSH200".ljust(18) + b"TOKENTOK" + struct.pack(">H", number))
 
 
 def number(code, value, size=4):
@@ -76,16 +76,16 @@ def message(code, severity, *parameters):
 
 
 def named(code, severity, *parameters):
-    return message(code, severity, ddm(drda.RDBNAM, SHOP), *parameters)
+    return message(code, severity, ddm(wire.RDBNAM, SHOP), *parameters)
 
 
 def card(code=0, state=b"00000", rows=0):
     numbers = struct.pack(">6i", 0, 0, rows, 0, 0, 0)
     head = b"\0" + struct.pack(">i", code) + state + b"RDA01000\0"
-    return OBJECT, ddm(drda.SQLCARD, head + numbers + b" " * 11 + bytes(6) + b"\xff")
+    return OBJECT, ddm(wire.SQLCARD, head + numbers + b" " * 11 + bytes(6) + b"\xff")
 
 
-NOTHING = OBJECT, ddm(drda.SQLCARD, b"\xff")
+NOTHING = OBJECT, ddm(wire.SQLCARD, b"\xff")
 NO_ROW_MORE = card(100, b"02000")
 UPDATED = named(0x2218, 0)
 END_OF_QUERY = message(0x220B, 4)
@@ -119,7 +119,7 @@ def columns(*types):
 
 
 def rows(*found):
-    return OBJECT, long_ddm(drda.QRYDTA, b"".join(b"\xff\0" + one for one in found))
+    return OBJECT, long_ddm(wire.QRYDTA, b"".join(b"\xff\0" + one for one in found))
 
 
 def described(*parts):
@@ -132,15 +132,15 @@ def described(*parts):
 
 
 def xid(global_part, branch_part=b"B"):
-    return ddm(drda.XID, struct.pack(">III", 1, len(global_part), len(branch_part)) + global_part + branch_part)
+    return ddm(wire.XID, struct.pack(">III", 1, len(global_part), len(branch_part)) + global_part + branch_part)
 
 
 def sync(call, name=b"", flags=None):
-    return number(drda.SYNCTYPE, call, 1) + (xid(name) if name else b"") + (b"" if flags is None else number(drda.XAFLAGS, flags))
+    return number(wire.SYNCTYPE, call, 1) + (xid(name) if name else b"") + (b"" if flags is None else number(wire.XAFLAGS, flags))
 
 
 def xa(code, *parameters):
-    return OBJECT, ddm(drda.SYNCCRD, ddm(drda.XARETVAL, struct.pack(">i", code)) + b"".join(parameters))
+    return OBJECT, ddm(wire.SYNCCRD, ddm(wire.XARETVAL, struct.pack(">i", code)) + b"".join(parameters))
 
 
 def in_doubt(*names):
@@ -170,12 +170,12 @@ def parameters(*values):
 
 # Conversations as they go on.
 
-CONNECTS = (drda.SECMEC, b"\0\3"), (drda.USRID, b"ana"), (drda.PASSWORD, b"pw")
-TYPES = ddm(drda.TYPDEFNAM, b"QTDSQLASC")
+CONNECTS = (wire.SECMEC, b"\0\3"), (wire.USRID, b"ana"), (wire.PASSWORD, b"pw")
+TYPES = ddm(wire.TYPDEFNAM, b"QTDSQLASC")
 
 
 def levels(*pairs):
-    return drda.levels(*pairs)
+    return wire.levels(*pairs)
 
 
 def attributes(correlator, *pairs):
@@ -188,11 +188,11 @@ def attributes(correlator, *pairs):
 
 
 def mechanism(correlator, value):
-    return command(correlator, ACCSEC, number(drda.SECMEC, value, 2))
+    return command(correlator, ACCSEC, number(wire.SECMEC, value, 2))
 
 
 def mechanism_told(correlator, value):
-    return answer(correlator, (OBJECT, ddm(0x14AC, number(drda.SECMEC, value, 2))))
+    return answer(correlator, (OBJECT, ddm(0x14AC, number(wire.SECMEC, value, 2))))
 
 
 def checked(correlator, code, form=0):
@@ -200,7 +200,7 @@ def checked(correlator, code, form=0):
 
 
 ACCESSED = message(0x2201, 0, ddm(0x112E, b"RDA01000"), TYPES, ddm(TYPDEFOVR, number(CCSIDSBC, 1208, 2) + number(CCSIDMBC, 1208, 2)))
-KNOWN = (drda.XAMGR, 7), (drda.UNICODEMGR, 1208)
+KNOWN = (wire.XAMGR, 7), (wire.UNICODEMGR, 1208)
 
 
 class Talk:
@@ -231,7 +231,7 @@ class Talk:
         self.knows(conversation)
         self.says(conversation, mechanism(2, 3), mechanism_told(2, 3))
         self.says(conversation, command(3, SECCHK, b"".join(ddm(*one) for one in CONNECTS)), checked(3, 0))
-        self.says(conversation, command(4, ACCRDB, ddm(drda.RDBNAM, SHOP) + TYPES), answer(4, ACCESSED))
+        self.says(conversation, command(4, ACCRDB, ddm(wire.RDBNAM, SHOP) + TYPES), answer(4, ACCESSED))
 
     def asks(self, conversation, code, parameters, *replies, objects=(), form=0):
         """A command with the correlator 6, and its replies."""
@@ -262,10 +262,10 @@ class Talk:
         self.says_all(conversation, pairs)
 
     def commits(self, conversation):
-        self.asks(conversation, drda.RDBCMM, b"", *COMMITTED)
+        self.asks(conversation, wire.RDBCMM, b"", *COMMITTED)
 
     def rolls_back(self, conversation):
-        self.asks(conversation, drda.RDBRLLBCK, b"", *ROLLED_BACK)
+        self.asks(conversation, wire.RDBRLLBCK, b"", *ROLLED_BACK)
 
     def creates(self, conversation, words="CREATE TABLE T (K INTEGER NOT NULL, V VARCHAR(600), PRIMARY KEY (K))"):
         self.changes(conversation, words, 0, True)
@@ -293,10 +293,10 @@ class Talk:
 
     def works_in(self, conversation, name, *statements):
         """A branch begins, inserts and ends."""
-        self.calls(conversation, drda.START, name, 0)
+        self.calls(conversation, wire.START, name, 0)
         for at, (words, count) in enumerate(statements):
             self.changes(conversation, words, count, at == 0)
-        self.calls(conversation, drda.END, name, 0, drda.TMSUCCESS)
+        self.calls(conversation, wire.END, name, 0, wire.TMSUCCESS)
 
 
 def conversation(name, store="fresh", crash=""):
@@ -318,26 +318,26 @@ def over_a_fresh_store():
 
 CHECKS = (
     (3, (
-        ({drda.SECMEC: b"\0\4", drda.USRID: b"ana", drda.PASSWORD: b"pw"}, 0x01),
-        ({drda.SECMEC: b"\0\4"}, 0x01),
+        ({wire.SECMEC: b"\0\4", wire.USRID: b"ana", wire.PASSWORD: b"pw"}, 0x01),
+        ({wire.SECMEC: b"\0\4"}, 0x01),
         ({}, 0x12),
-        ({drda.PASSWORD: b"pw"}, 0x12),
-        ({drda.USRID: b"bob", drda.PASSWORD: b"pw"}, 0x13),
-        ({drda.USRID: b"an"}, 0x13),
-        ({drda.USRID: b"ana"}, 0x10),
-        ({drda.USRID: b"ana", drda.PASSWORD: b"no"}, 0x0F),
-        ({drda.USRID: b"ana", drda.PASSWORD: b"p"}, 0x0F),
-        ({drda.USRID: b"ana", drda.PASSWORD: b"pwd"}, 0x0F),
-        ({drda.USRID: b"ana", drda.PASSWORD: b"pw"}, 0x00),
+        ({wire.PASSWORD: b"pw"}, 0x12),
+        ({wire.USRID: b"bob", wire.PASSWORD: b"pw"}, 0x13),
+        ({wire.USRID: b"an"}, 0x13),
+        ({wire.USRID: b"ana"}, 0x10),
+        ({wire.USRID: b"ana", wire.PASSWORD: b"no"}, 0x0F),
+        ({wire.USRID: b"ana", wire.PASSWORD: b"p"}, 0x0F),
+        ({wire.USRID: b"ana", wire.PASSWORD: b"pwd"}, 0x0F),
+        ({wire.USRID: b"ana", wire.PASSWORD: b"pw"}, 0x00),
     )),
     (4, (
-        ({drda.SECMEC: b"\0\3", drda.USRID: b"ana", drda.PASSWORD: b"pw"}, 0x01),
+        ({wire.SECMEC: b"\0\3", wire.USRID: b"ana", wire.PASSWORD: b"pw"}, 0x01),
         ({}, 0x12),
-        ({drda.PASSWORD: b"pw"}, 0x12),
-        ({drda.USRID: b"anab", drda.PASSWORD: b"pw"}, 0x13),
-        ({drda.USRID: b"ana", drda.PASSWORD: b"no"}, 0x00),
+        ({wire.PASSWORD: b"pw"}, 0x12),
+        ({wire.USRID: b"anab", wire.PASSWORD: b"pw"}, 0x13),
+        ({wire.USRID: b"ana", wire.PASSWORD: b"no"}, 0x00),
     )),
-    (4, (({drda.USRID: b"ana"}, 0x00),)),
+    (4, (({wire.USRID: b"ana"}, 0x00),)),
 )
 
 
@@ -347,19 +347,19 @@ def checks_of_users(talk):
         talk.knows(place)
         talk.says(place, mechanism(2, agreed), mechanism_told(2, agreed))
         for given, code in checks:
-            values = {drda.SECMEC: agreed.to_bytes(2, "big"), **given}
+            values = {wire.SECMEC: agreed.to_bytes(2, "big"), **given}
             talk.says(place, command(3, SECCHK, b"".join(ddm(*one) for one in values.items())), checked(3, code))
-        talk.says(place, command(5, SECCHK, number(drda.SECMEC, agreed, 2)), answer(5, OUT_OF_TURN))
-        talk.says(place, command(4, ACCRDB, ddm(drda.RDBNAM, SHOP) + TYPES), answer(4, ACCESSED))
+        talk.says(place, command(5, SECCHK, number(wire.SECMEC, agreed, 2)), answer(5, OUT_OF_TURN))
+        talk.says(place, command(4, ACCRDB, ddm(wire.RDBNAM, SHOP) + TYPES), answer(4, ACCESSED))
 
 
 # What each manager is asked for, and what is agreed on.
 LEVELS = (
-    ((drda.AGENT, 7), 7), ((drda.AGENT, 8), 7), ((drda.AGENT, 6), 6), ((drda.SQLAM, 7), 7), ((drda.SQLAM, 8), 7),
-    ((drda.RDB, 7), 7), ((drda.RDB, 8), 7), ((drda.SECMGR, 7), 7), ((drda.SECMGR, 8), 7), ((0x1474, 5), 5), ((0x1474, 6), 5),
-    ((0x1474, 4), 4), ((drda.XAMGR, 7), 7), ((drda.XAMGR, 8), 7), ((drda.XAMGR, 65535), 7), ((drda.XAMGR, 1), 1),
-    ((drda.UNICODEMGR, 1208), 1208), ((drda.UNICODEMGR, 1209), 0), ((drda.UNICODEMGR, 1207), 0),
-    ((0x14C0, 5), 0), ((0x14C1, 5), 0), ((0x1444, 7), 0), ((drda.SQLAM, 0), 0),
+    ((wire.AGENT, 7), 7), ((wire.AGENT, 8), 7), ((wire.AGENT, 6), 6), ((wire.SQLAM, 7), 7), ((wire.SQLAM, 8), 7),
+    ((wire.RDB, 7), 7), ((wire.RDB, 8), 7), ((wire.SECMGR, 7), 7), ((wire.SECMGR, 8), 7), ((0x1474, 5), 5), ((0x1474, 6), 5),
+    ((0x1474, 4), 4), ((wire.XAMGR, 7), 7), ((wire.XAMGR, 8), 7), ((wire.XAMGR, 65535), 7), ((wire.XAMGR, 1), 1),
+    ((wire.UNICODEMGR, 1208), 1208), ((wire.UNICODEMGR, 1209), 0), ((wire.UNICODEMGR, 1207), 0),
+    ((0x14C0, 5), 0), ((0x14C1, 5), 0), ((0x1444, 7), 0), ((wire.SQLAM, 0), 0),
 )
 
 
@@ -381,17 +381,17 @@ def attributes_twice(talk):
     talk.works_in(0, b"A")
     talk.says(0, command(1, EXCSAT), attributes(1))
     talk.works_in(0, b"C")
-    talk.says(0, command(1, EXCSAT, levels((drda.AGENT, 7))), attributes(1, (drda.AGENT, 7)))
-    talk.asks(0, SYNCCTL, sync(drda.START, b"D"), DEPENDS)
-    in_500 = message(0x2218, 0, ddm(drda.RDBNAM, SHOP_500))
+    talk.says(0, command(1, EXCSAT, levels((wire.AGENT, 7))), attributes(1, (wire.AGENT, 7)))
+    talk.asks(0, SYNCCTL, sync(wire.START, b"D"), DEPENDS)
+    in_500 = message(0x2218, 0, ddm(wire.RDBNAM, SHOP_500))
     talk.runs(0, "INSERT INTO T VALUES (1, 'a')", in_500, card(rows=1))
-    talk.says(0, command(1, EXCSAT, levels(*KNOWN, (drda.XAMGR, 0))), attributes(1, *KNOWN, (drda.XAMGR, 0)))
-    talk.asks(0, SYNCCTL, sync(drda.START, b"D"), DEPENDS)
-    talk.says(0, command(4, ACCRDB, ddm(drda.RDBNAM, SHOP) + TYPES), answer(4, named(0x2207, 8)))
-    talk.says(0, command(1, EXCSAT, levels((drda.XAMGR, 1))), attributes(1, (drda.XAMGR, 1)))
-    talk.calls(0, drda.START, b"D", -9)
-    opening = ddm(drda.RDBNAM, SHOP_500) + ddm(drda.TYPDEFNAM, "QTDSQLASC".encode("cp500"))
-    talk.says(0, command(4, ACCRDB, opening), answer(4, message(0x2207, 8, ddm(drda.RDBNAM, SHOP_500))))
+    talk.says(0, command(1, EXCSAT, levels(*KNOWN, (wire.XAMGR, 0))), attributes(1, *KNOWN, (wire.XAMGR, 0)))
+    talk.asks(0, SYNCCTL, sync(wire.START, b"D"), DEPENDS)
+    talk.says(0, command(4, ACCRDB, ddm(wire.RDBNAM, SHOP) + TYPES), answer(4, named(0x2207, 8)))
+    talk.says(0, command(1, EXCSAT, levels((wire.XAMGR, 1))), attributes(1, (wire.XAMGR, 1)))
+    talk.calls(0, wire.START, b"D", -9)
+    opening = ddm(wire.RDBNAM, SHOP_500) + ddm(wire.TYPDEFNAM, "QTDSQLASC".encode("cp500"))
+    talk.says(0, command(4, ACCRDB, opening), answer(4, message(0x2207, 8, ddm(wire.RDBNAM, SHOP_500))))
 
 
 # TYPDEFOVR, and whether it is supported.
@@ -412,11 +412,11 @@ def encodings(talk):
     talk.says(0, command(3, SECCHK, b"".join(ddm(*one) for one in CONNECTS)), checked(3, 0))
     for given, is_supported in ENCODINGS:
         reply = ACCESSED if is_supported else not_supported(TYPDEFOVR)
-        talk.says(0, command(4, ACCRDB, ddm(drda.RDBNAM, SHOP) + TYPES + ddm(TYPDEFOVR, given)), answer(4, reply))
+        talk.says(0, command(4, ACCRDB, ddm(wire.RDBNAM, SHOP) + TYPES + ddm(TYPDEFOVR, given)), answer(4, reply))
     # As data objects of any command, without further effect.
     for given, is_supported in ENCODINGS:
         replies = COMMITTED if is_supported else [not_supported(TYPDEFOVR)]
-        talk.asks(0, drda.RDBCMM, b"", *replies, objects=[ddm(TYPDEFOVR, given)])
+        talk.asks(0, wire.RDBCMM, b"", *replies, objects=[ddm(TYPDEFOVR, given)])
 
 
 # Chains.
@@ -431,7 +431,7 @@ def chains_of_queries(talk):
     talk.prepares(0, "SELECT * FROM T")
     talk.prepares(0, "SELECT * FROM NONE", 2)
     query = section(2) + number(QRYBLKSZ, 512)
-    commit = command(7, drda.RDBCMM)
+    commit = command(7, wire.RDBCMM)
     talk.says(0, command(6, OPNQRY, query, form=ON) + commit, answer(6, NOT_OPENED, NO_TABLE))
     talk.says(0, command(6, OPNQRY, query, form=ON | GO_ON) + commit, answer(6, NOT_OPENED, NO_TABLE, form=ON) + answer(7, *COMMITTED))
     wide = section() + number(QRYBLKSZ, 512)
@@ -521,17 +521,17 @@ def bounds_of_parameters(talk):
         # Of CNTQRY too, before its cursor is looked for.
         talk.asks(0, CNTQRY, section() + given, not_open(section()) if is_supported else not_supported(QRYBLKSZ))
     for length, is_supported in NAME_SIZES:
-        name = ddm(drda.PKGNAMCSN, b"N" * length)
-        talk.asks(0, PRPSQLSTT, name, NOTHING if is_supported else not_supported(drda.PKGNAMCSN), objects=[sqlstt("DELETE FROM T")])
-        replies = [NO_ROW_MORE] if is_supported else [not_supported(drda.PKGNAMCSN)]
+        name = ddm(wire.PKGNAMCSN, b"N" * length)
+        talk.asks(0, PRPSQLSTT, name, NOTHING if is_supported else not_supported(wire.PKGNAMCSN), objects=[sqlstt("DELETE FROM T")])
+        replies = [NO_ROW_MORE] if is_supported else [not_supported(wire.PKGNAMCSN)]
         talk.asks(0, EXCSQLSTT, name, *([UPDATED] if length == 64 else []), *replies)
     for value, is_supported in ((0xEF, False), (0xF0, True), (0xF2, False)):
         reply = NOTHING if is_supported else not_supported(RTNSQLDA)
         talk.asks(0, PRPSQLSTT, section() + number(RTNSQLDA, value, 1), reply, objects=[sqlstt("DELETE FROM T")])
     talk.asks(0, DSCSQLSTT, section() + number(TYPSQLDA, 6, 1), not_supported(TYPSQLDA))
     talk.asks(0, CLSQRY, section() + number(QRYINSID, 1, 4), not_supported(QRYINSID))
-    talk.asks(0, SYNCCTL, number(drda.SYNCTYPE, 5, 1), not_supported(drda.SYNCTYPE))
-    talk.asks(0, SYNCCTL, number(drda.SYNCTYPE, 9, 2), not_supported(drda.SYNCTYPE))
+    talk.asks(0, SYNCCTL, number(wire.SYNCTYPE, 5, 1), not_supported(wire.SYNCTYPE))
+    talk.asks(0, SYNCCTL, number(wire.SYNCTYPE, 9, 2), not_supported(wire.SYNCTYPE))
 
 
 # Statements.
@@ -632,8 +632,8 @@ def held_cursors(talk):
         talk.prepares(0, "SELECT * FROM T", at, attributes)
     instance = 0
     for end, replies, is_held_over in (
-        ((drda.RDBCMM, b""), COMMITTED, True),
-        ((drda.RDBRLLBCK, b""), ROLLED_BACK, False),
+        ((wire.RDBCMM, b""), COMMITTED, True),
+        ((wire.RDBRLLBCK, b""), ROLLED_BACK, False),
     ):
         for at, (_, is_held) in enumerate(texts, 1):
             instance += 1
@@ -648,10 +648,10 @@ def held_cursors(talk):
     # A cursor of local work is gone at the end of a branch that began behind it, and so is one of the branch.
     talk.queries(0, instance + 1, T, found[0], is_held=True)
     talk.commits(0)
-    talk.calls(0, drda.START, b"A", 0)
+    talk.calls(0, wire.START, b"A", 0)
     talk.continues(0, found[1])
     talk.queries(0, instance + 2, T, found[0], place=5, is_held=True)
-    talk.calls(0, drda.END, b"A", 0, drda.TMSUCCESS)
+    talk.calls(0, wire.END, b"A", 0, wire.TMSUCCESS)
     for at in (1, 5):
         talk.continues(0, not_open(section(at)), place=at)
     talk.calls(0, ROLL_BACK, b"A", 0)
@@ -665,21 +665,21 @@ def lost_and_recovered(talk):
     talk.opens(0)
     talk.creates(0)
     talk.works_in(0, b"A", ("INSERT INTO T VALUES (1, 'a')", 1))
-    talk.calls(0, drda.PREPARE, b"A", 0)
+    talk.calls(0, wire.PREPARE, b"A", 0)
     talk.works_in(0, b"C", ("INSERT INTO T VALUES (2, 'b')", 1))
     talk.record(events.IS_LOST, 0)
     talk.opens(1)
     talk.asks(1, SYNCCTL, sync(RECOVER), in_doubt(b"A"))
     talk.runs(1, "INSERT INTO T VALUES (1, 'c')", CLASHES)
     # The branch that was not prepared is gone.
-    talk.calls(1, drda.COMMIT, b"C", -4)
+    talk.calls(1, wire.COMMIT, b"C", -4)
     talk.changes(1, "INSERT INTO T VALUES (2, 'd')", 1, True)
-    talk.calls(1, drda.COMMIT, b"A", 0)
+    talk.calls(1, wire.COMMIT, b"A", 0)
     talk.asks(1, SYNCCTL, sync(RECOVER), in_doubt())
     talk.prepares(1, "SELECT * FROM T")
     talk.finds(1, 1, row(1, b"a"), row(2, b"d"))
     talk.commits(1)
-    talk.calls(1, drda.COMMIT, b"A", -4)
+    talk.calls(1, wire.COMMIT, b"A", -4)
 
 
 # With much of everything.
@@ -693,9 +693,9 @@ def thousand_rows(talk):
     talk.says_together(0, inserts, is_first=True)
     talk.commits(0)
     talk.works_in(0, b"A", (f"UPDATE T SET V = '{'w' * 50}'", 1000), ("DELETE FROM T WHERE K >= 500", 500))
-    talk.calls(0, drda.PREPARE, b"A", 0)
+    talk.calls(0, wire.PREPARE, b"A", 0)
     talk.runs(0, "DELETE FROM T WHERE K = 999", CLASHES)
-    talk.calls(0, drda.COMMIT, b"A", 0)
+    talk.calls(0, wire.COMMIT, b"A", 0)
     talk.prepares(0, "SELECT * FROM T")
     found = [row(key, b"w" * 50) for key in range(500)]
     talk.finds(0, 1, *found, size=1_048_576)
@@ -782,18 +782,18 @@ def fills(talk):
     talk.creates(0, "CREATE TABLE L (K VARCHAR(200) NOT NULL, V VARCHAR(600), PRIMARY KEY (K))")
     talk.says_together(0, [(f"INSERT INTO L VALUES ('{long_key(key)}', '{'v' * 600}')", 1) for key in range(150)], is_first=True)
     talk.commits(0)
-    commit, committed = command(7, drda.RDBCMM), answer(7, *COMMITTED)
+    commit, committed = command(7, wire.RDBCMM), answer(7, *COMMITTED)
     for first in range(0, 800, 100):
         pairs = [(f"UPDATE L SET V = '{at}' WHERE K = '{long_key(at % 150)}'", 1) for at in range(first, first + 100)]
         talk.says_together(0, pairs, is_first=True, behind=(commit, committed))
     for number, name in enumerate(BRANCHES):
-        talk.calls(0, drda.START, name, 0)
+        talk.calls(0, wire.START, name, 0)
         keys = range(10_000 + 10 * number, 10_010 + 10 * number)
         talk.says_together(0, [(f"INSERT INTO L VALUES ('{long_key(key)}', NULL)", 1) for key in keys], is_first=True)
-        talk.calls(0, drda.END, name, 0, drda.TMSUCCESS)
-        talk.calls(0, drda.PREPARE, name, 0)
+        talk.calls(0, wire.END, name, 0, wire.TMSUCCESS)
+        talk.calls(0, wire.PREPARE, name, 0)
     talk.works_in(0, b"last", (f"INSERT INTO L VALUES ('{long_key(20_000)}', NULL)", 1))
-    talk.calls(0, drda.PREPARE, b"last", -3)
+    talk.calls(0, wire.PREPARE, b"last", -3)
 
 
 def decides(talk):
@@ -802,9 +802,9 @@ def decides(talk):
     talk.asks(1, SYNCCTL, sync(RECOVER), in_doubt(*BRANCHES))
     claimed = [command(6, EXCSQLIMM, b"", sqlstt(f"INSERT INTO L VALUES ('{long_key(key)}', 'a')")) for key in range(10_000, 12_560, 37)]
     talk.says_all(1, [(one, answer(6, CLASHES)) for one in claimed])
-    talk.calls(1, drda.COMMIT, b"last", -4)
+    talk.calls(1, wire.COMMIT, b"last", -4)
     for number, name in enumerate(BRANCHES):
-        talk.calls(1, ROLL_BACK if number % 2 else drda.COMMIT, name, 0)
+        talk.calls(1, ROLL_BACK if number % 2 else wire.COMMIT, name, 0)
     talk.asks(1, SYNCCTL, sync(RECOVER), in_doubt())
 
 
