@@ -146,7 +146,9 @@ pub struct FakePlace {
 impl FilePlace for FakePlace {
     type File = FakeFile;
 
-    ghost is_kept = { λ _. true };
+    ghost is_modelled = { false };
+
+    ghost is_kept = { λ _. false };
 
     fn create(&mut self) -> io::Result<FakeFile> {
         if self.failing == Step::Create {

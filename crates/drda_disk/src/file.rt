@@ -39,16 +39,17 @@ impl<F: PositionalFile + Drop> FileDisk<F> {
     ghost use Rattle.drda_disk.specs.FileDisk.{file_of, own_faults_of, has_lost_sync};
 
     /// Makes a file of `size` zeros at a place where no file is, locked. When it is returned, its zeros
-    /// and its folder's entry outlast a crash. Where one of these steps fails, the file is taken away
+    /// and its folder's entry outlast a crash, of a file and a folder that keep what was written. Where one of these steps fails, the file is taken away
     /// again if it can be. Memory on the device is not set aside: a device that is full fails a later
     /// write.
     pub fn create<P: FilePlace<File = F>>(
         place: &mut P,
         size: usize,
     ) -> Result<FileDisk<F>, FileFault>
-        ensures zeros { IfOk result (λ disk. (F.life (file_of disk)).seen ≡ replicate size 0) }
-        ensures durable { IfOk result (λ disk. Only (F.life (file_of disk))) }
-        ensures kept { OnOk result (IsTrue (P.is_kept place.new)) }
+        ensures size { IfOk result (λ disk. length (F.life (file_of disk)).seen ≡ size) }
+        ensures zeros { IfOk result (λ disk. IsTrue F.is_modelled → (F.life (file_of disk)).seen ≡ replicate size 0) }
+        ensures durable { IfOk result (λ disk. IsTrue F.is_modelled → Only (F.life (file_of disk))) }
+        ensures kept { OnOk result (IsTrue P.is_modelled → IsTrue (P.is_kept place.new)) }
         ensures faults { IfOk result (λ disk. own_faults_of disk ≡ 0) }
         ensures usable { IfOk result (λ disk. has_lost_sync disk ≡ false) }
     {
@@ -121,9 +122,10 @@ fn prepare<F: PositionalFile, P: FilePlace<File = F>>(
     file: &mut F,
     size: usize,
 ) -> Result<(), FileFault>
-    ensures zeros { OnOk result ((F.life file.new).seen ≡ replicate size 0) }
-    ensures durable { OnOk result (Only (F.life file.new)) }
-    ensures kept { OnOk result (IsTrue (P.is_kept place.new)) }
+    ensures size { OnOk result (length (F.life file.new).seen ≡ size) }
+    ensures zeros { OnOk result (IsTrue F.is_modelled → (F.life file.new).seen ≡ replicate size 0) }
+    ensures durable { OnOk result (IsTrue F.is_modelled → Only (F.life file.new)) }
+    ensures kept { OnOk result (IsTrue P.is_modelled → IsTrue (P.is_kept place.new)) }
 {
     file.lock()?;
     file.lengthen(size)?;

@@ -30,7 +30,8 @@ pub trait PositionalFile {
 
     /// Gives a new file its length, by zeros.
     fn lengthen(&mut self, len: usize) -> io::Result<()>
-        ensures { OnOk result ((life self.new).seen ≡ replicate len 0) };
+        ensures length { OnOk result (length (life self.new).seen ≡ len) }
+        ensures zeros { OnOk result (IsTrue is_modelled → (life self.new).seen ≡ replicate len 0) };
 
     /// Reads bytes from `at` on, as many as are returned; none at the end of the file.
     fn read_some(&mut self, at: usize, into: &mut [u8]) -> io::Result<usize>
@@ -63,6 +64,9 @@ pub trait PositionalFile {
 pub trait FilePlace {
     type File: PositionalFile;
 
+    /// The folder keeps what was synced; of a real one nothing can be known.
+    ghost is_modelled: { Bool };
+
     /// A crash leaves the folder's entry of the file.
     ghost is_kept: { Self → Bool };
 
@@ -74,7 +78,7 @@ pub trait FilePlace {
 
     /// Syncs the folder.
     fn sync_folder(&mut self) -> io::Result<()>
-        ensures { OnOk result (IsTrue (is_kept self.new)) };
+        ensures { OnOk result (IsTrue is_modelled → IsTrue (is_kept self.new)) };
 
     /// Takes the file away again, if it can be.
     fn remove(&mut self);

@@ -77,7 +77,9 @@ impl<'a, R: Files<File = File>> FilePath<'a, R> {
 impl<'a, R: Files<File = File>> FilePlace for FilePath<'a, R> {
     type File = SystemFile;
 
-    ghost is_kept = { λ _. true };
+    ghost is_modelled = { false };
+
+    ghost is_kept = { λ _. false };
 
     fn create(&mut self) -> io::Result<SystemFile> {
         let file = File::create_new(self.rt, self.path)?;
