@@ -15,8 +15,52 @@ pub const ONE: &str = "000A D051 0006 0004 200A 0028 D003 0006 0022 2414 00 0000
 pub const TWO: &str = "000A D051 0006 0004 200A 0028 D003 0006 0022 2414 00 00000018
     494E5345525420494E544F20542056414C55455320283229 FF";
 
-/// Three units, each with its commit.
-pub const THREE_UNITS: &[&str] = &[CREATE, RDBCMM, ONE, RDBCMM, TWO, RDBCMM];
+/// INSERT INTO T VALUES (3).
+const THREE: &str = "000A D051 0006 0004 200A 0028 D003 0006 0022 2414 00 00000018
+    494E5345525420494E544F20542056414C55455320283329 FF";
+
+// SYNCCTL for the branches G and H: start, end, prepare, commit, roll back.
+const START_G: &str =
+    "0021 D001 0006 001B 1055 0005 1187 09 0012 1801 00000001 00000001 00000001 47 42";
+
+const END_G: &str =
+    "0029 D001 0006 0023 1055 0005 1187 0B 0012 1801 00000001 00000001 00000001 47 42 0008 1903 04000000";
+
+const PREPARE_G: &str =
+    "0021 D001 0006 001B 1055 0005 1187 01 0012 1801 00000001 00000001 00000001 47 42";
+
+const COMMIT_G: &str =
+    "0021 D001 0006 001B 1055 0005 1187 04 0012 1801 00000001 00000001 00000001 47 42";
+
+const START_H: &str =
+    "0021 D001 0006 001B 1055 0005 1187 09 0012 1801 00000001 00000001 00000001 48 42";
+
+const END_H: &str =
+    "0029 D001 0006 0023 1055 0005 1187 0B 0012 1801 00000001 00000001 00000001 48 42 0008 1903 04000000";
+
+const PREPARE_H: &str =
+    "0021 D001 0006 001B 1055 0005 1187 01 0012 1801 00000001 00000001 00000001 48 42";
+
+const ROLL_BACK_H: &str =
+    "0021 D001 0006 001B 1055 0005 1187 07 0012 1801 00000001 00000001 00000001 48 42";
+
+/// Six records: two commits, a branch that is prepared and committed, and one that is prepared and rolled back.
+pub const SIX_RECORDS: &[&str] = &[
+    CREATE,
+    RDBCMM,
+    ONE,
+    RDBCMM,
+    START_G,
+    TWO,
+    END_G,
+    PREPARE_G,
+    COMMIT_G,
+    START_H,
+    THREE,
+    END_H,
+    PREPARE_H,
+    ROLL_BACK_H,
+];
 
 /// The event records of a conversation that opens the database, and sends all of this in one piece.
 pub fn piece(alloc: Global, commands: &[&str]) -> Option<Vec<u8>> {
