@@ -222,23 +222,24 @@ fn is_described(
     alloc: Global,
     (kind, is_nullable, length): (Kind, bool, u16),
     described: &[u8],
-) -> Option<bool> {
-    let columns = one_column(alloc, kind, is_nullable, length).ok()?;
+) -> Result<bool, Fail> {
+    let columns = one_column(alloc, kind, is_nullable, length)?;
     let mut out = Vec::new(alloc);
     if !are_described(&columns) {
-        return None;
+        return Ok(false);
     }
-    sqldard(&mut out, true, &columns).ok()?;
-    Some(out.get(12..24) == Some(described))
+    sqldard(&mut out, true, &columns)?;
+    Ok(out.get(12..24) == Some(described))
 }
 
 #[test]
-fn each_type_is_described(rt: HostRuntime) {
+fn each_type_is_described(rt: HostRuntime) -> Result<(), Fail> {
     for (kind, is_nullable, length, described) in &DESCRIBED {
         let column = (*kind, *is_nullable, *length);
-        let told = is_described(rt.alloc(), column, described.as_slice());
-        assert!(rt; told == Some(true), "{kind:?} {is_nullable}");
+        let is_so = is_described(rt.alloc(), column, described.as_slice())?;
+        assert!(rt; is_so, "{kind:?} {is_nullable}");
     }
+    Ok(())
 }
 
 #[test]
