@@ -1,5 +1,5 @@
 -- A run over a disk in memory behind a fuse, a crash, and an opening.
-use Rattle.std.proofs.Common.{◌≡◌, ℕ, true, List, [], Some, Result, Ok, Err, sym, ◌∙◌, subst, inl, inr}
+use Rattle.std.proofs.Common.{◌≡◌, ℕ, true, List, [], Option, Some, Result, Ok, Err, sym, ◌∙◌, subst}
 use Rattle.std.specs.Prelude.{IfErr, IfOk}
 use Rattle.drda_disk.specs.Disk.{Life, Now}
 use Rattle.drda_disk.specs.MemDisk.{life_of}
@@ -29,22 +29,21 @@ behind_fuse name d disk f is store =
     record { modelled_is = inside.modelled_is; only = inside.only; opens = inside.opens }
 
 -- the state that an image opens to after it all
-pub record LeftState (name : List ℕ) (d : Durable) (user password input image : List ℕ) : Type 0 where
+pub record LeftState (name : List ℕ) (d : Durable) (user password input image : List ℕ) (r : Result RunEnd OpenError) : Type 0 where
   pub state : Durable
   pub opens : OpensTo name state image
-  pub survives : (told : CoreState) → told ≡ opened state → Survives name d user password input told
+  pub survives : (told : CoreState) → told ≡ opened state → Survives name d user password input r told
 
 module _ (name : List ℕ) (d : Durable) (user password input : List ℕ) (f left : FuseDisk MemDisk) (store : IsStore true name d (fused f)) (replies image : List ℕ) (now : Now (fused left) image) where
-  pub left_state : (r : Result RunEnd OpenError) → RunsFrom fused name d user password f (Some input) (Some []) left r (Some replies) → LeftState name d user password input image
+  pub left_state : (r : Result RunEnd OpenError) → RunsFrom fused name d user password f (Some input) (Some []) left r (Some replies) → LeftState name d user password input image r
   left_state (Ok end) ran =
       let after = ran.left image now in
       record {
         state = after.after.state;
         opens = after.after.opens;
-        survives = λ told is. inl (record {
+        survives = λ told is. record {
           room = ran.room;
           last = ran.last;
-          end = end;
           replies = replies;
           runs = ran.runs;
           records = ran.records;
@@ -52,21 +51,27 @@ module _ (name : List ℕ) (d : Durable) (user password input : List ℕ) (f lef
           image = image;
           after = after;
           told_is = is;
-        });
+        };
       }
   left_state (Err error) refused =
       let same : image ≡ (fused f).seen = store.only image (refused.stays.no_more image now) in
       record {
         state = d;
         opens = subst (λ (i : List ℕ). OpensTo name d i) (sym same) store.opens;
-        survives = λ told is. inr is;
+        survives = λ told is. is;
       }
 
 -- ---- what is told of it
 
-pub told_so : (name : List ℕ) (d : Durable) (user password input image : List ℕ) (left : LeftState name d user password input image) (r : Result CoreState OpenError) → IfOk r (λ told. told ≡ opened left.state) → IfOk r (Survives name d user password input)
-told_so name d user password input image left (Ok told) is = left.survives told is
-told_so name d user password input image left (Err error) is = tt
+pub told_so : (name : List ℕ) (d : Durable) (user password input image : List ℕ) (r : Result RunEnd OpenError) (left : LeftState name d user password input image r) (state : Result CoreState OpenError) → IfOk state (λ told. told ≡ opened left.state)
+    → IfOk state (Survives name d user password input r)
+told_so name d user password input image r left (Ok told) is = left.survives told is
+told_so name d user password input image r left (Err error) is = tt
+
+-- why the run was refused
+pub run_refused : (name : List ℕ) (d : Durable) (user password : List ℕ) (f left : FuseDisk MemDisk) (input before now : Option (List ℕ)) (r : Result RunEnd OpenError) → RunsFrom fused name d user password f input before left r now → IfErr r (IsRefusal name)
+run_refused name d user password f left input before now (Ok end) ran = tt
+run_refused name d user password f left input before now (Err error) refused = refused.refusal
 
 pub refused_so : (name : List ℕ) (r : Result CoreState OpenError) → IfErr r IsExcused → IfErr r (IsRefusal name)
 refused_so name (Ok told) is = tt

@@ -11,7 +11,7 @@ ghost use Rattle.store_service.specs.Surviving.{Survives};
 
 use crate::running::run_store;
 use drda_disk::{FuseDisk, MemDisk};
-use drda_node::{DurableCore, open};
+use drda_node::{DurableCore, RunEnd, open};
 use durable_core::OpenError;
 use rdb_core::PlainState;
 use std::alloc::{AllocError, Global};
@@ -21,7 +21,8 @@ use std::alloc::{AllocError, Global};
 /// records of what the run committed, prepared and decided, or all but the last; no premise on disks is left.
 /// `pick` chooses the image, as for `MemDisk::after_crash`.
 ///
-/// It is refused for want of memory, or where the name of the store is none of a database.
+/// How the run ended comes first; a run that was refused leaves the state as it was. Either is refused for want
+/// of memory, a fault of the device, or a name of the store that is none of a database.
 pub fn survives(
     alloc: Global,
     disk: MemDisk,
@@ -30,15 +31,16 @@ pub fn survives(
     user: &str,
     password: &str,
     input: &[u8],
-) -> Result<PlainState, OpenError>
-    ensures ok { (name : List ℕ) (d : Durable) → IsStore true name d (life_of disk) → IfOk result (Survives name d user.now password.now input.now) }
-    ensures err { (name : List ℕ) (d : Durable) → IsStore true name d (life_of disk) → IfErr result (IsRefusal name) }
+) -> (Result<RunEnd, OpenError>, Result<PlainState, OpenError>)
+    ensures ok { (name : List ℕ) (d : Durable) → IsStore true name d (life_of disk) → IfOk result.1 (Survives name d user.now password.now input.now result.0) }
+    ensures ran { (name : List ℕ) (d : Durable) → IsStore true name d (life_of disk) → IfErr result.0 (IsRefusal name) }
+    ensures err { (name : List ℕ) (d : Durable) → IsStore true name d (life_of disk) → IfErr result.1 (IsRefusal name) }
 {
     let mut reader = input;
     let mut written = Vec::new(alloc);
     let fuse = FuseDisk::new(disk, calls, false);
-    let (left, _end) = run_store(alloc, fuse, user, password, &mut reader, &mut written);
-    tell(alloc, left.into_inner().after_crash(pick))
+    let (left, end) = run_store(alloc, fuse, user, password, &mut reader, &mut written);
+    (end, tell(alloc, left.into_inner().after_crash(pick)))
 }
 
 // The state that a disk opens to.

@@ -4,7 +4,7 @@ use crate::inputs::{SIX_RECORDS, piece};
 use drda_disk::FuseDisk;
 use std::alloc::Global;
 use std::test::Fail;
-use store_service::{PlainState, run_store, survives};
+use store_service::{PlainState, RunEnd, run_store, survives};
 use tables::TableView;
 use test_nodes::fresh_store;
 
@@ -44,8 +44,11 @@ fn shown(alloc: Global, state: PlainState) -> Option<(usize, usize, usize)> {
 fn left(alloc: Global, calls: u64, pick: u64) -> Option<(usize, usize, usize)> {
     let input = piece(alloc, SIX_RECORDS)?;
     let disk = fresh_store(alloc)?;
-    let state = survives(alloc, disk, calls, pick, "ana", "pw", &input).ok()?;
-    shown(alloc, state)
+    let (end, state) = survives(alloc, disk, calls, pick, "ana", "pw", &input);
+    if end != Ok(RunEnd::Ended) {
+        return None;
+    }
+    shown(alloc, state.ok()?)
 }
 
 // Whether just so many of the records are there.

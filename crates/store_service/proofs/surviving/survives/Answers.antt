@@ -3,7 +3,7 @@ use Rattle.drda_disk.specs.Disk.{Now}
 use Rattle.drda_disk.specs.MemDisk.{life_of, read_of}
 use Rattle.drda_disk.specs.declared.memory.MemDisk.{MemDisk}
 use Rattle.store_service.specs.Running.{RunsFrom}
-use Rattle.store_service.proofs.Survivors.{behind_fuse, fused, left_state, refused_so, told_so}
+use Rattle.store_service.proofs.Survivors.{behind_fuse, fused, left_state, refused_so, run_refused, told_so}
 use Rattle.store_service.proofs.surviving.survives.Goals as goal
 
 pub returns-clause-ok : goal.returns-clause-ok
@@ -16,7 +16,7 @@ returns-clause-ok c name d store =
     let ran : RunsFrom fused name d c.args.user.now c.args.password.now f (Some c.args.input.now) (Some []) left c.run_store-left.result.1 (Some c.run_store-left.new.writer.items) =
     subst (λ (w : List ℕ). RunsFrom fused name d c.args.user.now c.args.password.now f (Some c.args.input.now) (Some w) left c.run_store-left.result.1 (Some c.run_store-left.new.writer.items)) c.new-written.ensures.items (c.run_store-left.ensures name d fused_store) in
     let there = left_state name d c.args.user.now c.args.password.now c.args.input.now f left fused_store c.run_store-left.new.writer.items image now c.run_store-left.result.1 ran in
-    told_so name d c.args.user.now c.args.password.now c.args.input.now image there c.tell.result (c.tell.ensures.ok name there.state there.opens)
+    told_so name d c.args.user.now c.args.password.now c.args.input.now image c.run_store-left.result.1 there c.tell.result (c.tell.ensures.ok name there.state there.opens)
 
 pub returns-clause-err : goal.returns-clause-err
 returns-clause-err c name d store =
@@ -29,3 +29,9 @@ returns-clause-err c name d store =
     subst (λ (w : List ℕ). RunsFrom fused name d c.args.user.now c.args.password.now f (Some c.args.input.now) (Some w) left c.run_store-left.result.1 (Some c.run_store-left.new.writer.items)) c.new-written.ensures.items (c.run_store-left.ensures name d fused_store) in
     let there = left_state name d c.args.user.now c.args.password.now c.args.input.now f left fused_store c.run_store-left.new.writer.items image now c.run_store-left.result.1 ran in
     refused_so name c.tell.result (c.tell.ensures.err name there.state there.opens)
+
+pub returns-clause-ran : goal.returns-clause-ran
+returns-clause-ran c name d store =
+    let f = c.new-fuse.result in
+    let fused_store = behind_fuse name d c.args.disk f c.new-fuse.ensures.inner store in
+    run_refused name d c.args.user.now c.args.password.now f c.run_store-left.result.0 _ _ _ c.run_store-left.result.1 (c.run_store-left.ensures name d fused_store)
