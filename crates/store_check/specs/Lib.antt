@@ -6,3 +6,4 @@ pub mod Errors
 pub mod Half
 pub mod Halving
 pub mod Written
+pub mod Checkpoint

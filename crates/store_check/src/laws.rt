@@ -1,4 +1,5 @@
 //! Laws of whole and of damaged pages.
+ghost use Rattle.store_check.specs.Checkpoint.{CheckpointIsNotBad, CheckpointsAreFramed, CheckpointsAreStores, NoPagesHaveNoTables, OneCheckpoint};
 ghost use Rattle.store_check.specs.Half.{OneFirstBadOfHalf, OneWholeHalf, WholeHalfIsNotBad};
 ghost use Rattle.store_check.specs.Listed.{ListedIsNotBad};
 ghost use Rattle.store_check.specs.Written.{WrittenHalfIsWhole, WrittenIsListed, WrittenIsWhole};
@@ -82,4 +83,17 @@ pub fn written_half_is_whole()
 {
     one_laying();
     catalogues_are_read();
+}
+
+/// The pages of a half have one checkpoint at most, and where they have one, no first bad page. Its tables
+/// are a store. Pages that read the same have the same checkpoint, and no pages have no tables.
+pub fn checkpoints_are_known()
+    ensures one { OneCheckpoint }
+    ensures sound { CheckpointIsNotBad }
+    ensures stores { CheckpointsAreStores }
+    ensures framed { CheckpointsAreFramed }
+    ensures none { NoPagesHaveNoTables }
+{
+    one_whole_half();
+    whole_half_is_not_bad();
 }
