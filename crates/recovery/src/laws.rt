@@ -53,7 +53,7 @@ pub fn states_stay_sound()
     changes_are_local();
 }
 
-/// The state that entries lead to from a store that was just made is sound.
+/// The state that entries lead to from a checkpoint is sound.
 pub fn records_lead_to_sound_states()
     ensures { LeadsAreSound }
 {
