@@ -1,18 +1,25 @@
 -- The parts of a store that were read: they stand there, and what opens is not refused.
-use Rattle.std.proofs.Common.{◌≡◌, ℕ, ◌+◌, ◌*◌, ◌≤◌, Bool, List, length, Result, Ok, Err, sym, ◌∙◌, ap, subst, arith}
+use Rattle.std.proofs.Common.{◌≡◌, ℕ, ◌+◌, ◌-◌, ◌*◌, ◌≤◌, Bool, List, length, Result, Ok, Err, sym, ◌∙◌, ap, subst, arith}
 use Rattle.drda_disk.specs.Disk.{Life}
 use Rattle.drda_disk.specs.declared.region.Region.{Region}
 use Rattle.half_store.specs.Active.{Store, active_of}
+use Rattle.half_store.specs.Layout.{half_len, offset_of}
+use Rattle.half_store.specs.Opened.{store_of}
+use Rattle.half_store.specs.declared.active.Active.{Active}
+use Rattle.store_check.specs.Checkpoint.{HasCheckpoint, OneCheckpoint, half_pages}
+use Rattle.store_check.specs.Half.{HalfPages, pages_of}
+use Rattle.tables.specs.Tables.{Store as Tables}
 use Rattle.unit_journal.specs.Journal.{held_of, next_of, region_of, room_of}
 use Rattle.unit_journal.specs.declared.journal.Journal.{Journal}
 use Rattle.unit_journal.specs.Laws.{OneReading}
 use Rattle.unit_journal.specs.Record.{Entry, laid}
 use Rattle.unit_journal.specs.Stands.{Stands}
-use Rattle.recovery.specs.Durable.{Doubts, Durable, fresh}
+use Rattle.recovery.specs.Durable.{Doubts, Durable, at_checkpoint}
 use Rattle.recovery.specs.Journal.{Leads, OneState}
 use Rattle.recovery.specs.Laws.{held_for}
-use Rattle.recovery_laws.specs.Opens.{Holds, IsJournal, OpensTo}
-use Rattle.recovery_laws.specs.ImageLaws.{IsBehindPages, IsThere, OpensThere, OpensToOne}
+use Rattle.recovery_laws.specs.Opens.{Holds, OpensTo}
+use Rattle.recovery_laws.specs.ImageLaws.{IsThere, OpensThere, OpensToOne}
+use Rattle.recovery_laws.proofs.Reading.{one_store}
 use Rattle.durable_core.specs.Reads.{IsHead, IsPlain}
 use Rattle.durable_core.specs.Found.{StandsThere, durable_in, name_in}
 use Rattle.durable_core.specs.declared.errors.OpenError.{OpenError}
@@ -21,38 +28,50 @@ use Rattle.durable_core.specs.declared.reading.Found.{Found}
 pub passed_on : {T F : Type 0} (r : Result T OpenError) (e : OpenError) (last : Result F OpenError) → r ≡ Err e → last ≡ Err e → IsPlain r → IsPlain last
 passed_on {T} {F} r e last is last_is plain = subst (λ (x : Result F OpenError). IsPlain x) (sym last_is) (subst (λ (x : Result T OpenError). IsPlain x) is plain)
 
--- the region of a store without pages is what is left behind its pages
-pub behind : (size : ℕ) (store : Store) (region : Region) → IsJournal size store region → IsBehindPages size store region
-behind size store region j = record { begins = omega (arith, j.begins, ap (λ (n : ℕ). 8192 * (1 + n)) j.no_pages); ends = j.ends }
+-- the pages of the half that was read
+pub same_pages : (image : List ℕ) (a : Active) → IsHead image a → pages_of a ≡ half_pages (length image) (store_of a)
+same_pages image a head =
+    let at : a.region.at - 8192 * a.pages ≡ offset_of (half_len (length image)) a.half + 8192 = omega (arith, head.journal.begins) in
+    ap (λ (n : ℕ). let h : HalfPages = record { at = n; count = a.pages; first_catalogue = a.first_catalogue; catalogue_pages = a.catalogue_pages } in h) at
 
 module _ (image : List ℕ) (name : List ℕ) (d : Durable) (opens : OpensTo name d image) where
-  pub head_plain : {T : Type 0} (r : Result T OpenError) → ((store : Store) → active_of image ≡ Ok store → store.header.pages ≡ 0 → IsPlain r) → IsPlain r
-  head_plain r plain = plain opens.2.store opens.2.active opens.2.journal.no_pages
+  pub head_plain : {T : Type 0} (r : Result T OpenError) → ((store : Store) → active_of image ≡ Ok store → IsPlain r) → IsPlain r
+  head_plain r plain = plain opens.2.store opens.2.active
 
-  module _ (there_is : OpensThere) (title : List ℕ) (region : Region) (head : IsHead image title region) where
-    there : IsThere name d image head.store region
-    there = there_is name d image head.store region opens head.active (behind (length image) head.store region head.journal)
+  module _ (there_is : OpensThere) (a : Active) (head : IsHead image a) where
+    there : IsThere name d image (store_of a) a.region
+    there = there_is name d image (store_of a) a.region opens head.active head.journal
 
-    pub journal_plain : {T : Type 0} (r : Result T OpenError) → ((es : List Entry) → Stands region es image → IsPlain r) → IsPlain r
+    laid_there : HasCheckpoint image (pages_of a) there.holds.checkpoint
+    laid_there =
+        let same : there.holds.store ≡ store_of a = one_store there.holds.store (store_of a) (active_of image) there.holds.active head.active in
+        subst (λ (h : HalfPages). HasCheckpoint image h there.holds.checkpoint) (sym (same_pages image a head))
+        (subst (λ (x : Store). HasCheckpoint image (half_pages (length image) x) there.holds.checkpoint) same there.holds.laid)
+
+    pub tables_plain : {T : Type 0} (r : Result T OpenError) → ((tables : Tables) → HasCheckpoint image (pages_of a) tables → IsPlain r) → IsPlain r
+    tables_plain r plain = plain there.holds.checkpoint laid_there
+
+    pub journal_plain : {T : Type 0} (r : Result T OpenError) → ((es : List Entry) → Stands a.region es image → IsPlain r) → IsPlain r
     journal_plain r plain = plain there.es there.holds.stands
 
-    module _ (readings : OneReading) (es : List Entry) (stands : Stands region es image) where
+    module _ (checkpoints : OneCheckpoint) (readings : OneReading) (tables : Tables) (laid_are : HasCheckpoint image (pages_of a) tables) (es : List Entry) (stands : Stands a.region es image) where
       same : there.es ≡ es
-      same = readings.records region image there.es es there.holds.stands stands
+      same = readings.records a.region image there.es es there.holds.stands stands
 
-      leads : Leads fresh es d
-      leads = subst (λ (l : List Entry). Leads fresh l d) same there.holds.leads
+      leads : Leads (at_checkpoint tables) es d
+      leads = subst (λ (t : Tables). Leads (at_checkpoint t) es d) (checkpoints image (pages_of a) there.holds.checkpoint tables laid_there laid_are)
+          (subst (λ (l : List Entry). Leads (at_checkpoint there.holds.checkpoint) l d) same there.holds.leads)
 
-      pub units_plain : {T : Type 0} (r : Result T OpenError) → ((e : Durable) → Leads fresh es e → IsPlain r) → IsPlain r
+      pub units_plain : {T : Type 0} (r : Result T OpenError) → ((e : Durable) → Leads (at_checkpoint tables) es e → IsPlain r) → IsPlain r
       units_plain r plain = plain d leads
 
-      pub held_plain : {T : Type 0} (r : Result T OpenError) (states : OneState) (e : Durable) → Leads fresh es e → (j : Journal) → region_of j ≡ region → held_of j ≡ 0 → next_of j ≡ (region_of j).at + length (laid es)
+      pub held_plain : {T : Type 0} (r : Result T OpenError) (states : OneState) (e : Durable) → Leads (at_checkpoint tables) es e → (j : Journal) → region_of j ≡ a.region → held_of j ≡ 0 → next_of j ≡ (region_of j).at + length (laid es)
           → (doubts : Doubts) → doubts ≡ e.doubts → (held_for doubts ≤ room_of j → IsPlain r) → IsPlain r
       held_plain r states e led j place none next doubts same_doubts plain =
-          let one : d ≡ e = states fresh d e es leads led in
+          let one : d ≡ e = states (at_checkpoint tables) d e es leads led in
           let held : held_for doubts ≡ held_for d.doubts = ap (λ (l : Doubts). held_for l) (same_doubts ∙ ap (λ (x : Durable). x.doubts) (sym one)) in
           let laid_is : length (laid there.es) ≡ length (laid es) = ap (λ (l : List Entry). length (laid l)) same in
-          let long : (region_of j).length ≡ region.length = ap (λ (g : Region). g.length) place in
+          let long : (region_of j).length ≡ a.region.length = ap (λ (g : Region). g.length) place in
           let fits : held_for doubts ≤ room_of j = omega (arith, there.holds.room, held, laid_is, long, none, next) in
           plain fits
 
