@@ -187,5 +187,5 @@ module _ (checkpoints : OneCheckpoint) (not_bad : CheckpointIsNotBad) (readings 
   damage_opens_not there_is name d image at opens (inr (inr (checkpoint, region, has, bad))) =
       let there : IsThere name d image has.store region = there_is name d image has.store region opens has.active has.journal in
       let tables : checkpoint ≡ there.holds.checkpoint = one_laid checkpoints not_bad image has.store there.holds.store checkpoint there.holds.checkpoint
-          (one_store has.store there.holds.store (active_of image) has.active there.holds.active) has.laid there.holds.laid in
+      (one_store has.store there.holds.store (active_of image) has.active there.holds.active) has.laid there.holds.laid in
       bad_opens_not name d image has.store region at there (subst (λ (t : Tables). IsBadJournal t region image at) tables bad)
