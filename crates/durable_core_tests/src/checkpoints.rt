@@ -72,7 +72,7 @@ const STORES: [(usize, &'static [u8], Result<Shown, OpenError>); 12] = [
         &[2, 0, 0, 0, 0, 0, 0, 0, 0, 0],
         Err(OpenError::Damaged { at: 16_384 }),
     ),
-    (24_599, &[1], Err(OpenError::Damaged { at: 24_576 })),
+    (24_595, &[1], Err(OpenError::Damaged { at: 24_576 })),
     (
         24_576,
         &[
