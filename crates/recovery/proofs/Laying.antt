@@ -7,7 +7,7 @@ use Rattle.std.specs.Ordering.{is_lt, match_ordering, nat_cmp, ordering_reverse}
 use Rattle.std.specs.Cmp.Lexicographic.{nat_list_cmp_total, slice_cmp}
 use Rattle.std.specs.Map.{keys_of, lookup}
 use Rattle.std.proofs.lemmas.Bool.Decides.{nat_tests}
-use Rattle.std.proofs.lemmas.List.{append-assoc, length-append}
+use Rattle.std.proofs.lemmas.List.{append_assoc, length-append}
 use Rattle.drda_words.specs.Order.{rises}
 use Rattle.row_values.proofs.ValueLaws.{both_true, first_true, second_true}
 use Rattle.tables.proofs.Finding.{same_bytes}
@@ -88,7 +88,7 @@ all_laid store front (e ∷ rest) good placed before rise few =
     let longer : length (front ++ e ∷ []) ≡ length front + 1 = length-append front (e ∷ []) in
     ap (option_and_then (λ (d : Durable). replayed_from d (prepares_of rest))) (one_laid store front e good.0 here before.0 (omega (arith, few)))
     ∙ all_laid store (front ++ e ∷ []) rest good.1 others (all_behind front rest e before.1 later) (second_true (list_all (λ later. is_lt (by_xid e.0 later)) (keys_of rest)) (rises by_xid (keys_of rest)) rise) (omega (arith, few, longer))
-    ∙ ap (λ (doubts : Doubts). Some (record { store = store; doubts = doubts })) (append-assoc front (e ∷ []) rest)
+    ∙ ap (λ (doubts : Doubts). Some (record { store = store; doubts = doubts })) (append_assoc front (e ∷ []) rest)
 
 none_before : (rest : Doubts) → AllBefore [] rest
 none_before [] = tt
@@ -105,4 +105,4 @@ doubts_are_laid written = record {
 }
   where
     laid : (d : Durable) → IsSound d → are_placed d.doubts d.store ≡ true → replayed_from (at_checkpoint d.store) (prepares_of d.doubts) ≡ Some d
-    laid d sound placed = all_laid d.store [] d.doubts sound.good placed (none_before d.doubts) sound.rising sound.few
+    laid d sound placed = all_laid d.store [] d.doubts sound.good placed (none_before d.doubts) sound.rising (omega (arith, sound.few))

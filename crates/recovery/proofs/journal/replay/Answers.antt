@@ -13,8 +13,8 @@ use Rattle.recovery.proofs.journal.replay.Goals as goal
 
 pub loop-left-init : goal.loop-left-init
 loop-left-init c = record {
-  leads = λ d here. subst (λ (s : Durable). Leads s (entries_of c.args.records.now) d) c.new-state.ensures here;
-  stops = λ at here. subst (λ (s : Durable). StopsAt s c.args.records.now at) c.new-state.ensures here;
+  leads = λ d here. subst (λ (s : Durable). Leads s (entries_of c.args.records.now) d) c.over-state.ensures here;
+  stops = λ at here. subst (λ (s : Durable). StopsAt s c.args.records.now at) c.over-state.ensures here;
 }
 
 pub loop-left-preserved : goal.loop-left-preserved

@@ -9,8 +9,8 @@ use Rattle.recovery.proofs.journal.replay.Given as goal
 
 abbrev pub invariant-loop-left : goal.invariant-loop-left
 invariant-loop-left l = record {
-  leads : (d : Durable) → Leads (durable_of l.state) (entries_of l.left) d → Leads (at_checkpoint (store_in l.checkpoint)) (entries_of l.records) d;
-  stops : (at : ℕ) → StopsAt (durable_of l.state) l.left at → StopsAt (at_checkpoint (store_in l.checkpoint)) l.records at;
+  leads : (d : Durable) → Leads (durable_of l.state) (entries_of l.left) d → Leads (at_checkpoint (store_in l.fn.checkpoint)) (entries_of l.records) d;
+  stops : (at : ℕ) → StopsAt (durable_of l.state) l.left at → StopsAt (at_checkpoint (store_in l.fn.checkpoint)) l.records at;
 }
 
 abbrev pub decreases-loop-left : goal.decreases-loop-left
