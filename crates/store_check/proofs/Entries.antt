@@ -1,5 +1,5 @@
 -- What the rows of a catalogue say of tables.
-use Rattle.std.proofs.Common.{◌≡◌, ℕ, Bool, true, false, List, [], ◌∷◌, ◌++◌, Option, Some, None, refl, sym, ap, subst, ◌∙◌, if◌then◌else◌, option_map}
+use Rattle.std.proofs.Common.{◌≡◌, ℕ, ◌+◌, Bool, true, false, List, [], ◌∷◌, ◌++◌, Option, Some, None, refl, sym, ap, subst, ◌∙◌, if◌then◌else◌, option_map}
 use Rattle.std.specs.Option.{option_and_then}
 use Rattle.std.specs.List.{AllByRecursion}
 use Rattle.row_values.specs.Schema.{Schema, is_name, is_schema}
@@ -40,7 +40,8 @@ entry_named row e is =
     let name = chained (λ (x : List ℕ × List ℕ). option_and_then (λ (y : Schema × List ℕ). entry_with x.0 y.0 (numbers_at y.1)) (schema_at x.1)) (name_at row) e is in
     let schema = chained (λ (y : Schema × List ℕ). entry_with name.0.0 y.0 (numbers_at y.1)) (schema_at name.0.1) e name.2 in
     let whole = mapped (λ (n : ℕ × ℕ). record { name = name.0.0; schema = schema.0.0; first_page = n.0; pages = n.1 }) (numbers_at schema.0.1) e schema.2 in
-    subst (λ (x : Entry). IsNamed x) whole.2 (record { name = name_told row name.0 name.1; schema = schema_told name.0.1 schema.0 schema.1 })
+    let made : Entry = record { name = name.0.0; schema = schema.0.0; first_page = whole.0.0; pages = whole.0.1 } in
+    subst (λ (x : Entry). IsNamed x) {x = made} whole.2 (record { name = name_told row name.0 name.1; schema = schema_told name.0.1 schema.0 schema.1 })
 
 rows_named : (rows : List (List ℕ)) (es : List Entry) → entries_in rows ≡ Some es → AreNamed es
 rows_named [] es is = let none : [] ≡ es = cc in subst (λ (l : List Entry). AreNamed l) none tt
@@ -50,8 +51,8 @@ rows_named (row ∷ rows) es is =
     subst (λ (l : List Entry). AreNamed l) rest.2 (entry_named row first.0 first.1, rows_named rows rest.0 rest.1)
 
 named_both : (es more : List Entry) → AreNamed es → AreNamed more → AreNamed (es ++ more)
-named_both [] more named then = then
-named_both (e ∷ es) more named then = (named.0, named_both es more named.1 then)
+named_both [] more named also = also
+named_both (e ∷ es) more named also = (named.0, named_both es more named.1 also)
 
 -- the tables of a catalogue have names and schemas
 pub pages_named : (file : List ℕ) (at : ℕ) (pages : List (List Entry)) → EntriesAt file at pages → AreNamed (entries_over pages)
