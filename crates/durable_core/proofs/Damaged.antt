@@ -158,11 +158,11 @@ module _ (checkpoints : OneCheckpoint) (not_bad : CheckpointIsNotBad) (first_bad
   one_damage image a b (inr (inl p)) (inr (inl q)) =
       let same : p.store ≡ q.store = one_store p.store q.store (active_of image) p.active q.active in
       first_bad forms image (half_pages (length image) q.store) a b (subst (λ (x : Store). BreaksHalf forms image (half_pages (length image) x) a) same p.bad) q.bad
-  one_damage image a b (inr (inl p)) (inr (inr q)) = absurd (no_bad_page checkpoints not_bad image a p q.2.store q.2.active q.0 q.2.laid)
-  one_damage image a b (inr (inr p)) (inr (inl q)) = absurd (no_bad_page checkpoints not_bad image b q p.2.store p.2.active p.0 p.2.laid)
+  one_damage image a b (inr (inl p)) (inr (inr q)) = absurd (no_bad_page checkpoints not_bad image a p q.2.store q.2.active q.0 q.2.pages)
+  one_damage image a b (inr (inr p)) (inr (inl q)) = absurd (no_bad_page checkpoints not_bad image b q p.2.store p.2.active p.0 p.2.pages)
   one_damage image a b (inr (inr p)) (inr (inr q)) =
       let same : p.2.store ≡ q.2.store = one_store p.2.store q.2.store (active_of image) p.2.active q.2.active in
-      let tables : p.0 ≡ q.0 = one_laid checkpoints not_bad image p.2.store q.2.store p.0 q.0 same p.2.laid q.2.laid in
+      let tables : p.0 ≡ q.0 = one_laid checkpoints not_bad image p.2.store q.2.store p.0 q.0 same p.2.pages q.2.pages in
       let at : p.1.at ≡ q.1.at = p.2.journal.begins ∙ ap (λ (s : Store). offset_of (half_len (length image)) s.half + 8192 * (1 + s.header.pages)) same ∙ sym q.2.journal.begins in
       let end : end_of p.1 ≡ end_of q.1 = p.2.journal.ends ∙ ap (λ (s : Store). offset_of (half_len (length image)) s.half + half_len (length image)) same ∙ sym q.2.journal.ends in
       one_bad q.0 q.1 image a b (moved p.1 q.1 image at end q.0 a (subst (λ (t : Tables). IsBadJournal t p.1 image a) tables p.3)) q.3
@@ -183,9 +183,9 @@ module _ (checkpoints : OneCheckpoint) (not_bad : CheckpointIsNotBad) (readings 
 
   pub damage_opens_not : OpensThere → DamageOpensNot
   damage_opens_not there_is name d image at opens (inl p) = no_store image at opens.2.store p opens.2.active
-  damage_opens_not there_is name d image at opens (inr (inl p)) = no_bad_page checkpoints not_bad image at p opens.2.store opens.2.active opens.2.checkpoint opens.2.laid
+  damage_opens_not there_is name d image at opens (inr (inl p)) = no_bad_page checkpoints not_bad image at p opens.2.store opens.2.active opens.2.checkpoint opens.2.pages
   damage_opens_not there_is name d image at opens (inr (inr (checkpoint, region, has, bad))) =
       let there : IsThere name d image has.store region = there_is name d image has.store region opens has.active has.journal in
       let tables : checkpoint ≡ there.holds.checkpoint = one_laid checkpoints not_bad image has.store there.holds.store checkpoint there.holds.checkpoint
-      (one_store has.store there.holds.store (active_of image) has.active there.holds.active) has.laid there.holds.laid in
+      (one_store has.store there.holds.store (active_of image) has.active there.holds.active) has.pages there.holds.pages in
       bad_opens_not name d image has.store region at there (subst (λ (t : Tables). IsBadJournal t region image at) tables bad)

@@ -46,7 +46,7 @@ module _ (image : List ℕ) (name : List ℕ) (d : Durable) (opens : OpensTo nam
     laid_there =
         let same : there.holds.store ≡ store_of a = one_store there.holds.store (store_of a) (active_of image) there.holds.active head.active in
         subst (λ (h : HalfPages). HasCheckpoint image h there.holds.checkpoint) (sym (same_pages image a head))
-        (subst (λ (x : Store). HasCheckpoint image (half_pages (length image) x) there.holds.checkpoint) same there.holds.laid)
+        (subst (λ (x : Store). HasCheckpoint image (half_pages (length image) x) there.holds.checkpoint) same there.holds.pages)
 
     pub tables_plain : {T : Type 0} (r : Result T OpenError) → ((tables : Tables) → HasCheckpoint image (pages_of a) tables → IsPlain r) → IsPlain r
     tables_plain r plain = plain there.holds.checkpoint laid_there

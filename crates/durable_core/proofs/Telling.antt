@@ -61,7 +61,7 @@ module _ (image : List ℕ) (a : Active) (head : IsHead image a) where
 
 module _ (image : List ℕ) (a : Active) (head : IsHead image a) (tables : Tables) (laid_are : HasCheckpoint image (pages_of a) tables) where
   has_journal : HasJournal image tables a.region
-  has_journal = record { store = store_of a; active = head.active; laid = subst (λ (h : HalfPages). HasCheckpoint image h tables) (same_pages image a head) laid_are; journal = head.journal }
+  has_journal = record { store = store_of a; active = head.active; pages = subst (λ (h : HalfPages). HasCheckpoint image h tables) (same_pages image a head) laid_are; journal = head.journal }
 
   pub no_record : (at : ℕ) → HasNoRecord a.region at image → IsDamagedAt image at
   no_record at there = inr (inr (tables, a.region, has_journal, inl there))

@@ -30,7 +30,7 @@ pub record HasBadPage (image : List ℕ) (at : ℕ) : Type 0 where
 pub record HasJournal (image : List ℕ) (checkpoint : Tables) (region : Region) : Type 0 where
   pub store : Store
   pub active : active_of image ≡ Ok store
-  pub laid : HasCheckpoint image (half_pages (length image) store) checkpoint
+  pub pages : HasCheckpoint image (half_pages (length image) store) checkpoint
   pub journal : IsJournal (length image) store region
 
 -- the region reads as records, the first of which lead from the checkpoint to a state; there the next one has no place,

@@ -29,7 +29,7 @@ module _ (framed : CheckpointsAreFramed) (name : List ℕ) (region : Region) (es
     named = was.named;
     journal = subst (λ n. IsJournal n was.store region) (sym others.size) was.journal;
     checkpoint = was.checkpoint;
-    laid = checkpoint_outside framed seen image was.store region was.checkpoint was.journal others was.laid;
+    pages = checkpoint_outside framed seen image was.store region was.checkpoint was.journal others was.pages;
     stands = stands;
     leads = leads;
     room = room;

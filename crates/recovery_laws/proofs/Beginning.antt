@@ -78,7 +78,7 @@ module _ (kept : OpeningsAreKept) where
 
   pub images_begin : CheckpointsAreStores → LeadsAreSound → ImagesBegin
   images_begin stores lead name d image (region, es, holds) =
-      openings_begin d (lead holds.checkpoint d es (stores image (half_pages (length image) holds.store) holds.checkpoint holds.laid) holds.leads)
+      openings_begin d (lead holds.checkpoint d es (stores image (half_pages (length image) holds.store) holds.checkpoint holds.pages) holds.leads)
 
 -- ---- what is durable of a sane core
 

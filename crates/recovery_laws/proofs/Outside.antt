@@ -47,4 +47,4 @@ checkpoint_outside framed old new store region tables journal same laid =
     let count : ℕ = 8192 * store.header.pages in
     let before : at + count ≤ region.at = omega (arith, journal.begins) in
     subst (λ (n : ℕ). HasCheckpoint new (half_pages n store) tables) (sym same.size)
-    (framed old new (half_pages (length old) store) tables (part_before old new at count same.before before) laid)
+    (framed old new (half_pages (length old) store) tables (part_before old new region.at at count same.before before) laid)

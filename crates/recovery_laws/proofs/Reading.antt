@@ -34,8 +34,8 @@ module _ (readings : OneReading) (checkpoints : OneCheckpoint) (states : OneStat
   pub opens_to_one : OpensToOne
   opens_to_one name other d e image (a, es, p) (b, fs, q) =
       let store : p.store ≡ q.store = one_store p.store q.store (active_of image) p.active q.active in
-      let pages : HasCheckpoint image (half_pages (length image) q.store) p.checkpoint = subst (λ (s : Store). HasCheckpoint image (half_pages (length image) s) p.checkpoint) store p.laid in
-      let tables : p.checkpoint ≡ q.checkpoint = checkpoints image (half_pages (length image) q.store) p.checkpoint q.checkpoint pages q.laid in
+      let pages : HasCheckpoint image (half_pages (length image) q.store) p.checkpoint = subst (λ (s : Store). HasCheckpoint image (half_pages (length image) s) p.checkpoint) store p.pages in
+      let tables : p.checkpoint ≡ q.checkpoint = checkpoints image (half_pages (length image) q.store) p.checkpoint q.checkpoint pages q.pages in
       let leads : Leads (at_checkpoint q.checkpoint) es d = subst (λ (t : Tables). Leads (at_checkpoint t) es d) tables p.leads in
       let entries : es ≡ fs = readings.records b image es fs (stands_there (length image) p.store q.store a b es image store p.journal q.journal p.stands) q.stands in
       (sym p.named ∙ ap (λ (s : Store). s.name) store ∙ q.named, states (at_checkpoint q.checkpoint) d e fs (subst (λ (l : List Entry). Leads (at_checkpoint q.checkpoint) l d) entries leads) q.leads)
@@ -56,7 +56,7 @@ opens_there name d image store region (a, es, p) active journal =
         named = named;
         journal = journal;
         checkpoint = p.checkpoint;
-        laid = subst (λ (s : Store). HasCheckpoint image (half_pages (length image) s) p.checkpoint) same p.laid;
+        pages = subst (λ (s : Store). HasCheckpoint image (half_pages (length image) s) p.checkpoint) same p.pages;
         stands = stands_there (length image) p.store store a region es image same p.journal journal p.stands;
         leads = p.leads;
         room = omega (arith, p.room, len);
@@ -101,7 +101,7 @@ fresh_stores_open none name image is =
         named = refl;
         journal = record { begins = refl; ends = omega (arith, room.0) };
         checkpoint = [];
-        laid = none image 16384;
+        pages = none image 16384;
         stands = stands;
         leads = refl;
         room = omega (arith, room.0);

@@ -25,7 +25,7 @@ pub record Holds (name : List ℕ) (region : Region) (es : List Entry) (d : Dura
   pub named : store.name ≡ name
   pub journal : IsJournal (length image) store region
   pub checkpoint : Tables
-  pub laid : HasCheckpoint image (half_pages (length image) store) checkpoint
+  pub pages : HasCheckpoint image (half_pages (length image) store) checkpoint
   pub stands : Stands region es image
   pub leads : Leads (at_checkpoint checkpoint) es d
   pub room : length (laid es) + 1 + held_for d.doubts ≤ region.length
