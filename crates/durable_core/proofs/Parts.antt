@@ -1,6 +1,7 @@
 -- The parts of a store that were read: they stand there, and what opens is not refused.
-use Rattle.std.proofs.Common.{◌≡◌, ℕ, ◌+◌, ◌-◌, ◌*◌, ◌≤◌, Bool, List, length, Result, Ok, Err, sym, ◌∙◌, ap, subst, arith}
+use Rattle.std.proofs.Common.{◌≡◌, ℕ, ◌+◌, ◌-◌, ◌*◌, ◌≤◌, Bool, true, IsTrue, string_bytes, List, length, Result, Ok, Err, sym, ◌∙◌, ap, subst, arith}
 use Rattle.drda_disk.specs.Disk.{Life}
+use Rattle.drda_disk.specs.Region.{end_of}
 use Rattle.drda_disk.specs.declared.region.Region.{Region}
 use Rattle.half_store.specs.Active.{Store, active_of}
 use Rattle.half_store.specs.Layout.{half_len, offset_of}
@@ -9,7 +10,8 @@ use Rattle.half_store.specs.declared.active.Active.{Active}
 use Rattle.store_check.specs.Checkpoint.{HasCheckpoint, OneCheckpoint, half_pages}
 use Rattle.store_check.specs.Half.{HalfPages, pages_of}
 use Rattle.tables.specs.Tables.{Store as Tables}
-use Rattle.unit_journal.specs.Journal.{held_of, next_of, region_of, room_of}
+use Rattle.tables.specs.View.{is_store}
+use Rattle.unit_journal.specs.Journal.{IsSettled, held_of, next_of, region_of, room_of}
 use Rattle.unit_journal.specs.declared.journal.Journal.{Journal}
 use Rattle.unit_journal.specs.Laws.{OneReading}
 use Rattle.unit_journal.specs.Record.{Entry, laid}
@@ -17,11 +19,12 @@ use Rattle.unit_journal.specs.Stands.{Stands}
 use Rattle.recovery.specs.Durable.{Doubts, Durable, at_checkpoint}
 use Rattle.recovery.specs.Journal.{Leads, OneState}
 use Rattle.recovery.specs.Laws.{held_for}
-use Rattle.recovery_laws.specs.Opens.{Holds, OpensTo}
+use Rattle.recovery.specs.Sound.{IsSound, LeadsAreSound}
+use Rattle.recovery_laws.specs.Opens.{Holds, IsJournal, OpensTo}
 use Rattle.recovery_laws.specs.ImageLaws.{IsThere, OpensThere, OpensToOne}
 use Rattle.recovery_laws.proofs.Reading.{one_store}
-use Rattle.durable_core.specs.Reads.{IsHead, IsPlain}
-use Rattle.durable_core.specs.Found.{StandsThere, durable_in, name_in}
+use Rattle.durable_core.specs.Reads.{IsHead, IsInside, IsPlain}
+use Rattle.durable_core.specs.Found.{IsFound, StandsThere, durable_in, name_in}
 use Rattle.durable_core.specs.declared.errors.OpenError.{OpenError}
 use Rattle.durable_core.specs.declared.reading.Found.{Found}
 
@@ -79,3 +82,41 @@ module _ (image : List ℕ) (name : List ℕ) (d : Durable) (opens : OpensTo nam
 pub finds_one : (modelled : Bool) (last : Life) (image : List ℕ) (f : Found) → OpensToOne → last.seen ≡ image → (name : List ℕ) (d : Durable) → OpensTo name d image → StandsThere modelled last f → (name_in f ≡ name) × (durable_in f ≡ d)
 finds_one modelled last image f one seen name d opens there =
     one (name_in f) name (durable_in f) d image (region_of f.journal, there.entries, subst (λ (i : List ℕ). Holds (name_in f) (region_of f.journal) there.entries (durable_in f) i) seen there.holds) opens
+
+-- what was read of a store is what stands there
+module _ (modelled : Bool) (last : Life) (image : List ℕ) (a : Active) (tables : Tables) (es : List Entry) (d : Durable) (f : Found) (seen : last.seen ≡ image)
+    (leads : Leads (at_checkpoint tables) es d) (same : durable_in f ≡ d) (region : region_of f.journal ≡ a.region) (held : held_of f.journal ≡ held_for (durable_in f).doubts) (named : string_bytes a.name ≡ name_in f) where
+  holds_there : IsHead image a → HasCheckpoint image (pages_of a) tables → IsSettled modelled last f.journal es → Holds (name_in f) (region_of f.journal) es (durable_in f) image
+  holds_there head has settled = record {
+    store = store_of a;
+    active = head.active;
+    named = named;
+    journal = subst (λ (g : Region). IsJournal (length image) (store_of a) g) (sym region) head.journal;
+    checkpoint = tables;
+    pages = subst (λ (h : HalfPages). HasCheckpoint image h tables) (same_pages image a head) has;
+    stands = subst (λ (i : List ℕ). Stands (region_of f.journal) es i) seen settled.stands;
+    leads = subst (λ (x : Durable). Leads (at_checkpoint tables) es x) (sym same) leads;
+    room = omega (arith, f.journal.fits, settled.next, held);
+  }
+
+  pub found_all : LeadsAreSound → is_store tables ≡ true → IsInside (length image) a.region
+      → (IsTrue modelled → IsHead image a) → (IsTrue modelled → HasCheckpoint image (pages_of a) tables) → (IsTrue modelled → IsSettled modelled last f.journal es) → IsFound modelled last f
+  found_all sound good inside head has settled = record {
+    sound = subst IsSound (sym same) (sound tables d es good leads);
+    held = held;
+    inside = subst (λ (i : List ℕ). end_of (region_of f.journal) ≤ length i) (sym seen) (subst (λ (g : Region). end_of g ≤ length image) (sym region) inside.inside);
+    stands = λ is. record {
+      entries = es;
+      settled = settled is;
+      holds = subst (λ (i : List ℕ). Holds (name_in f) (region_of f.journal) es (durable_in f) i) (sym seen) (holds_there (head is) (has is) (settled is));
+    };
+  }
+
+-- a journal that holds more stands as it did
+pub settled_on : (modelled : Bool) (last : Life) (es : List Entry) (old new : Journal) → (region_of new ≡ region_of old) × (next_of new ≡ next_of old) → IsSettled modelled last old es → IsSettled modelled last new es
+settled_on modelled last es old new same settled = record {
+  modelled_disk = settled.modelled_disk;
+  durable = settled.durable;
+  stands = subst (λ (g : Region). Stands g es last.seen) (sym same.0) settled.stands;
+  next = same.1 ∙ settled.next ∙ ap (λ (g : Region). g.at + length (laid es)) (sym same.0);
+}
