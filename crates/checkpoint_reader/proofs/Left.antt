@@ -1,16 +1,14 @@
 -- Tables that are read one after another.
-use Rattle.std.proofs.Common.{◌≡◌, ℕ, true, List, [], ◌∷◌, Some, Result, Ok, Err, map, refl, sym, ap, subst, ◌∙◌}
-use Rattle.table_map.specs.Stored.{Places}
+use Rattle.std.proofs.Common.{◌≡◌, ℕ, true, List, [], ◌∷◌, length, Some, Result, Ok, Err, map, refl, sym, ap, subst, ◌∙◌, arith}
+use Rattle.row_pages.specs.Keeping.{AreRead, Kept}
 use Rattle.tables.specs.Tables.{Store}
 use Rattle.tables.specs.View.{is_store}
-use Rattle.checkpoint_writer.specs.Catalogue.{Entry}
-use Rattle.store_check.specs.Checkpoint.{HasCheckpoint, forms, store_on, table_on}
-use Rattle.store_check.specs.Half.{AreTables, BreaksHalf, ChecksHalf, HalfPages, IsTable, IsWholeHalf, TableRows, placed, told_of}
+use Rattle.store_check.specs.Checkpoint.{forms, store_on, table_on}
+use Rattle.store_check.specs.Half.{AreTables, ChecksHalf, HalfPages, IsTable, IsWholeHalf, TableRows, placed, told_of}
 use Rattle.store_check.specs.declared.half.CheckedTable.{CheckedTable}
 use Rattle.store_check.specs.declared.errors.CheckError.{CheckError}
 use Rattle.store_check.specs.declared.errors.CheckError.TheVariants.{NoMemory, DeviceFailed, Damaged}
 use Rattle.table_store.specs.Plain.{with_table_of}
-use Rattle.table_store.specs.TableStore.{store_in}
 use Rattle.table_store.specs.declared.store.TableStore.{TableStore}
 use Rattle.table_store.proofs.Copying.{copied_whole, copies, shown_good}
 use Rattle.checkpoint_reader.specs.Reading.{AddsTable, ReadsCheckpoint, ReadsTables}
@@ -30,6 +28,10 @@ pub record IsNext (file : List ℕ) (first : ℕ) (all : List TableRows) (c : Ch
   pub whole : IsTable forms file first table
   pub good : is_store (table_on table ∷ []) ≡ true
   pub behind : (new : Store) → new ≡ with_table_of (table_on table).0 (table_on table).1 store → IsLeft file first all more new
+
+pub no_items : (cs : List CheckedTable) → length cs ≡ 0 → cs ≡ []
+no_items [] none = refl
+no_items (c ∷ cs) none = absurd (omega (arith, none))
 
 module _ (file : List ℕ) (first : ℕ) (all : List TableRows) where
   pub all_left : (cs : List CheckedTable) (store : Store) → store ≡ [] → map told_of cs ≡ map (placed forms first) all → AreTables forms file first all → is_store (store_on all) ≡ true → IsLeft file first all cs store
@@ -71,6 +73,10 @@ stopped all t old new T e result told ends = subst (λ (r : Result TableStore Ch
     by (Damaged here) told = told
 
 -- ---- the whole half
+
+-- no pages are kept yet
+pub none_kept : (kept : Kept) (file : List ℕ) → kept ≡ [] → AreRead kept file
+none_kept kept file none = subst (λ (k : Kept). AreRead k file) (sym none) (record { each = λ e found. absurd (omega (arith, found.1)) })
 
 pub all_read : (image : List ℕ) (half : HalfPages) (all : List TableRows) (result : Result TableStore CheckError) → IsWholeHalf forms image half all → ReadsTables all result → ReadsCheckpoint image half result
 all_read image half all (Ok store) whole same = record { tables = all; whole = whole; is = same }

@@ -1,21 +1,16 @@
 -- One table that was checked, and its rows.
-use Rattle.std.proofs.Common.{◌≡◌, ℕ, ◌<◌, ◌≤◌, ◌+◌, ◌*◌, true, List, [], ◌∷◌, ◌++◌, length, Result, Ok, Err, OnOk, refl, sym, ap, subst, ◌∙◌, arith}
-use Rattle.std.specs.Prelude.{IfOk, map}
+use Rattle.std.proofs.Common.{◌≡◌, ℕ, ◌≤◌, true, List, [], ◌∷◌, Option, Result, Ok, Err, OnOk, refl, sym, ap, subst, ◌∙◌, arith}
 use Rattle.std.specs.List.{AllByRecursion, list_all}
 use Rattle.std.specs.Map.{values_of}
 use Rattle.row_values.specs.Schema.{Schema, is_name}
 use Rattle.row_values.specs.Row.{is_row}
-use Rattle.row_values.specs.Key.{row_key}
 use Rattle.row_pages.specs.Laying.{rows_over}
 use Rattle.row_pages.specs.declared.kept.PageFault.{PageFault}
 use Rattle.row_pages.specs.declared.kept.PageFault.TheVariants as fault
-use Rattle.key_map.specs.Merging.{merged}
-use Rattle.key_map.specs.Overlay.{changes_of}
-use Rattle.key_map.specs.Slots.{Slots}
 use Rattle.table_map.specs.Damage.{DamagedWhere}
 use Rattle.table_map.specs.Keyed.{keyed_rows}
 use Rattle.table_map.specs.Stored.{IsStored, Places}
-use Rattle.table_map.specs.Table.{without_keys}
+use Rattle.table_map.specs.Table.{Table, rows_of_table, without_keys}
 use Rattle.tables.specs.Change.{create}
 use Rattle.tables.specs.Tables.{Store, apply}
 use Rattle.tables.specs.View.{is_store}
@@ -42,19 +37,28 @@ values_there schema [] = refl
 values_there schema (row ∷ rows) = ap (λ (l : List (List ℕ)). row ∷ l) (values_there schema rows)
 
 -- the rows of pages without changes
-pub rows_alone : (key_of : List ℕ → List ℕ) (rows : List (List ℕ)) (overlay : Slots) → overlay ≡ [] → without_keys (merged (keyed_rows key_of rows) (changes_of overlay)) ≡ rows
-rows_alone key_of rows overlay none = ap (λ (o : Slots). without_keys (merged (keyed_rows key_of rows) (changes_of o))) none ∙ unkeyed key_of rows
+pub rows_alone : (key_of : List ℕ → List ℕ) (table : Table) (pages : List (List (List ℕ))) → table.overlay ≡ [] → without_keys (rows_of_table key_of table pages) ≡ rows_over pages
+rows_alone key_of table pages none =
+    ap (λ (changes : List (List ℕ × Option (List ℕ))). without_keys (rows_of_table key_of (record { places = table.places; overlay = changes }) pages)) none ∙ unkeyed key_of (rows_over pages)
 
 -- ---- damage
 
 -- of pages that stand there no damage is told
-pub not_damaged : (S T P : Type 0) (at : ℕ) (f : PageFault) (e : CheckError) (result : Result T CheckError) → (P → ⊥) → DamagedWhere {T = S} P (Err f) → e ≡ error_at at f → result ≡ Err e → DamagedOnly ⊥ result
-not_damaged S T P at f e result none where_told is ends = subst (λ (r : Result T CheckError). DamagedOnly ⊥ r) (sym (ends ∙ ap (λ (x : CheckError). Err x) is)) (by f where_told)
+pub not_damaged : (S T P : Type 0) (at : ℕ) (f : PageFault) (e : CheckError) → (P → ⊥) → DamagedWhere {T = S} P (Err f) → e ≡ error_at at f → DamagedOnly {T = T} ⊥ (Err e)
+not_damaged S T P at f e none where_told is = subst (λ (x : CheckError). DamagedOnly {T = T} ⊥ (Err x)) (sym is) (by f where_told)
   where
     by : (f : PageFault) → DamagedWhere {T = S} P (Err f) → DamagedOnly {T = T} ⊥ (Err (error_at at f))
     by fault.NoMemory told = tt
     by fault.DeviceFailed told = tt
     by fault.Damaged told = none told
+
+pub never_damaged : (S T P : Type 0) (e : CheckError) (result : Result T CheckError) → (P → ⊥) → DamagedOnly {T = S} P (Err e) → result ≡ Err e → DamagedOnly ⊥ result
+never_damaged S T P e result none told ends = subst (λ (r : Result T CheckError). DamagedOnly ⊥ r) (sym ends) (by e told)
+  where
+    by : (e : CheckError) → DamagedOnly {T = S} P (Err e) → DamagedOnly {T = T} ⊥ (Err e)
+    by NoMemory told = tt
+    by DeviceFailed told = tt
+    by (Damaged here) told = none told
 
 -- ---- a table
 
@@ -75,7 +79,7 @@ rows_fit t rows are good =
     ap (λ (l : List (List ℕ)). list_all (is_row t.entry.schema) l) (are ∙ sym (values_there t.entry.schema (rows_over t.pages))) ∙ (shown_parts (table_on t).0 (table_on t).1 good).1
 
 -- it was created, and its rows were put
-pub added : (t : TableRows) (e : Entry) (rows : List (List ℕ)) (old new : Store) (T : Type 0) (result : Result T CheckError) → e ≡ t.entry → (OnOk result (rows ≡ rows_over t.pages))
+pub added : (t : TableRows) (e : Entry) (rows : List (List ℕ)) (old new : Store) (T : Type 0) (result : Result T CheckError) → e ≡ t.entry → rows ≡ rows_over t.pages
     → OnOk result (new ≡ with_rows e.name rows (apply (create e.name e.schema) old)) → DamagedOnly ⊥ result → AddsTable t old result new
 added t e rows old new T (Ok x) same are made told =
     made

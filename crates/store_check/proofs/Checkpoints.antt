@@ -1,5 +1,5 @@
 -- The tables of a checkpoint.
-use Rattle.std.proofs.Common.{◌≡◌, ℕ, ◌*◌, Bool, true, false, ◌&&◌, List, [], ◌∷◌, refl, sym, ap, subst, ◌∙◌, Less}
+use Rattle.std.proofs.Common.{◌≡◌, ℕ, ◌*◌, true, false, ◌&&◌, List, [], ◌∷◌, refl, sym, ap, subst, ◌∙◌, Less}
 use Rattle.std.specs.Prelude.{bytes_eq}
 use Rattle.std.specs.List.{AllByRecursion, list_all}
 use Rattle.std.specs.Map.{keys_of}
@@ -20,7 +20,7 @@ use Rattle.tables.specs.View.{is_entry, is_store, is_table}
 use Rattle.tables.proofs.Finding.{itself}
 use Rattle.checkpoint_writer.specs.Catalogue.{Entry}
 use Rattle.store_check.specs.Checkpoint.{HasCheckpoint, at_keys, forms, store_on, table_on}
-use Rattle.store_check.specs.Half.{AreTables, HalfPages, IsCatalogue, IsTable, IsWholeHalf, OneWholeHalf, TableRows, entries_of}
+use Rattle.store_check.specs.Half.{AreTables, HalfPages, IsCatalogue, IsTable, OneWholeHalf, TableRows, entries_of}
 use Rattle.store_check.specs.Listed.{entries_over, is_before, lie_from, names_rise}
 use Rattle.store_check.proofs.Rising.{less_is}
 use Rattle.store_check.proofs.Entries.{AreNamed, IsNamed, pages_named}

@@ -1,11 +1,11 @@
 -- What the rows of a catalogue say of tables.
-use Rattle.std.proofs.Common.{◌≡◌, ℕ, ◌+◌, Bool, true, false, List, [], ◌∷◌, ◌++◌, Option, Some, None, refl, sym, ap, subst, ◌∙◌, if◌then◌else◌, option_map}
+use Rattle.std.proofs.Common.{◌≡◌, ℕ, ◌+◌, Bool, true, false, List, [], ◌∷◌, ◌++◌, Some, None, refl, sym, ap, subst, ◌∙◌, if◌then◌else◌, option_map}
 use Rattle.std.specs.Option.{option_and_then}
 use Rattle.std.specs.List.{AllByRecursion}
 use Rattle.row_values.specs.Schema.{Schema, is_name, is_schema}
 use Rattle.row_values.specs.Bytes.{name_at, name_in, named_at, parts_at, schema_at}
 use Rattle.row_values.proofs.ValueLaws.{chained, mapped}
-use Rattle.checkpoint_writer.specs.Catalogue.{Entry, IsEntryPage, entries_in, entry_at, entry_with, numbers_at}
+use Rattle.checkpoint_writer.specs.Catalogue.{Entry, entries_in, entry_at, entry_with, numbers_at}
 use Rattle.store_check.specs.Listed.{EntriesAt, entries_over}
 
 -- a table has a name and a schema
