@@ -1,0 +1,4 @@
+pub mod Lent
+pub mod Room
+pub mod Holds
+pub mod Moment

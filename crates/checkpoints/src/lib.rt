@@ -1,0 +1,11 @@
+//! A checkpoint: tables that are in memory are written into the half of a store that is not active, and
+//! the journal begins anew behind them.
+#![tactic(auto)]
+
+mod laws;
+mod lent;
+mod writing;
+
+pub use laws::moments_hold;
+pub use lent::{LentTable, LentTables};
+pub use writing::write_checkpoint;
