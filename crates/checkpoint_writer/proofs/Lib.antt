@@ -6,3 +6,5 @@ mod MergedRows
 mod EntryBytes
 mod Listing
 mod ReadEntries
+mod InMemory
+pub mod Moments

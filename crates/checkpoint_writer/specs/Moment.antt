@@ -7,7 +7,6 @@ use Rattle.unit_journal.specs.Journal.{IsSettled, region_of}
 use Rattle.unit_journal.specs.Record.{Entry, laid}
 use Rattle.unit_journal.specs.Stands.{StandsFrom}
 use Rattle.half_store.specs.Active.{Store, active_of}
-use Rattle.half_store.specs.Opened.{IsBehindPages, store_of}
 use Rattle.half_store.specs.Switching.{switched}
 use Rattle.half_store.specs.Writing.{IsKept, from_of, half_bytes_of, next_of, pages_of}
 use Rattle.half_store.specs.declared.image.ImageWriter.{ImageWriter}
@@ -40,6 +39,8 @@ Moment base file store w first catalogue es held image =
 pub record IsSwitched (modelled : Bool) (disk : Life) (file : List ℕ) (new : Store) (w : ImageWriter) (s : Switched) (es : List Entry) (held : ℕ) : Type 0 where
   pub settled : IsSettled modelled disk s.journal es
   pub is : IsNew file new w es held disk.seen
+  pub begins : (region_of s.journal).at ≡ next_of w
+  pub ends : end_of (region_of s.journal) ≡ from_of w + half_bytes_of w
 
 -- what holds where nothing was switched and the device did not fail
 abbrev pub OnRefused : {T : Type 0} → Result T ImageError → Type 0 → Type 0

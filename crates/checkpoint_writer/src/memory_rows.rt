@@ -38,12 +38,12 @@ pub fn write_rows<D: Disk>(
     ensures adds { AddsPages D.is_modelled (D.life disk.old) (D.life disk.new) image.old image.new }
     ensures at { IfOk result (λ written. written.at ≡ next_of image.old) }
     ensures pages { IfOk result (λ written. next_of image.new ≡ written.at + 8192 * length written.keys) }
-    ensures count { IfOk result (λ written. length written.keys ≡ length (laid (without_keys (rows_left rows)))) }
-    ensures rows { (key_of : List ℕ → List ℕ) → IsTrue D.is_modelled → InOrder (rows_left rows) → HaveKeys key_of (rows_left rows)
-        → IfOk result (λ written. IsImageOf key_of (rows_left rows) written (D.life disk.new).seen) }
-    ensures full { TellsFull result (end_of_half image.old) (next_of image.old + 8192 * length (laid (without_keys (rows_left rows)))) }
+    ensures count { IfOk result (λ written. length written.keys ≡ length (laid (without_keys (rows_left rows.entry)))) }
+    ensures rows { (key_of : List ℕ → List ℕ) → IsTrue D.is_modelled → InOrder (rows_left rows.entry) → HaveKeys key_of (rows_left rows.entry)
+        → IfOk result (λ written. IsImageOf key_of (rows_left rows.entry) written (D.life disk.new).seen) }
+    ensures full { TellsFull result (end_of_half image.old) (next_of image.old + 8192 * length (laid (without_keys (rows_left rows.entry)))) }
     ensures kept { IsTrue D.is_modelled → AreRead cache.old (D.life disk.old).seen → AreRead cache.new (D.life disk.new).seen }
-    ensures damaged { DamagedWhere (AllByRecursion IsShort (without_keys (rows_left rows)) → ⊥) result }
+    ensures damaged { DamagedWhere (AllByRecursion IsShort (without_keys (rows_left rows.entry)) → ⊥) result }
     ensures cause { CountsImage result (D.life disk.old).faults (D.life disk.new).faults }
 {
     one_laying();

@@ -40,7 +40,8 @@ fn push_key(keys: &mut Vec<Vec<u8>>, key: Vec<u8>) -> Result<(), AllocError>
 }
 
 impl TableWriter {
-    ghost use Rattle.checkpoint_writer.specs.Writing.{HasLaid};
+    ghost use Rattle.key_map.specs.Merging.{Rows};
+    ghost use Rattle.checkpoint_writer.specs.Writing.{HasLaid, HasLaidAt};
 
     /// No rows yet.
     pub(crate) fn new(alloc: Global) -> Result<TableWriter, AllocError>
@@ -95,10 +96,10 @@ impl TableWriter {
     ) -> Result<(), ImageError>
         requires inside { from_of image.old + half_bytes_of image.old ≤ length (D.life disk.old).seen }
         ensures adds { AddsPages D.is_modelled (D.life disk.old) (D.life disk.new) image.old image.new }
-        ensures laid { (key_of : List ℕ → List ℕ) (start : ℕ) (rows : List (List ℕ)) → key.now ≡ key_of row.now → HasLaid D.is_modelled key_of (D.life disk.old).seen start image.old self.old rows
-            → OnOk result (HasLaid D.is_modelled key_of (D.life disk.new).seen start image.new self.new (rows ++ row.now ∷ [])) }
-        ensures full { (key_of : List ℕ → List ℕ) (start : ℕ) (rows rest : List (List ℕ)) → HasLaid D.is_modelled key_of (D.life disk.old).seen start image.old self.old rows
-            → TellsFull result (end_of_half image.old) (start + 8192 * length (laid (rows ++ row.now ∷ rest))) }
+        ensures laid { (start : ℕ) (rows : Rows) → HasLaidAt D.is_modelled (D.life disk.old).seen start image.old self.old rows
+            → OnOk result (HasLaidAt D.is_modelled (D.life disk.new).seen start image.new self.new (rows ++ (key.now, row.now) ∷ [])) }
+        ensures full { (start : ℕ) (rows : Rows) (rest : List (List ℕ)) → HasLaidAt D.is_modelled (D.life disk.old).seen start image.old self.old rows
+            → TellsFull result (end_of_half image.old) (start + 8192 * length (laid (without_keys rows ++ row.now ∷ rest))) }
         ensures kept { IsTrue D.is_modelled → AreRead cache.old (D.life disk.old).seen → AreRead cache.new (D.life disk.new).seen }
         ensures damaged { DamagedWhere (IsShort row.now → ⊥) result }
         ensures cause { CountsImage result (D.life disk.old).faults (D.life disk.new).faults }
@@ -107,7 +108,7 @@ impl TableWriter {
             return Err(ImageError::Damaged);
         }
         if self.rows.add(alloc, cache, disk, image, row)? {
-            push_key(&mut self.first_keys, key.to_vec(alloc)?)?;
+            push_key(&mut self.first_keys, Vec::from_slice(alloc, key)?)?;
         }
         Ok(())
     }

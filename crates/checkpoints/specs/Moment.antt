@@ -1,6 +1,7 @@
 -- What a crash leaves while a checkpoint is written, and what its end leaves.
 use Rattle.std.specs.Prelude.{◌≡◌, ◌⊎◌, ℕ, ◌+◌, Bool, IsTrue, List, length, Ok}
 use Rattle.drda_disk.specs.Disk.{Life, Only}
+use Rattle.drda_disk.specs.Region.{end_of}
 use Rattle.half_store.specs.Active.{Store, active_of}
 use Rattle.half_store.specs.Layout.{half_len, offset_of, other_than}
 use Rattle.half_store.specs.Opened.{IsBehindPages, store_of}
@@ -44,7 +45,8 @@ pub record IsAnew (modelled : Bool) (disk : Life) (base : List ℕ) (store : Sto
   pub behind : IsBehindPages (half_len (length base)) s.active
   pub pages : HasCheckpoint disk.seen (pages_of s.active) tables
   pub settled : IsSettled modelled disk s.journal es
-  pub region : region_of s.journal ≡ s.active.region
+  pub begins : (region_of s.journal).at ≡ s.active.region.at
+  pub ends : end_of (region_of s.journal) ≡ end_of s.active.region
   pub room : held_of s.journal ≡ held
 
 -- the old half goes on: a crash leaves what is read, and that is as it was but for the other half

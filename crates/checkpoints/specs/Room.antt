@@ -17,12 +17,14 @@ abbrev pub pages_of_tables : Store → ℕ
 pages_of_tables [] = 0
 pages_of_tables (e ∷ es) = pages_of_table e.1 + pages_of_tables es
 
--- the tables in their catalogue: the pages of each lie behind those of the tables in front of it, the first ones from
--- the page with this number on
+-- a table in the catalogue, where the pages of those in front of it end at this one
+abbrev pub entry_of_table : ℕ → List ℕ × Table → Entry
+entry_of_table next e = record { name = e.0; schema = e.1.schema; first_page = if pages_of_table e.1 == 0 then 0 else next; pages = pages_of_table e.1 }
+
+-- the pages of each table lie behind those of the tables in front of it, the first ones from this page on
 abbrev pub entries_from : ℕ → Store → List Entry
 entries_from next [] = []
-entries_from next (e ∷ es) =
-    record { name = e.0; schema = e.1.schema; first_page = if pages_of_table e.1 == 0 then 0 else next; pages = pages_of_table e.1 } ∷ entries_from (next + pages_of_table e.1) es
+entries_from next (e ∷ es) = entry_of_table next e ∷ entries_from (next + pages_of_table e.1) es
 
 abbrev pub pages_of_catalogue : Store → ℕ
 pages_of_catalogue tables = length (laid (rows_of (entries_from 0 tables)))

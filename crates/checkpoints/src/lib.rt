@@ -4,6 +4,8 @@
 
 mod laws;
 mod lent;
+mod pages;
+mod tables;
 mod writing;
 
 pub use laws::moments_hold;
