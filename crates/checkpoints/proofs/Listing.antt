@@ -1,5 +1,5 @@
 -- A half into which all tables and their catalogue were written.
-use Rattle.std.proofs.Common.{◌≡◌, ℕ, zero, suc, ◌+◌, ◌*◌, ◌-◌, ◌^◌, ◌<◌, ◌≤◌, Bool, true, ◌&&◌, List, [], ◌∷◌, length, map, cond, refl, sym, ap, ap₂, subst, ◌∙◌, arith}
+use Rattle.std.proofs.Common.{◌≡◌, ℕ, ◌+◌, ◌*◌, ◌-◌, ◌^◌, ◌<◌, ◌≤◌, Bool, true, false, ◌&&◌, List, [], ◌∷◌, length, map, cond, refl, sym, ap, ap₂, subst, ◌∙◌, arith}
 use Rattle.std.specs.Prelude.{bytes_eq, nat_le, nat_lt, ◌==◌}
 use Rattle.std.specs.List.{AllByRecursion, list_all}
 use Rattle.std.specs.Map.{keys_of, values_of}
@@ -7,7 +7,7 @@ use Rattle.std.specs.Ordering.{is_lt, match_ordering, nat_cmp}
 use Rattle.std.specs.declared.cmp.Ordering.{Ordering}
 use Rattle.std.proofs.Common.{Less, Equal, Greater}
 use Rattle.std.specs.Cmp.Lexicographic.{slice_cmp}
-use Rattle.std.proofs.lemmas.Bool.{le-leb, lt-ltb, eqb-refl}
+use Rattle.std.proofs.lemmas.Bool.{le-leb, lt-ltb, eq-eqb}
 use Rattle.drda_words.specs.Order.{rises}
 use Rattle.drda_words.proofs.Precedes.{same_bytes}
 use Rattle.row_values.specs.Schema.{Schema, is_name, is_schema}
@@ -45,7 +45,7 @@ many_over next [] = refl
 many_over next (e ∷ tables) = ap (λ n. pages_of_table e.1 + n) (many_over (next + pages_of_table e.1) tables)
 
 same_number : (n : ℕ) → (n == n) ≡ true
-same_number n = eqb-refl n
+same_number n = eq-eqb n n refl
 
 lie : (next last : ℕ) (tables : Store) → next + pages_of_tables tables ≤ last → lie_from next last (entries_from next tables) ≡ true
 lie next last [] low = refl
@@ -79,16 +79,16 @@ listed last tables low h =
     (names 0 tables (second_true (list_all is_good tables) (rises (slice_cmp nat_cmp) (keys_of tables)) h))
     (lie 0 last tables (omega (arith, low)))
 
-small_first : (n next : ℕ) → next < 2 ^ 32 → cond (n == 0) 0 next < 2 ^ 32
-small_first zero next small = omega arith
-small_first (suc n) next small = small
+small_first : (b : Bool) (next : ℕ) → next < 2 ^ 32 → cond b 0 next < 2 ^ 32
+small_first true next small = omega arith
+small_first false next small = small
 
 good_entry : (next : ℕ) (e : List ℕ × Table) → is_good e ≡ true → next + pages_of_table e.1 < 2 ^ 32 → is_catalogue_entry (entry_of_table next e) ≡ true
 good_entry next e good small =
     let first = cond (pages_of_table e.1 == 0) 0 next in
     both_true (is_name e.0) (is_schema e.1.schema && (nat_lt first (2 ^ 32) && nat_lt (pages_of_table e.1) (2 ^ 32))) (first_true (is_name e.0) (is_table e.1) good)
     (both_true (is_schema e.1.schema) (nat_lt first (2 ^ 32) && nat_lt (pages_of_table e.1) (2 ^ 32)) (table_parts e.1 (second_true (is_name e.0) (is_table e.1) good)).0
-    (both_true (nat_lt first (2 ^ 32)) (nat_lt (pages_of_table e.1) (2 ^ 32)) (lt-ltb first (2 ^ 32) (small_first (pages_of_table e.1) next (omega (arith, small)))) (lt-ltb (pages_of_table e.1) (2 ^ 32) (omega (arith, small)))))
+    (both_true (nat_lt first (2 ^ 32)) (nat_lt (pages_of_table e.1) (2 ^ 32)) (lt-ltb first (2 ^ 32) (small_first (pages_of_table e.1 == 0) next (omega (arith, small)))) (lt-ltb (pages_of_table e.1) (2 ^ 32) (omega (arith, small)))))
 
 good_entries : (next : ℕ) (tables : Store) → list_all is_good tables ≡ true → next + pages_of_tables tables < 2 ^ 32 → AreEntries (entries_from next tables)
 good_entries next [] good small = tt

@@ -32,7 +32,7 @@ use Rattle.checkpoints.proofs.Placing.{bare_under}
 -- ---- a table more
 
 pub pages_more : (done : Store) (e : List ℕ × Table) (rest : Store) → pages_of_tables (done ++ e ∷ rest) ≡ pages_of_tables done + pages_of_table e.1 + pages_of_tables rest
-pages_more [] e rest = refl
+pages_more [] e rest = omega arith
 pages_more (d ∷ done) e rest = omega (arith, pages_more done e rest)
 
 pub entries_more : (next : ℕ) (done : Store) (e : List ℕ × Table) → entries_from next (done ++ e ∷ []) ≡ entries_from next done ++ entry_of_table (next + pages_of_tables done) e ∷ []
@@ -94,19 +94,22 @@ good_middle done e rest all same h = middle done e rest (subst (λ (s : Store). 
 
 -- ---- no room
 
-pub told_wider : {T S : Type 0} (e : ImageError) (result : Result S ImageError) (end there at all : ℕ) → result ≡ Err e → end ≡ there → at ≤ all → TellsFull {T = T} (Err e) end at → TellsFull result there all
-told_wider {T = T} {S = S} e result end there at all is same low tells =
+was_told : {T : Type 0} (S : Type 0) (e : ImageError) (from : Result T ImageError) (end at : ℕ) → from ≡ Err e → TellsFull from end at → TellsFull {T = S} (Err e) end at
+was_told {T = T} S e from end at was tells = told_so T S e end at (subst (λ (r : Result T ImageError). TellsFull r end at) was tells)
+
+pub told_wider : {T S : Type 0} (e : ImageError) (from : Result T ImageError) (result : Result S ImageError) (end there at all : ℕ) → from ≡ Err e → result ≡ Err e → end ≡ there → at ≤ all → TellsFull from end at → TellsFull result there all
+told_wider {T = T} {S = S} e from result end there at all was is same low tells =
     subst (λ (r : Result S ImageError). TellsFull r there all) (sym is)
-    (subst (λ n. TellsFull {T = S} (Err e) n all) same (tells_more {T = S} (Err e) end at all low (told_so T S e end at tells)))
+    (subst (λ n. TellsFull {T = S} (Err e) n all) same (tells_more {T = S} (Err e) end at all low (was_told {T = T} S e from end at was tells)))
 
 -- ---- so far
 
 -- The tables that were lent are written, one behind another, and their places are kept; with those that are left they
 -- are all.
-pub record IsSoFar (modelled : Bool) (file : List ℕ) (begun image : ImageWriter) (places : List Entry) (left all : Store) : Type 0 where
+pub record IsSoFar (modelled : Bool) (file : List ℕ) (begun image : ImageWriter) (listed : List Entry) (left all : Store) : Type 0 where
   pub done : Store
   pub same : done ++ left ≡ all
-  pub places : places ≡ entries_from 0 done
+  pub places : listed ≡ entries_from 0 done
   pub pages : pages_of image ≡ pages_of_tables done
   pub written : IsTrue modelled → AllByRecursion (IsWritten forms file (from_of begun + 8192)) (laid_from (from_of begun + 8192) 0 done)
 
@@ -123,16 +126,19 @@ module _ (modelled : Bool) (file : List ℕ) (begun image : ImageWriter) (places
   pub room_left : (e : List ℕ × Table) (rest : Store) → left ≡ e ∷ rest → pages_of image + pages_of_table e.1 ≤ pages_of_tables all
   room_left e rest is = omega (arith, held.pages, ap pages_of_tables (ap (λ (s : Store). held.done ++ s) (sym is) ∙ held.same), pages_more held.done e rest)
 
+  number : 0 + pages_of_tables held.done ≡ pages_of image
+  number = omega (arith, held.pages)
+
   pub one_more : (new : List ℕ) (n : ℕ) (after : ImageWriter) (more : List Entry) (e : List ℕ × Table) (rest : Store) → left ≡ e ∷ rest → from_of image ≡ from_of begun → Torn (next_of image) n file new
       → more ≡ places ++ entry_of_table (pages_of image) e ∷ [] → pages_of after ≡ pages_of image + pages_of_table e.1
       → (IsTrue modelled → IsWritten forms new (from_of image + 8192) (laid_at (from_of image + 8192) (pages_of image) e)) → IsSoFar modelled new begun after more rest all
   one_more new n after more e rest is from torn pushed pages one = record {
     done = held.done ++ e ∷ [];
     same = append_assoc held.done (e ∷ []) rest ∙ ap (λ (s : Store). held.done ++ s) (sym is) ∙ held.same;
-    places = pushed ∙ ap₂ (λ (l : List Entry) (k : ℕ). l ++ entry_of_table k e ∷ []) held.places held.pages ∙ sym (entries_more 0 held.done e);
+    places = pushed ∙ ap₂ (λ (l : List Entry) (k : ℕ). l ++ entry_of_table k e ∷ []) held.places (sym number) ∙ sym (entries_more 0 held.done e);
     pages = omega (arith, pages, held.pages, pages_more held.done e []);
     written = λ honest.
         written_more new (from_of begun + 8192) 0 held.done e
         (all_stay file new (next_of image) n (from_of begun + 8192) 0 held.done torn (omega (arith, from, held.pages)) (held.written honest))
-        (subst (λ (k : ℕ). IsWritten forms new (from_of begun + 8192) (laid_at (from_of begun + 8192) k e)) held.pages (subst (λ (k : ℕ). IsWritten forms new (k + 8192) (laid_at (k + 8192) (pages_of image) e)) from (one honest)));
+        (subst (λ (k : ℕ). IsWritten forms new (from_of begun + 8192) (laid_at (from_of begun + 8192) k e)) (sym number) (subst (λ (k : ℕ). IsWritten forms new (k + 8192) (laid_at (k + 8192) (pages_of image) e)) from (one honest)));
   }

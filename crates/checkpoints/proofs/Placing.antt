@@ -1,5 +1,5 @@
 -- Tables that are laid one behind another.
-use Rattle.std.proofs.Common.{◌≡◌, ℕ, zero, suc, ◌+◌, ◌*◌, ◌<◌, ◌≤◌, Bool, true, false, ◌&&◌, List, [], ◌∷◌, ◌++◌, length, map, cond, refl, sym, ap, ap₂, subst, ◌∙◌, arith, leb-true}
+use Rattle.std.proofs.Common.{◌≡◌, ℕ, ◌+◌, ◌*◌, ◌<◌, ◌≤◌, Bool, true, false, ◌&&◌, List, [], ◌∷◌, ◌++◌, length, map, cond, refl, sym, ap, ap₂, subst, ◌∙◌, arith, eqb-true, leb-true}
 use Rattle.std.specs.Prelude.{bytes_eq, ◌==◌}
 use Rattle.std.specs.List.{AllByRecursion, list_all}
 use Rattle.std.specs.Map.{keys_of, values_of}
@@ -20,6 +20,9 @@ use Rattle.tables.specs.View.{is_entry, is_table}
 use Rattle.table_map.specs.Keyed.{first_keys, keyed_rows}
 use Rattle.table_map.specs.Stored.{Places}
 use Rattle.table_map.specs.Table.{without_keys}
+use Rattle.half_store.specs.Writing.{from_of, next_of, pages_of}
+use Rattle.half_store.specs.declared.image.ImageWriter.{ImageWriter}
+use Rattle.checkpoint_writer.specs.Catalogue.{Entry}
 use Rattle.checkpoint_writer.specs.Stored.{HaveKeys, IsImageOf}
 use Rattle.checkpoint_writer.proofs.MergedRows.{many_keys}
 use Rattle.store_check.specs.Checkpoint.{forms}
@@ -27,7 +30,7 @@ use Rattle.store_check.specs.Half.{page_at}
 use Rattle.store_check.specs.Written.{IsWritten}
 use Rattle.checkpoints.specs.Laying.{IsGood, laid_at, rows_under}
 use Rattle.checkpoints.specs.Lent.{IsLent, at_forms}
-use Rattle.checkpoints.specs.Room.{pages_of_table}
+use Rattle.checkpoints.specs.Room.{entry_of_table, pages_of_table}
 use Rattle.checkpoints.specs.declared.lent.LentTable.{LentTable}
 
 -- ---- the rows of a table
@@ -46,9 +49,8 @@ bare_lent e lent is = ap without_keys is.rows ∙ bare_forms e.1.schema e.1.rows
 
 pub table_parts : (t : Table) → is_table t ≡ true → (is_schema t.schema ≡ true) × (list_all (is_entry t.schema) t.rows ≡ true)
 table_parts t h =
-    let front = is_schema t.schema && list_all (is_entry t.schema) t.rows in
-    let back = list_all (is_entry t.schema) t.rows && rises (key_cmp t.schema) (keys_of t.rows) in
-    (first_true (is_schema t.schema) back h, first_true (list_all (is_entry t.schema) t.rows) (rises (key_cmp t.schema) (keys_of t.rows)) (second_true (is_schema t.schema) back h))
+    let front = first_true (is_schema t.schema && list_all (is_entry t.schema) t.rows) (rises (key_cmp t.schema) (keys_of t.rows)) h in
+    (first_true (is_schema t.schema) (list_all (is_entry t.schema) t.rows) front, second_true (is_schema t.schema) (list_all (is_entry t.schema) t.rows) front)
 
 under_forms : RowsHaveTheirForms → (schema : Schema) (rows : Rows) → is_schema schema ≡ true → list_all (is_entry schema) rows ≡ true → at_forms schema rows ≡ keyed_rows (row_form schema) (values_of rows)
 under_forms law schema [] sound good = refl
@@ -95,9 +97,12 @@ lent_keys law e lent is good =
 -- ---- a table that was written
 
 -- where there are pages, the first one has this number
+by_test : (n first at : ℕ) (b : Bool) → (n == 0) ≡ b → 0 < n → page_at at first ≡ page_at at (cond b 0 first)
+by_test n first at true is some = absurd (omega (arith, eqb-true n 0 is, some))
+by_test n first at false is some = refl
+
 first_there : (n first at : ℕ) → 0 < n → page_at at first ≡ page_at at (cond (n == 0) 0 first)
-first_there zero first at some = absurd (omega (arith, some))
-first_there (suc n) first at some = refl
+first_there n first at some = by_test n first at (n == 0) refl some
 
 pub table_laid : RowsHaveTheirForms → (e : List ℕ × Table) (lent : LentTable) (file : List ℕ) (at first : ℕ) (written : Places) → IsLent e lent → IsGood e
     → written.at ≡ page_at at first → IsImageOf (row_form e.1.schema) (rows_left lent.rows) written file → IsWritten forms file at (laid_at at first e)
@@ -113,3 +118,18 @@ table_laid law e lent file at first written is good place image =
       many = many_keys key_of (laid (values_of e.1.rows));
       place = λ some. first_there (pages_of_table e.1) first at some;
     }
+
+-- how many pages there are behind it
+pub pages_after : (e : List ℕ × Table) (lent : LentTable) (w after : ImageWriter) (at n : ℕ) → IsLent e lent → from_of after ≡ from_of w → at ≡ next_of w → next_of after ≡ at + 8192 * n → n ≡ length (laid (without_keys (rows_left lent.rows)))
+    → pages_of after ≡ pages_of w + pages_of_table e.1
+pages_after e lent w after at n is from place next count = omega (arith, from, place, next, count, lent_pages e lent is)
+
+-- and its entry
+pub entry_there : (e : List ℕ × Table) (lent : LentTable) (next pages first : ℕ) → IsLent e lent → pages ≡ pages_of_table e.1 → first ≡ cond (pages == 0) 0 next
+    → record { name = lent.name.now; schema = lent.schema.now; first_page = first; pages = pages } ≡ entry_of_table next e
+entry_there e lent next pages first is many place =
+    ap₂ (λ (n : List ℕ) (s : Schema). the_entry n s first pages) is.name is.schema
+    ∙ ap₂ (λ (f p : ℕ). the_entry e.0 e.1.schema f p) (place ∙ ap (λ (k : ℕ). cond (k == 0) 0 next) many) many
+  where
+    the_entry : List ℕ → Schema → ℕ → ℕ → Entry
+    the_entry n s f p = record { name = n; schema = s; first_page = f; pages = p }

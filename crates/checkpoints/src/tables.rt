@@ -1,5 +1,5 @@
 //! Writing tables one behind another.
-ghost use Rattle.std.specs.Prelude.{◌≡◌, ◌+◌, ◌*◌, ◌≤◌, ◌++◌, ◌∷◌, [], ℕ, List, true, IsTrue, OnOk, OnErr, IfOk, length, map};
+ghost use Rattle.std.specs.Prelude.{◌≡◌, ◌+◌, ◌*◌, ◌≤◌, ◌++◌, ◌∷◌, ◌==◌, [], ℕ, List, true, IsTrue, OnOk, IfOk, IfErr, length, map, if◌then◌else◌};
 ghost use Rattle.std.specs.List.{AllByRecursion};
 ghost use Rattle.half_store.specs.Writing.{from_of, half_bytes_of, next_of, pages_of};
 ghost use Rattle.tables.specs.Tables.{Table};
@@ -7,6 +7,7 @@ ghost use Rattle.tables.specs.View.{is_store};
 ghost use Rattle.checkpoint_writer.specs.Adding.{AddsPages, end_of_half};
 ghost use Rattle.checkpoint_writer.specs.Catalogue.{place_of};
 ghost use Rattle.checkpoint_writer.specs.Errors.{CountsImage, DamagedWhere, TellsFull};
+ghost use Rattle.checkpoint_writer.specs.declared.errors.ImageError.TheVariants.{NoMemory};
 ghost use Rattle.store_check.specs.Checkpoint.{forms};
 ghost use Rattle.store_check.specs.Written.{IsWritten};
 ghost use Rattle.checkpoints.specs.Laying.{IsGood, laid_at, laid_from};
@@ -21,6 +22,13 @@ use row_forms::laws::rows_have_their_forms;
 use row_pages::PageCache;
 use std::alloc::Global;
 
+/// The number of the first one of so many pages; 0 where there is none.
+fn first_page(pages: u32, first: u32) -> u32
+    ensures { result ≡ (if pages == 0 then 0 else first) }
+{
+    if pages == 0 { 0 } else { first }
+}
+
 /// Writes the rows of a table into pages behind those that the image has.
 fn write_table<'a, D: Disk>(
     alloc: Global,
@@ -31,12 +39,12 @@ fn write_table<'a, D: Disk>(
 ) -> Result<TablePlace<'a>, ImageError>
     requires inside { from_of image.old + half_bytes_of image.old ≤ length (D.life disk.old).seen }
     ensures adds { AddsPages D.is_modelled (D.life disk.old) (D.life disk.new) image.old image.new }
-    ensures place { (e : List ℕ × Table) → IsLent e table → IfOk result (λ place. place_of place ≡ entry_of_table (pages_of image.old) e) }
-    ensures pages { (e : List ℕ × Table) → IsLent e table → OnOk result (pages_of image.new ≡ pages_of image.old + pages_of_table e.1) }
-    ensures written { (e : List ℕ × Table) → IsLent e table → IsGood e → IsTrue D.is_modelled
+    ensures place { (e : List ℕ × Table) → IsLent e table.entry → IfOk result (λ place. place_of place ≡ entry_of_table (pages_of image.old) e) }
+    ensures pages { (e : List ℕ × Table) → IsLent e table.entry → OnOk result (pages_of image.new ≡ pages_of image.old + pages_of_table e.1) }
+    ensures written { (e : List ℕ × Table) → IsLent e table.entry → IsGood e → IsTrue D.is_modelled
         → OnOk result (IsWritten forms (D.life disk.new).seen (from_of image.old + 8192) (laid_at (from_of image.old + 8192) (pages_of image.old) e)) }
-    ensures full { (e : List ℕ × Table) → IsLent e table → TellsFull result (end_of_half image.old) (next_of image.old + 8192 * pages_of_table e.1) }
-    ensures damaged { (e : List ℕ × Table) → IsLent e table → IsGood e → DamagedWhere ⊥ result }
+    ensures full { (e : List ℕ × Table) → IsLent e table.entry → TellsFull result (end_of_half image.old) (next_of image.old + 8192 * pages_of_table e.1) }
+    ensures damaged { (e : List ℕ × Table) → IsLent e table.entry → IsGood e → DamagedWhere ⊥ result }
     ensures cause { CountsImage result (D.life disk.old).faults (D.life disk.new).faults }
 {
     rows_have_their_forms();
@@ -47,7 +55,7 @@ fn write_table<'a, D: Disk>(
     Ok(TablePlace {
         name,
         schema,
-        first_page: if pages == 0 { 0 } else { first },
+        first_page: first_page(pages, first),
         pages,
     })
 }
@@ -57,8 +65,8 @@ fn push_place<'a>(
     places: &mut Vec<TablePlace<'a>>,
     place: TablePlace<'a>,
 ) -> Result<(), ImageError>
-    ensures { OnOk result (places.new.items ≡ places.old.items ++ place ∷ []) }
-    ensures damaged { DamagedWhere ⊥ result }
+    ensures items { OnOk result (places.new.items ≡ places.old.items ++ place.entry ∷ []) }
+    ensures fault { IfErr result (λ e. e ≡ NoMemory) }
     ensures cause { (n : ℕ) → CountsImage result n n }
 {
     match places.push(place) {

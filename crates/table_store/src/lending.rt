@@ -26,6 +26,7 @@ pub struct TablesLeft<'a> {
 }
 
 impl<'a> Model for TablesLeft<'a> {
+    ghost use Rattle.std.specs.Prelude.{◌≡◌, true};
     ghost use Rattle.tables.specs.Tables.{Store};
     ghost use Rattle.tables.specs.View.{is_store};
     ghost use Rattle.table_store.specs.TablesByName.{store_of, tables_in};
