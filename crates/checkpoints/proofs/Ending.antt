@@ -4,12 +4,15 @@ use Rattle.std.specs.Prelude.{Result, IsTrue}
 use Rattle.drda_disk.specs.Disk.{LeavesOnly, Life, Now, Only, Torn, Within}
 use Rattle.drda_disk.specs.Images.{Torn-refl}
 use Rattle.drda_disk.proofs.Moments.{and_then, weaker}
+use Rattle.drda_disk.specs.Region.{end_of}
 use Rattle.drda_disk.proofs.Parts.{Torn-trans, Torn-wider}
+use Rattle.std.proofs.lemmas.Bool.Decides.{nat_tests}
 use Rattle.half_store.specs.Active.{Store, active_of}
-use Rattle.half_store.specs.Layout.{half_len, offset_of, other_than}
+use Rattle.half_store.specs.Layout.{half_len, is_store_size, offset_of, other_than}
 use Rattle.half_store.specs.Opened.{IsBehindPages, store_of}
 use Rattle.half_store.specs.Switching.{switched}
 use Rattle.half_store.specs.Writing.{IsKept, IsWriting, from_of, generation_of, half_bytes_of, half_of, next_of, pages_of}
+use Rattle.half_store.proofs.Kept.{kept_now}
 use Rattle.half_store.specs.declared.image.ImageWriter.{ImageWriter}
 use Rattle.half_store.specs.declared.active.Active.{Active}
 use Rattle.unit_journal.specs.Journal.{held_of, region_of}
@@ -30,6 +33,19 @@ use Rattle.checkpoints.specs.Holds.{Holds, half_end, half_pages, journal_at}
 use Rattle.checkpoints.specs.Laying.{pages_with}
 use Rattle.checkpoints.specs.Moment.{GoesOn, IsAnew, IsNew, IsOld, Moment, Rests}
 use Rattle.checkpoints.specs.Room.{TellsRoom, need_of, pages_of_catalogue, pages_of_tables}
+
+-- ---- a gate that is closed
+
+pub begun_old : (old : List ℕ) (store : Store) → 1 ≤ half_len (length old) → (image : List ℕ) → IsKept old store (offset_of (half_len (length old)) (other_than store.half)) 1 image → IsOld old store image
+begun_old old store some image kept = record {
+  active = kept.active;
+  others = Torn-wider (offset_of (half_len (length old)) (other_than store.half)) 1 (offset_of (half_len (length old)) (other_than store.half)) (half_len (length old)) old image (omega arith) (omega (arith, some)) kept.others;
+}
+
+-- a half of a store has a byte
+pub some_half : (size : ℕ) → IsTrue (is_store_size size) → 1 ≤ half_len size
+unfolding half_len
+some_half size is = grind (arith, nat_tests)
 
 -- ---- the half that is written
 
@@ -80,22 +96,114 @@ module _ (base : List ℕ) (store : Store) (w : ImageWriter) (half : half_of w �
         (subst (λ (n : ℕ). HasCheckpoint image (record { at = from_of w + 8192; count = a.pages; first_catalogue = n; catalogue_pages = catalogue }) tables) (ap (λ (s : Store). s.header.first_catalogue) same)
         (subst (λ (n : ℕ). HasCheckpoint image (record { at = from_of w + 8192; count = n; first_catalogue = first; catalogue_pages = catalogue }) tables) count has)))
 
+    at_active : (a : Active) → IsBehindPages (half_bytes_of w) a → store_of a ≡ switched store w first catalogue → a.region.at ≡ next_of w
+    at_active a behind same = omega (arith, behind.begins, ap (λ (s : Store). offset_of (half_bytes_of w) s.half) same, ap (λ (s : Store). s.header.pages) same)
+
+    end_active : (a : Active) → IsBehindPages (half_bytes_of w) a → store_of a ≡ switched store w first catalogue → end_of a.region ≡ from_of w + half_bytes_of w
+    end_active a behind same = omega (arith, behind.ends, ap (λ (s : Store). offset_of (half_bytes_of w) s.half) same)
+
     pub anew : (modelled : Bool) (disk : Life) (s : Switched) → IsSwitched modelled disk file (switched store w first catalogue) w s es held → store_of s.active ≡ switched store w first catalogue → IsBehindPages (half_bytes_of w) s.active
-        → region_of s.journal ≡ s.active.region → held_of s.journal ≡ held → IsAnew modelled disk base store tables es held s
-    anew modelled disk s is same behind region room = record {
+        → held_of s.journal ≡ held → IsAnew modelled disk base store tables es held s
+    unfolding is_new
+    anew modelled disk s is same behind room = record {
       is = is_new disk.seen is.is;
       same = sym same;
       behind = subst (λ n. IsBehindPages n s.active) bytes behind;
       pages = pages_now disk.seen s.active behind (sym same)
           (framed file disk.seen (record { at = from_of w + 8192; count = pages_of w; first_catalogue = first; catalogue_pages = catalogue }) tables is.is.pages pages);
       settled = is.settled;
-      region = region;
+      begins = is.begins ∙ sym (at_active s.active behind same);
+      ends = is.ends ∙ sym (end_active s.active behind same);
       room = room;
     }
 
--- ---- room
+-- ---- the whole run
 
-pub with_error : {T S : Type 0} (P Q : Type 0) (e : ImageError) (from : Result T ImageError) (result : Result S ImageError) → from ≡ Err e → result ≡ Err e → (P → Q) → OnRefused from P → OnRefused result Q
-with_error P Q DeviceFailed from (Ok x) was is f held = tt
-with_error P Q DeviceFailed from (Err DeviceFailed) was is f held = tt
-with_error P Q e from result was is f held = absurd cc
+large : (w : ImageWriter) → 8192 < half_bytes_of w
+large w = omega (arith, w.fits)
+
+-- while pages are written, all that a crash leaves is old
+pub still_old : (modelled : Bool) (disk : Life) (base : List ℕ) (store : Store) (w : ImageWriter) → IsWriting modelled disk base store w → (c : List ℕ) → Now disk c → IsOld base store c
+still_old modelled disk base store w is c now =
+    is_old base store w is.other is.halves (from_of w + 1) (half_bytes_of w - 1) c (omega arith) (omega (arith, large w)) (kept_now modelled disk base store w is (large w) c now)
+
+pub pages_leave : (modelled : Bool) (old mid : Life) (base : List ℕ) (store : Store) (w after : ImageWriter) (tables : Tables) (es : List Entry) (held : ℕ) → IsWriting modelled old base store w → AddsPages modelled old mid w after
+    → LeavesOnly old mid (Moment base store tables es held)
+pages_leave modelled old mid base store w after tables es held is adds =
+    weaker old mid _ _ (adds.any_moment base store is) (λ c kept. inl (is_old base store w is.other is.halves (from_of w + 1) (half_bytes_of w - 1) c (omega arith) (omega (arith, large w)) kept))
+
+module _ (framed : CheckpointsAreFramed) (modelled : Bool) (old mid : Life) (base : List ℕ) (store : Store) (w after : ImageWriter) (first catalogue : ℕ) (tables : Tables) (es : List Entry) (held : ℕ)
+    (is : IsWriting modelled old base store w) (adds : AddsPages modelled old mid w after) (image : Now mid mid.seen) (count : catalogue ≡ pages_of after - first) (has : HasCheckpoint mid.seen (pages_with after first) tables) where
+  now_writing : IsWriting modelled mid base store after
+  now_writing = adds.writing base store is
+
+  same_size : length mid.seen ≡ length base
+  same_size = (now_writing.within mid.seen image).size
+
+  pages_there : HasCheckpoint mid.seen (record { at = from_of after + 8192; count = pages_of after; first_catalogue = first; catalogue_pages = catalogue }) tables
+  pages_there = subst (λ (n : ℕ). HasCheckpoint mid.seen (record { at = from_of after + 8192; count = pages_of after; first_catalogue = first; catalogue_pages = n }) tables) (sym count) has
+
+  pub image_leaves : (new : Life) → LeavesOnly mid new (SwitchMoment base mid.seen store after first catalogue es held) → LeavesOnly old new (Moment base store tables es held)
+  image_leaves new run =
+      and_then old mid new _ _ _ (pages_leave modelled old mid base store w after tables es held is adds) run (λ c m. m)
+      (λ c m. there base store after now_writing.other now_writing.halves framed mid.seen first catalogue tables es held same_size now_writing.generation pages_there c m)
+
+  pub image_anew : (new : Life) (s : Switched) → IsSwitched modelled new mid.seen (switched store after first catalogue) after s es held → store_of s.active ≡ switched store after first catalogue → IsBehindPages (half_bytes_of after) s.active
+      → held_of s.journal ≡ held → IsAnew modelled new base store tables es held s
+  image_anew new s done same behind room =
+      anew base store after now_writing.other now_writing.halves framed mid.seen first catalogue tables es held same_size now_writing.generation pages_there modelled new s done same behind room
+
+-- ---- a refusal
+
+pub refused_so : {T : Type 0} (P : Type 0) (result : Result T ImageError) → P → OnRefused result P
+refused_so P (Ok x) p = tt
+refused_so P (Err NoMemory) p = p
+refused_so P (Err DeviceFailed) p = tt
+refused_so P (Err Damaged) p = p
+refused_so P (Err (Full full)) p = p
+
+refused_on : (T S : Type 0) (P Q : Type 0) (e : ImageError) → (P → Q) → OnRefused {T = T} (Err e) P → OnRefused {T = S} (Err e) Q
+refused_on T S P Q NoMemory f held = f held
+refused_on T S P Q DeviceFailed f held = tt
+refused_on T S P Q Damaged f held = f held
+refused_on T S P Q (Full full) f held = f held
+
+pub refused_still : {T : Type 0} (S : Type 0) (P Q : Type 0) (e : ImageError) (from : Result T ImageError) → from ≡ Err e → (P → Q) → OnRefused from P → OnRefused {T = S} (Err e) Q
+refused_still {T = T} S P Q e from was f held = refused_on T S P Q e f (subst (λ (r : Result T ImageError). OnRefused r P) was held)
+
+-- ---- from the beginning
+
+module _ (old mid : List ℕ) (store : Store) (some : 1 ≤ half_len (length old)) (torn : Torn (offset_of (half_len (length old)) (other_than store.half)) 1 old mid) where
+  pub old_before : (image : List ℕ) → IsOld mid store image → IsOld old store image
+  old_before image is =
+      let here : Torn (offset_of (half_len (length old)) (other_than store.half)) (half_len (length old)) mid image =
+      subst (λ n. Torn (offset_of (half_len n) (other_than store.half)) (half_len n) mid image) torn.size is.others in
+      record {
+        active = is.active;
+        others = Torn-trans (offset_of (half_len (length old)) (other_than store.half)) (half_len (length old)) old mid image
+            (Torn-wider (offset_of (half_len (length old)) (other_than store.half)) 1 (offset_of (half_len (length old)) (other_than store.half)) (half_len (length old)) old mid (omega arith) (omega (arith, some)) torn) here;
+      }
+
+  new_before : (tables : Tables) (es : List Entry) (held : ℕ) (image : List ℕ) → IsNew mid store tables es held image → IsNew old store tables es held image
+  new_before tables es held image is = record { size = is.size ∙ torn.size; new = is.new; name = is.name; half = is.half; generation = is.generation; holds = is.holds }
+
+  pub before : (tables : Tables) (es : List Entry) (held : ℕ) (image : List ℕ) → Moment mid store tables es held image → Moment old store tables es held image
+  before tables es held image moment = ⊎_elim (λ is. inl (old_before image is)) (λ is. inr (new_before tables es held image is)) moment
+
+  pub anew_before : (modelled : Bool) (disk : Life) (tables : Tables) (es : List Entry) (held : ℕ) (s : Switched) → IsAnew modelled disk mid store tables es held s → IsAnew modelled disk old store tables es held s
+  unfolding new_before
+  anew_before modelled disk tables es held s is = record {
+    is = new_before tables es held disk.seen is.is;
+    same = is.same;
+    behind = subst (λ n. IsBehindPages (half_len n) s.active) torn.size is.behind;
+    pages = is.pages;
+    settled = is.settled;
+    begins = is.begins;
+    ends = is.ends;
+    room = is.room;
+  }
+
+  -- the run from the beginning of an image on
+  pub begun_leaves : (first second third : Life) (tables : Tables) (es : List Entry) (held : ℕ) → LeavesOnly first second (IsKept old store (offset_of (half_len (length old)) (other_than store.half)) 1) → LeavesOnly second third (Moment mid store tables es held)
+      → LeavesOnly first third (Moment old store tables es held)
+  begun_leaves first second third tables es held begun run = and_then first second third _ _ _ begun run (λ c kept. inl (begun_old old store some c kept)) (λ c m. before tables es held c m)

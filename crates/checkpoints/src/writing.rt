@@ -88,10 +88,15 @@ pub fn write_checkpoint<'a, T: LentTables<'a>, D: Disk>(
     match write_image(alloc, disk, image, active, tables, records, held) {
         Ok(switched) => Ok(switched),
         Err(ImageError::DeviceFailed) => Err(ImageError::DeviceFailed),
-        Err(error) => {
-            // What was written is synced, so that a crash leaves what is read.
+        // What was written is synced, so that a crash leaves what is read.
+        Err(ImageError::NoMemory) => {
             disk.sync()?;
-            Err(error)
+            Err(ImageError::NoMemory)
         }
+        Err(ImageError::Full(full)) => {
+            disk.sync()?;
+            Err(ImageError::Full(full))
+        }
+        Err(ImageError::Damaged) => unreachable!(),
     }
 }
