@@ -1,13 +1,12 @@
 -- From the image that is written to the store.
-use Rattle.std.proofs.Common.{◌≡◌, ◌⊎◌, inl, inr, ⊎_elim, ℕ, ◌+◌, ◌*◌, ◌-◌, ◌<◌, ◌≤◌, Bool, List, length, Ok, Err, refl, sym, ◌∙◌, ap, subst, arith}
+use Rattle.std.proofs.Common.{◌≡◌, inl, inr, ⊎_elim, ℕ, ◌+◌, ◌*◌, ◌-◌, ◌<◌, ◌≤◌, Bool, List, length, Ok, Err, refl, sym, ◌∙◌, ap, subst, arith}
 use Rattle.std.specs.Prelude.{Result, IsTrue}
-use Rattle.drda_disk.specs.Disk.{LeavesOnly, Life, Now, Only, Torn, Within}
-use Rattle.drda_disk.specs.Images.{Torn-refl}
+use Rattle.drda_disk.specs.Disk.{LeavesOnly, Life, Now, Torn}
 use Rattle.drda_disk.proofs.Moments.{and_then, weaker}
 use Rattle.drda_disk.specs.Region.{end_of}
 use Rattle.drda_disk.proofs.Parts.{Torn-trans, Torn-wider}
 use Rattle.std.proofs.lemmas.Bool.Decides.{nat_tests}
-use Rattle.half_store.specs.Active.{Store, active_of}
+use Rattle.half_store.specs.Active.{Store}
 use Rattle.half_store.specs.Layout.{half_len, is_store_size, offset_of, other_than}
 use Rattle.half_store.specs.Opened.{IsBehindPages, store_of}
 use Rattle.half_store.specs.Switching.{switched}
@@ -15,24 +14,20 @@ use Rattle.half_store.specs.Writing.{IsKept, IsWriting, from_of, generation_of, 
 use Rattle.half_store.proofs.Kept.{kept_now}
 use Rattle.half_store.specs.declared.image.ImageWriter.{ImageWriter}
 use Rattle.half_store.specs.declared.active.Active.{Active}
-use Rattle.unit_journal.specs.Journal.{held_of, region_of}
+use Rattle.unit_journal.specs.Journal.{held_of}
 use Rattle.unit_journal.specs.Record.{Entry, laid}
 use Rattle.unit_journal.specs.Stands.{StandsFrom}
 use Rattle.tables.specs.Tables.{Store as Tables}
-use Rattle.checkpoint_writer.specs.Adding.{AddsPages, end_of_half}
-use Rattle.checkpoint_writer.specs.Errors.{TellsFull}
-use Rattle.checkpoint_writer.specs.Moment.{FitBehind, IsSwitched, OnRefused, SaysFull}
+use Rattle.checkpoint_writer.specs.Adding.{AddsPages}
+use Rattle.checkpoint_writer.specs.Moment.{IsSwitched, OnRefused}
 use Rattle.checkpoint_writer.specs.Moment.{IsNew as HasSwitched, Moment as SwitchMoment}
 use Rattle.checkpoint_writer.specs.declared.ending.Switched.{Switched}
 use Rattle.checkpoint_writer.specs.declared.errors.ImageError.{ImageError}
 use Rattle.checkpoint_writer.specs.declared.errors.ImageError.TheVariants.{NoMemory, DeviceFailed, Damaged, Full}
 use Rattle.store_check.specs.Checkpoint.{CheckpointsAreFramed, HasCheckpoint}
-use Rattle.store_check.specs.Half.{HalfPages}
 use Rattle.store_check.specs.Half.{pages_of as pages_of_active}
-use Rattle.checkpoints.specs.Holds.{Holds, half_end, half_pages, journal_at}
 use Rattle.checkpoints.specs.Laying.{pages_with}
-use Rattle.checkpoints.specs.Moment.{GoesOn, IsAnew, IsNew, IsOld, Moment, Rests}
-use Rattle.checkpoints.specs.Room.{TellsRoom, need_of, pages_of_catalogue, pages_of_tables}
+use Rattle.checkpoints.specs.Moment.{IsAnew, IsNew, IsOld, Moment}
 
 -- ---- a gate that is closed
 

@@ -1,5 +1,5 @@
 -- What an image holds while a checkpoint is written.
-use Rattle.std.proofs.Common.{◌≡◌, ◌⊎◌, inl, inr, ⊎_elim, ℕ, ◌+◌, ◌*◌, ◌<◌, ◌≤◌, List, length, sym, ◌∙◌, ap, subst, arith}
+use Rattle.std.proofs.Common.{◌≡◌, ◌⊎◌, inl, inr, ⊎_elim, ℕ, ◌+◌, ◌*◌, ◌<◌, ◌≤◌, List, length, sym, ◌∙◌, subst, arith}
 use Rattle.drda_words.specs.Place.{part}
 use Rattle.drda_disk.proofs.Parts.{part_outside}
 use Rattle.half_store.specs.Active.{Store}

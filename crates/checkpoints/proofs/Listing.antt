@@ -1,5 +1,5 @@
 -- A half into which all tables and their catalogue were written.
-use Rattle.std.proofs.Common.{◌≡◌, ℕ, ◌+◌, ◌*◌, ◌-◌, ◌^◌, ◌<◌, ◌≤◌, Bool, true, false, ◌&&◌, List, [], ◌∷◌, length, map, cond, refl, sym, ap, ap₂, subst, ◌∙◌, arith}
+use Rattle.std.proofs.Common.{◌≡◌, ℕ, ◌+◌, ◌*◌, ◌^◌, ◌<◌, ◌≤◌, Bool, true, false, ◌&&◌, List, [], ◌∷◌, length, map, cond, refl, sym, ap, ap₂, subst, ◌∙◌, arith}
 use Rattle.std.specs.Prelude.{bytes_eq, nat_le, nat_lt, ◌==◌}
 use Rattle.std.specs.List.{AllByRecursion, list_all}
 use Rattle.std.specs.Map.{keys_of, values_of}
@@ -21,15 +21,15 @@ use Rattle.key_map.specs.Merging.{Rows}
 use Rattle.tables.specs.Tables.{Store, Table}
 use Rattle.tables.specs.View.{is_entry, is_store, is_table}
 use Rattle.table_map.specs.Table.{without_keys}
-use Rattle.half_store.specs.Writing.{from_of, half_bytes_of, next_of, pages_of}
+use Rattle.half_store.specs.Writing.{from_of, next_of, pages_of}
 use Rattle.half_store.specs.declared.image.ImageWriter.{ImageWriter}
 use Rattle.checkpoint_writer.specs.Catalogue.{AreEntries, Entry, HaveNames, is_entry as is_catalogue_entry, rows_of}
 use Rattle.checkpoint_writer.specs.Laying.{StandAt}
 use Rattle.store_check.specs.Checkpoint.{HasCheckpoint, at_keys, forms, store_on}
 use Rattle.store_check.specs.Half.{page_at, pages_over}
 use Rattle.store_check.specs.Listed.{are_listed, first_page_of, is_before, lie_from, names_rise}
-use Rattle.store_check.specs.Written.{IsWritten, IsWrittenHalf, WrittenHalfIsWhole, WrittenTable, entries_written, laid_table}
-use Rattle.checkpoints.specs.Laying.{laid_at, laid_from, pages_with, rows_under}
+use Rattle.store_check.specs.Written.{IsWritten, IsWrittenHalf, WrittenHalfIsWhole, entries_written, laid_table}
+use Rattle.checkpoints.specs.Laying.{laid_from, pages_with, rows_under}
 use Rattle.checkpoints.specs.Room.{entries_from, entry_of_table, pages_of_table, pages_of_tables}
 use Rattle.checkpoints.proofs.Placing.{all_short, bare_under, good_rows, table_parts}
 use Rattle.checkpoints.proofs.Moving.{good_all, is_good}

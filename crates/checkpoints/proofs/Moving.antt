@@ -1,11 +1,10 @@
 -- Tables one behind another, while pages are written behind them.
-use Rattle.std.proofs.Common.{◌≡◌, inl, ℕ, ◌+◌, ◌*◌, ◌-◌, ◌<◌, ◌≤◌, true, ◌&&◌, List, [], ◌∷◌, ◌++◌, length, refl, sym, ap, ap₂, subst, ◌∙◌, arith, append_assoc, append-nil}
-use Rattle.std.specs.Prelude.{Bool, IsTrue, Result, Ok, Err}
+use Rattle.std.proofs.Common.{◌≡◌, inl, ℕ, ◌+◌, ◌≤◌, true, ◌&&◌, List, [], ◌∷◌, ◌++◌, length, refl, sym, ap, ap₂, subst, ◌∙◌, arith, append_assoc, append-nil}
+use Rattle.std.specs.Prelude.{Bool, IsTrue, Result, Err}
 use Rattle.std.specs.List.{AllByRecursion, list_all}
 use Rattle.std.specs.Map.{keys_of, values_of}
 use Rattle.std.specs.Ordering.{nat_cmp}
 use Rattle.std.specs.Cmp.Lexicographic.{slice_cmp}
-use Rattle.std.proofs.lemmas.List.{map-append}
 use Rattle.drda_words.specs.Order.{rises}
 use Rattle.drda_disk.specs.Disk.{Torn}
 use Rattle.row_values.specs.Schema.{is_name}
@@ -15,7 +14,7 @@ use Rattle.row_forms.specs.RowForm.{row_form}
 use Rattle.tables.specs.Tables.{Store, Table}
 use Rattle.tables.specs.View.{is_store, is_table}
 use Rattle.table_map.specs.Table.{without_keys}
-use Rattle.half_store.specs.Writing.{from_of, half_bytes_of, next_of, pages_of}
+use Rattle.half_store.specs.Writing.{from_of, next_of, pages_of}
 use Rattle.half_store.specs.declared.image.ImageWriter.{ImageWriter}
 use Rattle.checkpoint_writer.specs.Catalogue.{Entry}
 use Rattle.checkpoint_writer.specs.Errors.{TellsFull}
@@ -24,7 +23,7 @@ use Rattle.checkpoint_writer.proofs.Filling.{tells_more}
 use Rattle.checkpoint_writer.proofs.MergedRows.{at_moves, told_so}
 use Rattle.store_check.specs.Checkpoint.{forms}
 use Rattle.store_check.specs.Half.{page_at}
-use Rattle.store_check.specs.Written.{IsWritten, WrittenTable}
+use Rattle.store_check.specs.Written.{IsWritten}
 use Rattle.checkpoints.specs.Laying.{IsGood, laid_at, laid_from, rows_under}
 use Rattle.checkpoints.specs.Room.{entries_from, entry_of_table, pages_of_table, pages_of_tables}
 use Rattle.checkpoints.proofs.Placing.{bare_under}

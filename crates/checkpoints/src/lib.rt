@@ -5,7 +5,7 @@
 mod laws;
 mod lent;
 mod pages;
-mod tables;
+mod table_pages;
 mod writing;
 
 pub use laws::moments_hold;

@@ -9,7 +9,7 @@ ghost use Rattle.checkpoints.specs.Laying.{pages_with};
 ghost use Rattle.checkpoints.specs.Room.{pages_of_catalogue, pages_of_tables};
 
 use crate::lent::LentTables;
-use crate::tables::write_tables;
+use crate::table_pages::write_tables;
 use checkpoint_writer::{ImageError, write_catalogue};
 use drda_disk::Disk;
 use half_store::ImageWriter;

@@ -1,6 +1,5 @@
-use Rattle.std.proofs.Common.{rules, ◌≡◌, ◌-◌, sym, ap, arith}
+use Rattle.std.proofs.Common.{◌-◌, ap}
 use Rattle.half_store.specs.Opened.{store_of}
-use Rattle.half_store.specs.Writing.{pages_of}
 use Rattle.unit_journal.specs.Record.{entries_of}
 use Rattle.checkpoint_writer.specs.declared.ending.Switched.{Switched}
 use Rattle.checkpoints.proofs.Ending.{image_anew, image_leaves, pages_leave, refused_so, refused_still, still_old}

@@ -61,10 +61,7 @@ fn write_table<'a, D: Disk>(
 }
 
 /// Puts a table behind others.
-fn push_place<'a>(
-    places: &mut Vec<TablePlace<'a>>,
-    place: TablePlace<'a>,
-) -> Result<(), ImageError>
+fn push_place<'a>(places: &mut Vec<TablePlace<'a>>, place: TablePlace<'a>) -> Result<(), ImageError>
     ensures items { OnOk result (places.new.items ≡ places.old.items ++ place.entry ∷ []) }
     ensures fault { IfErr result (λ e. e ≡ NoMemory) }
     ensures cause { (n : ℕ) → CountsImage result n n }

@@ -1,14 +1,14 @@
-use Rattle.std.proofs.Common.{rules, ◌≡◌, ◌+◌, ◌*◌, ◌≤◌, ◌++◌, ◌∷◌, ◌∙◌, [], List, map, refl, sym, ap, ap₂, subst, arith}
+use Rattle.std.proofs.Common.{rules, ◌+◌, ◌*◌, ◌++◌, ◌∷◌, ◌∙◌, [], List, map, refl, ap, ap₂, arith}
 use Rattle.std.proofs.lemmas.List.{map-append}
-use Rattle.half_store.specs.Writing.{from_of, half_bytes_of, next_of}
+use Rattle.half_store.specs.Writing.{next_of}
 use Rattle.checkpoint_writer.specs.Adding.{end_of_half}
 use Rattle.checkpoint_writer.specs.Catalogue.{Entry, place_of}
 use Rattle.checkpoint_writer.specs.declared.entry.TablePlace.{TablePlace}
 use Rattle.checkpoint_writer.proofs.Adding.{and_more, no_page, same_from}
 use Rattle.checkpoint_writer.proofs.Told.{handed_on}
-use Rattle.checkpoints.specs.Room.{entries_from, pages_of_table, pages_of_tables}
-use Rattle.checkpoints.proofs.Moving.{all_done, good_left, none_yet, one_more, room_left, told_wider}
-use Rattle.checkpoints.proofs.tables.write_tables.Goals as goal
+use Rattle.checkpoints.specs.Room.{pages_of_table, pages_of_tables}
+use Rattle.checkpoints.proofs.Moving.{good_left, none_yet, one_more, room_left, told_wider}
+use Rattle.checkpoints.proofs.table_pages.write_tables.Goals as goal
 
 pub loop-table-init : goal.loop-table-init
 loop-table-init g c = record {

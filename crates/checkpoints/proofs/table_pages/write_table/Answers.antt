@@ -1,4 +1,4 @@
-use Rattle.std.proofs.Common.{rules, ◌≡◌, ◌+◌, ◌*◌, ◌-◌, ◌≤◌, length, refl, arith}
+use Rattle.std.proofs.Common.{rules, ◌≡◌, ◌+◌, ◌*◌, ◌-◌, length, refl, arith}
 use Rattle.row_forms.specs.RowForm.{row_form}
 use Rattle.row_pages.specs.Laying.{laid}
 use Rattle.key_map.specs.Walk.{rows_left}
@@ -11,7 +11,7 @@ use Rattle.store_check.specs.Half.{page_at}
 use Rattle.checkpoints.specs.Room.{pages_of_table}
 use Rattle.checkpoints.proofs.Moving.{told_wider}
 use Rattle.checkpoints.proofs.Placing.{entry_there, lent_keys, lent_pages, lent_short, pages_after, table_laid}
-use Rattle.checkpoints.proofs.tables.write_table.Goals as goal
+use Rattle.checkpoints.proofs.table_pages.write_table.Goals as goal
 
 pub returns-in_err-write_rows-clause-full : goal.returns-in_err-write_rows-clause-full
 returns-in_err-write_rows-clause-full g c e is =

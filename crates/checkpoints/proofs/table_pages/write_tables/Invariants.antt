@@ -2,7 +2,7 @@ use Rattle.std.proofs.Common.{◌≡◌, length, map}
 use Rattle.checkpoint_writer.specs.Adding.{AddsPages}
 use Rattle.checkpoint_writer.specs.Catalogue.{place_of}
 use Rattle.checkpoints.proofs.Moving.{IsSoFar}
-use Rattle.checkpoints.proofs.tables.write_tables.Given as goal
+use Rattle.checkpoints.proofs.table_pages.write_tables.Given as goal
 
 abbrev pub invariant-loop-table : goal.invariant-loop-table
 invariant-loop-table g l = record {
