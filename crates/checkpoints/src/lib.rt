@@ -5,6 +5,7 @@
 mod laws;
 mod lent;
 mod pages;
+mod stored;
 mod table_pages;
 mod writing;
 
