@@ -1,7 +1,8 @@
 //! Making an image the active half.
 ghost use Rattle.std.specs.Prelude.{◌≡◌, ◌+◌, ◌≤◌, ℕ, List, IfOk, OnOk, length};
 ghost use Rattle.drda_disk.specs.Disk.{LeavesOnly};
-ghost use Rattle.unit_journal.specs.Journal.{held_of};
+ghost use Rattle.drda_disk.specs.Region.{end_of};
+ghost use Rattle.unit_journal.specs.Journal.{held_of, region_of};
 ghost use Rattle.unit_journal.specs.Record.{entries_of, laid};
 ghost use Rattle.half_store.specs.Opened.{IsBehindPages, store_of};
 ghost use Rattle.half_store.specs.Switching.{switched};
@@ -49,6 +50,8 @@ pub fn finish_image<D: Disk>(
     ensures store { IfOk result (λ s. store_of s.active ≡ switched (store_of active.now) image first_catalogue catalogue_pages) }
     ensures behind { IfOk result (λ s. IsBehindPages (half_bytes_of image) s.active) }
     ensures held { IfOk result (λ s. held_of s.journal ≡ held) }
+    ensures ends { IfOk result (λ s. end_of (region_of s.journal) ≡ from_of image + half_bytes_of image) }
+    ensures size { length (D.life disk.new).seen ≡ length (D.life disk.old).seen }
     ensures refused { OnRefused result ((base : List ℕ) → IsWriting D.is_modelled (D.life disk.old) base (store_of active.now) image → IsWriting D.is_modelled (D.life disk.new) base (store_of active.now) image) }
     ensures full { SaysFull result image (length (laid (entries_of records.now)) + held) }
     ensures damaged { DamagedWhere ⊥ result }

@@ -1,10 +1,12 @@
 //! Writing a checkpoint.
 ghost use Rattle.std.specs.Prelude.{◌≡◌, ◌+◌, ◌≤◌, ℕ, List, true, IsTrue, IfOk, OnOk, length};
 ghost use Rattle.drda_disk.specs.Disk.{LeavesOnly, Now};
+ghost use Rattle.drda_disk.specs.Region.{end_of};
 ghost use Rattle.half_store.specs.Layout.{half_len, is_store_size};
 ghost use Rattle.half_store.specs.Opened.{store_of};
 ghost use Rattle.half_store.specs.Writing.{IsWriting, from_of, half_bytes_of, pages_of};
 ghost use Rattle.tables.specs.View.{is_store};
+ghost use Rattle.unit_journal.specs.Journal.{held_of, region_of};
 ghost use Rattle.unit_journal.specs.Record.{entries_of};
 ghost use Rattle.checkpoint_writer.specs.Errors.{CountsImage, DamagedWhere};
 ghost use Rattle.checkpoint_writer.specs.Moment.{OnRefused};
@@ -39,6 +41,9 @@ fn write_image<'a, T: LentTables<'a>, D: Disk>(
         IsAnew D.is_modelled (D.life disk.new) base (store_of active.now) (T.left tables.old) (entries_of records.now) held s) }
     ensures refused { OnRefused result ((base : List ℕ) → IsWriting D.is_modelled (D.life disk.old) base (store_of active.now) image →
         (c : List ℕ) → Now (D.life disk.new) c → IsOld base (store_of active.now) c) }
+    ensures held { IfOk result (λ s. held_of s.journal ≡ held) }
+    ensures ends { IfOk result (λ s. end_of (region_of s.journal) ≡ from_of image + half_bytes_of image) }
+    ensures size { length (D.life disk.new).seen ≡ length (D.life disk.old).seen }
     ensures full { TellsRoom result (need_of (T.left tables.old) (entries_of records.now) held) (half_bytes_of image) }
     ensures damaged { DamagedWhere ⊥ result }
     ensures cause { CountsImage result (D.life disk.old).faults (D.life disk.new).faults }
@@ -80,6 +85,9 @@ pub fn write_checkpoint<'a, T: LentTables<'a>, D: Disk>(
     ensures done { IfOk result (λ s. Rests D.is_modelled (D.life disk.old) (store_of active.now) →
         IsAnew D.is_modelled (D.life disk.new) (D.life disk.old).seen (store_of active.now) (T.left tables.old) (entries_of records.now) held s) }
     ensures goes_on { OnRefused result (Rests D.is_modelled (D.life disk.old) (store_of active.now) → GoesOn (D.life disk.new) (D.life disk.old).seen (store_of active.now)) }
+    ensures held { IfOk result (λ s. held_of s.journal ≡ held) }
+    ensures inside { IfOk result (λ s. end_of (region_of s.journal) ≤ length (D.life disk.new).seen) }
+    ensures size { length (D.life disk.new).seen ≡ length (D.life disk.old).seen }
     ensures full { TellsRoom result (need_of (T.left tables.old) (entries_of records.now) held) (half_len (length (D.life disk.old).seen)) }
     ensures damaged { DamagedWhere ⊥ result }
     ensures cause { CountsImage result (D.life disk.old).faults (D.life disk.new).faults }

@@ -53,8 +53,8 @@ pub fn prepare_record(
     changes: &[Change],
     claims: &[Claim],
 ) -> Result<Record, CheckpointError>
-    ensures record { IfOk result (λ record. entry_of record ≡ written (prepared xid.now (map change_of changes.now) claims.now)) }
-    ensures good { IfOk result (λ record. IsGood (prepared xid.now (map change_of changes.now) claims.now)) }
+    ensures record { IfOk result (λ r. entry_of r ≡ written (prepared xid.now (map change_of changes.now) claims.now)) }
+    ensures good { IfOk result (λ r. IsGood (prepared xid.now (map change_of changes.now) claims.now)) }
     ensures other { IfErr result (λ error. error ≢ DeviceFailed) }
 {
     let laid = match lay_prepare(alloc, xid, changes, claims, LONGEST_RECORD_BYTES) {
