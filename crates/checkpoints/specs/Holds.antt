@@ -5,12 +5,7 @@ use Rattle.half_store.specs.Layout.{half_len, offset_of}
 use Rattle.unit_journal.specs.Record.{Entry, laid}
 use Rattle.unit_journal.specs.Stands.{StandsFrom}
 use Rattle.tables.specs.Tables.{Store as Tables}
-use Rattle.store_check.specs.Checkpoint.{HasCheckpoint}
-use Rattle.store_check.specs.Half.{HalfPages}
-
--- the pages of a store's active half, on a disk of so many bytes
-abbrev pub half_pages : ℕ → Store → HalfPages
-half_pages size s = record { at = offset_of (half_len size) s.half + 8192; count = s.header.pages; first_catalogue = s.header.first_catalogue; catalogue_pages = s.header.catalogue_pages }
+use Rattle.store_check.specs.Checkpoint.{HasCheckpoint, half_pages}
 
 -- the offset of its journal, and the one behind the half
 abbrev pub journal_at : ℕ → Store → ℕ
