@@ -9,8 +9,8 @@ use Rattle.half_store.specs.declared.layout.Half.TheVariants.{First, Second}
 use Rattle.unit_journal.specs.Record.{Entry, laid}
 use Rattle.unit_journal.specs.Stands.{StandsFrom}
 use Rattle.tables.specs.Tables.{Store as Tables}
-use Rattle.store_check.specs.Checkpoint.{CheckpointsAreFramed, HasCheckpoint}
-use Rattle.checkpoints.specs.Holds.{Holds, half_end, half_pages, journal_at}
+use Rattle.store_check.specs.Checkpoint.{CheckpointsAreFramed, HasCheckpoint, half_pages}
+use Rattle.checkpoints.specs.Holds.{Holds, half_end, journal_at}
 use Rattle.checkpoints.specs.Moment.{IsOld, MomentsHold}
 
 -- what lies in a half lies outside of the other one
