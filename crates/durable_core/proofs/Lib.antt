@@ -7,3 +7,4 @@ pub mod Answered
 pub mod Damaged
 pub mod Prepared
 pub mod Telling
+pub mod Switching

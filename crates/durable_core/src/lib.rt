@@ -1,6 +1,7 @@
 //! The core over a disk: what is committed, prepared and decided outlasts a crash.
 #![tactic(auto)]
 
+mod checkpointing;
 mod durable;
 mod errors;
 mod head;
