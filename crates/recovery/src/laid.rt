@@ -14,7 +14,6 @@ use std::alloc::Global;
 use table_store::TableStore;
 use unit_journal::Record;
 use unit_records::UnitRecord;
-use unit_records::laws::records_have_one_reading;
 
 /// Finds the places of the changes of units in doubt, by the records that prepare them: `Ok` only where
 /// the changes of each have theirs in the store. `Damaged` where those of one have not, or a record
@@ -40,7 +39,6 @@ fn find_place(alloc: Global, store: &mut TableStore, prepare: &Record) -> Result
     ensures placed { OnOk result ((xid : _) (changes : _) (claims : _) → IsRecord (entry_of prepare.now).kind (entry_of prepare.now).body (prepared xid changes claims) → have_places changes (store_in store.old) ≡ true) }
     ensures store { store_in store.new ≡ store_in store.old }
 {
-    records_have_one_reading();
     let said = match UnitRecord::read(alloc, prepare.kind, prepare.body.as_slice()) {
         Ok(said) => said,
         Err(error) => return Err(error),
