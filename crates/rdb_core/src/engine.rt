@@ -28,10 +28,13 @@ use xa_manager::{Work, XaTable};
 #[derive(Drop)]
 pub struct Core<R: Recorder> {
     pub(crate) alloc: Global,
-    pub(crate) store: TableStore,
+    /// The committed tables. Whoever holds the core may lend them and who records at once, as a
+    /// checkpoint does.
+    pub store: TableStore,
     pub(crate) units: Units,
     pub(crate) branches: XaTable,
-    pub(crate) recorder: R,
+    /// Who records. May be lent beside the committed tables.
+    pub recorder: R,
 }
 
 impl<R: Recorder> Core<R> {
