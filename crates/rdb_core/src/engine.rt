@@ -27,7 +27,8 @@ use xa_manager::{Work, XaTable};
 /// What is committed, prepared or decided is recorded before it is made.
 #[derive(Drop)]
 pub struct Core<R: Recorder> {
-    pub(crate) alloc: Global,
+    /// Where memory is asked for.
+    pub alloc: Global,
     /// The committed tables. Whoever holds the core may lend them and who records at once, as a
     /// checkpoint does.
     pub store: TableStore,
