@@ -12,6 +12,7 @@ mod preparing;
 mod reading;
 mod restoring;
 
+pub use checkpointing::Checkpointed;
 pub use durable::DurableCore;
 pub use errors::{OpenError, Refused};
 pub use opening::open;
