@@ -8,3 +8,4 @@ pub mod Damaged
 pub mod Prepared
 pub mod Telling
 pub mod Switching
+pub mod Prepares

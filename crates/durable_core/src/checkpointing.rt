@@ -1,6 +1,6 @@
 //! Checkpoints.
 
-ghost use Rattle.std.specs.Prelude.{◌≡◌, IfErr, IfOk, map};
+ghost use Rattle.std.specs.Prelude.{◌≡◌, IfOk, map};
 ghost use Rattle.unit_journal.specs.Record.{entries_of};
 ghost use Rattle.unit_records.specs.Records.{entry_of as written};
 ghost use Rattle.recovery.specs.Laying.{prepares_of};
@@ -17,6 +17,7 @@ use rdb_core::Core;
 use recovery::find_places;
 use recovery::laws::{doubts_are_laid, records_lead_to_sound_states};
 use recovery_laws::images::calls_make_records;
+use std::alloc::AllocError;
 use store_check::checkpoints_are_known;
 use unit_journal::Record;
 use unit_records::Recorder;
@@ -59,7 +60,7 @@ impl<D: Disk> DurableCore<D> {
         }
         let prepares = match prepares_in(&self.core) {
             Ok(prepares) => prepares,
-            Err(error) => return told(error),
+            Err(AllocError) => return Checkpointed::NoMemory,
         };
         match find_places(self.core.alloc, &mut self.core.store, prepares.as_slice()) {
             Ok(()) => {}
@@ -71,22 +72,16 @@ impl<D: Disk> DurableCore<D> {
             .checkpoint(&self.core.store, prepares.as_slice())
         {
             Ok(()) => Checkpointed::Done,
-            Err(error) => told(error),
+            Err(CheckpointError::NoMemory) => Checkpointed::NoMemory,
+            Err(CheckpointError::Full { need, room }) => Checkpointed::Full { need, room },
+            Err(CheckpointError::DeviceFailed) => Checkpointed::DeviceFailed,
         }
     }
 }
 
-// Why no checkpoint was written.
-fn told(error: CheckpointError) -> Checkpointed {
-    match error {
-        CheckpointError::NoMemory => Checkpointed::NoMemory,
-        CheckpointError::Full { need, room } => Checkpointed::Full { need, room },
-        CheckpointError::DeviceFailed => Checkpointed::DeviceFailed,
-    }
-}
-
-// The records that prepare the units in doubt, in the order of their XIDs.
-fn prepares_in<R: Recorder>(core: &Core<R>) -> Result<Vec<Record>, CheckpointError>
+// The records that prepare the units in doubt, in the order of their XIDs. None is too long for a journal,
+// as each was in one.
+fn prepares_in<R: Recorder>(core: &Core<R>) -> Result<Vec<Record>, AllocError>
     ensures { IfOk result (λ records. entries_of records.items ≡ map written (prepares_of (durable_part (state_of core.now)).doubts)) }
 {
     let mut records = Vec::new(core.alloc);
@@ -94,9 +89,9 @@ fn prepares_in<R: Recorder>(core: &Core<R>) -> Result<Vec<Record>, CheckpointErr
     while let Some(xid) = xids.next() {
         let changes = core.changes_in_doubt(xid);
         let claims = core.claims_in_doubt(xid);
-        let record = prepare_record(core.alloc, xid, changes, claims)?;
-        if records.push(record).is_err() {
-            return Err(CheckpointError::NoMemory);
+        match prepare_record(core.alloc, xid, changes, claims) {
+            Ok(record) => records.push(record)?,
+            Err(_) => return Err(AllocError),
         }
     }
     Ok(records)
