@@ -4,7 +4,7 @@ use Rattle.std.proofs.lemmas.Bool.{false≢true}
 use Rattle.drda_disk.specs.Disk.{LeavesOnly, Life, Now}
 use Rattle.drda_disk.specs.Region.{end_of}
 use Rattle.drda_disk.specs.declared.region.Region.{Region}
-use Rattle.drda_disk.proofs.Moments.{weaker}
+use Rattle.drda_disk.proofs.Moments.{Stays-refl, weaker}
 use Rattle.half_store.specs.Active.{Store, active_of}
 use Rattle.half_store.specs.Layout.{half_len, other_than}
 use Rattle.half_store.specs.declared.layout.Half.{Half}
@@ -28,13 +28,14 @@ use Rattle.recovery.proofs.Laying.{prepares_good}
 use Rattle.core_model.specs.Step.{CoreState}
 use Rattle.recovery_laws.specs.Part.{durable_part}
 use Rattle.recovery_laws.specs.Opens.{Holds, IsJournal, OpensTo}
-use Rattle.recovery_laws.specs.Journaled.{FaultsAfter, Journaled, Made, OpensAfterSome, shown_on}
+use Rattle.recovery_laws.specs.Journaled.{FaultsAfter, Journaled, Made, OneCallIsMade, OpensAfterSome, shown_on}
 use Rattle.recovery_laws.proofs.Reading.{active_sized, half_large, one_store}
 use Rattle.journal_recorder.specs.Checkpointing.{IsSwitched, KeepsOld, LeavesOldOrNew, LeavesOpen, Switches}
 use Rattle.journal_recorder.specs.Recording.{disk_of, has_failed, journal_of, made_of}
 use Rattle.journal_recorder.specs.declared.recorder.DiskRecorder.{DiskRecorder}
 use Rattle.durable_core.specs.Recorded.{IsOnDisk, IsRecorded, core_on}
 use Rattle.durable_core.proofs.Heads.{ends_in}
+use Rattle.durable_core.proofs.Stepping.{durable_from}
 
 -- ---- images
 
@@ -239,3 +240,45 @@ module _ {D : Type 0} (modelled : Bool) (life : D → Life) (name : List ℕ) (l
     inside = inside_still new l.journal l.stays.size;
     on_disk = λ m still. absurd (false≢true (sym still ∙ l.failed));
   }
+
+  no_fault : (new : DiskRecorder D) → has_failed new ≡ false → (life (disk_of new)).faults ≡ (life (disk_of r)).faults → FaultsAfter (has_failed new) (life (disk_of r)).faults (life (disk_of new)).faults
+  no_fault new still same = subst (λ (f : Bool). FaultsAfter f (life (disk_of r)).faults (life (disk_of new)).faults) (sym still) (omega (arith, same))
+
+  one_fault : (new : DiskRecorder D) → has_failed new ≡ true → (life (disk_of new)).faults ≡ (life (disk_of r)).faults + 1 → FaultsAfter (has_failed new) (life (disk_of r)).faults (life (disk_of new)).faults
+  one_fault new failed more = subst (λ (f : Bool). FaultsAfter f (life (disk_of r)).faults (life (disk_of new)).faults) (sym failed) (omega (arith, more))
+
+  -- The same of a core whose tables have room made and given back meanwhile.
+  module _ (T : Tables) (same_tables : T ≡ s.base.store) (t : CoreState) (same_state : t ≡ s) (new : DiskRecorder D) where
+    abbrev JournaledTo : CoreState → Type 0
+    JournaledTo x = Journaled modelled (shown_on life (core_on name s r)) (shown_on life (core_on name x new))
+
+    pub switched_so : Switches modelled life r T fs new → IsRecorded modelled life name t new
+    switched_so w = subst (λ (x : CoreState). IsRecorded modelled life name x new) (sym same_state) (switched new (subst (λ (x : Tables). Switches modelled life r x fs new) same_tables w))
+
+    pub switched_journaled : Switches modelled life r T fs new → JournaledTo t
+    switched_journaled w =
+        subst JournaledTo (sym same_state) (journaled new (subst (λ (x : Tables). LeavesOldOrNew modelled life r x fs new) same_tables w.moments) w.stays.made (no_fault new w.going w.faults))
+
+    pub kept_so : KeepsOld modelled life r T fs new → IsRecorded modelled life name t new
+    kept_so k = subst (λ (x : CoreState). IsRecorded modelled life name x new) (sym same_state) (kept new (subst (λ (x : Tables). KeepsOld modelled life r x fs new) same_tables k))
+
+    pub kept_journaled : KeepsOld modelled life r T fs new → JournaledTo t
+    kept_journaled k =
+        subst JournaledTo (sym same_state) (journaled new (subst (λ (x : Tables). LeavesOldOrNew modelled life r x fs new) same_tables k.moments) k.stays.made (no_fault new k.going k.faults))
+
+    pub open_journaled : LeavesOpen modelled life r T fs new → JournaledTo t
+    open_journaled l =
+        subst JournaledTo (sym same_state) (journaled new (subst (λ (x : Tables). LeavesOldOrNew modelled life r x fs new) same_tables l.moments) l.stays.made (one_fault new l.failed l.faults))
+
+-- nothing was done
+pub untouched_journaled : {D : Type 0} (modelled : Bool) (life : D → Life) (name : List ℕ) (made : OneCallIsMade life) (s t : CoreState) (r : DiskRecorder D) → IsRecorded modelled life name s r → has_failed r ≡ false → t ≡ s
+    → Journaled modelled (shown_on life (core_on name s r)) (shown_on life (core_on name t r))
+untouched_journaled modelled life name made s t r is going same =
+    subst (λ (x : CoreState). Journaled modelled (shown_on life (core_on name s r)) (shown_on life (core_on name x r))) (sym same) (record {
+      name = refl;
+      more = [];
+      made = sym (append-nil (made_of r));
+      faults = λ still. subst (λ (f : Bool). FaultsAfter f (life (disk_of r)).faults (life (disk_of r)).faults) (sym going) (omega arith);
+      failed = λ failed. absurd (false≢true (sym going ∙ failed));
+      records = λ m still. ([], made.silent (core_on name s r) (core_on name s r) (durable_from modelled life name made s r is m going) (Stays-refl (life (disk_of r))) refl refl);
+    })
