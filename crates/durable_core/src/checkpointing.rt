@@ -37,6 +37,7 @@ impl<D: Disk> DurableCore<D> {
     {
         calls_make_records::<D>();
         calls_go_on::<D>();
+        self.is_durable();
         if self.core.recorder().is_failed() {
             return Checkpointed::Closed;
         }
