@@ -144,7 +144,7 @@ loses_calls (Some (Some c)) old new number written h = subst (λ (m : Machine). 
 
 -- a checkpoint asks nothing
 checkpointed : (told : Checkpointed) (old new : AskedCore) → IsCheckpointed told old new → Rests old new
-checkpointed Done old new (going, room, is) = record { state = ap (λ (c : AskedCore). c.state) is; made = ap (λ (c : AskedCore). c.made) is; failed = λ failed. absurd (false≢true (sym going ∙ failed)) }
+checkpointed Done old new (going, (room, is)) = record { state = ap (λ (c : AskedCore). c.state) is; made = ap (λ (c : AskedCore). c.made) is; failed = λ failed. absurd (false≢true (sym going ∙ failed)) }
 checkpointed (Full need room) old new (going, same) = rests_same old new same
 checkpointed NoMemory old new (going, same) = rests_same old new same
 checkpointed DeviceFailed old new (going, is) = record { state = ap (λ (c : AskedCore). c.state) is; made = ap (λ (c : AskedCore). c.made) is; failed = λ failed. absurd (false≢true (sym going ∙ failed)) }
