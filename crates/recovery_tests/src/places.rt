@@ -61,10 +61,7 @@ fn told(
 fn prepares_have_places_or_are_damaged(rt: HostRuntime) {
     let mut number: usize = 0;
     for (before, said, want) in &CASES {
-        assert!(rt;
-            have_places(rt.alloc(), before, said) == Some(*want),
-            "{number}"
-        );
+        assert_eq!(rt; told(rt.alloc(), before, said), Some(*want), "{number}");
         number = number.saturating_add(1);
     }
 }
