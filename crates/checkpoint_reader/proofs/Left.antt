@@ -34,9 +34,6 @@ no_items [] none = refl
 no_items (c ∷ cs) none = absurd (omega (arith, none))
 
 module _ (file : List ℕ) (first : ℕ) (all : List TableRows) where
-  pub all_left : (cs : List CheckedTable) (store : Store) → store ≡ [] → map told_of cs ≡ map (placed forms first) all → AreTables forms file first all → is_store (store_on all) ≡ true → IsLeft file first all cs store
-  all_left cs store none told whole good = record { tables = all; told = told; whole = whole; good = good; made = ap (λ (s : Store). copies (store_on all) s) none }
-
   next_of : (c : CheckedTable) (more : List CheckedTable) (store : Store) (tables : List TableRows) → map told_of (c ∷ more) ≡ map (placed forms first) tables → AreTables forms file first tables → is_store (store_on tables) ≡ true
       → copies (store_on tables) store ≡ copies (store_on all) [] → IsNext file first all c more store
   next_of c more store [] told whole good made = absurd cc

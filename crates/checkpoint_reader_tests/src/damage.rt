@@ -47,7 +47,7 @@ const TABLE: [(&[(usize, usize, u8)], Option<usize>); 9] = [
     // A key that does not come behind the one in front of it, over the border of two pages too.
     (&[(1, 7, 0)], Some(1)),
     (&[(3, 18, 0)], Some(3)),
-    // Another byte of a row is no damage, nor is the first half.
+    // Another byte of a row is no damage.
     (&[(3, 11, 9)], None),
 ];
 
