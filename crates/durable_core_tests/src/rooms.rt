@@ -3,6 +3,8 @@
 use crate::asking::{Call, ask_all};
 use crate::scripts::{CHECKPOINT, CREATE, DECIDE, INSERT, PREPARE};
 use crate::stores::{fresh, opened};
+use drda_disk::MemDisk;
+use std::alloc::Global;
 use std::test::Fail;
 
 // Calls, and the room that is left then.
@@ -29,21 +31,30 @@ const CHECKPOINTED: [(&'static [Call], usize); 7] = [
 // The room is the same when the store is opened again: what a decision needs is held back.
 #[test]
 fn room_counts_records_and_decisions(rt: HostRuntime) -> Result<(), Fail> {
-    leave_room(rt, &UNITS)
+    assert_eq!(rt;
+        leaves_room(rt.alloc(), fresh(rt.alloc())?, &UNITS),
+        Some(true)
+    );
+    Ok(())
 }
 
 #[test]
 fn a_checkpoint_gives_the_room_of_records_back(rt: HostRuntime) -> Result<(), Fail> {
-    leave_room(rt, &CHECKPOINTED)
+    assert_eq!(rt;
+        leaves_room(rt.alloc(), fresh(rt.alloc())?, &CHECKPOINTED),
+        Some(true)
+    );
+    Ok(())
 }
 
-fn leave_room(rt: HostRuntime, units: &[(&'static [Call], usize)]) -> Result<(), Fail> {
-    let mut core = opened(rt.alloc(), fresh(rt.alloc())?)?;
+// Whether the calls of each leave the room, now and when the store is opened again. None without memory.
+fn leaves_room(alloc: Global, disk: MemDisk, units: &[(&'static [Call], usize)]) -> Option<bool> {
+    let mut core = opened(alloc, disk).ok()?;
+    let mut right = true;
     for (calls, room) in units {
-        assert_eq!(rt; ask_all(rt.alloc(), &mut core, calls), calls.len());
-        assert_eq!(rt; core.room(), *room);
-        core = opened(rt.alloc(), core.into_disk())?;
-        assert_eq!(rt; (core.name(), core.room()), ("SHOP", *room));
+        right = right && ask_all(alloc, &mut core, calls) == calls.len() && core.room() == *room;
+        core = opened(alloc, core.into_disk()).ok()?;
+        right = right && core.name() == "SHOP" && core.room() == *room;
     }
-    Ok(())
+    Some(right)
 }

@@ -24,16 +24,14 @@ const ONE_LESS: Shown = (*b"-+---", *b"---");
 const CREATE: &'static str = "CREATE TABLE T (A INTEGER NOT NULL, PRIMARY KEY (A))";
 
 // The calls, and what a crash behind each leaves: a commit, a branch that is prepared and committed, one
-// that is prepared and rolled back, a rollback, a commit in one phase, and a unit that is left open; and
-// checkpoints between them, with units in doubt and with others at work.
-const EVENTS: [(Call, Shown); 25] = [
+// that is prepared and rolled back, a rollback, a commit in one phase, and a unit that is left open.
+const EVENTS: [(Call, Shown); 21] = [
     ((1, Ask::Run(CREATE), Told::Count(0)), NO_TABLE),
     (
         (1, Ask::Run("INSERT INTO T VALUES (1)"), Told::Count(1)),
         NO_TABLE,
     ),
     ((1, Ask::Commit, Told::Done), ONE),
-    ((0, Ask::Checkpoint, Told::Done), ONE),
     ((2, Ask::Xa(Verb::Start, 0x47), Told::Code(0)), ONE),
     (
         (2, Ask::Run("INSERT INTO T VALUES (2)"), Told::Count(1)),
@@ -47,7 +45,6 @@ const EVENTS: [(Call, Shown); 25] = [
         (2, Ask::Xa(Verb::Prepare, 0x47), Told::Code(0)),
         FIRST_IN_DOUBT,
     ),
-    ((0, Ask::Checkpoint, Told::Done), FIRST_IN_DOUBT),
     ((1, Ask::Xa(Verb::Commit, 0x47), Told::Code(0)), TWO),
     ((3, Ask::Xa(Verb::Start, 0x48), Told::Code(0)), TWO),
     (
@@ -63,7 +60,6 @@ const EVENTS: [(Call, Shown); 25] = [
         SECOND_IN_DOUBT,
     ),
     ((3, Ask::Lost, Told::Done), SECOND_IN_DOUBT),
-    ((0, Ask::Checkpoint, Told::Done), SECOND_IN_DOUBT),
     ((1, Ask::Xa(Verb::RollBack, 0x48), Told::Code(0)), TWO),
     (
         (1, Ask::Run("INSERT INTO T VALUES (4)"), Told::Count(1)),
@@ -71,7 +67,6 @@ const EVENTS: [(Call, Shown); 25] = [
     ),
     ((1, Ask::RollBack, Told::Done), TWO),
     ((4, Ask::Xa(Verb::Start, 0x49), Told::Code(0)), TWO),
-    ((0, Ask::Checkpoint, Told::Done), TWO),
     (
         (4, Ask::Run("DELETE FROM T WHERE A = 1"), Told::Count(1)),
         TWO,
@@ -90,14 +85,52 @@ const EVENTS: [(Call, Shown); 25] = [
     ),
 ];
 
+// A unit in doubt, and a checkpoint with it; and once more, into the half that was there first, with a branch at
+// work.
+const CHECKPOINTS: [(Call, Shown); 11] = [
+    ((1, Ask::Run(CREATE), Told::Count(0)), NO_TABLE),
+    (
+        (1, Ask::Run("INSERT INTO T VALUES (1)"), Told::Count(1)),
+        NO_TABLE,
+    ),
+    ((1, Ask::Commit, Told::Done), ONE),
+    ((2, Ask::Xa(Verb::Start, 0x47), Told::Code(0)), ONE),
+    (
+        (2, Ask::Run("INSERT INTO T VALUES (2)"), Told::Count(1)),
+        ONE,
+    ),
+    (
+        (2, Ask::Xa(Verb::End(Ending::Kept), 0x47), Told::Code(0)),
+        ONE,
+    ),
+    (
+        (2, Ask::Xa(Verb::Prepare, 0x47), Told::Code(0)),
+        FIRST_IN_DOUBT,
+    ),
+    ((0, Ask::Checkpoint, Told::Done), FIRST_IN_DOUBT),
+    (
+        (4, Ask::Xa(Verb::Start, 0x49), Told::Code(0)),
+        FIRST_IN_DOUBT,
+    ),
+    (
+        (4, Ask::Run("DELETE FROM T WHERE A = 1"), Told::Count(1)),
+        FIRST_IN_DOUBT,
+    ),
+    ((0, Ask::Checkpoint, Told::Done), FIRST_IN_DOUBT),
+];
+
 // What a crash behind the last answered event leaves, and what it leaves if the next one is done too.
-fn run_all<D: Disk>(alloc: Global, core: &mut DurableCore<D>) -> (Shown, Option<Shown>) {
+fn run_all<D: Disk>(
+    alloc: Global,
+    core: &mut DurableCore<D>,
+    events: &[(Call, Shown)],
+) -> (Shown, Option<Shown>) {
     let mut last = NO_TABLE;
-    for ((conversation, asked, told), shown) in EVENTS {
-        if ask_one(alloc, core, conversation, asked) != Some(told) {
-            return (last, Some(shown));
+    for ((conversation, asked, told), shown) in events {
+        if ask_one(alloc, core, *conversation, *asked) != Some(*told) {
+            return (last, Some(*shown));
         }
-        last = shown;
+        last = *shown;
     }
     (last, None)
 }
@@ -107,13 +140,14 @@ fn run_all<D: Disk>(alloc: Global, core: &mut DurableCore<D>) -> (Shown, Option<
 fn stopped(
     alloc: Global,
     disk: MemDisk,
+    events: &[(Call, Shown)],
     calls: u64,
 ) -> Option<(Shown, Option<Shown>, FuseDisk<MemDisk>)> {
     let mut disk = disk;
     format(alloc, &mut disk, "SHOP").ok()?;
     match open(alloc, FuseDisk::new(disk, calls, false)) {
         Ok(mut core) => {
-            let (last, next) = run_all(alloc, &mut core);
+            let (last, next) = run_all(alloc, &mut core, events);
             Some((last, next, core.into_disk()))
         }
         Err(refused) => Some((NO_TABLE, Some(NO_TABLE), refused.disk)),
@@ -121,18 +155,30 @@ fn stopped(
 }
 
 // Whether a crash there leaves one of the two, and the disk.
-fn leaves_one(alloc: Global, disk: MemDisk, calls: u64, pick: u64) -> Option<(bool, MemDisk)> {
-    let (last, next, left) = stopped(alloc, disk, calls)?;
+fn leaves_one(
+    alloc: Global,
+    disk: MemDisk,
+    events: &[(Call, Shown)],
+    calls: u64,
+    pick: u64,
+) -> Option<(bool, MemDisk)> {
+    let (last, next, left) = stopped(alloc, disk, events, calls)?;
     let mut core = open(alloc, left.into_inner().after_crash(pick)).ok()?;
     let shown = show(alloc, &mut core);
     Some((shown == last || next == Some(shown), core.into_disk()))
 }
 
 // The same of crashes of several kinds.
-fn leaves_only(alloc: Global, disk: MemDisk, calls: u64, picks: &[u64]) -> Option<(bool, MemDisk)> {
+fn leaves_only(
+    alloc: Global,
+    disk: MemDisk,
+    events: &[(Call, Shown)],
+    calls: u64,
+    picks: &[u64],
+) -> Option<(bool, MemDisk)> {
     let (mut only, mut disk) = (true, disk);
     for pick in picks {
-        let (one, left) = leaves_one(alloc, disk, calls, *pick)?;
+        let (one, left) = leaves_one(alloc, disk, events, calls, *pick)?;
         only = only && one;
         disk = left;
     }
@@ -141,14 +187,20 @@ fn leaves_only(alloc: Global, disk: MemDisk, calls: u64, picks: &[u64]) -> Optio
 
 // Whether all crashes at the last so many device calls of the script, in a store of so many bytes, leave
 // one of the two.
-fn leaves_whole_units(alloc: Global, size: usize, calls: u64, picks: &[u64]) -> Option<bool> {
+fn leaves_whole_units(
+    alloc: Global,
+    size: usize,
+    events: &[(Call, Shown)],
+    calls: u64,
+    picks: &[u64],
+) -> Option<bool> {
     let disk = MemDisk::new(alloc, size).ok()?;
-    let (last, next, whole) = stopped(alloc, disk, u64::MAX)?;
-    let mut only = (last, next) == (ONE_LESS, None);
+    let (_, next, whole) = stopped(alloc, disk, events, u64::MAX)?;
+    let mut only = next == None;
     let end = whole.calls();
     let mut disk = whole.into_inner();
     for k in end.saturating_sub(calls)..=end {
-        let (one, left) = leaves_only(alloc, disk, k, picks)?;
+        let (one, left) = leaves_only(alloc, disk, events, k, picks)?;
         only = only && one;
         disk = left;
     }
@@ -158,7 +210,7 @@ fn leaves_whole_units(alloc: Global, size: usize, calls: u64, picks: &[u64]) -> 
 // Without the writes since the last sync, with them, and with parts of them by two masks.
 #[test]
 fn a_crash_leaves_whole_units(rt: HostRuntime) -> Result<(), Fail> {
-    let whole = leaves_whole_units(rt.alloc(), TWO_MIB, u64::MAX, &[0, 1, 2, 3]);
+    let whole = leaves_whole_units(rt.alloc(), TWO_MIB, &EVENTS, u64::MAX, &[0, 1, 2, 3]);
     assert_eq!(rt; whole, Some(true));
     Ok(())
 }
@@ -166,7 +218,7 @@ fn a_crash_leaves_whole_units(rt: HostRuntime) -> Result<(), Fail> {
 // By four other masks.
 #[test]
 fn a_crash_inside_of_writes_leaves_whole_units(rt: HostRuntime) -> Result<(), Fail> {
-    let whole = leaves_whole_units(rt.alloc(), TWO_MIB, u64::MAX, &[4, 5, 6, 7]);
+    let whole = leaves_whole_units(rt.alloc(), TWO_MIB, &EVENTS, u64::MAX, &[4, 5, 6, 7]);
     assert_eq!(rt; whole, Some(true));
     Ok(())
 }
@@ -174,7 +226,21 @@ fn a_crash_inside_of_writes_leaves_whole_units(rt: HostRuntime) -> Result<(), Fa
 // At the calls of the last record.
 #[test]
 fn a_crash_leaves_whole_units_of_a_large_store(rt: HostRuntime) -> Result<(), Fail> {
-    let whole = leaves_whole_units(rt.alloc(), SIXTY_FOUR_MIB, 4, &[0, 1, 2, 3, 4, 5, 6, 7]);
+    let whole = leaves_whole_units(
+        rt.alloc(),
+        SIXTY_FOUR_MIB,
+        &EVENTS,
+        4,
+        &[0, 1, 2, 3, 4, 5, 6, 7],
+    );
+    assert_eq!(rt; whole, Some(true));
+    Ok(())
+}
+
+// At the calls of both checkpoints and of the prepare before them.
+#[test]
+fn a_crash_inside_of_a_checkpoint_leaves_what_was_there(rt: HostRuntime) -> Result<(), Fail> {
+    let whole = leaves_whole_units(rt.alloc(), TWO_MIB, &CHECKPOINTS, 32, &[0, 1, 5]);
     assert_eq!(rt; whole, Some(true));
     Ok(())
 }
