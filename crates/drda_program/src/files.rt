@@ -1,6 +1,7 @@
 //! Where stores are kept.
 
-ghost use Rattle.std.specs.Prelude.{◌≡◌, IfOk, IsTrue, length, replicate, result_ok};
+ghost use Rattle.std.specs.Prelude.{◌≡◌, IfOk, IsTrue, replicate};
+ghost use Rattle.std.specs.Result.{result_ok};
 ghost use Rattle.drda_disk.specs.Disk.{Only};
 ghost use Rattle.drda_program.specs.Files.{FileCalls, any_files};
 

@@ -1,6 +1,7 @@
 //! What conversations come over.
 
-ghost use Rattle.std.specs.Prelude.{IfOk, result_ok};
+ghost use Rattle.std.specs.Prelude.{IfOk};
+ghost use Rattle.std.specs.Result.{result_ok};
 ghost use Rattle.drda_program.specs.Network.{NetworkCalls, any_network};
 
 use std::io::{self, Read, Write};

@@ -1,8 +1,8 @@
 //! Stores, made and opened.
 
-ghost use Rattle.std.specs.Prelude.{◌≡◌, Err, IsTrue, List, ℕ, OnOk};
+ghost use Rattle.std.specs.Prelude.{◌≡◌, false, IsTrue, List, ℕ, OnOk};
 ghost use Rattle.drda_disk.specs.Disk.{LeavesOnly, Only};
-ghost use Rattle.half_store.specs.Fresh.{IsFresh, IsNoneOrFresh, IsUnmarked};
+ghost use Rattle.half_store.specs.Fresh.{IsFresh, IsNoneOrFresh, IsUnmarked, is_store_of};
 ghost use Rattle.recovery.specs.Durable.{fresh as fresh_store};
 ghost use Rattle.recovery_laws.specs.Opens.{OpensTo};
 ghost use Rattle.drda_program.specs.Endings.{fault_for};
@@ -45,7 +45,7 @@ pub(crate) fn make_file<F: StoreFiles>(
     rdb: &str,
 ) -> Result<(), Fault>
     ensures made { OnOk result (IsMade F.Disk.is_modelled F.Disk.life F.calls files.old path.now size rdb.now files.new) }
-    ensures refused { result ≡ Err Fault.BadArguments → files.new ≡ files.old }
+    ensures refused { is_store_of size rdb.now ≡ false → files.new ≡ files.old }
     ensures cause { MakesFile size rdb.now result }
 {
     if !is_store(size as usize, rdb) {
