@@ -1,5 +1,5 @@
 -- What making and opening stores reports, as those report it who ask for it.
-use Rattle.std.proofs.Common.{◌≡◌, ℕ, true, List, Result, Ok, Err}
+use Rattle.std.proofs.Common.{◌≡◌, sym, subst, ℕ, true, List, Result, Ok, Err}
 use Rattle.half_store.specs.Fresh.{is_name, is_store_of}
 use Rattle.recovery_laws.specs.Journaled.{OnDisk}
 use Rattle.durable_core.specs.Reads.{IsExcused}
@@ -42,9 +42,12 @@ begins name (Err (Damaged at)) is found = absurd found
 begins name (Err BadEvent) is found = absurd found
 begins name (Err NoMemory) is found = is
 
--- what says nothing of a store is of the device or of memory
-pub excused_fault : (error : OpenError) → IsExcused error → IsOfDevice (fault_for error)
+excused_fault : (error : OpenError) → IsExcused error → IsOfDevice (fault_for error)
 excused_fault errors.NotAStore is = absurd is
 excused_fault (errors.Damaged at) is = absurd is
 excused_fault errors.DeviceFailed is = tt
 excused_fault errors.NoMemory is = tt
+
+-- what says nothing of a store is of the device or of memory
+pub excused_so : (fault : Fault) (error : OpenError) → fault ≡ fault_for error → IsExcused error → IsOfDevice fault
+excused_so fault error is excused = subst IsOfDevice (sym is) (excused_fault error excused)

@@ -86,11 +86,9 @@ module _ {D : Type 0} (modelled : Bool) (life : D → Life) where
     pub ran : RunsOver core login input before outcome now
     pub promised : (name : List ℕ) (d : Durable) → IsStore modelled name d (life disk) → service.HasRun name d (settings_of login name) (life disk) (life ran.left) input before ran.end now
 
-  -- the units in doubt are listed, a line each, and nothing else
-  pub record ListsDoubts (disk : D) (before now : Option (List ℕ)) : Type 0 where
-    pub xids : List (List ℕ)
-    pub are : IsTrue modelled → AreDoubts xids (life disk).seen
-    pub listed : Appends before now (doubt_text xids)
+  -- a line for each unit in doubt
+  abbrev pub IsOfDoubts : D → List ℕ → Type 0
+  IsOfDoubts disk text = (xids : List (List ℕ)) × (text ≡ doubt_text xids) × (IsTrue modelled → AreDoubts xids (life disk).seen)
 
   -- all that the disk's core did is journaled, from its opening to the end of the last conversation
   pub record ServesOn {N L S W : Type 0} (calls : NetworkCalls N L S W) (remaining : S → Option (List ℕ)) (contents : W → Option (List ℕ)) (disk : D) (port : ℕ) (login : Login) (count : Option ℕ)
@@ -117,11 +115,15 @@ module _ {D : Type 0} (modelled : Bool) (life : D → Life) where
     Makes path size rdb files before (Err (Damaged at)) files' now = ⊥
     Makes path size rdb files before (Err BadEvent) files' now = ⊥
 
-    -- nothing is listed where the store is not opened or memory is refused
-    abbrev pub Lists : List ℕ → F → Option (List ℕ) → Result (Unit {0}) Fault → F → Option (List ℕ) → Type 0
-    Lists path files before (Ok done) files' now = (disk : D) × calls.opens files path (Some disk) files' × ListsDoubts disk before now
-    Lists path files before (Err fault) files' now = (OpensStore modelled life calls files path (Err fault) files' × (now ≡ before))
+    -- a text of the store of a path is written, and nothing else; none is where the store is not opened or memory is refused
+    abbrev pub Tells : (D → List ℕ → Type 0) → List ℕ → F → Option (List ℕ) → Result (Unit {0}) Fault → F → Option (List ℕ) → Type 0
+    Tells IsOf path files before (Ok done) files' now = (disk : D) × calls.opens files path (Some disk) files' × (text : List ℕ) × IsOf disk text × Appends before now text
+    Tells IsOf path files before (Err fault) files' now = (OpensStore modelled life calls files path (Err fault) files' × (now ≡ before))
         ⊎ ((disk : D) × calls.opens files path (Some disk) files' × (((fault ≡ NoMemory) × (now ≡ before)) ⊎ (fault ≡ Device)))
+
+    -- the units in doubt of the store of a path are listed
+    abbrev pub Lists : List ℕ → F → Option (List ℕ) → Result (Unit {0}) Fault → F → Option (List ℕ) → Type 0
+    Lists path files before outcome files' now = Tells (IsOfDoubts modelled life) path files before outcome files' now
 
     -- the run over the store of a path, if there is one
     abbrev pub PipesFile : List ℕ → Login → F → Option (List ℕ) → Option (List ℕ) → Result (Unit {0}) Fault → F → Option (List ℕ) → Type 0

@@ -11,7 +11,7 @@ use crate::listening::serve_file;
 use crate::network::Network;
 use crate::records::{answer_file, answer_in_memory};
 use crate::stores::{make_file, open_file};
-use crate::streams::flush;
+use crate::streams::{flush, tell};
 use command_line::{Job, job_of};
 use drda_node::{Ready, write_whole};
 use recovery::laws::records_lead_to_sound_states;
@@ -146,8 +146,5 @@ fn list_doubts<F: StoreFiles, W: Write>(
     let core = open_file(alloc, files, path)?;
     let xids = core.in_doubt()?;
     let text = doubt_text(alloc, xids.as_slice())?;
-    match write_whole(out, text.as_bytes()) {
-        Ok(()) => flush(out),
-        Err(_) => Err(Fault::Device),
-    }
+    tell(&text, out)
 }
