@@ -8,13 +8,13 @@ use Rattle.command_line.specs.Reading.{Says, Tells}
 use Rattle.command_line.specs.declared.words.BadWords.{BadWords}
 use Rattle.command_line.specs.declared.words.BadWords.TheVariants as words
 use Rattle.drda_program.specs.Endings.{fault_of_words, line_for, status_for}
-use Rattle.drda_program.specs.Program.{Around, Does, Exits, Seen}
+use Rattle.drda_program.specs.Program.{Does, Exits, Seen, Surroundings}
 use Rattle.drda_program.specs.declared.fault.Fault.{Fault}
 use Rattle.drda_program.specs.declared.fault.Fault.TheVariants.{BadArguments, NoMemory}
 
 -- ---- words
 
-module _ {F D N L S W : Type 0} (around : Around F D N L S W) (input : Option (List ℕ)) where
+module _ {F D N L S W : Type 0} (around : Surroundings F D N L S W) (input : Option (List ℕ)) where
   -- the job was done, or memory was refused before it was known
   abbrev pub Tried : Option Job → Seen F N → Result (Unit {0}) Fault → Seen F N → Type 0
   Tried said old outcome new = ((outcome ≡ Err NoMemory) × (new ≡ old)) ⊎ Does around said input old outcome new

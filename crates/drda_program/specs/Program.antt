@@ -133,7 +133,7 @@ module _ {D : Type 0} (modelled : Bool) (life : D → Life) where
 -- ---- what words ask for
 
 -- what the calls of the files and of the network come to
-pub record Around (F D N L S W : Type 0) : Type 1 where
+pub record Surroundings (F D N L S W : Type 0) : Type 1 where
   pub files : FileCalls F D
   pub modelled : Bool
   pub life : D → Life
@@ -141,8 +141,8 @@ pub record Around (F D N L S W : Type 0) : Type 1 where
   pub remaining : S → Option (List ℕ)
   pub contents : W → Option (List ℕ)
 
-abbrev pub around : {F D N L S W : Type 0} → FileCalls F D → Bool → (D → Life) → NetworkCalls N L S W → (S → Option (List ℕ)) → (W → Option (List ℕ)) → Around F D N L S W
-around files modelled life network remaining contents = record { files = files; modelled = modelled; life = life; network = network; remaining = remaining; contents = contents }
+abbrev pub surroundings : {F D N L S W : Type 0} → FileCalls F D → Bool → (D → Life) → NetworkCalls N L S W → (S → Option (List ℕ)) → (W → Option (List ℕ)) → Surroundings F D N L S W
+surroundings files modelled life network remaining contents = record { files = files; modelled = modelled; life = life; network = network; remaining = remaining; contents = contents }
 
 -- the files, the network, and what was written on standard output
 pub record Seen (F N : Type 0) : Type 0 where
@@ -153,7 +153,7 @@ pub record Seen (F N : Type 0) : Type 0 where
 abbrev pub seen : {F N : Type 0} → F → N → Option (List ℕ) → Seen F N
 seen files net out = record { files = files; net = net; out = out }
 
-module _ {F D N L S W : Type 0} (around : Around F D N L S W) where
+module _ {F D N L S W : Type 0} (around : Surroundings F D N L S W) where
   -- conversations over the store of a path, if there is one
   abbrev pub ServesFile : List ℕ → ℕ → Login → Option ℕ → Seen F N → Result (Unit {0}) Fault → Seen F N → Type 0
   ServesFile path port login count old outcome new =

@@ -6,7 +6,7 @@ ghost use Rattle.drda_node.specs.Asking.{IsJournaled};
 ghost use Rattle.drda_node.specs.Register.{core_in, machine};
 ghost use Rattle.command_line.specs.Job.{plain_login};
 ghost use Rattle.drda_program.specs.Listening.{HasListened, IsHeard, Listens, port_line};
-ghost use Rattle.drda_program.specs.Program.{ServesFile, around, seen};
+ghost use Rattle.drda_program.specs.Program.{ServesFile, seen, surroundings};
 ghost use Rattle.drda_program.specs.Stores.{IsOfDevice};
 
 use crate::fault::Fault;
@@ -37,7 +37,7 @@ pub(crate) fn serve_file<F: StoreFiles, N: Network, W: Write>(
     count: Option<u64>,
     out: &mut W,
 ) -> Result<(), Fault>
-    ensures { ServesFile (around F.calls F.Disk.is_modelled F.Disk.life N.calls N.Stream.remaining N.Writer.contents) path.now port (plain_login login.entry) count
+    ensures { ServesFile (surroundings F.calls F.Disk.is_modelled F.Disk.life N.calls N.Stream.remaining N.Writer.contents) path.now port (plain_login login.entry) count
         (seen files.old net.old (W.contents out.old)) result (seen files.new net.new (W.contents out.new)) }
 {
     let core = open_file(alloc, files, path)?;

@@ -2,7 +2,7 @@
 
 ghost use Rattle.std.specs.Prelude.{◌≡◌, ◌≢◌, ◌⊎◌, Err, None, Some, map, string_bytes};
 ghost use Rattle.command_line.specs.Job.{plain_job, said};
-ghost use Rattle.drda_program.specs.Program.{Does, Exits, Lists, Makes, around, seen};
+ghost use Rattle.drda_program.specs.Program.{Does, Exits, Lists, Makes, seen, surroundings};
 
 use crate::doubts::doubt_text;
 use crate::fault::Fault;
@@ -48,7 +48,7 @@ pub fn run_words<S: AsStr, F: StoreFiles, N: Network, R: Read + Ready, W: Write,
     out: &mut W,
     err: &mut E,
 ) -> u8
-    ensures { Exits (around F.calls F.Disk.is_modelled F.Disk.life N.calls N.Stream.remaining N.Writer.contents) (said (map S.text words.now))
+    ensures { Exits (surroundings F.calls F.Disk.is_modelled F.Disk.life N.calls N.Stream.remaining N.Writer.contents) (said (map S.text words.now))
         (R.remaining reader.old) (seen files.old net.old (W.contents out.old)) result (seen files.new net.new (W.contents out.new))
         (E.contents err.old) (E.contents err.new) }
 {
@@ -74,7 +74,7 @@ fn try_words<S: AsStr, F: StoreFiles, N: Network, R: Read + Ready, W: Write>(
     text: &mut String,
 ) -> Result<(), Fault>
     ensures does { ((result ≡ Err Fault.NoMemory) × (seen files.new net.new (W.contents out.new) ≡ seen files.old net.old (W.contents out.old)))
-        ⊎ Does (around F.calls F.Disk.is_modelled F.Disk.life N.calls N.Stream.remaining N.Writer.contents) (said (map S.text words.now))
+        ⊎ Does (surroundings F.calls F.Disk.is_modelled F.Disk.life N.calls N.Stream.remaining N.Writer.contents) (said (map S.text words.now))
         (R.remaining reader.old) (seen files.old net.old (W.contents out.old)) result (seen files.new net.new (W.contents out.new)) }
     ensures quiet { said (map S.text words.now) ≢ None → string_bytes text.new ≡ string_bytes text.old }
 {
@@ -90,7 +90,7 @@ fn do_job<F: StoreFiles, N: Network, R: Read + Ready, W: Write>(
     reader: &mut R,
     out: &mut W,
 ) -> Result<(), Fault>
-    ensures { Does (around F.calls F.Disk.is_modelled F.Disk.life N.calls N.Stream.remaining N.Writer.contents) (Some (plain_job job.entry))
+    ensures { Does (surroundings F.calls F.Disk.is_modelled F.Disk.life N.calls N.Stream.remaining N.Writer.contents) (Some (plain_job job.entry))
         (R.remaining reader.old) (seen files.old net.old (W.contents out.old)) result (seen files.new net.new (W.contents out.new)) }
 {
     match job {
