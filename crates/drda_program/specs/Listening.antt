@@ -36,7 +36,7 @@ module _ {N L S W : Type 0} (calls : NetworkCalls N L S W) (remaining : S → Op
     pub heard : IsHeard stream mid first net' last
 
   -- so many streams, each heard by the machine that the one before left
-  pub Talks : L → ℕ → N → Machine → N → Machine → Type 0
+  abbrev pub Talks : L → ℕ → N → Machine → N → Machine → Type 0
   Talks listener zero net first net' last = (net' ≡ net) × (last ≡ first)
   Talks listener (suc n) net first net' last = (mid : N) × (between : Machine) × Talks listener n net first mid between × Converses listener mid between net' last
 
