@@ -7,11 +7,16 @@ ghost use Rattle.tables.specs.View.{is_store};
 ghost use Rattle.table_store.specs.TableStore.{store_in};
 ghost use Rattle.checkpoint_reader.specs.Reading.{ReadsCheckpoint};
 
+use crate::table::read_tables;
 use drda_disk::Disk;
 use half_store::Active;
-use std::alloc::Global;
-use store_check::CheckError;
+use row_pages::{PAGE_BYTES, PageCache};
+use std::alloc::{AllocError, Global};
+use store_check::{CheckError, RowForms, check_half, checkpoints_are_known};
 use table_store::TableStore;
+
+/// How many pages are kept while a checkpoint is read.
+const CACHED_PAGES: usize = 64;
 
 /// The tables of a store's last checkpoint, which the pages of its active half have: all pages are
 /// checked, and the rows of each table are read into memory, in the order of their keys.
@@ -31,5 +36,12 @@ pub fn read_checkpoint<D: Disk>(
     ensures stays { Stays (D.life disk.old) (D.life disk.new) }
     ensures cause { CountsCheck result (D.life disk.old).faults (D.life disk.new).faults }
 {
-    todo!()
+    checkpoints_are_known();
+    let mut cache = match PageCache::new(alloc, CACHED_PAGES) {
+        Ok(cache) => cache,
+        Err(AllocError) => return Err(CheckError::NoMemory),
+    };
+    let tables = check_half(alloc, &RowForms, &mut cache, disk, active)?;
+    let at = active.region.at - PAGE_BYTES * active.pages as usize;
+    read_tables(alloc, &mut cache, disk, at, tables)
 }

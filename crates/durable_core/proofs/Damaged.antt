@@ -1,20 +1,22 @@
 -- A damaged image does not open, and is damaged at one offset.
-use Rattle.std.proofs.Common.{◌≡◌, inl, inr, ℕ, ◌+◌, List, [], ◌∷◌, ◌++◌, length, Some, None, Result, Ok, Err, refl, sym, ◌∙◌, ap, subst, arith}
+use Rattle.std.proofs.Common.{◌≡◌, inl, inr, ℕ, ◌+◌, ◌*◌, List, [], ◌∷◌, ◌++◌, length, Some, None, Result, Ok, Err, refl, sym, ◌∙◌, ap, subst, arith}
 use Rattle.std.specs.List.{AllByRecursion}
 use Rattle.drda_disk.specs.Region.{end_of}
 use Rattle.drda_disk.specs.declared.region.Region.{Region}
 use Rattle.half_store.specs.Active.{Store, Refusal, active_of, damaged}
 use Rattle.half_store.specs.Layout.{half_len, offset_of}
+use Rattle.store_check.specs.Checkpoint.{CheckpointIsNotBad, HasCheckpoint, OneCheckpoint, forms, half_pages}
+use Rattle.store_check.specs.Half.{BreaksHalf, OneFirstBadOfHalf}
+use Rattle.tables.specs.Tables.{Store as Tables}
 use Rattle.unit_journal.specs.Laws.{OneReading}
 use Rattle.unit_journal.specs.Record.{Entry, laid}
 use Rattle.unit_journal.specs.Stands.{DamagedFrom, Stands, StandsFrom}
-use Rattle.recovery.specs.Durable.{Durable, fresh, next}
+use Rattle.recovery.specs.Durable.{Durable, at_checkpoint, next}
 use Rattle.recovery.specs.Journal.{HasNoPlace, Leads, LeadsOn, OneState}
 use Rattle.recovery.specs.Laws.{held_for}
 use Rattle.recovery_laws.specs.ImageLaws.{IsThere, OpensThere}
 use Rattle.recovery_laws.proofs.Reading.{one_store}
-use Rattle.durable_core.specs.Damage.{DamageOpensNot, HasPages, IsBadJournal, OneDamage, PreparesOne}
-use Rattle.durable_core.proofs.Parts.{behind}
+use Rattle.durable_core.specs.Damage.{DamageOpensNot, HasBadPage, IsBadJournal, OneDamage, PreparesOne}
 
 -- ---- lists
 
@@ -78,9 +80,9 @@ module _ (a b : Region) (image : List ℕ) (at : a.at ≡ b.at) (end : end_of a 
   moved_stands : (es : List Entry) → Stands a es image → Stands b es image
   moved_stands es stands = subst (λ (n : ℕ). StandsFrom b.at n es image) end (subst (λ (n : ℕ). StandsFrom n (end_of a) es image) at stands)
 
-  moved : (x : ℕ) → IsBadJournal a image x → IsBadJournal b image x
-  moved x (inl p) = inl (subst (λ (n : ℕ). DamagedFrom b.at n x image) end (subst (λ (n : ℕ). DamagedFrom n (end_of a) x image) at p))
-  moved x (inr (inl p)) =
+  moved : (checkpoint : Tables) (x : ℕ) → IsBadJournal checkpoint a image x → IsBadJournal checkpoint b image x
+  moved checkpoint x (inl p) = inl (subst (λ (n : ℕ). DamagedFrom b.at n x image) end (subst (λ (n : ℕ). DamagedFrom n (end_of a) x image) at p))
+  moved checkpoint x (inr (inl p)) =
       inr (inl (record {
         before = p.before;
         here = p.here;
@@ -91,7 +93,7 @@ module _ (a b : Region) (image : List ℕ) (at : a.at ≡ b.at) (end : end_of a 
         no_place = p.no_place;
         place = p.place ∙ ap (λ (n : ℕ). n + length (laid p.before)) at;
       }))
-  moved x (inr (inr p)) =
+  moved checkpoint x (inr (inr p)) =
       inr (inr (record {
         before = p.before;
         here = p.here;
@@ -105,9 +107,27 @@ module _ (a b : Region) (image : List ℕ) (at : a.at ≡ b.at) (end : end_of a 
         place = p.place ∙ ap (λ (n : ℕ). n + length (laid p.before)) at;
       }))
 
-module _ (readings : OneReading) (states : OneState) where
-  module _ (region : Region) (image : List ℕ) where
-    one_bad : (a b : ℕ) → IsBadJournal region image a → IsBadJournal region image b → a ≡ b
+-- ---- images
+
+no_store : (image : List ℕ) (at : ℕ) (store : Store) → active_of image ≡ Err (damaged at) → active_of image ≡ Ok store → ⊥
+no_store image at store bad active = let clash : Err (damaged at) ≡ Ok store = sym bad ∙ active in absurd cc
+
+same_damage : (a b : ℕ) (r : Result Store Refusal) → r ≡ Err (damaged a) → r ≡ Err (damaged b) → a ≡ b
+same_damage a b r p q = let same : Err (damaged a) ≡ Err (damaged b) = sym p ∙ q in cc
+
+module _ (checkpoints : OneCheckpoint) (not_bad : CheckpointIsNotBad) where
+  -- the pages have one checkpoint
+  one_laid : (image : List ℕ) (s t : Store) (a b : Tables) → s ≡ t → HasCheckpoint image (half_pages (length image) s) a → HasCheckpoint image (half_pages (length image) t) b → a ≡ b
+  one_laid image s t a b same p q = checkpoints image (half_pages (length image) t) a b (subst (λ (x : Store). HasCheckpoint image (half_pages (length image) x) a) same p) q
+
+  no_bad_page : (image : List ℕ) (at : ℕ) → HasBadPage image at → (store : Store) → active_of image ≡ Ok store → (tables : Tables) → HasCheckpoint image (half_pages (length image) store) tables → ⊥
+  no_bad_page image at p store active tables laid =
+      let same : store ≡ p.store = one_store store p.store (active_of image) active p.active in
+      not_bad image (half_pages (length image) p.store) tables at (subst (λ (x : Store). HasCheckpoint image (half_pages (length image) x) tables) same laid) p.bad
+
+module _ (checkpoints : OneCheckpoint) (not_bad : CheckpointIsNotBad) (first_bad : OneFirstBadOfHalf) (readings : OneReading) (states : OneState) where
+  module _ (checkpoint : Tables) (region : Region) (image : List ℕ) where
+    one_bad : (a b : ℕ) → IsBadJournal checkpoint region image a → IsBadJournal checkpoint region image b → a ≡ b
     one_bad a b (inl p) (inl q) = readings.damage region image a b p q
     one_bad a b (inl p) (inr (inl q)) = absurd (readings.whole region image (q.before ++ (q.here ∷ q.behind)) a q.stands p)
     one_bad a b (inl p) (inr (inr q)) = absurd (readings.whole region image (q.before ++ (q.here ∷ q.behind)) a q.stands p)
@@ -115,64 +135,57 @@ module _ (readings : OneReading) (states : OneState) where
     one_bad a b (inr (inr p)) (inl q) = absurd (readings.whole region image (p.before ++ (p.here ∷ p.behind)) b p.stands q)
     one_bad a b (inr (inl p)) (inr (inl q)) =
         let whole : p.before ++ (p.here ∷ p.behind) ≡ q.before ++ (q.here ∷ q.behind) = readings.records region image (p.before ++ (p.here ∷ p.behind)) (q.before ++ (q.here ∷ q.behind)) p.stands q.stands in
-        p.place ∙ ap (λ (l : List Entry). region.at + length (laid l)) (one_stop states fresh p.state q.state p.before p.behind q.before q.behind p.here q.here whole p.leads p.no_place q.leads q.no_place) ∙ sym q.place
+        p.place ∙ ap (λ (l : List Entry). region.at + length (laid l)) (one_stop states (at_checkpoint checkpoint) p.state q.state p.before p.behind q.before q.behind p.here q.here whole p.leads p.no_place q.leads q.no_place) ∙ sym q.place
     one_bad a b (inr (inl p)) (inr (inr q)) =
         let whole : q.before ++ (q.here ∷ q.behind) ≡ p.before ++ (p.here ∷ p.behind) = readings.records region image (q.before ++ (q.here ∷ q.behind)) (p.before ++ (p.here ∷ p.behind)) q.stands p.stands in
-        absurd (no_way states fresh q.state p.state p.before p.behind p.here (subst (λ (l : List Entry). Leads fresh l q.state) whole q.leads) p.leads p.no_place)
+        absurd (no_way states (at_checkpoint checkpoint) q.state p.state p.before p.behind p.here (subst (λ (l : List Entry). Leads (at_checkpoint checkpoint) l q.state) whole q.leads) p.leads p.no_place)
     one_bad a b (inr (inr p)) (inr (inl q)) =
         let whole : p.before ++ (p.here ∷ p.behind) ≡ q.before ++ (q.here ∷ q.behind) = readings.records region image (p.before ++ (p.here ∷ p.behind)) (q.before ++ (q.here ∷ q.behind)) p.stands q.stands in
-        absurd (no_way states fresh p.state q.state q.before q.behind q.here (subst (λ (l : List Entry). Leads fresh l p.state) whole p.leads) q.leads q.no_place)
+        absurd (no_way states (at_checkpoint checkpoint) p.state q.state q.before q.behind q.here (subst (λ (l : List Entry). Leads (at_checkpoint checkpoint) l p.state) whole p.leads) q.leads q.no_place)
     one_bad a b (inr (inr p)) (inr (inr q)) =
         let whole : p.before ++ (p.here ∷ p.behind) ≡ q.before ++ (q.here ∷ q.behind) = readings.records region image (p.before ++ (p.here ∷ p.behind)) (q.before ++ (q.here ∷ q.behind)) p.stands q.stands in
-        let state : p.state ≡ q.state = states fresh p.state q.state (q.before ++ (q.here ∷ q.behind)) (subst (λ (l : List Entry). Leads fresh l p.state) whole p.leads) q.leads in
+        let state : p.state ≡ q.state = states (at_checkpoint checkpoint) p.state q.state (q.before ++ (q.here ∷ q.behind)) (subst (λ (l : List Entry). Leads (at_checkpoint checkpoint) l p.state) whole p.leads) q.leads in
         let prepares : PreparesOne q.state.doubts p.here = subst (λ (s : Durable). PreparesOne s.doubts p.here) state p.prepares in
         let none : AllByRecursion (λ e. PreparesOne q.state.doubts e → ⊥) p.behind = subst (λ (s : Durable). AllByRecursion (λ e. PreparesOne s.doubts e → ⊥) p.behind) state p.none_behind in
         p.place ∙ ap (λ (l : List Entry). region.at + length (laid l)) (one_last (λ e. PreparesOne q.state.doubts e) p.before p.behind q.before q.behind p.here q.here whole prepares none q.prepares q.none_behind) ∙ sym q.place
 
-  -- ---- images
-
-  no_store : (image : List ℕ) (at : ℕ) (store : Store) → active_of image ≡ Err (damaged at) → active_of image ≡ Ok store → ⊥
-  no_store image at store bad active = let clash : Err (damaged at) ≡ Ok store = sym bad ∙ active in absurd cc
-
-  same_damage : (a b : ℕ) (r : Result Store Refusal) → r ≡ Err (damaged a) → r ≡ Err (damaged b) → a ≡ b
-  same_damage a b r p q = let same : Err (damaged a) ≡ Err (damaged b) = sym p ∙ q in cc
-
-  no_pages : (image : List ℕ) (at : ℕ) → HasPages image at → (store : Store) → active_of image ≡ Ok store → store.header.pages ≡ 0 → ⊥
-  no_pages image at p store active none =
-      let same : p.store.header.pages ≡ store.header.pages = ap (λ (s : Store). s.header.pages) (one_store p.store store (active_of image) p.active active) in
-      omega (arith, p.some, same, none)
-
   pub one_damage : OneDamage
   one_damage image a b (inl p) (inl q) = same_damage a b (active_of image) p q
   one_damage image a b (inl p) (inr (inl q)) = absurd (no_store image a q.store p q.active)
-  one_damage image a b (inl p) (inr (inr q)) = absurd (no_store image a q.1.store p q.1.active)
+  one_damage image a b (inl p) (inr (inr q)) = absurd (no_store image a q.2.store p q.2.active)
   one_damage image a b (inr (inl p)) (inl q) = absurd (no_store image b p.store q p.active)
-  one_damage image a b (inr (inr p)) (inl q) = absurd (no_store image b p.1.store q p.1.active)
+  one_damage image a b (inr (inr p)) (inl q) = absurd (no_store image b p.2.store q p.2.active)
   one_damage image a b (inr (inl p)) (inr (inl q)) =
-      p.place ∙ ap (λ (s : Store). offset_of (half_len (length image)) s.half + 9) (one_store p.store q.store (active_of image) p.active q.active) ∙ sym q.place
-  one_damage image a b (inr (inl p)) (inr (inr q)) = absurd (no_pages image a p q.1.store q.1.active q.1.journal.no_pages)
-  one_damage image a b (inr (inr p)) (inr (inl q)) = absurd (no_pages image b q p.1.store p.1.active p.1.journal.no_pages)
+      let same : p.store ≡ q.store = one_store p.store q.store (active_of image) p.active q.active in
+      first_bad forms image (half_pages (length image) q.store) a b (subst (λ (x : Store). BreaksHalf forms image (half_pages (length image) x) a) same p.bad) q.bad
+  one_damage image a b (inr (inl p)) (inr (inr q)) = absurd (no_bad_page checkpoints not_bad image a p q.2.store q.2.active q.0 q.2.pages)
+  one_damage image a b (inr (inr p)) (inr (inl q)) = absurd (no_bad_page checkpoints not_bad image b q p.2.store p.2.active p.0 p.2.pages)
   one_damage image a b (inr (inr p)) (inr (inr q)) =
-      let same : p.1.store ≡ q.1.store = one_store p.1.store q.1.store (active_of image) p.1.active q.1.active in
-      let at : p.0.at ≡ q.0.at = p.1.journal.begins ∙ ap (λ (s : Store). offset_of (half_len (length image)) s.half + 8192) same ∙ sym q.1.journal.begins in
-      let end : end_of p.0 ≡ end_of q.0 = p.1.journal.ends ∙ ap (λ (s : Store). offset_of (half_len (length image)) s.half + half_len (length image)) same ∙ sym q.1.journal.ends in
-      one_bad q.0 image a b (moved p.0 q.0 image at end a p.2) q.2
+      let same : p.2.store ≡ q.2.store = one_store p.2.store q.2.store (active_of image) p.2.active q.2.active in
+      let tables : p.0 ≡ q.0 = one_laid checkpoints not_bad image p.2.store q.2.store p.0 q.0 same p.2.pages q.2.pages in
+      let at : p.1.at ≡ q.1.at = p.2.journal.begins ∙ ap (λ (s : Store). offset_of (half_len (length image)) s.half + 8192 * (1 + s.header.pages)) same ∙ sym q.2.journal.begins in
+      let end : end_of p.1 ≡ end_of q.1 = p.2.journal.ends ∙ ap (λ (s : Store). offset_of (half_len (length image)) s.half + half_len (length image)) same ∙ sym q.2.journal.ends in
+      one_bad q.0 q.1 image a b (moved p.1 q.1 image at end q.0 a (subst (λ (t : Tables). IsBadJournal t p.1 image a) tables p.3)) q.3
 
+module _ (checkpoints : OneCheckpoint) (not_bad : CheckpointIsNotBad) (readings : OneReading) (states : OneState) where
   -- what stands in a journal that opens is not damaged
-  bad_opens_not : (name : List ℕ) (d : Durable) (image : List ℕ) (store : Store) (region : Region) (at : ℕ) → IsThere name d image store region → IsBadJournal region image at → ⊥
+  bad_opens_not : (name : List ℕ) (d : Durable) (image : List ℕ) (store : Store) (region : Region) (at : ℕ) → (is : IsThere name d image store region) → IsBadJournal is.holds.checkpoint region image at → ⊥
   bad_opens_not name d image store region at is (inl p) = readings.whole region image is.es at is.holds.stands p
   bad_opens_not name d image store region at is (inr (inl p)) =
       let same : is.es ≡ p.before ++ (p.here ∷ p.behind) = readings.records region image is.es (p.before ++ (p.here ∷ p.behind)) is.holds.stands p.stands in
-      no_way states fresh d p.state p.before p.behind p.here (subst (λ (l : List Entry). Leads fresh l d) same is.holds.leads) p.leads p.no_place
+      no_way states (at_checkpoint is.holds.checkpoint) d p.state p.before p.behind p.here (subst (λ (l : List Entry). Leads (at_checkpoint is.holds.checkpoint) l d) same is.holds.leads) p.leads p.no_place
   bad_opens_not name d image store region at is (inr (inr p)) =
       let same : is.es ≡ p.before ++ (p.here ∷ p.behind) = readings.records region image is.es (p.before ++ (p.here ∷ p.behind)) is.holds.stands p.stands in
-      let state : d ≡ p.state = states fresh d p.state (p.before ++ (p.here ∷ p.behind)) (subst (λ (l : List Entry). Leads fresh l d) same is.holds.leads) p.leads in
+      let state : d ≡ p.state = states (at_checkpoint is.holds.checkpoint) d p.state (p.before ++ (p.here ∷ p.behind)) (subst (λ (l : List Entry). Leads (at_checkpoint is.holds.checkpoint) l d) same is.holds.leads) p.leads in
       let long : length (laid is.es) ≡ length (laid (p.before ++ (p.here ∷ p.behind))) = ap (λ (l : List Entry). length (laid l)) same in
       let held : held_for d.doubts ≡ held_for p.state.doubts = ap (λ (s : Durable). held_for s.doubts) state in
       omega (arith, p.short, is.holds.room, long, held)
 
   pub damage_opens_not : OpensThere → DamageOpensNot
   damage_opens_not there_is name d image at opens (inl p) = no_store image at opens.2.store p opens.2.active
-  damage_opens_not there_is name d image at opens (inr (inl p)) = no_pages image at p opens.2.store opens.2.active opens.2.journal.no_pages
-  damage_opens_not there_is name d image at opens (inr (inr p)) =
-      bad_opens_not name d image p.1.store p.0 at (there_is name d image p.1.store p.0 opens p.1.active (behind (length image) p.1.store p.0 p.1.journal)) p.2
+  damage_opens_not there_is name d image at opens (inr (inl p)) = no_bad_page checkpoints not_bad image at p opens.2.store opens.2.active opens.2.checkpoint opens.2.pages
+  damage_opens_not there_is name d image at opens (inr (inr (checkpoint, region, has, bad))) =
+      let there : IsThere name d image has.store region = there_is name d image has.store region opens has.active has.journal in
+      let tables : checkpoint ≡ there.holds.checkpoint = one_laid checkpoints not_bad image has.store there.holds.store checkpoint there.holds.checkpoint
+      (one_store has.store there.holds.store (active_of image) has.active there.holds.active) has.pages there.holds.pages in
+      bad_opens_not name d image has.store region at there (subst (λ (t : Tables). IsBadJournal t region image at) tables bad)

@@ -12,6 +12,7 @@ use Rattle.tables.proofs.Finding.{itself}
 use Rattle.row_values.specs.declared.row.ReadError.{ReadError}
 use Rattle.row_values.specs.declared.row.ReadError.TheVariants.{Damaged, NoMemory}
 use Rattle.tables.specs.Change.{Change}
+use Rattle.tables.specs.Tables.{Store as Tables}
 use Rattle.tables.specs.ChangeView.{change_of}
 use Rattle.xa_manager.specs.declared.due.Decision.{Decision}
 use Rattle.unit_locks.specs.Claim.{Claim}
@@ -24,7 +25,7 @@ use Rattle.unit_records.specs.Read.{ReadsRecord}
 use Rattle.unit_records.specs.Records.{IsRecord, UnitRecord, committed, decided, prepared}
 use Rattle.unit_records.specs.declared.record.UnitRecord.{UnitRecord as CodeRecord}
 use Rattle.unit_records.specs.declared.record.UnitRecord.TheVariants.{Commit, Decide, Prepare}
-use Rattle.recovery.specs.Durable.{Doubts, Durable, decide, doubt_of, fresh, have_places, is_claimed, is_free, next, without_doubt}
+use Rattle.recovery.specs.Durable.{Doubts, Durable, decide, doubt_of, at_checkpoint, have_places, is_claimed, is_free, next, without_doubt}
 use Rattle.recovery.specs.Journal.{Leads}
 use Rattle.recovery.specs.Laws.{held_for}
 use Rattle.recovery.proofs.Holding.{if_some}
@@ -70,8 +71,8 @@ holds_none [] all = refl
 holds_none (e ∷ doubts) all = absurd ((recursion_from_All (IsUnknown (e ∷ doubts)) (keys_of (e ∷ doubts)) all).0 (first_known e doubts))
 
 -- where no entry prepared one of the units in doubt there are none
-pub none_held : (d : Durable) (es : List Entry) → Leads fresh es d → AllByRecursion (λ e. PreparesOne d.doubts e → ⊥) es → held_for d.doubts ≡ 0
-none_held d es leads none = holds_none d.doubts (leads_keys (IsUnknown d.doubts) fresh d es (allow_all d.doubts es none) leads (All-nil (IsUnknown d.doubts)))
+pub none_held : (checkpoint : Tables) (d : Durable) (es : List Entry) → Leads (at_checkpoint checkpoint) es d → AllByRecursion (λ e. PreparesOne d.doubts e → ⊥) es → held_for d.doubts ≡ 0
+none_held checkpoint d es leads none = holds_none d.doubts (leads_keys (IsUnknown d.doubts) (at_checkpoint checkpoint) d es (allow_all d.doubts es none) leads (All-nil (IsUnknown d.doubts)))
 
 -- ---- what a record says
 

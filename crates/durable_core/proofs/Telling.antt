@@ -1,11 +1,11 @@
 -- What is told of a store that is not opened.
 use Rattle.std.proofs.Common.{◌≡◌, inl, inr, ℕ, ◌+◌, ◌-◌, ◌*◌, ◌^◌, ◌<◌, List, [], ◌∷◌, ◌++◌, length, Result, Ok, Err, sym, ◌∙◌, ap, subst, arith}
-use Rattle.std.specs.Prelude.{min}
 use Rattle.std.specs.List.{AllByRecursion}
 use Rattle.std.proofs.lemmas.List.{map-append}
 use Rattle.drda_disk.specs.declared.region.Region.{Region}
-use Rattle.half_store.specs.Active.{active_of}
-use Rattle.half_store.specs.Layout.{half_len, offset_of}
+use Rattle.store_check.specs.Checkpoint.{HasCheckpoint, forms}
+use Rattle.store_check.specs.Half.{BreaksHalf, HalfPages, pages_of}
+use Rattle.tables.specs.Tables.{Store as Tables}
 use Rattle.half_store.specs.Opened.{store_of}
 use Rattle.half_store.specs.declared.active.Active.{Active}
 use Rattle.unit_journal.specs.Journal.{held_of, next_of, region_of, room_of}
@@ -15,14 +15,15 @@ use Rattle.unit_journal.specs.Stands.{IsDamagedAt as HasNoRecord, Stands}
 use Rattle.unit_journal.specs.declared.journal.Journal.{Journal}
 use Rattle.unit_journal.specs.declared.record.Record.{Record}
 use Rattle.unit_journal.proofs.Spelling.{length-laid-cons}
-use Rattle.recovery.specs.Durable.{Doubts, Durable, fresh}
+use Rattle.recovery.specs.Durable.{Doubts, Durable, at_checkpoint}
 use Rattle.recovery.specs.Journal.{Leads, StopsAt}
 use Rattle.recovery.specs.Laws.{held_for}
-use Rattle.durable_core.specs.Damage.{HasJournal, HasNoRoom, HasPages, IsDamagedAt, IsMisplaced, PreparesOne}
+use Rattle.durable_core.specs.Damage.{HasBadPage, HasJournal, HasNoRoom, IsDamagedAt, IsMisplaced, PreparesOne}
 use Rattle.durable_core.specs.Prepares.{NonePrepares, TellsLast}
 use Rattle.durable_core.specs.Reads.{IsHead, TellsDamage, TellsStore}
 use Rattle.durable_core.specs.declared.errors.OpenError.{OpenError}
 use Rattle.durable_core.specs.declared.errors.OpenError.TheVariants.{Damaged, DeviceFailed, NoMemory, NotAStore}
+use Rattle.durable_core.proofs.Parts.{same_pages}
 use Rattle.durable_core.proofs.Prepared.{none_held}
 
 -- ---- what a part tells is told of the store
@@ -36,15 +37,6 @@ told image IsThere damages (Err NoMemory) is = tt
 
 pub handed_on : {T F : Type 0} (image : List ℕ) (r : Result T OpenError) (e : OpenError) (last : Result F OpenError) → r ≡ Err e → last ≡ Err e → TellsStore r image → TellsStore last image
 handed_on {T} {F} image r e last is last_is tells = subst (λ (x : Result F OpenError). TellsStore x image) (sym last_is) (subst (λ (x : Result T OpenError). TellsStore x image) is tells)
-
--- ---- the head
-
--- where a half's header has the number of its pages
-pub number_at : (at offset pages less sum : ℕ) → at ≡ offset + 8192 * (1 + pages) → at < 2 ^ 64 → less ≡ at - 8192 * (1 + pages) → sum ≡ min (less + 9) (2 ^ 64 - 1) → sum ≡ offset + 9
-number_at at offset pages less sum begins small is told = omega (arith, begins, small, is, told)
-
-pub has_pages : (image : List ℕ) (a : Active) (at : ℕ) → active_of image ≡ Ok (store_of a) → 0 < a.pages → at ≡ offset_of (half_len (length image)) a.half + 9 → HasPages image at
-has_pages image a at active some place = record { store = store_of a; active = active; some = some; place = place }
 
 -- ---- the journal
 
@@ -63,48 +55,52 @@ none_entries : (doubts : Doubts) (records : List Record) → NonePrepares doubts
 none_entries doubts [] none = tt
 none_entries doubts (x ∷ records) none = (none.0, none_entries doubts records none.1)
 
-module _ (image : List ℕ) (name : List ℕ) (region : Region) (head : IsHead image name region) where
-  has_journal : HasJournal image region
-  has_journal = record { store = head.store; active = head.active; journal = head.journal }
+module _ (image : List ℕ) (a : Active) (head : IsHead image a) where
+  pub bad_page : (at : ℕ) → BreaksHalf forms image (pages_of a) at → IsDamagedAt image at
+  bad_page at bad = inr (inl (record { store = store_of a; active = head.active; bad = subst (λ (h : HalfPages). BreaksHalf forms image h at) (same_pages image a head) bad }))
 
-  pub no_record : (at : ℕ) → HasNoRecord region at image → IsDamagedAt image at
-  no_record at there = inr (inr (region, has_journal, inl there))
+module _ (image : List ℕ) (a : Active) (head : IsHead image a) (tables : Tables) (laid_are : HasCheckpoint image (pages_of a) tables) where
+  has_journal : HasJournal image tables a.region
+  has_journal = record { store = store_of a; active = head.active; pages = subst (λ (h : HalfPages). HasCheckpoint image h tables) (same_pages image a head) laid_are; journal = head.journal }
 
-  module _ (records : List Record) (stands : Stands region (entries_of records) image) (placed_all : ArePlaced region.at records) where
-    pub misplaced : (at : ℕ) → StopsAt fresh records at → IsDamagedAt image at
+  pub no_record : (at : ℕ) → HasNoRecord a.region at image → IsDamagedAt image at
+  no_record at there = inr (inr (tables, a.region, has_journal, inl there))
+
+  module _ (records : List Record) (stands : Stands a.region (entries_of records) image) (placed_all : ArePlaced a.region.at records) where
+    pub misplaced : (at : ℕ) → StopsAt (at_checkpoint tables) records at → IsDamagedAt image at
     misplaced at s =
-        let is : IsMisplaced region image at = record {
+        let is : IsMisplaced tables a.region image at = record {
           before = entries_of s.before;
           here = entry_of s.here;
           behind = entries_of s.behind;
-          stands = subst (λ (l : List Entry). Stands region l image) (split records s.before s.behind s.here s.whole) stands;
+          stands = subst (λ (l : List Entry). Stands a.region l image) (split records s.before s.behind s.here s.whole) stands;
           state = s.state;
           leads = s.leads;
           no_place = s.no_place;
-          place = s.place ∙ placed region.at s.before s.behind s.here (subst (λ (l : List Record). ArePlaced region.at l) s.whole placed_all);
+          place = s.place ∙ placed a.region.at s.before s.behind s.here (subst (λ (l : List Record). ArePlaced a.region.at l) s.whole placed_all);
         } in
-        inr (inr (region, has_journal, inr (inl is)))
+        inr (inr (tables, a.region, has_journal, inr (inl is)))
 
-    module _ (d : Durable) (leads : Leads fresh (entries_of records) d) (short : region.length < length (laid (entries_of records)) + 1 + held_for d.doubts) where
-      last_one : (at : ℕ) → TellsLast d.doubts records at → HasNoRoom region image at
+    module _ (d : Durable) (leads : Leads (at_checkpoint tables) (entries_of records) d) (short : a.region.length < length (laid (entries_of records)) + 1 + held_for d.doubts) where
+      last_one : (at : ℕ) → TellsLast d.doubts records at → HasNoRoom tables a.region image at
       last_one at (inl p) =
           let parts = split records p.before p.behind p.here p.whole in
           record {
             before = entries_of p.before;
             here = entry_of p.here;
             behind = entries_of p.behind;
-            stands = subst (λ (l : List Entry). Stands region l image) parts stands;
+            stands = subst (λ (l : List Entry). Stands a.region l image) parts stands;
             state = d;
-            leads = subst (λ (l : List Entry). Leads fresh l d) parts leads;
-            short = subst (λ (l : List Entry). region.length < length (laid l) + 1 + held_for d.doubts) parts short;
+            leads = subst (λ (l : List Entry). Leads (at_checkpoint tables) l d) parts leads;
+            short = subst (λ (l : List Entry). a.region.length < length (laid l) + 1 + held_for d.doubts) parts short;
             prepares = p.prepares;
             none_behind = none_entries d.doubts p.behind p.none_behind;
-            place = p.place ∙ placed region.at p.before p.behind p.here (subst (λ (l : List Record). ArePlaced region.at l) p.whole placed_all);
+            place = p.place ∙ placed a.region.at p.before p.behind p.here (subst (λ (l : List Record). ArePlaced a.region.at l) p.whole placed_all);
           }
-      last_one at (inr none) = absurd (omega (arith, short, stands.within, none_held d (entries_of records) leads (none_entries d.doubts records none)))
+      last_one at (inr none) = absurd (omega (arith, short, stands.within, none_held tables d (entries_of records) leads (none_entries d.doubts records none)))
 
       pub no_room : (at : ℕ) → TellsLast d.doubts records at → IsDamagedAt image at
-      no_room at is = inr (inr (region, has_journal, inr (inr (last_one at is))))
+      no_room at is = inr (inr (tables, a.region, has_journal, inr (inr (last_one at is))))
 
 -- the room of a journal that holds nothing yet
 pub is_short : (region : Region) (j : Journal) (es : List Entry) (held : ℕ) → region_of j ≡ region → held_of j ≡ 0 → next_of j ≡ (region_of j).at + length (laid es) → room_of j < held → region.length < length (laid es) + 1 + held

@@ -1,8 +1,10 @@
 -- What is read of a store, or why it is not.
-use Rattle.std.specs.Prelude.{◌≡◌, ℕ, ◌+◌, ◌^◌, ◌<◌, ◌≤◌, List, length, Result, Ok, Err}
+use Rattle.std.specs.Prelude.{◌≡◌, ℕ, ◌+◌, ◌*◌, ◌^◌, ◌<◌, ◌≤◌, List, length, Result, Ok, Err}
 use Rattle.drda_disk.specs.Region.{end_of}
 use Rattle.drda_disk.specs.declared.region.Region.{Region}
-use Rattle.half_store.specs.Active.{Store, active_of, not_a_store}
+use Rattle.half_store.specs.Active.{active_of, not_a_store}
+use Rattle.half_store.specs.Opened.{store_of}
+use Rattle.half_store.specs.declared.active.Active.{Active}
 use Rattle.recovery_laws.specs.Opens.{IsJournal}
 use Rattle.durable_core.specs.Damage.{IsDamagedAt}
 use Rattle.durable_core.specs.declared.errors.OpenError.{OpenError}
@@ -52,12 +54,16 @@ Counts (Err e) old new = CountsError e old new
 
 -- ---- the head
 
--- an image is a store of this name, without pages, whose journal's region is this
-pub record IsHead (image : List ℕ) (name : List ℕ) (region : Region) : Type 0 where
-  pub store : Store
-  pub active : active_of image ≡ Ok store
-  pub named : store.name ≡ name
-  pub journal : IsJournal (length image) store region
+-- an image is this store, and its journal's region is what is left behind the pages
+pub record IsHead (image : List ℕ) (a : Active) : Type 0 where
+  pub active : active_of image ≡ Ok (store_of a)
+  pub journal : IsJournal (length image) (store_of a) a.region
+
+-- the pages of a half lie in the disk, in front of its journal
+pub record ArePagesInside (size : ℕ) (a : Active) : Type 0 where
+  pub behind : 8192 * a.pages ≤ a.region.at
+  pub small : a.region.at ≤ 2 ^ 40
+  pub inside : a.region.at ≤ size
 
 -- the region has a byte at least, and lies in the disk
 pub record IsInside (size : ℕ) (region : Region) : Type 0 where

@@ -4,19 +4,19 @@ ghost use Rattle.std.specs.Prelude.{◌≡◌, IfOk, IsTrue, false, string_bytes
 ghost use Rattle.core_calls.specs.Answer.{answer_of};
 ghost use Rattle.core_calls.specs.Call.{call_of};
 ghost use Rattle.xa_manager.specs.Branch.{in_doubt_xids};
+ghost use Rattle.rdb_core.specs.InDoubt.{xids_left};
 ghost use Rattle.recovery_laws.specs.Journaled.{IsDurable, Journaled, shown_on};
 ghost use Rattle.durable_core.specs.Steps.{Loses, Steps};
 
 use core_calls::{Answer, CoreCall};
 use drda_disk::Disk;
 use journal_recorder::DiskRecorder;
-use rdb_core::{Core, PlainState};
+use rdb_core::{Core, InDoubt, PlainState};
 use recovery::laws::doubts_hold_their_decisions;
 use recovery_laws::images::{calls_make_records, records_stay};
 use recovery_laws::steps::steps_are_recorded;
 use std::alloc::AllocError;
 use std::marker::Model;
-use xa_calls::Xids;
 
 /// The committed tables, the units of work and the XA branches of a store on a disk. Each call is a
 /// step of the state; what a step commits, prepares or decides is a record in the store's journal first.
@@ -104,9 +104,9 @@ impl<D: Disk> DurableCore<D> {
         self.core.recorder().is_failed()
     }
 
-    /// The XIDs in doubt, ascending by their bytes.
-    pub fn in_doubt(&self) -> Result<Xids, AllocError>
-        ensures { IfOk result (λ xids. xids ≡ in_doubt_xids self.now.state.branches) }
+    /// The XIDs in doubt, by rising bytes. Takes no memory.
+    pub fn in_doubt(&self) -> InDoubt<'_>
+        ensures { xids_left result ≡ in_doubt_xids self.now.state.branches }
     {
         self.core.in_doubt()
     }

@@ -4,6 +4,7 @@ ghost use Rattle.durable_core.specs.Damage.{DamageOpensNot, OneDamage};
 
 use recovery::laws::records_lead_one_way;
 use recovery_laws::images::images_open_there;
+use store_check::{checkpoints_are_known, one_first_bad_of_half};
 use unit_journal::a_region_has_one_reading;
 
 /// A damaged image opens to nothing.
@@ -11,6 +12,7 @@ pub fn damage_does_not_open()
     ensures { DamageOpensNot }
 {
     images_open_there();
+    checkpoints_are_known();
     a_region_has_one_reading();
     records_lead_one_way();
 }
@@ -19,6 +21,8 @@ pub fn damage_does_not_open()
 pub fn damage_is_at_one_offset()
     ensures { OneDamage }
 {
+    checkpoints_are_known();
+    one_first_bad_of_half();
     a_region_has_one_reading();
     records_lead_one_way();
 }

@@ -13,25 +13,28 @@ use crate::durable::DurableCore;
 use crate::errors::{OpenError, Refused};
 use crate::head::read_head;
 use crate::holding::hold_all;
-use crate::reading::{Found, read_journal, read_units};
+use crate::reading::{Found, read_journal, read_tables, read_units};
 use crate::restoring::restore_all;
 use drda_disk::Disk;
+use half_store::Active;
 use journal_recorder::DiskRecorder;
 use rdb_core::Core;
 use recovery::laws::{records_lead_one_way, records_lead_to_sound_states};
 use recovery_laws::images::{images_open_there, images_open_to_one_state};
 use recovery_laws::steps::openings_are_kept;
 use std::alloc::{AllocError, Global};
+use store_check::checkpoints_are_known;
 use unit_journal::a_region_has_one_reading;
 
-/// Opens the store of a disk: the head, the records of the journal from its first on, and the units in
-/// doubt with their claims. Nothing is written. Each refusal hands the disk back.
+/// Opens the store of a disk: the head, the tables of the last checkpoint on the pages of the active
+/// half, the records of the journal from its first on, and the units in doubt with their claims.
+/// Nothing is written. Each refusal hands the disk back.
 ///
 /// `NotAStore` comes where the disk has not 2 MiB to 1 GiB or does not begin with `DRDASTO1`.
-/// `Damaged` comes where the head, the header of a half or a record of the journal is damaged, at its
-/// offset; where the active half has pages, at their number in its header, since this version writes
-/// none; and where the decisions of the units in doubt have no room behind the records, at the last
-/// record that prepared one of them. What opens is never answered so.
+/// `Damaged` comes where the head, the header of a half, a page of the active half or a record of the
+/// journal is damaged, at the offset of the first that is; and where the decisions of the units in
+/// doubt have no room behind the records, at the last record that prepared one of them. What opens is
+/// never answered so.
 pub fn open<D: Disk>(alloc: Global, disk: D) -> Result<DurableCore<D>, Refused<D>>
     ensures opens { (name : List ℕ) (d : Durable) → IsTrue D.is_modelled → OpensTo name d (D.life disk).seen → Finds name d result }
     ensures found { IsTrue D.is_modelled → IfOk result (StoodThere (D.life disk).seen) }
@@ -58,10 +61,13 @@ fn read_store<D: Disk>(alloc: Global, disk: &mut D) -> Result<Found, OpenError>
     records_lead_one_way();
     records_lead_to_sound_states();
     images_open_there();
+    checkpoints_are_known();
     a_region_has_one_reading();
-    let (name, region) = read_head(alloc, disk)?;
+    let active = read_head(alloc, disk)?;
+    let tables = read_tables(alloc, disk, &active)?;
+    let Active { name, region, .. } = active;
     let (mut journal, records) = read_journal(alloc, disk, region)?;
-    let (store, units) = read_units(alloc, records.as_slice())?.into_parts();
+    let (store, units) = read_units(alloc, tables, records.as_slice())?.into_parts();
     hold_all(alloc, &mut journal, records.as_slice(), units.as_slice())?;
     Ok(Found {
         name,

@@ -1,20 +1,28 @@
 //! What is read of a store.
 
-ghost use Rattle.std.specs.Prelude.{◌≡◌, IfOk, IsTrue, List, ℕ, length};
+ghost use Rattle.std.specs.Prelude.{◌≡◌, IfOk, IsTrue, List, ℕ, length, true};
 ghost use Rattle.drda_disk.specs.Disk.{Stays};
 ghost use Rattle.unit_journal.specs.Journal.{held_of, region_of};
 ghost use Rattle.unit_journal.specs.Opened.{IsOpened};
 ghost use Rattle.unit_journal.specs.Record.{Entry, entries_of};
 ghost use Rattle.unit_journal.specs.Stands.{IsDamagedAt, Stands};
-ghost use Rattle.recovery.specs.Durable.{Durable, fresh};
+ghost use Rattle.store_check.specs.Checkpoint.{HasCheckpoint, forms};
+ghost use Rattle.store_check.specs.Half.{BreaksHalf, pages_of};
+ghost use Rattle.tables.specs.Tables.{Store as Tables};
+ghost use Rattle.tables.specs.View.{is_store};
+ghost use Rattle.table_store.specs.TableStore.{store_in};
+ghost use Rattle.recovery.specs.Durable.{Durable, at_checkpoint};
 ghost use Rattle.recovery.specs.Journal.{Leads, StopsAt};
 ghost use Rattle.recovery.specs.Replay.{durable_of};
-ghost use Rattle.durable_core.specs.Reads.{Counts, IsInside, IsPlain, TellsDamage};
+ghost use Rattle.durable_core.specs.Reads.{ArePagesInside, Counts, IsInside, IsPlain, TellsDamage};
 
 use crate::errors::OpenError;
+use checkpoint_reader::read_checkpoint;
 use drda_disk::{Disk, Region};
+use half_store::Active;
 use recovery::{PreparedUnit, Replay, ReplayError, replay};
 use std::alloc::Global;
+use store_check::{CheckError, checkpoints_are_known};
 use table_store::TableStore;
 use unit_journal::{Journal, Record};
 
@@ -25,6 +33,29 @@ pub(crate) struct Found {
     pub(crate) journal: Journal,
     pub(crate) store: TableStore,
     pub(crate) units: Vec<PreparedUnit>,
+}
+
+/// The tables of the last checkpoint, from the pages of the active half.
+pub(crate) fn read_tables<D: Disk>(
+    alloc: Global,
+    disk: &mut D,
+    active: &Active,
+) -> Result<TableStore, OpenError>
+    requires { ArePagesInside (length (D.life disk.old).seen) active.now }
+    ensures laid { IsTrue D.is_modelled → IfOk result (λ store. HasCheckpoint (D.life disk.old).seen (pages_of active.now) (store_in store)) }
+    ensures store { IfOk result (λ store. is_store (store_in store) ≡ true) }
+    ensures opens { (tables : Tables) → IsTrue D.is_modelled → HasCheckpoint (D.life disk.old).seen (pages_of active.now) tables → IsPlain result }
+    ensures tells { IsTrue D.is_modelled → TellsDamage result (BreaksHalf forms (D.life disk.old).seen (pages_of active.now)) }
+    ensures stays { Stays (D.life disk.old) (D.life disk.new) }
+    ensures cause { Counts result (D.life disk.old).faults (D.life disk.new).faults }
+{
+    checkpoints_are_known();
+    match read_checkpoint(alloc, disk, active) {
+        Ok(tables) => Ok(tables),
+        Err(CheckError::Damaged { at }) => Err(OpenError::Damaged { at }),
+        Err(CheckError::DeviceFailed) => Err(OpenError::DeviceFailed),
+        Err(CheckError::NoMemory) => Err(OpenError::NoMemory),
+    }
 }
 
 /// The journal of a region, and its records.
@@ -50,14 +81,18 @@ pub(crate) fn read_journal<D: Disk>(
     }
 }
 
-/// What the records of a journal lead to.
-pub(crate) fn read_units(alloc: Global, records: &[Record]) -> Result<Replay, OpenError>
-    ensures leads { IfOk result (λ r. Leads fresh (entries_of records.now) (durable_of r)) }
-    ensures opens { (d : Durable) → Leads fresh (entries_of records.now) d → IsPlain result }
-    ensures tells { TellsDamage result (StopsAt fresh records.now) }
+/// What the records of a journal lead to, over the tables of the checkpoint that they follow.
+pub(crate) fn read_units(
+    alloc: Global,
+    checkpoint: TableStore,
+    records: &[Record],
+) -> Result<Replay, OpenError>
+    ensures leads { IfOk result (λ r. Leads (at_checkpoint (store_in checkpoint)) (entries_of records.now) (durable_of r)) }
+    ensures opens { (d : Durable) → Leads (at_checkpoint (store_in checkpoint)) (entries_of records.now) d → IsPlain result }
+    ensures tells { TellsDamage result (StopsAt (at_checkpoint (store_in checkpoint)) records.now) }
     ensures cause { (n : ℕ) → Counts result n n }
 {
-    match replay(alloc, records) {
+    match replay(alloc, checkpoint, records) {
         Ok(units) => Ok(units),
         Err(ReplayError::Damaged { at }) => Err(OpenError::Damaged { at }),
         Err(ReplayError::NoMemory) => Err(OpenError::NoMemory),

@@ -4,6 +4,8 @@
 #[cfg(test)]
 mod asking;
 #[cfg(test)]
+mod checkpoints;
+#[cfg(test)]
 mod commits;
 #[cfg(test)]
 mod doubts;

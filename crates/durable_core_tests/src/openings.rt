@@ -37,14 +37,15 @@ fn other_disks_are_no_stores(rt: HostRuntime) -> Result<(), Fail> {
     Ok(())
 }
 
-// Bytes that are put into a fresh store, and where it is damaged then: another layout; no open half; a number
-// of pages; a record of an unknown kind; one that goes on behind the journal's end; one that puts a row into no
+// Bytes that are put into a fresh store, and where it is damaged then: another layout; no open half; pages
+// without a catalogue, and one of zeros; a record of an unknown kind; one that goes on behind the journal's end; one that puts a row into no
 // table; a decision without a body behind a commit of nothing; and a record of an unknown kind behind one that
 // has no place.
-const DAMAGES: [(usize, &'static [u8], usize); 8] = [
+const DAMAGES: [(usize, &'static [u8], usize); 9] = [
     (8, &[0, 0, 0, 2], 8),
     (8_192, &[0], 8_192),
-    (8_201, &[0, 0, 0, 1], 8_201),
+    (8_201, &[0, 0, 0, 1], 16_384),
+    (8_201, &[0, 0, 0, 1, 0, 0, 0, 0, 0, 0, 0, 1], 16_384),
     (16_384, &[0xA5, 9, 0, 0, 0, 0], 16_384),
     (16_384, &[0xA5, 1, 0, 16, 0, 0], 16_384),
     (

@@ -80,18 +80,14 @@ pub fn show<D: Disk>(alloc: Global, core: &mut DurableCore<D>) -> Shown {
 
 fn doubts<D: Disk>(core: &DurableCore<D>) -> [u8; 3] {
     let mut signs = [b'-'; 3];
-    match core.in_doubt() {
-        Ok(xids) => {
-            for xid in xids.as_slice() {
-                match xid.global() {
-                    [0x47] => signs[0] = b'?',
-                    [0x48] => signs[1] = b'?',
-                    [0x49] => signs[2] = b'?',
-                    _ => {}
-                }
-            }
+    let mut xids = core.in_doubt();
+    while let Some(xid) = xids.next() {
+        match xid.global() {
+            [0x47] => signs[0] = b'?',
+            [0x48] => signs[1] = b'?',
+            [0x49] => signs[2] = b'?',
+            _ => {}
         }
-        Err(_) => signs[0] = b'!',
     }
     signs
 }

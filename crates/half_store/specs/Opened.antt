@@ -1,5 +1,5 @@
 -- What opening answers.
-use Rattle.std.specs.Prelude.{◌≡◌, ℕ, ◌+◌, ◌*◌, List, Result, Ok, Err, string_bytes, String}
+use Rattle.std.specs.Prelude.{◌≡◌, ℕ, ◌+◌, ◌*◌, ◌<◌, List, Result, Ok, Err, string_bytes, String}
 use Rattle.std.specs.declared.alloc.Global.{Global}
 use Rattle.drda_disk.specs.Region.{end_of}
 use Rattle.drda_disk.specs.declared.through.ReadFault.{ReadFault}
@@ -21,8 +21,9 @@ store_of a = record {
   header = record { generation = a.generation; pages = a.pages; first_catalogue = a.first_catalogue; catalogue_pages = a.catalogue_pages };
 }
 
--- its journal's region is what is left of its half behind the header and the pages
+-- its journal's region is what is left of its half behind the header and the pages: a byte at least
 pub record IsBehindPages (h : ℕ) (a : Active) : Type 0 where
+  pub some : 8192 * (1 + a.pages) < h
   pub begins : a.region.at ≡ offset_of h a.half + 8192 * (1 + a.pages)
   pub ends : end_of a.region ≡ offset_of h a.half + h
 

@@ -1,4 +1,5 @@
 pub mod Base
+pub mod InDoubt
 pub mod State
 pub mod Recorded
 pub mod Steps

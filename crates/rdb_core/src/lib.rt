@@ -5,6 +5,7 @@ mod asking;
 mod ending;
 mod engine;
 mod finding;
+mod in_doubt;
 mod opening;
 mod plain;
 mod plain_state;
@@ -14,4 +15,5 @@ mod reply;
 mod step;
 
 pub use engine::Core;
+pub use in_doubt::InDoubt;
 pub use plain_state::PlainState;

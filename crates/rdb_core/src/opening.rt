@@ -1,20 +1,22 @@
 //! What the core is where a store is opened.
 
-ghost use Rattle.std.specs.Prelude.{◌≡◌, IfOk, OnErr, OnOk, [], false};
+ghost use Rattle.std.specs.Prelude.{◌≡◌, OnErr, OnOk, [], false};
 ghost use Rattle.table_store.specs.TableStore.{store_in};
 ghost use Rattle.xa_manager.specs.Branch.{in_doubt_xids};
 ghost use Rattle.core_model.specs.Units.{global, has_work, unit_of};
+ghost use Rattle.rdb_core.specs.InDoubt.{xids_left};
 ghost use Rattle.rdb_core.specs.Restored.{RestoresUnit, with_in_doubt};
 ghost use Rattle.rdb_core.specs.State.{recorder_of, state_of};
 
 use crate::engine::Core;
+use crate::in_doubt::InDoubt;
 use std::alloc::{AllocError, Global};
 use table_store::TableStore;
 use unit_changes::UnitChanges;
 use unit_locks::Claim;
 use unit_records::Recorder;
 use unit_table::{Owner, Units};
-use xa_calls::{Xid, Xids};
+use xa_calls::Xid;
 use xa_manager::{RestoreError, XaTable};
 
 impl<R: Recorder> Core<R> {
@@ -61,10 +63,12 @@ impl<R: Recorder> Core<R> {
         }
     }
 
-    /// The XIDs that are in doubt, by rising bytes.
-    pub fn in_doubt(&self) -> Result<Xids, AllocError>
-        ensures { IfOk result (λ xids. xids ≡ in_doubt_xids (state_of self.now).branches) }
+    /// The XIDs that are in doubt, by rising bytes. Takes no memory.
+    pub fn in_doubt(&self) -> InDoubt<'_>
+        ensures { xids_left result ≡ in_doubt_xids (state_of self.now).branches }
     {
-        self.branches.recover(self.alloc)
+        InDoubt {
+            left: self.branches.branches(),
+        }
     }
 }

@@ -5,9 +5,10 @@ use Rattle.std.specs.Option.{option_and_then}
 use Rattle.unit_journal.specs.Record.{Entry, entries_of, entry_of}
 use Rattle.unit_journal.specs.declared.kind.Kind.{Kind}
 use Rattle.unit_journal.specs.declared.record.Record.{Record}
+use Rattle.tables.specs.Tables.{Store}
 use Rattle.unit_records.specs.Laws.{OneReading}
 use Rattle.unit_records.specs.Records.{IsGood, IsRecord, UnitRecord, entry_of as written, kind_of, record_bytes}
-use Rattle.recovery.specs.Durable.{Durable, fresh, next, replayed_from}
+use Rattle.recovery.specs.Durable.{Durable, at_checkpoint, next, replayed_from}
 use Rattle.recovery.specs.Journal.{AreGood, Finds, HasNoPlace, Leads, LeadingWereWritten, LeadsOn, NoStop, OneState, Replays, StopsAt, WrittenLead}
 use Rattle.recovery.specs.Replay.{durable_of}
 use Rattle.recovery.specs.declared.steps.Replay.{Replay}
@@ -40,10 +41,10 @@ module _ (once : OneReading) where
   pub no_stop : NoStop
   no_stop d e records at whole s = stops d e s.state s.before s.behind s.here (subst (λ (l : List Record). Leads d (entries_of l) e) s.whole whole) s.leads s.no_place
 
-pub finds : OneState → NoStop → (records : List Record) (result : Result Replay ReplayError) → Replays records result → (d : Durable) → Leads fresh (entries_of records) d → Finds d result
-finds one damage records (Ok r) told d leads = one fresh (durable_of r) d (entries_of records) told leads
-finds one damage records (Err (Damaged at)) told d leads = damage fresh d records at leads told
-finds one damage records (Err NoMemory) told d leads = tt
+pub finds : OneState → NoStop → (store : Store) (records : List Record) (result : Result Replay ReplayError) → Replays store records result → (d : Durable) → Leads (at_checkpoint store) (entries_of records) d → Finds d result
+finds one damage store records (Ok r) told d leads = one (at_checkpoint store) (durable_of r) d (entries_of records) told leads
+finds one damage store records (Err (Damaged at)) told d leads = damage (at_checkpoint store) d records at leads told
+finds one damage store records (Err NoMemory) told d leads = tt
 
 -- ---- records and their bytes
 

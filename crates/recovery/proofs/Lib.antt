@@ -6,3 +6,4 @@ pub mod Holding
 pub mod Keeping
 pub mod Claiming
 pub mod Sounding
+pub mod Laying

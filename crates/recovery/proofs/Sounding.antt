@@ -19,7 +19,7 @@ use Rattle.unit_journal.specs.Record.{Entry}
 use Rattle.xa_manager.specs.declared.due.Decision.{Decision}
 use Rattle.xa_manager.specs.declared.due.Decision.TheVariants as decision
 use Rattle.unit_records.specs.Records.{IsChange, IsGood, UnitRecord, committed, decided, prepared}
-use Rattle.recovery.specs.Durable.{Doubts, Durable, decide, doubt_of, fresh, have_places, is_claimed, is_free, next, with_doubt, without_doubt}
+use Rattle.recovery.specs.Durable.{Doubts, Durable, at_checkpoint, decide, doubt_of, have_places, is_claimed, is_free, next, with_doubt, without_doubt}
 use Rattle.recovery.specs.Sound.{IsGoodDoubt, IsSound, LeadsAreSound, StatesStaySound}
 use Rattle.recovery.specs.Journal.{Leads}
 use Rattle.recovery.proofs.Claiming.{claimed_once, good_once, same_once}
@@ -159,8 +159,8 @@ stays_sound : StatesStaySound → (d e : Durable) (es : List Entry) → IsSound 
 stays_sound step d e [] sound leads = subst IsSound leads sound
 stays_sound step d e (x ∷ es) sound leads = stays_sound step leads.0 e es (step d leads.0 leads.1.said leads.1.is.good leads.1.step sound) leads.2
 
-fresh_sound : IsSound fresh
-fresh_sound = record { store = refl; rising = refl; few = omega arith; good = tt }
+checkpoint_sound : (store : Store) → is_store store ≡ true → IsSound (at_checkpoint store)
+checkpoint_sound store good = record { store = good; rising = refl; few = omega arith; good = tt }
 
 pub leads_are_sound : StatesStaySound → LeadsAreSound
-leads_are_sound step d es leads = stays_sound step fresh d es fresh_sound leads
+leads_are_sound step store d es good leads = stays_sound step (at_checkpoint store) d es (checkpoint_sound store good) leads

@@ -26,9 +26,13 @@ pub record Durable : Type 0 where
   pub store : Store
   pub doubts : Doubts
 
+-- at a checkpoint, whose tables the journal's records follow: the units in doubt are among the records
+abbrev pub at_checkpoint : Store → Durable
+at_checkpoint store = record { store = store; doubts = [] }
+
 -- of a store that was just made
 abbrev pub fresh : Durable
-fresh = record { store = []; doubts = [] }
+fresh = at_checkpoint []
 
 -- ---- places
 

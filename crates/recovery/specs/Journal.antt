@@ -1,12 +1,13 @@
 -- What the records of a journal lead to, by their bytes.
 use Rattle.std.specs.Prelude.{◌≡◌, ℕ, List, [], ◌∷◌, ◌++◌, map, Option, Some, None, Result, Ok, Err}
 use Rattle.std.specs.List.{AllByRecursion}
+use Rattle.tables.specs.Tables.{Store}
 use Rattle.row_values.specs.declared.row.ReadError.{ReadError}
 use Rattle.row_values.specs.declared.row.ReadError.TheVariants as read
 use Rattle.unit_journal.specs.Record.{Entry, entries_of, entry_of}
 use Rattle.unit_journal.specs.declared.record.Record.{Record}
 use Rattle.unit_records.specs.Records.{IsGood, IsRecord, UnitRecord, entry_of as written}
-use Rattle.recovery.specs.Durable.{Durable, fresh, next, replayed_from}
+use Rattle.recovery.specs.Durable.{Durable, at_checkpoint, next, replayed_from}
 use Rattle.recovery.specs.declared.steps.Replay.{Replay}
 use Rattle.recovery.specs.Replay.{durable_of}
 use Rattle.recovery.specs.declared.journal.ReplayError.{ReplayError}
@@ -44,12 +45,12 @@ Goes d e (Ok x) f = LeadsOn d e f
 Goes d e (Err read.Damaged) f = HasNoPlace d e
 Goes d e (Err read.NoMemory) f = Unit {0}
 
--- what a replay answers: the state that the records lead to, or where they are damaged. Want of memory may
--- come in place of either.
-abbrev pub Replays : List Record → Result Replay ReplayError → Type 0
-Replays records (Ok r) = Leads fresh (entries_of records) (durable_of r)
-Replays records (Err (Damaged at)) = StopsAt fresh records at
-Replays records (Err NoMemory) = Unit {0}
+-- what a replay over a checkpoint answers: the state that the records lead to, or where they are damaged. Want of
+-- memory may come in place of either.
+abbrev pub Replays : Store → List Record → Result Replay ReplayError → Type 0
+Replays store records (Ok r) = Leads (at_checkpoint store) (entries_of records) (durable_of r)
+Replays store records (Err (Damaged at)) = StopsAt (at_checkpoint store) records at
+Replays store records (Err NoMemory) = Unit {0}
 
 -- this state is found, or there is no memory
 abbrev pub Finds : Durable → Result Replay ReplayError → Type 0

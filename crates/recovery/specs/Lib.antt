@@ -4,3 +4,4 @@ pub mod Places
 pub mod Sound
 pub mod Replay
 pub mod Journal
+pub mod Laying

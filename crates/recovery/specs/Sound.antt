@@ -5,12 +5,13 @@ use Rattle.std.specs.Ordering.{nat_cmp}
 use Rattle.std.specs.Cmp.Lexicographic.{slice_cmp}
 use Rattle.std.specs.Map.{keys_of}
 use Rattle.drda_words.specs.Order.{rises}
+use Rattle.tables.specs.Tables.{Store}
 use Rattle.tables.specs.View.{is_store}
 use Rattle.core_model.specs.Units.{Work}
 use Rattle.unit_locks.specs.Claims.{all_added}
 use Rattle.unit_journal.specs.Record.{Entry}
 use Rattle.unit_records.specs.Records.{IsGood, UnitRecord, prepared}
-use Rattle.recovery.specs.Durable.{Durable, fresh, is_claimed, next}
+use Rattle.recovery.specs.Durable.{Durable, at_checkpoint, is_claimed, next}
 use Rattle.recovery.specs.Journal.{Leads}
 
 -- a unit in doubt whose prepare can be written, and that has claimed all names where it creates a table
@@ -31,6 +32,6 @@ pub record IsSound (d : Durable) : Type 0 where
 abbrev pub StatesStaySound : Type 0
 StatesStaySound = (d e : Durable) (r : UnitRecord) → IsGood r → next d r ≡ Some e → IsSound d → IsSound e
 
--- so entries lead from a store that was just made to a sound state
+-- so entries lead from a checkpoint, whose tables are a store, to a sound state
 abbrev pub LeadsAreSound : Type 0
-LeadsAreSound = (d : Durable) (es : List Entry) → Leads fresh es d → IsSound d
+LeadsAreSound = (store : Store) (d : Durable) (es : List Entry) → is_store store ≡ true → Leads (at_checkpoint store) es d → IsSound d

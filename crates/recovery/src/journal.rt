@@ -3,7 +3,8 @@
 ghost use Rattle.std.specs.Prelude.{◌≡◌, IfErr};
 ghost use Rattle.unit_journal.specs.Record.{entries_of, entry_of};
 ghost use Rattle.unit_records.specs.Records.{UnitRecord as RecordIs};
-ghost use Rattle.recovery.specs.Durable.{Durable, fresh};
+ghost use Rattle.table_store.specs.TableStore.{store_in};
+ghost use Rattle.recovery.specs.Durable.{Durable, at_checkpoint};
 ghost use Rattle.recovery.specs.Replay.{durable_of};
 ghost use Rattle.recovery.specs.Journal.{Finds, Goes, Leads, Replays};
 
@@ -11,6 +12,7 @@ use crate::laws::records_lead_one_way;
 use crate::steps::Replay;
 use row_values::ReadError;
 use std::alloc::Global;
+use table_store::TableStore;
 use thiserror::Error;
 use unit_journal::Record;
 use unit_records::UnitRecord;
@@ -28,15 +30,19 @@ pub enum ReplayError {
 }
 
 /// The committed tables and the units in doubt that the records of a journal lead to, from its first
-/// on. `Damaged` exactly where a record has no place among those before it (as `Replay::step` tells; so
+/// on, over the tables of the checkpoint that they follow. `Damaged` exactly where a record has no place among those before it (as `Replay::step` tells; so
 /// a prepare that creates a table and does not claim all names has none), or its body is none of its
 /// kind: at the first such record's gate.
-pub fn replay(alloc: Global, records: &[Record]) -> Result<Replay, ReplayError>
-    ensures replays { Replays records.now result }
-    ensures finds { (d : Durable) → Leads fresh (entries_of records.now) d → Finds d result }
+pub fn replay(
+    alloc: Global,
+    checkpoint: TableStore,
+    records: &[Record],
+) -> Result<Replay, ReplayError>
+    ensures replays { Replays (store_in checkpoint) records.now result }
+    ensures finds { (d : Durable) → Leads (at_checkpoint (store_in checkpoint)) (entries_of records.now) d → Finds d result }
 {
     records_lead_one_way();
-    let mut state = Replay::new(alloc);
+    let mut state = Replay::over(alloc, checkpoint);
     let mut left = records;
     while let [entry, rest @ ..] = left {
         match read_and_step(&mut state, alloc, entry) {

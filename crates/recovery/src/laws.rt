@@ -2,6 +2,7 @@
 
 ghost use Rattle.recovery.specs.Laws.{FrontsStand, GoesOn, HeldForDoubts, OneMore};
 ghost use Rattle.recovery.specs.Journal.{LeadingWereWritten, NoStop, OneState, WrittenLead};
+ghost use Rattle.recovery.specs.Laying.{DoubtsAreLaid};
 ghost use Rattle.recovery.specs.Places.{ChangesKeepTables, PlacesGoOn, RowsKeepPlaces, TablesGivePlaces};
 ghost use Rattle.recovery.specs.Sound.{LeadsAreSound, StatesStaySound};
 
@@ -53,9 +54,17 @@ pub fn states_stay_sound()
     changes_are_local();
 }
 
-/// The state that entries lead to from a store that was just made is sound.
+/// The state that entries lead to from a checkpoint is sound.
 pub fn records_lead_to_sound_states()
     ensures { LeadsAreSound }
 {
     states_stay_sound();
+}
+
+/// The prepares of units in doubt, laid behind a checkpoint, lead to the state with just these in doubt,
+/// where the changes of each have their places in the tables of the checkpoint.
+pub fn doubts_are_laid()
+    ensures { DoubtsAreLaid }
+{
+    records_lead_one_way();
 }

@@ -4,7 +4,7 @@ ghost use Rattle.std.specs.Prelude.{◌≡◌, OnErr, OnOk, is_some, false, map}
 ghost use Rattle.tables.specs.ChangeView.{change_of};
 ghost use Rattle.unit_records.specs.Records.{committed, decided, prepared};
 ghost use Rattle.unit_records.specs.Read.{record_of};
-ghost use Rattle.recovery.specs.Durable.{fresh, next};
+ghost use Rattle.recovery.specs.Durable.{at_checkpoint, next};
 
 use crate::claimed::is_claimed;
 use crate::gathered::{gather, make};
@@ -29,12 +29,12 @@ impl Replay {
     ghost use Rattle.recovery.specs.Replay.{Steps, durable_of, doubts_in};
     ghost use Rattle.table_store.specs.TableStore.{store_in};
 
-    /// No tables and no units: what no record stands for. Takes no memory.
-    pub fn new(alloc: Global) -> Replay
-        ensures { durable_of result ≡ fresh }
+    /// The tables of a checkpoint, which no record follows yet, and no units. Takes no memory.
+    pub fn over(alloc: Global, checkpoint: TableStore) -> Replay
+        ensures { durable_of result ≡ at_checkpoint (store_in checkpoint) }
     {
         Replay {
-            store: TableStore::new(alloc),
+            store: checkpoint,
             units: Vec::new(alloc),
         }
     }

@@ -22,6 +22,7 @@ use Rattle.unit_records.specs.Due.{record_due}
 use Rattle.unit_records.specs.Laws.{OneReading}
 use Rattle.unit_records.specs.Records.{IsChange, IsGood, UnitRecord, entry_of, kind_of, record_bytes}
 use Rattle.unit_journal.specs.Record.{Entry}
+use Rattle.store_check.specs.Checkpoint.{CheckpointsAreStores, half_pages}
 use Rattle.recovery.specs.Durable.{Doubts, Durable, fresh, replayed_from}
 use Rattle.recovery.specs.Sound.{IsSound}
 use Rattle.recovery.specs.Sound.{LeadsAreSound}
@@ -75,8 +76,9 @@ module _ (kept : OpeningsAreKept) where
       let k = (kept d sound).kept in
       record { listed = listed_units d.doubts; sound = (k.store, λ o. all_sound (unit_of o (doubt_units d.doubts)).changes (k.good o)); rising = k.table.rising; prepared = in_doubt d.doubts }
 
-  pub images_begin : LeadsAreSound → ImagesBegin
-  images_begin lead name d image opens = openings_begin d (lead d opens.1 opens.2.leads)
+  pub images_begin : CheckpointsAreStores → LeadsAreSound → ImagesBegin
+  images_begin stores lead name d image (region, es, holds) =
+      openings_begin d (lead holds.checkpoint d es (stores image (half_pages (length image) holds.store) holds.checkpoint holds.pages) holds.leads)
 
 -- ---- what is durable of a sane core
 
@@ -164,7 +166,7 @@ module _ (keep : StepsKeep) (silent : SilentStepsStay) (lead : RecordsLead) wher
           lives_sane ls lives.0 e lives.1 (crashes_leave_sane (opened d) l.history l.count lives.0 o.kept good led) lives.3
 
       pub stores_stay_sane : LeadsAreSound → NewCoresAreSane → StoresStaySane
-      stores_stay_sane leads new lives d led = lives_sane lives fresh d (leads fresh [] refl) new led
+      stores_stay_sane leads new lives d led = lives_sane lives fresh d (leads [] fresh [] refl refl) new led
 
 -- ---- records by their entries
 

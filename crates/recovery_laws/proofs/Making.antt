@@ -6,7 +6,6 @@ use Rattle.drda_disk.specs.declared.region.Region.{Region}
 use Rattle.drda_disk.proofs.Moments.{stays_leaves, weaker}
 use Rattle.unit_journal.specs.Record.{Entry, laid}
 use Rattle.unit_journal.specs.Stands.{IsBeforeOrAfter}
-use Rattle.unit_records.specs.Laws.{WrittenIsRead}
 use Rattle.unit_records.specs.Records.{IsGood, UnitRecord, entry_of}
 use Rattle.unit_records.specs.Room.{taken}
 use Rattle.recovery.specs.Durable.{Durable, next, replayed_from}
@@ -14,7 +13,7 @@ use Rattle.recovery.specs.Laws.{held_for}
 use Rattle.recovery_laws.specs.Part.{durable_part}
 use Rattle.recovery_laws.specs.Opens.{Holds, OpensTo}
 use Rattle.recovery_laws.specs.Journaled.{IsDurable, IsUnchanged, Made, OnDisk, OneCallIsMade, OpensAfterAll, OpensAfterSome, Shown, StaysFailed, shown_on}
-use Rattle.recovery_laws.proofs.Adding.{records_open}
+use Rattle.recovery_laws.specs.ImageLaws.{RecordsOpen}
 use Rattle.recovery_laws.proofs.Going.{unchanged, untouched}
 
 opens_here : (name : List ℕ) (d : Durable) (rs : List UnitRecord) (c : List ℕ) → OpensTo name d c → OpensAfterSome name d rs c
@@ -44,7 +43,7 @@ opens_all old new r e c step name state durable now =
     let count : (opens_behind old.name (durable_part old.state) e r c step here).count ≡ 1 = refl in
     record { after = opens_behind old.name (durable_part old.state) e r c step here; all = omega (arith, count) }
 
-module _ (written : WrittenIsRead) where
+module _ (opened : RecordsOpen) where
   module _ (old new : Shown) (region : Region) (es : List Entry) (r : UnitRecord) (e : Durable)
       (was : Holds old.name region es (durable_part old.state) old.disk.seen) (good : IsGood r) (step : next (durable_part old.state) r ≡ Some e)
       (room : length (laid es) + taken r + 1 + held_for e.doubts ≤ region.length)
@@ -52,7 +51,7 @@ module _ (written : WrittenIsRead) where
     opens_one : (c : List ℕ) → IsBeforeOrAfter region old.disk.seen es (entry_of r) c → OpensAfterSome old.name (durable_part old.state) (r ∷ []) c
     opens_one c found =
         ⊎_elim (λ before. opens_here old.name (durable_part old.state) (r ∷ []) c (region, es, before)) (λ after. opens_behind old.name (durable_part old.state) e r c step (region, es ++ entry_of r ∷ [], after))
-        (records_open written old.name region es (durable_part old.state) e r old.disk.seen c was good step room found)
+        (opened old.name region es (durable_part old.state) e r old.disk.seen c was good step room found)
 
     left_one : (failed : Bool) → new.is_failed ≡ failed → new.name ≡ old.name → (new.is_failed ≡ false → durable_part new.state ≡ e) → (new.is_failed ≡ false → IsDurable new)
         → (c : List ℕ) → Now new.disk c → OpensAfterAll old.name (durable_part old.state) (r ∷ []) failed c
@@ -79,10 +78,10 @@ made_silent old new durable stays same made =
       made = made ∙ sym (append-nil old.made);
     }
 
-pub one_call_is_made : WrittenIsRead → {D : Type 0} (life : D → Life) → OneCallIsMade life
-one_call_is_made written {D} life = record {
+pub one_call_is_made : RecordsOpen → {D : Type 0} (life : D → Life) → OneCallIsMade life
+one_call_is_made opened {D} life = record {
   durable = λ s region es only holds. record { only = only; opens = (region, es, holds) };
-  recorded = λ old new. made_one written (shown_on life old) (shown_on life new);
+  recorded = λ old new. made_one opened (shown_on life old) (shown_on life new);
   silent = λ old new. made_silent (shown_on life old) (shown_on life new);
   failed = λ old new failed same. subst (λ (n : OnDisk D). StaysFailed (shown_on life old) (shown_on life n)) (sym same) (record { failed = failed; name = refl; state = refl; disk = untouched (life old.disk); made = refl });
   unchanged = λ old new same. subst (λ (n : OnDisk D). IsUnchanged (shown_on life old) (shown_on life n)) (sym same) (unchanged (shown_on life old));

@@ -1,37 +1,30 @@
 -- What images open to: one state at most, and what records and calls make of it.
-use Rattle.std.specs.Prelude.{◌≡◌, ◌⊎◌, ℕ, ◌+◌, ◌*◌, ◌≤◌, List, [], ◌∷◌, ◌++◌, length, Some, Ok}
-use Rattle.drda_disk.specs.Region.{SameOutside, end_of}
+use Rattle.std.specs.Prelude.{◌≡◌, ◌⊎◌, ℕ, ◌+◌, ◌≤◌, List, [], ◌∷◌, ◌++◌, length, Some, Ok}
+use Rattle.drda_disk.specs.Region.{SameOutside}
 use Rattle.drda_disk.specs.declared.region.Region.{Region}
 use Rattle.half_store.specs.Active.{Store, active_of}
 use Rattle.half_store.specs.Fresh.{IsFresh}
-use Rattle.half_store.specs.Layout.{half_len, offset_of}
 use Rattle.unit_journal.specs.Record.{Entry, laid}
 use Rattle.unit_journal.specs.Stands.{IsBeforeOrAfter, Stands}
 use Rattle.unit_records.specs.Records.{IsGood, UnitRecord, entry_of}
 use Rattle.unit_records.specs.Room.{taken}
 use Rattle.recovery.specs.Durable.{Durable, fresh, next}
 use Rattle.recovery.specs.Laws.{held_for}
-use Rattle.recovery_laws.specs.Opens.{Holds, OpensTo}
+use Rattle.recovery_laws.specs.Opens.{Holds, IsJournal, OpensTo}
 
 -- an image opens to one state at most, under one name
 abbrev pub OpensToOne : Type 0
 OpensToOne = (name other : List ℕ) (d e : Durable) (image : List ℕ) → OpensTo name d image → OpensTo other e image → (name ≡ other) × (d ≡ e)
 
--- the region is what is left of a store's half behind its header and pages
-pub record IsBehindPages (size : ℕ) (store : Store) (region : Region) : Type 0 where
-  pub begins : region.at ≡ offset_of (half_len size) store.half + 8192 * (1 + store.header.pages)
-  pub ends : end_of region ≡ offset_of (half_len size) store.half + half_len size
-
--- an image that opens is that store, without pages, and what it opens to stands there
+-- an image that opens is that store, and what it opens to stands there
 pub record IsThere (name : List ℕ) (d : Durable) (image : List ℕ) (store : Store) (region : Region) : Type 0 where
   pub named : store.name ≡ name
-  pub no_pages : store.header.pages ≡ 0
   pub es : List Entry
   pub holds : Holds name region es d image
 
 abbrev pub OpensThere : Type 0
 OpensThere = (name : List ℕ) (d : Durable) (image : List ℕ) (store : Store) (region : Region)
-    → OpensTo name d image → active_of image ≡ Ok store → IsBehindPages (length image) store region → IsThere name d image store region
+    → OpensTo name d image → active_of image ≡ Ok store → IsJournal (length image) store region → IsThere name d image store region
 
 -- Where a record is added that has its place and finds room, an image from before or after it opens to the state
 -- before it or behind it.

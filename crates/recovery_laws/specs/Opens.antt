@@ -1,30 +1,33 @@
 -- What the bytes of a disk open to.
-use Rattle.std.specs.Prelude.{◌≡◌, ℕ, ◌+◌, ◌≤◌, List, length, Ok}
+use Rattle.std.specs.Prelude.{◌≡◌, ℕ, ◌+◌, ◌*◌, ◌≤◌, List, length, Ok}
 use Rattle.drda_disk.specs.Region.{end_of}
 use Rattle.drda_disk.specs.declared.region.Region.{Region}
 use Rattle.half_store.specs.Active.{Store, active_of}
 use Rattle.half_store.specs.Layout.{half_len, offset_of}
 use Rattle.unit_journal.specs.Record.{Entry, laid}
 use Rattle.unit_journal.specs.Stands.{Stands}
-use Rattle.recovery.specs.Durable.{Durable, fresh}
+use Rattle.tables.specs.Tables.{Store as Tables}
+use Rattle.store_check.specs.Checkpoint.{HasCheckpoint, half_pages}
+use Rattle.recovery.specs.Durable.{Durable, at_checkpoint}
 use Rattle.recovery.specs.Journal.{Leads}
 use Rattle.recovery.specs.Laws.{held_for}
 
--- the journal of a store without pages: what is left of its half behind the header
+-- the journal of a store: what is left of its active half behind the header and the pages
 pub record IsJournal (size : ℕ) (store : Store) (region : Region) : Type 0 where
-  pub no_pages : store.header.pages ≡ 0
-  pub begins : region.at ≡ offset_of (half_len size) store.half + 8192
+  pub begins : region.at ≡ offset_of (half_len size) store.half + 8192 * (1 + store.header.pages)
   pub ends : end_of region ≡ offset_of (half_len size) store.half + half_len size
 
--- the image is a store of this name, whose journal lies there and has these records, which lead to d; the
--- decisions of the units in doubt have room
+-- The image is a store of this name. The pages of its active half have the tables of its last checkpoint; behind them
+-- lies its journal, whose records lead from there to d, and the decisions of the units in doubt have room behind them.
 pub record Holds (name : List ℕ) (region : Region) (es : List Entry) (d : Durable) (image : List ℕ) : Type 0 where
   pub store : Store
   pub active : active_of image ≡ Ok store
   pub named : store.name ≡ name
   pub journal : IsJournal (length image) store region
+  pub checkpoint : Tables
+  pub pages : HasCheckpoint image (half_pages (length image) store) checkpoint
   pub stands : Stands region es image
-  pub leads : Leads fresh es d
+  pub leads : Leads (at_checkpoint checkpoint) es d
   pub room : length (laid es) + 1 + held_for d.doubts ≤ region.length
 
 abbrev pub OpensTo : List ℕ → Durable → List ℕ → Type 0

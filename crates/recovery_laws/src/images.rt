@@ -5,6 +5,7 @@ ghost use Rattle.recovery_laws.specs.ImageLaws.{FreshStoresOpen, OpensThere, Ope
 
 use drda_disk::Disk;
 use recovery::laws::{records_follow_one_another, records_lead_one_way};
+use store_check::checkpoints_are_known;
 use unit_journal::a_region_has_one_reading;
 use unit_records::laws::records_have_one_reading;
 
@@ -13,6 +14,7 @@ pub fn images_open_to_one_state()
     ensures { OpensToOne }
 {
     a_region_has_one_reading();
+    checkpoints_are_known();
     records_lead_one_way();
 }
 
@@ -25,6 +27,7 @@ pub fn images_open_there()
 pub fn records_open()
     ensures { RecordsOpen }
 {
+    checkpoints_are_known();
     records_have_one_reading();
 }
 
@@ -32,6 +35,7 @@ pub fn records_open()
 pub fn records_stay()
     ensures { RecordsStay }
 {
+    checkpoints_are_known();
     records_have_one_reading();
 }
 
@@ -39,7 +43,9 @@ pub fn records_stay()
 /// records.
 pub fn fresh_stores_open()
     ensures { FreshStoresOpen }
-{}
+{
+    checkpoints_are_known();
+}
 
 /// Calls one after another leave on the disk, at any moment, the state after the first of all their
 /// records.
@@ -53,7 +59,7 @@ pub fn calls_go_on<D: Disk>()
 pub fn calls_make_records<D: Disk>()
     ensures { OneCallIsMade D.life }
 {
-    records_have_one_reading();
+    records_open();
 }
 
 /// What calls have answered is in each image that a crash leaves from then on, though the device failed

@@ -5,6 +5,7 @@ ghost use Rattle.recovery_laws.specs.Openings.{CrashesFindPoints, CrashesLeaveSa
 use crate::steps::{openings_are_kept, steps_are_recorded};
 use core_model::laws::histories_are_sane;
 use recovery::laws::records_lead_to_sound_states;
+use store_check::checkpoints_are_known;
 use unit_records::laws::records_have_one_reading;
 
 /// What a store opens to, whatever its bytes are, begins a history as the law of serial order asks it: one
@@ -13,6 +14,7 @@ pub fn openings_begin_histories()
     ensures states { OpeningsBegin }
     ensures images { ImagesBegin }
 {
+    checkpoints_are_known();
     openings_are_kept();
     records_lead_to_sound_states();
 }

@@ -2,6 +2,7 @@
 
 use recovery::{Replay, ReplayError, replay};
 use std::alloc::Global;
+use table_store::TableStore;
 use tables::TableView;
 use unit_journal::{Kind, Record};
 
@@ -66,22 +67,29 @@ const SHORT_ROW: (Kind, &'static [u8]) = (Kind::Commit, &[0, 0, 0, 1, 2, 1, b'T'
 // gate of the record that is damaged. The gate of record i is at i times 100.
 type Told = Result<(usize, usize, usize), usize>;
 
-const JOURNALS: [(&'static [(Kind, &'static [u8])], Told); 15] = [
-    (&[], Ok((0, 0, 0))),
-    (&[CREATED, NOTHING], Ok((1, 0, 0))),
-    (&[CREATED, PREPARED], Ok((1, 1, 1))),
-    (&[CREATED, PREPARED, ANOTHER], Ok((1, 2, 0))),
-    (&[CREATED, ANOTHER, PREPARED, DONE], Ok((2, 1, 0))),
-    (&[CREATED, PREPARED, UNDONE], Ok((1, 0, 0))),
-    (&[CREATED, REMOVED, REMOVED], Ok((0, 0, 0))),
-    (&[CREATED, CLAIMED], Ok((1, 1, 2))),
-    (&[CREATED, UNCLAIMED], Err(100)),
-    (&[CREATED, CREATED], Err(100)),
-    (&[PREPARED], Err(0)),
-    (&[CREATED, PREPARED, PREPARED], Err(200)),
-    (&[CREATED, PREPARED, DONE, UNDONE], Err(300)),
-    (&[CREATED, SHORT_ROW], Err(100)),
-    (&[CREATED, (Kind::Commit, &[0, 0, 0])], Err(100)),
+type Records = &'static [(Kind, &'static [u8])];
+
+// Records whose tables are a checkpoint, those that follow it, and what these lead to.
+const JOURNALS: [(Records, Records, Told); 19] = [
+    (&[], &[], Ok((0, 0, 0))),
+    (&[], &[CREATED, NOTHING], Ok((1, 0, 0))),
+    (&[], &[CREATED, PREPARED], Ok((1, 1, 1))),
+    (&[], &[CREATED, PREPARED, ANOTHER], Ok((1, 2, 0))),
+    (&[], &[CREATED, ANOTHER, PREPARED, DONE], Ok((2, 1, 0))),
+    (&[], &[CREATED, PREPARED, UNDONE], Ok((1, 0, 0))),
+    (&[], &[CREATED, REMOVED, REMOVED], Ok((0, 0, 0))),
+    (&[], &[CREATED, CLAIMED], Ok((1, 1, 2))),
+    (&[], &[CREATED, UNCLAIMED], Err(100)),
+    (&[], &[CREATED, CREATED], Err(100)),
+    (&[], &[PREPARED], Err(0)),
+    (&[], &[CREATED, PREPARED, PREPARED], Err(200)),
+    (&[], &[CREATED, PREPARED, DONE, UNDONE], Err(300)),
+    (&[], &[CREATED, SHORT_ROW], Err(100)),
+    (&[], &[CREATED, (Kind::Commit, &[0, 0, 0])], Err(100)),
+    (&[CREATED], &[], Ok((1, 0, 0))),
+    (&[CREATED], &[NOTHING, PREPARED, DONE], Ok((2, 0, 0))),
+    (&[CREATED, REMOVED], &[PREPARED], Ok((0, 1, 1))),
+    (&[CREATED], &[NOTHING, CREATED], Err(100)),
 ];
 
 fn records(alloc: Global, said: &[(Kind, &'static [u8])]) -> Option<Vec<Record>> {
@@ -110,18 +118,34 @@ fn shown(alloc: Global, state: Replay) -> Option<(usize, usize, usize)> {
     Some((rows.len(), units.len(), claims))
 }
 
-// None without memory.
-fn told(alloc: Global, said: &[(Kind, &'static [u8])]) -> Option<Told> {
+// The tables that records lead to.
+fn checkpoint(alloc: Global, said: &[(Kind, &'static [u8])]) -> Option<TableStore> {
     let list = records(alloc, said)?;
-    match replay(alloc, list.as_slice()) {
+    let state = replay(alloc, TableStore::new(alloc), list.as_slice()).ok()?;
+    Some(state.into_parts().0)
+}
+
+// None without memory.
+fn told(
+    alloc: Global,
+    before: &[(Kind, &'static [u8])],
+    said: &[(Kind, &'static [u8])],
+) -> Option<Told> {
+    let list = records(alloc, said)?;
+    match replay(alloc, checkpoint(alloc, before)?, list.as_slice()) {
         Ok(state) => Some(Ok(shown(alloc, state)?)),
         Err(ReplayError::Damaged { at }) => Some(Err(at)),
         Err(ReplayError::NoMemory) => None,
     }
 }
 
-fn leads_to(alloc: Global, said: &[(Kind, &'static [u8])], want: &Told) -> bool {
-    match (told(alloc, said), want) {
+fn leads_to(
+    alloc: Global,
+    before: &[(Kind, &'static [u8])],
+    said: &[(Kind, &'static [u8])],
+    want: &Told,
+) -> bool {
+    match (told(alloc, before, said), want) {
         (Some(Ok(state)), Ok(wanted)) => state == *wanted,
         (Some(Err(at)), Err(wanted)) => at == *wanted,
         _ => false,
@@ -131,8 +155,8 @@ fn leads_to(alloc: Global, said: &[(Kind, &'static [u8])], want: &Told) -> bool 
 #[test]
 fn journals_lead_to_states(rt: HostRuntime) {
     let mut number: usize = 0;
-    for (said, want) in &JOURNALS {
-        assert!(rt; leads_to(rt.alloc(), said, want), "{number}");
+    for (before, said, want) in &JOURNALS {
+        assert!(rt; leads_to(rt.alloc(), before, said, want), "{number}");
         number = number.saturating_add(1);
     }
 }

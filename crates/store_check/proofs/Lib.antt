@@ -6,3 +6,7 @@ mod Listed
 mod Written
 mod Tables
 mod Halves
+mod Framing
+mod KeyOrder
+mod Entries
+mod Checkpoints

@@ -15,7 +15,7 @@ use Rattle.key_map.proofs.Merged.{weaker}
 use Rattle.table_map.specs.Keyed.{keyed_rows}
 use Rattle.store_check.specs.Judging.{go_on, is_behind, last_key}
 
-less_is : (o : Ordering) → match_ordering o true false false ≡ true → o ≡ Less
+pub less_is : (o : Ordering) → match_ordering o true false false ≡ true → o ≡ Less
 less_is Less is = refl
 less_is Equal is = absurd cc
 less_is Greater is = absurd cc

@@ -1,5 +1,5 @@
 -- A checkpoint: the tables that the pages of a half have. The records of the half's journal follow it.
-use Rattle.std.specs.Prelude.{◌≡◌, ℕ, ◌*◌, true, List, [], map}
+use Rattle.std.specs.Prelude.{◌≡◌, ℕ, ◌+◌, ◌*◌, true, List, [], map}
 use Rattle.drda_words.specs.Place.{part}
 use Rattle.row_values.specs.Schema.{Schema}
 use Rattle.row_values.specs.Key.{row_key}
@@ -7,7 +7,13 @@ use Rattle.row_forms.specs.RowForm.{row_form}
 use Rattle.row_pages.specs.Laying.{rows_over}
 use Rattle.tables.specs.Tables.{Store, Table}
 use Rattle.tables.specs.View.{is_store}
+use Rattle.half_store.specs.Active.{Store as Opened}
+use Rattle.half_store.specs.Layout.{half_len, offset_of}
 use Rattle.store_check.specs.Half.{BreaksHalf, HalfPages, IsWholeHalf, KeysBySchema, TableRows}
+
+-- the pages of a store's active half, which lie behind the half's header, in an image of this size
+abbrev pub half_pages : ℕ → Opened → HalfPages
+half_pages size store = record { at = offset_of (half_len size) store.half + 8192; count = store.header.pages; first_catalogue = store.header.first_catalogue; catalogue_pages = store.header.catalogue_pages }
 
 -- rows lie on pages in the order of the sort forms of their keys
 abbrev pub forms : KeysBySchema

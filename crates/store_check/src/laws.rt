@@ -6,6 +6,8 @@ ghost use Rattle.store_check.specs.Written.{WrittenHalfIsWhole, WrittenIsListed,
 ghost use Rattle.store_check.specs.Whole.{OneFirstBad, OneWhole, WholeIsNotBad, WholeIsStored};
 
 use checkpoint_writer::catalogues_are_read;
+use key_map::key_order::forms_keep_order;
+use row_forms::laws::rows_have_their_forms;
 use row_pages::{one_laying, one_page};
 
 /// Pages that are whole have no first bad one.
@@ -96,4 +98,6 @@ pub fn checkpoints_are_known()
 {
     one_whole_half();
     whole_half_is_not_bad();
+    forms_keep_order();
+    rows_have_their_forms();
 }

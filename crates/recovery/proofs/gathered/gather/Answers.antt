@@ -1,5 +1,5 @@
 -- The next change has its place behind the others, or the journal is damaged.
-use Rattle.std.proofs.Common.{List, ap, map, sym, ◌∙◌}
+use Rattle.std.proofs.Common.{List, ap, map, ◌∙◌}
 use Rattle.tables.specs.Change.{Change}
 use Rattle.tables.specs.ChangeView.{change_of}
 use Rattle.table_store.specs.TableStore.{store_in}

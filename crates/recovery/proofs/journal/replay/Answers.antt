@@ -3,6 +3,7 @@ use Rattle.std.proofs.Common.{List, sym, subst, Ok, Err}
 use Rattle.unit_journal.specs.Record.{entries_of}
 use Rattle.unit_journal.specs.declared.record.Record.{Record}
 use Rattle.unit_records.proofs.Lengths.{first_left}
+use Rattle.table_store.specs.TableStore.{store_in}
 use Rattle.recovery.specs.Durable.{Durable}
 use Rattle.recovery.specs.Replay.{durable_of}
 use Rattle.recovery.specs.Journal.{Leads, StopsAt}
@@ -12,8 +13,8 @@ use Rattle.recovery.proofs.journal.replay.Goals as goal
 
 pub loop-left-init : goal.loop-left-init
 loop-left-init c = record {
-  leads = λ d here. subst (λ (s : Durable). Leads s (entries_of c.args.records.now) d) c.new-state.ensures here;
-  stops = λ at here. subst (λ (s : Durable). StopsAt s c.args.records.now at) c.new-state.ensures here;
+  leads = λ d here. subst (λ (s : Durable). Leads s (entries_of c.args.records.now) d) c.over-state.ensures here;
+  stops = λ at here. subst (λ (s : Durable). StopsAt s c.args.records.now at) c.over-state.ensures here;
 }
 
 pub loop-left-preserved : goal.loop-left-preserved
@@ -41,7 +42,7 @@ returns-in-Err-Damaged-clause-finds c =
     let at = c.entry-item.result.at in
     let none = rw c.in-Err-Damaged.field-0-is at c.in-Err-Damaged.ensures in
     let told = c.loop-left.invariant.stops at (subst (λ (l : List Record). StopsAt old l at) (sym first) (stops_here old c.entry-item.result _ none)) in
-    finds c.records_lead_one_way.ensures.one c.records_lead_one_way.ensures.damage c.args.records.now (Err (Damaged at)) told
+    finds c.records_lead_one_way.ensures.one c.records_lead_one_way.ensures.damage (store_in c.args.checkpoint) c.args.records.now (Err (Damaged at)) told
 
 pub returns-clause-replays : goal.returns-clause-replays
 returns-clause-replays c = c.loop-left.invariant.leads (durable_of c.loop-left.state) (leads_nowhere (durable_of c.loop-left.state) c.loop-left.left.now c.in_default.len_below)
@@ -49,4 +50,4 @@ returns-clause-replays c = c.loop-left.invariant.leads (durable_of c.loop-left.s
 pub returns-clause-finds : goal.returns-clause-finds
 returns-clause-finds c =
     let told = c.loop-left.invariant.leads (durable_of c.loop-left.state) (leads_nowhere (durable_of c.loop-left.state) c.loop-left.left.now c.in_default.len_below) in
-    finds c.records_lead_one_way.ensures.one c.records_lead_one_way.ensures.damage c.args.records.now (Ok c.loop-left.state) told
+    finds c.records_lead_one_way.ensures.one c.records_lead_one_way.ensures.damage (store_in c.args.checkpoint) c.args.records.now (Ok c.loop-left.state) told

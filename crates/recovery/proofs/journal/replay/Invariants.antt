@@ -1,15 +1,16 @@
 -- What is left leads on as all the records lead, and stops where they stop.
 use Rattle.std.proofs.Common.{ℕ, length}
 use Rattle.unit_journal.specs.Record.{entries_of}
-use Rattle.recovery.specs.Durable.{Durable, fresh}
+use Rattle.table_store.specs.TableStore.{store_in}
+use Rattle.recovery.specs.Durable.{Durable, at_checkpoint}
 use Rattle.recovery.specs.Replay.{durable_of}
 use Rattle.recovery.specs.Journal.{Leads, StopsAt}
 use Rattle.recovery.proofs.journal.replay.Given as goal
 
 abbrev pub invariant-loop-left : goal.invariant-loop-left
 invariant-loop-left l = record {
-  leads : (d : Durable) → Leads (durable_of l.state) (entries_of l.left) d → Leads fresh (entries_of l.records) d;
-  stops : (at : ℕ) → StopsAt (durable_of l.state) l.left at → StopsAt fresh l.records at;
+  leads : (d : Durable) → Leads (durable_of l.state) (entries_of l.left) d → Leads (at_checkpoint (store_in l.fn.checkpoint)) (entries_of l.records) d;
+  stops : (at : ℕ) → StopsAt (durable_of l.state) l.left at → StopsAt (at_checkpoint (store_in l.fn.checkpoint)) l.records at;
 }
 
 abbrev pub decreases-loop-left : goal.decreases-loop-left

@@ -5,4 +5,4 @@ pub returns-clause-states : goal.returns-clause-states
 returns-clause-states c = openings_begin c.openings_are_kept.ensures
 
 pub returns-clause-images : goal.returns-clause-images
-returns-clause-images c = images_begin c.openings_are_kept.ensures c.records_lead_to_sound_states.ensures
+returns-clause-images c = images_begin c.openings_are_kept.ensures c.checkpoints_are_known.ensures.stores c.records_lead_to_sound_states.ensures

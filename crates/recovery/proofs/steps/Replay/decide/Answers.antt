@@ -1,4 +1,4 @@
-use Rattle.std.proofs.Common.{List, ap, ◌∙◌, option_map, sym}
+use Rattle.std.proofs.Common.{ap, ◌∙◌, option_map, sym}
 use Rattle.std.specs.Prelude.{bytes_eq, position}
 use Rattle.recovery.specs.declared.prepared.PreparedUnit.{PreparedUnit}
 use Rattle.recovery.proofs.Doubting.{unit_nowhere}

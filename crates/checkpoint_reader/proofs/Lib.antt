@@ -1,0 +1,2 @@
+mod Stored
+mod Left
