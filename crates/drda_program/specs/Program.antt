@@ -123,7 +123,7 @@ module _ {D : Type 0} (modelled : Bool) (life : D → Life) where
 
     -- the units in doubt of the store of a path are listed
     abbrev pub Lists : List ℕ → F → Option (List ℕ) → Result (Unit {0}) Fault → F → Option (List ℕ) → Type 0
-    Lists path files before outcome files' now = Tells (IsOfDoubts modelled life) path files before outcome files' now
+    Lists path files before outcome files' now = Tells IsOfDoubts path files before outcome files' now
 
     -- the run over the store of a path, if there is one
     abbrev pub PipesFile : List ℕ → Login → F → Option (List ℕ) → Option (List ℕ) → Result (Unit {0}) Fault → F → Option (List ℕ) → Type 0
