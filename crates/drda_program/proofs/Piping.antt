@@ -62,7 +62,7 @@ by_answer modelled life rdb login input before now outcome core is opened (inr r
   end = ran.end;
   is_flushed = ran.is_flushed;
   reported = ran.reported;
-  has_run = fresh_run (settings_of login rdb) core.room (machine_over login core) ran.goes.last before now ran.end input (starts_fresh rdb login core opened) ran.goes.runs;
+  has_run = fresh_run (settings_of login rdb) core.room (machine_over login core) ran.last before now ran.end input (starts_fresh rdb login core opened) ran.runs;
 })
 
 pub piped : {D : Type 0} (modelled : Bool) (life : D → Life) (rdb : List ℕ) (login : Login) (input before now : Option (List ℕ)) (outcome : Result (Unit {0}) Fault) (core : OnDisk D) → BeginsFresh rdb (Ok core)

@@ -1,24 +1,18 @@
 -- A run over the store of a path.
-use Rattle.std.proofs.Common.{◌≡◌, ◌⊎◌, refl, sym, subst, inl, inr, ℕ, Bool, false, List, Option, Some, None, IfSome, Result, Ok, Err}
-use Rattle.std.specs.Prelude.{IsTrue}
+use Rattle.std.proofs.Common.{◌≡◌, refl, subst, inl, inr, ℕ, Bool, List, Option, Some, IfSome, Result, Ok, Err}
 use Rattle.std.specs.Io.KnownBytes.{Keeps}
 use Rattle.drda_disk.specs.Disk.{Life}
-use Rattle.recovery.specs.Durable.{Durable}
-use Rattle.recovery.specs.Sound.{LeadsAreSound}
-use Rattle.recovery_laws.specs.StepLaws.{OpeningsAreKept}
 use Rattle.recovery_laws.specs.Journaled.{OnDisk}
 use Rattle.drda_node.specs.Asking.{IsJournaled, asked_of}
 use Rattle.drda_node.specs.Machine.{Machine}
 use Rattle.drda_node.specs.Serving.{Runs}
 use Rattle.drda_node.specs.declared.serving.RunEnd.{RunEnd}
-use Rattle.store_service.specs.Running.{HasRun, IsStore}
-use Rattle.store_service.proofs.Stores.{runs_over}
 use Rattle.command_line.specs.Job.{Login}
 use Rattle.drda_program.proofs.Flushing.{kept_run}
 use Rattle.drda_program.specs.Endings.{result_for}
 use Rattle.drda_program.specs.Files.{FileCalls}
 use Rattle.drda_program.specs.Opening.{IsOver, OpensStore}
-use Rattle.drda_program.specs.Program.{AnswersOver, PipesFile, RunsOn, RunsOver, machine_over, settings_of}
+use Rattle.drda_program.specs.Program.{AnswersOver, PipesFile, RunsOver, machine_over}
 use Rattle.drda_program.specs.declared.fault.Fault.{Fault}
 
 module _ {D : Type 0} (modelled : Bool) (life : D → Life) where
@@ -30,15 +24,11 @@ module _ {D : Type 0} (modelled : Bool) (life : D → Life) where
     end = end;
     is_flushed = is_flushed;
     reported = reported;
-    left = last.disk;
-    goes = record {
-      new = last;
-      disk_is = refl;
-      journaled = subst (λ (c : OnDisk D). IsJournaled modelled life c last) same journaled;
-      last = final;
-      core_is = ends;
-      runs = subst (λ (m : Machine). IfSome input (λ bytes. Runs m bytes before end now final)) begins (kept_run first final before mid now end input kept runs);
-    };
+    last = final;
+    runs = subst (λ (m : Machine). IfSome input (λ bytes. Runs m bytes before end now final)) begins (kept_run first final before mid now end input kept runs);
+    left = last;
+    left_is = ends;
+    journaled = subst (λ (c : OnDisk D). IsJournaled modelled life c last) same journaled;
   }
 
   module _ {F : Type 0} (calls : FileCalls F D) where
@@ -47,15 +37,10 @@ module _ {D : Type 0} (modelled : Bool) (life : D → Life) where
     found files path core files' (inl (call, clash)) = absurd (cc clash)
     found files path core files' (inr there) = there
 
-    module _ (sound : LeadsAreSound) (kept : OpeningsAreKept) (path : List ℕ) (login : Login) (files files' : F) (input before now : Option (List ℕ)) (outcome : Result (Unit {0}) Fault) (core : OnDisk D) where
-      promised : (disk : D) (over : IsOver modelled life disk core) (ran : RunsOver modelled life core login input before outcome now) (name : List ℕ) (d : Durable) → IsStore modelled name d (life disk)
-          → HasRun name d (settings_of login name) (life disk) (life ran.left) input before ran.end now
-      promised disk over ran name d store =
-          runs_over modelled life sound kept name d login.user login.password disk store core (over.finds name d store.modelled_is store.opens) over.stays input before now ran.left (Ok ran.end) ran.goes
-
+    module _ (path : List ℕ) (login : Login) (files files' : F) (input before now : Option (List ℕ)) (outcome : Result (Unit {0}) Fault) (core : OnDisk D) where
       by_answer : (disk : D) → calls.opens files path (Some disk) files' → IsOver modelled life disk core → AnswersOver modelled life core login input before outcome now → PipesFile modelled life calls path login files input before outcome files' now
       by_answer disk opens over (inl (fault, is, refused, silent)) = inl (fault, is, inr (disk, opens, core, over, refused), silent)
-      by_answer disk opens over (inr ran) = inr (disk, opens, record { core = core; over = over; ran = ran; promised = promised disk over ran })
+      by_answer disk opens over (inr ran) = inr (disk, opens, record { core = core; over = over; ran = ran })
 
       pub piped_file : OpensStore modelled life calls files path (Ok core) files' → AnswersOver modelled life core login input before outcome now → PipesFile modelled life calls path login files input before outcome files' now
       piped_file opened answers = let there = found files path core files' opened in by_answer there.0 there.1.0 there.1.1 answers

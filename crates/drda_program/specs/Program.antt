@@ -5,15 +5,13 @@ use Rattle.std.specs.Io.KnownBytes.{Appends}
 use Rattle.drda_disk.specs.Disk.{Life}
 use Rattle.session_commands.specs.Settings.{Settings, is_rdb_name}
 use Rattle.half_store.specs.Fresh.{is_store_of}
-use Rattle.recovery.specs.Durable.{Durable, fresh}
+use Rattle.recovery.specs.Durable.{fresh}
 use Rattle.recovery_laws.specs.Journaled.{OnDisk}
 use Rattle.recovery_laws.specs.Part.{opened}
 use Rattle.drda_node.specs.Asking.{AskedCore, IsJournaled, asked_of}
 use Rattle.drda_node.specs.Machine.{Machine, at_start}
 use Rattle.drda_node.specs.Serving.{Runs}
 use Rattle.drda_node.specs.declared.serving.RunEnd.{RunEnd}
-use Rattle.store_service.specs.Running.{GoesFrom, IsStore}
-use Rattle.store_service.specs.Running as service
 use Rattle.command_line.specs.Job.{Job, Login, init, pipe, serve, in_doubt}
 use Rattle.drda_program.specs.Doubts.{doubt_text}
 use Rattle.drda_program.specs.Endings.{line_of, result_for, status_of}
@@ -66,25 +64,26 @@ abbrev pub machine_over : {D : Type 0} → Login → OnDisk D → Machine
 machine_over login core = at_start (settings_of login core.name) (asked_of core)
 
 module _ {D : Type 0} (modelled : Bool) (life : D → Life) where
-  -- the run over a core and its last flush
+  -- the machine of a core has run over the input, with a last flush; all that the core did is journaled
   pub record RunsOver (core : OnDisk D) (login : Login) (input before : Option (List ℕ)) (outcome : Result (Unit {0}) Fault) (now : Option (List ℕ)) : Type 0 where
     pub end : RunEnd
     pub is_flushed : Bool
     pub reported : outcome ≡ result_for end is_flushed
-    pub left : D
-    pub goes : GoesFrom modelled life core (machine_over login core) input before left end now
+    pub last : Machine
+    pub runs : IfSome input (λ bytes. Runs (machine_over login core) bytes before end now last)
+    pub left : OnDisk D
+    pub left_is : last.core ≡ asked_of left
+    pub journaled : IsJournaled modelled life core left
 
   -- no node was started over a core, or it ran
   abbrev pub AnswersOver : OnDisk D → Login → Option (List ℕ) → Option (List ℕ) → Result (Unit {0}) Fault → Option (List ℕ) → Type 0
   AnswersOver core login input before outcome now = ((fault : Fault) × (outcome ≡ Err fault) × RefusesName core.name fault × (now ≡ before)) ⊎ RunsOver core login input before outcome now
 
-  -- The run over the store that a disk is. Where a crash leaves the disk as it is read, and that opens to a state, it has run
-  -- from that state, and a crash at any moment leaves what its records lead to.
+  -- the run over the store that a disk is
   pub record RunsOn (disk : D) (login : Login) (input before : Option (List ℕ)) (outcome : Result (Unit {0}) Fault) (now : Option (List ℕ)) : Type 0 where
     pub core : OnDisk D
     pub over : IsOver modelled life disk core
     pub ran : RunsOver core login input before outcome now
-    pub promised : (name : List ℕ) (d : Durable) → IsStore modelled name d (life disk) → service.HasRun name d (settings_of login name) (life disk) (life ran.left) input before ran.end now
 
   -- a line for each unit in doubt
   abbrev pub IsOfDoubts : D → List ℕ → Type 0

@@ -18,6 +18,7 @@ use recovery::laws::records_lead_to_sound_states;
 use std::alloc::Global;
 use std::convert::AsStr;
 use std::io::{Read, Write};
+use store_check::checkpoints_are_known;
 
 /// Does what the words say, the program's name first, and answers the exit status; a fault's line goes
 /// to `err`, behind the text of the command-line parser where that has one, and nothing else does.
@@ -143,8 +144,8 @@ fn list_doubts<F: StoreFiles, W: Write>(
     ensures { Lists F.Disk.is_modelled F.Disk.life F.calls path.now files.old (W.contents out.old) result files.new (W.contents out.new) }
 {
     records_lead_to_sound_states();
+    checkpoints_are_known();
     let core = open_file(alloc, files, path)?;
-    let xids = core.in_doubt()?;
-    let text = doubt_text(alloc, xids.as_slice())?;
+    let text = doubt_text(alloc, core.in_doubt())?;
     tell(&text, out)
 }

@@ -15,8 +15,6 @@ use conversation::{Settings, SettingsError};
 use drda_disk::Disk;
 use drda_node::{Node, Ready, RunEnd, run};
 use durable_core::DurableCore;
-use recovery::laws::records_lead_to_sound_states;
-use recovery_laws::steps::openings_are_kept;
 use std::alloc::Global;
 use std::io::{Read, Write};
 
@@ -87,8 +85,6 @@ pub(crate) fn answer_file<F: StoreFiles, R: Read + Ready, W: Write>(
 ) -> Result<(), Fault>
     ensures { PipesFile F.Disk.is_modelled F.Disk.life F.calls path.now (plain_login login.entry) files.old (R.remaining reader.old) (W.contents out.old) result files.new (W.contents out.new) }
 {
-    records_lead_to_sound_states();
-    openings_are_kept();
     match open_file(alloc, files, path) {
         Ok(core) => answer_records(alloc, core, login, reader, out),
         Err(fault) => Err(fault),
