@@ -43,4 +43,4 @@ module _ {D : Type 0} (modelled : Bool) (life : D → Life) where
       by_answer disk opens over (inr ran) = inr (disk, opens, record { core = core; over = over; ran = ran })
 
       pub piped_file : OpensStore modelled life calls files path (Ok core) files' → AnswersOver modelled life core login input before outcome now → PipesFile modelled life calls path login files input before outcome files' now
-      piped_file opened answers = let there = found files path core files' opened in by_answer there.0 there.1.0 there.1.1 answers
+      piped_file opened answers = let there = found files path core files' opened in by_answer there.0 there.1 there.2 answers
