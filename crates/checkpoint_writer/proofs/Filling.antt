@@ -64,7 +64,7 @@ tells_more (Ok x) end a b le tells = tt
 tells_more (Err NoMemory) end a b le tells = tt
 tells_more (Err DeviceFailed) end a b le tells = tt
 tells_more (Err Damaged) end a b le tells = tt
-tells_more (Err (Full full)) end a b le tells = omega (arith, le, tells)
+tells_more (Err (Full full)) end a b le tells = (tells.0, omega (arith, le, tells.1))
 
 module _ (modelled : Bool) (file : List ℕ) (start : ℕ) (image : ImageWriter) (writer : RowWriter) (rows : List (List ℕ)) (held : IsLaying modelled file start image writer rows) where
   abbrev page : List (List ℕ)

@@ -1,8 +1,10 @@
-mod Adding
-mod Filling
-mod Told
+pub mod Adding
+pub mod Filling
+pub mod Told
 mod Writing
-mod MergedRows
+pub mod MergedRows
 mod EntryBytes
 mod Listing
 mod ReadEntries
+mod InMemory
+pub mod Moments

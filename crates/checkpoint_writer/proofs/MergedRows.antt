@@ -46,7 +46,7 @@ pub record Merges (modelled : Bool) (key_of : List ℕ → List ℕ) (table : Ta
 
 -- ---- pages that stay where they are
 
-at_moves : (old new : List ℕ) (from n at : ℕ) (pages : List (List (List ℕ))) → Torn from n old new → (at + 8192 * length pages ≤ from) ⊎ (from + n ≤ at) → AreAt old at pages → AreAt new at pages
+pub at_moves : (old new : List ℕ) (from n at : ℕ) (pages : List (List (List ℕ))) → Torn from n old new → (at + 8192 * length pages ≤ from) ⊎ (from + n ≤ at) → AreAt old at pages → AreAt new at pages
 at_moves old new from n at [] torn away stand = tt
 at_moves old new from n at (p ∷ pages) torn away stand = (
   subst (λ (l : List ℕ). IsPage (record { kind = kind.Rows; rows = p }) l) (sym (part_outside from n at 8192 old new torn (⊎_elim (λ low. inl (omega (arith, low))) (λ high. inr high) away))) stand.0,
@@ -166,11 +166,11 @@ module _ (modelled : Bool) (key_of : List ℕ → List ℕ) (table : Table) (cac
 
 -- ---- the table that was written
 
-rows_stand : (file : List ℕ) (at : ℕ) (pages : List (List (List ℕ))) → StandAt kind.Rows file at pages → AreAt file at pages
+pub rows_stand : (file : List ℕ) (at : ℕ) (pages : List (List (List ℕ))) → StandAt kind.Rows file at pages → AreAt file at pages
 rows_stand file at [] stand = tt
 rows_stand file at (p ∷ pages) stand = (stand.0, rows_stand file (at + 8192) pages stand.1)
 
-some_rows : (pages : List (List (List ℕ))) → AreFilled pages → AllByRecursion HasSome pages
+pub some_rows : (pages : List (List (List ℕ))) → AreFilled pages → AllByRecursion HasSome pages
 some_rows [] all = tt
 some_rows (p ∷ pages) all = (all.0, some_rows pages all.3)
 

@@ -1,9 +1,15 @@
 -- What is told where no rows were written.
-use Rattle.std.specs.Prelude.{◌≡◌, ◌<◌, ℕ, ◌+◌, Result, Ok, Err}
+use Rattle.std.specs.Prelude.{◌≡◌, ◌<◌, ◌≤◌, ℕ, ◌+◌, Result, Ok, Err}
 use Rattle.row_pages.specs.declared.kept.PageFault.{PageFault}
 use Rattle.row_pages.specs.declared.kept.PageFault.TheVariants as fault
 use Rattle.half_store.specs.declared.errors.PageError.{PageError}
 use Rattle.half_store.specs.declared.errors.PageError.TheVariants as page
+use Rattle.half_store.specs.declared.errors.BeginError.{BeginError}
+use Rattle.half_store.specs.declared.errors.BeginError.TheVariants as begin
+use Rattle.half_store.specs.declared.errors.SwitchError.{SwitchError}
+use Rattle.half_store.specs.declared.errors.SwitchError.TheVariants as switch
+use Rattle.unit_journal.specs.declared.errors.LayError.{LayError}
+use Rattle.unit_journal.specs.declared.errors.LayError.TheVariants as lay
 use Rattle.checkpoint_writer.specs.declared.errors.ImageError.{ImageError}
 use Rattle.checkpoint_writer.specs.declared.errors.ImageError.TheVariants.{NoMemory, DeviceFailed, Damaged, Full}
 
@@ -16,6 +22,19 @@ abbrev pub unwritten : PageError → ImageError
 unwritten (page.Full full) = Full full
 unwritten page.DeviceFailed = DeviceFailed
 
+abbrev pub not_begun : BeginError → ImageError
+not_begun begin.NoMemory = NoMemory
+not_begun begin.DeviceFailed = DeviceFailed
+
+abbrev pub not_laid : LayError → ImageError
+not_laid lay.NoMemory = NoMemory
+not_laid (lay.Full full) = Full (record { need = full.need; room = full.room })
+not_laid lay.DeviceFailed = DeviceFailed
+
+abbrev pub not_switched : SwitchError → ImageError
+not_switched switch.NoMemory = NoMemory
+not_switched switch.DeviceFailed = DeviceFailed
+
 -- the device has failed once more exactly where that is told
 abbrev pub CountsImage : {T : Type 0} → Result T ImageError → ℕ → ℕ → Type 0
 CountsImage (Ok x) old new = new ≡ old
@@ -25,9 +44,9 @@ CountsImage (Err (Full full)) old new = new ≡ old
 CountsImage (Err DeviceFailed) old new = new ≡ old + 1
 
 -- it is told that there is no room only where pages up to this offset, with a byte for a gate behind them, pass the
--- end of their half
+-- end of their half; what is told to be lacking is no more than what lacks
 abbrev pub TellsFull : {T : Type 0} → Result T ImageError → ℕ → ℕ → Type 0
-TellsFull (Err (Full full)) end pages_end = end < pages_end + 1
+TellsFull (Err (Full full)) end pages_end = (full.room < full.need) × (end + full.need ≤ pages_end + 1 + full.room)
 TellsFull other end pages_end = Unit {0}
 
 -- damage is told only where this holds

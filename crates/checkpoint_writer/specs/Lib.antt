@@ -5,3 +5,4 @@ pub mod Stored
 pub mod Catalogue
 pub mod ReadCatalogue
 pub mod Writing
+pub mod Moment

@@ -2,15 +2,19 @@
 #![tactic(auto)]
 
 mod catalogue;
+mod ending;
 mod entry;
 mod errors;
+mod memory_rows;
 mod merging;
 mod page;
 mod reading;
 mod rows;
 
 pub use catalogue::write_catalogue;
+pub use ending::{Switched, finish_image};
 pub use entry::{StoredTable, TablePlace, entries_have_their_bytes};
 pub use errors::ImageError;
+pub use memory_rows::write_rows;
 pub use merging::merge_into;
 pub use reading::{CatalogueError, catalogues_are_read, read_catalogue};

@@ -40,10 +40,11 @@ fn push_key(keys: &mut Vec<Vec<u8>>, key: Vec<u8>) -> Result<(), AllocError>
 }
 
 impl TableWriter {
-    ghost use Rattle.checkpoint_writer.specs.Writing.{HasLaid};
+    ghost use Rattle.key_map.specs.Merging.{Rows};
+    ghost use Rattle.checkpoint_writer.specs.Writing.{HasLaid, HasLaidAt};
 
     /// No rows yet.
-    fn new(alloc: Global) -> Result<TableWriter, AllocError>
+    pub(crate) fn new(alloc: Global) -> Result<TableWriter, AllocError>
         ensures rows { IfOk result (λ writer. writer.rows.page ≡ record { kind = PageKind.Rows; rows = [] }) }
         ensures empty { IfOk result (λ writer. writer.rows.is_empty ≡ true) }
         ensures keys { IfOk result (λ writer. writer.first_keys.items ≡ []) }
@@ -79,6 +80,35 @@ impl TableWriter {
         }
         if self.rows.add(alloc, cache, disk, image, row)? {
             push_key(&mut self.first_keys, keys.key(alloc, row)?)?;
+        }
+        Ok(())
+    }
+
+    /// Lays a row of this key behind the others. One that is too long for a page is damaged.
+    pub(crate) fn add_at<D: Disk>(
+        &mut self,
+        alloc: Global,
+        cache: &mut PageCache,
+        disk: &mut D,
+        image: &mut ImageWriter,
+        key: &[u8],
+        row: &[u8],
+    ) -> Result<(), ImageError>
+        requires inside { from_of image.old + half_bytes_of image.old ≤ length (D.life disk.old).seen }
+        ensures adds { AddsPages D.is_modelled (D.life disk.old) (D.life disk.new) image.old image.new }
+        ensures laid { (start : ℕ) (rows : Rows) → HasLaidAt D.is_modelled (D.life disk.old).seen start image.old self.old rows
+            → OnOk result (HasLaidAt D.is_modelled (D.life disk.new).seen start image.new self.new (rows ++ (key.now, row.now) ∷ [])) }
+        ensures full { (start : ℕ) (rows : Rows) (rest : List (List ℕ)) → HasLaidAt D.is_modelled (D.life disk.old).seen start image.old self.old rows
+            → TellsFull result (end_of_half image.old) (start + 8192 * length (laid (without_keys rows ++ row.now ∷ rest))) }
+        ensures kept { IsTrue D.is_modelled → AreRead cache.old (D.life disk.old).seen → AreRead cache.new (D.life disk.new).seen }
+        ensures damaged { DamagedWhere (IsShort row.now → ⊥) result }
+        ensures cause { CountsImage result (D.life disk.old).faults (D.life disk.new).faults }
+    {
+        if row.len() > LONGEST_ROW_BYTES {
+            return Err(ImageError::Damaged);
+        }
+        if self.rows.add(alloc, cache, disk, image, row)? {
+            push_key(&mut self.first_keys, Vec::from_slice(alloc, key)?)?;
         }
         Ok(())
     }

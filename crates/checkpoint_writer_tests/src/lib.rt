@@ -4,6 +4,10 @@
 #[cfg(test)]
 mod catalogues;
 #[cfg(test)]
+mod endings;
+#[cfg(test)]
 mod fixtures;
+#[cfg(test)]
+mod memory;
 #[cfg(test)]
 mod written;

@@ -1,5 +1,5 @@
 -- Calls of the core over its disk, as those who ask it see them.
-use Rattle.std.proofs.Common.{◌≡◌, ℕ, Bool, true, false, [], ◌++◌, sym, ap, ◌∙◌, inl, inr, append-nil}
+use Rattle.std.proofs.Common.{◌≡◌, ℕ, Bool, true, false, [], ◌++◌, refl, sym, ap, ◌∙◌, inl, inr, append-nil}
 use Rattle.std.specs.Prelude.{if◌then◌else◌}
 use Rattle.drda_disk.specs.Disk.{Life}
 use Rattle.core_calls.specs.Call.{Call}
@@ -8,7 +8,11 @@ use Rattle.core_calls.specs.Answer.{Answer}
 use Rattle.core_model.specs.Step.{step_state}
 use Rattle.recovery_laws.specs.Journaled.{IsUnchanged, OnDisk, shown_on}
 use Rattle.durable_core.specs.Steps.{Loses, Steps}
+use Rattle.durable_core.specs.Checkpointing.{Becomes, Checkpoints, IsSameCore}
+use Rattle.durable_core.specs.declared.checkpointing.Checkpointed.{Checkpointed}
+use Rattle.durable_core.specs.declared.checkpointing.Checkpointed.TheVariants.{Closed, DeviceFailed, Done, Full, NoMemory}
 use Rattle.drda_node.specs.Asking.{AskedCore, asked_of, asks, left_by}
+use Rattle.drda_node.specs.Happening.{IsCheckpointed}
 
 module _ {D : Type 0} (life : D → Life) where
   same_core : (old new : OnDisk D) → IsUnchanged (shown_on life old) (shown_on life new) → asked_of new ≡ asked_of old
@@ -59,3 +63,19 @@ module _ {D : Type 0} (life : D → Life) where
   pub core_loses : (old new : OnDisk D) (place : ℕ) (answer : Answer) → Loses (shown_on life old) place answer (shown_on life new) → asked_of new ≡ left_by (asked_of old) place
   core_loses old new place answer (inl t) = left_going old place (asked_of new) t.going t.state t.room t.still t.made
   core_loses old new place answer (inr t) = left_failed old place (asked_of new) t.failed (same_core old new t.same)
+
+  -- ---- what a checkpoint leaves
+
+  -- the state and the records stay
+  with_rest : (old new : OnDisk D) (room : ℕ) (failed : Bool) → IsSameCore (shown_on life old) (shown_on life new) → new.room ≡ room → new.is_failed ≡ failed → asked_of new ≡ record (asked_of old) { room = room; has_failed = failed }
+  with_rest old new room failed same room_is failed_is = λ i. record { state = same.state i; room = room_is i; has_failed = failed_is i; made = same.made i }
+
+  becomes : (told : Checkpointed) (old new : OnDisk D) → IsSameCore (shown_on life old) (shown_on life new) → Becomes told (shown_on life old) (shown_on life new) → IsCheckpointed told (asked_of old) (asked_of new)
+  becomes Done old new same b = (b.going, (new.room, with_rest old new new.room old.is_failed same refl (b.still ∙ sym b.going)))
+  becomes (Full need room) old new same b = (b.0.going, with_rest old new old.room old.is_failed same b.0.room (b.0.still ∙ sym b.0.going))
+  becomes NoMemory old new same b = (b.going, with_rest old new old.room old.is_failed same b.room (b.still ∙ sym b.going))
+  becomes DeviceFailed old new same b = (b.going, with_rest old new old.room true same b.room b.failed)
+  becomes Closed old new same b = (b.failed, same_core old new b.same)
+
+  pub core_checkpoints : (told : Checkpointed) (old new : OnDisk D) → Checkpoints told (shown_on life old) (shown_on life new) → IsCheckpointed told (asked_of old) (asked_of new)
+  core_checkpoints told old new c = becomes told old new c.same c.becomes

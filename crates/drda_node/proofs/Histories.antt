@@ -1,5 +1,6 @@
 -- What a machine does to its core is a history of calls.
 use Rattle.std.proofs.Common.{◌≡◌, ◌⊎◌, ℕ, Bool, true, false, List, [], ◌∷◌, ◌++◌, Option, Some, None, slice_get, refl, sym, ap, subst, ◌∙◌, inl, inr, append-nil}
+use Rattle.std.proofs.lemmas.Bool.{false≢true}
 use Rattle.std.specs.Prelude.{if◌then◌else◌}
 use Rattle.dss_frames.specs.Dss.{Dss}
 use Rattle.dss_frames.specs.Reading.{End, faulty, unfinished}
@@ -15,33 +16,46 @@ use Rattle.core_calls.specs.Call.{Call}
 use Rattle.core_calls.specs.Call as call
 use Rattle.core_calls.specs.Answer.{Answer, closed}
 use Rattle.core_model.specs.Step.{CoreState, Kept, Mark, Taken, answer, replay, step_by, step_state}
+use Rattle.durable_core.specs.declared.checkpointing.Checkpointed.{Checkpointed}
+use Rattle.durable_core.specs.declared.checkpointing.Checkpointed.TheVariants.{Closed, DeviceFailed, Done, Full, NoMemory}
 use Rattle.drda_node.specs.Asking.{AskedCore, IsExcused, asks, left_by}
 use Rattle.drda_node.specs.Machine as machine
 use Rattle.drda_node.specs.Machine.{Conversation, Machine, opened}
 use Rattle.drda_node.specs.Hearing.{Attended, Hears, HearsAt, attended_at}
 use Rattle.drda_node.specs.Records.{Event, checkpoints, loses, opens, sends}
-use Rattle.drda_node.specs.Happening.{BreaksOff, HappenAll, Happens, LosesAt, OpensAt, SendsAt, SendsPart}
-use Rattle.drda_node.specs.Calls.{AreOf, AskedCall, CallsAreHistories, IsAsked, IsHistory, marked}
+use Rattle.drda_node.specs.Happening.{BreaksOff, CheckpointsAs, HappenAll, Happens, IsCheckpointed, LosesAt, OpensAt, SendsAt, SendsPart}
+use Rattle.drda_node.specs.Calls.{AreOf, AskedCall, CallsAreHistories, IsAsked, IsHistory, Rests, marked}
 
 -- ---- of one conversation
+
+rests_same : (old new : AskedCore) → new ≡ old → Rests old new
+rests_same old new same = record { state = ap (λ (c : AskedCore). c.state) same; made = ap (λ (c : AskedCore). c.made) same; failed = λ failed. same }
+
+rests_both : (a b c : AskedCore) → Rests a b → Rests b c → Rests a c
+rests_both a b c p q = record {
+  state = q.state ∙ p.state;
+  made = q.made ∙ p.made;
+  failed = λ failed. q.failed (ap (λ (o : AskedCore). o.has_failed) (p.failed failed) ∙ failed) ∙ p.failed failed;
+}
 
 abbrev Calls : ℕ → AskedCore → AskedCore → Type 0
 Calls place old new = (calls : List AskedCall) × AreOf place calls × IsHistory old calls new
 
 none : (place : ℕ) (old new : AskedCore) → new ≡ old → Calls place old new
-none place old new same = ([], tt, same)
+none place old new same = ([], tt, rests_same old new same)
 
 one : (place : ℕ) (old : AskedCore) (call : Call) (said : Answer) (new : AskedCore) → asks place old call said new → Calls place old new
-one place old call said new (inl t) = (record { conversation = place; call = call; answer = said; mark = Taken } ∷ [], (refl, tt), (new, t, refl))
-one place old call said new (inr t) = (record { conversation = place; call = call; answer = said; mark = Kept } ∷ [], (refl, tt), (new, t, refl))
+one place old call said new (inl t) = (record { conversation = place; call = call; answer = said; mark = Taken } ∷ [], (refl, tt), (old, new, rests_same old old refl, t, rests_same new new refl))
+one place old call said new (inr t) = (record { conversation = place; call = call; answer = said; mark = Kept } ∷ [], (refl, tt), (old, new, rests_same old old refl, t, rests_same new new refl))
 
 are_both : (place : ℕ) (xs ys : List AskedCall) → AreOf place xs → AreOf place ys → AreOf place (xs ++ ys)
 are_both place [] ys p q = q
 are_both place (x ∷ xs) ys (is, p) q = (is, are_both place xs ys p q)
 
 history_both : (a b c : AskedCore) (xs ys : List AskedCall) → IsHistory a xs b → IsHistory b ys c → IsHistory a (xs ++ ys) c
-history_both a b c [] ys p q = subst (λ (o : AskedCore). IsHistory o ys c) p q
-history_both a b c (x ∷ xs) ys (between, first, p) q = (between, first, history_both between b c xs ys p q)
+history_both a b c [] [] p q = rests_both a b c p q
+history_both a b c [] (y ∷ ys) p (at, between, rests, first, q) = (at, between, rests_both a b at p rests, first, q)
+history_both a b c (x ∷ xs) ys (at, between, rests, first, p) q = (at, between, rests, first, history_both between b c xs ys p q)
 
 calls_both : (place : ℕ) (a b c : AskedCore) → Calls place a b → Calls place b c → Calls place a c
 calls_both place a b c (xs, p, f) (ys, q, g) = (xs ++ ys, are_both place xs ys p q, history_both a b c xs ys f g)
@@ -109,7 +123,7 @@ of_all : (place : ℕ) (old new : AskedCore) → Calls place old new → SomeCal
 of_all place old new (calls, are, history) = (calls, history)
 
 unasked : (old new : Machine) → new.core ≡ old.core → SomeCalls old.core new.core
-unasked old new same = ([], same)
+unasked old new same = ([], rests_same old.core new.core same)
 
 opens_calls : (o : Option (Option Conversation)) (old new : Machine) (number : ℕ) (written : List ℕ) → OpensAt o old number written new → new.core ≡ old.core
 opens_calls None old new number written h = ap (λ (m : Machine). m.core) h.1
@@ -128,11 +142,22 @@ loses_calls None old new number written h = unasked old new (ap (λ (m : Machine
 loses_calls (Some None) old new number written h = unasked old new (ap (λ (m : Machine). m.core) h.1)
 loses_calls (Some (Some c)) old new number written h = subst (λ (m : Machine). SomeCalls old.core m.core) (sym h.1) (of_all number old.core (machine.lost old number).core (lost old number))
 
+-- a checkpoint asks nothing
+checkpointed : (told : Checkpointed) (old new : AskedCore) → IsCheckpointed told old new → Rests old new
+checkpointed Done old new (going, (room, is)) = record { state = ap (λ (c : AskedCore). c.state) is; made = ap (λ (c : AskedCore). c.made) is; failed = λ failed. absurd (false≢true (sym going ∙ failed)) }
+checkpointed (Full need room) old new (going, same) = rests_same old new same
+checkpointed NoMemory old new (going, same) = rests_same old new same
+checkpointed DeviceFailed old new (going, is) = record { state = ap (λ (c : AskedCore). c.state) is; made = ap (λ (c : AskedCore). c.made) is; failed = λ failed. absurd (false≢true (sym going ∙ failed)) }
+checkpointed Closed old new (failed, same) = rests_same old new same
+
+checkpoint_calls : (old new : Machine) (number : ℕ) (written : List ℕ) → CheckpointsAs old number written new → SomeCalls old.core new.core
+checkpoint_calls old new number written h = subst (λ (m : Machine). SomeCalls old.core m.core) (sym h.rest) ([], checkpointed h.told old.core h.core h.is_checkpointed)
+
 happens : (old new : Machine) (event : Event) (written : List ℕ) → Happens old event written new → SomeCalls old.core new.core
 happens old new (opens number) written h = unasked old new (opens_calls (slice_get old.row number) old new number written h)
 happens old new (sends number bytes) written h = sends_calls (slice_get old.row number) old new number bytes written h
 happens old new (loses number) written h = loses_calls (slice_get old.row number) old new number written h
-happens old new (checkpoints number) written h = unasked old new (ap (λ (m : Machine). m.core) h.1)
+happens old new (checkpoints number) written h = checkpoint_calls old new number written h
 
 some_both : (a b c : AskedCore) → SomeCalls a b → SomeCalls b c → SomeCalls a c
 some_both a b c (xs, f) (ys, g) = (xs ++ ys, history_both a b c xs ys f g)
@@ -165,8 +190,11 @@ stepped Taken old place call said new t = t.state
 stepped Kept old place call said new t = excused_stays place old call said new t
 
 replayed : (calls : List AskedCall) (old new : AskedCore) → IsHistory old calls new → new.state ≡ replay (marked calls) old.state
-replayed [] old new h = ap (λ (c : AskedCore). c.state) h
-replayed (a ∷ calls) old new (between, t, h) = replayed calls between new h ∙ ap (replay (marked calls)) (stepped a.mark old a.conversation a.call a.answer between t)
+replayed [] old new h = h.state
+replayed (a ∷ calls) old new (at, between, rests, t, h) =
+    let step : between.state ≡ step_by a.mark old.state a.conversation a.call =
+    stepped a.mark at a.conversation a.call a.answer between t ∙ ap (λ (s : CoreState). step_by a.mark s a.conversation a.call) rests.state in
+    replayed calls between new h ∙ ap (replay (marked calls)) step
 
 pub calls_are_histories : CallsAreHistories
 calls_are_histories = record {

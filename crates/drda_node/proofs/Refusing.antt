@@ -1,12 +1,13 @@
 -- Events of conversations that are not open, and events that are not answered.
-use Rattle.std.proofs.Common.{◌≡◌, ◌+◌, ◌<◌, ◌^◌, ℕ, List, [], ◌++◌, Option, Some, None, Result, Ok, Err, slice_get, refl, sym, ap, subst, append-nil, inl, inr}
+use Rattle.std.proofs.Common.{◌≡◌, ◌+◌, ◌<◌, ◌^◌, ℕ, List, [], ◌∷◌, ◌++◌, Option, Some, None, Result, Ok, Err, slice_get, refl, sym, ap, subst, append-nil, inl, inr}
 use Rattle.std.specs.Prelude.{OnErr, OnOk}
+use Rattle.durable_core.specs.declared.checkpointing.Checkpointed.{Checkpointed}
 use Rattle.drda_node.specs.declared.fed.Heard.{Heard}
 use Rattle.drda_node.specs.declared.fed.Heard.TheVariants.{Closed, NoMemory, Open}
 use Rattle.drda_node.specs.Machine.{Conversation, IsOpen, Machine, lost, opened}
 use Rattle.drda_node.specs.Hearing.{HearsAt, HearsPiece}
 use Rattle.drda_node.specs.Records.{Event, checkpoints, loses, opens, record_text, sends}
-use Rattle.drda_node.specs.Happening.{BreaksOff, Happens, LosesAt, OpensAt, SendsAt, SendsPart, refusal}
+use Rattle.drda_node.specs.Happening.{BreaksOff, Happens, IsCheckpointed, LosesAt, OpensAt, SendsAt, SendsPart, code_of, refusal}
 
 pub ok_so : {X E A B : Type 0} (r : Result X E) → (A → B) → OnOk r A → OnOk r B
 ok_so (Ok x) f p = f p
@@ -36,6 +37,10 @@ pub lost_anyway : (machine new : Machine) (number : ℕ) → IsOpen machine numb
 lost_anyway machine new number (there, is) row =
     inr (inl (record_text 3 number [], subst (λ (o : Option (Option Conversation)). LosesAt o machine number (record_text 3 number []) new) (sym is) (refl, row)))
 
+pub checkpointed_anyway : (machine new : Machine) (number : ℕ) (told : Checkpointed) → IsCheckpointed told machine.core new.core → new ≡ record machine { core = new.core } → BreaksOff machine (checkpoints number) new
+checkpointed_anyway machine new number told is rest =
+    inr (inl (record_text 4 number (code_of told ∷ []), record { told = told; core = new.core; is_checkpointed = is; written_is = refl; rest = rest }))
+
 pub heard_anyway : (heard : Heard) (machine new : Machine) (number : ℕ) (bytes out out' : List ℕ) → HearsPiece machine number bytes out heard new out' → BreaksOff machine (sends number bytes) new
 heard_anyway Open machine new number bytes out out' h = inr (inr (bytes, [], h.replies, h.after, sym (append-nil bytes), h.hears))
 heard_anyway Closed machine new number bytes out out' h =
@@ -64,7 +69,7 @@ pub events_keep : (machine new : Machine) (event : Event) (written : List ℕ) �
 events_keep machine new (opens number) written h = opens_keep (slice_get machine.row number) machine new number written h
 events_keep machine new (sends number bytes) written h = sends_keep (slice_get machine.row number) machine new number bytes written h
 events_keep machine new (loses number) written h = loses_keep (slice_get machine.row number) machine new number written h
-events_keep machine new (checkpoints number) written h = ap (λ (m : Machine). m.settings) h.1
+events_keep machine new (checkpoints number) written h = ap (λ (m : Machine). m.settings) h.rest
 
 part_keeps : (machine new : Machine) (event : Event) → SendsPart machine event new → new.settings ≡ machine.settings
 part_keeps machine new (opens number) h = absurd h

@@ -20,12 +20,13 @@ one Taken old new place k a x = (x.answer_is, x.state)
 one Kept old new place k a x = excused old new place k a x
 
 pub histories_lead : CallsLeadOn → HistoriesLead
-histories_lead on old new [] same = subst (λ (s : CoreState). CallsLead old.state [] s) (ap (λ (c : AskedCore). c.state) (sym same)) (on.none old.state)
-histories_lead on old new (a ∷ calls) h =
-    let first = one a.mark old h.0 a.conversation a.call a.answer h.1 in
+histories_lead on old new [] rests = subst (λ (s : CoreState). CallsLead old.state [] s) (sym rests.state) (on.none old.state)
+histories_lead on old new (a ∷ calls) (at, between, rests, asked, h) =
+    let first = one a.mark at between a.conversation a.call a.answer asked in
     let l : AnsweredCall = record { conversation = a.conversation; call = a.call; mark = a.mark; answer = a.answer } in
-    on.both old.state h.0.state new.state (l ∷ []) (answered calls)
-    (subst (λ (s : CoreState). CallsLead old.state (l ∷ []) s) (sym first.1) (on.one old.state l first.0)) (histories_lead on h.0 new calls h.2)
+    subst (λ (s : CoreState). CallsLead s (l ∷ answered calls) new.state) rests.state
+    (on.both at.state between.state new.state (l ∷ []) (answered calls)
+    (subst (λ (s : CoreState). CallsLead at.state (l ∷ []) s) (sym first.1) (on.one at.state l first.0)) (histories_lead on between new calls h))
 
 pub sane_openings_begin : SaneOpeningsBegin
 sane_openings_begin d opening sane = record { sound = opening.sound; lie = sane.lie; rising = opening.rising; prepared = opening.prepared }

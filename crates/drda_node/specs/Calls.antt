@@ -1,6 +1,6 @@
 -- The calls that a machine asks of its core: what was really asked and answered, as a history that the law of serial order
 -- speaks of.
-use Rattle.std.specs.Prelude.{◌≡◌, ℕ, List, [], ◌∷◌}
+use Rattle.std.specs.Prelude.{◌≡◌, ℕ, true, List, [], ◌∷◌}
 use Rattle.core_calls.specs.Call.{Call}
 use Rattle.core_calls.specs.Answer.{Answer}
 use Rattle.core_model.specs.Step.{Kept, Mark, MarkedCall, Taken, replay}
@@ -23,10 +23,18 @@ abbrev pub IsAsked : Mark → AskedCore → ℕ → Call → Answer → AskedCor
 IsAsked Taken old conversation call answer new = IsTaken old conversation call answer new
 IsAsked Kept old conversation call answer new = IsExcused old conversation call answer new
 
+-- Between calls a core rests: its state and its records stay; a checkpoint may change its room, or the device may fail in it.
+-- Once it has failed nothing changes.
+pub record Rests (old new : AskedCore) : Type 0 where
+  pub state : new.state ≡ old.state
+  pub made : new.made ≡ old.made
+  pub failed : old.has_failed ≡ true → new ≡ old
+
 -- these calls, in this order, lead from one core to the other
 abbrev pub IsHistory : AskedCore → List AskedCall → AskedCore → Type 0
-IsHistory old [] new = new ≡ old
-IsHistory old (a ∷ calls) new = (between : AskedCore) × IsAsked a.mark old a.conversation a.call a.answer between × IsHistory between calls new
+IsHistory old [] new = Rests old new
+IsHistory old (a ∷ calls) new =
+    (at between : AskedCore) × Rests old at × IsAsked a.mark at a.conversation a.call a.answer between × IsHistory between calls new
 
 -- without the answers, which the state at each call determines where its step was taken
 abbrev pub marked : List AskedCall → List MarkedCall

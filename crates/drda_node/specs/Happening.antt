@@ -1,5 +1,8 @@
 -- What an event does to the machine, and the records that answer it.
-use Rattle.std.specs.Prelude.{◌≡◌, ◌⊎◌, ℕ, ◌+◌, ◌<◌, ◌^◌, Bool, List, [], ◌∷◌, ◌++◌, Option, Some, None, slice_get, if◌then◌else◌}
+use Rattle.std.specs.Prelude.{◌≡◌, ◌⊎◌, ℕ, ◌+◌, ◌<◌, ◌^◌, Bool, true, false, List, [], ◌∷◌, ◌++◌, Option, Some, None, slice_get, if◌then◌else◌}
+use Rattle.durable_core.specs.declared.checkpointing.Checkpointed.{Checkpointed}
+use Rattle.durable_core.specs.declared.checkpointing.Checkpointed.TheVariants.{Closed, DeviceFailed, Done, Full, NoMemory}
+use Rattle.drda_node.specs.Asking.{AskedCore}
 use Rattle.drda_node.specs.Machine.{Conversation, Machine, opened, lost}
 use Rattle.drda_node.specs.Hearing.{Attended, attended, attended_at, Hears, HearsAt}
 use Rattle.drda_node.specs.Records.{record_text, Event, opens, sends, loses, checkpoints}
@@ -42,13 +45,37 @@ LosesAt None machine number written new = (written ≡ refusal number 2) × (new
 LosesAt (Some None) machine number written new = (written ≡ refusal number 2) × (new ≡ machine)
 LosesAt (Some (Some conversation)) machine number written new = (written ≡ record_text 3 number []) × (new ≡ lost machine number)
 
+-- 00: it is written; 01: a half is too short for it; 02: no memory; 03: the device failed, now or before
+abbrev pub code_of : Checkpointed → ℕ
+code_of Done = 0
+code_of (Full need room) = 1
+code_of NoMemory = 2
+code_of DeviceFailed = 3
+code_of Closed = 3
+
+-- what a checkpoint makes of a core: once it is written, the room that it leaves; where the device fails in it, it has failed
+abbrev pub IsCheckpointed : Checkpointed → AskedCore → AskedCore → Type 0
+IsCheckpointed Done old new = (old.has_failed ≡ false) × ((room : ℕ) × (new ≡ record old { room = room }))
+IsCheckpointed (Full need room) old new = (old.has_failed ≡ false) × (new ≡ old)
+IsCheckpointed NoMemory old new = (old.has_failed ≡ false) × (new ≡ old)
+IsCheckpointed DeviceFailed old new = (old.has_failed ≡ false) × (new ≡ record old { has_failed = true })
+IsCheckpointed Closed old new = (old.has_failed ≡ true) × (new ≡ old)
+
+-- a checkpoint of the machine, whose number is given back
+pub record CheckpointsAs (machine : Machine) (number : ℕ) (written : List ℕ) (new : Machine) : Type 0 where
+  pub told : Checkpointed
+  pub core : AskedCore
+  pub is_checkpointed : IsCheckpointed told machine.core core
+  pub written_is : written ≡ record_text 4 number (code_of told ∷ [])
+  pub rest : new ≡ record machine { core = core }
+
 -- From this machine the event makes this machine, and is answered by these records. A conversation's
--- number is its place in the row; a checkpoint changes nothing, and its number is given back.
+-- number is its place in the row. By a checkpoint only the core changes: its room, or that the device has failed.
 abbrev pub Happens : Machine → Event → List ℕ → Machine → Type 0
 Happens machine (opens number) written new = OpensAt (slice_get machine.row number) machine number written new
 Happens machine (sends number bytes) written new = SendsAt (slice_get machine.row number) machine number bytes written new
 Happens machine (loses number) written new = LosesAt (slice_get machine.row number) machine number written new
-Happens machine (checkpoints number) written new = (written ≡ record_text 4 number (0 ∷ [])) × (new ≡ machine)
+Happens machine (checkpoints number) written new = CheckpointsAs machine number written new
 
 -- events in order, and their answers one after the other
 abbrev pub HappenAll : Machine → List Event → List ℕ → Machine → Type 0

@@ -5,14 +5,15 @@ ghost use Rattle.drda_node.specs.Machine.{IsOpen};
 ghost use Rattle.drda_node.specs.Hearing.{Attended, HearsAt};
 ghost use Rattle.drda_node.specs.Records.{StartsUnsized, opens, sends, loses, checkpoints, record_text};
 ghost use Rattle.drda_node.specs.Reading.{event_of, size_of};
-ghost use Rattle.drda_node.specs.Happening.{BreaksOff, Happens, closing, refusal};
+ghost use Rattle.drda_node.specs.Happening.{BreaksOff, Happens, closing, code_of as code_for, refusal};
 ghost use Rattle.drda_node.specs.Asking.{IsJournaled};
 ghost use Rattle.drda_node.specs.Register.{core_in, machine};
 
 use crate::event::{HEAD_SIZE, Head, push_record};
 use crate::fed::Heard;
-use crate::node::{Done, Node};
+use crate::node::Node;
 use drda_disk::Disk;
+use durable_core::Checkpointed;
 use recovery_laws::images::calls_go_on;
 use std::alloc::AllocError;
 
@@ -61,10 +62,7 @@ pub(crate) fn answer<D: Disk>(
         Head::Opens(number) => answer_open(node, number, text),
         Head::Sends(number, size) => answer_bytes(node, number, &bytes[..size], text),
         Head::Loses(number) => answer_lost(node, number, text),
-        Head::Checkpoints(number) => {
-            let Done::Done = node.checkpoint();
-            push_record(text, CHECKPOINTED, number, &[0])
-        }
+        Head::Checkpoints(number) => answer_checkpoint(node, number, text),
     }
 }
 
@@ -173,4 +171,30 @@ fn answer_lost<D: Disk>(
     }
     node.lose_at(place);
     push_record(text, LOST, number, &[])
+}
+
+fn answer_checkpoint<D: Disk>(
+    node: &mut Node<D>,
+    number: u8,
+    text: &mut Vec<u8>,
+) -> Result<(), AllocError>
+    requires { text.old.items ≡ [] }
+    ensures happens { OnOk result (Happens (machine node.old) (checkpoints number) text.new.items (machine node.new)) }
+    ensures breaks_off { OnErr result (BreaksOff (machine node.old) (checkpoints number) (machine node.new)) }
+    ensures journaled { IsJournaled D.is_modelled D.life (core_in node.old) (core_in node.new) }
+{
+    let told = node.checkpoint();
+    push_record(text, CHECKPOINTED, number, &[code_of(told)])
+}
+
+// What is answered to a checkpoint.
+fn code_of(told: Checkpointed) -> u8
+    ensures { result ≡ code_for told }
+{
+    match told {
+        Checkpointed::Done => 0,
+        Checkpointed::Full { need: _, room: _ } => 1,
+        Checkpointed::NoMemory => 2,
+        Checkpointed::DeviceFailed | Checkpointed::Closed => 3,
+    }
 }

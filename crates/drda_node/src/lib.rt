@@ -20,9 +20,9 @@ mod writing;
 
 // What a node is started with.
 pub use conversation::{Settings, SettingsError};
-pub use durable_core::{DurableCore, open};
+pub use durable_core::{Checkpointed, DurableCore, open};
 pub use fed::{Fed, FedState, Heard};
-pub use node::{ConversationId, Done, Node, OpenError};
+pub use node::{ConversationId, Node, OpenError};
 pub use ready::Ready;
 pub use serving::{RunEnd, run};
 pub use writing::write_whole;

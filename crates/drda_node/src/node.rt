@@ -10,7 +10,7 @@ use crate::slot::Slot;
 use conversation::Settings;
 use drda_disk::Disk;
 use dss_frames::stays_read;
-use durable_core::DurableCore;
+use durable_core::{Checkpointed, DurableCore};
 use recovery_laws::images::calls_go_on;
 use std::alloc::Global;
 use thiserror::Error;
@@ -34,13 +34,6 @@ pub enum OpenError {
     NoMemory,
 }
 
-/// What became of a checkpoint.
-#[derive(Clone, Copy, Debug, PartialEq, Eq)]
-pub enum Done {
-    /// The store is checkpointed.
-    Done,
-}
-
 /// Up to 64 conversations, and the core that they ask.
 #[derive(Drop)]
 pub struct Node<D: Disk> {
@@ -58,6 +51,7 @@ impl<D: Disk> Node<D> {
     ghost use Rattle.drda_node.specs.Asking.{IsJournaled, asked_of};
     ghost use Rattle.drda_node.specs.Machine.{at_start, is_full, lost, IsOpen, opened};
     ghost use Rattle.drda_node.specs.Feeding.{Feeds};
+    ghost use Rattle.drda_node.specs.Happening.{IsCheckpointed};
     ghost use Rattle.drda_node.specs.Hearing.{HearsPiece};
     ghost use Rattle.drda_node.specs.Register.{core_in, machine, numbers, place_of, Names, Opens};
 
@@ -261,19 +255,22 @@ impl<D: Disk> Node<D> {
         end_units(&mut self.core, place as u64);
     }
 
-    /// Checkpoints the store. There is none yet, so nothing changes.
-    pub fn checkpoint(&mut self) -> Done
-        ensures machine { machine self.new ≡ machine self.old }
+    /// Checkpoints the store. The conversations and what their core has done stay: once the checkpoint is
+    /// written the core has the room that it leaves; at `Full`, `NoMemory` and `Closed` nothing changes; at
+    /// `DeviceFailed` the device has failed in it. A crash at any moment leaves a disk that opens to the
+    /// same tables and units in doubt.
+    pub fn checkpoint(&mut self) -> Checkpointed
+        ensures checkpointed { IsCheckpointed result (machine self.old).core (machine self.new).core }
+        ensures rest { machine self.new ≡ record (machine self.old) { core = (machine self.new).core } }
         ensures numbers { numbers self.new ≡ numbers self.old }
         ensures journaled { IsJournaled D.is_modelled D.life (core_in self.old) (core_in self.new) }
     {
-        calls_go_on::<D>();
-        self.core.is_durable();
-        Done::Done
+        checkpoint_core(&mut self.core)
     }
 }
 
 ghost use Rattle.drda_node.specs.Asking.{IsJournaled, asked_of, left_by};
+ghost use Rattle.drda_node.specs.Happening.{IsCheckpointed};
 
 // Ends what was a conversation's alone. What the core answers says nothing that is not known.
 #[tactic(auto, using(crate::proofs::Cores::core_loses))]
@@ -282,4 +279,13 @@ fn end_units<D: Disk>(core: &mut DurableCore<D>, conversation: u64)
     ensures journaled { IsJournaled D.is_modelled D.life core.old core.new }
 {
     let _ = core.lose(conversation);
+}
+
+// Writes a checkpoint of the core.
+#[tactic(auto, using(crate::proofs::Cores::core_checkpoints))]
+fn checkpoint_core<D: Disk>(core: &mut DurableCore<D>) -> Checkpointed
+    ensures checkpointed { IsCheckpointed result (asked_of core.old) (asked_of core.new) }
+    ensures journaled { IsJournaled D.is_modelled D.life core.old core.new }
+{
+    core.checkpoint()
 }

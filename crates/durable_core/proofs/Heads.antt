@@ -14,7 +14,7 @@ use Rattle.recovery_laws.proofs.Reading.{half_large}
 use Rattle.durable_core.specs.Reads.{ArePagesInside, IsHead, IsInside}
 
 -- a half's end lies in the disk
-ends_in : (h size : ℕ) (half : Half) → 8192 + (h + h) ≤ size → offset_of h half + h ≤ size
+pub ends_in : (h size : ℕ) (half : Half) → 8192 + (h + h) ≤ size → offset_of h half + h ≤ size
 ends_in h size First fits = omega (arith, fits)
 ends_in h size Second fits = omega (arith, fits)
 

@@ -7,3 +7,5 @@ pub mod Answered
 pub mod Damaged
 pub mod Prepared
 pub mod Telling
+pub mod Switching
+pub mod Prepares

@@ -1,6 +1,7 @@
 //! The core over a disk: what is committed, prepared and decided outlasts a crash.
 #![tactic(auto)]
 
+mod checkpointing;
 mod durable;
 mod errors;
 mod head;
@@ -11,6 +12,7 @@ mod preparing;
 mod reading;
 mod restoring;
 
+pub use checkpointing::Checkpointed;
 pub use durable::DurableCore;
 pub use errors::{OpenError, Refused};
 pub use opening::open;

@@ -2,7 +2,7 @@
 
 use core_calls::{Answer, CoreCall, Refusal};
 use drda_disk::Disk;
-use durable_core::DurableCore;
+use durable_core::{Checkpointed, DurableCore};
 use row_values::Value;
 use sql_text::{SqlError, Statement, parse};
 use std::alloc::Global;
@@ -17,6 +17,7 @@ pub enum Ask {
     RollBack,
     Xa(Verb, u8),
     Lost,
+    Checkpoint,
 }
 
 /// What is told.
@@ -97,6 +98,19 @@ fn xa<D: Disk>(
     Some(plain(core.step(conversation, &CoreCall::Xa(Ok(request)))))
 }
 
+fn checkpoint<D: Disk>(core: &mut DurableCore<D>) -> Told {
+    match core.checkpoint() {
+        Checkpointed::Done => Told::Done,
+        Checkpointed::Full { need, room } => Told::Full {
+            need: need as u64,
+            room: room as u64,
+        },
+        Checkpointed::NoMemory => Told::Other,
+        Checkpointed::DeviceFailed => Told::DeviceFailed,
+        Checkpointed::Closed => Told::Closed,
+    }
+}
+
 /// What a conversation is told. None without memory.
 pub fn ask_one<D: Disk>(
     alloc: Global,
@@ -111,6 +125,7 @@ pub fn ask_one<D: Disk>(
         Ask::Commit => Some(plain(core.step(conversation, &CoreCall::Commit))),
         Ask::RollBack => Some(plain(core.step(conversation, &CoreCall::RollBack))),
         Ask::Lost => Some(plain(core.step(conversation, &CoreCall::Lost))),
+        Ask::Checkpoint => Some(checkpoint(core)),
     }
 }
 

@@ -4,8 +4,6 @@
 #[cfg(test)]
 mod asking;
 #[cfg(test)]
-mod checkpoints;
-#[cfg(test)]
 mod commits;
 #[cfg(test)]
 mod doubts;
@@ -13,6 +11,8 @@ mod doubts;
 mod full;
 #[cfg(test)]
 mod openings;
+#[cfg(test)]
+mod paged;
 #[cfg(test)]
 mod rooms;
 #[cfg(test)]

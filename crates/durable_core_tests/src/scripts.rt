@@ -27,5 +27,8 @@ pub const PREPARE: [Call; 4] = [
     (2, Ask::Xa(Verb::Prepare, 0x47), Told::Code(0)),
 ];
 
+/// The store is checkpointed.
+pub const CHECKPOINT: [Call; 1] = [(0, Ask::Checkpoint, Told::Done)];
+
 /// It is committed.
 pub const DECIDE: [Call; 1] = [(3, Ask::Xa(Verb::Commit, 0x47), Told::Code(0))];

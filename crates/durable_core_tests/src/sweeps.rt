@@ -24,14 +24,16 @@ const ONE_LESS: Shown = (*b"-+---", *b"---");
 const CREATE: &'static str = "CREATE TABLE T (A INTEGER NOT NULL, PRIMARY KEY (A))";
 
 // The calls, and what a crash behind each leaves: a commit, a branch that is prepared and committed, one
-// that is prepared and rolled back, a rollback, a commit in one phase, and a unit that is left open.
-const EVENTS: [(Call, Shown); 21] = [
+// that is prepared and rolled back, a rollback, a commit in one phase, and a unit that is left open; and
+// checkpoints between them, with units in doubt and with others at work.
+const EVENTS: [(Call, Shown); 25] = [
     ((1, Ask::Run(CREATE), Told::Count(0)), NO_TABLE),
     (
         (1, Ask::Run("INSERT INTO T VALUES (1)"), Told::Count(1)),
         NO_TABLE,
     ),
     ((1, Ask::Commit, Told::Done), ONE),
+    ((0, Ask::Checkpoint, Told::Done), ONE),
     ((2, Ask::Xa(Verb::Start, 0x47), Told::Code(0)), ONE),
     (
         (2, Ask::Run("INSERT INTO T VALUES (2)"), Told::Count(1)),
@@ -45,6 +47,7 @@ const EVENTS: [(Call, Shown); 21] = [
         (2, Ask::Xa(Verb::Prepare, 0x47), Told::Code(0)),
         FIRST_IN_DOUBT,
     ),
+    ((0, Ask::Checkpoint, Told::Done), FIRST_IN_DOUBT),
     ((1, Ask::Xa(Verb::Commit, 0x47), Told::Code(0)), TWO),
     ((3, Ask::Xa(Verb::Start, 0x48), Told::Code(0)), TWO),
     (
@@ -60,6 +63,7 @@ const EVENTS: [(Call, Shown); 21] = [
         SECOND_IN_DOUBT,
     ),
     ((3, Ask::Lost, Told::Done), SECOND_IN_DOUBT),
+    ((0, Ask::Checkpoint, Told::Done), SECOND_IN_DOUBT),
     ((1, Ask::Xa(Verb::RollBack, 0x48), Told::Code(0)), TWO),
     (
         (1, Ask::Run("INSERT INTO T VALUES (4)"), Told::Count(1)),
@@ -67,6 +71,7 @@ const EVENTS: [(Call, Shown); 21] = [
     ),
     ((1, Ask::RollBack, Told::Done), TWO),
     ((4, Ask::Xa(Verb::Start, 0x49), Told::Code(0)), TWO),
+    ((0, Ask::Checkpoint, Told::Done), TWO),
     (
         (4, Ask::Run("DELETE FROM T WHERE A = 1"), Told::Count(1)),
         TWO,

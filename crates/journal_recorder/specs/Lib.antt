@@ -1,3 +1,4 @@
 pub mod Kinds
 pub mod Laying
 pub mod Recording
+pub mod Checkpointing

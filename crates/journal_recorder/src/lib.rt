@@ -1,8 +1,10 @@
 //! Units of work recorded in the journal of a disk.
 #![tactic(auto)]
 
+mod checkpointing;
 mod laying;
 mod made;
 mod recorder;
 
+pub use checkpointing::{CheckpointError, prepare_record};
 pub use recorder::DiskRecorder;

@@ -24,10 +24,10 @@ use xa_manager::Decision;
 /// has failed nothing is recorded any more, and no device call is made.
 #[derive(Drop)]
 pub struct DiskRecorder<D> {
-    alloc: Global,
-    disk: D,
-    journal: Journal,
-    is_failed: bool,
+    pub(crate) alloc: Global,
+    pub(crate) disk: D,
+    pub(crate) journal: Journal,
+    pub(crate) is_failed: bool,
     made: MadeRecords,
 }
 

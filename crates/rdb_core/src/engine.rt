@@ -27,11 +27,15 @@ use xa_manager::{Work, XaTable};
 /// What is committed, prepared or decided is recorded before it is made.
 #[derive(Drop)]
 pub struct Core<R: Recorder> {
-    pub(crate) alloc: Global,
-    pub(crate) store: TableStore,
+    /// Where memory is asked for.
+    pub alloc: Global,
+    /// The committed tables. Whoever holds the core may lend them and who records at once, as a
+    /// checkpoint does.
+    pub store: TableStore,
     pub(crate) units: Units,
     pub(crate) branches: XaTable,
-    pub(crate) recorder: R,
+    /// Who records. May be lent beside the committed tables.
+    pub recorder: R,
 }
 
 impl<R: Recorder> Core<R> {

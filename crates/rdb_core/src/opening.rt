@@ -1,6 +1,7 @@
-//! What the core is where a store is opened.
+//! What the core is where a store is opened, and what of it is in doubt.
 
-ghost use Rattle.std.specs.Prelude.{◌≡◌, OnErr, OnOk, [], false};
+ghost use Rattle.std.specs.Prelude.{◌≡◌, OnErr, OnOk, [], false, map};
+ghost use Rattle.tables.specs.ChangeView.{change_of};
 ghost use Rattle.table_store.specs.TableStore.{store_in};
 ghost use Rattle.xa_manager.specs.Branch.{in_doubt_xids};
 ghost use Rattle.core_model.specs.Units.{global, has_work, unit_of};
@@ -12,6 +13,7 @@ use crate::engine::Core;
 use crate::in_doubt::InDoubt;
 use std::alloc::{AllocError, Global};
 use table_store::TableStore;
+use tables::Change;
 use unit_changes::UnitChanges;
 use unit_locks::Claim;
 use unit_records::Recorder;
@@ -70,5 +72,21 @@ impl<R: Recorder> Core<R> {
         InDoubt {
             left: self.branches.branches(),
         }
+    }
+
+    /// What the unit of a branch has changed, in the order in which it did: none where it has no work.
+    /// Takes no memory.
+    pub fn changes_in_doubt(&self, xid: &Xid) -> &[Change]
+        ensures { map change_of result.now ≡ (unit_of (global xid.now) (state_of self.now).base.units).changes }
+    {
+        self.units.changes(&Owner::Global(*xid))
+    }
+
+    /// What the unit of a branch claims, in the order in which it first did: none where it has no work.
+    /// Takes no memory.
+    pub fn claims_in_doubt(&self, xid: &Xid) -> &[Claim]
+        ensures { result.now ≡ (unit_of (global xid.now) (state_of self.now).base.units).claims }
+    {
+        self.units.claims(&Owner::Global(*xid))
     }
 }

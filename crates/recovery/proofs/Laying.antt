@@ -94,7 +94,7 @@ none_before : (rest : Doubts) → AllBefore [] rest
 none_before [] = tt
 none_before (e ∷ rest) = (tt, none_before rest)
 
-prepares_good : (doubts : Doubts) → AllByRecursion IsGoodDoubt doubts → AreGood (prepares_of doubts)
+pub prepares_good : (doubts : Doubts) → AllByRecursion IsGoodDoubt doubts → AreGood (prepares_of doubts)
 prepares_good [] good = tt
 prepares_good (e ∷ es) good = (good.0.good, prepares_good es good.1)
 

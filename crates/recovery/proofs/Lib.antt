@@ -7,3 +7,4 @@ pub mod Keeping
 pub mod Claiming
 pub mod Sounding
 pub mod Laying
+pub mod Prepares

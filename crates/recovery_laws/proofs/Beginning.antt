@@ -29,7 +29,7 @@ use Rattle.recovery.specs.Sound.{LeadsAreSound}
 use Rattle.recovery_laws.specs.Kept.{IsKept}
 use Rattle.recovery_laws.specs.Part.{doubt_branches, doubt_units, doubts_in, durable_part, opened}
 use Rattle.recovery_laws.specs.StepLaws.{OpeningsAreKept, RecordsLead, SilentStepsStay, StepsKeep}
-use Rattle.recovery_laws.specs.Openings.{CrashesFindPoints, CrashesLeaveSane, EntriesTell, ImagesBegin, IsPoint, Life, LivesLead, OpeningsBegin, OpeningsStaySane, RecordsGoOn, StoresStaySane, records_by, records_of}
+use Rattle.recovery_laws.specs.Openings.{CrashesFindPoints, CrashesLeaveSane, EntriesTell, ImagesAreSound, ImagesBegin, IsPoint, Life, LivesLead, OpeningsBegin, OpeningsStaySane, RecordsGoOn, StoresStaySane, records_by, records_of}
 use Rattle.recovery_laws.proofs.Asking.{set}
 
 -- ---- units in doubt
@@ -70,6 +70,10 @@ all_sound [] good x i = absurd i
 all_sound (y ∷ xs) good x (inl same) = subst (λ (z : Change). is_sound z ≡ true) (sym same) (sound_of y good.0)
 all_sound (y ∷ xs) good x (inr i) = all_sound xs good.1 x i
 
+pub images_sound : CheckpointsAreStores → LeadsAreSound → ImagesAreSound
+images_sound stores lead name d image (region, es, holds) =
+    lead holds.checkpoint d es (stores image (half_pages (length image) holds.store) holds.checkpoint holds.pages) holds.leads
+
 module _ (kept : OpeningsAreKept) where
   pub openings_begin : OpeningsBegin
   openings_begin d sound =
@@ -77,8 +81,7 @@ module _ (kept : OpeningsAreKept) where
       record { listed = listed_units d.doubts; sound = (k.store, λ o. all_sound (unit_of o (doubt_units d.doubts)).changes (k.good o)); rising = k.table.rising; prepared = in_doubt d.doubts }
 
   pub images_begin : CheckpointsAreStores → LeadsAreSound → ImagesBegin
-  images_begin stores lead name d image (region, es, holds) =
-      openings_begin d (lead holds.checkpoint d es (stores image (half_pages (length image) holds.store) holds.checkpoint holds.pages) holds.leads)
+  images_begin stores lead name d image opens = openings_begin d (images_sound stores lead name d image opens)
 
 -- ---- what is durable of a sane core
 

@@ -36,6 +36,10 @@ OpeningsBegin = (d : Durable) → IsSound d → IsOpening (opened d)
 abbrev pub ImagesBegin : Type 0
 ImagesBegin = (name : List ℕ) (d : Durable) (image : List ℕ) → OpensTo name d image → IsOpening (opened d)
 
+-- and it is sound
+abbrev pub ImagesAreSound : Type 0
+ImagesAreSound = (name : List ℕ) (d : Durable) (image : List ℕ) → OpensTo name d image → IsSound d
+
 -- ---- the records of a history
 
 -- of a call whose step was taken the one that is due, if any

@@ -1,6 +1,6 @@
 //! Laws of the definitions. The functions do nothing: their contracts are the laws.
 
-ghost use Rattle.recovery_laws.specs.Openings.{CrashesFindPoints, CrashesLeaveSane, EntriesTell, ImagesBegin, OpeningsBegin, OpeningsStaySane, RecordsGoOn, StoresStaySane};
+ghost use Rattle.recovery_laws.specs.Openings.{CrashesFindPoints, CrashesLeaveSane, EntriesTell, ImagesAreSound, ImagesBegin, OpeningsBegin, OpeningsStaySane, RecordsGoOn, StoresStaySane};
 
 use crate::steps::{openings_are_kept, steps_are_recorded};
 use core_model::laws::histories_are_sane;
@@ -13,6 +13,7 @@ use unit_records::laws::records_have_one_reading;
 pub fn openings_begin_histories()
     ensures states { OpeningsBegin }
     ensures images { ImagesBegin }
+    ensures sound { ImagesAreSound }
 {
     checkpoints_are_known();
     openings_are_kept();

@@ -8,16 +8,16 @@ use unit_journal::{Kind, Record};
 
 // T is created and a row put; nothing; a row is put under a branch with a claim of the table; another
 // branch puts none; the branches are decided.
-const CREATED: (Kind, &'static [u8]) = (
+pub const CREATED: (Kind, &'static [u8]) = (
     Kind::Commit,
     &[
         0, 0, 0, 2, 1, 1, b'T', 1, 1, b'A', 2, 0, 0, 0, 1, 0, 2, 1, b'T', 0, 5, 0, 0, 0, 0, 5,
     ],
 );
 
-const NOTHING: (Kind, &'static [u8]) = (Kind::Commit, &[0, 0, 0, 0]);
+pub const NOTHING: (Kind, &'static [u8]) = (Kind::Commit, &[0, 0, 0, 0]);
 
-const PREPARED: (Kind, &'static [u8]) = (
+pub const PREPARED: (Kind, &'static [u8]) = (
     Kind::Prepare,
     &[
         0, 0, 0, 7, 0, 0, 0, 1, 0, 0, 0, 0, b'g', 0, 0, 0, 1, 1, 1, b'T', 0, 0, 0, 0, 1, 2, 1,
@@ -25,7 +25,7 @@ const PREPARED: (Kind, &'static [u8]) = (
     ],
 );
 
-const ANOTHER: (Kind, &'static [u8]) = (
+pub const ANOTHER: (Kind, &'static [u8]) = (
     Kind::Prepare,
     &[
         0, 0, 0, 7, 0, 0, 0, 1, 0, 0, 0, 0, b'f', 0, 0, 0, 0, 0, 0, 0, 0,
@@ -33,7 +33,7 @@ const ANOTHER: (Kind, &'static [u8]) = (
 );
 
 // Another branch creates U without the claim of all names; with it, twice.
-const UNCLAIMED: (Kind, &'static [u8]) = (
+pub const UNCLAIMED: (Kind, &'static [u8]) = (
     Kind::Prepare,
     &[
         0, 0, 0, 7, 0, 0, 0, 1, 0, 0, 0, 0, b'f', 0, 0, 0, 1, 1, 1, b'U', 0, 0, 0, 0, 1, 1, 1,
@@ -41,7 +41,7 @@ const UNCLAIMED: (Kind, &'static [u8]) = (
     ],
 );
 
-const CLAIMED: (Kind, &'static [u8]) = (
+pub const CLAIMED: (Kind, &'static [u8]) = (
     Kind::Prepare,
     &[
         0, 0, 0, 7, 0, 0, 0, 1, 0, 0, 0, 0, b'f', 0, 0, 0, 2, 1, 1, b'*', 0, 1, 1, b'*', 0, 0, 0,
@@ -67,7 +67,7 @@ const SHORT_ROW: (Kind, &'static [u8]) = (Kind::Commit, &[0, 0, 0, 1, 2, 1, b'T'
 // gate of the record that is damaged. The gate of record i is at i times 100.
 type Told = Result<(usize, usize, usize), usize>;
 
-type Records = &'static [(Kind, &'static [u8])];
+pub type Records = &'static [(Kind, &'static [u8])];
 
 // Records whose tables are a checkpoint, those that follow it, and what these lead to.
 const JOURNALS: [(Records, Records, Told); 19] = [
@@ -92,7 +92,7 @@ const JOURNALS: [(Records, Records, Told); 19] = [
     (&[CREATED], &[NOTHING, CREATED], Err(100)),
 ];
 
-fn records(alloc: Global, said: &[(Kind, &'static [u8])]) -> Option<Vec<Record>> {
+pub fn records(alloc: Global, said: &[(Kind, &'static [u8])]) -> Option<Vec<Record>> {
     let mut list = Vec::new(alloc);
     let mut at: usize = 0;
     for (kind, body) in said {
@@ -119,7 +119,7 @@ fn shown(alloc: Global, state: Replay) -> Option<(usize, usize, usize)> {
 }
 
 // The tables that records lead to.
-fn checkpoint(alloc: Global, said: &[(Kind, &'static [u8])]) -> Option<TableStore> {
+pub fn checkpoint(alloc: Global, said: &[(Kind, &'static [u8])]) -> Option<TableStore> {
     let list = records(alloc, said)?;
     let state = replay(alloc, TableStore::new(alloc), list.as_slice()).ok()?;
     Some(state.into_parts().0)

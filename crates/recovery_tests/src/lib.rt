@@ -3,3 +3,5 @@
 
 #[cfg(test)]
 mod journals;
+#[cfg(test)]
+mod places;

@@ -6,7 +6,7 @@ use Rattle.session_commands.specs.Settings.{Settings}
 use Rattle.unit_journal.specs.Record.{Entry}
 use Rattle.unit_records.specs.Records.{UnitRecord, entry_of}
 use Rattle.recovery.specs.Durable.{Durable, replayed_from}
-use Rattle.recovery.specs.Sound.{LeadsAreSound}
+use Rattle.recovery_laws.specs.Openings.{ImagesAreSound}
 use Rattle.recovery_laws.specs.Part.{durable_part, opened}
 use Rattle.recovery_laws.specs.Opens.{OpensTo}
 use Rattle.recovery_laws.specs.StepLaws.{OpeningsAreKept}
@@ -22,11 +22,11 @@ use Rattle.drda_node.specs.Serving.{Runs}
 use Rattle.drda_node.specs.declared.serving.RunEnd.{RunEnd}
 use Rattle.store_service.specs.Running.{GivesBack, GoesFrom, HasRun, IsRefusal, IsRefused, IsStore, RunsCore, RunsFrom, RunsOver, core_over}
 
-module _ {D : Type 0} (modelled : Bool) (life : D → Life) (sound : LeadsAreSound) (kept : OpeningsAreKept) where
+module _ {D : Type 0} (modelled : Bool) (life : D → Life) (sound : ImagesAreSound) (kept : OpeningsAreKept) where
   module _ (name : List ℕ) (d : Durable) (user password : List ℕ) (disk : D) (store : IsStore modelled name d (life disk)) where
     -- what is durable of a core that was just opened
     part_is : durable_part (opened d) ≡ d
-    part_is = (kept d (sound d store.opens.1 store.opens.2.leads)).part
+    part_is = (kept d (sound name d (life disk).seen store.opens)).part
 
     module _ (core : OnDisk D) (is : IsOpenedTo name d core) (stays : Stays (life disk) (life core.disk)) where
       over : asked_of core ≡ core_over d core.room

@@ -7,7 +7,7 @@ ghost use Rattle.store_service.specs.Running.{IsStore, RunsCore, RunsNode, RunsS
 use drda_disk::Disk;
 use drda_node::{DurableCore, Node, Ready, RunEnd, Settings, SettingsError, open, run};
 use durable_core::OpenError;
-use recovery::laws::records_lead_to_sound_states;
+use recovery_laws::openings::openings_begin_histories;
 use recovery_laws::steps::openings_are_kept;
 use std::alloc::Global;
 use std::io::Write;
@@ -36,7 +36,7 @@ pub fn run_store<D: Disk + Drop, R: Ready, W: Write>(
     ensures { (name : List ℕ) (d : Durable) → IsStore D.is_modelled name d (D.life disk)
         → RunsStore D.life name d user.now password.now disk (R.remaining reader.old) (W.contents writer.old) result (W.contents writer.new) }
 {
-    records_lead_to_sound_states();
+    openings_begin_histories();
     openings_are_kept();
     match open(alloc, disk) {
         Ok(core) => run_core(alloc, core, user, password, reader, writer),

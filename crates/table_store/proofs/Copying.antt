@@ -1,11 +1,11 @@
 -- Tables that are copied one after another are the tables.
-use Rattle.std.proofs.Common.{◌≡◌, ◌≤◌, ◌+◌, ℕ, zero, suc, List, [], ◌∷◌, ◌++◌, Bool, true, false, cond, ◌&&◌, if◌then◌else◌, refl, sym, ap, subst, ◌∙◌, length, drop, nat_le, Option, Some, None, is_some, IsSome, append_assoc, append-nil, Ordering, Less, Equal, Greater, arith}
+use Rattle.std.proofs.Common.{◌≡◌, ◌≤◌, ◌+◌, ℕ, zero, suc, List, [], ◌∷◌, ◌++◌, Bool, true, false, cond, if◌then◌else◌, refl, sym, ap, subst, ◌∙◌, length, drop, nat_le, Option, Some, None, is_some, append_assoc, append-nil, Ordering, Greater, arith}
 use Rattle.std.specs.Prelude.{bytes_eq}
 use Rattle.std.specs.List.{list_all, slice_get}
 use Rattle.std.specs.Str.{IsUtf8, is_utf8}
 use Rattle.std.specs.Ordering.{is_lt, match_ordering, nat_cmp, ordering_reverse}
 use Rattle.std.specs.Cmp.Lexicographic.{slice_cmp}
-use Rattle.std.specs.Map.{keys_of, lookup, values_of}
+use Rattle.std.specs.Map.{keys_of, values_of}
 use Rattle.std.specs.BTreeMap.{insert_entry}
 use Rattle.std.proofs.lemmas.Bool.Decides.{nat_tests}
 use Rattle.std.proofs.lemmas.Cmp.{nat_list_cmp_total}
@@ -13,13 +13,13 @@ use Rattle.std.proofs.lemmas.Str.{IsUtf8-from_is_utf8}
 use Rattle.drda_words.specs.Order.{rises}
 use Rattle.key_map.specs.Slots.{rows_of, with_row}
 use Rattle.row_values.specs.Schema.{Schema, is_name}
-use Rattle.row_values.specs.Row.{is_row, utf8_in}
+use Rattle.row_values.specs.Row.{is_row}
 use Rattle.row_values.specs.Key.{key_cmp, row_key}
 use Rattle.row_values.proofs.ByteSteps.{name_utf8}
 use Rattle.row_values.proofs.ReadSteps.{drop_at}
 use Rattle.row_values.proofs.RowColumns.{row_is}
 use Rattle.row_values.proofs.ValueLaws.{both_true, first_true, second_true}
-use Rattle.tables.specs.Change.{create, put}
+use Rattle.tables.specs.Change.{put}
 use Rattle.tables.specs.Tables.{Store, Table, apply, put_row, table_of, with_table}
 use Rattle.tables.specs.View.{is_entry, is_store, is_table}
 use Rattle.tables.proofs.Changes.{names_apart}

@@ -4,3 +4,4 @@ pub mod NamedTables
 pub mod TreeSteps
 pub mod Reserving
 pub mod Copying
+mod Lent

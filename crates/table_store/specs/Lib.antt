@@ -3,3 +3,4 @@ pub mod TablesByName
 pub mod Steps
 pub mod TableStore
 pub mod Plain
+pub mod Lending

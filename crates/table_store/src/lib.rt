@@ -2,6 +2,7 @@
 //! before a change, so that the change itself can't fail.
 #![tactic(auto)]
 
+mod lending;
 mod plain;
 mod steps;
 mod store;
@@ -10,5 +11,6 @@ mod tables_by_name;
 mod tree;
 mod view;
 
+pub use lending::{TableRef, TablesLeft};
 pub use store::TableStore;
 pub use view::StoreView;

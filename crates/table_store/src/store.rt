@@ -4,6 +4,7 @@ ghost use Rattle.std.specs.Prelude.{◌≡◌, [], IfOk, OnOk, map};
 ghost use Rattle.tables.specs.Applied.{apply_all};
 ghost use Rattle.tables.specs.ChangeView.{change_of};
 
+use crate::lending::TablesLeft;
 use crate::steps::{Step, apply_all, release_all, reserve_all};
 use crate::tables_by_name::TablesByName;
 use crate::view::StoreView;
@@ -45,6 +46,14 @@ impl TableStore {
         ensures { IfOk result (λ view. view ≡ store_in self.now) }
     {
         self.tables.plain(alloc)
+    }
+
+    /// The tables where they lie, one after another in the order of their names. Room that is reserved is
+    /// not told. Takes no memory.
+    pub fn lend(&self) -> TablesLeft<'_>
+        ensures { result ≡ store_in self.now }
+    {
+        self.tables.lend()
     }
 
     /// Makes room for all of these changes, made in their order: the one call here that takes memory

@@ -3,12 +3,14 @@
 ghost use Rattle.std.specs.Prelude.{◌≡◌, ℕ, List, [], IfOk, None, OnOk, Some, bytes_eq, false, option_map, true};
 ghost use Rattle.std.specs.Arc.{arc_value};
 ghost use Rattle.std.specs.Map.{lookup, values_of};
+ghost use Rattle.key_map.specs.Merging.{InOrder};
 ghost use Rattle.key_map.specs.Slots.{HasRoom, rows_of};
+ghost use Rattle.key_map.specs.Walk.{rows_left};
 ghost use Rattle.row_values.specs.Key.{is_key};
 ghost use Rattle.tables.specs.Tables.{put_row, remove_row};
-ghost use Rattle.table_store.specs.Stored.{FormsKey, FormsRow, HasRoomFor, IsFormOf, IsRowAt, created_table, form_in, shown, table_in};
+ghost use Rattle.table_store.specs.Stored.{FormsKey, FormsRow, HasRoomFor, HaveForms, IsFormOf, IsRowAt, created_table, form_in, shown, table_in};
 
-use key_map::{OrderedRows, sort_form};
+use key_map::{OrderedRows, Rows as RowsLeft, sort_form};
 use row_values::{RowRef, Schema, is_key};
 use std::alloc::{AllocError, Global};
 use std::marker::Model;
@@ -59,6 +61,22 @@ impl StoredTable {
         ensures { IfOk result (λ schema. arc_value schema ≡ self.now.schema) }
     {
         Arc::try_clone(&self.schema)
+    }
+
+    /// The schema.
+    pub fn schema_ref(&self) -> &Schema
+        ensures { result.now ≡ self.now.schema }
+    {
+        &self.schema
+    }
+
+    /// The rows where they lie, in the order of the sort forms of their keys, each at that form.
+    pub fn rows(&self) -> RowsLeft<'_>
+        ensures all { rows_left result ≡ rows_of self.now.slots }
+        ensures rising { InOrder (rows_of self.now.slots) }
+        ensures forms { HaveForms self.now.schema (rows_of self.now.slots) }
+    {
+        self.rows.rows()
     }
 
     /// The row of this key.

@@ -9,6 +9,7 @@ ghost use Rattle.tables.specs.View.{is_store};
 ghost use Rattle.table_store.specs.Stored.{form_in, table_in};
 ghost use Rattle.table_store.specs.TablesByName.{Grows, IsReady, IsInOrder, schema_after, schema_at, store_of, tables_in};
 
+use crate::lending::TablesLeft;
 use crate::plain::copied_tables;
 use crate::stored_table::StoredTable;
 use crate::tree::{create, find, form_of, hold_ready, keep_created, put, release, remove, reserve};
@@ -57,6 +58,15 @@ impl TablesByName {
         ensures good { is_store (store_of self.now) ≡ true }
     {
         count_in(&self.tables)
+    }
+
+    /// The tables that are created, where they lie.
+    pub fn lend(&self) -> TablesLeft<'_>
+        ensures { result ≡ store_of self.now }
+    {
+        TablesLeft {
+            entries: self.tables.iter(),
+        }
     }
 
     /// A copy of the tables that are created.

@@ -6,4 +6,6 @@ mod compared;
 #[cfg(test)]
 mod fixtures;
 #[cfg(test)]
+mod lending;
+#[cfg(test)]
 mod rows;

@@ -1,5 +1,5 @@
 -- Where none is left, all tables are copied.
-use Rattle.std.proofs.Common.{◌≡◌, ℕ, List, sym, ap, ◌∙◌}
+use Rattle.std.proofs.Common.{ℕ, List, sym, ap, ◌∙◌}
 use Rattle.std.specs.Global.{Vec}
 use Rattle.table_store.specs.Stored.{Stored}
 use Rattle.table_store.specs.TablesByName.{store_of, tables_in}

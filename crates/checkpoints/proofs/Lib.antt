@@ -1,0 +1,5 @@
+mod Placing
+mod Listing
+mod Moving
+mod Holding
+mod Ending

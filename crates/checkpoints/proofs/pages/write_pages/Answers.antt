@@ -1,0 +1,49 @@
+use Rattle.std.proofs.Common.{◌≡◌, ◌+◌, ◌∙◌, List, map, sym, ap, subst, arith}
+use Rattle.std.specs.List.{AllByRecursion}
+use Rattle.half_store.specs.Writing.{from_of, next_of}
+use Rattle.checkpoint_writer.specs.Catalogue.{place_of}
+use Rattle.checkpoint_writer.specs.declared.entry.TablePlace.{TablePlace}
+use Rattle.checkpoint_writer.proofs.Adding.{and_more, no_page, same_from}
+use Rattle.store_check.specs.Checkpoint.{HasCheckpoint, forms}
+use Rattle.store_check.specs.Written.{IsWritten}
+use Rattle.checkpoints.specs.Laying.{laid_from, pages_with}
+use Rattle.checkpoints.proofs.Listing.{checkpoint, names_there}
+use Rattle.checkpoints.proofs.Moving.{all_stay}
+use Rattle.checkpoints.proofs.pages.write_pages.Goals as goal
+
+pub returns-in_err-cache-clause-adds : goal.returns-in_err-cache-clause-adds
+returns-in_err-cache-clause-adds g c = no_page g.D.Disk.is_modelled (g.D.Disk.life c.args.disk.now) c.args.image.now
+
+pub write_catalogue-requires-clause-names : goal.write_catalogue-requires-clause-names
+write_catalogue-requires-clause-names g c =
+    names_there (map place_of c.deref.result.now) (g.T.LentTables.left c.args.tables.now) (ap (λ (l : List TablePlace). map place_of l) c.deref.ensures.value ∙ c.in_ok-places.ensures.places) c.requires.store
+
+pub returns-in_err-write_catalogue-clause-adds : goal.returns-in_err-write_catalogue-clause-adds
+returns-in_err-write_catalogue-clause-adds g c =
+    let life = g.D.Disk.life in
+    and_more g.D.Disk.is_modelled (life c.args.disk.now) (life c.write_tables.new.disk) (life c.write_catalogue.new.disk) c.args.image.now c.write_tables.new.image c.write_catalogue.new.image c.write_tables.ensures.adds c.write_catalogue.ensures.adds
+
+pub returns-clause-adds : goal.returns-clause-adds
+returns-clause-adds g c =
+    let life = g.D.Disk.life in
+    and_more g.D.Disk.is_modelled (life c.args.disk.now) (life c.write_tables.new.disk) (life c.write_catalogue.new.disk) c.args.image.now c.write_tables.new.image c.write_catalogue.new.image c.write_tables.ensures.adds c.write_catalogue.ensures.adds
+
+pub returns-clause-checkpoint : goal.returns-clause-checkpoint
+returns-clause-checkpoint g c honest =
+    let mid = (g.D.Disk.life c.write_tables.new.disk).seen in
+    let new = (g.D.Disk.life c.write_catalogue.new.disk).seen in
+    let begun = c.args.image.now in
+    let w = c.write_tables.new.image in
+    let after = c.write_catalogue.new.image in
+    let tables = g.T.LentTables.left c.args.tables.now in
+    let first = c.write_tables.ensures.adds in
+    let second = c.write_catalogue.ensures.adds in
+    let here : from_of w ≡ from_of begun = same_from begun w first.half first.half_bytes in
+    let there : from_of after ≡ from_of w = same_from w after second.half second.half_bytes in
+    let count = c.in_ok-places.ensures.pages in
+    let written = all_stay mid new (next_of w) _ (from_of begun + 8192) 0 tables second.others (omega (arith, here, count)) (c.in_ok-places.ensures.written honest) in
+    subst (λ n. HasCheckpoint new (pages_with after n) tables) (sym c.pages-first.ensures)
+    (checkpoint c.one_laying.ensures.laid c.written_half_is_whole.ensures mid new w after (map place_of c.deref.result.now) tables c.requires.store there
+    (ap (λ (l : List TablePlace). map place_of l) c.deref.ensures.value ∙ c.in_ok-places.ensures.places) count c.in_ok-write_catalogue.ensures.pages
+    c.in_ok-write_catalogue.ensures.short (c.in_ok-write_catalogue.ensures.stand honest)
+    (subst (λ n. AllByRecursion (IsWritten forms new (n + 8192)) (laid_from (n + 8192) 0 tables)) (sym (there ∙ here)) written))

@@ -1,0 +1,5 @@
+pub mod Lent
+pub mod Room
+pub mod Laying
+pub mod Holds
+pub mod Moment

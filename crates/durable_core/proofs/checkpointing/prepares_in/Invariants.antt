@@ -1,0 +1,16 @@
+-- The records so far, and those of the XIDs that are left, are the prepares of all units in doubt.
+use Rattle.std.proofs.Common.{◌≡◌, ◌++◌, ℕ, List, length, map}
+use Rattle.core_model.specs.Units.{global, unit_of}
+use Rattle.unit_journal.specs.Record.{entries_of}
+use Rattle.unit_records.specs.Records.{entry_of, prepared}
+use Rattle.rdb_core.specs.InDoubt.{xids_left}
+use Rattle.rdb_core.specs.State.{state_of}
+use Rattle.xa_manager.specs.Branch.{in_doubt_xids}
+use Rattle.durable_core.proofs.Prepares.{prepares_by}
+use Rattle.durable_core.proofs.checkpointing.prepares_in.Given as goal
+
+abbrev pub invariant-loop-xid : goal.invariant-loop-xid
+invariant-loop-xid g l = entries_of l.records.items ++ prepares_by (state_of l.core) (xids_left l.xids) ≡ prepares_by (state_of l.core) (in_doubt_xids (state_of l.core).branches)
+
+abbrev pub decreases-loop-xid : goal.decreases-loop-xid
+decreases-loop-xid g l = length (xids_left l.xids)

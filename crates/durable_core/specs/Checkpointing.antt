@@ -1,0 +1,66 @@
+-- What a checkpoint makes of a core: nothing but its disk and the room of its journal changes.
+use Rattle.std.specs.Prelude.{◌≡◌, ◌<◌, ◌≤◌, ℕ, ◌+◌, true, false, length, map}
+use Rattle.half_store.specs.Layout.{half_len}
+use Rattle.unit_records.specs.Records.{entry_of}
+use Rattle.checkpoints.specs.Room.{need_of}
+use Rattle.recovery.specs.Laws.{held_for}
+use Rattle.recovery.specs.Laying.{prepares_of}
+use Rattle.recovery_laws.specs.Journaled.{IsUnchanged, Shown}
+use Rattle.recovery_laws.specs.Part.{durable_part}
+use Rattle.durable_core.specs.declared.checkpointing.Checkpointed.{Checkpointed}
+use Rattle.durable_core.specs.declared.checkpointing.Checkpointed.TheVariants.{Closed, DeviceFailed, Done, Full, NoMemory}
+
+-- its name, its state and its records stay
+pub record IsSameCore (old new : Shown) : Type 0 where
+  pub name : new.name ≡ old.name
+  pub state : new.state ≡ old.state
+  pub made : new.made ≡ old.made
+
+-- the bytes of a half that the checkpoint of a core takes
+abbrev pub need_for : Shown → ℕ
+need_for s = need_of s.state.base.store (map entry_of (prepares_of (durable_part s.state).doubts)) (held_for (durable_part s.state).doubts)
+
+abbrev pub half_bytes_for : Shown → ℕ
+half_bytes_for s = half_len (length s.disk.seen)
+
+-- it is there, and it fits into a half
+pub record IsLaid (old new : Shown) : Type 0 where
+  pub going : old.is_failed ≡ false
+  pub still : new.is_failed ≡ false
+  pub fits : need_for old ≤ half_bytes_for old
+  pub faults : new.disk.faults ≡ old.disk.faults
+
+-- it is not, and the core goes on as before
+pub record GoesOn (old new : Shown) : Type 0 where
+  pub going : old.is_failed ≡ false
+  pub still : new.is_failed ≡ false
+  pub room : new.room ≡ old.room
+  pub faults : new.disk.faults ≡ old.disk.faults
+
+-- a half is too short for it; what is told to be lacking is no more than what lacks
+pub record LacksRoom (old : Shown) (need room : ℕ) : Type 0 where
+  pub less : room < need
+  pub lacking : need + half_bytes_for old ≤ need_for old + room
+
+-- the device failed; which half is the active one then shows when the store is opened again
+pub record FailsHere (old new : Shown) : Type 0 where
+  pub going : old.is_failed ≡ false
+  pub failed : new.is_failed ≡ true
+  pub room : new.room ≡ old.room
+  pub faults : new.disk.faults ≡ old.disk.faults + 1
+
+-- it had failed before
+pub record WasClosed (old new : Shown) : Type 0 where
+  pub failed : old.is_failed ≡ true
+  pub same : IsUnchanged old new
+
+abbrev pub Becomes : Checkpointed → Shown → Shown → Type 0
+Becomes Done old new = IsLaid old new
+Becomes (Full need room) old new = GoesOn old new × LacksRoom old need room
+Becomes NoMemory old new = GoesOn old new
+Becomes DeviceFailed old new = FailsHere old new
+Becomes Closed old new = WasClosed old new
+
+pub record Checkpoints (told : Checkpointed) (old new : Shown) : Type 0 where
+  pub same : IsSameCore old new
+  pub becomes : Becomes told old new

@@ -1,0 +1,127 @@
+-- What was written over the half that is not active, and that it was read before changes nothing.
+use Rattle.std.proofs.Common.{◌≡◌, inl, ℕ, ◌+◌, ◌*◌, ◌≤◌, Bool, true, false, IsTrue, List, length, take, drop, Result, Ok, Err, refl, sym, ◌∙◌, ap, subst}
+use Rattle.drda_disk.specs.Disk.{LeavesOnly, Life, Now, Stays}
+use Rattle.drda_disk.specs.Region.{end_of}
+use Rattle.drda_disk.proofs.Moments.{Only-stays, stays_and}
+use Rattle.half_store.specs.Active.{Store, active_of}
+use Rattle.half_store.specs.Layout.{half_len, offset_of, other_than}
+use Rattle.half_store.specs.Opened.{store_of}
+use Rattle.half_store.specs.declared.active.Active.{Active}
+use Rattle.tables.specs.Tables.{Store as Tables}
+use Rattle.unit_journal.specs.Journal.{held_of, region_of}
+use Rattle.unit_journal.specs.declared.journal.Journal.{Journal}
+use Rattle.unit_journal.specs.Record.{Entry}
+use Rattle.checkpoint_writer.specs.declared.ending.Switched.{Switched}
+use Rattle.checkpoints.specs.Holds.{half_end, journal_at}
+use Rattle.checkpoints.specs.Room.{need_of}
+use Rattle.checkpoints.specs.Moment.{GoesOn, IsAnew, Moment, Rests}
+use Rattle.journal_recorder.specs.Checkpointing.{Checkpoints, IsSwitched, KeepsOld, LacksRoom, LeavesOldOrNew, LeavesOpen, OfStore, StaysOn, Switches}
+use Rattle.journal_recorder.specs.Recording.{disk_of, has_failed, journal_of, made_of}
+use Rattle.journal_recorder.specs.declared.checkpointing.CheckpointError.{CheckpointError}
+use Rattle.journal_recorder.specs.declared.checkpointing.CheckpointError.TheVariants.{DeviceFailed, Full, NoMemory}
+use Rattle.journal_recorder.specs.declared.recorder.DiskRecorder.{DiskRecorder}
+
+-- the journal of the half that was written lies where its header says
+pub to_switched : (modelled : Bool) (disk : Life) (base : List ℕ) (store : Store) (tables : Tables) (es : List Entry) (held : ℕ) (s : Switched) → IsAnew modelled disk base store tables es held s → IsSwitched modelled disk base store tables es held s.journal
+to_switched modelled disk base store tables es held s a = record {
+  is = a.is;
+  settled = a.settled;
+  begins = a.begins ∙ a.behind.begins ∙ ap (λ (n : ℕ). journal_at n (store_of s.active)) (sym a.is.size) ∙ ap (λ (x : Store). journal_at (length disk.seen) x) (sym a.same);
+  ends = a.ends ∙ a.behind.ends ∙ ap (λ (n : ℕ). half_end n (store_of s.active)) (sym a.is.size) ∙ ap (λ (x : Store). half_end (length disk.seen) x) (sym a.same);
+}
+
+module _ {D : Type 0} (modelled : Bool) (life : D → Life) (old : DiskRecorder D) where
+  -- the active half that was read is the store's
+  pub one : (active : Active) (store : Store) → (IsTrue modelled → active_of (life (disk_of old)).seen ≡ Ok (store_of active)) → Rests modelled (life (disk_of old)) store → store_of active ≡ store
+  one active store is rests = let same : Ok (store_of active) ≡ Ok store = sym (is rests.modelled_disk) ∙ rests.active in cc
+
+  -- what is said of the half that was read is said of the store
+  pub of_store : (active : Active) → (IsTrue modelled → active_of (life (disk_of old)).seen ≡ Ok (store_of active)) → (P : Store → Type 0) → (Rests modelled (life (disk_of old)) (store_of active) → P (store_of active)) → OfStore modelled life old P
+  of_store active is P said store rests =
+      let same = one active store is rests in
+      subst P same (said (subst (λ (s : Store). Rests modelled (life (disk_of old)) s) (sym same) rests))
+
+-- ---- a read before
+
+module _ {D : Type 0} (modelled : Bool) (life : D → Life) (old mid : DiskRecorder D) (stays : Stays (life (disk_of old)) (life (disk_of mid))) (faults : (life (disk_of mid)).faults ≡ (life (disk_of old)).faults)
+    (journal : journal_of mid ≡ journal_of old) (made : made_of mid ≡ made_of old) (tables : Tables) (es : List Entry) (new : DiskRecorder D) where
+  seen : (life (disk_of mid)).seen ≡ (life (disk_of old)).seen
+  seen = stays.same
+
+  held : held_of (journal_of mid) ≡ held_of (journal_of old)
+  held = ap (λ (j : Journal). held_of j) journal
+
+  rests : (store : Store) → Rests modelled (life (disk_of old)) store → Rests modelled (life (disk_of mid)) store
+  rests store r = record {
+    modelled_disk = r.modelled_disk;
+    durable = Only-stays (life (disk_of old)) (life (disk_of mid)) stays r.durable;
+    active = ap active_of seen ∙ r.active;
+  }
+
+  abbrev from : Store → ℕ
+  from store = offset_of (half_len (length (life (disk_of old)).seen)) (other_than store.half)
+
+  here : (store : Store) → Rests modelled (life (disk_of old)) store → (c : List ℕ) → Now (life (disk_of old)) c → Moment (life (disk_of old)).seen store tables es (held_of (journal_of old)) c
+  here store r c now = inl (record {
+    active = ap active_of (r.durable c now) ∙ r.active;
+    others = record {
+      size = ap (λ (l : List ℕ). length l) (r.durable c now);
+      before = ap (λ (l : List ℕ). take (from store) l) (r.durable c now);
+      after = ap (λ (l : List ℕ). drop (from store + half_len (length (life (disk_of old)).seen)) l) (r.durable c now);
+    };
+  })
+
+  leaves : LeavesOldOrNew modelled life mid tables es new → LeavesOldOrNew modelled life old tables es new
+  leaves all store r =
+      let P : List ℕ → ℕ → List ℕ → Type 0 = λ base n. Moment base store tables es n in
+      let there : LeavesOnly (life (disk_of mid)) (life (disk_of new)) (P (life (disk_of old)).seen (held_of (journal_of old))) =
+      subst (λ (n : ℕ). LeavesOnly (life (disk_of mid)) (life (disk_of new)) (P (life (disk_of old)).seen n)) held
+      (subst (λ (base : List ℕ). LeavesOnly (life (disk_of mid)) (life (disk_of new)) (P base (held_of (journal_of mid)))) seen (all store (rests store r))) in
+      stays_and (life (disk_of old)) (life (disk_of mid)) (life (disk_of new)) _ stays there (here store r)
+
+  same_stays : StaysOn modelled life mid new → StaysOn modelled life old new
+  same_stays s = record {
+    size = s.size ∙ ap (λ (l : List ℕ). length l) seen;
+    held = s.held ∙ held;
+    made = s.made ∙ made;
+  }
+
+  keeps : KeepsOld modelled life mid tables es new → KeepsOld modelled life old tables es new
+  keeps k = record {
+    stays = same_stays k.stays;
+    moments = leaves k.moments;
+    goes_on = λ store r. subst (λ (base : List ℕ). GoesOn (life (disk_of new)) base store) seen (k.goes_on store (rests store r));
+    journal = k.journal ∙ journal;
+    faults = k.faults ∙ faults;
+    going = k.going;
+  }
+
+  pub after_reading : (result : Result (Unit {0}) CheckpointError) → Checkpoints modelled life mid tables es result new → Checkpoints modelled life old tables es result new
+  after_reading (Ok x) w = record {
+    stays = same_stays w.stays;
+    moments = leaves w.moments;
+    switched = λ store r.
+        subst (λ (n : ℕ). IsSwitched modelled (life (disk_of new)) (life (disk_of old)).seen store tables es n (journal_of new)) held
+        (subst (λ (base : List ℕ). IsSwitched modelled (life (disk_of new)) base store tables es (held_of (journal_of mid)) (journal_of new)) seen (w.switched store (rests store r)));
+    inside = w.inside;
+    fits = subst (λ (n : ℕ). need_of tables es n ≤ half_len (length (life (disk_of old)).seen)) held
+        (subst (λ (base : List ℕ). need_of tables es (held_of (journal_of mid)) ≤ half_len (length base)) seen w.fits);
+    faults = w.faults ∙ faults;
+    going = w.going;
+  }
+  after_reading (Err NoMemory) k = keeps k
+  after_reading (Err (Full need room)) k = (
+    keeps k.0,
+    record {
+      less = k.1.less;
+      lacking = subst (λ (n : ℕ). need + half_len (length (life (disk_of old)).seen) ≤ need_of tables es n + room) held
+          (subst (λ (base : List ℕ). need + half_len (length base) ≤ need_of tables es (held_of (journal_of mid)) + room) seen k.1.lacking);
+    },
+  )
+  after_reading (Err DeviceFailed) l = record {
+    stays = same_stays l.stays;
+    moments = leaves l.moments;
+    journal = l.journal ∙ journal;
+    faults = l.faults ∙ ap (λ (n : ℕ). n + 1) faults;
+    failed = l.failed;
+  }

@@ -1,0 +1,79 @@
+-- What becomes of a disk and its journal where a checkpoint is written.
+use Rattle.std.specs.Prelude.{◌≡◌, ◌<◌, ◌≤◌, ℕ, ◌+◌, Bool, true, false, List, length, Result, Ok, Err}
+use Rattle.drda_disk.specs.Disk.{LeavesOnly, Life}
+use Rattle.drda_disk.specs.Region.{end_of}
+use Rattle.half_store.specs.Active.{Store}
+use Rattle.half_store.specs.Layout.{half_len}
+use Rattle.tables.specs.Tables.{Store as Tables}
+use Rattle.unit_journal.specs.Journal.{IsSettled, held_of, region_of}
+use Rattle.unit_journal.specs.declared.journal.Journal.{Journal}
+use Rattle.unit_journal.specs.Record.{Entry}
+use Rattle.checkpoints.specs.Holds.{half_end, journal_at}
+use Rattle.checkpoints.specs.Moment.{GoesOn, IsNew, Moment, Rests}
+use Rattle.checkpoints.specs.Room.{need_of}
+use Rattle.journal_recorder.specs.Recording.{disk_of, has_failed, journal_of, made_of}
+use Rattle.journal_recorder.specs.declared.checkpointing.CheckpointError.{CheckpointError}
+use Rattle.journal_recorder.specs.declared.checkpointing.CheckpointError.TheVariants.{DeviceFailed, Full, NoMemory}
+use Rattle.journal_recorder.specs.declared.recorder.DiskRecorder.{DiskRecorder}
+
+-- The other half is the active one, to stay, with these tables and these records, and the journal goes on behind them.
+pub record IsSwitched (modelled : Bool) (disk : Life) (base : List ℕ) (store : Store) (tables : Tables) (es : List Entry) (held : ℕ) (journal : Journal) : Type 0 where
+  pub is : IsNew base store tables es held disk.seen
+  pub settled : IsSettled modelled disk journal es
+  pub begins : (region_of journal).at ≡ journal_at (length disk.seen) is.new
+  pub ends : end_of (region_of journal) ≡ half_end (length disk.seen) is.new
+
+module _ {D : Type 0} (modelled : Bool) (life : D → Life) where
+  abbrev pub disk_life : DiskRecorder D → Life
+  disk_life r = life (disk_of r)
+
+  -- what is said of a store with this active half, which a crash leaves as it is read
+  abbrev pub OfStore : DiskRecorder D → (Store → Type 0) → Type 0
+  OfStore r P = (store : Store) → Rests modelled (disk_life r) store → P store
+
+  -- a crash at any moment leaves the old half, or the new one
+  abbrev pub LeavesOldOrNew : DiskRecorder D → Tables → List Entry → DiskRecorder D → Type 0
+  LeavesOldOrNew old tables es new = OfStore old (λ store. LeavesOnly (disk_life old) (disk_life new) (Moment (disk_life old).seen store tables es (held_of (journal_of old))))
+
+  -- the records that were made stay, and so does the size of the disk
+  pub record StaysOn (old new : DiskRecorder D) : Type 0 where
+    pub size : length (disk_life new).seen ≡ length (disk_life old).seen
+    pub held : held_of (journal_of new) ≡ held_of (journal_of old)
+    pub made : made_of new ≡ made_of old
+
+  pub record Switches (old : DiskRecorder D) (tables : Tables) (es : List Entry) (new : DiskRecorder D) : Type 0 where
+    pub stays : StaysOn old new
+    pub moments : LeavesOldOrNew old tables es new
+    pub switched : OfStore old (λ store. IsSwitched modelled (disk_life new) (disk_life old).seen store tables es (held_of (journal_of old)) (journal_of new))
+    pub inside : end_of (region_of (journal_of new)) ≤ length (disk_life new).seen
+    pub fits : need_of tables es (held_of (journal_of old)) ≤ half_len (length (disk_life old).seen)
+    pub faults : (disk_life new).faults ≡ (disk_life old).faults
+    pub going : has_failed new ≡ false
+
+  -- nothing is switched, and the old half goes on
+  pub record KeepsOld (old : DiskRecorder D) (tables : Tables) (es : List Entry) (new : DiskRecorder D) : Type 0 where
+    pub stays : StaysOn old new
+    pub moments : LeavesOldOrNew old tables es new
+    pub goes_on : OfStore old (λ store. GoesOn (disk_life new) (disk_life old).seen store)
+    pub journal : journal_of new ≡ journal_of old
+    pub faults : (disk_life new).faults ≡ (disk_life old).faults
+    pub going : has_failed new ≡ false
+
+  -- the device failed: either half may be the active one when the store is opened again
+  pub record LeavesOpen (old : DiskRecorder D) (tables : Tables) (es : List Entry) (new : DiskRecorder D) : Type 0 where
+    pub stays : StaysOn old new
+    pub moments : LeavesOldOrNew old tables es new
+    pub journal : journal_of new ≡ journal_of old
+    pub faults : (disk_life new).faults ≡ (disk_life old).faults + 1
+    pub failed : has_failed new ≡ true
+
+  -- There is no room only where the half is too short for the header, the pages, the records, the bytes held and a gate.
+  pub record LacksRoom (old : DiskRecorder D) (tables : Tables) (es : List Entry) (need room : ℕ) : Type 0 where
+    pub less : room < need
+    pub lacking : need + half_len (length (disk_life old).seen) ≤ need_of tables es (held_of (journal_of old)) + room
+
+  abbrev pub Checkpoints : {T : Type 0} → DiskRecorder D → Tables → List Entry → Result T CheckpointError → DiskRecorder D → Type 0
+  Checkpoints old tables es (Ok x) new = Switches old tables es new
+  Checkpoints old tables es (Err NoMemory) new = KeepsOld old tables es new
+  Checkpoints old tables es (Err (Full need room)) new = KeepsOld old tables es new × LacksRoom old tables es need room
+  Checkpoints old tables es (Err DeviceFailed) new = LeavesOpen old tables es new

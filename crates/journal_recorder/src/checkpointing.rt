@@ -1,0 +1,146 @@
+//! Writing checkpoints.
+
+ghost use Rattle.std.specs.Prelude.{◌≡◌, ◌≢◌, ◌≤◌, IfErr, IfOk, IsTrue, Ok, false, length, map};
+ghost use Rattle.drda_disk.specs.Region.{end_of};
+ghost use Rattle.half_store.specs.Active.{active_of};
+ghost use Rattle.half_store.specs.Layout.{is_store_size};
+ghost use Rattle.half_store.specs.Opened.{store_of};
+ghost use Rattle.table_store.specs.TableStore.{store_in};
+ghost use Rattle.tables.specs.ChangeView.{change_of};
+ghost use Rattle.unit_journal.specs.Journal.{region_of};
+ghost use Rattle.unit_journal.specs.Record.{entries_of, entry_of};
+ghost use Rattle.unit_records.specs.Records.{IsGood, entry_of as written, prepared};
+ghost use Rattle.journal_recorder.specs.declared.checkpointing.CheckpointError.TheVariants.{DeviceFailed};
+ghost use Rattle.journal_recorder.specs.Recording.{disk_of, has_failed, journal_of};
+
+use crate::laying::lay_prepare;
+use crate::recorder::DiskRecorder;
+use checkpoint_writer::ImageError;
+use checkpoints::write_checkpoint;
+use drda_disk::Disk;
+use half_store::{Active, OpenError};
+use std::alloc::{AllocError, Global};
+use table_store::TableStore;
+use tables::Change;
+use thiserror::Error;
+use unit_journal::Record;
+use unit_locks::Claim;
+use unit_records::RecordError;
+use xa_calls::Xid;
+
+/// Why no checkpoint was written.
+#[derive(Clone, Copy, Debug, PartialEq, Eq, Error)]
+pub enum CheckpointError {
+    /// Memory was refused, or there is no generation left.
+    #[error("no memory")]
+    NoMemory,
+    /// The half that was to be written is too short: it has `room` bytes, or what is left of them, and
+    /// needs `need`.
+    #[error("{need} bytes are needed, and there are {room}")]
+    Full { need: usize, room: usize },
+    #[error("the device failed")]
+    DeviceFailed,
+}
+
+/// The longest body of a record is below 2^32 bytes.
+const LONGEST_RECORD_BYTES: usize = 4_294_967_295;
+
+/// The record that prepares a unit with these changes and claims, to be laid behind a checkpoint. `Full`
+/// only where it has 2^32 bytes or more with what its decision holds back, so that no half has room for it.
+pub fn prepare_record(
+    alloc: Global,
+    xid: &Xid,
+    changes: &[Change],
+    claims: &[Claim],
+) -> Result<Record, CheckpointError>
+    ensures record { IfOk result (λ r. entry_of r ≡ written (prepared xid.now (map change_of changes.now) claims.now)) }
+    ensures good { IfOk result (λ r. IsGood (prepared xid.now (map change_of changes.now) claims.now)) }
+    ensures other { IfErr result (λ error. error ≢ DeviceFailed) }
+{
+    let laid = match lay_prepare(alloc, xid, changes, claims, LONGEST_RECORD_BYTES) {
+        Ok(laid) => laid,
+        Err(RecordError::NoMemory) => return Err(CheckpointError::NoMemory),
+        Err(RecordError::Full { need, room }) => {
+            return Err(CheckpointError::Full {
+                need: need as usize,
+                room: room as usize,
+            });
+        }
+        Err(RecordError::DeviceFailed) => unreachable!(),
+    };
+    match Vec::from_slice(alloc, laid.body()) {
+        Ok(body) => Ok(Record {
+            at: 0,
+            kind: laid.kind(),
+            body,
+        }),
+        Err(AllocError) => Err(CheckpointError::NoMemory),
+    }
+}
+
+impl<D: Disk> DiskRecorder<D> {
+    ghost use Rattle.journal_recorder.specs.Checkpointing.{Checkpoints};
+
+    /// Writes a checkpoint: these tables into the half of the store that is not active, and behind them
+    /// these records and no others; then that half is the active one, and what is recorded next stands
+    /// behind them. As many bytes as before are held back.
+    ///
+    /// A crash at any moment leaves the old half or the new one (`Moment`). `Full` comes only where the
+    /// half is too short for all of it. After it and after `NoMemory` the old half goes on. On
+    /// `DeviceFailed` either of the two may count when the store is opened again, and nothing is recorded
+    /// any more. `NoMemory` comes too where the head of the disk doesn't read as a store's, which it does
+    /// of a disk that gives back what was written.
+    pub fn checkpoint(
+        &mut self,
+        tables: &TableStore,
+        records: &[Record],
+    ) -> Result<(), CheckpointError>
+        requires going { has_failed self.old ≡ false }
+        requires inside { end_of (region_of (journal_of self.old)) ≤ length (D.life (disk_of self.old)).seen }
+        ensures { Checkpoints D.is_modelled D.life self.old (store_in tables.now) (entries_of records.now) result self.new }
+    {
+        let active = match half_store::open(self.alloc, &mut self.disk) {
+            Ok(active) => active,
+            Err(OpenError::DeviceFailed) => {
+                self.is_failed = true;
+                return Err(CheckpointError::DeviceFailed);
+            }
+            Err(OpenError::NotAStore) => return Err(CheckpointError::NoMemory),
+            Err(OpenError::Damaged { .. }) => return Err(CheckpointError::NoMemory),
+            Err(OpenError::NoMemory) => return Err(CheckpointError::NoMemory),
+        };
+        self.write_over(&active, tables, records)
+    }
+
+    // The same, where this is the active half.
+    fn write_over(
+        &mut self,
+        active: &Active,
+        tables: &TableStore,
+        records: &[Record],
+    ) -> Result<(), CheckpointError>
+        requires going { has_failed self.old ≡ false }
+        requires size { IsTrue (is_store_size (length (D.life (disk_of self.old)).seen)) }
+        requires active { IsTrue D.is_modelled → active_of (D.life (disk_of self.old)).seen ≡ Ok (store_of active.now) }
+        ensures { Checkpoints D.is_modelled D.life self.old (store_in tables.now) (entries_of records.now) result self.new }
+    {
+        let held = self.journal.held();
+        let mut left = tables.lend();
+        match write_checkpoint(self.alloc, &mut self.disk, active, &mut left, records, held) {
+            Ok(switched) => {
+                self.journal = switched.journal;
+                Ok(())
+            }
+            Err(ImageError::NoMemory) => Err(CheckpointError::NoMemory),
+            Err(ImageError::Full(full)) => Err(CheckpointError::Full {
+                need: full.need,
+                room: full.room,
+            }),
+            Err(ImageError::DeviceFailed) => {
+                self.is_failed = true;
+                Err(CheckpointError::DeviceFailed)
+            }
+            Err(ImageError::Damaged) => unreachable!(),
+        }
+    }
+}

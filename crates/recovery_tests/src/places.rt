@@ -1,0 +1,58 @@
+//! Whether the changes of units in doubt have their places.
+
+use crate::journals::{
+    ANOTHER, CLAIMED, CREATED, NOTHING, PREPARED, Records, UNCLAIMED, checkpoint, records,
+};
+use recovery::find_places;
+use row_values::ReadError;
+use std::alloc::Global;
+use unit_journal::Kind;
+
+// U is created.
+const OTHER_TABLE: (Kind, &'static [u8]) = (
+    Kind::Commit,
+    &[0, 0, 0, 1, 1, 1, b'U', 1, 1, b'A', 2, 0, 0, 0, 1, 0],
+);
+
+const SHORT: (Kind, &'static [u8]) = (Kind::Prepare, &[0, 0, 0, 7, 0, 0, 0, 1]);
+
+// Records whose tables are a checkpoint, prepares, and whether each has its places there.
+const CASES: [(Records, Records, bool); 10] = [
+    (&[], &[], true),
+    (&[CREATED], &[PREPARED], true),
+    (&[CREATED], &[ANOTHER, PREPARED], true),
+    (&[CREATED], &[CLAIMED, PREPARED], true),
+    (&[CREATED], &[CLAIMED, UNCLAIMED], true),
+    (&[CREATED, OTHER_TABLE], &[PREPARED], true),
+    (&[CREATED, OTHER_TABLE], &[CLAIMED], false),
+    (&[CREATED, OTHER_TABLE], &[PREPARED, CLAIMED], false),
+    (&[NOTHING], &[ANOTHER, PREPARED], false),
+    (&[CREATED], &[PREPARED, SHORT], false),
+];
+
+// None without memory.
+fn have_places(
+    alloc: Global,
+    before: &[(Kind, &'static [u8])],
+    said: &[(Kind, &'static [u8])],
+) -> Option<bool> {
+    let prepares = records(alloc, said)?;
+    let mut store = checkpoint(alloc, before)?;
+    match find_places(alloc, &mut store, prepares.as_slice()) {
+        Ok(()) => Some(true),
+        Err(ReadError::Damaged) => Some(false),
+        Err(ReadError::NoMemory) => None,
+    }
+}
+
+#[test]
+fn prepares_have_places_or_are_damaged(rt: HostRuntime) {
+    let mut number: usize = 0;
+    for (before, said, want) in &CASES {
+        assert!(rt;
+            have_places(rt.alloc(), before, said) == Some(*want),
+            "{number}"
+        );
+        number = number.saturating_add(1);
+    }
+}
