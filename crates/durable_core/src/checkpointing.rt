@@ -1,6 +1,6 @@
 //! Checkpoints.
 
-ghost use Rattle.std.specs.Prelude.{◌≡◌, IfOk, map};
+ghost use Rattle.std.specs.Prelude.{◌≡◌, IfOk, false, map, true};
 ghost use Rattle.unit_journal.specs.Record.{entries_of};
 ghost use Rattle.unit_records.specs.Records.{entry_of as written};
 ghost use Rattle.recovery.specs.Laying.{prepares_of};
@@ -36,7 +36,19 @@ pub enum Checkpointed {
     Closed,
 }
 
+/// A checkpoint is due where less than one part in so many of the journal is left for records.
+const PARTS_LEFT: usize = 4;
+
 impl<D: Disk> DurableCore<D> {
+    /// Whether a checkpoint is worth its writes: less than a quarter of the journal is left for records,
+    /// and the device has not failed. Makes no device call.
+    pub fn is_checkpoint_due(&self) -> bool
+        ensures { self.now.is_failed ≡ true → result ≡ false }
+    {
+        let recorder = self.core.recorder();
+        !recorder.is_failed() && recorder.room() < recorder.region().length / PARTS_LEFT
+    }
+
     /// Writes a checkpoint: the committed tables go into the half of the store that is not active, and
     /// behind them the prepares of the units in doubt; then that half is the active one, and its journal
     /// has the room that they leave. What a core is does not change by it: at each moment, inside a device
