@@ -10,18 +10,18 @@ use Rattle.command_kit.specs.Doing.{Doing, asking, finished}
 use Rattle.command_kit.specs.Done.{WasDone}
 use Rattle.session_commands.specs.Settings.{Settings}
 use Rattle.conversation.specs.Standing.{Standing}
-use Rattle.conversation.specs.Done.{Does, DoesAll, Exchanges, IsExcused as IsShort}
+use Rattle.conversation.specs.Done.{DoesAll, Exchanges, IsExcused as IsShort}
 use Rattle.conversation.specs.Steps.{Converses, Ends}
 use Rattle.core_calls.specs.Call.{Call}
 use Rattle.core_calls.specs.Call as call
-use Rattle.core_calls.specs.Answer.{Answer, closed}
+use Rattle.core_calls.specs.Answer.{Answer}
 use Rattle.core_model.specs.Step.{CoreState, Kept, Mark, Taken, answer, replay, step_by, step_state}
 use Rattle.durable_core.specs.declared.checkpointing.Checkpointed.{Checkpointed}
 use Rattle.durable_core.specs.declared.checkpointing.Checkpointed.TheVariants.{Closed, DeviceFailed, Done, Full, NoMemory}
 use Rattle.drda_node.specs.Asking.{AskedCore, IsExcused, asks, left_by}
 use Rattle.drda_node.specs.Machine as machine
 use Rattle.drda_node.specs.Machine.{Conversation, Machine, opened}
-use Rattle.drda_node.specs.Hearing.{Attended, Hears, HearsAt, attended_at}
+use Rattle.drda_node.specs.Hearing.{Attended, Hears, HearsAt}
 use Rattle.drda_node.specs.Records.{Event, checkpoints, loses, opens, sends}
 use Rattle.drda_node.specs.Happening.{BreaksOff, CheckpointsAs, HappenAll, Happens, IsCheckpointed, LosesAt, OpensAt, SendsAt, SendsPart}
 use Rattle.drda_node.specs.Calls.{AreOf, AskedCall, CallsAreHistories, IsAsked, IsHistory, Rests, marked}

@@ -6,7 +6,7 @@ use Rattle.dss_frames.specs.declared.fault.FrameFault.{FrameFault}
 use Rattle.dss_frames.specs.Fault.{FaultAt}
 use Rattle.drda_node.specs.declared.fed.Fed.{Fed}
 use Rattle.drda_node.specs.Machine.{Conversation, Machine, IsOpen}
-use Rattle.drda_node.specs.Hearing.{Attended, Hears, HearsAll, HearsAt, HearsLast, HearsPart, IsShortReply, attended, attended_at, conversation_of}
+use Rattle.drda_node.specs.Hearing.{Attended, Hears, HearsAll, HearsLast, HearsPart, IsShortReply, attended, attended_at, conversation_of}
 use Rattle.drda_node.specs.Feeding.{Feeds, Told, bytes_behind}
 use Rattle.drda_node.proofs.Conversing.{hears_then}
 use Rattle.drda_node.proofs.Stepping.{told_then}

@@ -1,12 +1,12 @@
 -- What a machine answers is in serial order.
-use Rattle.std.proofs.Common.{◌≡◌, ◌⊎◌, inl, inr, List, [], ◌∷◌, true, refl, sym, ◌∙◌, ap, subst}
+use Rattle.std.proofs.Common.{◌≡◌, inl, inr, [], ◌∷◌, true, sym, ap, subst}
 use Rattle.core_calls.specs.Call.{Call}
 use Rattle.core_calls.specs.Answer.{Answer}
 use Rattle.core_model.specs.Step.{CoreState, Kept, Mark, Taken, step_by}
 use Rattle.serializability.specs.Belonging.{is_excuse}
 use Rattle.serializability.specs.Answered.{AnsweredCall, AnswersAreSerial, CallsLead, CallsLeadOn, IsAnswer}
 use Rattle.drda_node.specs.Asking.{AskedCore, IsExcused}
-use Rattle.drda_node.specs.Calls.{AskedCall, IsAsked, IsHistory}
+use Rattle.drda_node.specs.Calls.{IsAsked}
 use Rattle.drda_node.specs.Serial.{HistoriesLead, MachinesAreSerial, SaneOpeningsBegin, answered}
 
 excused : (old new : AskedCore) (place : _) (k : Call) (a : Answer) → IsExcused old place k a new → (is_excuse a ≡ true) × (new.state ≡ old.state)

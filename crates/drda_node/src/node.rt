@@ -51,6 +51,8 @@ impl<D: Disk> Node<D> {
     ghost use Rattle.drda_node.specs.Asking.{IsJournaled, asked_of};
     ghost use Rattle.drda_node.specs.Machine.{at_start, is_full, lost, IsOpen, opened};
     ghost use Rattle.drda_node.specs.Feeding.{Feeds};
+    ghost use Rattle.recovery_laws.specs.Journaled.{shown_on};
+    ghost use Rattle.durable_core.specs.Checkpointing.{Checkpoints};
     ghost use Rattle.drda_node.specs.Happening.{IsCheckpointed};
     ghost use Rattle.drda_node.specs.Hearing.{HearsPiece};
     ghost use Rattle.drda_node.specs.Register.{core_in, machine, numbers, place_of, Names, Opens};
@@ -267,6 +269,7 @@ impl<D: Disk> Node<D> {
     /// `DeviceFailed` the device has failed in it. A crash at any moment leaves a disk that opens to the
     /// same tables and units in doubt.
     pub fn checkpoint(&mut self) -> Checkpointed
+        ensures told { Checkpoints result (shown_on D.life (core_in self.old)) (shown_on D.life (core_in self.new)) }
         ensures checkpointed { IsCheckpointed result (machine self.old).core (machine self.new).core }
         ensures rest { machine self.new ≡ record (machine self.old) { core = (machine self.new).core } }
         ensures numbers { numbers self.new ≡ numbers self.old }
@@ -278,6 +281,8 @@ impl<D: Disk> Node<D> {
 
 ghost use Rattle.drda_node.specs.Asking.{IsJournaled, asked_of, left_by};
 ghost use Rattle.drda_node.specs.Happening.{IsCheckpointed};
+ghost use Rattle.recovery_laws.specs.Journaled.{shown_on};
+ghost use Rattle.durable_core.specs.Checkpointing.{Checkpoints};
 
 // Ends what was a conversation's alone. What the core answers says nothing that is not known.
 #[tactic(auto, using(crate::proofs::Cores::core_loses))]
@@ -291,6 +296,7 @@ fn end_units<D: Disk>(core: &mut DurableCore<D>, conversation: u64)
 // Writes a checkpoint of the core.
 #[tactic(auto, using(crate::proofs::Cores::core_checkpoints))]
 fn checkpoint_core<D: Disk>(core: &mut DurableCore<D>) -> Checkpointed
+    ensures told { Checkpoints result (shown_on D.life core.old) (shown_on D.life core.new) }
     ensures checkpointed { IsCheckpointed result (asked_of core.old) (asked_of core.new) }
     ensures journaled { IsJournaled D.is_modelled D.life core.old core.new }
 {

@@ -308,7 +308,7 @@ fn opens_all(alloc: Global) -> Option<bool> {
     let mut node = node_of(alloc)?;
     let first = node.open_conversation().ok()?;
     let are_open = open_others(&mut node, first)? && is_opened_anew(&mut node, first)?;
-    Some(are_open && node.checkpoint() == Done::Done)
+    Some(are_open && node.checkpoint() == Checkpointed::Done)
 }
 
 #[test]
@@ -403,11 +403,11 @@ fn reads_byte_by_byte(rt: HostRuntime) {
     assert!(rt; is_read_byte_by_byte(rt.alloc()) == Some(true));
 }
 
-// Whether so many checkpoints are answered.
+// Whether so many losses of a conversation that is not open are answered.
 fn are_served(alloc: Global, times: u32) -> Option<bool> {
     let mut node = node_of(alloc)?;
-    let input = repeated(alloc, &[], "0409 00000000", times)?;
-    let answers = repeated(alloc, &[], "0409 00000001 00", times)?;
+    let input = repeated(alloc, &[], "0309 00000000", times)?;
+    let answers = repeated(alloc, &[], "0609 00000001 02", times)?;
     let mut reader = input.as_slice();
     Some(ends_so(alloc, &mut node, &mut reader, RunEnd::Ended, &answers))
 }
@@ -538,10 +538,10 @@ impl Write for Counting {
     }
 }
 
-// How often the answers to four checkpoints are written that come in pieces of this size.
+// How often the answers to four losses are written that come in pieces of this size.
 fn times_written(alloc: Global, node: &mut Node<MemDisk>, size: usize) -> Option<u32> {
-    let input = [4_u8, 9, 0, 0, 0, 0].as_slice().repeat(alloc, 4).ok()?;
-    let answers = [4_u8, 9, 0, 0, 0, 1, 0].as_slice().repeat(alloc, 4).ok()?;
+    let input = [3_u8, 9, 0, 0, 0, 0].as_slice().repeat(alloc, 4).ok()?;
+    let answers = [6_u8, 9, 0, 0, 0, 1, 2].as_slice().repeat(alloc, 4).ok()?;
     let pieces = InPieces {
         bytes: &input,
         size,

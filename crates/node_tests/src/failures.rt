@@ -1,5 +1,6 @@
 //! Conversations over a device that fails in a commit, and what a crash leaves then.
 
+use crate::endings::ends_so;
 use crate::stories::{Act, CREATE, CREATED, FIRST_ROW, ONE, Step, TWO, is_told, push_piece};
 use drda_disk::{FuseDisk, MemDisk};
 use drda_node::{Node, RunEnd, run};
@@ -42,9 +43,14 @@ fn calls_of(alloc: Global, story: &[Step]) -> Option<u64> {
     Some(node.into_core().into_disk().calls())
 }
 
+// Whether the conversations are told so, and a checkpoint behind them that the device has failed.
 fn fails_behind(alloc: Global, calls: u64) -> Option<bool> {
     let mut node = node_with(alloc, calls)?;
-    is_told(alloc, &mut node, FAILS)
+    let are_told = is_told(alloc, &mut node, FAILS)?;
+    let checkpoint = [4_u8, 64, 0, 0, 0, 0];
+    let mut reader = checkpoint.as_slice();
+    let answer = [4_u8, 64, 0, 0, 0, 1, 3];
+    Some(are_told && ends_so(alloc, &mut node, &mut reader, RunEnd::Ended, &answer))
 }
 
 // The calls of the commit alone: the first of them, and how many there are.

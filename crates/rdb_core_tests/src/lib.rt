@@ -4,6 +4,8 @@
 #[cfg(test)]
 mod answers;
 #[cfg(test)]
+mod doubts;
+#[cfg(test)]
 mod ends;
 #[cfg(test)]
 mod fixtures;

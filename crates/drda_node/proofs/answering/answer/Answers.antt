@@ -1,4 +1,4 @@
-use Rattle.std.proofs.Common.{List, ℕ, subst, ap, sym}
+use Rattle.std.proofs.Common.{subst, sym}
 use Rattle.std.specs.Prelude.{OnErr}
 use Rattle.drda_node.specs.Reading.{event_of}
 use Rattle.drda_node.specs.Register.{machine}

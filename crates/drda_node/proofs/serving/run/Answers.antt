@@ -1,4 +1,4 @@
-use Rattle.std.proofs.Common.{◌≡◌, ℕ, List, length, drop, ap, subst, ◌∙◌, arith, [], sym}
+use Rattle.std.proofs.Common.{◌≡◌, ℕ, List, length, drop, ap, subst, ◌∙◌, arith, sym}
 use Rattle.drda_node.specs.Register.{core_in, machine}
 use Rattle.drda_node.proofs.Journal.{more, none}
 use Rattle.drda_node.specs.declared.serving.RunEnd.TheVariants.{Ended, BadEvent, NoMemory, ReadFault}

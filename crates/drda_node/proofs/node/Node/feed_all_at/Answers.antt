@@ -1,7 +1,7 @@
 use Rattle.std.proofs.Common.{◌≡◌, ◌≤◌, ◌+◌, ◌-◌, ℕ, List, length, take, drop, ap, sym, subst, ◌∙◌, inl, inr, arith, rules}
 use Rattle.std.proofs.lemmas.List.{take_rest, length-drop}
 use Rattle.drda_node.specs.declared.fed.FedState.{FedState}
-use Rattle.drda_node.specs.Register.{core_in, machine, numbers}
+use Rattle.drda_node.specs.Register.{core_in, machine}
 use Rattle.drda_node.specs.Feeding.{Feeds, LeftAs, bytes_behind}
 use Rattle.drda_node.specs.Hearing.{HearsPart, IsShortReply}
 use Rattle.drda_node.proofs.Journal.{more}
