@@ -1,22 +1,21 @@
 -- Event records over a store that is just made.
-use Rattle.std.proofs.Common.{◌≡◌, ◌∙◌, refl, sym, ap₂, inl, inr, ℕ, Bool, true, false, List, Option, Result, Ok, Err}
-use Rattle.core_model.specs.Step.{CoreState}
+use Rattle.std.proofs.Common.{◌≡◌, ◌∙◌, refl, sym, subst, ap₂, inl, inr, ℕ, Bool, true, false, List, Option, Some, None, IfSome, Result, Ok, Err}
+use Rattle.drda_disk.specs.Disk.{Life}
 use Rattle.session_commands.specs.Settings.{Settings, is_rdb_name}
 use Rattle.half_store.specs.Fresh.{is_name}
 use Rattle.recovery.specs.Durable.{fresh}
 use Rattle.recovery_laws.specs.Journaled.{OnDisk}
 use Rattle.durable_core.specs.Opening.{IsOpenedTo}
 use Rattle.drda_node.specs.Asking.{AskedCore, asked_of}
-use Rattle.drda_node.specs.Machine.{at_start}
+use Rattle.drda_node.specs.Machine.{Machine, at_start}
+use Rattle.drda_node.specs.Serving.{Runs}
+use Rattle.drda_node.specs.declared.serving.RunEnd.{RunEnd}
 use Rattle.command_line.specs.Job.{Login}
-use Rattle.drda_program.proofs.Names.{names_alike}
-use Rattle.drda_program.specs.Program.{Pipes, PipesInMemory, new_core, settings_of}
+use Rattle.drda_program.proofs.Names.{both, names_alike}
+use Rattle.drda_program.specs.Program.{AnswersOver, HasRun, Pipes, PipesInMemory, machine_over, new_core, settings_of}
 use Rattle.drda_program.specs.Stores.{BeginsFresh, RefusesName}
 use Rattle.drda_program.specs.declared.fault.Fault.{Fault}
 use Rattle.drda_program.specs.declared.fault.Fault.TheVariants.{BadArguments, BadEvent, Damaged, Device, NoMemory, NotAStore}
-
-both : {P : Type 0} (b : Bool) → b ≡ true → b ≡ false → P
-both b so not = let clash : true ≡ false = sym so ∙ not in absurd (cc clash)
 
 -- the name was good, so what is refused is memory
 pub refused_at_start : (settings : Settings) (name : List ℕ) (input before : Option (List ℕ)) (fault : Fault) → is_rdb_name name ≡ true → RefusesName name fault → Pipes settings input before (Err fault) before
@@ -39,15 +38,35 @@ not_piped D rdb login input before (Damaged at) is = absurd is
 not_piped D rdb login input before BadEvent is = absurd is
 not_piped D rdb login input before NoMemory is = inr (as_rdb_name rdb true is, inl (inl refl, refl))
 
--- over the store that was just made
-pub piped : {D : Type 0} (rdb : List ℕ) (login : Login) (input before now : Option (List ℕ)) (outcome : Result (Unit {0}) Fault) (core : OnDisk D) → BeginsFresh rdb (Ok core)
-    → ((name : List ℕ) → IsOpenedTo name fresh core → is_rdb_name name ≡ true → Pipes (settings_of login name) input before outcome now) → PipesInMemory rdb login input before outcome now
-piped rdb login input before now outcome core begun pipes =
-    let is = as_rdb_name rdb true begun.0 in
-    inr (is, pipes rdb begun.1 is)
-
 -- what is started over it
-pub starts_fresh : {D : Type 0} (name : List ℕ) (login : Login) (core : OnDisk D) → IsOpenedTo name fresh core → at_start (settings_of login core.name) (asked_of core) ≡ at_start (settings_of login name) (new_core core.room)
+starts_fresh : {D : Type 0} (name : List ℕ) (login : Login) (core : OnDisk D) → IsOpenedTo name fresh core → machine_over login core ≡ at_start (settings_of login name) (new_core core.room)
 starts_fresh name login core is =
     let opened_fresh : asked_of core ≡ new_core core.room = λ i. record { state = is.state i; room = core.room; has_failed = is.going i; made = is.made i } in
     ap₂ (λ (n : List ℕ) (a : AskedCore). at_start (settings_of login n) a) is.named opened_fresh
+
+fresh_run : (settings : Settings) (room : ℕ) (first last : Machine) (before now : Option (List ℕ)) (end : RunEnd) (o : Option (List ℕ)) → first ≡ at_start settings (new_core room)
+    → IfSome o (λ input. Runs first input before end now last) → IfSome o (λ input. HasRun settings input before end now)
+fresh_run settings room first last before now end None is r = tt
+fresh_run settings room first last before now end (Some input) is r =
+    let P : Machine → Type 0 = λ m. Runs m input before end now last in
+    (room, last, subst P is r)
+
+-- over the store that was just made
+by_answer : {D : Type 0} (modelled : Bool) (life : D → Life) (rdb : List ℕ) (login : Login) (input before now : Option (List ℕ)) (outcome : Result (Unit {0}) Fault) (core : OnDisk D) → is_rdb_name rdb ≡ true → IsOpenedTo rdb fresh core
+    → AnswersOver modelled life core login input before outcome now → Pipes (settings_of login rdb) input before outcome now
+by_answer modelled life rdb login input before now outcome core is opened (inl (fault, reported, refused, silent)) =
+    subst (λ (w : Option (List ℕ)). Pipes (settings_of login rdb) input before outcome w) (sym silent)
+    (subst (λ (r : Result (Unit {0}) Fault). Pipes (settings_of login rdb) input before r before) (sym reported)
+    (refused_at_start (settings_of login rdb) rdb input before fault is (subst (λ (n : List ℕ). RefusesName n fault) opened.named refused)))
+by_answer modelled life rdb login input before now outcome core is opened (inr ran) = inr (record {
+  end = ran.end;
+  is_flushed = ran.is_flushed;
+  reported = ran.reported;
+  has_run = fresh_run (settings_of login rdb) core.room (machine_over login core) ran.last before now ran.end input (starts_fresh rdb login core opened) ran.runs;
+})
+
+pub piped : {D : Type 0} (modelled : Bool) (life : D → Life) (rdb : List ℕ) (login : Login) (input before now : Option (List ℕ)) (outcome : Result (Unit {0}) Fault) (core : OnDisk D) → BeginsFresh rdb (Ok core)
+    → AnswersOver modelled life core login input before outcome now → PipesInMemory rdb login input before outcome now
+piped modelled life rdb login input before now outcome core begun answers =
+    let is = as_rdb_name rdb true begun.0 in
+    inr (is, by_answer modelled life rdb login input before now outcome core is begun.1 answers)

@@ -1,42 +1,15 @@
 -- What making and opening stores reports, as those report it who ask for it.
-use Rattle.std.proofs.Common.{◌≡◌, refl, ℕ, true, List, Option, IfErr, Result, Ok, Err}
+use Rattle.std.proofs.Common.{◌≡◌, sym, subst, ℕ, true, List, Result, Ok, Err}
 use Rattle.half_store.specs.Fresh.{is_name, is_store_of}
 use Rattle.recovery_laws.specs.Journaled.{OnDisk}
+use Rattle.durable_core.specs.Reads.{IsExcused}
+use Rattle.durable_core.specs.declared.errors.OpenError.{OpenError}
+use Rattle.durable_core.specs.declared.errors.OpenError.TheVariants as errors
 use Rattle.drda_program.proofs.Names.{no_store}
-use Rattle.drda_program.specs.Program.{Lists, Makes}
-use Rattle.drda_program.specs.Stores.{BeginsFresh, FindsFresh, IsOfDevice, IsOfRun, IsOfStore, MakesFile, MakesNamed, RefusesName}
+use Rattle.drda_program.specs.Endings.{fault_for}
+use Rattle.drda_program.specs.Stores.{BeginsFresh, FindsFresh, IsOfDevice, MakesFile, MakesNamed}
 use Rattle.drda_program.specs.declared.fault.Fault.{Fault}
 use Rattle.drda_program.specs.declared.fault.Fault.TheVariants.{BadArguments, BadEvent, Damaged, Device, NoMemory, NotAStore}
-
--- ---- faults
-
-pub device_of_store : (fault : Fault) → IsOfDevice fault → IsOfStore fault
-device_of_store BadArguments is = absurd is
-device_of_store Device is = tt
-device_of_store NotAStore is = absurd is
-device_of_store (Damaged at) is = absurd is
-device_of_store BadEvent is = absurd is
-device_of_store NoMemory is = tt
-
-pub store_of_run : (fault : Fault) → IsOfStore fault → IsOfRun fault
-store_of_run BadArguments is = absurd is
-store_of_run Device is = tt
-store_of_run NotAStore is = tt
-store_of_run (Damaged at) is = tt
-store_of_run BadEvent is = absurd is
-store_of_run NoMemory is = tt
-
-pub refused_of_store : (name : List ℕ) (fault : Fault) → RefusesName name fault → IsOfStore fault
-refused_of_store name BadArguments is = absurd is
-refused_of_store name Device is = absurd is
-refused_of_store name NotAStore is = tt
-refused_of_store name (Damaged at) is = absurd is
-refused_of_store name BadEvent is = absurd is
-refused_of_store name NoMemory is = tt
-
-pub each_of_store : (r : Result (Unit {0}) Fault) → IfErr r IsOfDevice → IfErr r IsOfStore
-each_of_store (Ok done) is = tt
-each_of_store (Err fault) is = device_of_store fault is
 
 -- ---- making
 
@@ -49,24 +22,7 @@ makes_file size rdb (Err (Damaged at)) is named = absurd named
 makes_file size rdb (Err BadEvent) is named = absurd named
 makes_file size rdb (Err NoMemory) is named = is
 
--- nothing is said where no file was made
-pub not_made : (size : ℕ) (rdb : List ℕ) (before : Option (List ℕ)) (fault : Fault) → MakesFile size rdb (Err fault) → Makes size rdb before (Err fault) before
-not_made size rdb before BadArguments is = (is, refl)
-not_made size rdb before Device is = is
-not_made size rdb before NotAStore is = absurd is
-not_made size rdb before (Damaged at) is = absurd is
-not_made size rdb before BadEvent is = absurd is
-not_made size rdb before NoMemory is = (is, refl)
-
 -- ---- opening
-
-pub not_listed : (before : Option (List ℕ)) (fault : Fault) → IsOfStore fault → Lists before (Err fault) before
-not_listed before BadArguments is = absurd is
-not_listed before Device is = tt
-not_listed before NotAStore is = refl
-not_listed before (Damaged at) is = refl
-not_listed before BadEvent is = absurd is
-not_listed before NoMemory is = refl
 
 -- the name was good, so it is the device or memory
 pub not_begun : (D : Type 0) (name : List ℕ) (fault : Fault) → is_name name ≡ true → MakesNamed name (Err fault) → BeginsFresh {D = D} name (Err fault)
@@ -85,3 +41,13 @@ begins name (Err NotAStore) is found = absurd found
 begins name (Err (Damaged at)) is found = absurd found
 begins name (Err BadEvent) is found = absurd found
 begins name (Err NoMemory) is found = is
+
+excused_fault : (error : OpenError) → IsExcused error → IsOfDevice (fault_for error)
+excused_fault errors.NotAStore is = absurd is
+excused_fault (errors.Damaged at) is = absurd is
+excused_fault errors.DeviceFailed is = tt
+excused_fault errors.NoMemory is = tt
+
+-- what says nothing of a store is of the device or of memory
+pub excused_so : (fault : Fault) (error : OpenError) → fault ≡ fault_for error → IsExcused error → IsOfDevice fault
+excused_so fault error is excused = subst IsOfDevice (sym is) (excused_fault error excused)

@@ -5,6 +5,8 @@ use Rattle.drda_node.specs.declared.serving.RunEnd.{RunEnd}
 use Rattle.drda_node.specs.declared.serving.RunEnd.TheVariants as ends
 use Rattle.command_line.specs.declared.words.BadWords.{BadWords}
 use Rattle.command_line.specs.declared.words.BadWords.TheVariants as words
+use Rattle.durable_core.specs.declared.errors.OpenError.{OpenError}
+use Rattle.durable_core.specs.declared.errors.OpenError.TheVariants as errors
 use Rattle.drda_program.specs.declared.fault.Fault.{Fault}
 use Rattle.drda_program.specs.declared.fault.Fault.TheVariants.{BadArguments, Device, NotAStore, Damaged, BadEvent, NoMemory}
 
@@ -48,3 +50,10 @@ line_of (Err fault) = line_for fault
 abbrev pub fault_of_words : BadWords → Fault
 fault_of_words words.NoJob = BadArguments
 fault_of_words words.NoMemory = NoMemory
+
+-- a store that is not opened
+abbrev pub fault_for : OpenError → Fault
+fault_for errors.NotAStore = NotAStore
+fault_for (errors.Damaged at) = Damaged at
+fault_for errors.DeviceFailed = Device
+fault_for errors.NoMemory = NoMemory

@@ -1,19 +1,25 @@
--- What the program does with its words and its streams.
-use Rattle.std.specs.Prelude.{◌≡◌, ◌≢◌, ◌⊎◌, ℕ, Bool, true, false, List, [], ◌∷◌, ◌++◌, take, codes, Option, Some, None, IfErr, IfSome, Result, Ok, Err}
+-- What the program does with its words, its files, its network and its streams.
+use Rattle.std.specs.Prelude.{◌≡◌, ◌≢◌, ◌⊎◌, ℕ, Bool, true, false, IsTrue, List, [], ◌∷◌, ◌++◌, take, codes, Option, Some, None, IfSome, Result, Ok, Err}
 use Rattle.std.specs.Fmt.{decimal}
 use Rattle.std.specs.Io.KnownBytes.{Appends}
+use Rattle.drda_disk.specs.Disk.{Life}
 use Rattle.session_commands.specs.Settings.{Settings, is_rdb_name}
 use Rattle.half_store.specs.Fresh.{is_store_of}
 use Rattle.recovery.specs.Durable.{fresh}
+use Rattle.recovery_laws.specs.Journaled.{OnDisk}
 use Rattle.recovery_laws.specs.Part.{opened}
-use Rattle.drda_node.specs.Asking.{AskedCore}
+use Rattle.drda_node.specs.Asking.{AskedCore, IsJournaled, asked_of}
 use Rattle.drda_node.specs.Machine.{Machine, at_start}
 use Rattle.drda_node.specs.Serving.{Runs}
 use Rattle.drda_node.specs.declared.serving.RunEnd.{RunEnd}
 use Rattle.command_line.specs.Job.{Job, Login, init, pipe, serve, in_doubt}
 use Rattle.drda_program.specs.Doubts.{doubt_text}
 use Rattle.drda_program.specs.Endings.{line_of, result_for, status_of}
-use Rattle.drda_program.specs.Stores.{IsOfRun, IsOfStore}
+use Rattle.drda_program.specs.Files.{FileCalls}
+use Rattle.drda_program.specs.Network.{NetworkCalls}
+use Rattle.drda_program.specs.Opening.{AreDoubts, IsMade, IsOver, IsTurnedBack, OpensStore}
+use Rattle.drda_program.specs.Listening.{Listens}
+use Rattle.drda_program.specs.Stores.{RefusesName}
 use Rattle.drda_program.specs.declared.fault.Fault.{Fault}
 use Rattle.drda_program.specs.declared.fault.Fault.TheVariants.{BadArguments, BadEvent, Damaged, Device, NoMemory, NotAStore}
 
@@ -51,47 +57,125 @@ PipesInMemory rdb login input before outcome now =
     ((is_rdb_name rdb ≡ false) × (outcome ≡ Err BadArguments) × (now ≡ before))
     ⊎ ((is_rdb_name rdb ≡ true) × Pipes (settings_of login rdb) input before outcome now)
 
--- ---- the other jobs
+-- ---- over the store of a disk
 
--- a store is made and its size is said; a size or a name that no store has is refused before any file is made
-abbrev pub Makes : ℕ → List ℕ → Option (List ℕ) → Result (Unit {0}) Fault → Option (List ℕ) → Type 0
-Makes size rdb before (Ok done) now = (is_store_of size rdb ≡ true) × Appends before now (codes "formatted " ++ decimal size ++ 10 ∷ [])
-Makes size rdb before (Err BadArguments) now = (is_store_of size rdb ≡ false) × (now ≡ before)
-Makes size rdb before (Err Device) now = is_store_of size rdb ≡ true
-Makes size rdb before (Err NoMemory) now = (is_store_of size rdb ≡ true) × (now ≡ before)
-Makes size rdb before (Err NotAStore) now = ⊥
-Makes size rdb before (Err (Damaged at)) now = ⊥
-Makes size rdb before (Err BadEvent) now = ⊥
+-- a machine of the tables and units in doubt that a core has
+abbrev pub machine_over : {D : Type 0} → Login → OnDisk D → Machine
+machine_over login core = at_start (settings_of login core.name) (asked_of core)
 
--- XIDs are listed, and nothing else is said; nothing at all where there is no store or no memory
-abbrev pub Lists : Option (List ℕ) → Result (Unit {0}) Fault → Option (List ℕ) → Type 0
-Lists before (Ok done) now = (xids : List (List ℕ)) × Appends before now (doubt_text xids)
-Lists before (Err BadArguments) now = ⊥
-Lists before (Err Device) now = Unit {0}
-Lists before (Err NotAStore) now = now ≡ before
-Lists before (Err (Damaged at)) now = now ≡ before
-Lists before (Err BadEvent) now = ⊥
-Lists before (Err NoMemory) now = now ≡ before
+module _ {D : Type 0} (modelled : Bool) (life : D → Life) where
+  -- the machine of a core has run over the input, with a last flush; all that the core did is journaled
+  pub record RunsOver (core : OnDisk D) (login : Login) (input before : Option (List ℕ)) (outcome : Result (Unit {0}) Fault) (now : Option (List ℕ)) : Type 0 where
+    pub end : RunEnd
+    pub is_flushed : Bool
+    pub reported : outcome ≡ result_for end is_flushed
+    pub last : Machine
+    pub runs : IfSome input (λ bytes. Runs (machine_over login core) bytes before end now last)
+    pub left : OnDisk D
+    pub left_is : last.core ≡ asked_of left
+    pub journaled : IsJournaled modelled life core left
+
+  -- no node was started over a core, or it ran
+  abbrev pub AnswersOver : OnDisk D → Login → Option (List ℕ) → Option (List ℕ) → Result (Unit {0}) Fault → Option (List ℕ) → Type 0
+  AnswersOver core login input before outcome now = ((fault : Fault) × (outcome ≡ Err fault) × RefusesName core.name fault × (now ≡ before)) ⊎ RunsOver core login input before outcome now
+
+  -- the run over the store that a disk is
+  pub record RunsOn (disk : D) (login : Login) (input before : Option (List ℕ)) (outcome : Result (Unit {0}) Fault) (now : Option (List ℕ)) : Type 0 where
+    pub core : OnDisk D
+    pub over : IsOver modelled life disk core
+    pub ran : RunsOver core login input before outcome now
+
+  -- a line for each unit in doubt
+  abbrev pub IsOfDoubts : D → List ℕ → Type 0
+  IsOfDoubts disk text = (xids : List (List ℕ)) × (text ≡ doubt_text xids) × (IsTrue modelled → AreDoubts xids (life disk).seen)
+
+  -- all that the disk's core did is journaled, from its opening to the end of the last conversation
+  pub record ServesOn {N L S W : Type 0} (calls : NetworkCalls N L S W) (remaining : S → Option (List ℕ)) (contents : W → Option (List ℕ)) (disk : D) (port : ℕ) (login : Login) (count : Option ℕ)
+      (net : N) (before : Option (List ℕ)) (outcome : Result (Unit {0}) Fault) (net' : N) (now : Option (List ℕ)) : Type 0 where
+    pub core : OnDisk D
+    pub over : IsOver modelled life disk core
+    pub last : Machine
+    pub listens : Listens calls remaining contents port count net (machine_over login core) before outcome net' last now
+    pub left : OnDisk D
+    pub left_is : last.core ≡ asked_of left
+    pub journaled : IsJournaled modelled life core left
+
+  -- ---- over the disk of a path
+
+  module _ {F : Type 0} (calls : FileCalls F D) where
+    -- a store is made and its size is said; a size or a name that no store has is refused before any file is made
+    abbrev pub Makes : List ℕ → ℕ → List ℕ → F → Option (List ℕ) → Result (Unit {0}) Fault → F → Option (List ℕ) → Type 0
+    Makes path size rdb files before (Ok done) files' now =
+        (is_store_of size rdb ≡ true) × IsMade modelled life calls files path size rdb files' × Appends before now (codes "formatted " ++ decimal size ++ 10 ∷ [])
+    Makes path size rdb files before (Err BadArguments) files' now = (is_store_of size rdb ≡ false) × (files' ≡ files) × (now ≡ before)
+    Makes path size rdb files before (Err Device) files' now = is_store_of size rdb ≡ true
+    Makes path size rdb files before (Err NoMemory) files' now = (is_store_of size rdb ≡ true) × (now ≡ before)
+    Makes path size rdb files before (Err NotAStore) files' now = ⊥
+    Makes path size rdb files before (Err (Damaged at)) files' now = ⊥
+    Makes path size rdb files before (Err BadEvent) files' now = ⊥
+
+    -- a text of the store of a path is written, and nothing else; none is where the store is not opened or memory is refused
+    abbrev pub Tells : (D → List ℕ → Type 0) → List ℕ → F → Option (List ℕ) → Result (Unit {0}) Fault → F → Option (List ℕ) → Type 0
+    Tells IsOf path files before (Ok done) files' now = (disk : D) × calls.opens files path (Some disk) files' × (text : List ℕ) × IsOf disk text × Appends before now text
+    Tells IsOf path files before (Err fault) files' now = (OpensStore modelled life calls files path (Err fault) files' × (now ≡ before))
+        ⊎ ((disk : D) × calls.opens files path (Some disk) files' × (((fault ≡ NoMemory) × (now ≡ before)) ⊎ (fault ≡ Device)))
+
+    -- the units in doubt of the store of a path are listed
+    abbrev pub Lists : List ℕ → F → Option (List ℕ) → Result (Unit {0}) Fault → F → Option (List ℕ) → Type 0
+    Lists path files before outcome files' now = Tells IsOfDoubts path files before outcome files' now
+
+    -- the run over the store of a path, if there is one
+    abbrev pub PipesFile : List ℕ → Login → F → Option (List ℕ) → Option (List ℕ) → Result (Unit {0}) Fault → F → Option (List ℕ) → Type 0
+    PipesFile path login files input before outcome files' now = ((fault : Fault) × (outcome ≡ Err fault) × IsTurnedBack modelled life calls files path fault files' × (now ≡ before))
+        ⊎ ((disk : D) × calls.opens files path (Some disk) files' × RunsOn disk login input before outcome now)
 
 -- ---- what words ask for
 
--- Of a store in a file only the faults are known here: what `open`, `run` and `serve_one` say of a disk is said there.
-abbrev pub Does : Option Job → Option (List ℕ) → Option (List ℕ) → Result (Unit {0}) Fault → Option (List ℕ) → Type 0
-Does None input before outcome now = (outcome ≡ Err BadArguments) × (now ≡ before)
-Does (Some (init path size rdb)) input before outcome now = Makes size rdb before outcome now
-Does (Some (pipe None rdb login)) input before outcome now = PipesInMemory rdb login input before outcome now
-Does (Some (pipe (Some path) rdb login)) input before outcome now = IfErr outcome IsOfRun
-Does (Some (serve path port login count)) input before outcome now = IfErr outcome IsOfStore
-Does (Some (in_doubt path)) input before outcome now = Lists before outcome now
+-- what the calls of the files and of the network come to
+pub record Surroundings (F D N L S W : Type 0) : Type 1 where
+  pub files : FileCalls F D
+  pub modelled : Bool
+  pub life : D → Life
+  pub network : NetworkCalls N L S W
+  pub remaining : S → Option (List ℕ)
+  pub contents : W → Option (List ℕ)
 
--- The words, the input and the output: the job was done so, or memory was refused before it was known. Standard
--- error holds the text of the parser of words, if it has one, which is only where the words ask for nothing, and
--- behind it the line of what is reported, or as much of each as could be written.
-pub record Exits (said : Option Job) (input before : Option (List ℕ)) (status : ℕ) (now err err' : Option (List ℕ)) : Type 0 where
-  pub outcome : Result (Unit {0}) Fault
-  pub does : ((outcome ≡ Err NoMemory) × (now ≡ before)) ⊎ Does said input before outcome now
-  pub status_is : status ≡ status_of outcome
-  pub parser : List ℕ
-  pub parser_only : said ≢ None → parser ≡ []
-  pub count : ℕ
-  pub says : Appends err err' (parser ++ take count (line_of outcome))
+abbrev pub surroundings : {F D N L S W : Type 0} → FileCalls F D → Bool → (D → Life) → NetworkCalls N L S W → (S → Option (List ℕ)) → (W → Option (List ℕ)) → Surroundings F D N L S W
+surroundings files modelled life network remaining contents = record { files = files; modelled = modelled; life = life; network = network; remaining = remaining; contents = contents }
+
+-- the files, the network, and what was written on standard output
+pub record Seen (F N : Type 0) : Type 0 where
+  pub files : F
+  pub net : N
+  pub out : Option (List ℕ)
+
+abbrev pub seen : {F N : Type 0} → F → N → Option (List ℕ) → Seen F N
+seen files net out = record { files = files; net = net; out = out }
+
+module _ {F D N L S W : Type 0} (around : Surroundings F D N L S W) where
+  -- conversations over the store of a path, if there is one
+  abbrev pub ServesFile : List ℕ → ℕ → Login → Option ℕ → Seen F N → Result (Unit {0}) Fault → Seen F N → Type 0
+  ServesFile path port login count old outcome new =
+      ((fault : Fault) × (outcome ≡ Err fault) × IsTurnedBack around.modelled around.life around.files old.files path fault new.files × (new.net ≡ old.net) × (new.out ≡ old.out))
+      ⊎ ((disk : D) × around.files.opens old.files path (Some disk) new.files
+      × ServesOn around.modelled around.life around.network around.remaining around.contents disk port login count old.net old.out outcome new.net new.out)
+
+  abbrev pub Does : Option Job → Option (List ℕ) → Seen F N → Result (Unit {0}) Fault → Seen F N → Type 0
+  Does None input old outcome new = (outcome ≡ Err BadArguments) × (new ≡ old)
+  Does (Some (init path size rdb)) input old outcome new = Makes around.modelled around.life around.files path size rdb old.files old.out outcome new.files new.out × (new.net ≡ old.net)
+  Does (Some (pipe None rdb login)) input old outcome new = PipesInMemory rdb login input old.out outcome new.out × (new.files ≡ old.files) × (new.net ≡ old.net)
+  Does (Some (pipe (Some path) rdb login)) input old outcome new = PipesFile around.modelled around.life around.files path login old.files input old.out outcome new.files new.out × (new.net ≡ old.net)
+  Does (Some (serve path port login count)) input old outcome new = ServesFile path port login count old outcome new
+  Does (Some (in_doubt path)) input old outcome new = Lists around.modelled around.life around.files path old.files old.out outcome new.files new.out × (new.net ≡ old.net)
+
+  -- The words, the input, and what is seen before and after: the job was done so, or memory was refused before it was known.
+  -- Standard error holds the text of the parser of words, if it has one, which is only where the words ask for nothing, and
+  -- behind it the line of what is reported, or as much of each as could be written.
+  pub record Exits (said : Option Job) (input : Option (List ℕ)) (old : Seen F N) (status : ℕ) (new : Seen F N) (err err' : Option (List ℕ)) : Type 0 where
+    pub outcome : Result (Unit {0}) Fault
+    pub does : ((outcome ≡ Err NoMemory) × (new ≡ old)) ⊎ Does said input old outcome new
+    pub status_is : status ≡ status_of outcome
+    pub parser : List ℕ
+    pub parser_only : said ≢ None → parser ≡ []
+    pub count : ℕ
+    pub says : Appends err err' (parser ++ take count (line_of outcome))

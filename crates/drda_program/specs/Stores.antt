@@ -19,24 +19,6 @@ IsOfDevice (Damaged at) = ⊥
 IsOfDevice BadEvent = ⊥
 IsOfDevice NoMemory = Unit {0}
 
--- of the device, or of what stands in a file
-abbrev pub IsOfStore : Fault → Type 0
-IsOfStore BadArguments = ⊥
-IsOfStore Device = Unit {0}
-IsOfStore NotAStore = Unit {0}
-IsOfStore (Damaged at) = Unit {0}
-IsOfStore BadEvent = ⊥
-IsOfStore NoMemory = Unit {0}
-
--- of a store, or of what came in
-abbrev pub IsOfRun : Fault → Type 0
-IsOfRun BadArguments = ⊥
-IsOfRun Device = Unit {0}
-IsOfRun NotAStore = Unit {0}
-IsOfRun (Damaged at) = Unit {0}
-IsOfRun BadEvent = Unit {0}
-IsOfRun NoMemory = Unit {0}
-
 -- ---- making
 
 -- a store of this name was made on a disk; the name that none has is a bad argument, and nothing else is

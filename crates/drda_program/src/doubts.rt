@@ -2,18 +2,21 @@
 
 ghost use Rattle.std.specs.Prelude.{◌≡◌, ◌<◌, ◌∷◌, ◌++◌, IfOk, OnOk, string_bytes};
 ghost use Rattle.std.specs.List.{flat_map};
+ghost use Rattle.rdb_core.specs.InDoubt.{xids_left};
 ghost use Rattle.drda_program.specs.Doubts.{digit, digits_of, doubt_line, doubt_text, part_text, parts_line};
 
+use rdb_core::InDoubt;
 use std::alloc::{AllocError, Global};
 use std::fmt::Write;
 use xa_calls::Xid;
 
-/// A line for each XID.
-pub(crate) fn doubt_text(alloc: Global, xids: &[Xid]) -> Result<String, AllocError>
-    ensures { IfOk result (λ text. string_bytes text ≡ doubt_text xids.now) }
+/// A line for each unit in doubt.
+pub(crate) fn doubt_text(alloc: Global, doubts: InDoubt<'_>) -> Result<String, AllocError>
+    ensures { IfOk result (λ text. string_bytes text ≡ doubt_text (xids_left doubts.entry)) }
 {
+    let mut left = doubts;
     let mut text = String::new(alloc);
-    for xid in xids {
+    while let Some(xid) = left.next() {
         push_line(&mut text, xid)?;
     }
     Ok(text)

@@ -2,21 +2,23 @@
 
 ghost use Rattle.std.specs.Prelude.{◌≡◌, ◌≢◌, ◌⊎◌, Err, None, Some, map, string_bytes};
 ghost use Rattle.command_line.specs.Job.{plain_job, said};
-ghost use Rattle.drda_program.specs.Program.{Does, Exits, Lists, Makes};
+ghost use Rattle.drda_program.specs.Program.{Does, Exits, Lists, Makes, seen, surroundings};
 
 use crate::doubts::doubt_text;
 use crate::fault::Fault;
 use crate::files::StoreFiles;
-use crate::listening::listen;
-use crate::records::{answer_in_memory, answer_records, node_over};
+use crate::listening::serve_file;
+use crate::network::Network;
+use crate::records::{answer_file, answer_in_memory};
 use crate::stores::{make_file, open_file};
-use crate::streams::flush;
+use crate::streams::{flush, tell};
 use command_line::{Job, job_of};
 use drda_node::{Ready, write_whole};
+use recovery::laws::records_lead_to_sound_states;
 use std::alloc::Global;
 use std::convert::AsStr;
 use std::io::{Read, Write};
-use std::net::Net;
+use store_check::checkpoints_are_known;
 
 /// Does what the words say, the program's name first, and answers the exit status; a fault's line goes
 /// to `err`, behind the text of the command-line parser where that has one, and nothing else does.
@@ -32,16 +34,24 @@ use std::net::Net;
 /// The status is 0 where the job was done; 1 where the words ask for none, or for a store of a size or
 /// name that none has; 2 where a file, a port or a stream failed, the last flush included; 3 where a file
 /// is no store or a damaged one; 4 where what came is no event; 5 where memory was refused.
-pub fn run_words<S: AsStr, F: StoreFiles, N: Net, R: Read + Ready, W: Write, E: Write>(
+///
+/// Of a store in a file all is said of the disk that opening its path gave: `indoubt` lists the units in
+/// doubt of the state that it opens to, in the order of their bytes; `pipe` and `serve` answer as a machine
+/// does that begins with that state, and what their calls left on it is journaled; `init` has made it a fresh
+/// store of the size and name that were asked. Where a disk may give back something else than what was
+/// written, no state is said of it.
+pub fn run_words<S: AsStr, F: StoreFiles, N: Network, R: Read + Ready, W: Write, E: Write>(
     alloc: Global,
     words: &[S],
     files: &mut F,
-    net: &N,
+    net: &mut N,
     reader: &mut R,
     out: &mut W,
     err: &mut E,
 ) -> u8
-    ensures { Exits (said (map S.text words.now)) (R.remaining reader.old) (W.contents out.old) result (W.contents out.new) (E.contents err.old) (E.contents err.new) }
+    ensures { Exits (surroundings F.calls F.Disk.is_modelled F.Disk.life N.calls N.Stream.remaining N.Writer.contents) (said (map S.text words.now))
+        (R.remaining reader.old) (seen files.old net.old (W.contents out.old)) result (seen files.new net.new (W.contents out.new))
+        (E.contents err.old) (E.contents err.new) }
 {
     let mut text = String::new(alloc);
     match try_words(alloc, words, files, net, reader, out, &mut text) {
@@ -55,31 +65,34 @@ pub fn run_words<S: AsStr, F: StoreFiles, N: Net, R: Read + Ready, W: Write, E: 
 }
 
 // Does what the words say. What the parser of words has to say of a mistake is appended to `text`.
-fn try_words<S: AsStr, F: StoreFiles, N: Net, R: Read + Ready, W: Write>(
+fn try_words<S: AsStr, F: StoreFiles, N: Network, R: Read + Ready, W: Write>(
     alloc: Global,
     words: &[S],
     files: &mut F,
-    net: &N,
+    net: &mut N,
     reader: &mut R,
     out: &mut W,
     text: &mut String,
 ) -> Result<(), Fault>
-    ensures does { ((result ≡ Err Fault.NoMemory) × (W.contents out.new ≡ W.contents out.old)) ⊎ Does (said (map S.text words.now)) (R.remaining reader.old) (W.contents out.old) result (W.contents out.new) }
+    ensures does { ((result ≡ Err Fault.NoMemory) × (seen files.new net.new (W.contents out.new) ≡ seen files.old net.old (W.contents out.old)))
+        ⊎ Does (surroundings F.calls F.Disk.is_modelled F.Disk.life N.calls N.Stream.remaining N.Writer.contents) (said (map S.text words.now))
+        (R.remaining reader.old) (seen files.old net.old (W.contents out.old)) result (seen files.new net.new (W.contents out.new)) }
     ensures quiet { said (map S.text words.now) ≢ None → string_bytes text.new ≡ string_bytes text.old }
 {
     let job = job_of(alloc, words, text)?;
     do_job(alloc, job, files, net, reader, out)
 }
 
-fn do_job<F: StoreFiles, N: Net, R: Read + Ready, W: Write>(
+fn do_job<F: StoreFiles, N: Network, R: Read + Ready, W: Write>(
     alloc: Global,
     job: Job<'_>,
     files: &mut F,
-    net: &N,
+    net: &mut N,
     reader: &mut R,
     out: &mut W,
 ) -> Result<(), Fault>
-    ensures { Does (Some (plain_job job.entry)) (R.remaining reader.old) (W.contents out.old) result (W.contents out.new) }
+    ensures { Does (surroundings F.calls F.Disk.is_modelled F.Disk.life N.calls N.Stream.remaining N.Writer.contents) (Some (plain_job job.entry))
+        (R.remaining reader.old) (seen files.old net.old (W.contents out.old)) result (seen files.new net.new (W.contents out.new)) }
 {
     match job {
         Job::Init { path, size, rdb } => init(alloc, files, path, size, rdb, out),
@@ -92,16 +105,13 @@ fn do_job<F: StoreFiles, N: Net, R: Read + Ready, W: Write>(
             path: Some(path),
             rdb: _,
             login,
-        } => answer_records(alloc, open_file(alloc, files, path)?, login, reader, out),
+        } => answer_file(alloc, files, path, login, reader, out),
         Job::Serve {
             path,
             port,
             login,
             count,
-        } => {
-            let mut node = node_over(alloc, open_file(alloc, files, path)?, login)?;
-            listen(alloc, &mut node, net, port, count, out)
-        }
+        } => serve_file(alloc, files, net, path, port, login, count, out),
         Job::InDoubt { path } => list_doubts(alloc, files, path, out),
     }
 }
@@ -115,7 +125,7 @@ fn init<F: StoreFiles, W: Write>(
     rdb: &str,
     out: &mut W,
 ) -> Result<(), Fault>
-    ensures { Makes size rdb.now (W.contents out.old) result (W.contents out.new) }
+    ensures { Makes F.Disk.is_modelled F.Disk.life F.calls path.now size rdb.now files.old (W.contents out.old) result files.new (W.contents out.new) }
 {
     make_file(alloc, files, path, size, rdb)?;
     match writeln!(out, "formatted {size}") {
@@ -131,13 +141,11 @@ fn list_doubts<F: StoreFiles, W: Write>(
     path: &str,
     out: &mut W,
 ) -> Result<(), Fault>
-    ensures { Lists (W.contents out.old) result (W.contents out.new) }
+    ensures { Lists F.Disk.is_modelled F.Disk.life F.calls path.now files.old (W.contents out.old) result files.new (W.contents out.new) }
 {
+    records_lead_to_sound_states();
+    checkpoints_are_known();
     let core = open_file(alloc, files, path)?;
-    let xids = core.in_doubt()?;
-    let text = doubt_text(alloc, xids.as_slice())?;
-    match write_whole(out, text.as_bytes()) {
-        Ok(()) => flush(out),
-        Err(_) => Err(Fault::Device),
-    }
+    let text = doubt_text(alloc, core.in_doubt())?;
+    tell(&text, out)
 }

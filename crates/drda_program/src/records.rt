@@ -1,19 +1,15 @@
 //! Event records on two streams.
 
-ghost use Rattle.std.specs.Prelude.{◌≡◌, IfErr, IfOk, List, ℕ, true};
-ghost use Rattle.session_commands.specs.Settings.{is_rdb_name};
-ghost use Rattle.recovery.specs.Durable.{fresh as fresh_store};
-ghost use Rattle.durable_core.specs.Opening.{IsOpenedTo};
-ghost use Rattle.drda_node.specs.Asking.{asked_of};
-ghost use Rattle.drda_node.specs.Machine.{at_start};
-ghost use Rattle.drda_node.specs.Register.{machine};
+ghost use Rattle.std.specs.Prelude.{◌≡◌, IfErr, IfOk};
+ghost use Rattle.drda_node.specs.Register.{core_in, machine};
 ghost use Rattle.command_line.specs.Job.{plain_login};
 ghost use Rattle.drda_program.specs.Endings.{result_for};
-ghost use Rattle.drda_program.specs.Program.{Pipes, PipesInMemory, settings_of};
-ghost use Rattle.drda_program.specs.Stores.{IsOfRun, RefusesName};
+ghost use Rattle.drda_program.specs.Program.{AnswersOver, PipesFile, PipesInMemory, machine_over};
+ghost use Rattle.drda_program.specs.Stores.{RefusesName};
 
 use crate::fault::Fault;
-use crate::stores::fresh;
+use crate::files::StoreFiles;
+use crate::stores::{fresh, open_file};
 use command_line::Login;
 use conversation::{Settings, SettingsError};
 use drda_disk::Disk;
@@ -29,7 +25,8 @@ pub(crate) fn node_over<D: Disk + Drop>(
     core: DurableCore<D>,
     login: Login<'_>,
 ) -> Result<Node<D>, Fault>
-    ensures machine { IfOk result (λ n. machine n ≡ at_start (settings_of (plain_login login.entry) core.name) (asked_of core)) }
+    ensures machine { IfOk result (λ n. machine n ≡ machine_over (plain_login login.entry) core) }
+    ensures core { IfOk result (λ n. core_in n ≡ core) }
     ensures refused { IfErr result (RefusesName core.name) }
 {
     let settings = match Settings::new(alloc, login.user, login.password, core.name()) {
@@ -58,16 +55,15 @@ fn result_of(end: RunEnd, is_flushed: bool) -> Result<(), Fault>
     }
 }
 
-/// Runs a node over a core: event records come in on one stream, and go out on the other.
-pub(crate) fn answer_records<D: Disk + Drop, R: Read + Ready, W: Write>(
+// Runs a node over a core: event records come in on one stream, and go out on the other.
+fn answer_records<D: Disk + Drop, R: Read + Ready, W: Write>(
     alloc: Global,
     core: DurableCore<D>,
     login: Login<'_>,
     reader: &mut R,
     out: &mut W,
 ) -> Result<(), Fault>
-    ensures fresh { (name : List ℕ) → IsOpenedTo name fresh_store core → is_rdb_name name ≡ true → Pipes (settings_of (plain_login login.entry) name) (R.remaining reader.old) (W.contents out.old) result (W.contents out.new) }
-    ensures cause { IfErr result IsOfRun }
+    ensures { AnswersOver D.is_modelled D.life core (plain_login login.entry) (R.remaining reader.old) (W.contents out.old) result (W.contents out.new) }
 {
     let mut node = match node_over(alloc, core, login) {
         Ok(node) => node,
@@ -76,6 +72,23 @@ pub(crate) fn answer_records<D: Disk + Drop, R: Read + Ready, W: Write>(
     let end = run(alloc, &mut node, reader, out);
     let is_flushed = out.flush().is_ok();
     result_of(end, is_flushed)
+}
+
+/// Runs a node over the store of a path.
+pub(crate) fn answer_file<F: StoreFiles, R: Read + Ready, W: Write>(
+    alloc: Global,
+    files: &mut F,
+    path: &str,
+    login: Login<'_>,
+    reader: &mut R,
+    out: &mut W,
+) -> Result<(), Fault>
+    ensures { PipesFile F.Disk.is_modelled F.Disk.life F.calls path.now (plain_login login.entry) files.old (R.remaining reader.old) (W.contents out.old) result files.new (W.contents out.new) }
+{
+    match open_file(alloc, files, path) {
+        Ok(core) => answer_records(alloc, core, login, reader, out),
+        Err(fault) => Err(fault),
+    }
 }
 
 /// Runs a node over a store in memory that is just made.

@@ -1,12 +1,13 @@
 //! Stores, made and opened.
 
-ghost use Rattle.std.specs.Prelude.{IfErr, IsTrue, List, ℕ, OnOk};
-ghost use Rattle.drda_disk.specs.Disk.{Only};
-ghost use Rattle.half_store.specs.Fresh.{IsFresh};
+ghost use Rattle.std.specs.Prelude.{◌≡◌, false, IsTrue, List, ℕ, OnOk};
+ghost use Rattle.drda_disk.specs.Disk.{LeavesOnly, Only};
+ghost use Rattle.half_store.specs.Fresh.{IsFresh, IsNoneOrFresh, IsUnmarked, is_store_of};
 ghost use Rattle.recovery.specs.Durable.{fresh as fresh_store};
 ghost use Rattle.recovery_laws.specs.Opens.{OpensTo};
-ghost use Rattle.durable_core.specs.Reads.{IsExcused};
-ghost use Rattle.drda_program.specs.Stores.{BeginsFresh, FindsFresh, IsOfDevice, IsOfStore, MakesFile, MakesNamed};
+ghost use Rattle.drda_program.specs.Endings.{fault_for};
+ghost use Rattle.drda_program.specs.Opening.{IsMade, IsOpened, OpensStore};
+ghost use Rattle.drda_program.specs.Stores.{BeginsFresh, FindsFresh, MakesFile, MakesNamed};
 
 use crate::fault::Fault;
 use crate::files::StoreFiles;
@@ -23,6 +24,7 @@ const MEMORY_SIZE: usize = 2_097_152;
 /// device: it was made with another one.
 fn make<D: Disk>(alloc: Global, disk: &mut D, rdb: &str) -> Result<(), Fault>
     ensures made { OnOk result (IsTrue D.is_modelled → Only (D.life disk.new) × IsFresh rdb.now (D.life disk.new).seen) }
+    ensures moments { IsTrue D.is_modelled → IsUnmarked (D.life disk.old) → LeavesOnly (D.life disk.old) (D.life disk.new) (IsNoneOrFresh rdb.now) }
     ensures named { MakesNamed rdb.now result }
 {
     match format(alloc, disk, rdb) {
@@ -34,7 +36,7 @@ fn make<D: Disk>(alloc: Global, disk: &mut D, rdb: &str) -> Result<(), Fault>
 }
 
 /// Makes a file of so many bytes, and a store of this name in it. A size or a name that no store has
-/// is refused before any file is made.
+/// is refused before any file is made; a file that has another size is a fault of the device.
 pub(crate) fn make_file<F: StoreFiles>(
     alloc: Global,
     files: &mut F,
@@ -42,21 +44,27 @@ pub(crate) fn make_file<F: StoreFiles>(
     size: u64,
     rdb: &str,
 ) -> Result<(), Fault>
-    ensures { MakesFile size rdb.now result }
+    ensures made { OnOk result (IsMade F.Disk.is_modelled F.Disk.life F.calls files.old path.now size rdb.now files.new) }
+    ensures refused { is_store_of size rdb.now ≡ false → files.new ≡ files.old }
+    ensures cause { MakesFile size rdb.now result }
 {
     if !is_store(size as usize, rdb) {
         return Err(Fault::BadArguments);
     }
-    match files.create(path, size as usize) {
-        Ok(mut disk) => make(alloc, &mut disk, rdb),
-        Err(_) => Err(Fault::Device),
+    let Ok(mut disk) = files.create(path, size as usize) else {
+        return Err(Fault::Device);
+    };
+    make(alloc, &mut disk, rdb)?;
+    if disk.size() != size as usize {
+        return Err(Fault::Device);
     }
+    Ok(())
 }
 
 /// The core over the store that a disk is.
 fn open_disk<D: Disk + Drop>(alloc: Global, disk: D) -> Result<DurableCore<D>, Fault>
-    ensures opens { (name : List ℕ) → IsTrue D.is_modelled → OpensTo name fresh_store (D.life disk).seen → FindsFresh name result }
-    ensures cause { IfErr result IsOfStore }
+    ensures opened { IsOpened D.is_modelled D.life disk result }
+    ensures fresh { (name : List ℕ) → IsTrue D.is_modelled → OpensTo name fresh_store (D.life disk).seen → FindsFresh name result }
 {
     match durable_core::open(alloc, disk) {
         Ok(core) => Ok(core),
@@ -64,10 +72,9 @@ fn open_disk<D: Disk + Drop>(alloc: Global, disk: D) -> Result<DurableCore<D>, F
     }
 }
 
-// What is reported of it.
+// What is reported of it: no fault of a store as want of memory.
 fn fault_of(error: OpenError) -> Fault
-    ensures excused { IsExcused error → IsOfDevice result }
-    ensures cause { IsOfStore result }
+    ensures { result ≡ fault_for error }
 {
     match error {
         OpenError::NotAStore => Fault::NotAStore,
@@ -77,13 +84,13 @@ fn fault_of(error: OpenError) -> Fault
     }
 }
 
-/// The core over the store of a file.
+/// The core over the store of a path.
 pub(crate) fn open_file<F: StoreFiles>(
     alloc: Global,
     files: &mut F,
     path: &str,
 ) -> Result<DurableCore<F::Disk>, Fault>
-    ensures { IfErr result IsOfStore }
+    ensures { OpensStore F.Disk.is_modelled F.Disk.life F.calls files.old path.now result files.new }
 {
     match files.open(path) {
         Ok(disk) => open_disk(alloc, disk),

@@ -1,7 +1,7 @@
 //! `drdad`: a DRDA application server.
 #![tactic(auto)]
 
-use drda_program::{Fault, SystemFiles, run_words};
+use drda_program::{Fault, SystemFiles, SystemNetwork, run_words};
 use std::io::BufReader;
 use std::process::ExitCode;
 
@@ -28,7 +28,7 @@ fn serve(rt: &HostRuntime) -> anyhow::Result<u8> {
         alloc,
         words.as_slice(),
         &mut SystemFiles::new(rt),
-        rt,
+        &mut SystemNetwork::new(rt),
         &mut reader,
         &mut rt.stdout(),
         &mut rt.stderr(),

@@ -1,8 +1,8 @@
 //! Networks that are made up.
 
+use drda_program::Network;
 use std::io::{self, ErrorKind, Read, Write};
-use std::net::{Ipv4Addr, Net, OpenListener, OpenStream, SocketAddr, SocketAddrV4};
-use std::os::fd::{AsRawFd, RawFd};
+use std::net::{Ipv4Addr, SocketAddr, SocketAddrV4};
 
 /// Who calls. `Silent` has nothing to say, `Broken` can't be read, `Deaf` says bytes and can't be written
 /// to, `Alone` has no second handle, and `Talking` says bytes and hears all.
@@ -26,15 +26,14 @@ pub enum Way {
 /// A network with one listener, of this machine alone, asked for the port 0 or 4711 and found at 4711. Each
 /// caller says the same.
 #[derive(Drop)]
-pub struct Network<'a> {
+pub struct Callers<'a> {
     pub way: Way,
     pub said: &'a [u8],
 }
 
 #[derive(Drop)]
-pub struct Door<'a> {
+pub struct Door {
     caller: Option<Caller>,
-    said: &'a [u8],
 }
 
 #[derive(Drop)]
@@ -51,58 +50,48 @@ fn address(port: u16) -> SocketAddr {
     SocketAddr::V4(SocketAddrV4::new(Ipv4Addr::new(127, 0, 0, 1), port))
 }
 
-impl<'a> Net for Network<'a> {
+impl<'a> Network for Callers<'a> {
+    type Listener = Door;
+
     type Stream = Call<'a>;
 
-    type Listener = Door<'a>;
+    type Writer = Call<'a>;
 
-    fn bind(&self, addr: SocketAddr) -> io::Result<Door<'a>> {
-        if addr != address(0) && addr != address(4711) {
+    fn bind(&mut self, at: SocketAddr) -> io::Result<Door> {
+        if at != address(0) && at != address(4711) {
             return refused();
         }
-        let caller = match self.way {
-            Way::Taken => return refused(),
-            Way::LetsIn(caller) => Some(caller),
-            Way::Shut => None,
-        };
-        Ok(Door {
-            caller,
-            said: self.said,
-        })
-    }
-
-    fn connect(&self, _addr: SocketAddr) -> io::Result<Call<'a>> {
-        refused()
-    }
-}
-
-impl<'a> Door<'a> {
-    fn call_of(&self, caller: Caller) -> Call<'a> {
-        Call {
-            caller,
-            said: self.said,
+        match self.way {
+            Way::Taken => refused(),
+            Way::LetsIn(caller) => Ok(Door {
+                caller: Some(caller),
+            }),
+            Way::Shut => Ok(Door { caller: None }),
         }
     }
-}
 
-impl<'a> OpenListener for Door<'a> {
-    type Stream = Call<'a>;
+    fn port(&self, _listener: &Door) -> io::Result<u16> {
+        Ok(4711)
+    }
 
-    fn accept(&self) -> io::Result<(Call<'a>, SocketAddr)> {
-        match self.caller {
-            Some(caller) => Ok((self.call_of(caller), address(4711))),
+    fn accept(&mut self, listener: &Door) -> io::Result<Call<'a>> {
+        match listener.caller {
+            Some(caller) => Ok(Call {
+                caller,
+                said: self.said,
+            }),
             None => refused(),
         }
     }
 
-    fn local_addr(&self) -> io::Result<SocketAddr> {
-        Ok(address(4711))
-    }
-}
-
-impl AsRawFd for Door<'_> {
-    fn as_raw_fd(&self) -> RawFd {
-        0
+    fn writer(&mut self, stream: &Call<'a>) -> io::Result<Call<'a>> {
+        if stream.caller == Caller::Alone {
+            return refused();
+        }
+        Ok(Call {
+            caller: stream.caller,
+            said: &[],
+        })
     }
 }
 
@@ -125,23 +114,5 @@ impl Write for Call<'_> {
 
     fn flush(&mut self) -> io::Result<()> {
         Ok(())
-    }
-}
-
-impl<'a> OpenStream for Call<'a> {
-    fn try_clone(&self) -> io::Result<Call<'a>> {
-        if self.caller == Caller::Alone {
-            return refused();
-        }
-        Ok(Call {
-            caller: self.caller,
-            said: &[],
-        })
-    }
-}
-
-impl AsRawFd for Call<'_> {
-    fn as_raw_fd(&self) -> RawFd {
-        0
     }
 }

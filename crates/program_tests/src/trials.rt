@@ -1,6 +1,6 @@
 //! Trials of the program, a line each.
 
-use crate::networks::{Caller, Network, Way};
+use crate::networks::{Caller, Callers, Way};
 use crate::shelves::Shelf;
 use crate::streams::{Broken, Unflushed};
 use drda_program::{Ready, run_words};
@@ -12,7 +12,7 @@ use test_bytes::bytes_of;
 #[derive(Drop)]
 struct Scene<'a> {
     calls: u64,
-    net: &'a Network<'a>,
+    way: Way,
     input: &'a [u8],
 }
 
@@ -41,6 +41,14 @@ fn parts_of<'a>(alloc: Global, line: &'a str) -> Option<Vec<&'a str>> {
     Some(parts)
 }
 
+// The network of a scene, where each caller says the input.
+fn callers_of<'a>(scene: &Scene<'a>) -> Callers<'a> {
+    Callers {
+        way: scene.way,
+        said: scene.input,
+    }
+}
+
 // The program over these words and streams.
 fn end_of<R: Read + Ready, W: Write>(
     alloc: Global,
@@ -50,8 +58,9 @@ fn end_of<R: Read + Ready, W: Write>(
     out: &mut W,
 ) -> Ended {
     let mut files = Shelf::new(alloc, scene.calls);
+    let mut net = callers_of(scene);
     let mut err = Vec::new(alloc);
-    let status = run_words(alloc, words, &mut files, scene.net, reader, out, &mut err);
+    let status = run_words(alloc, words, &mut files, &mut net, reader, out, &mut err);
     Ended {
         status,
         made: files.made,
@@ -122,10 +131,9 @@ impl Trials {
         let way = way_of(net)?;
         let calls = calls.parse::<u64>().unwrap_or(u64::MAX);
         let input = bytes_of(self.alloc, &[input]).ok()?;
-        let net = Network { way, said: &input };
         let scene = Scene {
             calls,
-            net: &net,
+            way,
             input: &input,
         };
         match streams {
@@ -168,13 +176,14 @@ impl Trials {
     // Standard error takes nothing either.
     fn without_errors(&mut self, words: &[&str], scene: &Scene<'_>) -> Option<()> {
         let mut files = Shelf::new(self.alloc, scene.calls);
+        let mut net = callers_of(scene);
         let mut reader = scene.input;
         let mut out = Vec::new(self.alloc);
         let status = run_words(
             self.alloc,
             words,
             &mut files,
-            scene.net,
+            &mut net,
             &mut reader,
             &mut out,
             &mut Broken,

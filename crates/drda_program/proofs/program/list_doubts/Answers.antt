@@ -1,11 +1,14 @@
-use Rattle.std.proofs.Common.{◌∙◌, subst, List, ℕ}
-use Rattle.std.specs.Io.KnownBytes.{Appends}
-use Rattle.drda_program.proofs.Flushing.{listed}
+use Rattle.std.proofs.Common.{rules, refl}
+use Rattle.rdb_core.specs.InDoubt.{xids_left}
+use Rattle.drda_program.specs.Program.{IsOfDoubts}
+use Rattle.drda_program.proofs.Doubted.{are_doubts}
+use Rattle.drda_program.proofs.Ran.{found}
+use Rattle.drda_program.proofs.Told.{told}
 use Rattle.drda_program.proofs.program.list_doubts.Goals as goal
 
-pub returns-in-Ok : goal.returns-in-Ok
-returns-in-Ok g c =
-    let before = g.W.Write.contents c.args.out.now in
-    let mid = g.W.Write.contents c.write_whole.new.writer in
-    let appended = subst (λ (z : List ℕ). Appends before mid z) (c.as_bytes.ensures.value ∙ c.in_ok-text.ensures) c.in-Ok.ensures.ok in
-    listed c.as_slice.result.now before mid _ c.flush.result c.flush.ensures.cause appended c.flush.ensures.kept
+pub returns : goal.returns
+returns g c =
+    let there = found g.F.Disk.Disk.is_modelled g.F.Disk.Disk.life g.F.StoreFiles.calls c.args.files.now c.args.path.now c.in_ok-core.core c.open_file.new.files c.in_ok-core.ensures in
+    told g.F.Disk.Disk.is_modelled g.F.Disk.Disk.life g.F.StoreFiles.calls (IsOfDoubts g.F.Disk.Disk.is_modelled g.F.Disk.Disk.life) c.args.path.now c.args.files.now c.open_file.new.files there.0 there.1 c.deref.result.now _ _ c.tell.result
+    (xids_left c.in_doubt.result, search rules, λ modelled. are_doubts (g.F.Disk.Disk.life there.0).seen c.in_ok-core.core (xids_left c.in_doubt.result) c.records_lead_to_sound_states.ensures c.checkpoints_are_known.ensures.stores (there.2.stood modelled) c.in_doubt.ensures)
+    c.tell.ensures.told c.tell.ensures.cause
