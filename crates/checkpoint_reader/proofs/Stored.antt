@@ -1,5 +1,5 @@
 -- One table that was checked, and its rows.
-use Rattle.std.proofs.Common.{◌≡◌, ℕ, ◌≤◌, true, List, [], ◌∷◌, Option, Result, Ok, Err, OnOk, refl, sym, ap, subst, ◌∙◌, arith}
+use Rattle.std.proofs.Common.{◌≡◌, ℕ, ◌≤◌, true, List, [], ◌∷◌, ◌++◌, Option, Result, Ok, Err, OnOk, refl, sym, ap, subst, ◌∙◌, arith}
 use Rattle.std.specs.List.{AllByRecursion, list_all}
 use Rattle.std.specs.Map.{values_of}
 use Rattle.row_values.specs.Schema.{Schema, is_name}
@@ -11,7 +11,8 @@ use Rattle.table_map.specs.Damage.{DamagedWhere}
 use Rattle.table_map.specs.Keyed.{keyed_rows}
 use Rattle.table_map.specs.Stored.{IsStored, Places}
 use Rattle.table_map.specs.Table.{Table, rows_of_table, without_keys}
-use Rattle.tables.specs.Change.{create}
+use Rattle.tables.specs.Applied.{apply_all}
+use Rattle.tables.specs.Change.{Change, create}
 use Rattle.tables.specs.Tables.{Store, apply}
 use Rattle.tables.specs.View.{is_store}
 use Rattle.checkpoint_writer.specs.Catalogue.{Entry}
@@ -40,6 +41,11 @@ values_there schema (row ∷ rows) = ap (λ (l : List (List ℕ)). row ∷ l) (v
 pub rows_alone : (key_of : List ℕ → List ℕ) (table : Table) (pages : List (List (List ℕ))) → table.overlay ≡ [] → without_keys (rows_of_table key_of table pages) ≡ rows_over pages
 rows_alone key_of table pages none =
     ap (λ (changes : List (List ℕ × Option (List ℕ))). without_keys (rows_of_table key_of (record { places = table.places; overlay = changes }) pages)) none ∙ unkeyed key_of (rows_over pages)
+
+-- one change more, behind the others
+pub one_change_more : (cs : List Change) (c : Change) (s : Store) → apply_all (cs ++ c ∷ []) s ≡ apply c (apply_all cs s)
+one_change_more [] c s = refl
+one_change_more (d ∷ cs) c s = one_change_more cs c (apply d s)
 
 -- ---- damage
 

@@ -1,19 +1,16 @@
--- One row more is put, or it is too long to be one.
-use Rattle.std.proofs.Common.{rules, ◌≡◌, ◌+◌, ◌-◌, ◌<◌, length, arith}
+-- Some rows more are put.
+use Rattle.std.proofs.Common.{◌∙◌, map, ap, arith}
+use Rattle.tables.specs.Applied.{apply_all}
+use Rattle.tables.specs.ChangeView.{change_of}
+use Rattle.tables.specs.Tables.{Store}
 use Rattle.table_store.specs.TableStore.{store_in}
-use Rattle.table_store.proofs.Copying.{row_short, rows_next}
-use Rattle.checkpoint_reader.proofs.Stored.{never_damaged}
 use Rattle.checkpoint_reader.proofs.adding.add_rows.Goals as goal
 
 pub loop-left-preserved : goal.loop-left-preserved
-loop-left-preserved c =
-    let one : c.loop-left.left ≡ (c.loop-left.left - 1) + 1 = omega (arith, c.loop-left-test.true) in
-    record {
-      few = omega (arith, c.loop-left.invariant.few);
-      made = rows_next c.args.name.now c.row.result.now c.args.rows.now (c.loop-left.left - 1) c.loop-left.left (store_in c.loop-left.store) (store_in c.add_row.new.store) (store_in c.args.store.now) c.row.ensures one c.loop-left.invariant.made c.in_ok-add_row.ensures.made;
-    }
-
-pub returns-in_err-add_row-clause-damaged : goal.returns-in_err-add_row-clause-damaged
-returns-in_err-add_row-clause-damaged c schema fit =
-    never_damaged (Unit {0}) (Unit {0}) (4000 < length c.row.result.now) c.in_err-add_row.field-0.0 c.from_residual.result
-    (λ long. omega (arith, long, row_short schema c.args.rows.now (c.loop-left.left - 1) c.row.result.now fit c.row.ensures)) c.in_err-add_row.ensures.damaged (search rules)
+loop-left-preserved c = record {
+  few = omega (arith, c.loop-left.invariant.few, c.saturating_sub-from.ensures);
+  made =
+      c.in_ok-make.ensures.made
+      ∙ ap (λ (s : Store). apply_all (map change_of c.in_ok-changes.changes.items) s) c.loop-left.invariant.made
+      ∙ c.in_ok-changes.ensures.made (store_in c.args.store.now);
+}
