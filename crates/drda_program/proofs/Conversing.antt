@@ -50,12 +50,16 @@ module _ {N L S W : Type 0} (calls : NetworkCalls N L S W) (remaining : S → Op
         → ServesFile (surroundings files_calls modelled life calls remaining contents) path port login count (seen files net out) r (seen files' net' out')
     served net net' out out' r begun left first last same begins listens left_is journaled =
         let there = found modelled life files_calls files path core files' opened in
-        inr (there.0, there.1, record {
-          core = core;
-          over = there.2;
-          last = last;
-          listens = subst (λ (m : Machine). Listens calls remaining contents port count net m out r net' last out') begins listens;
-          left = left;
-          left_is = left_is;
-          journaled = subst (λ (c : OnDisk D). IsJournaled modelled life c left) same journaled;
-        })
+        inr (
+          there.0,
+          there.1,
+          record {
+            core = core;
+            over = there.2;
+            last = last;
+            listens = subst (λ (m : Machine). Listens calls remaining contents port count net m out r net' last out') begins listens;
+            left = left;
+            left_is = left_is;
+            journaled = subst (λ (c : OnDisk D). IsJournaled modelled life c left) same journaled;
+          },
+        )

@@ -3,6 +3,8 @@ use Rattle.std.specs.Prelude.{◌≡◌, ◌⊎◌, ℕ, zero, suc, ◌-◌, ◌
 use Rattle.std.specs.Fmt.{decimal}
 use Rattle.std.specs.Io.KnownBytes.{Appends}
 use Rattle.std.specs.declared.net.socket_addr.SocketAddr.{SocketAddr}
+use Rattle.durable_core.specs.declared.checkpointing.Checkpointed.{Checkpointed}
+use Rattle.drda_node.specs.Happening.{IsCheckpointed}
 use Rattle.drda_node.specs.Machine.{Machine}
 use Rattle.stream_service.specs.Serving.{Serves}
 use Rattle.stream_service.specs.declared.serving.Served.{Served}
@@ -20,6 +22,10 @@ asked (Some count) = count
 abbrev pub port_line : ℕ → List ℕ
 port_line port = codes "listening " ++ decimal port ++ 10 ∷ []
 
+-- a checkpoint was asked for, or none
+abbrev pub MayCheckpoint : Machine → Machine → Type 0
+MayCheckpoint first last = (last ≡ first) ⊎ ((told : Checkpointed) × IsCheckpointed told first.core last.core × (last ≡ record first { core = last.core }))
+
 module _ {N L S W : Type 0} (calls : NetworkCalls N L S W) (remaining : S → Option (List ℕ)) (contents : W → Option (List ℕ)) where
   -- what a stream brings is heard by the machine, and its answers are written on the stream's second handle; without one
   -- nothing is heard
@@ -28,12 +34,14 @@ module _ {N L S W : Type 0} (calls : NetworkCalls N L S W) (remaining : S → Op
       ⊎ ((writer : W) × calls.answers net stream (Some writer) net' × (ended : Served) × (now : Option (List ℕ))
       × IfSome (remaining stream) (λ input. Serves first input (contents writer) ended now last))
 
-  -- the next stream is let in, and heard
+  -- the next stream is let in, and heard, once a checkpoint is written that may be due
   pub record Converses (listener : L) (net : N) (first : Machine) (net' : N) (last : Machine) : Type 0 where
     pub stream : S
     pub mid : N
     pub let_in : calls.lets_in net listener (Some stream) mid
-    pub heard : IsHeard stream mid first net' last
+    pub ready : Machine
+    pub checkpointed : MayCheckpoint first ready
+    pub heard : IsHeard stream mid ready net' last
 
   -- so many streams, each heard by the machine that the one before left
   abbrev pub Talks : L → ℕ → N → Machine → N → Machine → Type 0

@@ -5,7 +5,7 @@ ghost use Rattle.std.specs.Io.KnownBytes.{Appends};
 ghost use Rattle.drda_node.specs.Asking.{IsJournaled};
 ghost use Rattle.drda_node.specs.Register.{core_in, machine};
 ghost use Rattle.command_line.specs.Job.{plain_login};
-ghost use Rattle.drda_program.specs.Listening.{HasListened, IsHeard, Listens, port_line};
+ghost use Rattle.drda_program.specs.Listening.{HasListened, IsHeard, Listens, MayCheckpoint, port_line};
 ghost use Rattle.drda_program.specs.Program.{ServesFile, seen, surroundings};
 ghost use Rattle.drda_program.specs.Stores.{IsOfDevice};
 
@@ -24,7 +24,8 @@ use std::io::Write;
 use std::net::{Ipv4Addr, SocketAddr, SocketAddrV4};
 use stream_service::{Served, serve_one};
 
-/// Serves conversations over the store of a path, on a port of 127.0.0.1: so many, or without end. It ends
+/// Serves conversations over the store of a path, on a port of 127.0.0.1: so many, or without end. Before
+/// each a checkpoint is written where one is due. It ends
 /// early where the device fails, memory is refused or no stream is let in any more; a stream that fails
 /// ends its own conversation alone.
 pub(crate) fn serve_file<F: StoreFiles, N: Network, W: Write>(
@@ -86,9 +87,23 @@ fn serve_all<D: Disk, N: Network, W: Write>(
         let Ok(stream) = net.accept(listener) else {
             return Err(Fault::Device);
         };
+        consider_checkpoint(node);
         converse(alloc, node, net, stream)?;
     }
     Ok(())
+}
+
+// Writes a checkpoint where one is due. Where it has no room, or memory is refused, the node goes on without;
+// where the device fails, the next conversation tells.
+fn consider_checkpoint<D: Disk>(node: &mut Node<D>)
+    ensures checkpointed { MayCheckpoint (machine node.old) (machine node.new) }
+    ensures journaled { IsJournaled D.is_modelled D.life (core_in node.old) (core_in node.new) }
+{
+    calls_go_on::<D>();
+    node.core().is_durable();
+    if node.is_checkpoint_due() {
+        let _ = node.checkpoint();
+    }
 }
 
 // Serves one stream.
