@@ -1,5 +1,5 @@
 -- Conversations over a network, one after another.
-use Rattle.std.proofs.Common.{◌≡◌, ◌∙◌, refl, sym, subst, inl, inr, arith, ℕ, suc, ◌+◌, Bool, List, Option, Some, Result, Ok, Err}
+use Rattle.std.proofs.Common.{◌≡◌, refl, sym, subst, inl, inr, arith, ℕ, suc, ◌+◌, Bool, List, Option, Result, Ok, Err}
 use Rattle.drda_disk.specs.Disk.{Life}
 use Rattle.recovery_laws.specs.Journaled.{OnDisk}
 use Rattle.drda_node.specs.Asking.{IsJournaled, asked_of}
@@ -9,7 +9,7 @@ use Rattle.drda_program.proofs.Ran.{found}
 use Rattle.drda_program.specs.Files.{FileCalls}
 use Rattle.drda_program.specs.Listening.{Converses, HasListened, Listens, Talks}
 use Rattle.drda_program.specs.Network.{NetworkCalls}
-use Rattle.drda_program.specs.Opening.{IsOver, OpensStore}
+use Rattle.drda_program.specs.Opening.{OpensStore}
 use Rattle.drda_program.specs.Program.{ServesFile, machine_over, seen, surroundings}
 use Rattle.drda_program.specs.Stores.{IsOfDevice, RefusesName}
 use Rattle.drda_program.specs.declared.fault.Fault.{Fault}
@@ -50,12 +50,16 @@ module _ {N L S W : Type 0} (calls : NetworkCalls N L S W) (remaining : S → Op
         → ServesFile (surroundings files_calls modelled life calls remaining contents) path port login count (seen files net out) r (seen files' net' out')
     served net net' out out' r begun left first last same begins listens left_is journaled =
         let there = found modelled life files_calls files path core files' opened in
-        inr (there.0, there.1, record {
-          core = core;
-          over = there.2;
-          last = last;
-          listens = subst (λ (m : Machine). Listens calls remaining contents port count net m out r net' last out') begins listens;
-          left = left;
-          left_is = left_is;
-          journaled = subst (λ (c : OnDisk D). IsJournaled modelled life c left) same journaled;
-        })
+        inr (
+          there.0,
+          there.1,
+          record {
+            core = core;
+            over = there.2;
+            last = last;
+            listens = subst (λ (m : Machine). Listens calls remaining contents port count net m out r net' last out') begins listens;
+            left = left;
+            left_is = left_is;
+            journaled = subst (λ (c : OnDisk D). IsJournaled modelled life c left) same journaled;
+          },
+        )
