@@ -1,5 +1,5 @@
 -- Conversations over a network, one after another.
-use Rattle.std.proofs.Common.{◌≡◌, ◌∙◌, refl, sym, subst, inl, inr, arith, ℕ, suc, ◌+◌, Bool, List, Option, Some, Result, Ok, Err}
+use Rattle.std.proofs.Common.{◌≡◌, refl, sym, subst, inl, inr, arith, ℕ, suc, ◌+◌, Bool, List, Option, Result, Ok, Err}
 use Rattle.drda_disk.specs.Disk.{Life}
 use Rattle.recovery_laws.specs.Journaled.{OnDisk}
 use Rattle.drda_node.specs.Asking.{IsJournaled, asked_of}
@@ -9,7 +9,7 @@ use Rattle.drda_program.proofs.Ran.{found}
 use Rattle.drda_program.specs.Files.{FileCalls}
 use Rattle.drda_program.specs.Listening.{Converses, HasListened, Listens, Talks}
 use Rattle.drda_program.specs.Network.{NetworkCalls}
-use Rattle.drda_program.specs.Opening.{IsOver, OpensStore}
+use Rattle.drda_program.specs.Opening.{OpensStore}
 use Rattle.drda_program.specs.Program.{ServesFile, machine_over, seen, surroundings}
 use Rattle.drda_program.specs.Stores.{IsOfDevice, RefusesName}
 use Rattle.drda_program.specs.declared.fault.Fault.{Fault}

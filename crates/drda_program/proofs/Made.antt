@@ -6,7 +6,6 @@ use Rattle.drda_disk.specs.Disk.{Life, Only}
 use Rattle.half_store.specs.Active.{is_marked}
 use Rattle.half_store.specs.Fresh.{IsUnmarked, is_store_of}
 use Rattle.drda_program.proofs.Flushing.{appended_kept}
-use Rattle.drda_program.proofs.Names.{both}
 use Rattle.drda_program.specs.Files.{FileCalls}
 use Rattle.drda_program.specs.Opening.{IsMade}
 use Rattle.drda_program.specs.Program.{Makes}

@@ -1,5 +1,5 @@
 -- A run over the store of a path.
-use Rattle.std.proofs.Common.{◌≡◌, refl, subst, inl, inr, ℕ, Bool, List, Option, Some, IfSome, Result, Ok, Err}
+use Rattle.std.proofs.Common.{◌≡◌, subst, inl, inr, ℕ, Bool, List, Option, Some, IfSome, Result, Ok}
 use Rattle.std.specs.Io.KnownBytes.{Keeps}
 use Rattle.drda_disk.specs.Disk.{Life}
 use Rattle.recovery_laws.specs.Journaled.{OnDisk}

@@ -1,5 +1,5 @@
 -- A text of the store of a path.
-use Rattle.std.proofs.Common.{◌≡◌, sym, subst, inl, inr, ℕ, List, Option, Some, IfErr, Result, Ok, Err, OnOk, refl}
+use Rattle.std.proofs.Common.{◌≡◌, inl, inr, ℕ, List, Option, Some, IfErr, Result, Ok, Err, OnOk, refl}
 use Rattle.std.specs.Io.KnownBytes.{Appends}
 use Rattle.drda_disk.specs.Disk.{Life}
 use Rattle.std.specs.Prelude.{Bool}

@@ -1,4 +1,3 @@
-use Rattle.std.proofs.Common.{◌≡◌}
 use Rattle.drda_node.specs.Asking.{IsJournaled}
 use Rattle.drda_node.specs.Register.{core_in, machine}
 use Rattle.drda_program.specs.Listening.{Talks}

@@ -1,4 +1,4 @@
-use Rattle.std.proofs.Common.{rules, refl}
+use Rattle.std.proofs.Common.{rules}
 use Rattle.rdb_core.specs.InDoubt.{xids_left}
 use Rattle.drda_program.specs.Program.{IsOfDoubts}
 use Rattle.drda_program.proofs.Doubted.{are_doubts}
