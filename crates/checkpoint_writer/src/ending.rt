@@ -3,11 +3,11 @@ ghost use Rattle.std.specs.Prelude.{◌≡◌, ◌+◌, ◌≤◌, ℕ, List, If
 ghost use Rattle.drda_disk.specs.Disk.{LeavesOnly};
 ghost use Rattle.unit_journal.specs.Journal.{held_of};
 ghost use Rattle.unit_journal.specs.Record.{entries_of, laid};
-ghost use Rattle.half_store.specs.Opened.{IsBehindPages, store_of};
+ghost use Rattle.half_store.specs.Opened.{store_of};
 ghost use Rattle.half_store.specs.Switching.{switched};
 ghost use Rattle.half_store.specs.Writing.{IsWriting, from_of, half_bytes_of, pages_of};
 ghost use Rattle.checkpoint_writer.specs.Errors.{CountsImage, DamagedWhere};
-ghost use Rattle.checkpoint_writer.specs.Moment.{IsSwitched, Moment, OnRefused, SaysFull};
+ghost use Rattle.checkpoint_writer.specs.Moment.{IsBehind, IsSwitched, Moment, OnRefused, SaysFull};
 
 use crate::ImageError;
 use drda_disk::Disk;
@@ -47,7 +47,7 @@ pub fn finish_image<D: Disk>(
     ensures done { IfOk result (λ s. (base : List ℕ) → IsWriting D.is_modelled (D.life disk.old) base (store_of active.now) image →
         IsSwitched D.is_modelled (D.life disk.new) (D.life disk.old).seen (switched (store_of active.now) image first_catalogue catalogue_pages) image s (entries_of records.now) held) }
     ensures store { IfOk result (λ s. store_of s.active ≡ switched (store_of active.now) image first_catalogue catalogue_pages) }
-    ensures behind { IfOk result (λ s. IsBehindPages (half_bytes_of image) s.active) }
+    ensures behind { IfOk result (IsBehind image) }
     ensures held { IfOk result (λ s. held_of s.journal ≡ held) }
     ensures refused { OnRefused result ((base : List ℕ) → IsWriting D.is_modelled (D.life disk.old) base (store_of active.now) image → IsWriting D.is_modelled (D.life disk.new) base (store_of active.now) image) }
     ensures full { SaysFull result image (length (laid (entries_of records.now)) + held) }

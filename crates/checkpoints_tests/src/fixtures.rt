@@ -98,7 +98,12 @@ pub fn rows_of<D: Disk>(
     let used = 8_192 * active.pages as usize;
     let first = 8_192 * table.first_page as usize;
     let bytes = 8_192 * table.pages as usize;
-    if end > STORE_BYTES || used > end || first > used || bytes > used - first || end > disk.size() {
+    if end > STORE_BYTES
+        || used > end
+        || first > used
+        || bytes > used - first
+        || end > disk.size()
+    {
         return Err(PageFault::Damaged);
     }
     let pages = TablePages::open(

@@ -43,8 +43,10 @@ fn is_table(
 fn has_tables(alloc: Global, disk: &mut MemDisk, active: &Active, run: Run) -> Result<bool, Fail> {
     let tables = tables_of(alloc, disk, active)?;
     match tables.as_slice() {
-        [a, t] => Ok(is_table(alloc, disk, active, a, ("A", (0, 0, 0)))?
-            && is_table(alloc, disk, active, t, ("T_2", run))?),
+        [a, t] => Ok(
+            is_table(alloc, disk, active, a, ("A", (0, 0, 0)))?
+                && is_table(alloc, disk, active, t, ("T_2", run))?,
+        ),
         _ => Ok(false),
     }
 }
@@ -60,11 +62,13 @@ fn is_read_back(
     let records = two_records(alloc)?;
     let done = checkpoint(alloc, disk, &old, store, &records, 100)?;
     let new = open(alloc, disk)?;
-    Ok(done == (new.generation, 100)
-        && new.generation == old.generation.wrapping_add(1)
-        && new.half == old.half.other()
-        && has_tables(alloc, disk, &new, run)?
-        && lengths_of(alloc, disk, &new)? == (2, [3, 0]))
+    Ok(
+        done == (new.generation, 100)
+            && new.generation == old.generation.wrapping_add(1)
+            && new.half == old.half.other()
+            && has_tables(alloc, disk, &new, run)?
+            && lengths_of(alloc, disk, &new)? == (2, [3, 0]),
+    )
 }
 
 /// The rows of `T_2`: none, some on one page, and some on several.
@@ -81,7 +85,10 @@ fn a_checkpoint_is_read_back(rt: HostRuntime) -> Result<(), Fail> {
     let (mut disk, _) = new_store(rt.alloc())?;
     for run in TABLE {
         let store = two_tables(rt.alloc(), run)?;
-        assert!(rt; is_read_back(rt.alloc(), &mut disk, &store, run)?, "{run:?}");
+        assert!(rt;
+            is_read_back(rt.alloc(), &mut disk, &store, run)?,
+            "{run:?}"
+        );
     }
     Ok(())
 }
