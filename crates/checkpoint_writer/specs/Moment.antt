@@ -7,6 +7,7 @@ use Rattle.unit_journal.specs.Journal.{IsSettled, region_of}
 use Rattle.unit_journal.specs.Record.{Entry, laid}
 use Rattle.unit_journal.specs.Stands.{StandsFrom}
 use Rattle.half_store.specs.Active.{Store, active_of}
+use Rattle.half_store.specs.Opened.{IsBehindPages}
 use Rattle.half_store.specs.Switching.{switched}
 use Rattle.half_store.specs.Writing.{IsKept, from_of, half_bytes_of, next_of, pages_of}
 use Rattle.half_store.specs.declared.image.ImageWriter.{ImageWriter}
@@ -41,6 +42,10 @@ pub record IsSwitched (modelled : Bool) (disk : Life) (file : List ℕ) (new : S
   pub is : IsNew file new w es held disk.seen
   pub begins : (region_of s.journal).at ≡ next_of w
   pub ends : end_of (region_of s.journal) ≡ from_of w + half_bytes_of w
+
+-- its journal's region is what is left of the half behind its pages
+abbrev pub IsBehind : ImageWriter → Switched → Type 0
+IsBehind w s = IsBehindPages (half_bytes_of w) s.active
 
 -- what holds where nothing was switched and the device did not fail
 abbrev pub OnRefused : {T : Type 0} → Result T ImageError → Type 0 → Type 0

@@ -4,11 +4,11 @@ ghost use Rattle.drda_disk.specs.Disk.{LeavesOnly};
 ghost use Rattle.drda_disk.specs.Region.{end_of};
 ghost use Rattle.unit_journal.specs.Journal.{held_of, region_of};
 ghost use Rattle.unit_journal.specs.Record.{entries_of, laid};
-ghost use Rattle.half_store.specs.Opened.{IsBehindPages, store_of};
+ghost use Rattle.half_store.specs.Opened.{store_of};
 ghost use Rattle.half_store.specs.Switching.{switched};
 ghost use Rattle.half_store.specs.Writing.{IsWriting, from_of, half_bytes_of, pages_of};
 ghost use Rattle.checkpoint_writer.specs.Errors.{CountsImage, DamagedWhere};
-ghost use Rattle.checkpoint_writer.specs.Moment.{IsSwitched, Moment, OnRefused, SaysFull};
+ghost use Rattle.checkpoint_writer.specs.Moment.{IsBehind, IsSwitched, Moment, OnRefused, SaysFull};
 
 use crate::ImageError;
 use drda_disk::Disk;
@@ -48,7 +48,7 @@ pub fn finish_image<D: Disk>(
     ensures done { IfOk result (λ s. (base : List ℕ) → IsWriting D.is_modelled (D.life disk.old) base (store_of active.now) image →
         IsSwitched D.is_modelled (D.life disk.new) (D.life disk.old).seen (switched (store_of active.now) image first_catalogue catalogue_pages) image s (entries_of records.now) held) }
     ensures store { IfOk result (λ s. store_of s.active ≡ switched (store_of active.now) image first_catalogue catalogue_pages) }
-    ensures behind { IfOk result (λ s. IsBehindPages (half_bytes_of image) s.active) }
+    ensures behind { IfOk result (IsBehind image) }
     ensures held { IfOk result (λ s. held_of s.journal ≡ held) }
     ensures ends { IfOk result (λ s. end_of (region_of s.journal) ≡ from_of image + half_bytes_of image) }
     ensures size { length (D.life disk.new).seen ≡ length (D.life disk.old).seen }

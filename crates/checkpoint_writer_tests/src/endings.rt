@@ -1,7 +1,10 @@
 //! Images that become the active half, with records behind their pages.
+ghost use Rattle.std.specs.Prelude.{◌≤◌, IsTrue};
+ghost use Rattle.drda_disk.specs.Region.{end_of};
+
 use crate::fixtures::{STORE_BYTES, new_store};
 use checkpoint_writer::{ImageError, finish_image};
-use drda_disk::{Disk, FuseDisk, MemDisk};
+use drda_disk::{Disk, FuseDisk, MemDisk, Region};
 use half_store::{Active, Full, begin_image, open};
 use std::alloc::{AllocError, Global};
 use std::test::Fail;
@@ -27,6 +30,12 @@ fn two_records(alloc: Global) -> Result<Vec<Record>, AllocError> {
     Ok(records)
 }
 
+fn lies_on(region: Region, size: usize) -> bool
+    ensures { IsTrue result → end_of region ≤ size }
+{
+    region.at <= size && region.length <= size - region.at
+}
+
 /// Writes a page into the half that is not active, and behind it these records; then it is the active
 /// half, and so many bytes are held back.
 fn switched<D: Disk>(
@@ -43,6 +52,9 @@ fn switched<D: Disk>(
     let mut image = begin_image(disk, active)?;
     if page.len() == 8_192 {
         image.page(disk, &page)?;
+    }
+    if !lies_on(image.finish_pages(), disk.size()) {
+        return Err(ImageError::Damaged);
     }
     finish_image(alloc, disk, image, active, 0, 0, records, held)?;
     Ok(())
@@ -61,10 +73,7 @@ fn found(alloc: Global, disk: &mut MemDisk) -> Result<Found, Fail> {
     let active = open(alloc, disk)?;
     let region = active.region;
     let mut lengths = [9usize; 2];
-    if region.length == 0 || region.length > STORE_BYTES || region.at > STORE_BYTES {
-        return Ok((0, 0, 0, lengths));
-    }
-    if region.at + region.length > disk.size() {
+    if region.length == 0 || region.length > STORE_BYTES || !lies_on(region, disk.size()) {
         return Ok((0, 0, 0, lengths));
     }
     let (_, records) = Journal::open(alloc, disk, region)?;

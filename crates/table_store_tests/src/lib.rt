@@ -6,6 +6,4 @@ mod compared;
 #[cfg(test)]
 mod fixtures;
 #[cfg(test)]
-mod lending;
-#[cfg(test)]
 mod rows;
