@@ -1,8 +1,8 @@
 //! Checkpoints with damaged pages, and devices that fail.
 use crate::fixtures::{PAGE_BYTES, Run, SECOND_AT, checkpoint, new_store, read};
 use drda_disk::{Disk, FuseDisk, MemDisk};
-use half_store::open;
-use std::alloc::Global;
+use half_store::{Active, open};
+use std::alloc::{AllocError, Global};
 use std::test::Fail;
 use store_check::CheckError;
 
@@ -29,10 +29,27 @@ fn put(disk: &mut MemDisk, page: usize, at: usize, byte: u8) {
     }
 }
 
-/// Why nothing is read of a store.
-fn fault_of<D: Disk>(alloc: Global, disk: &mut D) -> Result<Option<CheckError>, Fail> {
-    let active = open(alloc, disk)?;
-    Ok(read(alloc, disk, &active).err())
+/// Why nothing is read of a store whose active half is this one, but for want of memory.
+fn fault_of<D: Disk>(
+    alloc: Global,
+    disk: &mut D,
+    active: &Active,
+) -> Result<Option<CheckError>, Fail> {
+    match read(alloc, disk, active) {
+        Ok(_) => Ok(None),
+        Err(CheckError::NoMemory) => Err(AllocError.into()),
+        Err(error) => Ok(Some(error)),
+    }
+}
+
+/// Why nothing is read of a store with these bytes in the pages of its checkpoint.
+fn damaged(alloc: Global, bytes: &[(usize, usize, u8)]) -> Result<Option<CheckError>, Fail> {
+    let mut disk = written(alloc)?;
+    for (page, at, byte) in bytes {
+        put(&mut disk, *page, *at, *byte);
+    }
+    let active = open(alloc, &mut disk)?;
+    fault_of(alloc, &mut disk, &active)
 }
 
 /// Bytes that are put into pages, by the page's number and the place, and the first bad page then.
@@ -54,17 +71,13 @@ const TABLE: [(&[(usize, usize, u8)], Option<usize>); 9] = [
 #[test]
 fn a_damaged_page_is_told_by_its_offset(rt: HostRuntime) -> Result<(), Fail> {
     for (row, (bytes, page)) in TABLE.iter().enumerate() {
-        let mut disk = written(rt.alloc())?;
-        for (page, at, byte) in *bytes {
-            put(&mut disk, *page, *at, *byte);
-        }
         let want = match page {
             Some(page) => Some(CheckError::Damaged {
                 at: SECOND_AT.saturating_add(PAGE_BYTES.saturating_mul(*page)),
             }),
             None => None,
         };
-        assert!(rt; fault_of(rt.alloc(), &mut disk)? == want, "{row}");
+        assert!(rt; damaged(rt.alloc(), bytes)? == want, "{row}");
     }
     Ok(())
 }
@@ -74,7 +87,7 @@ fn failing(alloc: Global, call: u64) -> Result<Option<CheckError>, Fail> {
     let mut disk = written(alloc)?;
     let active = open(alloc, &mut disk)?;
     let mut disk = FuseDisk::new(disk, call, false);
-    Ok(read(alloc, &mut disk, &active).err())
+    fault_of(alloc, &mut disk, &active)
 }
 
 #[test]
