@@ -208,7 +208,13 @@ fn ask(core: &mut Core<NoRecords>, spelled: Spelled, number: u16, code: i32) -> 
 // How many branches are known, and how many of them are in doubt.
 fn branches(core: &Core<NoRecords>) -> Option<(usize, usize)> {
     let known = core.plain().ok()?.branches().len();
-    Some((known, core.in_doubt().ok()?.as_slice().len()))
+    let mut xids = core.in_doubt();
+    for in_doubt in 0..usize::MAX {
+        if xids.next().is_none() {
+            return Some((known, in_doubt));
+        }
+    }
+    None
 }
 
 // What is asked of the branch of a number, the code, and how many branches are known then.

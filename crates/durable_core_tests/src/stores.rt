@@ -81,7 +81,8 @@ pub fn show<D: Disk>(alloc: Global, core: &mut DurableCore<D>) -> Shown {
 fn doubts<D: Disk>(core: &DurableCore<D>) -> [u8; 3] {
     let mut signs = [b'-'; 3];
     let mut xids = core.in_doubt();
-    while let Some(xid) = xids.next() {
+    for _ in 0..usize::MAX {
+        let Some(xid) = xids.next() else { break };
         match xid.global() {
             [0x47] => signs[0] = b'?',
             [0x48] => signs[1] = b'?',
