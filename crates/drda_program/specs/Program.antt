@@ -89,16 +89,12 @@ module _ {D : Type 0} (modelled : Bool) (life : D → Life) where
   abbrev pub IsOfDoubts : D → List ℕ → Type 0
   IsOfDoubts disk text = (xids : List (List ℕ)) × (text ≡ doubt_text xids) × (IsTrue modelled → AreDoubts xids (life disk).seen)
 
-  -- all that the disk's core did is journaled, from its opening to the end of the last conversation
-  pub record ServesOn {N L S W : Type 0} (calls : NetworkCalls N L S W) (remaining : S → Option (List ℕ)) (contents : W → Option (List ℕ)) (disk : D) (port : ℕ) (login : Login) (count : Option ℕ)
-      (net : N) (before : Option (List ℕ)) (outcome : Result (Unit {0}) Fault) (net' : N) (now : Option (List ℕ)) : Type 0 where
+  -- Conversations were served over the store that a disk is, each by a thread of its own. What each call made of its core is the
+  -- core's step, one after another under one lock.
+  pub record ServesOn {N L S W : Type 0} (calls : NetworkCalls N L S W) (disk : D) (port : ℕ) (net : N) (before : Option (List ℕ)) (outcome : Result (Unit {0}) Fault) (now : Option (List ℕ)) : Type 0 where
     pub core : OnDisk D
     pub over : IsOver modelled life disk core
-    pub last : Machine
-    pub listens : Listens calls remaining contents port count net (machine_over login core) before outcome net' last now
-    pub left : OnDisk D
-    pub left_is : last.core ≡ asked_of left
-    pub journaled : IsJournaled modelled life core left
+    pub listens : Listens calls port net before outcome now
 
   -- ---- over the disk of a path
 
@@ -158,7 +154,7 @@ module _ {F D N L S W : Type 0} (around : Surroundings F D N L S W) where
   ServesFile path port login count old outcome new =
       ((fault : Fault) × (outcome ≡ Err fault) × IsTurnedBack around.modelled around.life around.files old.files path fault new.files × (new.net ≡ old.net) × (new.out ≡ old.out))
       ⊎ ((disk : D) × around.files.opens old.files path (Some disk) new.files
-      × ServesOn around.modelled around.life around.network around.remaining around.contents disk port login count old.net old.out outcome new.net new.out)
+      × ServesOn around.modelled around.life around.network disk port old.net old.out outcome new.out)
 
   abbrev pub Does : Option Job → Option (List ℕ) → Seen F N → Result (Unit {0}) Fault → Seen F N → Type 0
   Does None input old outcome new = (outcome ≡ Err BadArguments) × (new ≡ old)

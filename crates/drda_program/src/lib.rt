@@ -10,6 +10,7 @@ mod program;
 mod records;
 mod stores;
 mod streams;
+mod threads;
 
 // What a stream tells of that is read.
 pub use drda_node::Ready;
@@ -17,3 +18,4 @@ pub use fault::Fault;
 pub use files::{StoreFiles, SystemFiles};
 pub use network::{Network, SystemNetwork};
 pub use program::run_words;
+pub use threads::{Streams, serve_streams};

@@ -18,6 +18,8 @@ use recovery::laws::records_lead_to_sound_states;
 use std::alloc::Global;
 use std::convert::AsStr;
 use std::io::{Read, Write};
+use std::sync::Wait;
+use std::thread::Threads;
 use store_check::checkpoints_are_known;
 
 /// Does what the words say, the program's name first, and answers the exit status; a fault's line goes
@@ -28,7 +30,7 @@ use store_check::checkpoints_are_known;
 /// - `pipe [PATH] [--rdb NAME] --user U:P` answers event records from `reader` to `out`, over the store
 ///   of the path, or over one in memory that is just made and has this name.
 /// - `serve PATH --port N --user U:P [--count N]` says its port and serves conversations over sockets,
-///   one after the other.
+///   up to 64 side by side, each in a thread of its own.
 /// - `indoubt PATH` lists the units in doubt of a store.
 ///
 /// The status is 0 where the job was done; 1 where the words ask for none, or for a store of a size or
@@ -36,11 +38,20 @@ use store_check::checkpoints_are_known;
 /// is no store or a damaged one; 4 where what came is no event; 5 where memory was refused.
 ///
 /// Of a store in a file all is said of the disk that opening its path gave: `indoubt` lists the units in
-/// doubt of the state that it opens to, in the order of their bytes; `pipe` and `serve` answer as a machine
-/// does that begins with that state, and what their calls left on it is journaled; `init` has made it a fresh
-/// store of the size and name that were asked. Where a disk may give back something else than what was
-/// written, no state is said of it.
-pub fn run_words<S: AsStr, F: StoreFiles, N: Network, R: Read + Ready, W: Write, E: Write>(
+/// doubt of the state that it opens to, in the order of their bytes; `pipe` answers as a machine does that
+/// begins with that state, and what its calls left on it is journaled; `serve` lets its conversations ask a
+/// core that begins with that state, under one lock; `init` has made it a fresh store of the size and name that
+/// were asked. Where a disk may give back something else than what was written, no state is said of it.
+pub fn run_words<
+    T: Threads + Wait + Sync,
+    S: AsStr,
+    F: StoreFiles,
+    N: Network,
+    R: Read + Ready,
+    W: Write,
+    E: Write,
+>(
+    rt: &T,
     alloc: Global,
     words: &[S],
     files: &mut F,
@@ -49,12 +60,16 @@ pub fn run_words<S: AsStr, F: StoreFiles, N: Network, R: Read + Ready, W: Write,
     out: &mut W,
     err: &mut E,
 ) -> u8
+where
+    F::Disk: Send,
+    N::Stream: Send,
+    N::Writer: Send,
     ensures { Exits (surroundings F.calls F.Disk.is_modelled F.Disk.life N.calls N.Stream.remaining N.Writer.contents) (said (map S.text words.now))
         (R.remaining reader.old) (seen files.old net.old (W.contents out.old)) result (seen files.new net.new (W.contents out.new))
         (E.contents err.old) (E.contents err.new) }
 {
     let mut text = String::new(alloc);
-    match try_words(alloc, words, files, net, reader, out, &mut text) {
+    match try_words(rt, alloc, words, files, net, reader, out, &mut text) {
         Ok(()) => 0,
         Err(fault) => {
             let _ = write_whole(err, text.as_bytes());
@@ -65,7 +80,15 @@ pub fn run_words<S: AsStr, F: StoreFiles, N: Network, R: Read + Ready, W: Write,
 }
 
 // Does what the words say. What the parser of words has to say of a mistake is appended to `text`.
-fn try_words<S: AsStr, F: StoreFiles, N: Network, R: Read + Ready, W: Write>(
+fn try_words<
+    T: Threads + Wait + Sync,
+    S: AsStr,
+    F: StoreFiles,
+    N: Network,
+    R: Read + Ready,
+    W: Write,
+>(
+    rt: &T,
     alloc: Global,
     words: &[S],
     files: &mut F,
@@ -74,16 +97,21 @@ fn try_words<S: AsStr, F: StoreFiles, N: Network, R: Read + Ready, W: Write>(
     out: &mut W,
     text: &mut String,
 ) -> Result<(), Fault>
+where
+    F::Disk: Send,
+    N::Stream: Send,
+    N::Writer: Send,
     ensures does { ((result ≡ Err Fault.NoMemory) × (seen files.new net.new (W.contents out.new) ≡ seen files.old net.old (W.contents out.old)))
         ⊎ Does (surroundings F.calls F.Disk.is_modelled F.Disk.life N.calls N.Stream.remaining N.Writer.contents) (said (map S.text words.now))
         (R.remaining reader.old) (seen files.old net.old (W.contents out.old)) result (seen files.new net.new (W.contents out.new)) }
     ensures quiet { said (map S.text words.now) ≢ None → string_bytes text.new ≡ string_bytes text.old }
 {
     let job = job_of(alloc, words, text)?;
-    do_job(alloc, job, files, net, reader, out)
+    do_job(rt, alloc, job, files, net, reader, out)
 }
 
-fn do_job<F: StoreFiles, N: Network, R: Read + Ready, W: Write>(
+fn do_job<T: Threads + Wait + Sync, F: StoreFiles, N: Network, R: Read + Ready, W: Write>(
+    rt: &T,
     alloc: Global,
     job: Job<'_>,
     files: &mut F,
@@ -91,6 +119,10 @@ fn do_job<F: StoreFiles, N: Network, R: Read + Ready, W: Write>(
     reader: &mut R,
     out: &mut W,
 ) -> Result<(), Fault>
+where
+    F::Disk: Send,
+    N::Stream: Send,
+    N::Writer: Send,
     ensures { Does (surroundings F.calls F.Disk.is_modelled F.Disk.life N.calls N.Stream.remaining N.Writer.contents) (Some (plain_job job.entry))
         (R.remaining reader.old) (seen files.old net.old (W.contents out.old)) result (seen files.new net.new (W.contents out.new)) }
 {
@@ -111,7 +143,7 @@ fn do_job<F: StoreFiles, N: Network, R: Read + Ready, W: Write>(
             port,
             login,
             count,
-        } => serve_file(alloc, files, net, path, port, login, count, out),
+        } => serve_file(rt, alloc, files, net, path, port, login, count, out),
         Job::InDoubt { path } => list_doubts(alloc, files, path, out),
     }
 }

@@ -25,6 +25,7 @@ fn serve(rt: &HostRuntime) -> anyhow::Result<u8> {
     let words: Vec<String> = std::env::args(rt)?.collect(alloc)?;
     let mut reader = BufReader::with_capacity(alloc, STREAM_BUFFER, rt.stdin())?;
     Ok(run_words(
+        rt,
         alloc,
         words.as_slice(),
         &mut SystemFiles::new(rt),

@@ -1,0 +1,44 @@
+//! The calls that were asked, which clauses alone read.
+
+ghost use Rattle.std.specs.Prelude.{◌≡◌, List, [], ◌∷◌, ◌++◌, if◌then◌else◌};
+ghost use Rattle.std.specs.Borrow.{ftrue};
+ghost use Rattle.core_calls.specs.Answer.{answer_of};
+ghost use Rattle.core_calls.specs.Call.{call_of};
+ghost use Rattle.core_model.specs.Step.{Kept, Taken};
+ghost use Rattle.serializability.specs.Answered.{AnsweredCall};
+
+use core_calls::{Answer, CoreCall};
+use std::marker::{Model, PhantomData};
+
+/// The calls that were asked so far with what they were answered, in their order. It takes no memory.
+#[derive(Drop)]
+pub struct CallList {
+    marker: PhantomData<u8>,
+    pub(crate) ghost listed: { List AnsweredCall },
+}
+
+impl Model for CallList {
+    ghost also_owns = { λ _. ftrue };
+}
+
+impl CallList {
+    /// No calls.
+    pub(crate) fn none() -> CallList
+        ensures { result.listed ≡ [] }
+    {
+        CallList {
+            marker: PhantomData,
+        }
+    }
+
+    /// One call more.
+    pub(crate) fn note(
+        &mut self,
+        _conversation: u64,
+        _call: &CoreCall<'_, '_>,
+        _answer: &Answer,
+        _is_taken: bool,
+    )
+        ensures { self.new.listed ≡ self.old.listed ++ record { conversation = _conversation; call = call_of _call.now; mark = if _is_taken then Taken else Kept; answer = answer_of _answer.now } ∷ [] }
+    {}
+}
