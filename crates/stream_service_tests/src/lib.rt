@@ -4,6 +4,8 @@
 #[cfg(test)]
 mod conversations;
 #[cfg(test)]
+mod cores;
+#[cfg(test)]
 mod devices;
 #[cfg(test)]
 mod faults;
