@@ -1,6 +1,7 @@
 //! A thread for each conversation.
 
 ghost use denote.Param.Send.{IsSend, IsSync};
+ghost use Rattle.std.specs.Prelude.{◌≡◌, IfOk, length};
 
 use conversation::{Front, Settings};
 use drda_disk::Disk;
@@ -82,6 +83,17 @@ where
     serve_in(rt, &hall, streams)
 }
 
+// A place for the thread of each conversation.
+fn no_threads(alloc: Global) -> Result<Vec<Option<JoinHandle<()>>>, AllocError>
+    ensures { IfOk result (λ threads. length threads.items ≡ 64) }
+{
+    let mut threads = Vec::new(alloc);
+    for _ in 0..PLACES {
+        threads.push(None)?;
+    }
+    Ok(threads)
+}
+
 // The same in a hall.
 fn serve_in<D, R, G, S>(rt: &R, hall: &Hall<'_, D, R, G>, streams: &mut S) -> Result<(), AllocError>
 where
@@ -98,10 +110,7 @@ where
         move |scope| -> Result<(), AllocError>
             requires { IsSync R.row × IsSync G.row × IsSend D.row × IsSend S.Reader.row × IsSend S.Writer.row }
         {
-            let mut threads: Vec<Option<JoinHandle<()>>> = Vec::new(hall.alloc);
-            for _ in 0..PLACES {
-                threads.push(None)?;
-            }
+            let mut threads = no_threads(hall.alloc)?;
             hall.shared.consider_checkpoint(rt);
             'serving: for _ in 0..u64::MAX {
                 let Some((reader, writer)) = streams.next() else {

@@ -1,3 +1,4 @@
+pub mod Stored
 pub mod Books
 pub mod Passes
 pub mod Desks

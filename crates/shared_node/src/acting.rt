@@ -1,7 +1,7 @@
 //! The calls of a book.
 
 use crate::acted::Acted;
-use crate::asking::{ask, checkpoint, is_excuse};
+use crate::asking::{ask, checkpoint, is_done};
 use crate::book::Book;
 use crate::calls::CallList;
 use crate::count::Count;
@@ -17,7 +17,7 @@ use std::alloc::Global;
 use std::snapshot::Snapshot;
 
 impl<D: Disk> Book<D> {
-    ghost use Rattle.std.specs.Prelude.{◌≡◌, ◌↔◌, IfErr, IfOk, IfSome, IsTrue, None, false, true};
+    ghost use Rattle.std.specs.Prelude.{◌≡◌, ◌<◌, ◌↔◌, IfErr, IfOk, IfSome, IsTrue, None, false, true};
     ghost use Rattle.core_calls.specs.Call.{call_of};
     ghost use Rattle.recovery_laws.specs.Journaled.{Journaled, shown_on};
     ghost use Rattle.shared_node.specs.Books.{IsIdle, newly_opened};
@@ -61,6 +61,7 @@ impl<D: Disk> Book<D> {
     /// or no number is left; then nothing changes. Takes no memory.
     pub fn admit(&mut self) -> Option<Pass>
         ensures some { IfSome result (λ pass. Admits self.old pass self.new) }
+        ensures place { IfSome result (λ pass. pass.place < 64) }
         ensures none { result ≡ None → (self.new ≡ self.old) × HasNoLeave self.old }
         ensures journaled { Journaled D.is_modelled (shown_on D.life self.old.core) (shown_on D.life self.new.core) }
     {
@@ -99,20 +100,21 @@ impl<D: Disk> Book<D> {
         if is_out_of_numbers(pass.count, call) {
             return Acted::Answered(Answer::NoMemory);
         }
-        let answer = ask(&mut self.core, pass.conversation, call);
-        if matches!(answer, Answer::NoMemory) {
-            return Acted::Answered(answer);
+        match ask(&mut self.core, pass.conversation, call) {
+            Answer::NoMemory => Acted::Answered(Answer::NoMemory),
+            answer => {
+                let is_taken = is_done(&answer);
+                list(
+                    &mut self.calls,
+                    &mut self.places,
+                    pass,
+                    call,
+                    &answer,
+                    is_taken,
+                );
+                Acted::Answered(answer)
+            }
         }
-        let is_taken = !is_excuse(&answer);
-        list(
-            &mut self.calls,
-            &mut self.places,
-            pass,
-            call,
-            &answer,
-            is_taken,
-        );
-        Acted::Answered(answer)
     }
 
     /// Writes a checkpoint where one is due. Nothing is listed; where it has no room, or memory is refused, the

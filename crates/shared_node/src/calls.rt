@@ -2,19 +2,21 @@
 
 ghost use Rattle.std.specs.Prelude.{◌≡◌, List, [], ◌∷◌, ◌++◌, if◌then◌else◌};
 ghost use Rattle.std.specs.Borrow.{ftrue};
+ghost use Rattle.std.specs.Coded.{codes};
 ghost use Rattle.core_calls.specs.Answer.{answer_of};
 ghost use Rattle.core_calls.specs.Call.{call_of};
 ghost use Rattle.core_model.specs.Step.{Kept, Taken};
 ghost use Rattle.serializability.specs.Answered.{AnsweredCall};
+ghost use Rattle.shared_node.specs.Stored.{coded_predicate};
 
 use core_calls::{Answer, CoreCall};
-use std::marker::{Model, PhantomData};
+use std::marker::{Model, PhantomData, Sync};
 
 /// The calls that were asked so far with what they were answered, in their order. It takes no memory.
 #[derive(Drop)]
 pub struct CallList {
     marker: PhantomData<u8>,
-    pub(crate) ghost listed: { List AnsweredCall },
+    pub ghost listed: { List AnsweredCall } by { Prim.hlevel (codes, coded_predicate) },
 }
 
 impl Model for CallList {
@@ -23,7 +25,7 @@ impl Model for CallList {
 
 impl CallList {
     /// No calls.
-    pub(crate) fn none() -> CallList
+    pub fn none() -> CallList
         ensures { result.listed ≡ [] }
     {
         CallList {
@@ -32,7 +34,7 @@ impl CallList {
     }
 
     /// One call more.
-    pub(crate) fn note(
+    pub fn note(
         &mut self,
         _conversation: u64,
         _call: &CoreCall<'_, '_>,
@@ -42,3 +44,6 @@ impl CallList {
         ensures { self.new.listed ≡ self.old.listed ++ record { conversation = _conversation; call = call_of _call.now; mark = if _is_taken then Taken else Kept; answer = answer_of _answer.now } ∷ [] }
     {}
 }
+
+// It holds nothing, so any thread may read it.
+unsafe impl Sync for CallList {}

@@ -14,7 +14,7 @@ pub struct Shared<D: Disk> {
 }
 
 impl<D: Disk> Shared<D> {
-    ghost use Rattle.std.specs.Prelude.{◌≡◌, [], IfErr, IfSome};
+    ghost use Rattle.std.specs.Prelude.{◌≡◌, ◌<◌, [], IfErr, IfSome};
     ghost use Rattle.shared_node.specs.Passes.{calls_in};
 
     /// Opens a book over a core, under a lock. Out of memory, the core is handed back.
@@ -29,7 +29,7 @@ impl<D: Disk> Shared<D> {
 
     /// Leave for one conversation more; None where 64 have it, or no number is left.
     pub fn admit<R: Wait>(&self, rt: &R) -> Option<Pass>
-        ensures { IfSome result (λ pass. (pass.count ≡ 0) × (calls_in pass ≡ [])) }
+        ensures { IfSome result (λ pass. (pass.place < 64) × (pass.count ≡ 0) × (calls_in pass ≡ [])) }
     {
         self.book.lock(rt).admit()
     }
