@@ -65,7 +65,7 @@ fn converse<A: Ask, R: Read, W: Write>(
     asker: &mut A,
 ) -> Served
     requires { IsBetweenCommands front.old }
-    ensures converses { IfSome (R.remaining reader.old) (λ input. Converses A.asks front.old.settings (attended_by front.old asker.old) input (W.contents writer.old) result (W.contents writer.new) (attended_by front.new asker.new)) }
+    ensures { IfSome (R.remaining reader.old) (λ input. Converses A.asks front.old.settings (attended_by front.old asker.old) input (W.contents writer.old) result (W.contents writer.new) (attended_by front.new asker.new)) }
 {
     stays_read();
     let Ok(mut buffer) = room_for_a_piece(alloc) else {
