@@ -1,0 +1,4 @@
+pub mod Conversing
+pub mod Stepping
+mod Pieces
+mod Listening

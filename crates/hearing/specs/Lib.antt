@@ -1,0 +1,4 @@
+pub mod Attended
+pub mod Hearing
+pub mod Pieces
+pub mod Feeding

@@ -1,0 +1,118 @@
+//! One conversation and the bytes that come to it.
+
+ghost use Rattle.std.specs.Prelude.{◌≡◌, ◌≤◌, ◌+◌, length, take, vec_len, vec_capacity};
+ghost use Rattle.hearing.specs.declared.fed.FedState.TheVariants as state;
+ghost use Rattle.hearing.specs.Attended.{attended_by};
+ghost use Rattle.hearing.specs.Feeding.{IsBetweenCommands, Takes, state_for};
+ghost use Rattle.hearing.specs.Pieces.{HearsPiece};
+
+use crate::fed::{Fed, FedState, Heard};
+use command_kit::Ask;
+use conversation::{Front, Need};
+use dss_frames::stays_read;
+
+/// Gives a conversation bytes, does each command that is whole, and appends its replies to `out`. All bytes
+/// are taken where the conversation stays open; none where it was closed before. No bytes behind the command
+/// under way are handed on, so that what is taken was answered or belongs to one command.
+pub fn feed<A: Ask>(front: &mut Front, asker: &mut A, piece: &[u8], out: &mut Vec<u8>) -> Fed
+    requires { IsBetweenCommands front.old }
+    ensures settled { IsBetweenCommands front.new }
+    ensures settings { front.new.settings ≡ front.old.settings }
+    ensures takes { Takes A.asks front.old.settings (attended_by front.old asker.old) piece.now out.old.items result (attended_by front.new asker.new) out.new.items }
+{
+    stays_read();
+    if front.is_closed() {
+        return Fed {
+            taken: 0,
+            state: FedState::Closed,
+        };
+    }
+    let mut taken = 0;
+    'pieces: loop {
+        let Ok(()) = out.reserve(21) else {
+            return Fed {
+                taken,
+                state: FedState::Later,
+            };
+        };
+        let fed = hand_on(front, asker, &piece[taken..], out);
+        taken += fed.taken;
+        match fed.state {
+            FedState::Open => {
+                if taken == piece.len() {
+                    return Fed {
+                        taken,
+                        state: FedState::Open,
+                    };
+                }
+            }
+            state => return Fed { taken, state },
+        }
+    }
+}
+
+/// Gives a conversation all of a piece, and appends its replies to `out`, those that say that a command found
+/// no memory among them. Where memory is refused, a prefix of the piece was heard, and all of its replies were
+/// appended, but perhaps not the last, which says that a command found no memory.
+pub fn feed_all<A: Ask>(front: &mut Front, asker: &mut A, piece: &[u8], out: &mut Vec<u8>) -> Heard
+    requires { IsBetweenCommands front.old }
+    ensures settled { IsBetweenCommands front.new }
+    ensures settings { front.new.settings ≡ front.old.settings }
+    ensures hears { HearsPiece A.asks front.old.settings (attended_by front.old asker.old) piece.now out.old.items result (attended_by front.new asker.new) out.new.items }
+{
+    stays_read();
+    let mut at = 0;
+    'feeding: loop {
+        let fed = feed(front, asker, &piece[at..], out);
+        at += fed.taken;
+        match fed.state {
+            FedState::Open => return Heard::Open,
+            FedState::Closed => return Heard::Closed,
+            FedState::Later => return Heard::NoMemory,
+            FedState::Short(reply) => match out.extend_from_slice(&reply) {
+                Ok(()) => {}
+                Err(_) => return Heard::NoMemory,
+            },
+        }
+    }
+}
+
+// One step, with the bytes in front that belong to one command: some of them, where there are any, or none
+// where memory is refused.
+#[inline(always)]
+fn hand_on<A: Ask>(front: &mut Front, asker: &mut A, piece: &[u8], out: &mut Vec<u8>) -> Fed
+    requires settled { IsBetweenCommands front.old }
+    requires room { vec_len out.old + 21 ≤ vec_capacity out.old }
+    ensures settled { IsBetweenCommands front.new }
+    ensures settings { front.new.settings ≡ front.old.settings }
+    ensures within { result.taken ≤ length piece.now }
+    ensures takes { Takes A.asks front.old.settings (attended_by front.old asker.old) (take result.taken piece.now) out.old.items result (attended_by front.new asker.new) out.new.items }
+    ensures moves { result.state ≡ state.Open → 1 ≤ length piece.now → 1 ≤ result.taken }
+    ensures stuck { result.state ≡ state.Later → result.taken ≡ 0 }
+{
+    stays_read();
+    let taken = front.feed_command(piece);
+    let need = front.next(asker, out);
+    Fed {
+        taken,
+        state: state_of(need, taken > 0 || piece.is_empty()),
+    }
+}
+
+// How it stands behind one step, by whether bytes were taken or there were none.
+#[inline(always)]
+fn state_of(need: Need, has_fed: bool) -> FedState
+    ensures { result ≡ state_for need has_fed }
+{
+    match need {
+        Need::Bytes | Need::Local => {
+            if has_fed {
+                FedState::Open
+            } else {
+                FedState::Later
+            }
+        }
+        Need::Short(bytes) => FedState::Short(bytes),
+        Need::Closed => FedState::Closed,
+    }
+}
