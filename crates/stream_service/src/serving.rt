@@ -5,12 +5,11 @@ ghost use Rattle.hearing.specs.Attended.{attended_by};
 ghost use Rattle.hearing.specs.Feeding.{IsBetweenCommands};
 ghost use Rattle.stream_service.specs.Serving.{Converses, Loses, Serves};
 
-use crate::writing::write_whole;
 use command_kit::Ask;
 use conversation::Front;
 use core_calls::CoreCall;
 use dss_frames::stays_read;
-use hearing::{Heard, feed_all};
+use hearing::{Heard, feed_all, write_whole};
 use std::alloc::{AllocError, Global};
 use std::io::{Read, Write};
 

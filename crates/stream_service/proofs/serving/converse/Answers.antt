@@ -4,7 +4,7 @@ use Rattle.session_commands.specs.Settings.{Settings}
 use Rattle.hearing.specs.Attended.{attended_by}
 use Rattle.hearing.specs.Pieces.{HearsAll, HearsLast, HearsPart}
 use Rattle.stream_service.proofs.Streams.{answers_but_short, breaks_off, closes, ends, goes_on, in_part, none_done, read_fault, starts}
-use Rattle.stream_service.proofs.Written.{take_front}
+use Rattle.hearing.proofs.Written.{take_front}
 use Rattle.stream_service.proofs.serving.converse.Goals as goal
 
 pub returns-in_default : goal.returns-in_default
