@@ -56,14 +56,17 @@ at_set places p was now c is stands =
 
 -- ---- numbers
 
-one_if : (a b : ℕ) → a ≡ b → (if a == b then 1 else 0) ≡ 1
-one_if a b e = ap (λ (t : Bool). if t then 1 else 0) (eq-eqb a b e)
+abbrev one_if_so : Bool → ℕ
+one_if_so t = if t then 1 else 0
 
-none_so : (t : Bool) → (t ≡ true → ⊥) → (if t then 1 else 0) ≡ 0
-none_so true no = absurd (no refl)
-none_so false no = refl
+one_if : (a b : ℕ) → a ≡ b → one_if_so (a == b) ≡ 1
+one_if a b e = ap one_if_so (eq-eqb a b e)
 
-none_if : (a b : ℕ) → (a ≡ b → ⊥) → (if a == b then 1 else 0) ≡ 0
+none_so : (t : Bool) → (t ≡ true → ⊥) → one_if_so t ≡ 0
+none_so true never = absurd (never refl)
+none_so false never = refl
+
+none_if : (a b : ℕ) → (a ≡ b → ⊥) → one_if_so (a == b) ≡ 0
 none_if a b apart = none_so (a == b) (λ t. apart (eqb-true a b t))
 
 calls_more : (k : ℕ) (ls : List AnsweredCall) (l : AnsweredCall) → calls_of k (ls ++ l ∷ []) ≡ calls_of k ls + (if l.conversation == k then 1 else 0)
@@ -197,6 +200,13 @@ one_less calls places next p counted = record {
 }
 
 -- ---- nobody yet
+
+suc_is : (n : ℕ) → suc (n + 1) ≡ suc n + 1
+suc_is n = omega arith
+
+pub replicate_more : {Y : Type 0} (n : ℕ) (y : Y) → replicate n y ++ y ∷ [] ≡ replicate (n + 1) y
+replicate_more zero y = refl
+replicate_more (suc n) y = ap (λ ys. y ∷ ys) (replicate_more n y) ∙ ap (λ k. replicate k y) (suc_is n)
 
 pub none_yet : AreCounted [] (replicate 64 None) 1
 none_yet = record {

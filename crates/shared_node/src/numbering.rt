@@ -13,10 +13,15 @@ use std::alloc::{AllocError, Global};
 pub(crate) const PLACES: usize = 64;
 
 /// Places that are free.
+#[tactic(auto, using(crate::proofs::Counting::replicate_more))]
 pub(crate) fn free_places(alloc: Global) -> Result<Vec<Option<Count>>, AllocError>
     ensures { IfOk result (λ places. places.items ≡ replicate 64 None) }
 {
-    vec![in alloc; None; PLACES]
+    let mut places = Vec::new(alloc);
+    for _ in 0..PLACES {
+        places.push(None)?;
+    }
+    Ok(places)
 }
 
 /// Whether the book counts as many calls of the pass's conversation as the pass does.
