@@ -7,15 +7,16 @@ use Rattle.std.proofs.Math.Seq.{take-append-add, take-append_seam}
 use Rattle.std.proofs.lemmas.List.{set-set}
 use Rattle.dss_frames.specs.declared.fault.FrameFault.{FrameFault}
 use Rattle.dss_frames.specs.Fault.{FaultAt}
+use Rattle.drda_node.specs.Asking.{asks}
 use Rattle.drda_node.specs.Machine.{Conversation, Machine, beginning, is_full, lost, opened}
 use Rattle.drda_node.specs.declared.node.ConversationId.{ConversationId}
 use Rattle.drda_node.specs.declared.slot.Slot.{Slot}
 use Rattle.drda_node.specs.Register.{Names, Opens, number_of, shown}
 use Rattle.drda_node.specs.Hearing.{Attended, Hears, HearsAll, HearsAt, HearsLast, HearsPart, HearsPiece, attended, attended_at, conversation_of}
-use Rattle.drda_node.proofs.Conversing.{hears_then}
+use Rattle.hearing.proofs.Conversing.{hears_then}
 use Rattle.drda_node.proofs.Rows.{get_set, one_value}
-use Rattle.drda_node.specs.declared.fed.Heard.{Heard as PieceHeard}
-use Rattle.drda_node.specs.declared.fed.Heard.TheVariants as piece_is
+use Rattle.hearing.specs.declared.fed.Heard.{Heard as PieceHeard}
+use Rattle.hearing.specs.declared.fed.Heard.TheVariants as piece_is
 use Rattle.drda_node.specs.declared.node.OpenError.{OpenError}
 use Rattle.drda_node.specs.declared.node.OpenError.TheVariants.{TooMany, NoMemory as NoNumber}
 use Rattle.stream_service.specs.Serving.{AnswersButShort, BreaksOff, Converses, HasServed, Heard, Serves, unless_failed}
@@ -47,7 +48,7 @@ module _ (fault_more : (bytes more : List ℕ) (fault : FrameFault) → FaultAt 
       record {
         before = h.before;
         was = h.was;
-        hears = hears_then old.settings place fault_more (attended old h.before) between after p q x y h.hears next;
+        hears = hears_then (asks place) old.settings fault_more (attended old h.before) between after p q x y h.hears next;
         row = f.row ∙ ap (λ (m : Machine). attended_at m place after) h.row ∙ set_again old place between after;
       }
 
