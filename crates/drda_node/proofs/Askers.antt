@@ -1,5 +1,5 @@
 -- What a conversation whose asker asks the core hears, it hears of the core.
-use Rattle.std.proofs.Common.{◌≡◌, ◌⊎◌, ℕ, Bool, false, List, [], ◌∷◌, ◌++◌, refl, sym, ap, subst, ◌∙◌, inl, inr}
+use Rattle.std.proofs.Common.{◌≡◌, ◌⊎◌, ℕ, Bool, false, List, [], ◌∷◌, ◌++◌, sym, ap, subst, ◌∙◌, inl, inr}
 use Rattle.drda_disk.specs.Disk.{Life}
 use Rattle.dss_frames.specs.Dss.{Dss}
 use Rattle.sqlam_replies.specs.Reply.{Reply}
@@ -19,7 +19,7 @@ use Rattle.hearing.specs.declared.fed.Heard.TheVariants as heard
 use Rattle.hearing.specs.Attended.{Attended}
 use Rattle.hearing.specs.Hearing.{Hears}
 use Rattle.hearing.specs.Pieces.{HearsPiece}
-use Rattle.hearing.specs.Feeding.{EndsAtFault, EndsWithCommand, LeftAs, Takes, Told}
+use Rattle.hearing.specs.Feeding.{EndsAtFault, EndsWithCommand, LeftAs, Takes}
 use Rattle.recovery_laws.specs.Journaled.{CallsGoOn}
 use Rattle.drda_node.specs.declared.asker.CoreAsker.{CoreAsker}
 use Rattle.drda_node.specs.Asking.{AskedCore, IsJournaled, IsSameAsker, asks, asks_of, core_of}

@@ -1,5 +1,5 @@
 -- What a conversation heard that stands at a place of a machine.
-use Rattle.std.proofs.Common.{◌≡◌, ℕ, List, ◌++◌, Some, slice_get, sym, subst}
+use Rattle.std.proofs.Common.{◌≡◌, ℕ, List, Some, slice_get, sym, subst}
 use Rattle.hearing.specs.declared.fed.Heard.{Heard}
 use Rattle.hearing.specs.declared.fed.Heard.TheVariants.{Closed, NoMemory, Open}
 use Rattle.hearing.specs.Pieces as pieces
