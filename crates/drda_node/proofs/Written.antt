@@ -1,12 +1,8 @@
 -- Bytes that were written, one piece after the other.
-use Rattle.std.proofs.Common.{◌≡◌, ℕ, ◌+◌, List, ◌++◌, length, take, take_all, Option, sym, subst, ◌∙◌, arith}
-use Rattle.std.proofs.lemmas.List.{take-append-le}
+use Rattle.std.proofs.Common.{ℕ, ◌+◌, List, ◌++◌, length, take, Option, sym, subst}
 use Rattle.std.specs.Io.KnownBytes.{Appends}
 use Rattle.std.proofs.KnownBytes.{Appends-trans}
 use Rattle.std.proofs.Math.Seq.{take-append-add}
-
-pub take_front : (n : ℕ) (xs ys : List ℕ) → length xs ≡ n → take n (xs ++ ys) ≡ xs
-take_front n xs ys e = take-append-le n xs ys (omega (arith, e)) ∙ take_all n xs (omega (arith, e))
 
 -- a front of a second text, behind the first
 pub appends_front : (w0 w w' : Option (List ℕ)) (x y : List ℕ) (count : ℕ) → Appends w0 w x → Appends w w' (take count y) → Appends w0 w' (take (length x + count) (x ++ y))
