@@ -7,6 +7,10 @@ use Rattle.drda_program.specs.Stores.{IsOfDevice}
 use Rattle.drda_program.specs.declared.fault.Fault.{Fault}
 use Rattle.drda_program.specs.declared.fault.Fault.TheVariants.{BadArguments}
 
+-- a network, and what was written
+abbrev pub net_and_out : {N : Type 0} → N → Option (List ℕ) → N × Option (List ℕ)
+net_and_out net out = (net, out)
+
 -- the login that a text has, where the words name its file
 abbrev pub FindsLogin : LoginSource → List ℕ → Result CodeLogin Fault → Type 0
 FindsLogin (in_words login) text (Ok found) = plain_login found ≡ login

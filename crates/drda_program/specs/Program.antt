@@ -13,14 +13,15 @@ use Rattle.drda_node.specs.Asking.{AskedCore, IsJournaled, asked_of}
 use Rattle.drda_node.specs.Machine.{Machine, at_start}
 use Rattle.drda_node.specs.Serving.{Runs}
 use Rattle.drda_node.specs.declared.serving.RunEnd.{RunEnd}
-use Rattle.command_line.specs.Job.{Job, Login, LoginSource, init, pipe, serve, in_doubt, room, check, version}
+use Rattle.command_line.specs.Job.{Job, Login, LoginSource, init, pipe, serve, in_doubt}
+use Rattle.command_line.specs.Job as job
 use Rattle.drda_program.specs.Doubts.{doubt_text}
 use Rattle.drda_program.specs.Endings.{line_of, result_for, status_of}
 use Rattle.drda_program.specs.Files.{FileCalls}
 use Rattle.drda_program.specs.Network.{NetworkCalls}
 use Rattle.drda_program.specs.Opening.{AreDoubts, IsMade, IsOver, IsTurnedBack, OpensStore}
 use Rattle.drda_program.specs.Listening.{Listens}
-use Rattle.drda_program.specs.LoggingIn.{LogsIn}
+use Rattle.drda_program.specs.LoggingIn.{LogsIn, net_and_out}
 use Rattle.drda_program.specs.Rooms.{room_text}
 use Rattle.drda_program.specs.Stores.{RefusesName}
 use Rattle.drda_program.specs.declared.version.TheConstants.{LOGIC, VERSION}
@@ -200,12 +201,12 @@ module _ {F D N L S W : Type 0} (around : Surroundings F D N L S W) where
   Does (Some (init path size rdb)) input old outcome new = Makes around.modelled around.life around.files path size rdb old.files old.out outcome new.files new.out × (new.net ≡ old.net)
   Does (Some (pipe path rdb source)) input old outcome new = LogsIn around.files source old.files old.out outcome new.files new.out (λ login files.
       PipesOver around.modelled around.life around.files path rdb login files input old.out outcome new.files new.out) × (new.net ≡ old.net)
-  Does (Some (serve path port source count)) input old outcome new = LogsIn around.files source old.files (old.net, old.out) outcome new.files (new.net, new.out) (λ login files.
+  Does (Some (serve path port source count)) input old outcome new = LogsIn around.files source old.files (net_and_out old.net old.out) outcome new.files (net_and_out new.net new.out) (λ login files.
       ServesFile path port login count (seen files old.net old.out) outcome new)
   Does (Some (in_doubt path)) input old outcome new = Lists around.modelled around.life around.files path old.files old.out outcome new.files new.out × (new.net ≡ old.net)
-  Does (Some (room path)) input old outcome new = TellsRoom around.modelled around.life around.files path old.files old.out outcome new.files new.out × (new.net ≡ old.net)
-  Does (Some (check path)) input old outcome new = Checks around.modelled around.life around.files path old.files old.out outcome new.files new.out × (new.net ≡ old.net)
-  Does (Some version) input old outcome new = TellsVersion old.out outcome new.out × (new.files ≡ old.files) × (new.net ≡ old.net)
+  Does (Some (job.room path)) input old outcome new = TellsRoom around.modelled around.life around.files path old.files old.out outcome new.files new.out × (new.net ≡ old.net)
+  Does (Some (job.check path)) input old outcome new = Checks around.modelled around.life around.files path old.files old.out outcome new.files new.out × (new.net ≡ old.net)
+  Does (Some job.version) input old outcome new = TellsVersion old.out outcome new.out × (new.files ≡ old.files) × (new.net ≡ old.net)
 
   -- The words, the input, and what is seen before and after: the job was done so, or memory was refused before it was known.
   -- Standard error holds text for people, which is only where the words ask for nothing, of the parser of words, and where a

@@ -2,7 +2,7 @@
 
 ghost use Rattle.std.specs.Prelude.{option_map, string_bytes};
 ghost use Rattle.command_line.specs.Job.{plain_login, plain_source};
-ghost use Rattle.drda_program.specs.LoggingIn.{FindsLogin, LogsIn, ReadsSource};
+ghost use Rattle.drda_program.specs.LoggingIn.{FindsLogin, LogsIn, ReadsSource, net_and_out};
 ghost use Rattle.drda_program.specs.Program.{PipesOver, ServesFile, seen, surroundings};
 ghost use Rattle.drda_program.specs.Stores.{IsOfDevice};
 
@@ -27,7 +27,7 @@ pub(crate) fn serve<F: StoreFiles, N: Network, W: Write>(
     count: Option<u64>,
     out: &mut W,
 ) -> Result<(), Fault>
-    ensures { LogsIn F.calls (plain_source source.entry) files.old (net.old, W.contents out.old) result files.new (net.new, W.contents out.new) (λ login mid.
+    ensures { LogsIn F.calls (plain_source source.entry) files.old (net_and_out net.old (W.contents out.old)) result files.new (net_and_out net.new (W.contents out.new)) (λ login mid.
         ServesFile (surroundings F.calls F.Disk.is_modelled F.Disk.life N.calls N.Stream.remaining N.Writer.contents) path.now port login count
         (seen mid net.old (W.contents out.old)) result (seen files.new net.new (W.contents out.new))) }
 {

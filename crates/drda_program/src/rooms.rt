@@ -18,7 +18,7 @@ pub(crate) fn room_text<D: Disk + Drop>(
     alloc: Global,
     core: DurableCore<D>,
 ) -> Result<String, AllocError>
-    ensures { IfOk result (λ text. string_bytes text ≡ room_text core.entry.name (length (D.life core.entry.disk).seen) core.entry.room (length (in_doubt_xids core.entry.state.branches))) }
+    ensures { IfOk result (λ text. string_bytes text ≡ room_text core.name (length (D.life core.disk).seen) core.room (length (in_doubt_xids core.state.branches))) }
 {
     let mut text = String::new(alloc);
     if writeln!(text, "name {}", core.name()).is_err() {
