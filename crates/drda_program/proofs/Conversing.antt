@@ -3,7 +3,6 @@ use Rattle.std.proofs.Common.{◌≡◌, refl, inl, inr, ℕ, Bool, List, Option
 use Rattle.std.specs.Prelude.{IfErr}
 use Rattle.drda_disk.specs.Disk.{Life}
 use Rattle.recovery_laws.specs.Journaled.{OnDisk}
-use Rattle.command_line.specs.Job.{Login}
 use Rattle.drda_program.proofs.Ran.{found}
 use Rattle.drda_program.specs.Files.{FileCalls}
 use Rattle.drda_program.specs.Listening.{HasListened, Listens}
@@ -13,7 +12,7 @@ use Rattle.drda_program.specs.Program.{ServesFile, seen, surroundings}
 use Rattle.drda_program.specs.Stores.{IsOfDevice, RefusesName}
 use Rattle.drda_program.specs.declared.fault.Fault.{Fault}
 
-module _ {N L S W : Type 0} (calls : NetworkCalls N L S W) (remaining : S → Option (List ℕ)) (contents : W → Option (List ℕ)) where
+module _ {N L S W : Type 0} (calls : NetworkCalls N L S W) where
   -- serving ends otherwise than listening did: the device has failed
   pub ends_so : (port : ℕ) (net : N) (before now : Option (List ℕ)) (r : Result (Unit {0}) Fault) → Listens calls port net before (Ok tt) now → IfErr r IsOfDevice → Listens calls port net before r now
   ends_so port net before now (Ok done) listens cause = listens
@@ -29,12 +28,12 @@ module _ {N L S W : Type 0} (calls : NetworkCalls N L S W) (remaining : S → Op
 
   -- ---- over the store of a path
 
-  module _ {F D : Type 0} (modelled : Bool) (life : D → Life) (files_calls : FileCalls F D) (path : List ℕ) (port : ℕ) (login : Login) (count : Option ℕ) (files files' : F) (core : OnDisk D)
+  module _ {F D : Type 0} (modelled : Bool) (life : D → Life) (files_calls : FileCalls F D) (path : List ℕ) (port : ℕ) (files files' : F) (core : OnDisk D)
       (opened : OpensStore modelled life files_calls files path (Ok core) files') where
     pub not_started : (net : N) (out : Option (List ℕ)) (fault : Fault) (r : Result (Unit {0}) Fault) → r ≡ Err fault → RefusesName core.name fault
-        → ServesFile (surroundings files_calls modelled life calls remaining contents) path port login count (seen files net out) r (seen files' net out)
+        → ServesFile (surroundings files_calls modelled life calls) path port (seen files net out) r (seen files' net out)
     not_started net out fault r is refused = let there = found modelled life files_calls files path core files' opened in inl (fault, is, inr (there.0, there.1, core, there.2, refused), refl, refl)
 
     pub served : (net net' : N) (out out' : Option (List ℕ)) (r : Result (Unit {0}) Fault) → Listens calls port net out r out'
-        → ServesFile (surroundings files_calls modelled life calls remaining contents) path port login count (seen files net out) r (seen files' net' out')
+        → ServesFile (surroundings files_calls modelled life calls) path port (seen files net out) r (seen files' net' out')
     served net net' out out' r listens = let there = found modelled life files_calls files path core files' opened in inr (there.0, there.1, record { core = core; over = there.2; listens = listens })

@@ -5,12 +5,15 @@ mod doubts;
 mod fault;
 mod files;
 mod listening;
+mod logins;
 mod network;
 mod program;
 mod records;
+mod rooms;
 mod stores;
 mod streams;
 mod threads;
+mod version;
 
 // What a stream tells of that is read.
 pub use drda_node::Ready;

@@ -1,10 +1,10 @@
 //! Conversations over a network.
 
-ghost use Rattle.std.specs.Prelude.{IfErr, IfOk, ℕ};
+ghost use Rattle.std.specs.Prelude.{◌≡◌, IfErr, IfOk, ℕ};
 ghost use Rattle.std.specs.Io.KnownBytes.{Appends};
 ghost use Rattle.command_line.specs.Job.{plain_login};
 ghost use Rattle.drda_program.specs.Listening.{Listens, port_line};
-ghost use Rattle.drda_program.specs.Program.{ServesFile, seen, surroundings};
+ghost use Rattle.drda_program.specs.Program.{ServesFile, seen, settings_of, surroundings};
 ghost use Rattle.drda_program.specs.Stores.{IsOfDevice, RefusesName};
 
 use crate::fault::Fault;
@@ -46,7 +46,7 @@ where
     F::Disk: Send,
     N::Stream: Send,
     N::Writer: Send,
-    ensures { ServesFile (surroundings F.calls F.Disk.is_modelled F.Disk.life N.calls N.Stream.remaining N.Writer.contents) path.now port (plain_login login.entry) count
+    ensures { ServesFile (surroundings F.calls F.Disk.is_modelled F.Disk.life N.calls) path.now port
         (seen files.old net.old (W.contents out.old)) result (seen files.new net.new (W.contents out.new)) }
 {
     let core = open_file(alloc, files, path)?;
@@ -66,7 +66,8 @@ fn settings_for<D: Disk>(
     core: &DurableCore<D>,
     login: Login<'_>,
 ) -> Result<Settings, Fault>
-    ensures { IfErr result (RefusesName core.now.name) }
+    ensures of { IfOk result (λ s. s ≡ settings_of (plain_login login.entry) core.now.name) }
+    ensures refused { IfErr result (RefusesName core.now.name) }
 {
     match Settings::new(alloc, login.user, login.password, core.name()) {
         Ok(settings) => Ok(settings),

@@ -28,7 +28,7 @@ fn serve(rt: &HostRuntime) -> anyhow::Result<u8> {
         rt,
         alloc,
         words.as_slice(),
-        &mut SystemFiles::new(rt),
+        &mut SystemFiles::new(alloc, rt),
         &mut SystemNetwork::new(rt),
         &mut reader,
         &mut rt.stdout(),
