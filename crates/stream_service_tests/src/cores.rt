@@ -59,7 +59,9 @@ pub fn serve_over<D: Disk, R: Read, W: Write>(
 ) -> Option<Served> {
     stays_read();
     let settings = Settings::new(alloc, "ana", "pw", "SHOP").ok()?;
-    let mut front = Front::new(alloc, &settings).ok()?;
+    let Ok(mut front) = Front::new(alloc, &settings) else {
+        return None;
+    };
     let mut asker = Asker { core };
     Some(serve(alloc, &mut front, reader, writer, &mut asker))
 }
