@@ -4,7 +4,9 @@ use crate::endings::ends_so;
 use drda_disk::Disk;
 use drda_node::{Node, RunEnd};
 use std::alloc::Global;
-use test_bytes::sentences::{CLASH, CREATED, DUPLICATE, FIRST_ROW, NEXT_ROW, XA_END, XA_OK, XA_START};
+use test_bytes::sentences::{
+    CLASH, CREATED, DUPLICATE, FIRST_ROW, NEXT_ROW, XA_END, XA_OK, XA_START,
+};
 use test_bytes::*;
 use test_nodes::node_of;
 

@@ -46,7 +46,10 @@ fn two_conversations_cross(rt: HostRuntime) -> Result<(), Fail> {
         let talks = commits(rt.alloc(), 2)?;
         let left = play(&rt, rt.alloc(), &cues, &talks);
         assert_eq!(rt; left, Some(WELL), "{held} {point:?}");
-        assert!(rt; talks.iter().all(|talk| talk.is_answered()), "{held} {point:?}");
+        assert!(rt;
+            talks.iter().all(|talk| talk.is_answered()),
+            "{held} {point:?}"
+        );
     }
     Ok(())
 }

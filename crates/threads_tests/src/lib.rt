@@ -2,17 +2,19 @@
 #![tactic(auto)]
 
 #[cfg(test)]
+mod books;
+#[cfg(test)]
 mod crossings;
 #[cfg(test)]
 mod crowds;
+#[cfg(test)]
+mod fills;
 #[cfg(test)]
 mod orders;
 #[cfg(test)]
 mod passes;
 #[cfg(test)]
 mod plays;
-#[cfg(test)]
-mod rounds;
 #[cfg(test)]
 mod stages;
 #[cfg(test)]

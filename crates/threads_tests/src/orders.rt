@@ -86,7 +86,11 @@ fn two_conversations_write(rt: HostRuntime) -> Result<(), Fail> {
         let talks = talks_of(rt.alloc(), order)?;
         let left = play(&rt, rt.alloc(), &cues, &talks);
         assert_eq!(rt; left, Some(WELL), "{:?}", order.calls);
-        assert!(rt; talks.iter().all(|talk| talk.is_answered()), "{:?}", order.calls);
+        assert!(rt;
+            talks.iter().all(|talk| talk.is_answered()),
+            "{:?}",
+            order.calls
+        );
     }
     Ok(())
 }

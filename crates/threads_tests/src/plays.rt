@@ -1,7 +1,7 @@
 //! Conversations that are served over a fresh store, a thread for each.
 
 use crate::stages::{Cue, Stage};
-use crate::talks::{Checker, Tape, Talk};
+use crate::talks::{Checker, Talk, Tape};
 use conversation::Settings;
 use drda_disk::MemDisk;
 use drda_program::{Streams, serve_streams};
@@ -67,12 +67,7 @@ pub fn play<R: Threads + Wait + Sync>(
 
 /// Serves the conversations of these streams, for ana with the password pw, over a fresh store of the name SHOP.
 /// None without memory.
-pub fn serve<'a, R, S>(
-    rt: &R,
-    alloc: Global,
-    stage: &Stage<'a>,
-    streams: &mut S,
-) -> Option<Left>
+pub fn serve<'a, R, S>(rt: &R, alloc: Global, stage: &Stage<'a>, streams: &mut S) -> Option<Left>
 where
     R: Threads + Wait + Sync,
     S: Streams,

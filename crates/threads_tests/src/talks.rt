@@ -74,11 +74,7 @@ impl Talk {
     }
 }
 
-fn push_pieces(
-    alloc: Global,
-    pieces: &mut Vec<Vec<u8>>,
-    texts: &[&str],
-) -> Result<(), AllocError> {
+fn push_pieces(alloc: Global, pieces: &mut Vec<Vec<u8>>, texts: &[&str]) -> Result<(), AllocError> {
     for text in texts {
         let piece = bytes_of(alloc, &[*text])?;
         pieces.push(piece)?;
@@ -97,7 +93,8 @@ pub struct Tape<'a> {
 impl Read for Tape<'_> {
     fn read(&mut self, buffer: &mut [u8]) -> io::Result<usize> {
         self.talk.begun.fetch_add(1, Ordering::SeqCst);
-        self.stage.reach(self.number, Point::Read(self.reads as u64));
+        self.stage
+            .reach(self.number, Point::Read(self.reads as u64));
         let Some(piece) = self.talk.pieces.get(self.reads) else {
             return Ok(0);
         };
