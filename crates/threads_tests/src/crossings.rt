@@ -17,7 +17,7 @@ fn commits(alloc: Global, count: usize) -> Result<Vec<Talk>, AllocError> {
     Ok(talks)
 }
 
-// Where one of two conversations waits until the other one is at its second call.
+// One of two conversations, the other one, and where the first stands still.
 const HELD: [(u64, u64, Point); 6] = [
     (1, 2, Point::Call(0)),
     (2, 1, Point::Call(0)),
@@ -27,24 +27,31 @@ const HELD: [(u64, u64, Point); 6] = [
     (2, 1, Point::Read(1)),
 ];
 
-// One that waits keeps no other one from being heard, called for, and answered.
+// One conversation stands still at a point until the other one is at its second call; that one makes no call before
+// the first stands there.
+fn cues_for(held: u64, other: u64, point: Point) -> [Cue; 4] {
+    [
+        cue(held, point, Act::Tells),
+        cue(held, point, Act::Awaits(2)),
+        cue(other, Point::Call(0), Act::Awaits(1)),
+        cue(other, Point::Call(1), Act::Tells),
+    ]
+}
+
+fn cue(conversation: u64, point: Point, act: Act) -> Cue {
+    Cue {
+        conversations: (conversation, conversation),
+        point,
+        act,
+    }
+}
+
+// One that stands still keeps no other one from being heard, called for, and answered.
 #[test]
 fn two_conversations_cross(rt: HostRuntime) -> Result<(), Fail> {
     for (held, other, point) in HELD {
-        let cues = [
-            Cue {
-                conversations: (other, other),
-                point: Point::Call(1),
-                act: Act::Tells,
-            },
-            Cue {
-                conversations: (held, held),
-                point,
-                act: Act::Awaits(1),
-            },
-        ];
         let talks = commits(rt.alloc(), 2)?;
-        let left = play(&rt, rt.alloc(), &cues, &talks);
+        let left = play(&rt, rt.alloc(), &cues_for(held, other, point), &talks);
         assert_eq!(rt; left, Some(WELL), "{held} {point:?}");
         assert!(rt;
             talks.iter().all(|talk| talk.is_answered()),
