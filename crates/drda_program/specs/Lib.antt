@@ -6,3 +6,4 @@ pub mod Stores
 pub mod Opening
 pub mod Listening
 pub mod Program
+pub mod Threads

@@ -18,4 +18,4 @@ pub use fault::Fault;
 pub use files::{StoreFiles, SystemFiles};
 pub use network::{Network, SystemNetwork};
 pub use program::run_words;
-pub use threads::{Streams, serve_streams};
+pub use threads::{Streams, serve_at, serve_streams};

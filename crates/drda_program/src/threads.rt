@@ -1,10 +1,13 @@
 //! A thread for each conversation.
 
 ghost use denote.Param.Send.{IsSend, IsSync};
-ghost use Rattle.std.specs.Prelude.{◌≡◌, IfOk, length};
+ghost use Rattle.std.specs.Prelude.{◌≡◌, IfOk, IfSome, length};
+ghost use Rattle.drda_program.specs.Threads.{IsServed};
 
+use command_kit::Ask;
 use conversation::{Front, Settings};
 use drda_disk::Disk;
+use dss_frames::stays_read;
 use shared_node::{Desk, Gate, Pass, Shared};
 use std::alloc::{AllocError, Global};
 use std::io::{Read, Write};
@@ -37,6 +40,23 @@ struct Hall<'a, D: Disk, R: Wait, G: Gate> {
     gate: &'a G,
 }
 
+/// Serves a conversation over a stream, at a desk: what it is answered is what the desk's pass shows as listed,
+/// and its loss is the last call. Where memory is refused before the first byte, nothing is heard or written.
+pub fn serve_at<'a, D: Disk, R: Wait, G: Gate, I: Read, O: Write>(
+    alloc: Global,
+    settings: &Settings,
+    desk: &mut Desk<'a, D, R, G>,
+    reader: &mut I,
+    writer: &mut O,
+)
+    ensures { IfSome (I.remaining reader.old) (λ input. IsServed ⟦<Desk<'a, D, R, G> as Ask>⟧.asks settings.now desk.old input (O.contents writer.old) (O.contents writer.new) desk.new) }
+{
+    stays_read();
+    if let Ok(mut front) = Front::new(alloc, settings) {
+        let _ = serve(alloc, &mut front, reader, writer, desk);
+    }
+}
+
 // One conversation, in its thread. What it left unfinished is lost at its end, and its leave is given back.
 fn attend<D: Disk, R: Wait, G: Gate, I: Read + Drop, O: Write + Drop>(
     hall: &Hall<'_, D, R, G>,
@@ -47,9 +67,13 @@ fn attend<D: Disk, R: Wait, G: Gate, I: Read + Drop, O: Write + Drop>(
     let mut reader = reader;
     let mut writer = writer;
     let mut desk = Desk::new(hall.rt, hall.shared, hall.gate, pass);
-    if let Ok(mut front) = Front::new(hall.alloc, hall.settings) {
-        let _ = serve(hall.alloc, &mut front, &mut reader, &mut writer, &mut desk);
-    }
+    serve_at(
+        hall.alloc,
+        hall.settings,
+        &mut desk,
+        &mut reader,
+        &mut writer,
+    );
     let _ = hall.shared.retire(hall.rt, desk.into_pass());
 }
 

@@ -79,7 +79,7 @@ module _ {D : Type 0} (life : D → Life) where
   pub record ListsNothing (old : Told D) (pass : Pass) (new : Told D) (after : Pass) : Type 0 where
     pub rests : Rests old.core new.core
     pub book : new ≡ record old { core = new.core }
-    pub pass : after ≡ pass
+    pub same : after ≡ pass
 
   -- Memory was refused to a call that may want some; or the conversation has no number left for a call, of which the last
   -- one is kept for its loss.

@@ -21,9 +21,13 @@ pub struct Book<D: Disk> {
 }
 
 impl<D: Disk> Model for Book<D> {
+    ghost use Rattle.std.specs.Coded.{codes};
     ghost use Rattle.shared_node.specs.Books.{IsKept, Told};
+    ghost use Rattle.shared_node.specs.Stored.{coded_predicate};
 
     ghost Value = { Told D };
+
+    ghost coded = { Prim.hlevel (codes, coded_predicate) };
 
     ghost view = { λ b. record { core = b.core; opening = b.opening.value; calls = b.calls.listed; places = b.places.items; next = b.next } };
 

@@ -2,6 +2,5 @@
 #![tactic(auto)]
 
 mod serving;
-mod writing;
 
 pub use serving::{Served, serve};

@@ -5,12 +5,11 @@ ghost use Rattle.hearing.specs.Attended.{attended_by};
 ghost use Rattle.hearing.specs.Feeding.{IsBetweenCommands};
 ghost use Rattle.stream_service.specs.Serving.{Converses, Loses, Serves};
 
-use crate::writing::write_whole;
 use command_kit::Ask;
 use conversation::Front;
 use core_calls::CoreCall;
 use dss_frames::stays_read;
-use hearing::{Heard, feed_all};
+use hearing::{Heard, feed_all, write_whole};
 use std::alloc::{AllocError, Global};
 use std::io::{Read, Write};
 
@@ -65,7 +64,7 @@ fn converse<A: Ask, R: Read, W: Write>(
     asker: &mut A,
 ) -> Served
     requires { IsBetweenCommands front.old }
-    ensures converses { IfSome (R.remaining reader.old) (λ input. Converses A.asks front.old.settings (attended_by front.old asker.old) input (W.contents writer.old) result (W.contents writer.new) (attended_by front.new asker.new)) }
+    ensures { IfSome (R.remaining reader.old) (λ input. Converses A.asks front.old.settings (attended_by front.old asker.old) input (W.contents writer.old) result (W.contents writer.new) (attended_by front.new asker.new)) }
 {
     stays_read();
     let Ok(mut buffer) = room_for_a_piece(alloc) else {

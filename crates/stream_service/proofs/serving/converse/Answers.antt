@@ -4,11 +4,11 @@ use Rattle.session_commands.specs.Settings.{Settings}
 use Rattle.hearing.specs.Attended.{attended_by}
 use Rattle.hearing.specs.Pieces.{HearsAll, HearsLast, HearsPart}
 use Rattle.stream_service.proofs.Streams.{answers_but_short, breaks_off, closes, ends, goes_on, in_part, none_done, read_fault, starts}
-use Rattle.stream_service.proofs.Written.{take_front}
+use Rattle.hearing.proofs.Written.{take_front}
 use Rattle.stream_service.proofs.serving.converse.Goals as goal
 
-pub returns-in_default-clause-converses : goal.returns-in_default-clause-converses
-returns-in_default-clause-converses g c =
+pub returns-in_default : goal.returns-in_default
+returns-in_default g c =
     none_done g.A.Ask.asks c.args.front.now c.args.asker.now (g.R.Read.remaining c.args.reader.now) (g.W.Write.contents c.args.writer.now) c.requires
 
 pub talking-init : goal.talking-init
@@ -20,8 +20,8 @@ talking-init g c =
       so_far = starts g.A.Ask.asks c.args.front.now c.args.asker.now (g.R.Read.remaining c.args.reader.now) (g.W.Write.contents c.args.writer.now) c.requires;
     }
 
-pub returns-in-Ok-eq0-clause-converses : goal.returns-in-Ok-eq0-clause-converses
-returns-in-Ok-eq0-clause-converses g c =
+pub returns-in-Ok-eq0 : goal.returns-in-Ok-eq0
+returns-in-Ok-eq0 g c =
     let r = g.R.Read.remaining c.talking.reader in
     let r' = g.R.Read.remaining c.read.new.self in
     let lent : length c.deref_mut.result.now ≡ 65536 = ap length c.deref_mut.ensures.value ∙ c.talking.invariant.room in
@@ -31,13 +31,13 @@ returns-in-Ok-eq0-clause-converses g c =
     (g.R.Read.remaining c.args.reader.now) r r' (g.W.Write.contents c.args.writer.now) (g.W.Write.contents c.talking.writer) c.talking.invariant.so_far took
     (c.in-Ok-eq0.ensures.bytes.1 zero_bytes (omega (arith, lent)))
 
-pub returns-in-Err-clause-converses : goal.returns-in-Err-clause-converses
-returns-in-Err-clause-converses g c =
+pub returns-in-Err : goal.returns-in-Err
+returns-in-Err g c =
     read_fault g.A.Ask.asks c.args.front.now.settings (attended_by c.args.front.now c.args.asker.now) (attended_by c.talking.front c.talking.asker)
     (g.R.Read.remaining c.args.reader.now) (g.R.Read.remaining c.talking.reader) (g.W.Write.contents c.args.writer.now) (g.W.Write.contents c.talking.writer) c.talking.invariant.so_far
 
-pub returns-in_default-write_whole-clause-converses : goal.returns-in_default-write_whole-clause-converses
-returns-in_default-write_whole-clause-converses g c =
+pub returns-in_default-write_whole : goal.returns-in_default-write_whole
+returns-in_default-write_whole g c =
     let buffer = c.read.new.buf in
     let behind = drop (length c.read.new.buf) c.talking.buffer.items in
     let lent : length c.deref_mut.result.now ≡ 65536 = ap length c.deref_mut.ensures.value ∙ c.talking.invariant.room in
@@ -69,8 +69,8 @@ returns-in_default-write_whole-clause-converses g c =
     let wrote = subst (λ (z : List ℕ). (count : ℕ) × Appends w w' (take count z)) c.deref-in-talking.ensures.value c.in_default-write_whole.ensures.err in
     breaks_off asks settings more_fault first mid last (take n buffer) out' r0 r r' w0 w w' c.talking.invariant.so_far took here wrote
 
-pub returns-in-Closed-clause-converses : goal.returns-in-Closed-clause-converses
-returns-in-Closed-clause-converses g c =
+pub returns-in-Closed : goal.returns-in-Closed
+returns-in-Closed g c =
     let buffer = c.read.new.buf in
     let behind = drop (length c.read.new.buf) c.talking.buffer.items in
     let lent : length c.deref_mut.result.now ≡ 65536 = ap length c.deref_mut.ensures.value ∙ c.talking.invariant.room in
@@ -101,8 +101,8 @@ returns-in-Closed-clause-converses g c =
     let wrote : Appends w w' out' = subst (λ (z : List ℕ). Appends w w' z) c.deref-in-talking.ensures.value c.in-Ok-write_whole.ensures.ok in
     closes asks settings more_fault first mid last (take n buffer) out' r0 r r' w0 w w' c.talking.invariant.so_far took here wrote
 
-pub returns-in-NoMemory-clause-converses : goal.returns-in-NoMemory-clause-converses
-returns-in-NoMemory-clause-converses g c =
+pub returns-in-NoMemory : goal.returns-in-NoMemory
+returns-in-NoMemory g c =
     let buffer = c.read.new.buf in
     let behind = drop (length c.read.new.buf) c.talking.buffer.items in
     let lent : length c.deref_mut.result.now ≡ 65536 = ap length c.deref_mut.ensures.value ∙ c.talking.invariant.room in
@@ -173,7 +173,7 @@ talking-preserved g c =
       so_far = goes_on asks settings more_fault first mid last (take n buffer) out' r0 r r' w0 w w' c.talking.invariant.so_far took here wrote;
     }
 
-pub returns-clause-converses : goal.returns-clause-converses
-returns-clause-converses g c =
+pub returns : goal.returns
+returns g c =
     read_fault g.A.Ask.asks c.args.front.now.settings (attended_by c.args.front.now c.args.asker.now) (attended_by c.talking.front c.talking.asker)
     (g.R.Read.remaining c.args.reader.now) (g.R.Read.remaining c.talking.reader) (g.W.Write.contents c.args.writer.now) (g.W.Write.contents c.talking.writer) c.talking.invariant.so_far
