@@ -1,13 +1,13 @@
 //! Conversations that are heard whole, one after the other.
 
 use crate::cores::{core_of, serve_over};
-use crate::sentences::*;
 use crate::streams::{Looking, OneByOne};
 use drda_disk::MemDisk;
 use durable_core::DurableCore;
 use std::alloc::Global;
 use std::test::Fail;
 use stream_service::Served;
+use test_bytes::sentences::*;
 use test_bytes::*;
 
 const CONNECT: [&str; 4] = [EXCSAT_ALONE, ACCSEC, SECCHK_ALONE, ACCRDB];
@@ -45,12 +45,12 @@ const TALKS: [(&[&str], &[&str]); 7] = [
     (&[], &[]),
     (&[CREATE, RDBCMM], &[CREATED, COMMITTED]),
     // A unit of work that is left open is gone with its conversation.
-    (&[INSERT], &[FIRST_INSERTED]),
-    (&[INSERT], &[FIRST_INSERTED]),
+    (&[INSERT], &[FIRST_ROW]),
+    (&[INSERT], &[FIRST_ROW]),
     (&[PREPARE, QUERY, RDBCMM], &[PREPARED, NO_ROW, COMMITTED]),
     (
         &[INSERT, RDBCMM, PREPARE, QUERY],
-        &[FIRST_INSERTED, COMMITTED, PREPARED, ONE_ROW],
+        &[FIRST_ROW, COMMITTED, PREPARED, ONE_ROW],
     ),
     // Nothing is heard behind a fault of the framing, and half a command at the end is not done.
     (

@@ -1,11 +1,11 @@
 //! A device that fails in a conversation.
 
 use crate::cores::{core_over, fresh_store, serve_over};
-use crate::sentences::{CREATE, CREATED, INSERT};
 use drda_disk::FuseDisk;
 use std::alloc::Global;
 use std::io::{self, Read};
 use stream_service::Served;
+use test_bytes::sentences::{CREATE, CREATED, INSERT};
 use test_bytes::*;
 
 // A stream that gives so many bytes at a time, and counts how often it gave some.

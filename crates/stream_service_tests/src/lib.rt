@@ -10,8 +10,6 @@ mod devices;
 #[cfg(test)]
 mod faults;
 #[cfg(test)]
-mod sentences;
-#[cfg(test)]
 mod sockets;
 #[cfg(test)]
 mod streams;

@@ -1,7 +1,6 @@
 //! A conversation over a socket, both of whose ends are in this process.
 
 use crate::cores::{core_of, serve_over};
-use crate::sentences::*;
 use drda_disk::MemDisk;
 use durable_core::DurableCore;
 use std::alloc::Global;
@@ -9,6 +8,7 @@ use std::io::{Read, Write};
 use std::net::{Ipv4Addr, Net, OpenListener, OpenStream, Shutdown, SocketAddr, SocketAddrV4};
 use std::test::Fail;
 use stream_service::Served;
+use test_bytes::sentences::{CREATE, CREATED};
 use test_bytes::*;
 
 const REQUESTS: [&str; 6] = [EXCSAT_ALONE, ACCSEC, SECCHK_ALONE, ACCRDB, CREATE, RDBCMM];

@@ -1,0 +1,79 @@
+//! Books whose journals fill.
+
+use crate::books::{Told, ask, book_of, run};
+use core_calls::CoreCall;
+use drda_disk::MemDisk;
+use row_values::Value;
+use shared_node::{Book, Pass};
+use std::alloc::{AllocError, Global};
+use std::test::Fail;
+
+const CREATE: &str = "CREATE TABLE B (K INTEGER NOT NULL, V VARCHAR(2000), PRIMARY KEY (K))";
+
+const INSERT: &str = "INSERT INTO B VALUES (1, 'x')";
+
+const UPDATE: &str = "UPDATE B SET V = ?";
+
+// A text of 2,000 letters.
+fn letters(alloc: Global) -> Result<String, AllocError> {
+    let mut text = String::new(alloc);
+    for _ in 0..2_000 {
+        text.push('x')?;
+    }
+    Ok(text)
+}
+
+// Runs a statement that concerns so many rows, and commits it. Whether it is so.
+fn is_committed(
+    alloc: Global,
+    book: &mut Book<MemDisk>,
+    pass: &mut Pass,
+    (text, parameters, count): (&str, &[Value<'_>], u32),
+) -> bool {
+    let told = run(alloc, book, pass, text, parameters);
+    let done = ask(book, pass, &CoreCall::Commit);
+    (told, done) == (Some(Told::Count(count)), Told::Done)
+}
+
+// A book whose one conversation has made a table with a row, and put that anew so many times, with 2,000 letters;
+// each time it has committed. None where a call was not done.
+fn filled(alloc: Global, times: u64) -> Option<Book<MemDisk>> {
+    let mut book = book_of(alloc)?;
+    let mut pass = book.admit()?;
+    let text = letters(alloc).ok()?;
+    let values = [Value::Text(text.as_str())];
+    let mut all = is_committed(alloc, &mut book, &mut pass, (CREATE, &[], 0));
+    all &= is_committed(alloc, &mut book, &mut pass, (INSERT, &[], 1));
+    for _ in 0..times {
+        all &= is_committed(alloc, &mut book, &mut pass, (UPDATE, &values, 1));
+    }
+    all.then_some(book)
+}
+
+// The room of a book that was filled so many times, and its room once a checkpoint was considered.
+fn rooms(alloc: Global, times: u64) -> Option<(usize, usize)> {
+    let mut book = filled(alloc, times)?;
+    let room = book.core().room();
+    book.consider_checkpoint();
+    Some((room, book.core().room()))
+}
+
+// The journal has 1,032,191 bytes. Times that it is filled, the least room that is left then, and the least
+// behind a checkpoint: one is due where less than a quarter is left, and was written before what has no room.
+const FILLS: [(u64, usize, usize); 4] = [
+    (0, 1_032_000, 1_032_000),
+    (300, 400_000, 400_000),
+    (400, 200_000, 1_000_000),
+    (600, 800_000, 800_000),
+];
+
+#[test]
+fn a_journal_that_fills_is_followed_by_a_checkpoint(rt: HostRuntime) -> Result<(), Fail> {
+    for (times, least, behind) in FILLS {
+        let (room, left) = rooms(rt.alloc(), times).ok_or("not all was done")?;
+        let (most, limit) = (least.saturating_add(50_000), behind.saturating_add(50_000));
+        assert!(rt; least <= room && room < most, "{times}: {room}");
+        assert!(rt; behind <= left && left < limit, "{times}: {left}");
+    }
+    Ok(())
+}
