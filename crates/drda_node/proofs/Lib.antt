@@ -3,13 +3,10 @@ pub mod Cores
 pub mod Askers
 pub mod Failures
 pub mod Journal
-pub mod Conversing
-pub mod Stepping
-pub mod Pieces
+pub mod Placed
 pub mod Recording
 pub mod Runs
 pub mod Rows
-pub mod Listening
 pub mod Refusing
 pub mod Histories
 pub mod SerialOrder

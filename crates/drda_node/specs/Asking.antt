@@ -12,7 +12,7 @@ use Rattle.core_model.specs.Step.{CoreState, answer as answer_to, step_state}
 use Rattle.unit_records.specs.Due.{record_due}
 use Rattle.recovery_laws.specs.Journaled.{Journaled, OnDisk, shown_on}
 use Rattle.durable_core.specs.Steps.{MayWantMemory, RoomAfter, due_entries}
-use Rattle.drda_node.specs.declared.asker.Asker.{Asker}
+use Rattle.drda_node.specs.declared.asker.CoreAsker.{CoreAsker}
 
 -- what a core is to those who ask it: its state, the bytes that are left for records, whether the device has failed, and
 -- the records that were due of its calls so far, in their order; the last may be of a call in which the device failed
@@ -84,11 +84,11 @@ left_by old place = record old { state = if old.has_failed then old.state else s
 abbrev pub asked_of : {D : Type 0} → OnDisk D → AskedCore
 asked_of s = record { state = s.state; room = s.room; has_failed = s.is_failed; made = s.made }
 
-abbrev pub core_of : {D : Type 0} → Asker D → AskedCore
+abbrev pub core_of : {D : Type 0} → CoreAsker D → AskedCore
 core_of asker = asked_of asker.core.now
 
 -- the same core is asked for the same conversation afterwards
-pub record IsSameAsker {D : Type 0} (old new : Asker D) : Type 0 where
+pub record IsSameAsker {D : Type 0} (old new : CoreAsker D) : Type 0 where
   pub core : new.core.ghost_name ≡ old.core.ghost_name
   pub conversation : new.conversation ≡ old.conversation
 
@@ -96,6 +96,6 @@ pub record IsSameAsker {D : Type 0} (old new : Asker D) : Type 0 where
 abbrev pub IsJournaled : {D : Type 0} → Bool → (D → Life) → OnDisk D → OnDisk D → Type 0
 IsJournaled modelled life old new = Journaled modelled (shown_on life old) (shown_on life new)
 
-abbrev pub asks_of : {D : Type 0} → Bool → (D → Life) → Asker D → Call → Answer → Asker D → Type 0
+abbrev pub asks_of : {D : Type 0} → Bool → (D → Life) → CoreAsker D → Call → Answer → CoreAsker D → Type 0
 asks_of modelled life old call answer new =
     IsSameAsker old new × asks old.conversation (core_of old) call answer (core_of new) × IsJournaled modelled life old.core.now new.core.now

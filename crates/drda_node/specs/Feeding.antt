@@ -1,90 +1,19 @@
--- What feeding a conversation gives.
-use Rattle.std.specs.Prelude.{◌≡◌, ◌⊎◌, ◌≤◌, ◌<◌, ◌-◌, ℕ, Bool, true, false, List, [], ◌++◌, length, take, Some, slice_get, if◌then◌else◌}
-use Rattle.dss_frames.specs.Dss.{Dss}
-use Rattle.dss_frames.specs.Fault.{IsUnfinished}
-use Rattle.dss_frames.specs.Reading.{unfinished, ReadsAs}
-use Rattle.conversation.specs.declared.front.Need.{Need}
-use Rattle.conversation.specs.declared.front.Need.TheVariants.{Bytes, Local, Short as short, Closed as closed}
-use Rattle.session_commands.specs.Settings.{Settings}
+-- What feeding a conversation of a machine gives.
+use Rattle.std.specs.Prelude.{◌≡◌, ℕ, List, Some, slice_get}
 use Rattle.conversation.specs.Held.{Held}
-use Rattle.conversation.specs.Standing.{standing}
-use Rattle.drda_node.specs.Asking.{AskedCore}
-use Rattle.drda_node.specs.declared.fed.Fed.{Fed}
-use Rattle.drda_node.specs.declared.fed.FedState.{FedState}
-use Rattle.drda_node.specs.declared.fed.FedState.TheVariants.{Open, Closed, Short, Later}
+use Rattle.hearing.specs.declared.fed.Fed.{Fed}
+use Rattle.hearing.specs.Feeding.{Takes}
+use Rattle.drda_node.specs.Asking.{asks}
 use Rattle.drda_node.specs.Machine.{Conversation, Machine}
-use Rattle.drda_node.specs.Hearing.{Attended, attended, attended_at, Hears}
+use Rattle.drda_node.specs.Hearing.{Attended, attended, attended_at}
 
--- the bytes of a reply that comes behind what was appended
-abbrev pub bytes_behind : FedState → List ℕ
-bytes_behind Open = []
-bytes_behind Closed = []
-bytes_behind (Short bytes) = bytes
-bytes_behind Later = []
-
--- what a state says of the conversation, and of how many bytes were taken
-abbrev pub LeftAs : FedState → ℕ → Attended → Type 0
-LeftAs Open taken after = after.standing.session.is_closed ≡ false
-LeftAs Closed taken after = after.standing.session.is_closed ≡ true
-LeftAs (Short bytes) taken after = (0 < taken) × (after.standing.session.is_closed ≡ false)
-LeftAs Later taken after = after.standing.session.is_closed ≡ false
-
--- bytes were heard, and the replies appended, but for what comes behind them
-pub record Told (settings : Settings) (place : ℕ) (before : Attended) (bytes out behind : List ℕ) (after : Attended) (out' : List ℕ) : Type 0 where
-  pub replies : List ℕ
-  pub appended : out' ≡ out ++ replies
-  pub hears : Hears settings place before bytes (replies ++ behind) after
-
--- bytes of the piece are left, or it had none
-abbrev pub IsLeft : ℕ → List ℕ → Type 0
-IsLeft taken piece = (taken < length piece) ⊎ (piece ≡ [])
-
--- The last byte that was taken is the last one of a faulty header: without it there is no fault, but
--- commands and what may still become one.
-pub record EndsAtFault (before : Attended) (piece : List ℕ) (taken : ℕ) : Type 0 where
-  pub some : 0 < taken
-  pub commands : List (List Dss)
-  pub rest : List ℕ
-  pub one_less : ReadsAs (before.rest ++ take (taken - 1) piece) commands (unfinished rest)
-
--- the last byte that was taken is the last one of a command
-pub record EndsWithCommand (before : Attended) (piece : List ℕ) (taken : ℕ) : Type 0 where
-  pub some : 0 < taken
-  pub commands : List (List Dss)
-  pub whole : ReadsAs (before.rest ++ take taken piece) commands (unfinished [])
-
--- The conversation heard the bytes of the piece that were taken, and its replies were appended. All of
--- the piece is taken where the conversation stays open, and nothing where it was closed before.
-pub record Takes (settings : Settings) (place : ℕ) (before : Attended) (piece out : List ℕ) (fed : Fed) (after : Attended) (out' : List ℕ) : Type 0 where
-  pub within : fed.taken ≤ length piece
-  pub told : Told settings place before (take fed.taken piece) out (bytes_behind fed.state) after out'
-  pub state : LeftAs fed.state fed.taken after
-  pub all : fed.state ≡ Open → fed.taken ≡ length piece
-  pub later : fed.state ≡ Later → IsLeft fed.taken piece
-  pub closed : fed.state ≡ Closed → before.standing.session.is_closed ≡ false → EndsAtFault before piece fed.taken ⊎ EndsWithCommand before piece fed.taken
-  pub none : before.standing.session.is_closed ≡ true → fed.taken ≡ 0
-
--- the same of the conversation at this place; all others stay as they are
+-- the conversation at this place takes bytes of the piece; all others stay as they are
 pub record Feeds (old : Machine) (place : ℕ) (piece out : List ℕ) (fed : Fed) (new : Machine) (out' : List ℕ) : Type 0 where
   pub before : Conversation
   pub after : Attended
   pub was : slice_get old.row place ≡ Some (Some before)
   pub row : new ≡ attended_at old place after
-  pub takes : Takes old.settings place (attended old before) piece out fed after out'
-
--- between two calls the rest of an open conversation holds no whole command and no fault
-abbrev pub IsBetweenCommands : Held → Type 0
-IsBetweenCommands held = held.session.is_closed ≡ false → IsUnfinished held.rest
+  pub takes : Takes (asks place) old.settings (attended old before) piece out fed after out'
 
 abbrev pub shown_held : Held → Conversation
 shown_held held = record { rest = held.rest; session = held.session; statements = held.statements }
-
-abbrev pub with_core : Held → AskedCore → Attended
-with_core held core = record { rest = held.rest; standing = standing held core }
-
--- how it stands after one step of the conversation, by whether bytes were taken or there were none
-abbrev pub state_for : Need → Bool → FedState
-state_for Bytes has_fed = if has_fed then Open else Later
-state_for Local has_fed = if has_fed then Open else Later
-state_for (short bytes) has_fed = Short bytes
-state_for closed has_fed = Closed

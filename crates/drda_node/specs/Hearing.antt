@@ -1,17 +1,17 @@
 -- What a conversation answers to bytes, and what it makes of the core that it asks.
-use Rattle.std.specs.Prelude.{◌≡◌, ◌⊎◌, ℕ, true, false, List, [], ◌++◌, length, Some, slice_get, slice_set}
+use Rattle.std.specs.Prelude.{◌≡◌, ◌⊎◌, ℕ, true, false, List, [], ◌++◌, Some, slice_get, slice_set}
 use Rattle.session_commands.specs.Settings.{Settings}
-use Rattle.conversation.specs.Standing.{Standing}
-use Rattle.conversation.specs.Steps.{Converses}
+use Rattle.hearing.specs.declared.fed.Heard.{Heard}
+use Rattle.hearing.specs.declared.fed.Heard.TheVariants.{Open, Closed, NoMemory}
+use Rattle.hearing.specs.Attended as standing
+use Rattle.hearing.specs.Hearing as hearing
+pub use Rattle.hearing.specs.Hearing.{IsShortReply}
 use Rattle.drda_node.specs.Asking.{AskedCore, asks}
-use Rattle.drda_node.specs.declared.fed.Heard.{Heard}
-use Rattle.drda_node.specs.declared.fed.Heard.TheVariants.{Open, Closed, NoMemory}
 use Rattle.drda_node.specs.Machine.{Conversation, Machine}
 
--- the bytes after the last completed command of a conversation, and how it stands with the core
-pub record Attended : Type 0 where
-  pub rest : List ℕ
-  pub standing : Standing AskedCore
+-- how a conversation stands with the core
+abbrev pub Attended : Type 0
+Attended = standing.Attended AskedCore
 
 abbrev pub attended : Machine → Conversation → Attended
 attended machine conversation = record {
@@ -26,20 +26,9 @@ conversation_of a = record { rest = a.rest; session = a.standing.session; statem
 abbrev pub attended_at : Machine → ℕ → Attended → Machine
 attended_at machine place after = record machine { row = slice_set machine.row place (Some (conversation_of after)); core = after.standing.asked }
 
--- An open conversation does each command that is whole with these bytes, in order, and keeps the rest. A
--- fault of the framing is answered and closes it, and so does a command that is answered by AGNPRMRM.
-pub record Listens (settings : Settings) (place : ℕ) (before : Attended) (bytes replies : List ℕ) (after : Attended) : Type 0 where
-  pub still_open : before.standing.session.is_closed ≡ false
-  pub converses : Converses (asks place) settings before.standing (before.rest ++ bytes) replies after.rest after.standing
-
--- a closed conversation hears nothing any more
-pub record HearsNothing (before : Attended) (replies : List ℕ) (after : Attended) : Type 0 where
-  pub closed : before.standing.session.is_closed ≡ true
-  pub silent : replies ≡ []
-  pub same : after ≡ before
-
+-- To these bytes it answers these replies, and asks the core by its place.
 abbrev pub Hears : Settings → ℕ → Attended → List ℕ → List ℕ → Attended → Type 0
-Hears settings place before bytes replies after = Listens settings place before bytes replies after ⊎ HearsNothing before replies after
+Hears settings place before bytes replies after = hearing.Hears (asks place) settings before bytes replies after
 
 -- the conversation at this place hears these bytes, and all others stay as they are
 pub record HearsAt (old : Machine) (place : ℕ) (bytes replies : List ℕ) (after : Attended) (new : Machine) : Type 0 where
@@ -65,10 +54,6 @@ pub record HearsLast (old : Machine) (place : ℕ) (piece out : List ℕ) (new :
   pub hears : (more : List ℕ) → HearsAt old place (piece ++ more) replies after new
   pub closed : after.standing.session.is_closed ≡ true
   pub appended : out' ≡ out ++ replies
-
--- the bytes of the reply that says that a command found no memory
-abbrev pub IsShortReply : List ℕ → Type 0
-IsShortReply bytes = length bytes ≡ 16
 
 -- a prefix of it, whose replies were appended, but perhaps not the last, which says that a command found no memory
 pub record HearsPart (old : Machine) (place : ℕ) (piece out : List ℕ) (new : Machine) (out' : List ℕ) : Type 0 where

@@ -10,10 +10,10 @@ ghost use Rattle.drda_node.specs.Asking.{IsJournaled};
 ghost use Rattle.drda_node.specs.Register.{core_in, machine};
 
 use crate::event::{HEAD_SIZE, Head, push_record};
-use crate::fed::Heard;
 use crate::node::Node;
 use drda_disk::Disk;
 use durable_core::Checkpointed;
+use hearing::Heard;
 use recovery_laws::images::calls_go_on;
 use std::alloc::AllocError;
 

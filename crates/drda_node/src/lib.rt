@@ -5,8 +5,6 @@ mod answering;
 mod asker;
 pub mod closing;
 mod event;
-mod fed;
-mod feeding;
 mod gathering;
 pub mod laws;
 mod node;
@@ -18,10 +16,11 @@ mod serving;
 mod slot;
 mod writing;
 
+pub use asker::CoreAsker;
 // What a node is started with.
 pub use conversation::{Settings, SettingsError};
 pub use durable_core::{Checkpointed, DurableCore, open};
-pub use fed::{Fed, FedState, Heard};
+pub use hearing::{Fed, FedState, Heard};
 pub use node::{ConversationId, Node, OpenError};
 pub use ready::Ready;
 pub use serving::{RunEnd, run};

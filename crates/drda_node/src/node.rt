@@ -3,14 +3,13 @@
 ghost use Rattle.std.specs.Prelude.{◌≡◌, length};
 ghost use Rattle.drda_node.specs.Sharing.{AllServe};
 
-use crate::asker::Asker;
-use crate::fed::{Fed, FedState, Heard};
+use crate::asker::CoreAsker;
 use crate::row::{PLACES, free_places};
 use crate::slot::Slot;
 use conversation::Settings;
 use drda_disk::Disk;
-use dss_frames::stays_read;
 use durable_core::{Checkpointed, DurableCore};
+use hearing::{Fed, Heard};
 use recovery_laws::images::calls_go_on;
 use std::alloc::Global;
 use thiserror::Error;
@@ -186,7 +185,7 @@ impl<D: Disk> Node<D> {
         ensures numbers { numbers self.new ≡ numbers self.old }
         ensures journaled { IsJournaled D.is_modelled D.life (core_in self.old) (core_in self.new) }
     {
-        let mut asker = Asker {
+        let mut asker = CoreAsker {
             core: &mut self.core,
             conversation: place as u64,
         };
@@ -214,23 +213,12 @@ impl<D: Disk> Node<D> {
         ensures numbers { numbers self.new ≡ numbers self.old }
         ensures journaled { IsJournaled D.is_modelled D.life (core_in self.old) (core_in self.new) }
     {
-        stays_read();
-        calls_go_on::<D>();
-        self.core.is_durable();
-        let mut at = 0;
-        'feeding: loop {
-            let fed = self.feed_at(place, &piece[at..], out);
-            at += fed.taken;
-            match fed.state {
-                FedState::Open => return Heard::Open,
-                FedState::Closed => return Heard::Closed,
-                FedState::Later => return Heard::NoMemory,
-                FedState::Short(reply) => match out.extend_from_slice(&reply) {
-                    Ok(()) => {}
-                    Err(_) => return Heard::NoMemory,
-                },
-            }
-        }
+        let conversation = place as u64;
+        let mut asker = CoreAsker {
+            core: &mut self.core,
+            conversation,
+        };
+        self.places[place].feed_all(&mut asker, piece, out)
     }
 
     /// Takes a conversation away: its place is free, what it had not sent whole is dropped, and its

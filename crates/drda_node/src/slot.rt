@@ -1,13 +1,13 @@
 //! A place for a conversation.
 
-ghost use Rattle.drda_node.specs.Feeding.{IsBetweenCommands};
+ghost use Rattle.hearing.specs.Feeding.{IsBetweenCommands};
 
-use crate::asker::Asker;
-use crate::fed::Fed;
-use crate::feeding::converse;
+use crate::asker::CoreAsker;
 use conversation::{Front, Settings};
 use drda_disk::Disk;
 use dss_frames::stays_read;
+use hearing::{Fed, Heard};
+use recovery_laws::images::calls_go_on;
 use std::alloc::{AllocError, Global};
 
 /// A place for a conversation, with the number that was given to the one that stands there.
@@ -21,8 +21,10 @@ pub struct Slot {
 
 impl Slot {
     ghost use Rattle.std.specs.Prelude.{◌≡◌, IfOk, true};
-    ghost use Rattle.drda_node.specs.Asking.{IsJournaled, IsSameAsker, core_of};
-    ghost use Rattle.drda_node.specs.Feeding.{Takes, with_core};
+    ghost use Rattle.hearing.specs.Attended.{attended_by};
+    ghost use Rattle.hearing.specs.Feeding.{Takes};
+    ghost use Rattle.hearing.specs.Pieces.{HearsPiece};
+    ghost use Rattle.drda_node.specs.Asking.{IsJournaled, IsSameAsker, asks, core_of};
     ghost use Rattle.drda_node.specs.Register.{shown};
     ghost use Rattle.drda_node.specs.Machine.{beginning};
 
@@ -65,18 +67,40 @@ impl Slot {
     /// Gives the conversation bytes.
     pub(crate) fn feed<D: Disk>(
         &mut self,
-        asker: &mut Asker<'_, D>,
+        asker: &mut CoreAsker<'_, D>,
         piece: &[u8],
         out: &mut Vec<u8>,
     ) -> Fed
         requires { self.old.is_open ≡ true }
-        ensures takes { Takes self.old.front.settings asker.old.conversation (with_core self.old.front (core_of asker.old)) piece.now out.old.items result (with_core self.new.front (core_of asker.new)) out.new.items }
+        ensures takes { Takes (asks asker.old.conversation) self.old.front.settings (attended_by self.old.front (core_of asker.old)) piece.now out.old.items result (attended_by self.new.front (core_of asker.new)) out.new.items }
         ensures journaled { IsJournaled D.is_modelled D.life asker.old.core.now asker.new.core.now }
         ensures same_asker { IsSameAsker asker.old asker.new }
         ensures open { self.new.is_open ≡ true }
         ensures number { self.new.number ≡ self.old.number }
         ensures settings { self.new.front.settings ≡ self.old.front.settings }
     {
-        converse(&mut self.front, asker, piece, out)
+        calls_go_on::<D>();
+        asker.core.is_durable();
+        hearing::feed(&mut self.front, asker, piece, out)
+    }
+
+    /// Gives the conversation all of these bytes.
+    pub(crate) fn feed_all<D: Disk>(
+        &mut self,
+        asker: &mut CoreAsker<'_, D>,
+        piece: &[u8],
+        out: &mut Vec<u8>,
+    ) -> Heard
+        requires { self.old.is_open ≡ true }
+        ensures hears { HearsPiece (asks asker.old.conversation) self.old.front.settings (attended_by self.old.front (core_of asker.old)) piece.now out.old.items result (attended_by self.new.front (core_of asker.new)) out.new.items }
+        ensures journaled { IsJournaled D.is_modelled D.life asker.old.core.now asker.new.core.now }
+        ensures same_asker { IsSameAsker asker.old asker.new }
+        ensures open { self.new.is_open ≡ true }
+        ensures number { self.new.number ≡ self.old.number }
+        ensures settings { self.new.front.settings ≡ self.old.front.settings }
+    {
+        calls_go_on::<D>();
+        asker.core.is_durable();
+        hearing::feed_all(&mut self.front, asker, piece, out)
     }
 }

@@ -1,4 +1,4 @@
-use Rattle.std.proofs.Common.{◌≡◌, ◌≤◌, ◌+◌, ◌-◌, ℕ, List, length, take, drop, ap, sym, subst, ◌∙◌, refl, inl, inr, arith, rules}
+use Rattle.std.proofs.Common.{◌≡◌, ◌-◌, ℕ, List, length, drop, ap, sym, subst, ◌∙◌, refl, inl, inr, arith, rules}
 use Rattle.std.proofs.lemmas.List.{take_rest, length-drop}
 use Rattle.session_commands.specs.Settings.{Settings}
 use Rattle.hearing.specs.Attended.{attended_by}

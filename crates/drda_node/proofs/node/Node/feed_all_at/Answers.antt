@@ -1,189 +1,52 @@
-use Rattle.std.proofs.Common.{◌≡◌, ◌≤◌, ◌+◌, ◌-◌, ℕ, List, length, take, drop, ap, sym, subst, ◌∙◌, inl, inr, arith, rules}
-use Rattle.std.proofs.lemmas.List.{take_rest, length-drop}
-use Rattle.drda_node.specs.declared.fed.FedState.{FedState}
-use Rattle.drda_node.specs.Register.{core_in, machine}
-use Rattle.drda_node.specs.Feeding.{Feeds, LeftAs, bytes_behind}
-use Rattle.drda_node.specs.Hearing.{HearsPart, IsShortReply}
-use Rattle.drda_node.proofs.Journal.{more}
-use Rattle.drda_node.proofs.Listening.{Heard, all, heard_more, heard_there, last, part, said_behind, still_there}
+use Rattle.std.proofs.Common.{◌≡◌, Some, map, slice_get, slice_set, refl, ap, ◌∙◌, sym, subst}
+use Rattle.session_commands.specs.Settings.{Settings}
+use Rattle.hearing.specs.Attended.{attended_by}
+use Rattle.hearing.specs.Pieces as pieces
+use Rattle.drda_node.specs.Asking.{asked_of, asks, core_of}
+use Rattle.drda_node.specs.Machine.{Machine}
+use Rattle.drda_node.specs.Feeding.{shown_held}
+use Rattle.drda_node.specs.Hearing.{attended_at}
+use Rattle.drda_node.specs.declared.slot.Slot.{Slot}
+use Rattle.drda_node.specs.Register.{machine, number_of, shown}
+use Rattle.drda_node.proofs.Placed.{hears_there, still_there}
+use Rattle.drda_node.proofs.Rows.{below_view, open_shows, same_machine, shows_open, view_at, view_kept, view_set}
 use Rattle.drda_node.proofs.node.Node.feed_all_at.Goals as goal
 
-pub feed_at-fed-requires : goal.feed_at-fed-requires
-feed_at-fed-requires g c =
-    still_there (machine c.args.self.now) c.args.place c.args.piece.now c.feeding.at c.args.out.now.items (machine c.feeding.self) c.feeding.out.items c.requires c.feeding.invariant.heard
+pub returns-clause-hears : goal.returns-clause-hears
+returns-clause-hears g c =
+    let old = machine c.args.self.now in
+    let items = c.args.self.now.places.items in
+    let place = c.index_mut.result.now in
+    let new = c.feed_all.new.self in
+    let asker = c.feed_all.new.asker in
+    let (h, here) = c.requires in
+    let is : shown place ≡ Some h = ap shown c.index_mut.ensures.value ∙ view_at shown items c.args.place place (Some h) here in
+    let shows = open_shows place (shows_open place h is) in
+    let settings : place.front.settings ≡ c.args.self.now.settings = ap (λ (p : Slot). p.front.settings) c.index_mut.ensures.value ∙ c.args.self.now.alike c.args.place place (below_view shown items c.args.place (Some h) here) in
+    let was : slice_get old.row c.args.place ≡ Some (Some (shown_held place.front)) = here ∙ ap (λ o. Some o) (sym is ∙ shows) in
+    let now : Machine = record { settings = old.settings; row = map shown (slice_set items c.args.place new); given = old.given; core = core_of asker } in
+    let row : now ≡ attended_at old c.args.place (attended_by new.front (core_of asker)) =
+    same_machine old.settings (map shown (slice_set items c.args.place new)) (slice_set old.row c.args.place (Some (shown_held new.front))) old.given old.given (core_of asker) (core_of asker)
+    (view_set shown items c.args.place new (Some (shown_held new.front)) (open_shows new c.feed_all.ensures.open)) refl refl in
+    hears_there old now c.args.place (shown_held place.front) (attended_by new.front (core_of asker)) was row c.feed_all.result c.args.piece.now c.args.out.now.items c.feed_all.new.out.items
+    (subst (λ (v : Settings). pieces.HearsPiece (asks c.args.place) v (attended_by place.front (asked_of c.args.self.now.core)) c.args.piece.now c.args.out.now.items c.feed_all.result (attended_by new.front (core_of asker)) c.feed_all.new.out.items) settings
+    c.feed_all.ensures.hears)
 
-pub returns-in-Open-clause-hears : goal.returns-in-Open-clause-hears
-returns-in-Open-clause-hears g c =
-    let bytes = c.args.piece.now in
-    let at = c.feeding.at in
-    let fed = c.feed_at-fed.result in
-    let place = c.args.place in
-    let first = machine c.args.self.now in
-    let mid = machine c.feeding.self in
-    let new = machine c.feed_at-fed.new.self in
-    let out = c.args.out.now.items in
-    let outm = c.feeding.out.items in
-    let out' = c.feed_at-fed.new.out.items in
-    let f : Feeds mid place (drop at bytes) outm fed new out' = subst (λ (z : List ℕ). Feeds mid place z outm fed new out') (take_rest bytes at) c.feed_at-fed.ensures.feeds in
-    let heard = heard_more c.stays_read.ensures.fault first mid new place at bytes out outm out' fed c.feeding.invariant.heard f in
-    let whole_heard = subst (λ (s : FedState). Heard first place (take (at + fed.taken) bytes) out (bytes_behind s) f.after new out') c.in-Open.is heard in
-    let every = f.takes.all c.in-Open.is in
-    let rest : length (drop at bytes) ≡ length bytes - at = length-drop at bytes in
-    let whole : length bytes ≤ at + fed.taken = omega (arith, every, rest) in
-    all c.stays_read.ensures.fault first new place (at + fed.taken) bytes out out' f.after whole (subst (λ (s : FedState). LeftAs s fed.taken f.after) c.in-Open.is f.takes.state) whole_heard
+pub returns-clause-there : goal.returns-clause-there
+returns-clause-there g c =
+    let old = machine c.args.self.now in
+    let items = c.args.self.now.places.items in
+    let place = c.index_mut.result.now in
+    let new = c.feed_all.new.self in
+    let asker = c.feed_all.new.asker in
+    let (h, here) = c.requires in
+    let now : Machine = record { settings = old.settings; row = map shown (slice_set items c.args.place new); given = old.given; core = core_of asker } in
+    let row : now ≡ attended_at old c.args.place (attended_by new.front (core_of asker)) =
+    same_machine old.settings (map shown (slice_set items c.args.place new)) (slice_set old.row c.args.place (Some (shown_held new.front))) old.given old.given (core_of asker) (core_of asker)
+    (view_set shown items c.args.place new (Some (shown_held new.front)) (open_shows new c.feed_all.ensures.open)) refl refl in
+    still_there old now c.args.place h (attended_by new.front (core_of asker)) here row
 
-pub returns-in-Closed-clause-hears : goal.returns-in-Closed-clause-hears
-returns-in-Closed-clause-hears g c =
-    let bytes = c.args.piece.now in
-    let at = c.feeding.at in
-    let fed = c.feed_at-fed.result in
-    let place = c.args.place in
-    let first = machine c.args.self.now in
-    let mid = machine c.feeding.self in
-    let new = machine c.feed_at-fed.new.self in
-    let out = c.args.out.now.items in
-    let outm = c.feeding.out.items in
-    let out' = c.feed_at-fed.new.out.items in
-    let f : Feeds mid place (drop at bytes) outm fed new out' = subst (λ (z : List ℕ). Feeds mid place z outm fed new out') (take_rest bytes at) c.feed_at-fed.ensures.feeds in
-    let heard = heard_more c.stays_read.ensures.fault first mid new place at bytes out outm out' fed c.feeding.invariant.heard f in
-    let whole_heard = subst (λ (s : FedState). Heard first place (take (at + fed.taken) bytes) out (bytes_behind s) f.after new out') c.in-Closed.is heard in
-    last c.stays_read.ensures.fault first new place (at + fed.taken) bytes out out' f.after (subst (λ (s : FedState). LeftAs s fed.taken f.after) c.in-Closed.is f.takes.state) whole_heard
-
-pub returns-in-Later-clause-hears : goal.returns-in-Later-clause-hears
-returns-in-Later-clause-hears g c =
-    let bytes = c.args.piece.now in
-    let at = c.feeding.at in
-    let fed = c.feed_at-fed.result in
-    let place = c.args.place in
-    let first = machine c.args.self.now in
-    let mid = machine c.feeding.self in
-    let new = machine c.feed_at-fed.new.self in
-    let out = c.args.out.now.items in
-    let outm = c.feeding.out.items in
-    let out' = c.feed_at-fed.new.out.items in
-    let f : Feeds mid place (drop at bytes) outm fed new out' = subst (λ (z : List ℕ). Feeds mid place z outm fed new out') (take_rest bytes at) c.feed_at-fed.ensures.feeds in
-    let heard = heard_more c.stays_read.ensures.fault first mid new place at bytes out outm out' fed c.feeding.invariant.heard f in
-    part first new place (at + fed.taken) bytes out (bytes_behind fed.state) out' f.after (inl (ap bytes_behind c.in-Later.is)) heard
-
-pub returns-in-Err-clause-hears : goal.returns-in-Err-clause-hears
-returns-in-Err-clause-hears g c =
-    let bytes = c.args.piece.now in
-    let at = c.feeding.at in
-    let fed = c.feed_at-fed.result in
-    let place = c.args.place in
-    let first = machine c.args.self.now in
-    let mid = machine c.feeding.self in
-    let new = machine c.feed_at-fed.new.self in
-    let out = c.args.out.now.items in
-    let outm = c.feeding.out.items in
-    let out' = c.feed_at-fed.new.out.items in
-    let f : Feeds mid place (drop at bytes) outm fed new out' = subst (λ (z : List ℕ). Feeds mid place z outm fed new out') (take_rest bytes at) c.feed_at-fed.ensures.feeds in
-    let heard = heard_more c.stays_read.ensures.fault first mid new place at bytes out outm out' fed c.feeding.invariant.heard f in
-    let behind : bytes_behind fed.state ≡ c.in-Short.reply = ap bytes_behind c.in-Short.is in
-    let short : length c.in-Short.reply ≡ 16 = search rules in
-    subst (λ (z : List ℕ). HearsPart first place bytes out new z) (sym c.in-Err.ensures.items)
-    (part first new place (at + fed.taken) bytes out (bytes_behind fed.state) out' f.after (inr (subst (λ (z : List ℕ). IsShortReply z) (sym behind) short)) heard)
-
-pub feeding-preserved : goal.feeding-preserved
-feeding-preserved g c =
-    let bytes = c.args.piece.now in
-    let at = c.feeding.at in
-    let fed = c.feed_at-fed.result in
-    let place = c.args.place in
-    let first = machine c.args.self.now in
-    let mid = machine c.feeding.self in
-    let new = machine c.feed_at-fed.new.self in
-    let out = c.args.out.now.items in
-    let outm = c.feeding.out.items in
-    let out' = c.feed_at-fed.new.out.items in
-    let f : Feeds mid place (drop at bytes) outm fed new out' = subst (λ (z : List ℕ). Feeds mid place z outm fed new out') (take_rest bytes at) c.feed_at-fed.ensures.feeds in
-    let heard = heard_more c.stays_read.ensures.fault first mid new place at bytes out outm out' fed c.feeding.invariant.heard f in
-    let whole_heard = subst (λ (s : FedState). Heard first place (take (at + fed.taken) bytes) out (bytes_behind s) f.after new out') c.in-Short.is heard in
-    let rest : length (drop at bytes) ≡ length bytes - at = length-drop at bytes in
-    let within = f.takes.within in
-    record {
-      within = omega (arith, within, rest, c.feeding.invariant.within);
-      same_numbers = c.feed_at-fed.ensures.numbers ∙ c.feeding.invariant.same_numbers;
-      journaled = more g.D.Disk.is_modelled g.D.Disk.life c.calls_go_on.ensures (core_in c.args.self.now) (core_in c.feeding.self) (core_in c.feed_at-fed.new.self) c.feeding.invariant.journaled c.feed_at-fed.ensures.journaled;
-      heard = inr (f.after, said_behind first new place (take (at + fed.taken) bytes) out _ out' _ f.after whole_heard c.in-Ok.ensures.items);
-    }
-
-pub returns-in-Open-clause-there : goal.returns-in-Open-clause-there
-returns-in-Open-clause-there g c =
-    let bytes = c.args.piece.now in
-    let at = c.feeding.at in
-    let fed = c.feed_at-fed.result in
-    let place = c.args.place in
-    let first = machine c.args.self.now in
-    let mid = machine c.feeding.self in
-    let new = machine c.feed_at-fed.new.self in
-    let out = c.args.out.now.items in
-    let outm = c.feeding.out.items in
-    let out' = c.feed_at-fed.new.out.items in
-    let f : Feeds mid place (drop at bytes) outm fed new out' = subst (λ (z : List ℕ). Feeds mid place z outm fed new out') (take_rest bytes at) c.feed_at-fed.ensures.feeds in
-    let heard = heard_more c.stays_read.ensures.fault first mid new place at bytes out outm out' fed c.feeding.invariant.heard f in
-    heard_there first new place (take (at + fed.taken) bytes) out (bytes_behind fed.state) out' f.after heard
-
-pub returns-in-Open-clause-journaled : goal.returns-in-Open-clause-journaled
-returns-in-Open-clause-journaled g c =
-    more g.D.Disk.is_modelled g.D.Disk.life c.calls_go_on.ensures (core_in c.args.self.now) (core_in c.feeding.self) (core_in c.feed_at-fed.new.self) c.feeding.invariant.journaled c.feed_at-fed.ensures.journaled
-
-pub returns-in-Closed-clause-there : goal.returns-in-Closed-clause-there
-returns-in-Closed-clause-there g c =
-    let bytes = c.args.piece.now in
-    let at = c.feeding.at in
-    let fed = c.feed_at-fed.result in
-    let place = c.args.place in
-    let first = machine c.args.self.now in
-    let mid = machine c.feeding.self in
-    let new = machine c.feed_at-fed.new.self in
-    let out = c.args.out.now.items in
-    let outm = c.feeding.out.items in
-    let out' = c.feed_at-fed.new.out.items in
-    let f : Feeds mid place (drop at bytes) outm fed new out' = subst (λ (z : List ℕ). Feeds mid place z outm fed new out') (take_rest bytes at) c.feed_at-fed.ensures.feeds in
-    let heard = heard_more c.stays_read.ensures.fault first mid new place at bytes out outm out' fed c.feeding.invariant.heard f in
-    heard_there first new place (take (at + fed.taken) bytes) out (bytes_behind fed.state) out' f.after heard
-
-pub returns-in-Closed-clause-journaled : goal.returns-in-Closed-clause-journaled
-returns-in-Closed-clause-journaled g c =
-    more g.D.Disk.is_modelled g.D.Disk.life c.calls_go_on.ensures (core_in c.args.self.now) (core_in c.feeding.self) (core_in c.feed_at-fed.new.self) c.feeding.invariant.journaled c.feed_at-fed.ensures.journaled
-
-pub returns-in-Later-clause-there : goal.returns-in-Later-clause-there
-returns-in-Later-clause-there g c =
-    let bytes = c.args.piece.now in
-    let at = c.feeding.at in
-    let fed = c.feed_at-fed.result in
-    let place = c.args.place in
-    let first = machine c.args.self.now in
-    let mid = machine c.feeding.self in
-    let new = machine c.feed_at-fed.new.self in
-    let out = c.args.out.now.items in
-    let outm = c.feeding.out.items in
-    let out' = c.feed_at-fed.new.out.items in
-    let f : Feeds mid place (drop at bytes) outm fed new out' = subst (λ (z : List ℕ). Feeds mid place z outm fed new out') (take_rest bytes at) c.feed_at-fed.ensures.feeds in
-    let heard = heard_more c.stays_read.ensures.fault first mid new place at bytes out outm out' fed c.feeding.invariant.heard f in
-    heard_there first new place (take (at + fed.taken) bytes) out (bytes_behind fed.state) out' f.after heard
-
-pub returns-in-Later-clause-journaled : goal.returns-in-Later-clause-journaled
-returns-in-Later-clause-journaled g c =
-    more g.D.Disk.is_modelled g.D.Disk.life c.calls_go_on.ensures (core_in c.args.self.now) (core_in c.feeding.self) (core_in c.feed_at-fed.new.self) c.feeding.invariant.journaled c.feed_at-fed.ensures.journaled
-
-pub returns-in-Err-clause-there : goal.returns-in-Err-clause-there
-returns-in-Err-clause-there g c =
-    let bytes = c.args.piece.now in
-    let at = c.feeding.at in
-    let fed = c.feed_at-fed.result in
-    let place = c.args.place in
-    let first = machine c.args.self.now in
-    let mid = machine c.feeding.self in
-    let new = machine c.feed_at-fed.new.self in
-    let out = c.args.out.now.items in
-    let outm = c.feeding.out.items in
-    let out' = c.feed_at-fed.new.out.items in
-    let f : Feeds mid place (drop at bytes) outm fed new out' = subst (λ (z : List ℕ). Feeds mid place z outm fed new out') (take_rest bytes at) c.feed_at-fed.ensures.feeds in
-    let heard = heard_more c.stays_read.ensures.fault first mid new place at bytes out outm out' fed c.feeding.invariant.heard f in
-    heard_there first new place (take (at + fed.taken) bytes) out (bytes_behind fed.state) out' f.after heard
-
-pub returns-in-Err-clause-journaled : goal.returns-in-Err-clause-journaled
-returns-in-Err-clause-journaled g c =
-    more g.D.Disk.is_modelled g.D.Disk.life c.calls_go_on.ensures (core_in c.args.self.now) (core_in c.feeding.self) (core_in c.feed_at-fed.new.self) c.feeding.invariant.journaled c.feed_at-fed.ensures.journaled
+pub returns-clause-numbers : goal.returns-clause-numbers
+returns-clause-numbers g c =
+    let place = c.index_mut.result.now in
+    view_kept number_of c.args.self.now.places.items c.args.place place c.feed_all.new.self (c.feed_all.ensures.number ∙ ap number_of c.index_mut.ensures.value)

@@ -1,7 +1,9 @@
 use Rattle.std.proofs.Common.{◌≡◌, Some, refl, ap, ◌∙◌, sym, subst}
 use Rattle.session_commands.specs.Settings.{Settings}
-use Rattle.drda_node.specs.Feeding.{shown_held, Takes, with_core}
-use Rattle.drda_node.specs.Asking.{asked_of, core_of}
+use Rattle.hearing.specs.Attended.{attended_by}
+use Rattle.hearing.specs.Feeding.{Takes}
+use Rattle.drda_node.specs.Feeding.{shown_held}
+use Rattle.drda_node.specs.Asking.{asked_of, asks, core_of}
 use Rattle.drda_node.specs.declared.slot.Slot.{Slot}
 use Rattle.drda_node.specs.Register.{shown, number_of}
 use Rattle.drda_node.proofs.Rows.{below_view, view_at, view_set, view_kept, shows_open, open_shows, same_machine}
@@ -18,10 +20,10 @@ returns-clause-feeds g c =
     let settings : place.front.settings ≡ c.args.self.now.settings = ap (λ (p : Slot). p.front.settings) c.index_mut.ensures.value ∙ c.args.self.now.alike c.args.place place (below_view shown items c.args.place (Some h) here) in
     record {
       before = shown_held place.front;
-      after = with_core new.front (core_of c.feed.new.asker);
+      after = attended_by new.front (core_of c.feed.new.asker);
       was = here ∙ ap (λ o. Some o) (sym is ∙ shows);
       row = same_machine c.args.self.now.settings _ _ _ _ _ _ (view_set shown items c.args.place new (Some (shown_held new.front)) (open_shows new c.feed.ensures.open)) refl refl;
-      takes = subst (λ (v : Settings). Takes v c.args.place (with_core place.front (asked_of c.args.self.now.core)) c.args.piece.now c.args.out.now.items c.feed.result (with_core new.front (core_of c.feed.new.asker)) c.feed.new.out.items) settings c.feed.ensures.takes;
+      takes = subst (λ (v : Settings). Takes (asks c.args.place) v (attended_by place.front (asked_of c.args.self.now.core)) c.args.piece.now c.args.out.now.items c.feed.result (attended_by new.front (core_of c.feed.new.asker)) c.feed.new.out.items) settings c.feed.ensures.takes;
     }
 
 pub returns-clause-numbers : goal.returns-clause-numbers
