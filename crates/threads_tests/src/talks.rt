@@ -62,9 +62,12 @@ impl Talk {
         self.begun.load(Ordering::SeqCst) > 0
     }
 
-    /// How many of its streams were closed.
-    pub fn closed(&self) -> u64 {
-        self.closed.load(Ordering::SeqCst)
+    /// Whether its one stream was closed, unread and unanswered.
+    pub fn is_turned_away(&self) -> bool {
+        !self.is_begun()
+            && self.right.load(Ordering::SeqCst) == 0
+            && self.wrong.load(Ordering::SeqCst) == 0
+            && self.closed.load(Ordering::SeqCst) == 1
     }
 
     /// Whether it was answered to the last byte, once, and by no other byte.
