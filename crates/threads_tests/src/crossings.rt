@@ -2,20 +2,8 @@
 
 use crate::plays::{WELL, core_of, play};
 use crate::stages::{Act, Cue, Point};
-use crate::talks::Talk;
-use std::alloc::{AllocError, Global};
+use crate::talks::commits;
 use std::test::Fail;
-use test_bytes::{COMMITTED, RDBCMM};
-
-// So many conversations that commit twice.
-fn commits(alloc: Global, count: usize) -> Result<Vec<Talk>, AllocError> {
-    let mut talks = Vec::new(alloc);
-    for _ in 0..count {
-        let talk = Talk::new(alloc, &[RDBCMM, RDBCMM], &[COMMITTED, COMMITTED])?;
-        talks.push(talk)?;
-    }
-    Ok(talks)
-}
 
 // One of two conversations, the other one, and where the first stands still.
 const HELD: [(u64, u64, Point); 6] = [

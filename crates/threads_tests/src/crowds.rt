@@ -2,12 +2,10 @@
 
 use crate::plays::{WELL, core_of, serve};
 use crate::stages::{Act, Cue, LIMIT, Point, Stage};
-use crate::talks::{Checker, Talk, Tape};
+use crate::talks::{Checker, Talk, Tape, commits};
 use drda_program::Streams;
-use std::alloc::{AllocError, Global};
 use std::test::Fail;
 use std::thread::yield_now;
-use test_bytes::{COMMITTED, RDBCMM};
 
 /// As many conversations as are served side by side, one that comes while they stand still, and one that comes
 /// again and again, once the first of them goes on.
@@ -65,16 +63,6 @@ impl<'a> Streams for Crowd<'a> {
             None => self.try_again(),
         }
     }
-}
-
-// So many conversations that commit.
-fn commits(alloc: Global, count: usize) -> Result<Vec<Talk>, AllocError> {
-    let mut talks = Vec::new(alloc);
-    for _ in 0..count {
-        let talk = Talk::new(alloc, &[RDBCMM], &[COMMITTED])?;
-        talks.push(talk)?;
-    }
-    Ok(talks)
 }
 
 // Each stands still in front of its second piece; the first one is told to go on before all others.

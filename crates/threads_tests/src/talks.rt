@@ -85,6 +85,16 @@ fn push_pieces(alloc: Global, pieces: &mut Vec<Vec<u8>>, texts: &[&str]) -> Resu
     Ok(())
 }
 
+/// So many conversations that commit twice.
+pub fn commits(alloc: Global, count: usize) -> Result<Vec<Talk>, AllocError> {
+    let mut talks = Vec::new(alloc);
+    for _ in 0..count {
+        let talk = Talk::new(alloc, &[RDBCMM, RDBCMM], &[COMMITTED, COMMITTED])?;
+        talks.push(talk)?;
+    }
+    Ok(talks)
+}
+
 /// What a conversation is read from, piece by piece.
 pub struct Tape<'a> {
     talk: &'a Talk,
