@@ -1,21 +1,9 @@
 //! Conversations that go on while others stand still.
 
-use crate::plays::{WELL, play};
+use crate::plays::{WELL, core_of, play};
 use crate::stages::{Act, Cue, Point};
-use crate::talks::Talk;
-use std::alloc::{AllocError, Global};
+use crate::talks::commits;
 use std::test::Fail;
-use test_bytes::{COMMITTED, RDBCMM};
-
-// So many conversations that commit twice.
-fn commits(alloc: Global, count: usize) -> Result<Vec<Talk>, AllocError> {
-    let mut talks = Vec::new(alloc);
-    for _ in 0..count {
-        let talk = Talk::new(alloc, &[RDBCMM, RDBCMM], &[COMMITTED, COMMITTED])?;
-        talks.push(talk)?;
-    }
-    Ok(talks)
-}
 
 // One of two conversations, the other one, and where the first stands still.
 const HELD: [(u64, u64, Point); 6] = [
@@ -49,14 +37,17 @@ fn cue(conversation: u64, point: Point, act: Act) -> Cue {
 // One that stands still keeps no other one from being heard, called for, and answered.
 #[test]
 fn two_conversations_cross(rt: HostRuntime) -> Result<(), Fail> {
+    let mut core = core_of(rt.alloc()).ok_or("memory")?;
     for (held, other, point) in HELD {
         let talks = commits(rt.alloc(), 2)?;
-        let left = play(&rt, rt.alloc(), &cues_for(held, other, point), &talks);
-        assert_eq!(rt; left, Some(WELL), "{held} {point:?}");
+        let cues = cues_for(held, other, point);
+        let (left, back) = play(&rt, rt.alloc(), core, &cues, &talks).ok_or("memory")?;
+        assert_eq!(rt; left, WELL, "{held} {point:?}");
         assert!(rt;
             talks.iter().all(|talk| talk.is_answered()),
             "{held} {point:?}"
         );
+        core = back;
     }
     Ok(())
 }
@@ -77,9 +68,10 @@ const MEETING: [Cue; 2] = [
 
 #[test]
 fn eight_conversations_meet(rt: HostRuntime) -> Result<(), Fail> {
+    let core = core_of(rt.alloc()).ok_or("memory")?;
     let talks = commits(rt.alloc(), 8)?;
-    let left = play(&rt, rt.alloc(), &MEETING, &talks);
-    assert_eq!(rt; left, Some(WELL));
+    let (left, _) = play(&rt, rt.alloc(), core, &MEETING, &talks).ok_or("memory")?;
+    assert_eq!(rt; left, WELL);
     assert!(rt; talks.iter().all(|talk| talk.is_answered()));
     Ok(())
 }

@@ -1,13 +1,11 @@
 //! More conversations than are served side by side.
 
-use crate::plays::{WELL, serve};
+use crate::plays::{WELL, core_of, serve};
 use crate::stages::{Act, Cue, LIMIT, Point, Stage};
-use crate::talks::{Checker, Talk, Tape};
+use crate::talks::{Checker, Talk, Tape, commits};
 use drda_program::Streams;
-use std::alloc::{AllocError, Global};
 use std::test::Fail;
 use std::thread::yield_now;
-use test_bytes::{COMMITTED, RDBCMM};
 
 /// As many conversations as are served side by side, one that comes while they stand still, and one that comes
 /// again and again, once the first of them goes on.
@@ -25,7 +23,7 @@ struct Crowd<'a> {
 impl<'a> Crowd<'a> {
     // The conversation that came while all places were taken is closed; now one of those may go on.
     fn make_room(&mut self) {
-        self.is_turned_away = !self.early.is_begun() && self.early.closed() == 1;
+        self.is_turned_away = self.early.is_turned_away();
         self.stage.tell();
     }
 
@@ -67,10 +65,6 @@ impl<'a> Streams for Crowd<'a> {
     }
 }
 
-fn commit(alloc: Global) -> Result<Talk, AllocError> {
-    Talk::new(alloc, &[RDBCMM], &[COMMITTED])
-}
-
 // Each stands still in front of its second piece; the first one is told to go on before all others.
 const STANDSTILL: [Cue; 2] = [
     Cue {
@@ -87,26 +81,24 @@ const STANDSTILL: [Cue; 2] = [
 
 #[test]
 fn sixty_four_are_served_at_a_time(rt: HostRuntime) -> Result<(), Fail> {
-    let mut waiting = Vec::new(rt.alloc());
-    for _ in 0..64 {
-        waiting.push(commit(rt.alloc())?)?;
-    }
-    let (early, late) = (commit(rt.alloc())?, commit(rt.alloc())?);
+    let talks = commits(rt.alloc(), 66)?;
+    let [early, late, waiting @ ..] = talks.as_slice() else {
+        return Err(Fail::from("memory"));
+    };
     let stage = Stage::new(&STANDSTILL);
     let mut crowd = Crowd {
         stage: &stage,
-        waiting: &waiting,
-        early: &early,
-        late: &late,
+        waiting,
+        early,
+        late,
         number: 0,
         tries: 0,
         is_turned_away: false,
     };
-    let left = serve(&rt, rt.alloc(), &stage, &mut crowd);
-    assert_eq!(rt; left, Some(WELL));
-    assert_eq!(rt;
-        (crowd.is_turned_away, early.is_begun(), crowd.tries < LIMIT),
-        (true, false, true)
-    );
+    let core = core_of(rt.alloc()).ok_or("memory")?;
+    let (left, _) = serve(&rt, rt.alloc(), core, &stage, &mut crowd).ok_or("memory")?;
+    assert_eq!(rt; left, WELL);
+    assert!(rt; crowd.is_turned_away && early.is_turned_away());
+    assert!(rt; late.is_answered() && waiting.iter().all(|talk| talk.is_answered()));
     Ok(())
 }

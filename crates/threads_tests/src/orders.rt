@@ -1,6 +1,6 @@
 //! Conversations whose calls are made in an order.
 
-use crate::plays::{WELL, play};
+use crate::plays::{WELL, core_of, play};
 use crate::stages::{Act, Cue, Point};
 use crate::talks::Talk;
 use std::alloc::{AllocError, Global};
@@ -84,8 +84,9 @@ fn two_conversations_write(rt: HostRuntime) -> Result<(), Fail> {
     for order in &ORDERS {
         let cues = cues_for(rt.alloc(), order.calls)?;
         let talks = talks_of(rt.alloc(), order)?;
-        let left = play(&rt, rt.alloc(), &cues, &talks);
-        assert_eq!(rt; left, Some(WELL), "{:?}", order.calls);
+        let core = core_of(rt.alloc()).ok_or("memory")?;
+        let (left, _) = play(&rt, rt.alloc(), core, &cues, &talks).ok_or("memory")?;
+        assert_eq!(rt; left, WELL, "{:?}", order.calls);
         assert!(rt;
             talks.iter().all(|talk| talk.is_answered()),
             "{:?}",

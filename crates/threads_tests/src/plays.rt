@@ -1,11 +1,11 @@
-//! Conversations that are served over a fresh store, a thread for each.
+//! Conversations that are served over one core, a thread for each.
 
 use crate::stages::{Cue, Stage};
 use crate::talks::{Checker, Talk, Tape};
 use conversation::Settings;
 use drda_disk::MemDisk;
 use drda_program::{Streams, serve_streams};
-use durable_core::open;
+use durable_core::{DurableCore, open};
 use shared_node::Shared;
 use std::alloc::Global;
 use std::sync::Wait;
@@ -49,50 +49,58 @@ impl<'a> Streams for Callers<'a> {
     }
 }
 
-/// Serves these conversations, which wait for each other by these cues. None without memory.
+/// The core of a fresh store of the name SHOP. None without memory.
+pub fn core_of(alloc: Global) -> Option<DurableCore<MemDisk>> {
+    match open(alloc, fresh_store(alloc)?) {
+        Ok(core) => Some(core),
+        Err(_) => None,
+    }
+}
+
+/// Serves these conversations over a core, which is handed back; they wait for each other by these cues. None
+/// without memory.
 pub fn play<R: Threads + Wait + Sync>(
     rt: &R,
     alloc: Global,
+    core: DurableCore<MemDisk>,
     cues: &[Cue],
     talks: &[Talk],
-) -> Option<Left> {
+) -> Option<(Left, DurableCore<MemDisk>)> {
     let stage = Stage::new(cues);
     let mut callers = Callers {
         stage: &stage,
         talks,
         number: 0,
     };
-    serve(rt, alloc, &stage, &mut callers)
+    serve(rt, alloc, core, &stage, &mut callers)
 }
 
-/// Serves the conversations of these streams, for ana with the password pw, over a fresh store of the name SHOP.
+/// Serves the conversations of these streams over a core, which is handed back, for ana with the password pw.
 /// None without memory.
-pub fn serve<'a, R, S>(rt: &R, alloc: Global, stage: &Stage<'a>, streams: &mut S) -> Option<Left>
+pub fn serve<R, S>(
+    rt: &R,
+    alloc: Global,
+    core: DurableCore<MemDisk>,
+    stage: &Stage<'_>,
+    streams: &mut S,
+) -> Option<(Left, DurableCore<MemDisk>)>
 where
     R: Threads + Wait + Sync,
     S: Streams,
     S::Reader: Send,
     S::Writer: Send,
 {
-    let shared = shared_over(alloc, fresh_store(alloc)?)?;
+    let shared = match Shared::new(alloc, core) {
+        Ok(shared) => shared,
+        Err(_) => return None,
+    };
     let settings = Settings::new(alloc, "ana", "pw", "SHOP").ok()?;
     serve_streams(rt, alloc, &shared, &settings, stage, streams).ok()?;
     let book = shared.close();
-    Some(Left {
+    let left = Left {
         late: stage.late(),
         is_idle: book.is_idle(),
         is_failed: book.core().is_failed(),
-    })
-}
-
-// A book over the store of a disk. None where the disk is no store, and without memory.
-fn shared_over(alloc: Global, disk: MemDisk) -> Option<Shared<MemDisk>> {
-    let core = match open(alloc, disk) {
-        Ok(core) => core,
-        Err(_) => return None,
     };
-    match Shared::new(alloc, core) {
-        Ok(shared) => Some(shared),
-        Err(_) => None,
-    }
+    Some((left, book.into_core()))
 }

@@ -62,9 +62,12 @@ impl Talk {
         self.begun.load(Ordering::SeqCst) > 0
     }
 
-    /// How many of its streams were closed.
-    pub fn closed(&self) -> u64 {
-        self.closed.load(Ordering::SeqCst)
+    /// Whether its one stream was closed, unread and unanswered.
+    pub fn is_turned_away(&self) -> bool {
+        !self.is_begun()
+            && self.right.load(Ordering::SeqCst) == 0
+            && self.wrong.load(Ordering::SeqCst) == 0
+            && self.closed.load(Ordering::SeqCst) == 1
     }
 
     /// Whether it was answered to the last byte, once, and by no other byte.
@@ -80,6 +83,16 @@ fn push_pieces(alloc: Global, pieces: &mut Vec<Vec<u8>>, texts: &[&str]) -> Resu
         pieces.push(piece)?;
     }
     Ok(())
+}
+
+/// So many conversations that commit twice.
+pub fn commits(alloc: Global, count: usize) -> Result<Vec<Talk>, AllocError> {
+    let mut talks = Vec::new(alloc);
+    for _ in 0..count {
+        let talk = Talk::new(alloc, &[RDBCMM, RDBCMM], &[COMMITTED, COMMITTED])?;
+        talks.push(talk)?;
+    }
+    Ok(talks)
 }
 
 /// What a conversation is read from, piece by piece.
