@@ -163,8 +163,9 @@ impl<N: Network> Streams for LetIn<'_, N> {
     type Writer = N::Writer;
 
     fn next(&mut self) -> Option<(N::Stream, N::Writer)> {
-        for _ in 0..self.left {
-            self.left -= 1;
+        let left = self.left;
+        for tried in 0..left {
+            self.left = left - 1 - tried;
             let Ok(stream) = self.net.accept(self.listener) else {
                 self.has_failed = true;
                 self.left = 0;

@@ -10,7 +10,7 @@ ghost use Rattle.serializability.specs.Answered.{AnsweredCall};
 ghost use Rattle.shared_node.specs.Stored.{coded_predicate};
 
 use core_calls::{Answer, CoreCall};
-use std::marker::{Model, PhantomData};
+use std::marker::{Model, PhantomData, Send};
 
 /// The calls that were asked so far with what they were answered, in their order. It takes no memory.
 #[derive(Drop)]
@@ -44,3 +44,6 @@ impl CallList {
         ensures { self.new.listed ≡ self.old.listed ++ record { conversation = _conversation; call = call_of _call.now; mark = if _is_taken then Taken else Kept; answer = answer_of _answer.now } ∷ [] }
     {}
 }
+
+// It holds nothing, so it may go to another thread.
+unsafe impl Send for CallList {}
