@@ -23,16 +23,18 @@ fn letters(alloc: Global) -> Result<String, AllocError> {
     Ok(text)
 }
 
-// Runs a statement that concerns so many rows, and commits it. Whether it is so.
+// Runs a statement, and commits it. Whether both were done.
 fn is_committed(
     alloc: Global,
     book: &mut Book<MemDisk>,
     pass: &mut Pass,
-    (text, parameters, count): (&str, &[Value<'_>], u32),
+    text: &str,
+    parameters: &[Value<'_>],
 ) -> bool {
-    let told = run(alloc, book, pass, text, parameters);
-    let done = ask(book, pass, &CoreCall::Commit);
-    (told, done) == (Some(Told::Count(count)), Told::Done)
+    match run(alloc, book, pass, text, parameters) {
+        Some(Told::Count(_)) => ask(book, pass, &CoreCall::Commit) == Told::Done,
+        _ => false,
+    }
 }
 
 // A book whose one conversation has made a table with a row, and put that anew so many times, with 2,000 letters;
@@ -42,10 +44,10 @@ fn filled(alloc: Global, times: u64) -> Option<Book<MemDisk>> {
     let mut pass = book.admit()?;
     let text = letters(alloc).ok()?;
     let values = [Value::Text(text.as_str())];
-    let mut all = is_committed(alloc, &mut book, &mut pass, (CREATE, &[], 0));
-    all &= is_committed(alloc, &mut book, &mut pass, (INSERT, &[], 1));
+    let mut all = is_committed(alloc, &mut book, &mut pass, CREATE, &[]);
+    all &= is_committed(alloc, &mut book, &mut pass, INSERT, &[]);
     for _ in 0..times {
-        all &= is_committed(alloc, &mut book, &mut pass, (UPDATE, &values, 1));
+        all &= is_committed(alloc, &mut book, &mut pass, UPDATE, &values);
     }
     all.then_some(book)
 }
