@@ -1,8 +1,7 @@
 //! Books whose journals fill.
 
-use crate::books::{Told, ask, book_of, run};
-use core_calls::CoreCall;
-use drda_disk::MemDisk;
+use crate::books::{Told, book_of, commit, run};
+use drda_disk::{Disk, MemDisk};
 use row_values::Value;
 use shared_node::{Book, Pass};
 use std::alloc::{AllocError, Global};
@@ -24,15 +23,15 @@ fn letters(alloc: Global) -> Result<String, AllocError> {
 }
 
 // Runs a statement, and commits it. Whether both were done.
-fn is_committed(
+fn is_committed<D: Disk>(
     alloc: Global,
-    book: &mut Book<MemDisk>,
+    book: &mut Book<D>,
     pass: &mut Pass,
     text: &str,
     parameters: &[Value<'_>],
 ) -> bool {
     match run(alloc, book, pass, text, parameters) {
-        Some(Told::Count(_)) => ask(book, pass, &CoreCall::Commit) == Told::Done,
+        Some(Told::Count(_)) => commit(book, pass) == Told::Done,
         _ => false,
     }
 }
