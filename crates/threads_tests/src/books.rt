@@ -51,6 +51,11 @@ pub fn ask<D: Disk>(book: &mut Book<D>, pass: &mut Pass, call: &CoreCall<'_, '_>
     }
 }
 
+/// What becomes of a commit.
+pub fn commit<D: Disk>(book: &mut Book<D>, pass: &mut Pass) -> Told {
+    ask(book, pass, &CoreCall::Commit)
+}
+
 /// What becomes of a statement with these values for its markers. None where it is none, and without memory.
 pub fn run<D: Disk>(
     alloc: Global,

@@ -1,8 +1,7 @@
 //! Books whose journals fill.
 
-use crate::books::{Told, ask, book_of, run};
-use core_calls::CoreCall;
-use drda_disk::MemDisk;
+use crate::books::{Told, book_of, commit, run};
+use drda_disk::{Disk, MemDisk};
 use row_values::Value;
 use shared_node::{Book, Pass};
 use std::alloc::{AllocError, Global};
@@ -23,16 +22,18 @@ fn letters(alloc: Global) -> Result<String, AllocError> {
     Ok(text)
 }
 
-// Runs a statement that concerns so many rows, and commits it. Whether it is so.
-fn is_committed(
+// Runs a statement, and commits it. Whether both were done.
+fn is_committed<D: Disk>(
     alloc: Global,
-    book: &mut Book<MemDisk>,
+    book: &mut Book<D>,
     pass: &mut Pass,
-    (text, parameters, count): (&str, &[Value<'_>], u32),
+    text: &str,
+    parameters: &[Value<'_>],
 ) -> bool {
-    let told = run(alloc, book, pass, text, parameters);
-    let done = ask(book, pass, &CoreCall::Commit);
-    (told, done) == (Some(Told::Count(count)), Told::Done)
+    match run(alloc, book, pass, text, parameters) {
+        Some(Told::Count(_)) => commit(book, pass) == Told::Done,
+        _ => false,
+    }
 }
 
 // A book whose one conversation has made a table with a row, and put that anew so many times, with 2,000 letters;
@@ -42,10 +43,10 @@ fn filled(alloc: Global, times: u64) -> Option<Book<MemDisk>> {
     let mut pass = book.admit()?;
     let text = letters(alloc).ok()?;
     let values = [Value::Text(text.as_str())];
-    let mut all = is_committed(alloc, &mut book, &mut pass, (CREATE, &[], 0));
-    all &= is_committed(alloc, &mut book, &mut pass, (INSERT, &[], 1));
+    let mut all = is_committed(alloc, &mut book, &mut pass, CREATE, &[]);
+    all &= is_committed(alloc, &mut book, &mut pass, INSERT, &[]);
     for _ in 0..times {
-        all &= is_committed(alloc, &mut book, &mut pass, (UPDATE, &values, 1));
+        all &= is_committed(alloc, &mut book, &mut pass, UPDATE, &values);
     }
     all.then_some(book)
 }

@@ -1,6 +1,6 @@
 //! Leave at a book, and what it counts.
 
-use crate::books::{Told, ask, book_of, book_over, run};
+use crate::books::{Told, ask, book_of, book_over, commit, run};
 use core_calls::CoreCall;
 use drda_disk::{Disk, FuseDisk, MemDisk};
 use durable_core::open;
@@ -80,16 +80,27 @@ fn a_book_is_idle_when_all_leave_came_back(rt: HostRuntime) -> Result<(), Fail> 
     Ok(())
 }
 
-// A book at which so many conversations have leave, and the pass of the last one, which has made so many calls.
-fn book_with(alloc: Global, (conversations, calls): (u64, u64)) -> Option<(Book<MemDisk>, Pass)> {
-    let mut book = book_of(alloc)?;
-    let mut pass = book.admit()?;
-    for _ in 1..conversations {
-        pass = book.admit()?;
+// Gives so many conversations leave. The pass of the last one.
+fn last_of(book: &mut Book<MemDisk>, conversations: u64) -> Option<Pass> {
+    let mut last = None;
+    for _ in 0..conversations {
+        last = book.admit();
     }
+    last
+}
+
+// So many calls of a conversation.
+fn commit_often(book: &mut Book<MemDisk>, pass: &mut Pass, calls: u64) {
     for _ in 0..calls {
-        ask(&mut book, &mut pass, &CoreCall::Commit);
+        commit(book, pass);
     }
+}
+
+// A book at which so many conversations have leave, and the pass of the last one, which has made so many calls.
+fn book_with(alloc: Global, conversations: u64, calls: u64) -> Option<(Book<MemDisk>, Pass)> {
+    let mut book = book_of(alloc)?;
+    let mut pass = last_of(&mut book, conversations)?;
+    commit_often(&mut book, &mut pass, calls);
     Some((book, pass))
 }
 
@@ -105,8 +116,8 @@ const STRANGERS: [((u64, u64), (u64, u64)); 4] = [
 // What a stranger's pass is told that makes a table, how many calls it counts then, and whether it is known; and
 // what the book's own one is told that does the same.
 fn shown(alloc: Global, theirs: (u64, u64), own: (u64, u64)) -> Option<(Told, u64, bool, Told)> {
-    let (_, mut stranger) = book_with(alloc, theirs)?;
-    let (mut book, mut pass) = book_with(alloc, own)?;
+    let (_, mut stranger) = book_with(alloc, theirs.0, theirs.1)?;
+    let (mut book, mut pass) = book_with(alloc, own.0, own.1)?;
     let told = run(alloc, &mut book, &mut stranger, CREATE, &[])?;
     let count = stranger.count();
     let is_known = book.retire(stranger);
@@ -144,7 +155,7 @@ fn counted<D: Disk>(
 ) -> Option<(Told, u64)> {
     let told = match asked {
         Asked::Runs(text) => run(alloc, book, pass, text, &[])?,
-        Asked::Commits => ask(book, pass, &CoreCall::Commit),
+        Asked::Commits => commit(book, pass),
         Asked::IsLost => ask(book, pass, &CoreCall::Lost),
     };
     Some((told, pass.count()))
