@@ -1,0 +1,3 @@
+pub mod Counting
+pub mod Leading
+pub mod Opening

@@ -1,0 +1,12 @@
+use Rattle.std.proofs.Common.{List, None, Option, replicate, sym, subst}
+use Rattle.recovery_laws.specs.Journaled.{Journaled, OnDisk, shown_on}
+use Rattle.serializability.specs.Answered.{AnsweredCall, CallsLead}
+use Rattle.shared_node.specs.declared.count.Count.{Count}
+use Rattle.shared_node.specs.Books.{AreCounted}
+use Rattle.shared_node.proofs.Opening.{opens}
+use Rattle.shared_node.proofs.book.Book.open.Goals as goal
+
+pub invariant_of-result : goal.invariant_of-result
+invariant_of-result g c =
+    opens g.D.Disk.is_modelled g.D.Disk.life c.answers_are_serial.ensures.lead_on c.args.core c.of.result.value c.none.result.listed c.in-Ok.places.items c.of.ensures c.none.ensures c.in-Ok.ensures
+    (c.calls_go_on.ensures.none g.D.Disk.is_modelled c.args.core c.is_durable.ensures)

@@ -1,0 +1,15 @@
+use Rattle.std.proofs.Common.{◌+◌, List, Some, refl, slice_set, sym, subst}
+use Rattle.serializability.specs.Answered.{AnsweredCall}
+use Rattle.shared_node.specs.declared.count.Count.{Count}
+use Rattle.shared_node.specs.Books.{AreCounted}
+use Rattle.shared_node.specs.Passes.{count_of}
+use Rattle.shared_node.proofs.Counting.{one_more}
+use Rattle.shared_node.proofs.listing.list.Goals as goal
+
+pub returns-clause-counted : goal.returns-clause-counted
+returns-clause-counted c next counted =
+    let pass = c.args.pass.now in
+    let places = c.args.places.now.items in
+    let now : Count = record { conversation = pass.conversation; calls = pass.count + 1 } in
+    subst (λ (ls : List AnsweredCall). AreCounted ls (slice_set places pass.place (Some now)) next) (sym c.note.ensures)
+    (one_more c.args.calls.now.listed places next counted pass.place (count_of pass) now _ c.requires.here refl refl refl)

@@ -1,0 +1,4 @@
+pub mod Stored
+pub mod Books
+pub mod Passes
+pub mod Desks

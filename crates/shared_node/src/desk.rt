@@ -1,0 +1,66 @@
+//! One conversation's place at the book.
+
+use crate::acted::Acted;
+use crate::gate::Gate;
+use crate::pass::Pass;
+use crate::shared::Shared;
+use command_kit::Ask;
+use core_calls::{Answer, CoreCall};
+use drda_disk::Disk;
+use std::sync::Wait;
+
+/// One conversation at the book, which is asked under the lock, call by call: its turn comes outside of the
+/// lock, the call and what it lists are one step inside of it. Behind a loss a checkpoint is considered.
+#[derive(Drop)]
+pub struct Desk<'a, D: Disk, R: Wait, G: Gate> {
+    rt: &'a R,
+    shared: &'a Shared<D>,
+    gate: &'a G,
+    pass: Pass,
+    asked: u64,
+}
+
+impl<'a, D: Disk, R: Wait, G: Gate> Desk<'a, D, R, G> {
+    ghost use Rattle.std.specs.Prelude.{◌≡◌};
+
+    /// A desk for the calls of a pass.
+    pub fn new(rt: &'a R, shared: &'a Shared<D>, gate: &'a G, pass: Pass) -> Desk<'a, D, R, G>
+        ensures { result.pass ≡ pass }
+    {
+        Desk {
+            rt,
+            shared,
+            gate,
+            pass,
+            asked: 0,
+        }
+    }
+
+    /// The pass, which shows the calls that were listed.
+    pub fn into_pass(self) -> Pass
+        ensures { result ≡ self.entry.pass }
+    {
+        self.pass
+    }
+}
+
+impl<'a, D: Disk, R: Wait, G: Gate> Ask for Desk<'a, D, R, G> {
+    ghost use Rattle.shared_node.specs.Desks.{DeskAsks};
+
+    ghost asks = { λ old call answer new. DeskAsks old.pass call answer new.pass };
+
+    fn ask(&mut self, call: &CoreCall<'_, '_>) -> Answer {
+        self.gate.turn(self.pass.conversation(), self.asked);
+        self.asked = self.asked.wrapping_add(1);
+        let mut guard = self.shared.book.lock(self.rt);
+        let book = &mut *guard;
+        let acted = book.act(&mut self.pass, call);
+        if matches!(*call, CoreCall::Lost) {
+            book.consider_checkpoint();
+        }
+        match acted {
+            Acted::Answered(answer) => answer,
+            Acted::StrangerPass => Answer::Closed,
+        }
+    }
+}

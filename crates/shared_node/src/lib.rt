@@ -1,0 +1,24 @@
+//! One core, asked by many threads: a book under a lock, whose history is one that a single thread could have made.
+#![tactic(auto)]
+
+mod acted;
+mod acting;
+mod asking;
+mod book;
+mod calls;
+mod count;
+mod desk;
+mod gate;
+mod listing;
+mod numbering;
+mod pass;
+mod shared;
+
+pub use acted::Acted;
+pub use book::Book;
+pub use calls::CallList;
+pub use count::Count;
+pub use desk::Desk;
+pub use gate::{Gate, OpenGate};
+pub use pass::Pass;
+pub use shared::Shared;

@@ -1,0 +1,38 @@
+//! Leave for one conversation's calls.
+
+use crate::calls::CallList;
+
+/// Leave for the calls of one conversation of a book. It counts those that were listed, and shows them to
+/// clauses, with their answers.
+#[derive(Drop)]
+pub struct Pass {
+    pub(crate) conversation: u64,
+    pub(crate) place: usize,
+    pub(crate) count: u64,
+    pub(crate) calls: CallList,
+}
+
+impl Pass {
+    ghost use Rattle.std.specs.Prelude.{◌≡◌};
+
+    /// The conversation's number, which is given once.
+    pub fn conversation(&self) -> u64
+        ensures { result ≡ self.now.conversation }
+    {
+        self.conversation
+    }
+
+    /// The place at which it has leave, below 64. No other conversation has it until the pass is retired.
+    pub fn place(&self) -> usize
+        ensures { result ≡ self.now.place }
+    {
+        self.place
+    }
+
+    /// How many calls were listed.
+    pub fn count(&self) -> u64
+        ensures { result ≡ self.now.count }
+    {
+        self.count
+    }
+}
