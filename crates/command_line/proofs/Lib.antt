@@ -1,4 +1,3 @@
 pub mod Parsed
 pub mod Decimal
 pub mod Owning
-pub mod Returned

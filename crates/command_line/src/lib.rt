@@ -3,11 +3,9 @@
 
 mod app;
 mod job;
-mod logins;
 mod numbers;
 mod texts;
 mod words;
 
-pub use job::{Job, Login, LoginSource};
-pub use logins::login_in_file;
+pub use job::{Job, Login};
 pub use words::{BadWords, job_of};

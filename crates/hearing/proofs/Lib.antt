@@ -2,4 +2,3 @@ pub mod Conversing
 pub mod Stepping
 mod Pieces
 mod Listening
-pub mod Written

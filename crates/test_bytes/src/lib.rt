@@ -2,7 +2,6 @@
 #![tactic(auto)]
 
 mod hexadecimal;
-pub mod sentences;
 mod texts;
 
 pub use hexadecimal::{bytes_of, push_texts};
