@@ -1,3 +1,4 @@
 pub mod Parsed
 pub mod Decimal
 pub mod Owning
+pub mod Returned

@@ -1,8 +1,11 @@
 -- The grammar of the words, by those of `clap`.
 --   drdad init PATH --size N --rdb NAME
---   drdad pipe [PATH] [--rdb NAME] --user U:P
---   drdad serve PATH --port N --user U:P [--count N]
+--   drdad pipe [PATH] [--rdb NAME] [--user U:P] [--user-file FILE]
+--   drdad serve PATH --port N [--user U:P] [--user-file FILE] [--count N]
 --   drdad indoubt PATH
+--   drdad room PATH
+--   drdad check PATH
+--   drdad version
 use Rattle.std.specs.Prelude.{◌≡◌, true, false, List, [], ◌∷◌, Option, Some, codes}
 use Rattle.clap.specs.declared.builder.arg.Arg.{Arg}
 use Rattle.clap.specs.declared.builder.command.Command.{Command}
@@ -29,20 +32,33 @@ abbrev pub init : App
 init = with_rule (with_rule (with_rule (new_app (codes "init")) (needed_word (codes "path"))) (needed_option (codes "size"))) (needed_option (codes "rdb"))
 
 abbrev pub pipe : App
-pipe = with_rule (with_rule (with_rule (new_app (codes "pipe")) (word_rule (codes "path"))) (default_option (codes "rdb") (codes "RDB"))) (needed_option (codes "user"))
+pipe = with_rule (with_rule (with_rule (with_rule (new_app (codes "pipe")) (word_rule (codes "path"))) (default_option (codes "rdb") (codes "RDB"))) (option_rule (codes "user"))) (option_rule (codes "user-file"))
 
 abbrev pub serve : App
-serve = with_rule (with_rule (with_rule (with_rule (new_app (codes "serve")) (needed_word (codes "path"))) (needed_option (codes "port"))) (needed_option (codes "user"))) (option_rule (codes "count"))
+serve = with_rule (with_rule (with_rule (with_rule (with_rule (new_app (codes "serve")) (needed_word (codes "path"))) (needed_option (codes "port"))) (option_rule (codes "user"))) (option_rule (codes "user-file"))) (option_rule (codes "count"))
 
 abbrev pub in_doubt : App
 in_doubt = with_rule (new_app (codes "indoubt")) (needed_word (codes "path"))
+
+abbrev pub room : App
+room = with_rule (new_app (codes "room")) (needed_word (codes "path"))
+
+abbrev pub check : App
+check = with_rule (new_app (codes "check")) (needed_word (codes "path"))
+
+abbrev pub version : App
+version = new_app (codes "version")
 
 -- a subcommand may not be left out
 abbrev pub nothing_yet : App
 nothing_yet = record (new_app (codes "drdad")) { top = record (new_app (codes "drdad")).top { subcommand_required = true } }
 
+-- with what serves a store
+abbrev pub serving : App
+serving = with_subcommand (with_subcommand (with_subcommand (with_subcommand nothing_yet init.top) pipe.top) serve.top) in_doubt.top
+
 abbrev pub drdad : App
-drdad = with_subcommand (with_subcommand (with_subcommand (with_subcommand nothing_yet init.top) pipe.top) serve.top) in_doubt.top
+drdad = with_subcommand (with_subcommand (with_subcommand serving room.top) check.top) version.top
 
 -- what is wrong with the words
 unfoldable pub faults : List Text → Kinds

@@ -1,5 +1,5 @@
 -- What words ask for.
-use Rattle.std.specs.Prelude.{ℕ, Bool, ◌==◌, nat_lt, List, [], ◌∷◌, length, Option, Some, None, codes, bytes_eq, if◌then◌else◌, option_map}
+use Rattle.std.specs.Prelude.{ℕ, Bool, ◌==◌, nat_lt, List, [], ◌∷◌, length, Option, Some, None, codes, bytes_eq, if◌then◌else◌, option_map, option_and_then}
 use Rattle.std.specs.List.{position_or_len, before_first, after_first}
 use Rattle.clap.specs.Words.{Kinds, Row, Text, first_of}
 use Rattle.command_line.specs.Grammar.{faults, given}
@@ -7,28 +7,45 @@ use Rattle.command_line.specs.Number.{number_in, port_in}
 use Rattle.command_line.specs.declared.job.Job.{Job as CodeJob}
 use Rattle.command_line.specs.declared.job.Job.TheVariants as code
 use Rattle.command_line.specs.declared.job.Login.{Login as CodeLogin}
+use Rattle.command_line.specs.declared.job.LoginSource.{LoginSource as CodeSource}
+use Rattle.command_line.specs.declared.job.LoginSource.TheVariants as source
 
 pub record Login : Type 0 where
   pub user : Text
   pub password : Text
 
+pub data LoginSource : Type 0 where
+  in_words : Login → LoginSource
+  -- the path of a file that holds it
+  in_file : Text → LoginSource
+
 pub data Job : Type 0 where
   -- the path, the size, the name
   init : Text → ℕ → Text → Job
   -- perhaps a path, the name
-  pipe : Option Text → Text → Login → Job
+  pipe : Option Text → Text → LoginSource → Job
   -- the path, the port, perhaps how many conversations
-  serve : Text → ℕ → Login → Option ℕ → Job
+  serve : Text → ℕ → LoginSource → Option ℕ → Job
   in_doubt : Text → Job
+  room : Text → Job
+  check : Text → Job
+  version : Job
 
 abbrev pub plain_login : CodeLogin → Login
 plain_login l = record { user = l.user.now; password = l.password.now }
 
+abbrev pub plain_source : CodeSource → LoginSource
+plain_source (source.Words login) = in_words (plain_login login)
+plain_source (source.File path) = in_file path.now
+
 abbrev pub plain_job : CodeJob → Job
 plain_job (code.Init path size rdb) = init path.now size rdb.now
-plain_job (code.Pipe path rdb login) = pipe (option_map (λ p. p.now) path) rdb.now (plain_login login)
-plain_job (code.Serve path port login count) = serve path.now port (plain_login login) count
+plain_job (code.Pipe path rdb login) = pipe (option_map (λ p. p.now) path) rdb.now (plain_source login)
+plain_job (code.Serve path port login count) = serve path.now port (plain_source login) count
 plain_job (code.InDoubt path) = in_doubt path.now
+plain_job (code.Room path) = room path.now
+plain_job (code.Check path) = check path.now
+plain_job code.Version = version
 
 -- ---- what texts say
 
@@ -40,29 +57,60 @@ abbrev pub login_in : Text → Option Login
 login_in text = if nat_lt (position_or_len is_colon text) (length text)
     then Some (record { user = before_first is_colon text; password = after_first is_colon text }) else None
 
+abbrev pub is_line_feed : ℕ → Bool
+is_line_feed b = b == 10
+
+-- a line without the carriage return at its end
+unfoldable pub without_return : Text → Text
+without_return [] = []
+without_return (b ∷ []) = if b == 13 then [] else b ∷ []
+without_return (b ∷ c ∷ cs) = b ∷ without_return (c ∷ cs)
+
+-- the one line of a text: all of it, or what stands before its first line feed, behind which nothing may stand
+abbrev pub line_in : Text → Option Text
+line_in text = if nat_lt (position_or_len is_line_feed text) (length text)
+    then (if length (after_first is_line_feed text) == 0 then Some (without_return (before_first is_line_feed text)) else None) else Some text
+
+-- U:P as the one line of a file
+abbrev pub login_in_file : Text → Option Login
+login_in_file text = option_and_then login_in (line_in text)
+
+-- one of both is given
+abbrev pub source_by : Option Text → Option Text → Option LoginSource
+source_by (Some user) None = option_map (λ (l : Login). in_words l) (login_in user)
+source_by None (Some file) = Some (in_file file)
+source_by None None = None
+source_by (Some user) (Some file) = None
+
 abbrev pub init_by : Option Text → Option Text → Option Text → Option Job
 init_by (Some path) (Some size) (Some rdb) = option_map (λ (n : ℕ). init path n rdb) (number_in size)
 init_by path size rdb = None
 
-abbrev pub pipe_by : Option Text → Option Text → Option Text → Option Job
-pipe_by path (Some rdb) (Some user) = option_map (λ (l : Login). pipe path rdb l) (login_in user)
-pipe_by path rdb user = None
+abbrev pub pipe_by : Option Text → Option Text → Option Text → Option Text → Option Job
+pipe_by path (Some rdb) user file = option_map (λ (l : LoginSource). pipe path rdb l) (source_by user file)
+pipe_by path None user file = None
 
 -- the count, where one is given, is a number
 abbrev pub counted : Option Text → Option (Option ℕ)
 counted None = Some None
 counted (Some text) = option_map (λ (n : ℕ). Some n) (number_in text)
 
-abbrev pub serve_with : Text → Option ℕ → Option Login → Option (Option ℕ) → Option Job
+abbrev pub serve_with : Text → Option ℕ → Option LoginSource → Option (Option ℕ) → Option Job
 serve_with path (Some port) (Some login) (Some count) = Some (serve path port login count)
 serve_with path port login count = None
 
-abbrev pub serve_by : Option Text → Option Text → Option Text → Option Text → Option Job
-serve_by (Some path) (Some port) (Some user) count = serve_with path (port_in port) (login_in user) (counted count)
-serve_by path port user count = None
+abbrev pub serve_by : Option Text → Option Text → Option Text → Option Text → Option Text → Option Job
+serve_by (Some path) (Some port) user file count = serve_with path (port_in port) (source_by user file) (counted count)
+serve_by path port user file count = None
 
 abbrev pub in_doubt_by : Option Text → Option Job
 in_doubt_by path = option_map (λ (p : Text). in_doubt p) path
+
+abbrev pub room_by : Option Text → Option Job
+room_by path = option_map (λ (p : Text). room p) path
+
+abbrev pub check_by : Option Text → Option Job
+check_by path = option_map (λ (p : Text). check p) path
 
 -- ---- what words say
 
@@ -72,9 +120,12 @@ value rows id = first_of id rows
 abbrev pub said_to : Text → List Row → Option Job
 said_to name rows =
     if bytes_eq name (codes "init") then init_by (value rows (codes "path")) (value rows (codes "size")) (value rows (codes "rdb"))
-    else (if bytes_eq name (codes "pipe") then pipe_by (value rows (codes "path")) (value rows (codes "rdb")) (value rows (codes "user"))
-    else (if bytes_eq name (codes "serve") then serve_by (value rows (codes "path")) (value rows (codes "port")) (value rows (codes "user")) (value rows (codes "count"))
-    else (if bytes_eq name (codes "indoubt") then in_doubt_by (value rows (codes "path")) else None)))
+    else (if bytes_eq name (codes "pipe") then pipe_by (value rows (codes "path")) (value rows (codes "rdb")) (value rows (codes "user")) (value rows (codes "user-file"))
+    else (if bytes_eq name (codes "serve") then serve_by (value rows (codes "path")) (value rows (codes "port")) (value rows (codes "user")) (value rows (codes "user-file")) (value rows (codes "count"))
+    else (if bytes_eq name (codes "indoubt") then in_doubt_by (value rows (codes "path"))
+    else (if bytes_eq name (codes "room") then room_by (value rows (codes "path"))
+    else (if bytes_eq name (codes "check") then check_by (value rows (codes "path"))
+    else (if bytes_eq name (codes "version") then Some version else None))))))
 
 abbrev pub said_by : Kinds → Option (Text × List Row) → Option Job
 said_by [] (Some sub) = said_to sub.0 sub.1

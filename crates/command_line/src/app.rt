@@ -7,21 +7,32 @@ ghost use Rattle.command_line.specs.Grammar as grammar;
 use clap::{Arg, Command};
 use std::alloc::{AllocError, Global};
 
-fn needed_word<'a>(alloc: Global, id: &'a str) -> Arg<'a>
+const STORE_FILE: &str = "The file of the store";
+
+const STORE_NAME: &str = "The name of the database: 1 to 18 printable characters without blanks";
+
+fn needed_word<'a>(alloc: Global, id: &'a str, help: &'a str) -> Arg<'a>
     ensures rule { rule_of result ≡ grammar.needed_word id.entry.now }
     ensures own { grammar.IsOwn result }
 {
-    Arg::new(alloc, id).required(true)
+    Arg::new(alloc, id).required(true).help(help)
 }
 
-fn option<'a>(alloc: Global, id: &'a str, value: &'a str) -> Arg<'a>
+fn word<'a>(alloc: Global, id: &'a str, help: &'a str) -> Arg<'a>
+    ensures rule { rule_of result ≡ grammar.word_rule id.entry.now }
+    ensures own { grammar.IsOwn result }
+{
+    Arg::new(alloc, id).help(help)
+}
+
+fn option<'a>(alloc: Global, id: &'a str, value: &'a str, help: &'a str) -> Arg<'a>
     ensures rule { rule_of result ≡ grammar.option_rule id.entry.now }
     ensures own { grammar.IsOwn result }
 {
-    Arg::new(alloc, id).long(id).value_name(value)
+    Arg::new(alloc, id).long(id).value_name(value).help(help)
 }
 
-fn needed_option<'a>(alloc: Global, id: &'a str, value: &'a str) -> Arg<'a>
+fn needed_option<'a>(alloc: Global, id: &'a str, value: &'a str, help: &'a str) -> Arg<'a>
     ensures rule { rule_of result ≡ grammar.needed_option id.entry.now }
     ensures own { grammar.IsOwn result }
 {
@@ -29,6 +40,7 @@ fn needed_option<'a>(alloc: Global, id: &'a str, value: &'a str) -> Arg<'a>
         .long(id)
         .value_name(value)
         .required(true)
+        .help(help)
 }
 
 fn rdb_option<'a>(alloc: Global) -> Arg<'a>
@@ -39,6 +51,31 @@ fn rdb_option<'a>(alloc: Global) -> Arg<'a>
         .long("rdb")
         .value_name("NAME")
         .default_value("RDB")
+        .help(STORE_NAME)
+}
+
+fn user_option<'a>(alloc: Global) -> Arg<'a>
+    ensures rule { rule_of result ≡ grammar.option_rule (codes "user") }
+    ensures own { grammar.IsOwn result }
+{
+    option(
+        alloc,
+        "user",
+        "U:P",
+        "The user and the password, split at the first colon; other users of this machine can read it: better --user-file",
+    )
+}
+
+fn user_file_option<'a>(alloc: Global) -> Arg<'a>
+    ensures rule { rule_of result ≡ grammar.option_rule (codes "user-file") }
+    ensures own { grammar.IsOwn result }
+{
+    option(
+        alloc,
+        "user-file",
+        "FILE",
+        "A file whose one line is U:P, on which nobody but its owner has rights; in place of --user",
+    )
 }
 
 fn init<'a>(alloc: Global) -> Result<Command<'a>, AllocError>
@@ -46,9 +83,9 @@ fn init<'a>(alloc: Global) -> Result<Command<'a>, AllocError>
 {
     Command::new(alloc, "init")
         .about("Makes a store")
-        .arg(needed_word(alloc, "path"))?
-        .arg(needed_option(alloc, "size", "N"))?
-        .arg(needed_option(alloc, "rdb", "NAME"))
+        .arg(needed_word(alloc, "path", "The file that is made; none may be there"))?
+        .arg(needed_option(alloc, "size", "N", "Its bytes, 2097152 to 1073741824"))?
+        .arg(needed_option(alloc, "rdb", "NAME", STORE_NAME))
 }
 
 fn pipe<'a>(alloc: Global) -> Result<Command<'a>, AllocError>
@@ -56,9 +93,14 @@ fn pipe<'a>(alloc: Global) -> Result<Command<'a>, AllocError>
 {
     Command::new(alloc, "pipe")
         .about("Serves event records from standard input to standard output")
-        .arg(Arg::new(alloc, "path"))?
+        .arg(word(
+            alloc,
+            "path",
+            "The file of the store; without it, a new store in memory",
+        ))?
         .arg(rdb_option(alloc))?
-        .arg(needed_option(alloc, "user", "U:P"))
+        .arg(user_option(alloc))?
+        .arg(user_file_option(alloc))
 }
 
 fn serve<'a>(alloc: Global) -> Result<Command<'a>, AllocError>
@@ -66,10 +108,21 @@ fn serve<'a>(alloc: Global) -> Result<Command<'a>, AllocError>
 {
     Command::new(alloc, "serve")
         .about("Serves conversations on a port of this machine")
-        .arg(needed_word(alloc, "path"))?
-        .arg(needed_option(alloc, "port", "N"))?
-        .arg(needed_option(alloc, "user", "U:P"))?
-        .arg(option(alloc, "count", "N"))
+        .arg(needed_word(alloc, "path", STORE_FILE))?
+        .arg(needed_option(
+            alloc,
+            "port",
+            "N",
+            "The port of 127.0.0.1, 0 to 65535; 0 lets the system pick one",
+        ))?
+        .arg(user_option(alloc))?
+        .arg(user_file_option(alloc))?
+        .arg(option(
+            alloc,
+            "count",
+            "N",
+            "Ends after so many conversations, 0 to 18446744073709551615",
+        ))
 }
 
 fn in_doubt<'a>(alloc: Global) -> Result<Command<'a>, AllocError>
@@ -77,7 +130,31 @@ fn in_doubt<'a>(alloc: Global) -> Result<Command<'a>, AllocError>
 {
     Command::new(alloc, "indoubt")
         .about("Lists the units in doubt of a store")
-        .arg(needed_word(alloc, "path"))
+        .arg(needed_word(alloc, "path", STORE_FILE))
+}
+
+fn room<'a>(alloc: Global) -> Result<Command<'a>, AllocError>
+    ensures { IfOk result (λ c. (app_of c ≡ grammar.room) × grammar.AddsItself c) }
+{
+    Command::new(alloc, "room")
+        .about(
+            "Tells the name and the size of a store, the bytes that it has left for records, and how many units are in doubt",
+        )
+        .arg(needed_word(alloc, "path", STORE_FILE))
+}
+
+fn check<'a>(alloc: Global) -> Result<Command<'a>, AllocError>
+    ensures { IfOk result (λ c. (app_of c ≡ grammar.check) × grammar.AddsItself c) }
+{
+    Command::new(alloc, "check")
+        .about("Tells whether a store is whole")
+        .arg(needed_word(alloc, "path", STORE_FILE))
+}
+
+fn version<'a>(alloc: Global) -> Result<Command<'a>, AllocError>
+    ensures { IfOk result (λ c. (app_of c ≡ grammar.version) × grammar.AddsItself c) }
+{
+    Ok(Command::new(alloc, "version").about("Tells the version of the program"))
 }
 
 // The program with one more subcommand.
@@ -103,5 +180,8 @@ pub(crate) fn drdad<'a>(alloc: Global) -> Result<Command<'a>, AllocError>
     let program = with_one(program, init(alloc))?;
     let program = with_one(program, pipe(alloc))?;
     let program = with_one(program, serve(alloc))?;
-    with_one(program, in_doubt(alloc))
+    let program = with_one(program, in_doubt(alloc))?;
+    let program = with_one(program, room(alloc))?;
+    let program = with_one(program, check(alloc))?;
+    with_one(program, version(alloc))
 }

@@ -9,6 +9,15 @@ pub struct Login<'a> {
     pub password: &'a str,
 }
 
+/// Where it stands who may open the database.
+#[derive(Clone, Copy, Debug)]
+pub enum LoginSource<'a> {
+    /// `--user U:P`: in the words.
+    Words(Login<'a>),
+    /// `--user-file FILE`: in the file of this path (`login_in_file`).
+    File(&'a str),
+}
+
 /// What the words ask for. Contracts see it by `plain_job`.
 #[derive(Clone, Copy, Debug)]
 pub enum Job<'a> {
@@ -18,22 +27,34 @@ pub enum Job<'a> {
         size: u64,
         rdb: &'a str,
     },
-    /// `pipe [PATH] [--rdb NAME] --user U:P`: event records on the standard streams, over the store of
-    /// the path, or over one in memory of this name, which is `RDB` where none is given.
+    /// `pipe [PATH] [--rdb NAME] --user U:P`, or with `--user-file FILE`: event records on the standard
+    /// streams, over the store of the path, or over one in memory of this name, which is `RDB` where none
+    /// is given.
     Pipe {
         path: Option<&'a str>,
         rdb: &'a str,
-        login: Login<'a>,
+        login: LoginSource<'a>,
     },
-    /// `serve PATH --port N --user U:P [--count N]`: conversations over sockets, so many or without end.
+    /// `serve PATH --port N --user U:P [--count N]`, or with `--user-file FILE`: conversations over sockets,
+    /// so many or without end.
     Serve {
         path: &'a str,
         port: u16,
-        login: Login<'a>,
+        login: LoginSource<'a>,
         count: Option<u64>,
     },
     /// `indoubt PATH`: the units in doubt of a store.
     InDoubt {
         path: &'a str,
     },
+    /// `room PATH`: how much a store holds, and how much more it has room for.
+    Room {
+        path: &'a str,
+    },
+    /// `check PATH`: whether a store is whole.
+    Check {
+        path: &'a str,
+    },
+    /// `version`: the version of the program.
+    Version,
 }

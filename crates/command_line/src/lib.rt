@@ -3,9 +3,11 @@
 
 mod app;
 mod job;
+mod logins;
 mod numbers;
 mod texts;
 mod words;
 
-pub use job::{Job, Login};
+pub use job::{Job, Login, LoginSource};
+pub use logins::login_in_file;
 pub use words::{BadWords, job_of};

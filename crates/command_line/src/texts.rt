@@ -3,7 +3,8 @@
 ghost use Rattle.std.specs.Prelude.{◌≡◌, option_map};
 ghost use Rattle.command_line.specs.Job as spec;
 
-use crate::job::{Job, Login};
+use crate::job::{Job, LoginSource};
+use crate::logins::login_in;
 use crate::numbers::{number_in, port_in};
 
 pub(crate) fn init_by<'a>(
@@ -24,13 +25,12 @@ pub(crate) fn pipe_by<'a>(
     path: Option<&'a str>,
     rdb: Option<&'a str>,
     user: Option<&'a str>,
+    file: Option<&'a str>,
 ) -> Option<Job<'a>>
-    ensures { option_map spec.plain_job result ≡ spec.pipe_by (option_map (λ p. p.now) path.entry) (option_map (λ r. r.now) rdb.entry) (option_map (λ u. u.now) user.entry) }
+    ensures { option_map spec.plain_job result ≡ spec.pipe_by (option_map (λ p. p.now) path.entry) (option_map (λ r. r.now) rdb.entry) (option_map (λ u. u.now) user.entry) (option_map (λ f. f.now) file.entry) }
 {
-    let (Some(rdb), Some(user)) = (rdb, user) else {
-        return None;
-    };
-    let login = login_in(user)?;
+    let rdb = rdb?;
+    let login = source_by(user, file)?;
     Some(Job::Pipe { path, rdb, login })
 }
 
@@ -38,15 +38,16 @@ pub(crate) fn serve_by<'a>(
     path: Option<&'a str>,
     port: Option<&'a str>,
     user: Option<&'a str>,
+    file: Option<&'a str>,
     count: Option<&'a str>,
 ) -> Option<Job<'a>>
-    ensures { option_map spec.plain_job result ≡ spec.serve_by (option_map (λ p. p.now) path.entry) (option_map (λ t. t.now) port.entry) (option_map (λ u. u.now) user.entry) (option_map (λ t. t.now) count.entry) }
+    ensures { option_map spec.plain_job result ≡ spec.serve_by (option_map (λ p. p.now) path.entry) (option_map (λ t. t.now) port.entry) (option_map (λ u. u.now) user.entry) (option_map (λ f. f.now) file.entry) (option_map (λ t. t.now) count.entry) }
 {
-    let (Some(path), Some(port), Some(user)) = (path, port, user) else {
+    let (Some(path), Some(port)) = (path, port) else {
         return None;
     };
     let port = port_in(port)?;
-    let login = login_in(user)?;
+    let login = source_by(user, file)?;
     let count = counted(count)?;
     Some(Job::Serve {
         path,
@@ -65,12 +66,33 @@ pub(crate) fn in_doubt_by<'a>(path: Option<&'a str>) -> Option<Job<'a>>
     }
 }
 
-// U:P, split at the first colon.
-fn login_in<'a>(text: &'a str) -> Option<Login<'a>>
-    ensures { option_map spec.plain_login result ≡ spec.login_in text.now }
+pub(crate) fn room_by<'a>(path: Option<&'a str>) -> Option<Job<'a>>
+    ensures { option_map spec.plain_job result ≡ spec.room_by (option_map (λ p. p.now) path.entry) }
 {
-    let (user, password) = text.split_once(':')?;
-    Some(Login { user, password })
+    match path {
+        Some(path) => Some(Job::Room { path }),
+        None => None,
+    }
+}
+
+pub(crate) fn check_by<'a>(path: Option<&'a str>) -> Option<Job<'a>>
+    ensures { option_map spec.plain_job result ≡ spec.check_by (option_map (λ p. p.now) path.entry) }
+{
+    match path {
+        Some(path) => Some(Job::Check { path }),
+        None => None,
+    }
+}
+
+// One of both.
+fn source_by<'a>(user: Option<&'a str>, file: Option<&'a str>) -> Option<LoginSource<'a>>
+    ensures { option_map spec.plain_source result ≡ spec.source_by (option_map (λ u. u.now) user.entry) (option_map (λ f. f.now) file.entry) }
+{
+    match (user, file) {
+        (Some(user), None) => Some(LoginSource::Words(login_in(user)?)),
+        (None, Some(file)) => Some(LoginSource::File(file)),
+        (None, None) | (Some(_), Some(_)) => None,
+    }
 }
 
 // How many conversations, where that is said.

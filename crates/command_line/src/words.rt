@@ -7,7 +7,7 @@ ghost use Rattle.command_line.specs.Reading.{Parses, Says, Tells};
 
 use crate::app::drdad;
 use crate::job::Job;
-use crate::texts::{in_doubt_by, init_by, pipe_by, serve_by};
+use crate::texts::{check_by, in_doubt_by, init_by, pipe_by, room_by, serve_by};
 use clap::ArgMatches;
 use clap::error::ErrorKind;
 use std::alloc::{AllocError, Global};
@@ -61,7 +61,7 @@ pub fn parse_words<'a, S: AsStr>(
 
 /// The job that words of `drdad` ask for, the program's name first, lent from them. `NoJob` comes
 /// exactly where they ask for none: they are none of the grammar's, or a number is none, a port has
-/// more than 16 bits, or a U:P has no colon. What the parser of words has to say is appended to `said`.
+/// more than 16 bits, a U:P has no colon, or a login is asked for and there is none or two. What the parser of words has to say is appended to `said`.
 pub fn job_of<'a, S: AsStr>(
     alloc: Global,
     words: &'a [S],
@@ -87,6 +87,9 @@ fn job_in<'a>(matches: &ArgMatches<'a>) -> Option<Job<'a>>
         "pipe" => pipe_in(given),
         "serve" => serve_in(given),
         "indoubt" => in_doubt_in(given),
+        "room" => room_in(given),
+        "check" => check_in(given),
+        "version" => Some(Job::Version),
         _ => None,
     }
 }
@@ -102,22 +105,24 @@ fn init_in<'a>(given: &ArgMatches<'a>) -> Option<Job<'a>>
 }
 
 fn pipe_in<'a>(given: &ArgMatches<'a>) -> Option<Job<'a>>
-    ensures { option_map spec.plain_job result ≡ spec.pipe_by (spec.value (rows_of (found_of given.now)) (codes "path")) (spec.value (rows_of (found_of given.now)) (codes "rdb")) (spec.value (rows_of (found_of given.now)) (codes "user")) }
+    ensures { option_map spec.plain_job result ≡ spec.pipe_by (spec.value (rows_of (found_of given.now)) (codes "path")) (spec.value (rows_of (found_of given.now)) (codes "rdb")) (spec.value (rows_of (found_of given.now)) (codes "user")) (spec.value (rows_of (found_of given.now)) (codes "user-file")) }
 {
     pipe_by(
         given.get_str("path"),
         given.get_str("rdb"),
         given.get_str("user"),
+        given.get_str("user-file"),
     )
 }
 
 fn serve_in<'a>(given: &ArgMatches<'a>) -> Option<Job<'a>>
-    ensures { option_map spec.plain_job result ≡ spec.serve_by (spec.value (rows_of (found_of given.now)) (codes "path")) (spec.value (rows_of (found_of given.now)) (codes "port")) (spec.value (rows_of (found_of given.now)) (codes "user")) (spec.value (rows_of (found_of given.now)) (codes "count")) }
+    ensures { option_map spec.plain_job result ≡ spec.serve_by (spec.value (rows_of (found_of given.now)) (codes "path")) (spec.value (rows_of (found_of given.now)) (codes "port")) (spec.value (rows_of (found_of given.now)) (codes "user")) (spec.value (rows_of (found_of given.now)) (codes "user-file")) (spec.value (rows_of (found_of given.now)) (codes "count")) }
 {
     serve_by(
         given.get_str("path"),
         given.get_str("port"),
         given.get_str("user"),
+        given.get_str("user-file"),
         given.get_str("count"),
     )
 }
@@ -126,4 +131,16 @@ fn in_doubt_in<'a>(given: &ArgMatches<'a>) -> Option<Job<'a>>
     ensures { option_map spec.plain_job result ≡ spec.in_doubt_by (spec.value (rows_of (found_of given.now)) (codes "path")) }
 {
     in_doubt_by(given.get_str("path"))
+}
+
+fn room_in<'a>(given: &ArgMatches<'a>) -> Option<Job<'a>>
+    ensures { option_map spec.plain_job result ≡ spec.room_by (spec.value (rows_of (found_of given.now)) (codes "path")) }
+{
+    room_by(given.get_str("path"))
+}
+
+fn check_in<'a>(given: &ArgMatches<'a>) -> Option<Job<'a>>
+    ensures { option_map spec.plain_job result ≡ spec.check_by (spec.value (rows_of (found_of given.now)) (codes "path")) }
+{
+    check_by(given.get_str("path"))
 }

@@ -1,15 +1,8 @@
 -- Bytes that were written, one piece after the other.
-use Rattle.std.proofs.Common.{◌≡◌, ℕ, ◌+◌, List, ◌++◌, length, take, drop, take_all, Option, sym, subst, ◌∙◌, arith}
-use Rattle.std.proofs.lemmas.List.{take-append-le}
+use Rattle.std.proofs.Common.{ℕ, ◌+◌, List, ◌++◌, length, take, Option, sym, subst}
 use Rattle.std.specs.Io.KnownBytes.{Appends}
 use Rattle.std.proofs.KnownBytes.{Appends-trans}
-use Rattle.std.proofs.Math.Seq.{take-add, take-append-add}
-
-pub wrote_more : (u v w : Option (List ℕ)) (bytes : List ℕ) (a n : ℕ) → Appends u v (take a bytes) → Appends v w (take n (drop a bytes)) → Appends u w (take (a + n) bytes)
-wrote_more u v w bytes a n p q = subst (λ (z : List ℕ). Appends u w z) (sym (take-add a n bytes)) (Appends-trans u v w (take a bytes) (take n (drop a bytes)) p q)
-
-pub take_front : (n : ℕ) (xs ys : List ℕ) → length xs ≡ n → take n (xs ++ ys) ≡ xs
-take_front n xs ys e = take-append-le n xs ys (omega (arith, e)) ∙ take_all n xs (omega (arith, e))
+use Rattle.std.proofs.Math.Seq.{take-append-add}
 
 -- a front of a second text, behind the first
 pub appends_front : (w0 w w' : Option (List ℕ)) (x y : List ℕ) (count : ℕ) → Appends w0 w x → Appends w w' (take count y) → Appends w0 w' (take (length x + count) (x ++ y))

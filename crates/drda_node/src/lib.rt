@@ -14,7 +14,6 @@ mod row;
 pub mod serial;
 mod serving;
 mod slot;
-mod writing;
 
 pub use asker::CoreAsker;
 // What a node is started with.
@@ -24,4 +23,3 @@ pub use hearing::{Fed, FedState, Heard};
 pub use node::{ConversationId, Node, OpenError};
 pub use ready::Ready;
 pub use serving::{RunEnd, run};
-pub use writing::write_whole;

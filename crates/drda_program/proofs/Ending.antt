@@ -1,5 +1,5 @@
 -- How the program ends, from what it did and what it said.
-use Rattle.std.proofs.Common.{◌≡◌, ◌≢◌, ◌⊎◌, ◌∙◌, refl, sym, subst, ap, inl, inr, ℕ, List, [], length, take, take_all, le_refl, Option, Some, None, Result, Ok, Err, OnOk, OnErr}
+use Rattle.std.proofs.Common.{◌≡◌, ◌≢◌, ◌⊎◌, ◌∙◌, refl, sym, subst, ap, ap₂, inl, inr, ℕ, List, [], ◌++◌, length, take, take_all, le_refl, Option, Some, None, Result, Ok, Err, OnOk, OnErr}
 use Rattle.std.specs.Io.KnownBytes.{Appends}
 use Rattle.std.proofs.Math.Seq.{take-nil}
 use Rattle.std.proofs.KnownBytes.{Appends-nil, Appends-trans}
@@ -10,7 +10,7 @@ use Rattle.command_line.specs.declared.words.BadWords.TheVariants as words
 use Rattle.drda_program.specs.Endings.{fault_of_words, line_for, status_for}
 use Rattle.drda_program.specs.Program.{Does, Exits, Seen, Surroundings}
 use Rattle.drda_program.specs.declared.fault.Fault.{Fault}
-use Rattle.drda_program.specs.declared.fault.Fault.TheVariants.{BadArguments, NoMemory}
+use Rattle.drda_program.specs.declared.fault.Fault.TheVariants.{BadArguments, Device, NoMemory}
 
 -- ---- words
 
@@ -31,22 +31,24 @@ module _ {F D N L S W : Type 0} (around : Surroundings F D N L S W) (input : Opt
     outcome = Ok tt;
     does = does;
     status_is = refl;
-    parser = [];
-    parser_only = λ some. refl;
+    told = [];
+    told_only = λ some other. refl;
     count = 0;
     says = Appends-nil err;
   }
 
-  pub exits : (said : Option Job) (old new : Seen F N) (err mid err' : Option (List ℕ)) (fault : Fault) (status : ℕ) (text : List ℕ) → status ≡ status_for fault → Tried said old (Err fault) new → (said ≢ None → text ≡ [])
-      → (count : ℕ) × Appends err mid (take count text) → (count : ℕ) × Appends mid err' (take count (line_for fault)) → Exits around said input old status new err err'
-  exits said old new err mid err' fault status text is does quiet (n, told) (count, wrote) = record {
+  -- behind the text of the parser, a reason is told of a device alone
+  pub exits : (said : Option Job) (old new : Seen F N) (err mid later err' : Option (List ℕ)) (fault : Fault) (status : ℕ) (text : List ℕ) → status ≡ status_for fault → Tried said old (Err fault) new → (said ≢ None → text ≡ [])
+      → (count : ℕ) × Appends err mid (take count text) → (reason : List ℕ) × (fault ≢ Device → reason ≡ []) × Appends mid later reason
+      → (count : ℕ) × Appends later err' (take count (line_for fault)) → Exits around said input old status new err err'
+  exits said old new err mid later err' fault status text is does quiet (n, told) (reason, of_device, explained) (count, wrote) = record {
     outcome = Err fault;
     does = does;
     status_is = is;
-    parser = take n text;
-    parser_only = λ some. ap (λ (z : List ℕ). take n z) (quiet some) ∙ take-nil n;
+    told = take n text ++ reason;
+    told_only = λ some other. ap₂ (λ (y z : List ℕ). y ++ z) (ap (λ (z : List ℕ). take n z) (quiet some) ∙ take-nil n) (of_device (λ same. other (ap (λ (f : Fault). Err f) same)));
     count = count;
-    says = Appends-trans err mid err' (take n text) (take count (line_for fault)) told wrote;
+    says = Appends-trans err later err' (take n text ++ reason) (take count (line_for fault)) (Appends-trans err mid later (take n text) reason told explained) wrote;
   }
 
 pub no_text : (M : Type 0) (said : Option Job) (text text' : List ℕ) (bad : BadWords) → Says said (Err bad) → Tells {M = M} (Err bad) text text' → said ≢ None → text' ≡ text

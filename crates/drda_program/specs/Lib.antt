@@ -4,5 +4,8 @@ pub mod Files
 pub mod Network
 pub mod Stores
 pub mod Opening
+pub mod LoggingIn
+pub mod Rooms
 pub mod Listening
 pub mod Program
+pub mod Threads

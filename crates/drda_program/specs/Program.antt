@@ -1,24 +1,28 @@
 -- What the program does with its words, its files, its network and its streams.
-use Rattle.std.specs.Prelude.{◌≡◌, ◌≢◌, ◌⊎◌, ℕ, Bool, true, false, IsTrue, List, [], ◌∷◌, ◌++◌, take, codes, Option, Some, None, IfSome, Result, Ok, Err}
+use Rattle.std.specs.Prelude.{◌≡◌, ◌≢◌, ◌⊎◌, ℕ, Bool, true, false, IsTrue, List, [], ◌∷◌, ◌++◌, length, take, codes, Option, Some, None, IfSome, Result, Ok, Err}
 use Rattle.std.specs.Fmt.{decimal}
 use Rattle.std.specs.Io.KnownBytes.{Appends}
 use Rattle.drda_disk.specs.Disk.{Life}
 use Rattle.session_commands.specs.Settings.{Settings, is_rdb_name}
 use Rattle.half_store.specs.Fresh.{is_store_of}
-use Rattle.recovery.specs.Durable.{fresh}
+use Rattle.recovery.specs.Durable.{Durable, fresh}
 use Rattle.recovery_laws.specs.Journaled.{OnDisk}
+use Rattle.recovery_laws.specs.Opens.{OpensTo}
 use Rattle.recovery_laws.specs.Part.{opened}
 use Rattle.drda_node.specs.Asking.{AskedCore, IsJournaled, asked_of}
 use Rattle.drda_node.specs.Machine.{Machine, at_start}
 use Rattle.drda_node.specs.Serving.{Runs}
 use Rattle.drda_node.specs.declared.serving.RunEnd.{RunEnd}
-use Rattle.command_line.specs.Job.{Job, Login, init, pipe, serve, in_doubt}
+use Rattle.command_line.specs.Job.{Job, Login, LoginSource, init, pipe, serve, in_doubt}
+use Rattle.command_line.specs.Job as job
 use Rattle.drda_program.specs.Doubts.{doubt_text}
 use Rattle.drda_program.specs.Endings.{line_of, result_for, status_of}
 use Rattle.drda_program.specs.Files.{FileCalls}
 use Rattle.drda_program.specs.Network.{NetworkCalls}
 use Rattle.drda_program.specs.Opening.{AreDoubts, IsMade, IsOver, IsTurnedBack, OpensStore}
 use Rattle.drda_program.specs.Listening.{Listens}
+use Rattle.drda_program.specs.LoggingIn.{LogsIn, net_and_out}
+use Rattle.drda_program.specs.Rooms.{room_text}
 use Rattle.drda_program.specs.Stores.{RefusesName}
 use Rattle.drda_program.specs.declared.fault.Fault.{Fault}
 use Rattle.drda_program.specs.declared.fault.Fault.TheVariants.{BadArguments, BadEvent, Damaged, Device, NoMemory, NotAStore}
@@ -89,16 +93,22 @@ module _ {D : Type 0} (modelled : Bool) (life : D → Life) where
   abbrev pub IsOfDoubts : D → List ℕ → Type 0
   IsOfDoubts disk text = (xids : List (List ℕ)) × (text ≡ doubt_text xids) × (IsTrue modelled → AreDoubts xids (life disk).seen)
 
-  -- all that the disk's core did is journaled, from its opening to the end of the last conversation
-  pub record ServesOn {N L S W : Type 0} (calls : NetworkCalls N L S W) (remaining : S → Option (List ℕ)) (contents : W → Option (List ℕ)) (disk : D) (port : ℕ) (login : Login) (count : Option ℕ)
-      (net : N) (before : Option (List ℕ)) (outcome : Result (Unit {0}) Fault) (net' : N) (now : Option (List ℕ)) : Type 0 where
+  -- The name and the size of the store that a disk is, the bytes that it has left for records, and how many units are in
+  -- doubt.
+  abbrev pub IsOfRoom : D → List ℕ → Type 0
+  IsOfRoom disk text = (core : OnDisk D) × IsOver modelled life disk core × (xids : List (List ℕ))
+      × (text ≡ room_text core.name (length (life disk).seen) core.room (length xids)) × (IsTrue modelled → AreDoubts xids (life disk).seen)
+
+  -- a disk that opens to a state is whole
+  abbrev pub IsOfCheck : D → List ℕ → Type 0
+  IsOfCheck disk text = (text ≡ codes "whole\n") × (IsTrue modelled → (name : List ℕ) × (state : Durable) × OpensTo name state (life disk).seen)
+
+  -- Conversations were served over the store that a disk is, each by a thread of its own. What each call made of its core is the
+  -- core's step, one after another under one lock.
+  pub record ServesOn {N L S W : Type 0} (calls : NetworkCalls N L S W) (disk : D) (port : ℕ) (net : N) (before : Option (List ℕ)) (outcome : Result (Unit {0}) Fault) (now : Option (List ℕ)) : Type 0 where
     pub core : OnDisk D
     pub over : IsOver modelled life disk core
-    pub last : Machine
-    pub listens : Listens calls remaining contents port count net (machine_over login core) before outcome net' last now
-    pub left : OnDisk D
-    pub left_is : last.core ≡ asked_of left
-    pub journaled : IsJournaled modelled life core left
+    pub listens : Listens calls port net before outcome now
 
   -- ---- over the disk of a path
 
@@ -124,10 +134,31 @@ module _ {D : Type 0} (modelled : Bool) (life : D → Life) where
     abbrev pub Lists : List ℕ → F → Option (List ℕ) → Result (Unit {0}) Fault → F → Option (List ℕ) → Type 0
     Lists path files before outcome files' now = Tells IsOfDoubts path files before outcome files' now
 
+    -- how much the store of a path holds is told
+    abbrev pub TellsRoom : List ℕ → F → Option (List ℕ) → Result (Unit {0}) Fault → F → Option (List ℕ) → Type 0
+    TellsRoom path files before outcome files' now = Tells IsOfRoom path files before outcome files' now
+
+    -- the store of a path is told to be whole
+    abbrev pub Checks : List ℕ → F → Option (List ℕ) → Result (Unit {0}) Fault → F → Option (List ℕ) → Type 0
+    Checks path files before outcome files' now = Tells IsOfCheck path files before outcome files' now
+
     -- the run over the store of a path, if there is one
     abbrev pub PipesFile : List ℕ → Login → F → Option (List ℕ) → Option (List ℕ) → Result (Unit {0}) Fault → F → Option (List ℕ) → Type 0
     PipesFile path login files input before outcome files' now = ((fault : Fault) × (outcome ≡ Err fault) × IsTurnedBack modelled life calls files path fault files' × (now ≡ before))
         ⊎ ((disk : D) × calls.opens files path (Some disk) files' × RunsOn disk login input before outcome now)
+
+    -- over the store of a path, or over one in memory
+    abbrev pub PipesOver : Option (List ℕ) → List ℕ → Login → F → Option (List ℕ) → Option (List ℕ) → Result (Unit {0}) Fault → F → Option (List ℕ) → Type 0
+    PipesOver None rdb login files input before outcome files' now = PipesInMemory rdb login input before outcome now × (files' ≡ files)
+    PipesOver (Some path) rdb login files input before outcome files' now = PipesFile path login files input before outcome files' now
+
+-- the line that tells the version and the logic
+abbrev pub version_line : List ℕ
+version_line = codes "drdad 0.9, proved by Rattle's logic dac8208d650f15bf\n"
+
+abbrev pub TellsVersion : Option (List ℕ) → Result (Unit {0}) Fault → Option (List ℕ) → Type 0
+TellsVersion before (Ok done) now = Appends before now version_line
+TellsVersion before (Err fault) now = fault ≡ Device
 
 -- ---- what words ask for
 
@@ -137,11 +168,9 @@ pub record Surroundings (F D N L S W : Type 0) : Type 1 where
   pub modelled : Bool
   pub life : D → Life
   pub network : NetworkCalls N L S W
-  pub remaining : S → Option (List ℕ)
-  pub contents : W → Option (List ℕ)
 
-abbrev pub surroundings : {F D N L S W : Type 0} → FileCalls F D → Bool → (D → Life) → NetworkCalls N L S W → (S → Option (List ℕ)) → (W → Option (List ℕ)) → Surroundings F D N L S W
-surroundings files modelled life network remaining contents = record { files = files; modelled = modelled; life = life; network = network; remaining = remaining; contents = contents }
+abbrev pub surroundings : {F D N L S W : Type 0} → FileCalls F D → Bool → (D → Life) → NetworkCalls N L S W → Surroundings F D N L S W
+surroundings files modelled life network = record { files = files; modelled = modelled; life = life; network = network }
 
 -- the files, the network, and what was written on standard output
 pub record Seen (F N : Type 0) : Type 0 where
@@ -154,28 +183,32 @@ seen files net out = record { files = files; net = net; out = out }
 
 module _ {F D N L S W : Type 0} (around : Surroundings F D N L S W) where
   -- conversations over the store of a path, if there is one
-  abbrev pub ServesFile : List ℕ → ℕ → Login → Option ℕ → Seen F N → Result (Unit {0}) Fault → Seen F N → Type 0
-  ServesFile path port login count old outcome new =
+  abbrev pub ServesFile : List ℕ → ℕ → Seen F N → Result (Unit {0}) Fault → Seen F N → Type 0
+  ServesFile path port old outcome new =
       ((fault : Fault) × (outcome ≡ Err fault) × IsTurnedBack around.modelled around.life around.files old.files path fault new.files × (new.net ≡ old.net) × (new.out ≡ old.out))
       ⊎ ((disk : D) × around.files.opens old.files path (Some disk) new.files
-      × ServesOn around.modelled around.life around.network around.remaining around.contents disk port login count old.net old.out outcome new.net new.out)
+      × ServesOn around.modelled around.life around.network disk port old.net old.out outcome new.out)
 
   abbrev pub Does : Option Job → Option (List ℕ) → Seen F N → Result (Unit {0}) Fault → Seen F N → Type 0
   Does None input old outcome new = (outcome ≡ Err BadArguments) × (new ≡ old)
   Does (Some (init path size rdb)) input old outcome new = Makes around.modelled around.life around.files path size rdb old.files old.out outcome new.files new.out × (new.net ≡ old.net)
-  Does (Some (pipe None rdb login)) input old outcome new = PipesInMemory rdb login input old.out outcome new.out × (new.files ≡ old.files) × (new.net ≡ old.net)
-  Does (Some (pipe (Some path) rdb login)) input old outcome new = PipesFile around.modelled around.life around.files path login old.files input old.out outcome new.files new.out × (new.net ≡ old.net)
-  Does (Some (serve path port login count)) input old outcome new = ServesFile path port login count old outcome new
+  Does (Some (pipe path rdb source)) input old outcome new = LogsIn around.files source old.files old.out outcome new.files new.out (λ login files.
+      PipesOver around.modelled around.life around.files path rdb login files input old.out outcome new.files new.out) × (new.net ≡ old.net)
+  Does (Some (serve path port source count)) input old outcome new = LogsIn around.files source old.files (net_and_out old.net old.out) outcome new.files (net_and_out new.net new.out) (λ login files.
+      ServesFile path port (seen files old.net old.out) outcome new)
   Does (Some (in_doubt path)) input old outcome new = Lists around.modelled around.life around.files path old.files old.out outcome new.files new.out × (new.net ≡ old.net)
+  Does (Some (job.room path)) input old outcome new = TellsRoom around.modelled around.life around.files path old.files old.out outcome new.files new.out × (new.net ≡ old.net)
+  Does (Some (job.check path)) input old outcome new = Checks around.modelled around.life around.files path old.files old.out outcome new.files new.out × (new.net ≡ old.net)
+  Does (Some job.version) input old outcome new = TellsVersion old.out outcome new.out × (new.files ≡ old.files) × (new.net ≡ old.net)
 
   -- The words, the input, and what is seen before and after: the job was done so, or memory was refused before it was known.
-  -- Standard error holds the text of the parser of words, if it has one, which is only where the words ask for nothing, and
-  -- behind it the line of what is reported, or as much of each as could be written.
+  -- Standard error holds text for people, which is only where the words ask for nothing, of the parser of words, and where a
+  -- file can't be had, and behind it the line of what is reported, or as much of each as could be written.
   pub record Exits (said : Option Job) (input : Option (List ℕ)) (old : Seen F N) (status : ℕ) (new : Seen F N) (err err' : Option (List ℕ)) : Type 0 where
     pub outcome : Result (Unit {0}) Fault
     pub does : ((outcome ≡ Err NoMemory) × (new ≡ old)) ⊎ Does said input old outcome new
     pub status_is : status ≡ status_of outcome
-    pub parser : List ℕ
-    pub parser_only : said ≢ None → parser ≡ []
+    pub told : List ℕ
+    pub told_only : said ≢ None → outcome ≢ Err Device → told ≡ []
     pub count : ℕ
-    pub says : Appends err err' (parser ++ take count (line_of outcome))
+    pub says : Appends err err' (told ++ take count (line_of outcome))

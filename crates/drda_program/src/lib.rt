@@ -5,11 +5,15 @@ mod doubts;
 mod fault;
 mod files;
 mod listening;
+mod logins;
 mod network;
 mod program;
 mod records;
+mod rooms;
 mod stores;
 mod streams;
+mod threads;
+mod version;
 
 // What a stream tells of that is read.
 pub use drda_node::Ready;
@@ -17,3 +21,4 @@ pub use fault::Fault;
 pub use files::{StoreFiles, SystemFiles};
 pub use network::{Network, SystemNetwork};
 pub use program::run_words;
+pub use threads::{Streams, serve_at, serve_streams};

@@ -1,34 +1,34 @@
 //! Conversations over a network.
 
-ghost use Rattle.std.specs.Prelude.{IfErr, IfOk, ℕ};
+ghost use Rattle.std.specs.Prelude.{◌≡◌, IfErr, IfOk, ℕ};
 ghost use Rattle.std.specs.Io.KnownBytes.{Appends};
-ghost use Rattle.drda_node.specs.Asking.{IsJournaled};
-ghost use Rattle.drda_node.specs.Register.{core_in, machine};
 ghost use Rattle.command_line.specs.Job.{plain_login};
-ghost use Rattle.drda_program.specs.Listening.{HasListened, IsHeard, Listens, MayCheckpoint, port_line};
-ghost use Rattle.drda_program.specs.Program.{ServesFile, seen, surroundings};
-ghost use Rattle.drda_program.specs.Stores.{IsOfDevice};
+ghost use Rattle.drda_program.specs.Listening.{Listens, port_line};
+ghost use Rattle.drda_program.specs.Program.{ServesFile, seen, settings_of, surroundings};
+ghost use Rattle.drda_program.specs.Stores.{IsOfDevice, RefusesName};
 
 use crate::fault::Fault;
 use crate::files::StoreFiles;
 use crate::network::Network;
-use crate::records::node_over;
 use crate::stores::open_file;
 use crate::streams::flush;
+use crate::threads::{Streams, serve_streams};
 use command_line::Login;
+use conversation::{Settings, SettingsError};
 use drda_disk::Disk;
-use drda_node::Node;
-use recovery_laws::images::calls_go_on;
+use durable_core::DurableCore;
+use shared_node::{OpenGate, Shared};
 use std::alloc::Global;
 use std::io::Write;
 use std::net::{Ipv4Addr, SocketAddr, SocketAddrV4};
-use stream_service::{Served, serve_one};
+use std::sync::Wait;
+use std::thread::Threads;
 
-/// Serves conversations over the store of a path, on a port of 127.0.0.1: so many, or without end. Before
-/// each a checkpoint is written where one is due. It ends
-/// early where the device fails, memory is refused or no stream is let in any more; a stream that fails
-/// ends its own conversation alone.
-pub(crate) fn serve_file<F: StoreFiles, N: Network, W: Write>(
+/// Serves conversations over the store of a path, on a port of 127.0.0.1: so many, or without end, each in a
+/// thread of its own. It ends early where no stream is let in any more; a stream that fails ends its own
+/// conversation alone, and where the device has failed each command is answered so.
+pub(crate) fn serve_file<R, F, N, W>(
+    rt: &R,
     alloc: Global,
     files: &mut F,
     net: &mut N,
@@ -38,107 +38,146 @@ pub(crate) fn serve_file<F: StoreFiles, N: Network, W: Write>(
     count: Option<u64>,
     out: &mut W,
 ) -> Result<(), Fault>
-    ensures { ServesFile (surroundings F.calls F.Disk.is_modelled F.Disk.life N.calls N.Stream.remaining N.Writer.contents) path.now port (plain_login login.entry) count
+where
+    R: Threads + Wait + Sync,
+    F: StoreFiles,
+    N: Network,
+    W: Write,
+    F::Disk: Send,
+    N::Stream: Send,
+    N::Writer: Send,
+    ensures { ServesFile (surroundings F.calls F.Disk.is_modelled F.Disk.life N.calls) path.now port
         (seen files.old net.old (W.contents out.old)) result (seen files.new net.new (W.contents out.new)) }
 {
     let core = open_file(alloc, files, path)?;
-    let mut node = node_over(alloc, core, login)?;
-    listen(alloc, &mut node, net, port, count, out)
+    let settings = settings_for(alloc, &core, login)?;
+    let shared = match Shared::new(alloc, core) {
+        Ok(shared) => shared,
+        Err(_) => return Err(Fault::NoMemory),
+    };
+    listen(rt, alloc, &shared, &settings, net, port, count, out)?;
+    end_of(shared)
 }
 
-// Listens on a port of 127.0.0.1, says which on `out`, and serves one conversation after the other over
-// the one node.
-fn listen<D: Disk, N: Network, W: Write>(
+// What a server of this login starts its conversations with, whose database has the name of its store. A name
+// that no database has is the name of no store.
+fn settings_for<D: Disk>(
     alloc: Global,
-    node: &mut Node<D>,
+    core: &DurableCore<D>,
+    login: Login<'_>,
+) -> Result<Settings, Fault>
+    ensures of { IfOk result (λ s. s ≡ settings_of (plain_login login.entry) core.now.name) }
+    ensures refused { IfErr result (RefusesName core.now.name) }
+{
+    match Settings::new(alloc, login.user, login.password, core.name()) {
+        Ok(settings) => Ok(settings),
+        Err(SettingsError::BadName) => Err(Fault::NotAStore),
+        Err(SettingsError::NoMemory) => Err(Fault::NoMemory),
+    }
+}
+
+// Listens on a port of 127.0.0.1, says which on `out`, and serves the conversations of its streams.
+fn listen<R, D, N, W>(
+    rt: &R,
+    alloc: Global,
+    shared: &Shared<D>,
+    settings: &Settings,
     net: &mut N,
     port: u16,
     count: Option<u64>,
     out: &mut W,
 ) -> Result<(), Fault>
-    ensures listens { Listens N.calls N.Stream.remaining N.Writer.contents port count net.old (machine node.old) (W.contents out.old) result net.new (machine node.new) (W.contents out.new) }
-    ensures journaled { IsJournaled D.is_modelled D.life (core_in node.old) (core_in node.new) }
+where
+    R: Threads + Wait + Sync,
+    D: Disk + Send + Drop,
+    N: Network,
+    W: Write,
+    N::Stream: Send,
+    N::Writer: Send,
+    ensures { Listens N.calls port net.old (W.contents out.old) result (W.contents out.new) }
 {
-    calls_go_on::<D>();
-    node.core().is_durable();
     let address = SocketAddr::V4(SocketAddrV4::new(Ipv4Addr::new(127, 0, 0, 1), port));
     match net.bind(address) {
-        Ok(listener) => serve_all(alloc, node, net, &listener, count, out),
+        Ok(listener) => {
+            say_port(net, &listener, out)?;
+            serve_all(rt, alloc, shared, settings, net, &listener, count)
+        }
         Err(_) => Err(Fault::Device),
     }
 }
 
-// Says the port of a listener, and serves the streams that it lets in.
-fn serve_all<D: Disk, N: Network, W: Write>(
+// Serves the streams that a listener lets in.
+fn serve_all<R, D, N>(
+    rt: &R,
     alloc: Global,
-    node: &mut Node<D>,
+    shared: &Shared<D>,
+    settings: &Settings,
     net: &mut N,
     listener: &N::Listener,
     count: Option<u64>,
-    out: &mut W,
 ) -> Result<(), Fault>
-    ensures listened { HasListened N.calls N.Stream.remaining N.Writer.contents listener.now count net.old (machine node.old) (W.contents out.old) result net.new (machine node.new) (W.contents out.new) }
-    ensures journaled { IsJournaled D.is_modelled D.life (core_in node.old) (core_in node.new) }
-{
-    calls_go_on::<D>();
-    node.core().is_durable();
-    say_port(net, listener, out)?;
-    'serving: for _ in 0..count.unwrap_or(u64::MAX) {
-        let Ok(stream) = net.accept(listener) else {
-            return Err(Fault::Device);
-        };
-        consider_checkpoint(node);
-        converse(alloc, node, net, stream)?;
-    }
-    Ok(())
-}
-
-// Writes a checkpoint where one is due. Where it has no room, or memory is refused, the node goes on without;
-// where the device fails, the next conversation tells.
-fn consider_checkpoint<D: Disk>(node: &mut Node<D>)
-    ensures checkpointed { MayCheckpoint (machine node.old) (machine node.new) }
-    ensures journaled { IsJournaled D.is_modelled D.life (core_in node.old) (core_in node.new) }
-{
-    calls_go_on::<D>();
-    node.core().is_durable();
-    if node.is_checkpoint_due() {
-        let _ = node.checkpoint();
-    }
-}
-
-// Serves one stream.
-fn converse<D: Disk, N: Network>(
-    alloc: Global,
-    node: &mut Node<D>,
-    net: &mut N,
-    stream: N::Stream,
-) -> Result<(), Fault>
-    ensures heard { IsHeard N.calls N.Stream.remaining N.Writer.contents stream net.old (machine node.old) net.new (machine node.new) }
-    ensures journaled { IsJournaled D.is_modelled D.life (core_in node.old) (core_in node.new) }
-    ensures cause { IfErr result IsOfDevice }
-{
-    calls_go_on::<D>();
-    node.core().is_durable();
-    let mut reader = stream;
-    let Ok(mut writer) = net.writer(&reader) else {
-        return Ok(());
-    };
-    match serve_one(alloc, node, &mut reader, &mut writer) {
-        Served::Done | Served::ReadFault => Ok(()),
-        Served::WriteFault => go_on(node),
-        Served::DeviceFailed => Err(Fault::Device),
-        Served::NoMemory => Err(Fault::NoMemory),
-    }
-}
-
-// A stream that failed ends its own conversation alone, unless the device has failed too.
-fn go_on<D: Disk>(node: &Node<D>) -> Result<(), Fault>
+where
+    R: Threads + Wait + Sync,
+    D: Disk + Send + Drop,
+    N: Network,
+    N::Stream: Send,
+    N::Writer: Send,
     ensures { IfErr result IsOfDevice }
 {
-    if node.core().is_failed() {
+    let mut streams = LetIn {
+        net,
+        listener,
+        left: count.unwrap_or(u64::MAX),
+        has_failed: false,
+    };
+    serve_streams(rt, alloc, shared, settings, &OpenGate, &mut streams)?;
+    if streams.has_failed {
         return Err(Fault::Device);
     }
     Ok(())
+}
+
+// How serving ends: a device that has failed is told.
+fn end_of<D: Disk + Drop>(shared: Shared<D>) -> Result<(), Fault>
+    ensures { IfErr result IsOfDevice }
+{
+    let book = shared.close();
+    if book.core().is_failed() {
+        return Err(Fault::Device);
+    }
+    Ok(())
+}
+
+/// The streams that a listener lets in, so many at most. None comes once letting one in has failed.
+#[derive(Drop)]
+struct LetIn<'a, N: Network> {
+    net: &'a mut N,
+    listener: &'a N::Listener,
+    left: u64,
+    has_failed: bool,
+}
+
+impl<N: Network> Streams for LetIn<'_, N> {
+    type Reader = N::Stream;
+
+    type Writer = N::Writer;
+
+    fn next(&mut self) -> Option<(N::Stream, N::Writer)> {
+        let left = self.left;
+        for tried in 0..left {
+            self.left = left - 1 - tried;
+            let Ok(stream) = self.net.accept(self.listener) else {
+                self.has_failed = true;
+                self.left = 0;
+                return None;
+            };
+            // A stream without a second handle is closed.
+            if let Ok(writer) = self.net.writer(&stream) {
+                return Some((stream, writer));
+            }
+        }
+        None
+    }
 }
 
 // Says the port of a listener.

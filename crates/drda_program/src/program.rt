@@ -1,46 +1,66 @@
 //! The program.
 
-ghost use Rattle.std.specs.Prelude.{◌≡◌, ◌≢◌, ◌⊎◌, Err, None, Some, map, string_bytes};
+ghost use Rattle.std.specs.Prelude.{◌≡◌, ◌≢◌, ◌⊎◌, ℕ, [], Err, List, None, Some, map, string_bytes};
+ghost use Rattle.std.specs.Io.KnownBytes.{Appends};
 ghost use Rattle.command_line.specs.Job.{plain_job, said};
-ghost use Rattle.drda_program.specs.Program.{Does, Exits, Lists, Makes, seen, surroundings};
+ghost use Rattle.drda_program.specs.Program.{Checks, Does, Exits, Lists, Makes, TellsRoom, seen, surroundings};
 
 use crate::doubts::doubt_text;
 use crate::fault::Fault;
 use crate::files::StoreFiles;
-use crate::listening::serve_file;
+use crate::logins::{pipe, serve};
 use crate::network::Network;
-use crate::records::{answer_file, answer_in_memory};
+use crate::rooms::room_text;
 use crate::stores::{make_file, open_file};
 use crate::streams::{flush, tell};
+use crate::version::tell_version;
 use command_line::{Job, job_of};
-use drda_node::{Ready, write_whole};
+use drda_node::Ready;
+use hearing::write_whole;
 use recovery::laws::records_lead_to_sound_states;
 use std::alloc::Global;
 use std::convert::AsStr;
 use std::io::{Read, Write};
+use std::sync::Wait;
+use std::thread::Threads;
 use store_check::checkpoints_are_known;
 
 /// Does what the words say, the program's name first, and answers the exit status; a fault's line goes
-/// to `err`, behind the text of the command-line parser where that has one, and nothing else does.
-/// Faults are found in this order: arguments, file, store, run.
+/// to `err`, behind the text of the command-line parser where that has one and the files' reason where a
+/// file can't be had, and nothing else does. Faults are found in this order: arguments, login, file,
+/// store, run.
 ///
 /// - `init PATH --size N --rdb NAME` makes a store in a new file, and says its size.
 /// - `pipe [PATH] [--rdb NAME] --user U:P` answers event records from `reader` to `out`, over the store
 ///   of the path, or over one in memory that is just made and has this name.
 /// - `serve PATH --port N --user U:P [--count N]` says its port and serves conversations over sockets,
-///   one after the other.
+///   up to 64 side by side, each in a thread of its own.
 /// - `indoubt PATH` lists the units in doubt of a store.
+/// - `room PATH` tells the name and size of a store, its room, and how many units are in doubt.
+/// - `check PATH` says that a store is whole, where it is.
+/// - `version` tells the program's version.
 ///
-/// The status is 0 where the job was done; 1 where the words ask for none, or for a store of a size or
-/// name that none has; 2 where a file, a port or a stream failed, the last flush included; 3 where a file
+/// In the place of `--user U:P` may stand `--user-file FILE`, a file that holds U:P.
+///
+/// The status is 0 where the job was done; 1 where the words ask for none, for a store of a size or
+/// name that none has, or for a login in a file that holds none; 2 where a file, a port or a stream failed, the last flush included; 3 where a file
 /// is no store or a damaged one; 4 where what came is no event; 5 where memory was refused.
 ///
 /// Of a store in a file all is said of the disk that opening its path gave: `indoubt` lists the units in
-/// doubt of the state that it opens to, in the order of their bytes; `pipe` and `serve` answer as a machine
-/// does that begins with that state, and what their calls left on it is journaled; `init` has made it a fresh
-/// store of the size and name that were asked. Where a disk may give back something else than what was
-/// written, no state is said of it.
-pub fn run_words<S: AsStr, F: StoreFiles, N: Network, R: Read + Ready, W: Write, E: Write>(
+/// doubt of the state that it opens to, in the order of their bytes; `pipe` answers as a machine does that
+/// begins with that state, and what its calls left on it is journaled; `serve` lets its conversations ask a
+/// core that begins with that state, under one lock; `init` has made it a fresh store of the size and name that
+/// were asked. Where a disk may give back something else than what was written, no state is said of it.
+pub fn run_words<
+    T: Threads + Wait + Sync,
+    S: AsStr,
+    F: StoreFiles,
+    N: Network,
+    R: Read + Ready,
+    W: Write,
+    E: Write,
+>(
+    rt: &T,
     alloc: Global,
     words: &[S],
     files: &mut F,
@@ -49,23 +69,48 @@ pub fn run_words<S: AsStr, F: StoreFiles, N: Network, R: Read + Ready, W: Write,
     out: &mut W,
     err: &mut E,
 ) -> u8
-    ensures { Exits (surroundings F.calls F.Disk.is_modelled F.Disk.life N.calls N.Stream.remaining N.Writer.contents) (said (map S.text words.now))
+where
+    F::Disk: Send,
+    N::Stream: Send,
+    N::Writer: Send,
+    ensures { Exits (surroundings F.calls F.Disk.is_modelled F.Disk.life N.calls) (said (map S.text words.now))
         (R.remaining reader.old) (seen files.old net.old (W.contents out.old)) result (seen files.new net.new (W.contents out.new))
         (E.contents err.old) (E.contents err.new) }
 {
     let mut text = String::new(alloc);
-    match try_words(alloc, words, files, net, reader, out, &mut text) {
+    match try_words(rt, alloc, words, files, net, reader, out, &mut text) {
         Ok(()) => 0,
         Err(fault) => {
             let _ = write_whole(err, text.as_bytes());
+            explain(fault, files, err);
             fault.say(alloc, err);
             fault.status()
         }
     }
 }
 
+// Writes why a file can't be had, where that is the fault and is known, or as much of it as can be written.
+fn explain<F: StoreFiles, E: Write>(fault: Fault, files: &F, err: &mut E)
+    ensures { (told : List ℕ) × (fault ≢ Fault.Device → told ≡ []) × Appends (E.contents err.old) (E.contents err.new) told }
+{
+    match fault {
+        Fault::Device => {
+            let _ = write_whole(err, files.reason().as_bytes());
+        }
+        _ => {}
+    }
+}
+
 // Does what the words say. What the parser of words has to say of a mistake is appended to `text`.
-fn try_words<S: AsStr, F: StoreFiles, N: Network, R: Read + Ready, W: Write>(
+fn try_words<
+    T: Threads + Wait + Sync,
+    S: AsStr,
+    F: StoreFiles,
+    N: Network,
+    R: Read + Ready,
+    W: Write,
+>(
+    rt: &T,
     alloc: Global,
     words: &[S],
     files: &mut F,
@@ -74,16 +119,21 @@ fn try_words<S: AsStr, F: StoreFiles, N: Network, R: Read + Ready, W: Write>(
     out: &mut W,
     text: &mut String,
 ) -> Result<(), Fault>
+where
+    F::Disk: Send,
+    N::Stream: Send,
+    N::Writer: Send,
     ensures does { ((result ≡ Err Fault.NoMemory) × (seen files.new net.new (W.contents out.new) ≡ seen files.old net.old (W.contents out.old)))
-        ⊎ Does (surroundings F.calls F.Disk.is_modelled F.Disk.life N.calls N.Stream.remaining N.Writer.contents) (said (map S.text words.now))
+        ⊎ Does (surroundings F.calls F.Disk.is_modelled F.Disk.life N.calls) (said (map S.text words.now))
         (R.remaining reader.old) (seen files.old net.old (W.contents out.old)) result (seen files.new net.new (W.contents out.new)) }
     ensures quiet { said (map S.text words.now) ≢ None → string_bytes text.new ≡ string_bytes text.old }
 {
     let job = job_of(alloc, words, text)?;
-    do_job(alloc, job, files, net, reader, out)
+    do_job(rt, alloc, job, files, net, reader, out)
 }
 
-fn do_job<F: StoreFiles, N: Network, R: Read + Ready, W: Write>(
+fn do_job<T: Threads + Wait + Sync, F: StoreFiles, N: Network, R: Read + Ready, W: Write>(
+    rt: &T,
     alloc: Global,
     job: Job<'_>,
     files: &mut F,
@@ -91,28 +141,26 @@ fn do_job<F: StoreFiles, N: Network, R: Read + Ready, W: Write>(
     reader: &mut R,
     out: &mut W,
 ) -> Result<(), Fault>
-    ensures { Does (surroundings F.calls F.Disk.is_modelled F.Disk.life N.calls N.Stream.remaining N.Writer.contents) (Some (plain_job job.entry))
+where
+    F::Disk: Send,
+    N::Stream: Send,
+    N::Writer: Send,
+    ensures { Does (surroundings F.calls F.Disk.is_modelled F.Disk.life N.calls) (Some (plain_job job.entry))
         (R.remaining reader.old) (seen files.old net.old (W.contents out.old)) result (seen files.new net.new (W.contents out.new)) }
 {
     match job {
         Job::Init { path, size, rdb } => init(alloc, files, path, size, rdb, out),
-        Job::Pipe {
-            path: None,
-            rdb,
-            login,
-        } => answer_in_memory(alloc, rdb, login, reader, out),
-        Job::Pipe {
-            path: Some(path),
-            rdb: _,
-            login,
-        } => answer_file(alloc, files, path, login, reader, out),
+        Job::Pipe { path, rdb, login } => pipe(alloc, files, path, rdb, login, reader, out),
         Job::Serve {
             path,
             port,
             login,
             count,
-        } => serve_file(alloc, files, net, path, port, login, count, out),
+        } => serve(rt, alloc, files, net, path, port, login, count, out),
         Job::InDoubt { path } => list_doubts(alloc, files, path, out),
+        Job::Room { path } => tell_room(alloc, files, path, out),
+        Job::Check { path } => check(alloc, files, path, out),
+        Job::Version => tell_version(out),
     }
 }
 
@@ -148,4 +196,33 @@ fn list_doubts<F: StoreFiles, W: Write>(
     let core = open_file(alloc, files, path)?;
     let text = doubt_text(alloc, core.in_doubt())?;
     tell(&text, out)
+}
+
+// Tells how much a store holds.
+fn tell_room<F: StoreFiles, W: Write>(
+    alloc: Global,
+    files: &mut F,
+    path: &str,
+    out: &mut W,
+) -> Result<(), Fault>
+    ensures { TellsRoom F.Disk.is_modelled F.Disk.life F.calls path.now files.old (W.contents out.old) result files.new (W.contents out.new) }
+{
+    records_lead_to_sound_states();
+    checkpoints_are_known();
+    let core = open_file(alloc, files, path)?;
+    let text = room_text(alloc, core)?;
+    tell(&text, out)
+}
+
+// Opens a store, which reads all of it.
+fn check<F: StoreFiles, W: Write>(
+    alloc: Global,
+    files: &mut F,
+    path: &str,
+    out: &mut W,
+) -> Result<(), Fault>
+    ensures { Checks F.Disk.is_modelled F.Disk.life F.calls path.now files.old (W.contents out.old) result files.new (W.contents out.new) }
+{
+    let _ = open_file(alloc, files, path)?;
+    tell("whole\n", out)
 }

@@ -10,27 +10,33 @@ use std::process::ExitCode;
 const STREAM_BUFFER: usize = 65536;
 
 fn main(rt: HostRuntime) -> ExitCode {
-    match serve(&rt) {
-        Ok(status) => ExitCode::from(status),
-        Err(_) => {
-            let fault = Fault::NoMemory;
-            fault.say(rt.alloc(), &mut rt.stderr());
-            ExitCode::from(fault.status())
-        }
-    }
-}
-
-fn serve(rt: &HostRuntime) -> anyhow::Result<u8> {
     let alloc = rt.alloc();
-    let words: Vec<String> = std::env::args(rt)?.collect(alloc)?;
-    let mut reader = BufReader::with_capacity(alloc, STREAM_BUFFER, rt.stdin())?;
-    Ok(run_words(
+    let Ok(words) = words(&rt) else {
+        return without_memory(&rt);
+    };
+    let Ok(mut reader) = BufReader::with_capacity(alloc, STREAM_BUFFER, rt.stdin()) else {
+        return without_memory(&rt);
+    };
+    ExitCode::from(run_words(
+        &rt,
         alloc,
         words.as_slice(),
-        &mut SystemFiles::new(rt),
-        &mut SystemNetwork::new(rt),
+        &mut SystemFiles::new(alloc, &rt),
+        &mut SystemNetwork::new(&rt),
         &mut reader,
         &mut rt.stdout(),
         &mut rt.stderr(),
     ))
+}
+
+// The words of the command line, the program's name first.
+fn words(rt: &HostRuntime) -> anyhow::Result<Vec<String>> {
+    Ok(std::env::args(rt)?.collect(rt.alloc())?)
+}
+
+// Tells that there was no memory for the words or for what is read.
+fn without_memory(rt: &HostRuntime) -> ExitCode {
+    let fault = Fault::NoMemory;
+    fault.say(rt.alloc(), &mut rt.stderr());
+    ExitCode::from(fault.status())
 }

@@ -1,8 +1,10 @@
-//! What a conversation hears: pieces of bytes that come to it, whoever it asks.
+//! What a conversation hears: pieces of bytes that come to it, whoever it asks; and its answers, written whole.
 #![tactic(auto)]
 
 mod fed;
 mod feeding;
+mod writing;
 
 pub use fed::{Fed, FedState, Heard};
 pub use feeding::{feed, feed_all};
+pub use writing::write_whole;

@@ -5,7 +5,7 @@ ghost use Rattle.std.specs.Borrow.{ftrue};
 ghost use Rattle.unit_journal.specs.Record.{Entry};
 ghost use Rattle.journal_recorder.specs.Kinds.{kind_for};
 
-use std::marker::{Model, PhantomData};
+use std::marker::{Model, PhantomData, Send};
 
 /// The records that were made so far, or begun where the device failed, in their order. It takes no
 /// memory.
@@ -34,3 +34,6 @@ impl MadeRecords {
         ensures { self.new.entries ≡ self.old.entries ++ record { kind = kind_for (slice_index _kind.now 0); body = _body.now } ∷ [] }
     {}
 }
+
+// It holds nothing, so it may go to another thread.
+unsafe impl Send for MadeRecords {}

@@ -1,12 +1,13 @@
 //! Conversations over a device that fails in a commit, and what a crash leaves then.
 
 use crate::endings::ends_so;
-use crate::stories::{Act, CREATE, CREATED, FIRST_ROW, ONE, Step, TWO, is_told, push_piece};
+use crate::stories::{Act, CREATE, ONE, Step, TWO, is_told, push_piece};
 use drda_disk::{FuseDisk, MemDisk};
 use drda_node::{Node, RunEnd, run};
 use std::alloc::Global;
 use std::test::Fail;
 use test_bytes::COMMITTED;
+use test_bytes::sentences::{CREATED, FIRST_ROW};
 use test_nodes::{fresh_store, node_over};
 
 // AGNPRMRM.

@@ -4,6 +4,9 @@ use crate::endings::ends_so;
 use drda_disk::Disk;
 use drda_node::{Node, RunEnd};
 use std::alloc::Global;
+use test_bytes::sentences::{
+    CLASH, CREATED, DUPLICATE, FIRST_ROW, NEXT_ROW, XA_END, XA_OK, XA_START,
+};
 use test_bytes::*;
 use test_nodes::node_of;
 
@@ -30,23 +33,6 @@ const COMMIT: &str = "000A D001 0006 0004 200E";
 
 const ROLLBACK: &str = "000A D001 0006 0004 200F";
 
-// The SQLCARDs: no row and one row changed (behind RDBUPDRM, where it is the unit's first change), and SQLCODE
-// -803 and -913.
-pub const CREATED: &str = "0026 D052 0006 0020 2218 0006 1149 0000 0016 2110 53484F50 20*14
-    0047 D003 0006 0041 2408 00 00000000 3030303030 5244413031303030 00 00*8 00000000 00*12 20*11 0000 0000 0000 FF";
-
-pub const FIRST_ROW: &str = "0026 D052 0006 0020 2218 0006 1149 0000 0016 2110 53484F50 20*14
-    0047 D003 0006 0041 2408 00 00000000 3030303030 5244413031303030 00 00*8 00000001 00*12 20*11 0000 0000 0000 FF";
-
-const NEXT_ROW: &str =
-    "0047 D003 0006 0041 2408 00 00000000 3030303030 5244413031303030 00 00*8 00000001 00*12 20*11 0000 0000 0000 FF";
-
-const DUPLICATE: &str =
-    "0047 D003 0006 0041 2408 00 FFFFFCDD 3233353035 5244413031303030 00 00*8 00000000 00*12 20*11 0000 0000 0000 FF";
-
-const CLASH: &str =
-    "0047 D003 0006 0041 2408 00 FFFFFC6F 3537303333 5244413031303030 00 00*8 00000000 00*12 20*11 0000 0000 0000 FF";
-
 const ROLLED_BACK: &str =
     "0015 D052 0006 000F 220C 0006 1149 0004 0005 2115 02 000B D003 0006 0005 2408 FF";
 
@@ -68,15 +54,7 @@ const EXECUTE: &str = "004E D001 0006 0048 200B 0044 2113 40*64";
 const WRONG_VALUES: &str =
     "0047 D003 0006 0041 2408 00 FFFFFEC7 3037303031 5244413031303030 00 00*8 00000000 00*12 20*11 0000 0000 0000 FF";
 
-// A start and an end of the branch with the global part G and the branch part B, SYNCCRD with 0, and CMDVLTRM.
-const START: &str =
-    "0021 D001 0006 001B 1055 0005 1187 09 0012 1801 00000001 00000001 00000001 47 42";
-
-const END: &str =
-    "0029 D001 0006 0023 1055 0005 1187 0B 0012 1801 00000001 00000001 00000001 47 42 0008 1903 04000000";
-
-const XA_OK: &str = "0012 D003 0006 000C 1248 0008 1904 00000000";
-
+// CMDVLTRM.
 const NOT_INSIDE: &str = "0026 D002 0006 0020 221D 0006 1149 0008 0016 2110 53484F50 20*14";
 
 pub const CREATE: &str = "CREATE TABLE T (K INTEGER NOT NULL, V VARCHAR(600), PRIMARY KEY (K))";
@@ -135,10 +113,10 @@ const STORIES: [&[Step]; 5] = [
     // Inside of a global unit a conversation ends no unit of its own; behind its end it does.
     &[
         (0, Act::Opens, ""),
-        (0, Act::Sends(START), XA_OK),
+        (0, Act::Sends(XA_START), XA_OK),
         (0, Act::Commits, NOT_INSIDE),
         (0, Act::RollsBack, NOT_INSIDE),
-        (0, Act::Sends(END), XA_OK),
+        (0, Act::Sends(XA_END), XA_OK),
         (0, Act::Commits, COMMITTED),
         (0, Act::RollsBack, ROLLED_BACK),
     ],

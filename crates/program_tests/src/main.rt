@@ -12,19 +12,20 @@ use std::io::{self, Write};
 use std::process::ExitCode;
 
 fn main(rt: HostRuntime) -> ExitCode {
-    match try_all(&rt) {
-        Ok(true) => ExitCode::from(0),
+    let Ok(text) = io::read_to_string(rt.alloc(), rt.stdin()) else {
+        return ExitCode::from(1);
+    };
+    let mut trials = Trials::new(&rt, rt.alloc());
+    let is_done = trials.follow(&text).is_some();
+    match tell(&rt, trials.written()) {
+        Ok(()) if is_done => ExitCode::from(0),
         _ => ExitCode::from(1),
     }
 }
 
-// Whether each line was tried.
-fn try_all(rt: &HostRuntime) -> io::Result<bool> {
-    let text = io::read_to_string(rt.alloc(), rt.stdin())?;
-    let mut trials = Trials::new(rt.alloc());
-    let is_done = trials.follow(&text).is_some();
+// Writes what the trials came to.
+fn tell(rt: &HostRuntime, written: &[u8]) -> io::Result<()> {
     let mut out = rt.stdout();
-    out.write_all(trials.written())?;
-    out.flush()?;
-    Ok(is_done)
+    out.write_all(written)?;
+    out.flush()
 }

@@ -3,6 +3,7 @@
 use drda_disk::{Disk, FileFault, FuseDisk, MemDisk};
 use drda_program::StoreFiles;
 use std::alloc::Global;
+use std::io::{self, ErrorKind};
 use test_bytes::{ACCRDB, ACCSEC, EXCSAT_ALONE, RDBCMM, SECCHK_ALONE, bytes_of};
 use test_nodes::{fresh_store, node_of};
 
@@ -14,7 +15,7 @@ const CREATE: &str = "000A D051 0006 0004 200A 0044 D003 0006 003E 2414 00 00000
 
 /// Files by their names: `store` is a fresh store SHOP, `doubt` one with a unit in doubt, `zeros` none at
 /// all, and `damaged` one whose journal begins with a record of an unknown kind. The one that can be made
-/// is `new`.
+/// is `new`. The private texts `login`, `line` and `carriage` hold a login, `lines`, `blank` and `colon` none.
 #[derive(Drop)]
 pub struct Shelf {
     alloc: Global,
@@ -22,6 +23,8 @@ pub struct Shelf {
     pub made: usize,
     // Behind how many calls the device of a file fails.
     calls: u64,
+    // Why the last private text was not read.
+    reason: &'static str,
 }
 
 impl Shelf {
@@ -31,6 +34,7 @@ impl Shelf {
             alloc,
             made: 0,
             calls,
+            reason: "",
         }
     }
 }
@@ -61,6 +65,26 @@ impl StoreFiles for Shelf {
             Some(disk) => Ok(FuseDisk::new(disk, self.calls, false)),
             None => Err(FileFault::InUse),
         }
+    }
+
+    fn read_private(&mut self, alloc: Global, path: &str) -> io::Result<String> {
+        let text = match path {
+            "login" => "ana:pw",
+            "line" => "ana:pw\n",
+            "carriage" => "ana:p:w\r\n",
+            "lines" => "ana:pw\n\n",
+            "blank" => "",
+            "colon" => "ana\n",
+            _ => {
+                self.reason = "drdad: it is not on the shelf\n";
+                return Err(io::Error::from(ErrorKind::NotFound));
+            }
+        };
+        Ok(String::from_str(alloc, text)?)
+    }
+
+    fn reason(&self) -> &str {
+        self.reason
     }
 }
 

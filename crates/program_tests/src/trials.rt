@@ -6,6 +6,9 @@ use crate::streams::{Broken, Unflushed};
 use drda_program::{Ready, run_words};
 use std::alloc::Global;
 use std::io::{Read, Write};
+use std::marker::Sync;
+use std::sync::Wait;
+use std::thread::Threads;
 use test_bytes::bytes_of;
 
 /// What a trial is about: behind how many calls devices fail, the network, and the input.
@@ -27,7 +30,8 @@ struct Ended {
 
 /// What became of the trials.
 #[derive(Drop)]
-pub struct Trials {
+pub struct Trials<'r, T> {
+    rt: &'r T,
     alloc: Global,
     written: Vec<u8>,
 }
@@ -50,7 +54,8 @@ fn callers_of<'a>(scene: &Scene<'a>) -> Callers<'a> {
 }
 
 // The program over these words and streams.
-fn end_of<R: Read + Ready, W: Write>(
+fn end_of<T: Threads + Wait + Sync, R: Read + Ready, W: Write>(
+    rt: &T,
     alloc: Global,
     words: &[&str],
     scene: &Scene<'_>,
@@ -60,7 +65,9 @@ fn end_of<R: Read + Ready, W: Write>(
     let mut files = Shelf::new(alloc, scene.calls);
     let mut net = callers_of(scene);
     let mut err = Vec::new(alloc);
-    let status = run_words(alloc, words, &mut files, &mut net, reader, out, &mut err);
+    let status = run_words(
+        rt, alloc, words, &mut files, &mut net, reader, out, &mut err,
+    );
     Ended {
         status,
         made: files.made,
@@ -82,10 +89,11 @@ fn way_of(name: &str) -> Option<Way> {
     }
 }
 
-impl Trials {
+impl<'r, T: Threads + Wait + Sync> Trials<'r, T> {
     /// None so far.
-    pub fn new(alloc: Global) -> Trials {
+    pub fn new(rt: &'r T, alloc: Global) -> Trials<'r, T> {
         Trials {
+            rt,
             alloc,
             written: Vec::new(alloc),
         }
@@ -148,19 +156,19 @@ impl Trials {
     fn whole(&mut self, words: &[&str], scene: &Scene<'_>) -> Option<()> {
         let mut reader = scene.input;
         let mut out = Vec::new(self.alloc);
-        let ended = end_of(self.alloc, words, scene, &mut reader, &mut out);
+        let ended = end_of(self.rt, self.alloc, words, scene, &mut reader, &mut out);
         self.tell(&ended, &out)
     }
 
     fn without_input(&mut self, words: &[&str], scene: &Scene<'_>) -> Option<()> {
         let mut out = Vec::new(self.alloc);
-        let ended = end_of(self.alloc, words, scene, &mut Broken, &mut out);
+        let ended = end_of(self.rt, self.alloc, words, scene, &mut Broken, &mut out);
         self.tell(&ended, &out)
     }
 
     fn without_output(&mut self, words: &[&str], scene: &Scene<'_>) -> Option<()> {
         let mut reader = scene.input;
-        let ended = end_of(self.alloc, words, scene, &mut reader, &mut Broken);
+        let ended = end_of(self.rt, self.alloc, words, scene, &mut reader, &mut Broken);
         self.tell(&ended, &[])
     }
 
@@ -169,7 +177,7 @@ impl Trials {
         let mut out = Unflushed {
             taken: Vec::new(self.alloc),
         };
-        let ended = end_of(self.alloc, words, scene, &mut reader, &mut out);
+        let ended = end_of(self.rt, self.alloc, words, scene, &mut reader, &mut out);
         self.tell(&ended, &out.taken)
     }
 
@@ -180,6 +188,7 @@ impl Trials {
         let mut reader = scene.input;
         let mut out = Vec::new(self.alloc);
         let status = run_words(
+            self.rt,
             self.alloc,
             words,
             &mut files,

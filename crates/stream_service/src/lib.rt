@@ -1,6 +1,6 @@
-//! One conversation of a node over a stream: what comes in is heard, and what it is answered goes out.
+//! One conversation over a stream: what comes in is heard, and what it is answered goes out.
 #![tactic(auto)]
 
 mod serving;
 
-pub use serving::{Served, serve_one};
+pub use serving::{Served, serve};

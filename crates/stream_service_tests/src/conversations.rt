@@ -1,13 +1,14 @@
 //! Conversations that are heard whole, one after the other.
 
-use crate::sentences::*;
+use crate::cores::{core_of, serve_over};
 use crate::streams::{Looking, OneByOne};
 use drda_disk::MemDisk;
+use durable_core::DurableCore;
 use std::alloc::Global;
 use std::test::Fail;
-use stream_service::{Served, serve_one};
+use stream_service::Served;
+use test_bytes::sentences::*;
 use test_bytes::*;
-use test_nodes::{Node, node_of};
 
 const CONNECT: [&str; 4] = [EXCSAT_ALONE, ACCSEC, SECCHK_ALONE, ACCRDB];
 
@@ -17,7 +18,7 @@ const CONNECTED: [&str; 4] = [EXCSATRD_ALONE, ACCSECRD, SECCHKRM_ALONE, ACCRDBRM
 // come as many at a time as there are, or byte by byte.
 fn is_done(
     alloc: Global,
-    node: &mut Node<MemDisk>,
+    core: &mut DurableCore<MemDisk>,
     is_slow: bool,
     (requests, replies): (&[&str], &[&str]),
 ) -> Option<bool> {
@@ -31,25 +32,25 @@ fn is_done(
             bytes: &input,
             fails: false,
         };
-        serve_one(alloc, node, &mut reader, &mut out)
+        serve_over(alloc, core, &mut reader, &mut out)
     } else {
         let mut reader = input.as_slice();
-        serve_one(alloc, node, &mut reader, &mut out)
+        serve_over(alloc, core, &mut reader, &mut out)
     };
-    Some(served == Served::Done && out.as_slice() == wanted.as_slice())
+    Some(served == Some(Served::Done) && out.as_slice() == wanted.as_slice())
 }
 
-// Conversations over one node, in this order.
+// Conversations over one core, in this order.
 const TALKS: [(&[&str], &[&str]); 7] = [
     (&[], &[]),
     (&[CREATE, RDBCMM], &[CREATED, COMMITTED]),
     // A unit of work that is left open is gone with its conversation.
-    (&[INSERT], &[FIRST_INSERTED]),
-    (&[INSERT], &[FIRST_INSERTED]),
+    (&[INSERT], &[FIRST_ROW]),
+    (&[INSERT], &[FIRST_ROW]),
     (&[PREPARE, QUERY, RDBCMM], &[PREPARED, NO_ROW, COMMITTED]),
     (
         &[INSERT, RDBCMM, PREPARE, QUERY],
-        &[FIRST_INSERTED, COMMITTED, PREPARED, ONE_ROW],
+        &[FIRST_ROW, COMMITTED, PREPARED, ONE_ROW],
     ),
     // Nothing is heard behind a fault of the framing, and half a command at the end is not done.
     (
@@ -61,9 +62,9 @@ const TALKS: [(&[&str], &[&str]); 7] = [
 #[test]
 fn conversations_follow_each_other(rt: HostRuntime) -> Result<(), Fail> {
     for is_slow in [false, true] {
-        let mut node = node_of(rt.alloc()).ok_or("memory")?;
+        let mut core = core_of(rt.alloc()).ok_or("memory")?;
         for talk in TALKS {
-            let done = is_done(rt.alloc(), &mut node, is_slow, talk);
+            let done = is_done(rt.alloc(), &mut core, is_slow, talk);
             assert_eq!(rt; done, Some(true), "{:?}", talk.0);
         }
     }
@@ -71,27 +72,27 @@ fn conversations_follow_each_other(rt: HostRuntime) -> Result<(), Fail> {
 }
 
 // Whether the insert is cut here, the replies are those to the commands before it, and it is not done.
-fn is_cut(alloc: Global, node: &mut Node<MemDisk>, count: usize) -> Option<bool> {
+fn is_cut(alloc: Global, core: &mut DurableCore<MemDisk>, count: usize) -> Option<bool> {
     let mut input = bytes_of(alloc, &CONNECT).ok()?;
     let insert = bytes_of(alloc, &[INSERT]).ok()?;
     input.extend_from_slice(insert.get(..count)?).ok()?;
     let wanted = bytes_of(alloc, &CONNECTED).ok()?;
     let mut reader = input.as_slice();
     let mut out = Vec::new(alloc);
-    let served = serve_one(alloc, node, &mut reader, &mut out);
-    Some(served == Served::Done && out.as_slice() == wanted.as_slice())
+    let served = serve_over(alloc, core, &mut reader, &mut out);
+    Some(served == Some(Served::Done) && out.as_slice() == wanted.as_slice())
 }
 
 #[test]
 fn half_a_command_is_not_done(rt: HostRuntime) -> Result<(), Fail> {
-    let mut node = node_of(rt.alloc()).ok_or("memory")?;
-    let made = is_done(rt.alloc(), &mut node, false, TALKS[1]);
+    let mut core = core_of(rt.alloc()).ok_or("memory")?;
+    let made = is_done(rt.alloc(), &mut core, false, TALKS[1]);
     assert_eq!(rt; made, Some(true));
     for count in 0..55 {
-        let cut = is_cut(rt.alloc(), &mut node, count);
+        let cut = is_cut(rt.alloc(), &mut core, count);
         assert_eq!(rt; cut, Some(true), "{count}");
     }
-    let inserted = is_done(rt.alloc(), &mut node, false, TALKS[2]);
+    let inserted = is_done(rt.alloc(), &mut core, false, TALKS[2]);
     assert_eq!(rt; inserted, Some(true));
     Ok(())
 }
@@ -99,14 +100,14 @@ fn half_a_command_is_not_done(rt: HostRuntime) -> Result<(), Fail> {
 // A password may stand in it.
 #[test]
 fn what_was_heard_is_overwritten(rt: HostRuntime) -> Result<(), Fail> {
-    let mut node = node_of(rt.alloc()).ok_or("memory")?;
+    let mut core = core_of(rt.alloc()).ok_or("memory")?;
     let input = bytes_of(rt.alloc(), &CONNECT)?;
     let mut reader = Looking {
         bytes: &input,
         finds: false,
     };
     let mut out = Vec::new(rt.alloc());
-    let served = serve_one(rt.alloc(), &mut node, &mut reader, &mut out);
-    assert_eq!(rt; (served, reader.finds), (Served::Done, false));
+    let served = serve_over(rt.alloc(), &mut core, &mut reader, &mut out);
+    assert_eq!(rt; (served, reader.finds), (Some(Served::Done), false));
     Ok(())
 }

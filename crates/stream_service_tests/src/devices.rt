@@ -1,12 +1,12 @@
 //! A device that fails in a conversation.
 
-use crate::sentences::{CREATE, CREATED, INSERT};
+use crate::cores::{core_over, fresh_store, serve_over};
 use drda_disk::FuseDisk;
 use std::alloc::Global;
 use std::io::{self, Read};
-use stream_service::{Served, serve_one};
+use stream_service::Served;
+use test_bytes::sentences::{CREATE, CREATED, INSERT};
 use test_bytes::*;
-use test_nodes::{fresh_store, node_over};
 
 // A stream that gives so many bytes at a time, and counts how often it gave some.
 #[derive(Drop)]
@@ -29,7 +29,7 @@ impl Read for InPieces<'_> {
 // A table is made and committed, in one piece, and a row is inserted in the next ones.
 const FIRST: [&str; 6] = [EXCSAT_ALONE, ACCSEC, SECCHK_ALONE, ACCRDB, CREATE, RDBCMM];
 
-// The commit is answered by AGNPRMRM.
+// The commit is answered by AGNPRMRM, which closes the conversation.
 const FAILED: [&str; 6] = [
     EXCSATRD_ALONE,
     ACCSECRD,
@@ -46,14 +46,14 @@ fn served_behind(alloc: Global, calls: u64) -> Option<(Served, u32, bool)> {
     let mut input = bytes_of(alloc, &FIRST).ok()?;
     let size = input.len();
     push_texts(&mut input, &[INSERT]).ok()?;
-    let mut node = node_over(alloc, FuseDisk::new(fresh_store(alloc)?, calls, false))?;
+    let mut core = core_over(alloc, FuseDisk::new(fresh_store(alloc)?, calls, false))?;
     let mut reader = InPieces {
         bytes: &input,
         size,
         given: 0,
     };
     let mut out = Vec::new(alloc);
-    let served = serve_one(alloc, &mut node, &mut reader, &mut out);
+    let served = serve_over(alloc, &mut core, &mut reader, &mut out)?;
     Some((served, reader.given, out.as_slice() == wanted.as_slice()))
 }
 
@@ -63,7 +63,7 @@ fn places_failed(alloc: Global) -> Option<u32> {
     let mut failed = 0_u32;
     for calls in 0..100 {
         match served_behind(alloc, calls) {
-            Some((Served::DeviceFailed, 1, true)) => failed = failed.saturating_add(1),
+            Some((Served::Done, 1, true)) => failed = failed.saturating_add(1),
             Some((Served::Done, 2, false)) => return Some(failed),
             Some(_) => return None,
             None => {}

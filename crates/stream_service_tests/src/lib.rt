@@ -4,11 +4,11 @@
 #[cfg(test)]
 mod conversations;
 #[cfg(test)]
+mod cores;
+#[cfg(test)]
 mod devices;
 #[cfg(test)]
 mod faults;
-#[cfg(test)]
-mod sentences;
 #[cfg(test)]
 mod sockets;
 #[cfg(test)]

@@ -1,14 +1,15 @@
 //! A conversation over a socket, both of whose ends are in this process.
 
-use crate::sentences::*;
+use crate::cores::{core_of, serve_over};
 use drda_disk::MemDisk;
+use durable_core::DurableCore;
 use std::alloc::Global;
 use std::io::{Read, Write};
 use std::net::{Ipv4Addr, Net, OpenListener, OpenStream, Shutdown, SocketAddr, SocketAddrV4};
 use std::test::Fail;
-use stream_service::{Served, serve_one};
+use stream_service::Served;
+use test_bytes::sentences::{CREATE, CREATED};
 use test_bytes::*;
-use test_nodes::{Node, node_of};
 
 const REQUESTS: [&str; 6] = [EXCSAT_ALONE, ACCSEC, SECCHK_ALONE, ACCRDB, CREATE, RDBCMM];
 
@@ -22,13 +23,17 @@ const REPLIES: [&str; 6] = [
 ];
 
 // Serves the one who waits.
-fn serve<L: OpenListener>(alloc: Global, node: &mut Node<MemDisk>, listener: &L) -> Option<Served>
+fn serve_one<L: OpenListener>(
+    alloc: Global,
+    core: &mut DurableCore<MemDisk>,
+    listener: &L,
+) -> Option<Served>
 where
     L::Stream: Read + Write + OpenStream,
 {
     let (mut reader, _) = listener.accept().ok()?;
     let mut writer = reader.try_clone().ok()?;
-    Some(serve_one(alloc, node, &mut reader, &mut writer))
+    serve_over(alloc, core, &mut reader, &mut writer)
 }
 
 // What a client is answered that sends this, and then no more.
@@ -38,8 +43,8 @@ fn answers_to<N: Net>(alloc: Global, net: &N, request: &[u8]) -> Option<Vec<u8>>
     let mut client = net.connect(listener.local_addr().ok()?).ok()?;
     client.write_all(request).ok()?;
     client.shutdown(Shutdown::Write).ok()?;
-    let mut node = node_of(alloc)?;
-    if serve(alloc, &mut node, &listener)? != Served::Done {
+    let mut core = core_of(alloc)?;
+    if serve_one(alloc, &mut core, &listener)? != Served::Done {
         return None;
     }
     let mut answers = Vec::new(alloc);

@@ -2,6 +2,7 @@
 #![tactic(auto)]
 
 mod hexadecimal;
+pub mod sentences;
 mod texts;
 
 pub use hexadecimal::{bytes_of, push_texts};

@@ -7,8 +7,10 @@ use Rattle.command_line.proofs.app.pipe.Goals as goal
 pub returns : goal.returns
 returns c =
     let about_is : app_of c.about.result ≡ app_of c.new.result = rw c.about.ensures refl in
-    let is-1 = c.in_ok-arg.ensures.shape c.new-2.ensures.optional.1 ∙ ap₂ with_rule (about_is ∙ c.new.ensures.app) c.new-2.ensures.rule in
-    let own-1 = c.in_ok-arg.ensures.globals ∙ neither _ _ (search rules) c.new-2.ensures.optional.1 in
+    let is-1 = c.in_ok-arg.ensures.shape c.word.ensures.own ∙ ap₂ with_rule (about_is ∙ c.new.ensures.app) c.word.ensures.rule in
+    let own-1 = c.in_ok-arg.ensures.globals ∙ neither _ _ (search rules) c.word.ensures.own in
     let is-2 = c.in_ok-arg-2.ensures.shape c.rdb_option.ensures.own ∙ ap₂ with_rule is-1 c.rdb_option.ensures.rule in
     let own-2 = c.in_ok-arg-2.ensures.globals ∙ neither _ _ own-1 c.rdb_option.ensures.own in
-    IfOk-weaker c.arg-3.result _ _ (λ r added. (added.shape c.needed_option.ensures.own ∙ ap₂ with_rule is-2 c.needed_option.ensures.rule, λ old new adds. adds.shape (added.globals ∙ neither _ _ own-2 c.needed_option.ensures.own))) c.arg-3.ensures
+    let is-3 = c.in_ok-arg-3.ensures.shape c.user_option.ensures.own ∙ ap₂ with_rule is-2 c.user_option.ensures.rule in
+    let own-3 = c.in_ok-arg-3.ensures.globals ∙ neither _ _ own-2 c.user_option.ensures.own in
+    IfOk-weaker c.arg-4.result _ _ (λ r added. (added.shape c.user_file_option.ensures.own ∙ ap₂ with_rule is-3 c.user_file_option.ensures.rule, λ old new adds. adds.shape (added.globals ∙ neither _ _ own-3 c.user_file_option.ensures.own))) c.arg-4.ensures

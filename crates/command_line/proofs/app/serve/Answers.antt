@@ -11,6 +11,8 @@ returns c =
     let own-1 = c.in_ok-arg.ensures.globals ∙ neither _ _ (search rules) c.needed_word.ensures.own in
     let is-2 = c.in_ok-arg-2.ensures.shape c.needed_option.ensures.own ∙ ap₂ with_rule is-1 c.needed_option.ensures.rule in
     let own-2 = c.in_ok-arg-2.ensures.globals ∙ neither _ _ own-1 c.needed_option.ensures.own in
-    let is-3 = c.in_ok-arg-3.ensures.shape c.needed_option-2.ensures.own ∙ ap₂ with_rule is-2 c.needed_option-2.ensures.rule in
-    let own-3 = c.in_ok-arg-3.ensures.globals ∙ neither _ _ own-2 c.needed_option-2.ensures.own in
-    IfOk-weaker c.arg-4.result _ _ (λ r added. (added.shape c.option.ensures.own ∙ ap₂ with_rule is-3 c.option.ensures.rule, λ old new adds. adds.shape (added.globals ∙ neither _ _ own-3 c.option.ensures.own))) c.arg-4.ensures
+    let is-3 = c.in_ok-arg-3.ensures.shape c.user_option.ensures.own ∙ ap₂ with_rule is-2 c.user_option.ensures.rule in
+    let own-3 = c.in_ok-arg-3.ensures.globals ∙ neither _ _ own-2 c.user_option.ensures.own in
+    let is-4 = c.in_ok-arg-4.ensures.shape c.user_file_option.ensures.own ∙ ap₂ with_rule is-3 c.user_file_option.ensures.rule in
+    let own-4 = c.in_ok-arg-4.ensures.globals ∙ neither _ _ own-3 c.user_file_option.ensures.own in
+    IfOk-weaker c.arg-5.result _ _ (λ r added. (added.shape c.option.ensures.own ∙ ap₂ with_rule is-4 c.option.ensures.rule, λ old new adds. adds.shape (added.globals ∙ neither _ _ own-4 c.option.ensures.own))) c.arg-5.ensures

@@ -7,4 +7,4 @@ use Rattle.command_line.proofs.words.pipe_in.Goals as goal
 pub returns : goal.returns
 returns c =
     let found = found_of c.args.given.now in
-    c.pipe_by.ensures ∙ ap₂ (λ f x. f x) (ap₂ pipe_by (c.get_str.ensures ∙ first_value-rows found (codes "path")) (c.get_str-2.ensures ∙ first_value-rows found (codes "rdb"))) (c.get_str-3.ensures ∙ first_value-rows found (codes "user"))
+    c.pipe_by.ensures ∙ ap₂ (λ f x. f x) (ap₂ (λ f x. f x) (ap₂ pipe_by (c.get_str.ensures ∙ first_value-rows found (codes "path")) (c.get_str-2.ensures ∙ first_value-rows found (codes "rdb"))) (c.get_str-3.ensures ∙ first_value-rows found (codes "user"))) (c.get_str-4.ensures ∙ first_value-rows found (codes "user-file"))

@@ -1,0 +1,80 @@
+//! Books whose journals fill.
+
+use crate::books::{Told, book_of, commit, run};
+use drda_disk::{Disk, MemDisk};
+use row_values::Value;
+use shared_node::{Book, Pass};
+use std::alloc::{AllocError, Global};
+use std::test::Fail;
+
+const CREATE: &str = "CREATE TABLE B (K INTEGER NOT NULL, V VARCHAR(2000), PRIMARY KEY (K))";
+
+const INSERT: &str = "INSERT INTO B VALUES (1, 'x')";
+
+const UPDATE: &str = "UPDATE B SET V = ?";
+
+// A text of 2,000 letters.
+fn letters(alloc: Global) -> Result<String, AllocError> {
+    let mut text = String::new(alloc);
+    for _ in 0..2_000 {
+        text.push('x')?;
+    }
+    Ok(text)
+}
+
+// Runs a statement, and commits it. Whether both were done.
+fn is_committed<D: Disk>(
+    alloc: Global,
+    book: &mut Book<D>,
+    pass: &mut Pass,
+    text: &str,
+    parameters: &[Value<'_>],
+) -> bool {
+    match run(alloc, book, pass, text, parameters) {
+        Some(Told::Count(_)) => commit(book, pass) == Told::Done,
+        _ => false,
+    }
+}
+
+// A book whose one conversation has made a table with a row, and put that anew so many times, with 2,000 letters;
+// each time it has committed. None where a call was not done.
+fn filled(alloc: Global, times: u64) -> Option<Book<MemDisk>> {
+    let mut book = book_of(alloc)?;
+    let mut pass = book.admit()?;
+    let text = letters(alloc).ok()?;
+    let values = [Value::Text(text.as_str())];
+    let mut all = is_committed(alloc, &mut book, &mut pass, CREATE, &[]);
+    all &= is_committed(alloc, &mut book, &mut pass, INSERT, &[]);
+    for _ in 0..times {
+        all &= is_committed(alloc, &mut book, &mut pass, UPDATE, &values);
+    }
+    all.then_some(book)
+}
+
+// The room of a book that was filled so many times, and its room once a checkpoint was considered.
+fn rooms(alloc: Global, times: u64) -> Option<(usize, usize)> {
+    let mut book = filled(alloc, times)?;
+    let room = book.core().room();
+    book.consider_checkpoint();
+    Some((room, book.core().room()))
+}
+
+// The journal has 1,032,191 bytes. Times that it is filled, the least room that is left then, and the least
+// behind a checkpoint: one is due where less than a quarter is left, and was written before what has no room.
+const FILLS: [(u64, usize, usize); 4] = [
+    (0, 1_032_000, 1_032_000),
+    (300, 400_000, 400_000),
+    (400, 200_000, 1_000_000),
+    (600, 800_000, 800_000),
+];
+
+#[test]
+fn a_journal_that_fills_is_followed_by_a_checkpoint(rt: HostRuntime) -> Result<(), Fail> {
+    for (times, least, behind) in FILLS {
+        let (room, left) = rooms(rt.alloc(), times).ok_or("not all was done")?;
+        let (most, limit) = (least.saturating_add(50_000), behind.saturating_add(50_000));
+        assert!(rt; least <= room && room < most, "{times}: {room}");
+        assert!(rt; behind <= left && left < limit, "{times}: {left}");
+    }
+    Ok(())
+}
