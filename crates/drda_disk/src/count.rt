@@ -2,7 +2,7 @@
 ghost use Rattle.std.specs.Prelude.{◌≡◌, ◌+◌, ◌-◌, ◌^◌, ℕ, min};
 ghost use Rattle.std.specs.Borrow.{ftrue};
 
-use std::marker::{Model, PhantomData};
+use std::marker::{Model, PhantomData, Send};
 
 /// A number without a greatest value, which only clauses read. It takes no memory.
 #[derive(Drop)]
@@ -28,6 +28,9 @@ impl Tally {
         ensures { self.new.number ≡ self.old.number + 1 }
     {}
 }
+
+// It holds nothing, so it may go to another thread.
+unsafe impl Send for Tally {}
 
 /// How many calls have failed.
 #[derive(Drop)]

@@ -3,7 +3,7 @@ ghost use Rattle.std.specs.Prelude.{◌≡◌, List, [], ◌∷◌, slice_index}
 ghost use Rattle.std.specs.Borrow.{ftrue};
 ghost use Rattle.drda_disk.specs.Replay.{Step, wrote, synced};
 
-use std::marker::{Model, PhantomData};
+use std::marker::{Model, PhantomData, Send};
 
 /// The writes and syncs so far, the newest first. It takes no memory.
 #[derive(Drop)]
@@ -44,3 +44,6 @@ impl History {
         history
     }
 }
+
+// It holds nothing, so it may go to another thread.
+unsafe impl Send for History {}
