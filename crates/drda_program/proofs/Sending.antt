@@ -1,38 +1,27 @@
--- Threads may share a book under a lock where its disk may go to another thread.
+-- What a thread takes along may go there: a reference to the hall, a pass, a reader and a writer.
+use mathlib.Core.List.{List, [], ◌∷◌}
+use Prim.Native.Nat.{ℕ}
 use denote.RattleType.{RattleType}
-use denote.Param.Send.{IsSend, IsSync, sendable, view_send}
-use denote.Param.SendFields.{declared_send, declared_sync}
-use Rattle.std.proofs.Crossing.{Vec-send, crosses}
+use denote.Ref.{NamedLft}
+use denote.Struct.Field.{row_field}
+use denote.Struct.Tuple.{TupleAt, type_at}
+use denote.Param.Send.{IsSend, IsSync, sendable}
+use denote.Param.SendFields.{as_row_send, declared_send, declared_sync}
+use Rattle.std.proofs.Crossing.{crosses}
 use Rattle.drda_disk.specs.declared.disk.Disk.{Ghosts}
-use Rattle.durable_core.specs.contracts.durable.DurableCore as core
-use Rattle.durable_core.proofs.durable.DurableCore.TheSendSync as core_sends
-use Rattle.shared_node.specs.contracts.book.Book as book
-use Rattle.shared_node.specs.contracts.book.Book.TheInside as inside
-use Rattle.shared_node.specs.contracts.shared.Shared as shared
-use Rattle.shared_node.specs.contracts.calls.CallList as calls
-use Rattle.shared_node.proofs.calls.CallList.TheSendSync as calls_sends
-use Rattle.std.specs.contracts.option.Option as option
-use Rattle.std.proofs.option.Option.TheSendSync as option_sends
-use Rattle.shared_node.specs.contracts.count.Count as count
-use Rattle.shared_node.proofs.count.Count.TheSendSync as count_sends
-use Rattle.shared_node.proofs.pass.Pass.TheSendSync as pass_sends
-use Rattle.shared_node.specs.contracts.pass.Pass as pass
+use Rattle.session_commands.proofs.settings.Settings.TheSendSync as settings_sends
+use Rattle.shared_node.proofs.Sending.{shared_sync}
+use Rattle.drda_program.specs.contracts.threads.Hall as hall
 
-core_send : (T : RattleType) (g : Ghosts T.Denot) → IsSend T → IsSend (core.the_row T g)
-core_send T g s = core_sends.the_send T g s
+pub hall_sync : (l : NamedLft) (D R G : RattleType) (d : Ghosts D.Denot) → IsSend D → IsSync R → IsSync G → IsSync (hall.the_row l D R G d)
+hall_sync l D R G d sends runtime gate =
+    let shared = shared_sync D d sends in
+    declared_sync (hall.the_type l D R G d) (
+      search (sendable, runtime),
+      (search (sendable, crosses) depth 20, (search (sendable, shared), (search (sendable, settings_sends.the_sync) depth 12, (search (sendable, gate), tt)))),
+    )
 
-place_send : IsSend (option.the_row count.the_row)
-place_send = search (option_sends.the_send, count_sends.the_send)
-
-inside_send : (T : RattleType) (g : Ghosts T.Denot) → IsSend T → IsSend (inside.the_row T g)
-inside_send T g s =
-    let c = core_send T g s in declared_send (inside.the_type T g) (c, (search (sendable, crosses), (calls_sends.the_send, (Vec-send (option.the_row count.the_row) place_send, (search sendable, tt)))))
-
-book_send : (T : RattleType) (g : Ghosts T.Denot) → IsSend T → IsSend (book.the_row T g)
-book_send T g s = view_send (inside.the_row T g) _ _ _ _ (inside_send T g s)
-
-pub shared_sync : (T : RattleType) (g : Ghosts T.Denot) → IsSend T → IsSync (shared.the_row T g)
-shared_sync T g s = let b = book_send T g s in declared_sync (shared.the_type T g) (search (sendable, crosses, b) depth 12)
-
-pub pass_send : IsSend pass.the_row
-pass_send = pass_sends.the_send
+-- what a closure takes along, under the name of its type
+pub four_send : (name : List ℕ) (A B C D : RattleType) → IsSend A → IsSend B → IsSend C → IsSend D → IsSend (TupleAt name (A ∷ B ∷ C ∷ D ∷ []))
+four_send name A B C D a b c d =
+    declared_send (type_at name (A ∷ B ∷ C ∷ D ∷ [])) (as_row_send (row_field A) a, (as_row_send (row_field B) b, (as_row_send (row_field C) c, (as_row_send (row_field D) d, tt))))

@@ -1,3 +1,4 @@
 pub mod Counting
 pub mod Leading
 pub mod Opening
+pub mod Sending

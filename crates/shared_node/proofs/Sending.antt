@@ -1,0 +1,33 @@
+-- Threads may share a book under a lock where its disk may go to another thread.
+use denote.RattleType.{RattleType}
+use denote.Param.Send.{IsSend, IsSync, sendable, view_send}
+use denote.Param.SendFields.{declared_send, declared_sync}
+use Rattle.std.proofs.Crossing.{Vec-send, crosses}
+use Rattle.drda_disk.specs.declared.disk.Disk.{Ghosts}
+use Rattle.durable_core.specs.contracts.durable.DurableCore as core
+use Rattle.durable_core.proofs.durable.DurableCore.TheSendSync as core_sends
+use Rattle.shared_node.specs.contracts.book.Book as book
+use Rattle.shared_node.specs.contracts.book.Book.TheInside as inside
+use Rattle.shared_node.specs.contracts.shared.Shared as shared
+use Rattle.shared_node.specs.contracts.calls.CallList as calls
+use Rattle.shared_node.proofs.calls.CallList.TheSendSync as calls_sends
+use Rattle.std.specs.contracts.option.Option as option
+use Rattle.std.proofs.option.Option.TheSendSync as option_sends
+use Rattle.shared_node.specs.contracts.count.Count as count
+use Rattle.shared_node.proofs.count.Count.TheSendSync as count_sends
+
+core_send : (T : RattleType) (g : Ghosts T.Denot) → IsSend T → IsSend (core.the_row T g)
+core_send T g s = core_sends.the_send T g s
+
+place_send : IsSend (option.the_row count.the_row)
+place_send = search (option_sends.the_send, count_sends.the_send)
+
+inside_send : (T : RattleType) (g : Ghosts T.Denot) → IsSend T → IsSend (inside.the_row T g)
+inside_send T g s =
+    let c = core_send T g s in declared_send (inside.the_type T g) (c, (search (sendable, crosses), (calls_sends.the_send, (Vec-send (option.the_row count.the_row) place_send, (search sendable, tt)))))
+
+book_send : (T : RattleType) (g : Ghosts T.Denot) → IsSend T → IsSend (book.the_row T g)
+book_send T g s = view_send (inside.the_row T g) _ _ _ _ (inside_send T g s)
+
+pub shared_sync : (T : RattleType) (g : Ghosts T.Denot) → IsSend T → IsSync (shared.the_row T g)
+shared_sync T g s = let b = book_send T g s in declared_sync (shared.the_type T g) (search (sendable, crosses, b) depth 12)
