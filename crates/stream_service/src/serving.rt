@@ -77,7 +77,7 @@ fn converse<A: Ask, R: Read, W: Write>(
             Ok(count) => count,
             Err(_) => return Served::ReadFault,
         };
-        replies.clear();
+        empty(alloc, &mut replies);
         let heard = feed_all(front, asker, &buffer[..count], &mut replies);
         overwrite(&mut buffer, count);
         let Ok(()) = write_whole(writer, &replies) else {
@@ -92,7 +92,19 @@ fn converse<A: Ask, R: Read, W: Write>(
     Served::ReadFault
 }
 
-ghost use Rattle.std.specs.Prelude.{◌≤◌, ◌++◌, IfOk, drop, length, replicate};
+ghost use Rattle.std.specs.Prelude.{◌≤◌, ◌++◌, [], IfOk, drop, length, replicate};
+
+// Takes out what was written. Where that was long its memory is given back: a conversation that asked for much and
+// then says nothing holds no more than its buffers.
+fn empty(alloc: Global, replies: &mut Vec<u8>)
+    ensures { replies.new.items ≡ [] }
+{
+    if replies.capacity() > PIECE {
+        *replies = Vec::new(alloc);
+    } else {
+        replies.clear();
+    }
+}
 
 // Overwrites so many bytes at the front, since a password may stand in what was heard.
 #[inline(never)]

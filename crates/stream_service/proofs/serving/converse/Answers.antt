@@ -51,7 +51,7 @@ returns-in_default-write_whole g c =
     let first = attended_by c.args.front.now c.args.asker.now in
     let mid = attended_by c.talking.front c.talking.asker in
     let last = attended_by c.feed_all-heard.new.front c.feed_all-heard.new.asker in
-    let out = c.clear.new.self.items in
+    let out = c.empty.new.replies.items in
     let out' = c.feed_all-heard.new.out.items in
     let r0 = g.R.Read.remaining c.args.reader.now in
     let r = g.R.Read.remaining c.talking.reader in
@@ -64,7 +64,7 @@ returns-in_default-write_whole g c =
     let heard = in_part asks c.feed_all-heard.result c.talking.front.settings mid last (take n c.deref.result.now) out out' c.feed_all-heard.ensures.hears in
     let here : HearsPart asks settings mid (take n buffer) [] last out' =
     subst (λ (v : Settings). HearsPart asks v mid (take n buffer) [] last out') c.talking.invariant.settings
-    (subst (λ (z : List ℕ). HearsPart asks c.talking.front.settings mid (take n buffer) z last out') c.clear.ensures.items
+    (subst (λ (z : List ℕ). HearsPart asks c.talking.front.settings mid (take n buffer) z last out') c.empty.ensures
     (subst (λ (z : List ℕ). HearsPart asks c.talking.front.settings mid (take n z) out last out') same heard)) in
     let wrote = subst (λ (z : List ℕ). (count : ℕ) × Appends w w' (take count z)) c.deref-in-talking.ensures.value c.in_default-write_whole.ensures.err in
     breaks_off asks settings more_fault first mid last (take n buffer) out' r0 r r' w0 w w' c.talking.invariant.so_far took here wrote
@@ -84,7 +84,7 @@ returns-in-Closed g c =
     let first = attended_by c.args.front.now c.args.asker.now in
     let mid = attended_by c.talking.front c.talking.asker in
     let last = attended_by c.feed_all-heard.new.front c.feed_all-heard.new.asker in
-    let out = c.clear.new.self.items in
+    let out = c.empty.new.replies.items in
     let out' = c.feed_all-heard.new.out.items in
     let r0 = g.R.Read.remaining c.args.reader.now in
     let r = g.R.Read.remaining c.talking.reader in
@@ -96,7 +96,7 @@ returns-in-Closed g c =
     let took : Consumes r r' (take n buffer) = c.in-Ok-read.ensures.bytes.0 in
     let here : HearsLast asks settings mid (take n buffer) [] last out' =
     subst (λ (v : Settings). HearsLast asks v mid (take n buffer) [] last out') c.talking.invariant.settings
-    (subst (λ (z : List ℕ). HearsLast asks c.talking.front.settings mid (take n buffer) z last out') c.clear.ensures.items
+    (subst (λ (z : List ℕ). HearsLast asks c.talking.front.settings mid (take n buffer) z last out') c.empty.ensures
     (subst (λ (z : List ℕ). HearsLast asks c.talking.front.settings mid (take n z) out last out') same c.in-Closed.ensures.hears)) in
     let wrote : Appends w w' out' = subst (λ (z : List ℕ). Appends w w' z) c.deref-in-talking.ensures.value c.in-Ok-write_whole.ensures.ok in
     closes asks settings more_fault first mid last (take n buffer) out' r0 r r' w0 w w' c.talking.invariant.so_far took here wrote
@@ -116,7 +116,7 @@ returns-in-NoMemory g c =
     let first = attended_by c.args.front.now c.args.asker.now in
     let mid = attended_by c.talking.front c.talking.asker in
     let last = attended_by c.feed_all-heard.new.front c.feed_all-heard.new.asker in
-    let out = c.clear.new.self.items in
+    let out = c.empty.new.replies.items in
     let out' = c.feed_all-heard.new.out.items in
     let r0 = g.R.Read.remaining c.args.reader.now in
     let r = g.R.Read.remaining c.talking.reader in
@@ -129,7 +129,7 @@ returns-in-NoMemory g c =
     let heard = in_part asks c.feed_all-heard.result c.talking.front.settings mid last (take n c.deref.result.now) out out' c.feed_all-heard.ensures.hears in
     let here : HearsPart asks settings mid (take n buffer) [] last out' =
     subst (λ (v : Settings). HearsPart asks v mid (take n buffer) [] last out') c.talking.invariant.settings
-    (subst (λ (z : List ℕ). HearsPart asks c.talking.front.settings mid (take n buffer) z last out') c.clear.ensures.items
+    (subst (λ (z : List ℕ). HearsPart asks c.talking.front.settings mid (take n buffer) z last out') c.empty.ensures
     (subst (λ (z : List ℕ). HearsPart asks c.talking.front.settings mid (take n z) out last out') same heard)) in
     let wrote : Appends w w' out' = subst (λ (z : List ℕ). Appends w w' z) c.deref-in-talking.ensures.value c.in-Ok-write_whole.ensures.ok in
     answers_but_short asks settings more_fault first mid last (take n buffer) out' r0 r r' w0 w w' c.talking.invariant.so_far took here wrote
@@ -149,7 +149,7 @@ talking-preserved g c =
     let first = attended_by c.args.front.now c.args.asker.now in
     let mid = attended_by c.talking.front c.talking.asker in
     let last = attended_by c.feed_all-heard.new.front c.feed_all-heard.new.asker in
-    let out = c.clear.new.self.items in
+    let out = c.empty.new.replies.items in
     let out' = c.feed_all-heard.new.out.items in
     let r0 = g.R.Read.remaining c.args.reader.now in
     let r = g.R.Read.remaining c.talking.reader in
@@ -161,7 +161,7 @@ talking-preserved g c =
     let took : Consumes r r' (take n buffer) = c.in-Ok-read.ensures.bytes.0 in
     let here : HearsAll asks settings mid (take n buffer) [] last out' =
     subst (λ (v : Settings). HearsAll asks v mid (take n buffer) [] last out') c.talking.invariant.settings
-    (subst (λ (z : List ℕ). HearsAll asks c.talking.front.settings mid (take n buffer) z last out') c.clear.ensures.items
+    (subst (λ (z : List ℕ). HearsAll asks c.talking.front.settings mid (take n buffer) z last out') c.empty.ensures
     (subst (λ (z : List ℕ). HearsAll asks c.talking.front.settings mid (take n z) out last out') same c.in-Open.ensures.hears)) in
     let wrote : Appends w w' out' = subst (λ (z : List ℕ). Appends w w' z) c.deref-in-talking.ensures.value c.in-Ok-write_whole.ensures.ok in
     let kept : length c.overwrite.new.bytes ≡ 65536 = omega (arith, lent, full, size) in
