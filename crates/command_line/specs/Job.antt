@@ -1,14 +1,15 @@
 -- What words ask for.
-use Rattle.std.specs.Prelude.{ℕ, Bool, ◌==◌, nat_lt, List, [], ◌∷◌, length, Option, Some, None, codes, bytes_eq, if◌then◌else◌, option_map, option_and_then}
+use Rattle.std.specs.Prelude.{ℕ, Bool, false, ◌==◌, nat_lt, List, [], ◌∷◌, length, Option, Some, None, codes, bytes_eq, if◌then◌else◌, option_map, option_and_then}
 use Rattle.std.specs.List.{position_or_len, before_first, after_first}
 use Rattle.clap.specs.Words.{Kinds, Row, Text, first_of}
 use Rattle.command_line.specs.Grammar.{faults, given}
-use Rattle.command_line.specs.Number.{number_in, port_in}
+use Rattle.command_line.specs.Number.{number_in, port_in, seconds_in}
 use Rattle.command_line.specs.declared.job.Job.{Job as CodeJob}
 use Rattle.command_line.specs.declared.job.Job.TheVariants as code
 use Rattle.command_line.specs.declared.job.Login.{Login as CodeLogin}
 use Rattle.command_line.specs.declared.job.LoginSource.{LoginSource as CodeSource}
 use Rattle.command_line.specs.declared.job.LoginSource.TheVariants as source
+use Rattle.command_line.specs.declared.job.ServeOptions.{ServeOptions}
 
 pub record Login : Type 0 where
   pub user : Text
@@ -24,8 +25,8 @@ pub data Job : Type 0 where
   init : Text → ℕ → Text → Job
   -- perhaps a path, the name
   pipe : Option Text → Text → LoginSource → Job
-  -- the path, the port, perhaps how many conversations
-  serve : Text → ℕ → LoginSource → Option ℕ → Job
+  -- the path, the port, and how conversations are served
+  serve : Text → ℕ → LoginSource → ServeOptions → Job
   in_doubt : Text → Job
   room : Text → Job
   check : Text → Job
@@ -41,7 +42,7 @@ plain_source (source.File path) = in_file path.now
 abbrev pub plain_job : CodeJob → Job
 plain_job (code.Init path size rdb) = init path.now size rdb.now
 plain_job (code.Pipe path rdb login) = pipe (option_map (λ p. p.now) path) rdb.now (plain_source login)
-plain_job (code.Serve path port login count) = serve path.now port (plain_source login) count
+plain_job (code.Serve path port login options) = serve path.now port (plain_source login) options
 plain_job (code.InDoubt path) = in_doubt path.now
 plain_job (code.Room path) = room path.now
 plain_job (code.Check path) = check path.now
@@ -95,13 +96,30 @@ abbrev pub counted : Option Text → Option (Option ℕ)
 counted None = Some None
 counted (Some text) = option_map (λ (n : ℕ). Some n) (number_in text)
 
-abbrev pub serve_with : Text → Option ℕ → Option LoginSource → Option (Option ℕ) → Option Job
-serve_with path (Some port) (Some login) (Some count) = Some (serve path port login count)
-serve_with path port login count = None
+-- the seconds, where some are given
+abbrev pub timed : Option Text → Option (Option ℕ)
+timed None = Some None
+timed (Some text) = option_map (λ (n : ℕ). Some n) (seconds_in text)
 
-abbrev pub serve_by : Option Text → Option Text → Option Text → Option Text → Option Text → Option Job
-serve_by (Some path) (Some port) user file count = serve_with path (port_in port) (source_by user file) (counted count)
-serve_by path port user file count = None
+-- whether a flag is given
+abbrev pub is_given : Option Text → Bool
+is_given None = false
+is_given (Some text) = bytes_eq text (codes "true")
+
+abbrev pub options_with : Option (Option ℕ) → Option (Option ℕ) → Bool → Option ServeOptions
+options_with (Some count) (Some idle) is_logged = Some (record { count = count; idle = idle; is_logged = is_logged })
+options_with count idle is_logged = None
+
+abbrev pub options_by : Option Text → Option Text → Option Text → Option ServeOptions
+options_by count idle log = options_with (counted count) (timed idle) (is_given log)
+
+abbrev pub serve_with : Text → Option ℕ → Option LoginSource → Option ServeOptions → Option Job
+serve_with path (Some port) (Some login) (Some options) = Some (serve path port login options)
+serve_with path port login options = None
+
+abbrev pub serve_by : Option Text → Option Text → Option Text → Option Text → Option ServeOptions → Option Job
+serve_by (Some path) (Some port) user file options = serve_with path (port_in port) (source_by user file) options
+serve_by path port user file options = None
 
 abbrev pub in_doubt_by : Option Text → Option Job
 in_doubt_by path = option_map (λ (p : Text). in_doubt p) path
@@ -121,7 +139,7 @@ abbrev pub said_to : Text → List Row → Option Job
 said_to name rows =
     if bytes_eq name (codes "init") then init_by (value rows (codes "path")) (value rows (codes "size")) (value rows (codes "rdb"))
     else (if bytes_eq name (codes "pipe") then pipe_by (value rows (codes "path")) (value rows (codes "rdb")) (value rows (codes "user")) (value rows (codes "user-file"))
-    else (if bytes_eq name (codes "serve") then serve_by (value rows (codes "path")) (value rows (codes "port")) (value rows (codes "user")) (value rows (codes "user-file")) (value rows (codes "count"))
+    else (if bytes_eq name (codes "serve") then serve_by (value rows (codes "path")) (value rows (codes "port")) (value rows (codes "user")) (value rows (codes "user-file")) (options_by (value rows (codes "count")) (value rows (codes "idle")) (value rows (codes "log")))
     else (if bytes_eq name (codes "indoubt") then in_doubt_by (value rows (codes "path"))
     else (if bytes_eq name (codes "room") then room_by (value rows (codes "path"))
     else (if bytes_eq name (codes "check") then check_by (value rows (codes "path"))

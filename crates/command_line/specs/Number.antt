@@ -26,3 +26,11 @@ port_by (Some n) = if nat_lt n 65536 then Some n else None
 
 abbrev pub port_in : Text → Option ℕ
 port_in text = port_by (number_in text)
+
+-- seconds: one at least, and so few that their milliseconds have 32 bits
+abbrev pub seconds_by : Option ℕ → Option ℕ
+seconds_by None = None
+seconds_by (Some n) = if nat_lt 0 n && nat_lt n 4294968 then Some n else None
+
+abbrev pub seconds_in : Text → Option ℕ
+seconds_in text = seconds_by (number_in text)

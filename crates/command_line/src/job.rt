@@ -18,6 +18,17 @@ pub enum LoginSource<'a> {
     File(&'a str),
 }
 
+/// How conversations are served.
+#[derive(Clone, Copy, Debug)]
+pub struct ServeOptions {
+    /// `--count N`: how many, or without end.
+    pub count: Option<u64>,
+    /// `--idle N`: how many seconds a client may send nothing, 1 to 4,294,967, or for ever.
+    pub idle: Option<u32>,
+    /// `--log`: whether it is told on standard error what becomes of them.
+    pub is_logged: bool,
+}
+
 /// What the words ask for. Contracts see it by `plain_job`.
 #[derive(Clone, Copy, Debug)]
 pub enum Job<'a> {
@@ -35,13 +46,13 @@ pub enum Job<'a> {
         rdb: &'a str,
         login: LoginSource<'a>,
     },
-    /// `serve PATH --port N --user U:P [--count N]`, or with `--user-file FILE`: conversations over sockets,
-    /// so many or without end.
+    /// `serve PATH --port N --user U:P [--count N] [--idle N] [--log]`, or with `--user-file FILE`:
+    /// conversations over sockets.
     Serve {
         path: &'a str,
         port: u16,
         login: LoginSource<'a>,
-        count: Option<u64>,
+        options: ServeOptions,
     },
     /// `indoubt PATH`: the units in doubt of a store.
     InDoubt {

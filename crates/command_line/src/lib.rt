@@ -8,6 +8,6 @@ mod numbers;
 mod texts;
 mod words;
 
-pub use job::{Job, Login, LoginSource};
+pub use job::{Job, Login, LoginSource, ServeOptions};
 pub use logins::login_in_file;
 pub use words::{BadWords, job_of};

@@ -22,3 +22,13 @@ pub(crate) fn port_in(text: &str) -> Option<u16>
         Some(_) | None => None,
     }
 }
+
+/// The seconds that a text is.
+pub(crate) fn seconds_in(text: &str) -> Option<u32>
+    ensures { result ≡ spec.seconds_in text.now }
+{
+    match number_in(text) {
+        Some(number) if 0 < number && number < 4_294_968 => Some(number as u32),
+        Some(_) | None => None,
+    }
+}

@@ -3,9 +3,9 @@
 ghost use Rattle.std.specs.Prelude.{◌≡◌, option_map};
 ghost use Rattle.command_line.specs.Job as spec;
 
-use crate::job::{Job, LoginSource};
+use crate::job::{Job, LoginSource, ServeOptions};
 use crate::logins::login_in;
-use crate::numbers::{number_in, port_in};
+use crate::numbers::{number_in, port_in, seconds_in};
 
 pub(crate) fn init_by<'a>(
     path: Option<&'a str>,
@@ -39,21 +39,37 @@ pub(crate) fn serve_by<'a>(
     port: Option<&'a str>,
     user: Option<&'a str>,
     file: Option<&'a str>,
-    count: Option<&'a str>,
+    options: Option<ServeOptions>,
 ) -> Option<Job<'a>>
-    ensures { option_map spec.plain_job result ≡ spec.serve_by (option_map (λ p. p.now) path.entry) (option_map (λ t. t.now) port.entry) (option_map (λ u. u.now) user.entry) (option_map (λ f. f.now) file.entry) (option_map (λ t. t.now) count.entry) }
+    ensures { option_map spec.plain_job result ≡ spec.serve_by (option_map (λ p. p.now) path.entry) (option_map (λ t. t.now) port.entry) (option_map (λ u. u.now) user.entry) (option_map (λ f. f.now) file.entry) options }
 {
     let (Some(path), Some(port)) = (path, port) else {
         return None;
     };
     let port = port_in(port)?;
     let login = source_by(user, file)?;
-    let count = counted(count)?;
+    let options = options?;
     Some(Job::Serve {
         path,
         port,
         login,
+        options,
+    })
+}
+
+pub(crate) fn options_by(
+    count: Option<&str>,
+    idle: Option<&str>,
+    log: Option<&str>,
+) -> Option<ServeOptions>
+    ensures { result ≡ spec.options_by (option_map (λ t. t.now) count.entry) (option_map (λ t. t.now) idle.entry) (option_map (λ t. t.now) log.entry) }
+{
+    let count = counted(count)?;
+    let idle = timed(idle)?;
+    Some(ServeOptions {
         count,
+        idle,
+        is_logged: is_given(log),
     })
 }
 
@@ -105,5 +121,28 @@ fn counted(text: Option<&str>) -> Option<Option<u64>>
             Some(number) => Some(Some(number)),
             None => None,
         },
+    }
+}
+
+// How many seconds, where that is said.
+fn timed(text: Option<&str>) -> Option<Option<u32>>
+    ensures { result ≡ spec.timed (option_map (λ t. t.now) text.entry) }
+{
+    match text {
+        None => Some(None),
+        Some(text) => match seconds_in(text) {
+            Some(number) => Some(Some(number)),
+            None => None,
+        },
+    }
+}
+
+// Whether a flag is given, by the text that the parser of words gives it.
+fn is_given(text: Option<&str>) -> bool
+    ensures { result ≡ spec.is_given (option_map (λ t. t.now) text.entry) }
+{
+    match text {
+        Some(text) => text == "true",
+        None => false,
     }
 }

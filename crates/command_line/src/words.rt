@@ -7,7 +7,7 @@ ghost use Rattle.command_line.specs.Reading.{Parses, Says, Tells};
 
 use crate::app::drdad;
 use crate::job::Job;
-use crate::texts::{check_by, in_doubt_by, init_by, pipe_by, room_by, serve_by};
+use crate::texts::{check_by, in_doubt_by, init_by, options_by, pipe_by, room_by, serve_by};
 use clap::ArgMatches;
 use clap::error::ErrorKind;
 use std::alloc::{AllocError, Global};
@@ -61,7 +61,8 @@ pub fn parse_words<'a, S: AsStr>(
 
 /// The job that words of `drdad` ask for, the program's name first, lent from them. `NoJob` comes
 /// exactly where they ask for none: they are none of the grammar's, or a number is none, a port has
-/// more than 16 bits, a U:P has no colon, or a login is asked for and there is none or two. What the parser of words has to say is appended to `said`.
+/// more than 16 bits, seconds are 0 or more than 4,294,967, a U:P has no colon, or a login is asked for and there
+/// is none or two. What the parser of words has to say is appended to `said`.
 pub fn job_of<'a, S: AsStr>(
     alloc: Global,
     words: &'a [S],
@@ -116,14 +117,18 @@ fn pipe_in<'a>(given: &ArgMatches<'a>) -> Option<Job<'a>>
 }
 
 fn serve_in<'a>(given: &ArgMatches<'a>) -> Option<Job<'a>>
-    ensures { option_map spec.plain_job result ≡ spec.serve_by (spec.value (rows_of (found_of given.now)) (codes "path")) (spec.value (rows_of (found_of given.now)) (codes "port")) (spec.value (rows_of (found_of given.now)) (codes "user")) (spec.value (rows_of (found_of given.now)) (codes "user-file")) (spec.value (rows_of (found_of given.now)) (codes "count")) }
+    ensures { option_map spec.plain_job result ≡ spec.serve_by (spec.value (rows_of (found_of given.now)) (codes "path")) (spec.value (rows_of (found_of given.now)) (codes "port")) (spec.value (rows_of (found_of given.now)) (codes "user")) (spec.value (rows_of (found_of given.now)) (codes "user-file")) (spec.options_by (spec.value (rows_of (found_of given.now)) (codes "count")) (spec.value (rows_of (found_of given.now)) (codes "idle")) (spec.value (rows_of (found_of given.now)) (codes "log"))) }
 {
     serve_by(
         given.get_str("path"),
         given.get_str("port"),
         given.get_str("user"),
         given.get_str("user-file"),
-        given.get_str("count"),
+        options_by(
+            given.get_str("count"),
+            given.get_str("idle"),
+            given.get_str("log"),
+        ),
     )
 }
 

@@ -1,9 +1,10 @@
 //! Conversations over a network.
 
-ghost use Rattle.std.specs.Prelude.{◌≡◌, IfErr, IfOk, ℕ};
+ghost use Rattle.std.specs.Prelude.{◌≡◌, IfErr, IfOk, IfSome, ℕ};
 ghost use Rattle.std.specs.Io.KnownBytes.{Appends};
 ghost use Rattle.command_line.specs.Job.{plain_login};
 ghost use Rattle.drda_program.specs.Listening.{Listens, port_line};
+ghost use Rattle.drda_program.specs.Network.{IsLimited, LetsIn};
 ghost use Rattle.drda_program.specs.Program.{ServesFile, seen, settings_of, surroundings};
 ghost use Rattle.drda_program.specs.Stores.{IsOfDevice, RefusesName};
 
@@ -13,20 +14,21 @@ use crate::network::Network;
 use crate::stores::open_file;
 use crate::streams::flush;
 use crate::threads::{Streams, serve_streams};
-use command_line::Login;
+use command_line::{Login, ServeOptions};
 use conversation::{Settings, SettingsError};
 use drda_disk::Disk;
 use durable_core::DurableCore;
 use shared_node::{OpenGate, Shared};
 use std::alloc::Global;
-use std::io::Write;
+use std::io::{self, Write};
 use std::net::{Ipv4Addr, SocketAddr, SocketAddrV4};
 use std::sync::Wait;
 use std::thread::Threads;
 
-/// Serves conversations over the store of a path, on a port of 127.0.0.1: so many, or without end, each in a
-/// thread of its own. It ends early where no stream is let in any more; a stream that fails ends its own
-/// conversation alone, and where the device has failed each command is answered so.
+/// Serves conversations over the store of a path, on a port of 127.0.0.1, each in a thread of its own, as the
+/// options say: so many, or without end, and perhaps those alone whose clients go on to send. It ends early where no
+/// stream is let in any more; a stream that fails ends its own conversation alone, and where the device has failed
+/// each command is answered so.
 pub(crate) fn serve_file<R, F, N, W>(
     rt: &R,
     alloc: Global,
@@ -35,7 +37,7 @@ pub(crate) fn serve_file<R, F, N, W>(
     path: &str,
     port: u16,
     login: Login<'_>,
-    count: Option<u64>,
+    options: ServeOptions,
     out: &mut W,
 ) -> Result<(), Fault>
 where
@@ -55,7 +57,7 @@ where
         Ok(shared) => shared,
         Err(_) => return Err(Fault::NoMemory),
     };
-    listen(rt, alloc, &shared, &settings, net, port, count, out)?;
+    listen(rt, alloc, &shared, &settings, net, port, options, out)?;
     end_of(shared)
 }
 
@@ -84,7 +86,7 @@ fn listen<R, D, N, W>(
     settings: &Settings,
     net: &mut N,
     port: u16,
-    count: Option<u64>,
+    options: ServeOptions,
     out: &mut W,
 ) -> Result<(), Fault>
 where
@@ -100,7 +102,7 @@ where
     match net.bind(address) {
         Ok(listener) => {
             say_port(net, &listener, out)?;
-            serve_all(rt, alloc, shared, settings, net, &listener, count)
+            serve_all(rt, alloc, shared, settings, net, &listener, options)
         }
         Err(_) => Err(Fault::Device),
     }
@@ -114,7 +116,7 @@ fn serve_all<R, D, N>(
     settings: &Settings,
     net: &mut N,
     listener: &N::Listener,
-    count: Option<u64>,
+    options: ServeOptions,
 ) -> Result<(), Fault>
 where
     R: Threads + Wait + Sync,
@@ -127,7 +129,8 @@ where
     let mut streams = LetIn {
         net,
         listener,
-        left: count.unwrap_or(u64::MAX),
+        idle: options.idle,
+        left: options.count.unwrap_or(u64::MAX),
         has_failed: false,
     };
     serve_streams(rt, alloc, shared, settings, &OpenGate, &mut streams)?;
@@ -153,6 +156,7 @@ fn end_of<D: Disk + Drop>(shared: Shared<D>) -> Result<(), Fault>
 struct LetIn<'a, N: Network> {
     net: &'a mut N,
     listener: &'a N::Listener,
+    idle: Option<u32>,
     left: u64,
     has_failed: bool,
 }
@@ -166,17 +170,46 @@ impl<N: Network> Streams for LetIn<'_, N> {
         let left = self.left;
         for tried in 0..left {
             self.left = left - 1 - tried;
-            let Ok(stream) = self.net.accept(self.listener) else {
-                self.has_failed = true;
-                self.left = 0;
-                return None;
-            };
-            // A stream without a second handle is closed.
-            if let Ok(writer) = self.net.writer(&stream) {
-                return Some((stream, writer));
+            match let_in(self.net, self.listener, self.idle) {
+                Ok(Some(both)) => return Some(both),
+                Ok(None) => {}
+                Err(_) => {
+                    self.has_failed = true;
+                    self.left = 0;
+                    return None;
+                }
             }
         }
         None
+    }
+}
+
+// The next stream that a listener lets in, with its limit and its second handle. A stream that can't have them is
+// closed, and none is given.
+fn let_in<N: Network>(
+    net: &mut N,
+    listener: &N::Listener,
+    idle: Option<u32>,
+) -> io::Result<Option<(N::Stream, N::Writer)>>
+    ensures { IfOk result (λ given. IfSome given (λ both. LetsIn N.calls net.old listener.now idle both.0 both.1 net.new)) }
+{
+    let stream = net.accept(listener)?;
+    if limit(net, &stream, idle).is_err() {
+        return Ok(None);
+    }
+    match net.writer(&stream) {
+        Ok(writer) => Ok(Some((stream, writer))),
+        Err(_) => Ok(None),
+    }
+}
+
+// Limits the reads of a stream, where seconds are given.
+fn limit<N: Network>(net: &mut N, stream: &N::Stream, idle: Option<u32>) -> io::Result<()>
+    ensures { IfOk result (λ _. IsLimited N.calls net.old stream.now idle net.new) }
+{
+    match idle {
+        Some(seconds) => net.limit(stream, seconds),
+        None => Ok(()),
     }
 }
 

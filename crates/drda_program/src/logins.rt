@@ -11,7 +11,7 @@ use crate::files::StoreFiles;
 use crate::listening::serve_file;
 use crate::network::Network;
 use crate::records::{answer_file, answer_in_memory};
-use command_line::{Login, LoginSource, login_in_file};
+use command_line::{Login, LoginSource, ServeOptions, login_in_file};
 use drda_node::Ready;
 use std::alloc::Global;
 use std::io::{self, ErrorKind, Read, Write};
@@ -27,7 +27,7 @@ pub(crate) fn serve<T: Threads + Wait + Sync, F: StoreFiles, N: Network, W: Writ
     path: &str,
     port: u16,
     source: LoginSource<'_>,
-    count: Option<u64>,
+    options: ServeOptions,
     out: &mut W,
 ) -> Result<(), Fault>
 where
@@ -40,7 +40,7 @@ where
 {
     let text = read_source(alloc, files, source)?;
     let login = login_by(source, &text)?;
-    serve_file(rt, alloc, files, net, path, port, login, count, out)
+    serve_file(rt, alloc, files, net, path, port, login, options, out)
 }
 
 /// Runs a node over the store of a path, or over one in memory, once the login is known.

@@ -6,6 +6,7 @@ ghost use Rattle.drda_program.specs.Network.{NetworkCalls, any_network};
 
 use std::io::{self, Read, Write};
 use std::net::{Net, OpenListener, OpenStream, SocketAddr};
+use std::time::Duration;
 
 /// A network that is listened on.
 ///
@@ -34,6 +35,10 @@ pub trait Network {
     /// Waits for the next stream, and lets it in.
     fn accept(&mut self, listener: &Self::Listener) -> io::Result<Self::Stream>
         ensures { calls.lets_in self.old listener.now (result_ok result) self.new };
+
+    /// From now on a read of the stream that has waited for so many seconds fails.
+    fn limit(&mut self, stream: &Self::Stream, seconds: u32) -> io::Result<()>
+        ensures { calls.limits self.old stream.now seconds (result_ok result) self.new };
 
     /// A second handle of a stream; what is written on it is sent at once.
     fn writer(&mut self, stream: &Self::Stream) -> io::Result<Self::Writer>
@@ -71,6 +76,10 @@ impl<'a, R: Net> Network for SystemNetwork<'a, R> {
     fn accept(&mut self, listener: &R::Listener) -> io::Result<R::Stream> {
         let (stream, _) = listener.accept()?;
         Ok(stream)
+    }
+
+    fn limit(&mut self, stream: &R::Stream, seconds: u32) -> io::Result<()> {
+        stream.set_read_timeout(Some(Duration::from_secs(u64::from(seconds))))
     }
 
     fn writer(&mut self, stream: &R::Stream) -> io::Result<R::Stream> {

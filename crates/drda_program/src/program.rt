@@ -33,8 +33,9 @@ use store_check::checkpoints_are_known;
 /// - `init PATH --size N --rdb NAME` makes a store in a new file, and says its size.
 /// - `pipe [PATH] [--rdb NAME] --user U:P` answers event records from `reader` to `out`, over the store
 ///   of the path, or over one in memory that is just made and has this name.
-/// - `serve PATH --port N --user U:P [--count N]` says its port and serves conversations over sockets,
-///   up to 64 side by side, each in a thread of its own.
+/// - `serve PATH --port N --user U:P [--count N] [--idle N] [--log]` says its port and serves conversations over
+///   sockets, up to 64 side by side, each in a thread of its own; with `--idle N` a connection on which nothing has
+///   come for N seconds is closed.
 /// - `indoubt PATH` lists the units in doubt of a store.
 /// - `room PATH` tells the name and size of a store, its room, and how many units are in doubt.
 /// - `check PATH` says that a store is whole, where it is.
@@ -155,8 +156,8 @@ where
             path,
             port,
             login,
-            count,
-        } => serve(rt, alloc, files, net, path, port, login, count, out),
+            options,
+        } => serve(rt, alloc, files, net, path, port, login, options, out),
         Job::InDoubt { path } => list_doubts(alloc, files, path, out),
         Job::Room { path } => tell_room(alloc, files, path, out),
         Job::Check { path } => check(alloc, files, path, out),

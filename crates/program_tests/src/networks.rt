@@ -84,6 +84,13 @@ impl<'a> Network for Callers<'a> {
         }
     }
 
+    fn limit(&mut self, stream: &Call<'a>, _seconds: u32) -> io::Result<()> {
+        if stream.caller == Caller::Alone {
+            return refused();
+        }
+        Ok(())
+    }
+
     fn writer(&mut self, stream: &Call<'a>) -> io::Result<Call<'a>> {
         if stream.caller == Caller::Alone {
             return refused();
