@@ -1,77 +1,106 @@
 //! What a state shows.
 
-use crate::asking::is_row;
-use crate::calls::{Row, State, Whose, XidData};
-use rdb_core::{Core, PlainState};
+use rdb_core::PlainState;
 use row_values::{RowRef, Schema};
-use std::alloc::Global;
+use std::alloc::{AllocError, Global};
 use tables::{Rows, TableView};
-use unit_records::NoRecords;
+use test_calls::{push_bytes, push_row, push_text};
 use unit_table::{Owner, PlainUnit};
-use xa_calls::Xid;
 use xa_manager::{Branch, BranchState};
 
-/// Whether the XIDs are these, in this order.
-pub fn are_xids(xids: &[Xid], wanted: &[XidData]) -> bool {
-    let mut all = xids.len() == wanted.len();
-    for (xid, data) in xids.iter().zip(wanted) {
-        all = all && xid.as_bytes() == *data;
+fn said_state(alloc: Global, state: &BranchState) -> Result<String, AllocError> {
+    match state {
+        BranchState::Active(last) => format!(in alloc; "active of {last}"),
+        BranchState::Idle(last) => format!(in alloc; "idle, last of {last}"),
+        BranchState::RollbackOnly(last) => format!(in alloc; "rollback only, last of {last}"),
+        BranchState::Prepared => String::from_str(alloc, "prepared"),
     }
-    all
 }
 
-fn is_whose(owner: &Owner, wanted: &Whose) -> bool {
+/// Appends each branch and where it stands.
+pub fn push_branches(alloc: Global, branches: &[Branch], out: &mut Vec<u8>) -> Option<()> {
+    if branches.is_empty() {
+        return push_text(out, "no branch");
+    }
+    for (place, branch) in branches.iter().enumerate() {
+        push_text(out, if place == 0 { "" } else { ", " })?;
+        push_bytes(alloc, out, branch.xid.as_bytes())?;
+        push_text(out, " ")?;
+        push_text(out, &said_state(alloc, &branch.state).ok()?)?;
+    }
+    Some(())
+}
+
+fn push_owner(alloc: Global, owner: &Owner, out: &mut Vec<u8>) -> Option<()> {
     match owner {
-        Owner::Local(number) =>
-            matches!(wanted, Whose::Local(conversation) if number == conversation),
-        Owner::Global(xid) => matches!(wanted, Whose::Global(data) if xid.as_bytes() == *data),
-    }
-}
-
-fn are_units(units: &[PlainUnit], wanted: &[(Whose, usize, usize)]) -> bool {
-    let mut all = units.len() == wanted.len();
-    for (unit, (whose, changes, claims)) in units.iter().zip(wanted) {
-        let is_this = is_whose(&unit.owner, whose);
-        all = all && is_this && unit.changes.len() == *changes && unit.claims.len() == *claims;
-    }
-    all
-}
-
-fn are_branches(branches: &[Branch], wanted: &[(XidData, BranchState)]) -> bool {
-    let mut all = branches.len() == wanted.len();
-    for (branch, (data, state)) in branches.iter().zip(wanted) {
-        all = all && branch.xid.as_bytes() == *data && branch.state == *state;
-    }
-    all
-}
-
-fn are_rows(schema: &Schema, rows: &Rows, wanted: &[Row]) -> bool {
-    let mut all = rows.len() == wanted.len();
-    for (i, row) in wanted.iter().enumerate() {
-        if i < rows.len() {
-            all = all
-                && matches!(RowRef::parse(schema, rows.row(i)), Ok(read) if is_row(read, row));
+        Owner::Local(number) => push_text(out, &format!(in alloc; "unit of {number}").ok()?),
+        Owner::Global(xid) => {
+            push_text(out, "unit of ")?;
+            push_bytes(alloc, out, xid.as_bytes())
         }
     }
-    all
 }
 
-// Whether T has these rows; a table that is not there has none.
-fn has_rows(alloc: Global, state: PlainState, wanted: &[Row]) -> Option<bool> {
+// Each unit that has work, and how many changes and claims it has.
+fn push_units(alloc: Global, units: &[PlainUnit], out: &mut Vec<u8>) -> Option<()> {
+    if units.is_empty() {
+        return push_text(out, "no unit, ");
+    }
+    for unit in units {
+        let (changes, claims) = (unit.changes.len(), unit.claims.len());
+        push_owner(alloc, &unit.owner, out)?;
+        push_text(
+            out,
+            &format!(in alloc; " with {changes} changes and {claims} claims, ").ok()?,
+        )?;
+    }
+    Some(())
+}
+
+/// Appends how many changes the first unit has, and how many bytes they are.
+pub fn push_changes(alloc: Global, units: &[PlainUnit], out: &mut Vec<u8>) -> Option<()> {
+    let mut bytes: usize = 0;
+    let unit = units.first()?;
+    for change in &unit.changes {
+        bytes = bytes.saturating_add(change.length());
+    }
+    let count = unit.changes.len();
+    push_text(
+        out,
+        &format!(in alloc; "{count} changes of {bytes} bytes").ok()?,
+    )
+}
+
+fn push_rows(alloc: Global, schema: &Schema, rows: &Rows, out: &mut Vec<u8>) -> Option<()> {
+    push_text(
+        out,
+        if rows.is_empty() {
+            ", T has no row"
+        } else {
+            ", T has"
+        },
+    )?;
+    for i in 0..rows.len() {
+        match RowRef::parse(schema, rows.row(i)) {
+            Ok(row) => push_row(alloc, out, row)?,
+            Err(_) => return None,
+        }
+    }
+    Some(())
+}
+
+// The committed rows of T.
+fn push_table(alloc: Global, state: PlainState, out: &mut Vec<u8>) -> Option<()> {
     let mut tables = state.into_tables();
     match tables.schema(alloc, "T").ok()? {
-        Some(schema) => {
-            let rows = tables.scan(alloc, "T").ok()?;
-            Some(are_rows(&schema, &rows, wanted))
-        }
-        None => Some(wanted.is_empty()),
+        Some(schema) => { push_rows(alloc, &schema, &tables.scan(alloc, "T").ok()?, out) }
+        None => push_text(out, ", no T"),
     }
 }
 
-/// Whether the core's state shows this. None without memory.
-pub fn shows(alloc: Global, core: &Core<NoRecords>, wanted: &State) -> Option<bool> {
-    let state = core.plain().ok()?;
-    let units = are_units(state.units(), wanted.units);
-    let branches = are_branches(state.branches(), wanted.branches);
-    Some(has_rows(alloc, state, wanted.rows)? && units && branches)
+/// Appends what a state shows.
+pub fn push_state(alloc: Global, state: PlainState, out: &mut Vec<u8>) -> Option<()> {
+    push_units(alloc, state.units(), out)?;
+    push_branches(alloc, state.branches(), out)?;
+    push_table(alloc, state, out)
 }

@@ -1,0 +1,98 @@
+//! A core that writes no records, and what is asked of it.
+
+use crate::shown::{push_branches, push_changes, push_state};
+use core_calls::{Answer, CoreCall};
+use rdb_core::Core;
+use std::alloc::Global;
+use tables::TableView;
+use test_calls::{Calls, Scripts, push_text};
+use unit_records::NoRecords;
+use xa_calls::{InvalidRequest, Request};
+
+/// A core.
+#[derive(Drop)]
+pub struct Bench {
+    alloc: Global,
+    core: Core<NoRecords>,
+}
+
+impl Bench {
+    /// A core without tables.
+    pub fn new(alloc: Global) -> Bench {
+        Bench {
+            alloc,
+            core: Core::start(alloc, NoRecords),
+        }
+    }
+
+    // How many branches are in doubt.
+    fn count_in_doubt(&self) -> usize {
+        let mut xids = self.core.in_doubt();
+        let mut count = 0_usize;
+        for _ in 0..usize::MAX {
+            if xids.next().is_none() {
+                break;
+            }
+            count = count.wrapping_add(1);
+        }
+        count
+    }
+
+    fn push_count(&self, verb: &str, out: &mut Vec<u8>) -> Option<()> {
+        let plain = self.core.plain().ok()?;
+        let count = match verb {
+            "tables" => plain.into_tables().tables().ok()?,
+            "known" => plain.branches().len(),
+            "doubts" => self.count_in_doubt(),
+            _ => return None,
+        };
+        push_text(out, &format!(in self.alloc; "{count} {verb}").ok()?)
+    }
+}
+
+impl Calls for Bench {
+    fn step(&mut self, conversation: u64, call: &CoreCall<'_, '_>) -> Option<Answer> {
+        Some(self.core.step(conversation, call))
+    }
+
+    fn commit(&mut self, conversation: u64) -> Option<Answer> {
+        Some(self.core.commit(conversation))
+    }
+
+    fn roll_back(&mut self, conversation: u64) -> Option<Answer> {
+        Some(self.core.roll_back(conversation))
+    }
+
+    fn lose(&mut self, conversation: u64) -> Option<Answer> {
+        Some(self.core.lose(conversation))
+    }
+
+    fn xa(
+        &mut self,
+        conversation: u64,
+        request: Result<Request, InvalidRequest>,
+    ) -> Option<Answer> {
+        Some(self.core.xa(conversation, &request))
+    }
+
+    // `fresh` is a core without tables. `look` shows the rows of T, the units that have work, and the branches; `branches` those alone, and
+    // `changes` how many changes the first unit has, and their bytes. `tables`, `known` and `doubts` count tables and branches.
+    fn do_other(
+        &mut self,
+        _scripts: &Scripts,
+        verb: &str,
+        _rest: &str,
+        out: &mut Vec<u8>,
+    ) -> Option<()> {
+        match verb {
+            "fresh" => {
+                self.core = Core::start(self.alloc, NoRecords);
+                push_text(out, "no table")
+            }
+            "look" => push_state(self.alloc, self.core.plain().ok()?, out),
+            "branches" => push_branches(self.alloc, self.core.plain().ok()?.branches(), out),
+            "changes" => push_changes(self.alloc, self.core.plain().ok()?.units(), out),
+            _ => self.push_count(verb, out),
+        }
+    }
+}
