@@ -423,6 +423,10 @@ static void *run(void *given) {
     return 0;
 }
 
+static void create(Connection *it) {
+    run_statement(it, 0x200A, 9, 0x2105, 0xF1, "CREATE TABLE %s (K INTEGER NOT NULL, V VARCHAR(600), PRIMARY KEY (K))");
+}
+
 static void fill(Connection *it) {
     for (int key = 0; key < rows && !it->failed; key++) {
         int place = key % 100 + 1, is_last = place == 100 || key == rows - 1;
@@ -486,7 +490,7 @@ int main(int argc, char **argv) {
     Connection *it = calloc(1, sizeof *it);
     if (!it) return 2;
     get_ready(it, 0);
-    if (!it->failed && work[0] == 'c') run_statement(it, 0x200A, 9, 0x2105, 0xF1, "CREATE TABLE %s (K INTEGER NOT NULL, V VARCHAR(600), PRIMARY KEY (K))");
+    if (!it->failed && work[0] == 'c') create(it);
     if (!it->failed && work[0] == 'f') fill(it);
     if (it->failed) fprintf(stderr, "%s: %s\n", work, it->said);
     return it->failed;
