@@ -1,6 +1,6 @@
 """The program drdad over a store: made, served, killed and served again, and read by `pipe`. The client of clients/python is on the
 path of whoever imports this."""
-import os, pathlib, re, subprocess, sys, threading
+import os, pathlib, re, subprocess, sys, threading, time
 
 TOP = pathlib.Path(__file__).resolve().parent.parent
 sys.path.insert(0, os.fspath(TOP / "clients" / "python"))
@@ -65,6 +65,23 @@ class Server:
         words = {"timeout": WAITS, "password": PASSWORD, **words}
         return drdad.connect("127.0.0.1", self.port, RDB, USER, **words)
 
+    def let_in(self):
+        """A connection as soon as the server has a place for it: those that have ended may not have left theirs yet."""
+        ends = time.monotonic() + WAITS
+        while True:
+            try:
+                return self.connect()
+            except drdad.OperationalError:
+                if self.process.poll() is not None or time.monotonic() > ends:
+                    raise
+                time.sleep(0.005)
+
     def link(self):
         """A conversation in which nothing was said yet."""
         return link.Link("127.0.0.1", self.port, WAITS)
+
+
+def resident_kib(process):
+    """The memory of a process that is resident."""
+    with open(f"/proc/{process.pid}/status") as status:
+        return next(int(line.split()[1]) for line in status if line.startswith("VmRSS:"))

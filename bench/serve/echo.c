@@ -1,29 +1,84 @@
-// A plain server of one conversation: for each so many bytes that come it sends so many back, by one read and one write
-// where they come at once. Arguments: how many bytes come, how many are sent back. Prints `listening` and its port.
+// A plain server with a thread for each conversation: for each so many bytes that come it sends so many back, by one read and one
+// write where they come at once. In front of each write it takes the one lock that all conversations share, and gives it back; with
+// a file it writes a record under the lock as a journal does: write, sync, write of a byte, sync.
+// Arguments: how many bytes come, how many are sent back, how many conversations there will be, and, where a record is written,
+// the file's path, its bytes and those of a record. Prints `listening` and its port.
+#define _GNU_SOURCE
 #include <arpa/inet.h>
+#include <fcntl.h>
 #include <netinet/tcp.h>
+#include <pthread.h>
 #include <stdio.h>
 #include <stdlib.h>
+#include <string.h>
 #include <unistd.h>
 
-int main(int argc, char **argv) {
-    if (argc < 3) return 2;
-    static char in[65536], out[65536];
-    long come = atol(argv[1]), sent = atol(argv[2]), held = 0;
-    int listener = socket(AF_INET, SOCK_STREAM, 0), one = 1;
-    struct sockaddr_in at = {.sin_family = AF_INET, .sin_addr = {htonl(INADDR_LOOPBACK)}};
-    socklen_t size = sizeof at;
-    if (listener < 0 || come < 1 || sent > 65536 || bind(listener, (struct sockaddr *)&at, size) || listen(listener, 1)) return 3;
-    if (getsockname(listener, (struct sockaddr *)&at, &size)) return 3;
-    printf("listening %d\n", ntohs(at.sin_port));
-    fflush(stdout);
-    int fd = accept(listener, 0, 0);
-    if (fd < 0) return 3;
-    setsockopt(fd, IPPROTO_TCP, TCP_NODELAY, &one, sizeof one);
-    for (ssize_t count; (count = read(fd, in, sizeof in)) > 0;) {
+enum { ROOM = 65536, MOST = 1024 };
+
+static pthread_mutex_t lock = PTHREAD_MUTEX_INITIALIZER;
+static long come, sent, size, record;
+static int file = -1;
+static off_t next;
+static char out[ROOM];
+
+// What is done under the lock; 0 where a call of the device fails.
+static int work(void) {
+    static char bytes[ROOM];
+    if (file < 0) return 1;
+    if (next + record + 1 > size) next = 0;
+    if (pwrite(file, bytes, record, next + 1) != record || fdatasync(file)) return 0;
+    if (pwrite(file, "\xA5", 1, next) != 1 || fdatasync(file)) return 0;
+    next += record;
+    return 1;
+}
+
+static void *converse(void *given) {
+    int fd = (int)(long)given;
+    char *in = malloc(ROOM);
+    long held = 0;
+    for (ssize_t count; in && (count = read(fd, in, ROOM)) > 0;) {
         for (held += count; held >= come; held -= come) {
-            if (write(fd, out, sent) != sent) return 4;
+            pthread_mutex_lock(&lock);
+            int done = work();
+            pthread_mutex_unlock(&lock);
+            if (!done || write(fd, out, sent) != sent) exit(4);
         }
     }
+    free(in);
+    close(fd);
+    return 0;
+}
+
+static int listening(void) {
+    int listener = socket(AF_INET, SOCK_STREAM, 0);
+    struct sockaddr_in at = {.sin_family = AF_INET, .sin_addr = {htonl(INADDR_LOOPBACK)}};
+    socklen_t length = sizeof at;
+    if (listener < 0 || bind(listener, (struct sockaddr *)&at, length) || listen(listener, 128)) exit(3);
+    if (getsockname(listener, (struct sockaddr *)&at, &length)) exit(3);
+    printf("listening %d\n", ntohs(at.sin_port));
+    fflush(stdout);
+    return listener;
+}
+
+static void make_file(const char *path) {
+    file = open(path, O_RDWR | O_CREAT | O_EXCL | O_CLOEXEC, 0666);
+    if (file < 0 || ftruncate(file, size) || fsync(file)) exit(1);
+}
+
+int main(int argc, char **argv) {
+    static pthread_t threads[MOST];
+    if (argc < 4) return 2;
+    come = atol(argv[1]), sent = atol(argv[2]);
+    long count = atol(argv[3]);
+    if (argc > 6) size = atol(argv[5]), record = atol(argv[6]), make_file(argv[4]);
+    if (come < 1 || sent > ROOM || record >= ROOM || count > MOST) return 2;
+    int listener = listening(), one = 1;
+    for (long at = 0; at < count; at++) {
+        int fd = accept(listener, 0, 0);
+        if (fd < 0) return 3;
+        setsockopt(fd, IPPROTO_TCP, TCP_NODELAY, &one, sizeof one);
+        if (pthread_create(&threads[at], 0, converse, (void *)(long)fd)) return 3;
+    }
+    for (long at = 0; at < count; at++) pthread_join(threads[at], 0);
     return 0;
 }

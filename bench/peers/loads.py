@@ -1,0 +1,82 @@
+"""Loads over many connections (load.c), and what several servers made of them: rates taken in turn by rounds, and told as medians of
+the rates and of the ratios inside of each round."""
+import collections, os, pathlib, statistics, subprocess, sys
+
+TOP = pathlib.Path(__file__).resolve().parents[2]
+sys.path.insert(0, os.fspath(TOP / "tests"))
+from served import PASSWORD, RDB, USER, Server, program_of
+
+WIDTHS = (1, 4, 16, 63)
+ROWS = 100_000
+OURS = "drdad"
+SOURCES = {"load": "peers/load.c", "echo": "serve/echo.c"}
+WAITS = 600
+
+Told = collections.namedtuple("Told", "rate median late sent back")
+
+
+def built(folder):
+    """The programs in C, by their names."""
+    paths = {name: f"{folder}/{name}" for name in SOURCES}
+    for name, source in SOURCES.items():
+        subprocess.run(["cc", "-O2", "-Wall", "-pthread", "-o", paths[name], TOP / "bench" / source], check=True)
+    return paths
+
+
+class Load:
+    """Loads of one DRDA server."""
+
+    def __init__(self, program, port, database="-", user="-", password="-"):
+        self.words = [program, str(port), database, user, password]
+
+    def run(self, work, width=1, seconds=1, table="T"):
+        """What came of a load: exchanges a second, the median and the 99th hundredth of their microseconds, and the bytes that
+        an exchange sends and has back. Ends the script where a connection failed."""
+        words = [*self.words, work, str(width), str(seconds), table, str(ROWS)]
+        done = subprocess.run(words, capture_output=True, text=True, timeout=WAITS)
+        if done.returncode:
+            sys.exit(f"{work} over {width} connections: {done.stderr}")
+        return Told(*map(int, done.stdout.split()[:5])) if done.stdout else None
+
+    def fill(self, *tables):
+        """Makes the table T with its rows, and others without rows."""
+        for table in ("T", *tables):
+            self.run("create", table=table)
+        self.run("fill")
+
+
+def served(program, path):
+    """drdad over a fresh store of 1 GiB; it is served in the `with` that it stands in."""
+    server = Server(program, path, 1 << 30)
+    server.made.check_returncode()
+    return server
+
+
+def load_of(programs, server):
+    return Load(programs["load"], server.port, RDB, USER, PASSWORD)
+
+
+class Rates:
+    """Rates by work, width and server, one a round."""
+
+    def __init__(self):
+        self.found = collections.defaultdict(lambda: collections.defaultdict(list))
+
+    def add(self, work, width, rates):
+        for name, rate in rates.items():
+            self.found[work, width][name].append(rate)
+        with open("/proc/loadavg") as load:
+            waiting = load.read().split()[0]
+        print(f"{work} {width}:", ", ".join(f"{name} {rate:,.0f}" for name, rate in rates.items()), f"(load {waiting})", flush=True)
+
+    def tell(self):
+        """A line for each work and width."""
+        for (work, width), rates in self.found.items():
+            each = ("%s %s (%s to %s)" % (name, *(f"{it:,.0f}" for it in (statistics.median(all_of), min(all_of), max(all_of))))
+                    for name, all_of in rates.items())
+            ratios = (f"{statistics.median(map(ratio, rates[OURS], rates[name])):.2f} of {name}" for name in rates if name != OURS)
+            print(f"{work}, {width} connections, a second: {', '.join(each)}; {', '.join(ratios)}", flush=True)
+
+
+def ratio(one, other):
+    return one / other if other else float("nan")
