@@ -5,7 +5,7 @@ import os, pathlib, struct, subprocess, sys
 HERE = pathlib.Path(__file__).resolve().parent
 sys.path.insert(0, os.fspath(HERE.parent / "clients" / "python"))
 
-OPENS, SENDS, IS_LOST, IS_CLOSED, IS_REFUSED = 1, 2, 3, 5, 6
+OPENS, SENDS, IS_LOST, CHECKPOINT, IS_CLOSED, IS_REFUSED = 1, 2, 3, 4, 5, 6
 USER = ("--user", "ana:pw")
 STORE_SIZE = "2097152"
 HEAD = struct.Struct(">BBI")
