@@ -131,6 +131,7 @@ where
         listener,
         idle: options.idle,
         left: options.count.unwrap_or(u64::MAX),
+        failures: 0,
         has_failed: false,
     };
     serve_streams(rt, alloc, shared, settings, &OpenGate, &mut streams)?;
@@ -151,13 +152,17 @@ fn end_of<D: Disk + Drop>(shared: Shared<D>) -> Result<(), Fault>
     Ok(())
 }
 
-/// The streams that a listener lets in, so many at most. None comes once letting one in has failed.
+/// At so many failures in a row to let a stream in, with a moment behind each, none is let in any more.
+const MOST_FAILURES: u64 = 100;
+
+/// The streams that a listener lets in, so many at most. None comes once letting one in has failed too often.
 #[derive(Drop)]
 struct LetIn<'a, N: Network> {
     net: &'a mut N,
     listener: &'a N::Listener,
     idle: Option<u32>,
     left: u64,
+    failures: u64,
     has_failed: bool,
 }
 
@@ -167,20 +172,33 @@ impl<N: Network> Streams for LetIn<'_, N> {
     type Writer = N::Writer;
 
     fn next(&mut self) -> Option<(N::Stream, N::Writer)> {
-        let left = self.left;
-        for tried in 0..left {
-            self.left = left - 1 - tried;
+        for _ in 0..u64::MAX {
+            let left = self.left.checked_sub(1)?;
             match let_in(self.net, self.listener, self.idle) {
-                Ok(Some(both)) => return Some(both),
-                Ok(None) => {}
-                Err(_) => {
-                    self.has_failed = true;
-                    self.left = 0;
-                    return None;
+                Ok(given) => {
+                    self.left = left;
+                    self.failures = 0;
+                    if given.is_some() {
+                        return given;
+                    }
                 }
+                Err(_) => self.bear_failure(),
             }
         }
         None
+    }
+}
+
+impl<N: Network> LetIn<'_, N> {
+    // Letting a stream in has failed. Mostly that passes, as where the system is short of something for a while.
+    fn bear_failure(&mut self) {
+        self.failures = self.failures.saturating_add(1);
+        if self.failures < MOST_FAILURES {
+            self.net.pause();
+        } else {
+            self.has_failed = true;
+            self.left = 0;
+        }
     }
 }
 

@@ -6,7 +6,11 @@ ghost use Rattle.drda_program.specs.Network.{NetworkCalls, any_network};
 
 use std::io::{self, Read, Write};
 use std::net::{Net, OpenListener, OpenStream, SocketAddr};
-use std::time::Duration;
+use std::thread::sleep;
+use std::time::{Clock, Duration};
+
+/// How long is waited where letting a stream in has failed.
+const MOMENT: Duration = Duration::from_millis(100);
 
 /// A network that is listened on.
 ///
@@ -43,6 +47,9 @@ pub trait Network {
     /// A second handle of a stream; what is written on it is sent at once.
     fn writer(&mut self, stream: &Self::Stream) -> io::Result<Self::Writer>
         ensures { calls.answers self.old stream.now (result_ok result) self.new };
+
+    /// Waits a moment, before a stream is let in again where that has failed.
+    fn pause(&mut self);
 }
 
 /// The network of the system.
@@ -58,7 +65,7 @@ impl<'a, R: Net> SystemNetwork<'a, R> {
     }
 }
 
-impl<'a, R: Net> Network for SystemNetwork<'a, R> {
+impl<'a, R: Net + Clock> Network for SystemNetwork<'a, R> {
     type Listener = R::Listener;
 
     type Stream = R::Stream;
@@ -85,5 +92,9 @@ impl<'a, R: Net> Network for SystemNetwork<'a, R> {
     fn writer(&mut self, stream: &R::Stream) -> io::Result<R::Stream> {
         let _ = stream.set_nodelay(true);
         stream.try_clone()
+    }
+
+    fn pause(&mut self) {
+        sleep(self.rt, MOMENT);
     }
 }

@@ -15,11 +15,13 @@ pub enum Caller {
     Talking,
 }
 
-/// What becomes of who calls: the ports are taken, each is such a caller, or none is let in.
+/// What becomes of who calls: the ports are taken, each is such a caller, the same once letting one in has failed so
+/// often, or none is let in.
 #[derive(Clone, Copy, Drop)]
 pub enum Way {
     Taken,
     LetsIn(Caller),
+    LetsInBehind(u64, Caller),
     Shut,
 }
 
@@ -29,11 +31,14 @@ pub enum Way {
 pub struct Callers<'a> {
     pub way: Way,
     pub said: &'a [u8],
+    /// How often letting one in has failed.
+    pub failures: u64,
 }
 
 #[derive(Drop)]
 pub struct Door {
     caller: Option<Caller>,
+    failures: u64,
 }
 
 #[derive(Drop)]
@@ -65,8 +70,16 @@ impl<'a> Network for Callers<'a> {
             Way::Taken => refused(),
             Way::LetsIn(caller) => Ok(Door {
                 caller: Some(caller),
+                failures: 0,
             }),
-            Way::Shut => Ok(Door { caller: None }),
+            Way::LetsInBehind(failures, caller) => Ok(Door {
+                caller: Some(caller),
+                failures,
+            }),
+            Way::Shut => Ok(Door {
+                caller: None,
+                failures: 0,
+            }),
         }
     }
 
@@ -75,6 +88,10 @@ impl<'a> Network for Callers<'a> {
     }
 
     fn accept(&mut self, listener: &Door) -> io::Result<Call<'a>> {
+        if self.failures < listener.failures {
+            self.failures += 1;
+            return refused();
+        }
         match listener.caller {
             Some(caller) => Ok(Call {
                 caller,
@@ -100,6 +117,8 @@ impl<'a> Network for Callers<'a> {
             said: &[],
         })
     }
+
+    fn pause(&mut self) {}
 }
 
 impl Read for Call<'_> {

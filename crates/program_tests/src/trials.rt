@@ -50,6 +50,7 @@ fn callers_of<'a>(scene: &Scene<'a>) -> Callers<'a> {
     Callers {
         way: scene.way,
         said: scene.input,
+        failures: 0,
     }
 }
 
@@ -85,6 +86,8 @@ fn way_of(name: &str) -> Option<Way> {
         "deaf" => Some(Way::LetsIn(Caller::Deaf)),
         "alone" => Some(Way::LetsIn(Caller::Alone)),
         "talking" => Some(Way::LetsIn(Caller::Talking)),
+        "late" => Some(Way::LetsInBehind(99, Caller::Talking)),
+        "too-late" => Some(Way::LetsInBehind(100, Caller::Talking)),
         _ => None,
     }
 }
