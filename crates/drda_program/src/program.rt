@@ -33,7 +33,7 @@ use store_check::checkpoints_are_known;
 /// - `init PATH --size N --rdb NAME` makes a store in a new file, and says its size.
 /// - `pipe [PATH] [--rdb NAME] --user U:P` answers event records from `reader` to `out`, over the store
 ///   of the path, or over one in memory that is just made and has this name.
-/// - `serve PATH --port N --user U:P [--count N] [--idle N] [--log]` says its port and serves conversations over
+/// - `serve PATH --port N --user U:P [--count N] [--idle N]` says its port and serves conversations over
 ///   sockets, up to 64 side by side, each in a thread of its own; with `--idle N` a connection on which nothing has
 ///   come for N seconds is closed.
 /// - `indoubt PATH` lists the units in doubt of a store.
