@@ -9,8 +9,8 @@ use std::net::{Net, OpenListener, OpenStream, SocketAddr};
 use std::thread::sleep;
 use std::time::{Clock, Duration};
 
-/// How long is waited where letting a stream in has failed.
-const MOMENT: Duration = Duration::from_millis(100);
+/// How long is waited where letting a stream in has failed, in milliseconds.
+const MOMENT: u64 = 100;
 
 /// A network that is listened on.
 ///
@@ -95,6 +95,6 @@ impl<'a, R: Net + Clock> Network for SystemNetwork<'a, R> {
     }
 
     fn pause(&mut self) {
-        sleep(self.rt, MOMENT);
+        sleep(self.rt, Duration::from_millis(MOMENT));
     }
 }
