@@ -1,155 +1,137 @@
 //! What a crash leaves of a disk in memory.
-use crate::bytes_on_a_disk::{TEN_AT_3, ZEROS, disk_with_ten, first_16, put};
+
+use crate::told::{TEN, first_16, number, push, push_bytes, put};
 use drda_disk::{Disk, MemDisk};
 use std::alloc::Global;
-use std::test::Fail;
 
-fn left_of_ten(alloc: Global, is_synced: bool, pick: u64) -> Result<[u8; 16], Fail> {
-    let mut left = disk_with_ten(alloc, is_synced)?.after_crash(pick);
-    Ok(first_16(&mut left)?)
+// A disk of 16 bytes with ten written at 3.
+fn disk_with_ten(alloc: Global, is_synced: bool) -> Option<MemDisk> {
+    let mut disk = MemDisk::new(alloc, 16).ok()?;
+    put(&mut disk, 3, &TEN).ok()?;
+    if is_synced {
+        disk.sync().ok()?;
+    }
+    Some(disk)
 }
 
-#[test]
-fn a_crash_leaves_none_or_all_of_what_was_not_synced(rt: HostRuntime) -> Result<(), Fail> {
-    assert!(rt; left_of_ten(rt.alloc(), false, 0)? == ZEROS);
-    assert!(rt; left_of_ten(rt.alloc(), false, 1)? == TEN_AT_3);
-    Ok(())
+fn left_of_ten(alloc: Global, is_synced: bool, pick: u64) -> Option<[u8; 16]> {
+    let mut left = disk_with_ten(alloc, is_synced)?.after_crash(pick);
+    first_16(&mut left).ok()
+}
+
+// What a crash leaves of a copy of the disk with ten bytes, and then of the disk.
+fn push_both(alloc: Global, is_synced: bool, pick: u64, out: &mut Vec<u8>) -> Option<()> {
+    let copy = disk_with_ten(alloc, is_synced)?.copy(alloc).ok()?;
+    let left = first_16(&mut copy.after_crash(pick)).ok()?;
+    push_bytes(alloc, out, &left)?;
+    push(out, " ")?;
+    push_bytes(alloc, out, &left_of_ten(alloc, is_synced, pick)?)
 }
 
 /// Counts of the ten bytes that are old, new and neither, and of bytes outside of them that changed.
 type Counts = (u32, u32, u32, u32);
 
-/// The counts once a byte at a place is counted.
-fn with_byte((old, new, other, outside): Counts, place: usize, byte: u8, written: u8) -> Counts {
-    if place < 3 || 13 <= place {
-        (
+// The counts once a byte at a place is counted.
+fn with_byte((old, new, other, outside): Counts, place: usize, byte: u8) -> Counts {
+    let written = TEN.get(place.wrapping_sub(3)).copied();
+    match written {
+        None => (
             old,
             new,
             other,
             outside.saturating_add(u32::from(byte != 0)),
-        )
-    } else if byte == 0 {
-        (old.saturating_add(1), new, other, outside)
-    } else if byte == written {
-        (old, new.saturating_add(1), other, outside)
-    } else {
-        (old, new, other.saturating_add(1), outside)
+        ),
+        Some(_) if byte == 0 => (old.saturating_add(1), new, other, outside),
+        Some(it) if byte == it => (old, new.saturating_add(1), other, outside),
+        Some(_) => (old, new, other.saturating_add(1), outside),
     }
 }
 
-/// The counts after crashes of all these picks.
-fn count_left(alloc: Global, picks: u64) -> Result<Counts, Fail> {
+// The counts after crashes of the picks from 2 on.
+fn count_left(alloc: Global, to: u64) -> Option<Counts> {
     let mut counts = (0, 0, 0, 0);
-    for pick in 2..picks {
+    for pick in 2..to {
         let left = left_of_ten(alloc, false, pick)?;
-        for place in 0..left.len() {
-            counts = with_byte(counts, place, left[place], TEN_AT_3[place]);
+        for (place, byte) in left.iter().enumerate() {
+            counts = with_byte(counts, place, *byte);
         }
     }
-    Ok(counts)
+    Some(counts)
 }
 
-#[test]
-fn a_crash_tears_what_was_not_synced(rt: HostRuntime) -> Result<(), Fail> {
-    let (old, new, other, outside) = count_left(rt.alloc(), 102)?;
-    assert!(rt; 300 < old && 300 < new && 50 < other, "{old} {new} {other}");
-    assert!(rt; outside == 0);
-    Ok(())
+// Whether bytes of each kind were left, more than 300 old ones and new ones and more than 50 that are neither, and none outside.
+fn push_torn(alloc: Global, to: u64, out: &mut Vec<u8>) -> Option<()> {
+    let (old, new, other, outside) = count_left(alloc, to)?;
+    let (many_old, many_new, many_other) = (300 < old, 300 < new, 50 < other);
+    push(
+        out,
+        &format!(in alloc;
+            "old {many_old}, new {many_new}, neither {many_other}, outside {outside}"
+        ).ok()?,
+    )
 }
 
-/// What a crash leaves of two unsynced writes of one byte, 1 at 0 and 2 at 8.
-fn left_of_two(alloc: Global, pick: u64) -> Result<(u8, u8), Fail> {
-    let mut disk = MemDisk::new(alloc, 16)?;
-    put(&mut disk, 0, &[1])?;
-    put(&mut disk, 8, &[2])?;
-    let left = first_16(&mut disk.after_crash(pick))?;
-    Ok((left[0], left[8]))
+// What a crash leaves of two unsynced writes of one byte, 1 at 0 and 2 at 8.
+fn left_of_two(alloc: Global, pick: u64) -> Option<(u8, u8)> {
+    let mut disk = MemDisk::new(alloc, 16).ok()?;
+    put(&mut disk, 0, &[1]).ok()?;
+    put(&mut disk, 8, &[2]).ok()?;
+    let left = first_16(&mut disk.after_crash(pick)).ok()?;
+    Some((left[0], left[8]))
 }
 
-/// Whether a crash of one of these picks leaves the two bytes so.
-fn is_seen(alloc: Global, picks: u64, want: (u8, u8)) -> Result<bool, Fail> {
-    for pick in 2..picks {
-        if left_of_two(alloc, pick)? == want {
-            return Ok(true);
+// Which of none, the first, the second and both of two bytes some crash leaves, and whether one leaves a byte that is neither old nor new.
+fn push_seen(alloc: Global, to: u64, out: &mut Vec<u8>) -> Option<()> {
+    let mut seen = [false; 5];
+    for pick in 2..to {
+        match left_of_two(alloc, pick)? {
+            (0, 0) => seen[0] = true,
+            (1, 0) => seen[1] = true,
+            (0, 2) => seen[2] = true,
+            (1, 2) => seen[3] = true,
+            _ => seen[4] = true,
         }
     }
-    Ok(false)
+    let [none, first, second, both, torn] = seen;
+    push(
+        out,
+        &format!(in alloc;
+            "none {none}, first {first}, second {second}, both {both}, torn {torn}"
+        ).ok()?,
+    )
 }
 
-/// Whether a crash of one of these picks leaves a byte that is neither old nor new.
-fn is_torn(alloc: Global, picks: u64) -> Result<bool, Fail> {
-    for pick in 2..picks {
-        let (first, second) = left_of_two(alloc, pick)?;
-        if first > 1 || (second != 0 && second != 2) {
-            return Ok(true);
-        }
+// Two synced writes in room that was set aside for them are no fault; one call more, which may need memory, is counted where it is refused;
+// and a crash leaves the two.
+fn push_aside(alloc: Global, out: &mut Vec<u8>) -> Option<()> {
+    let mut disk = MemDisk::new(alloc, 16).ok()?;
+    disk.set_aside(4, 10).ok()?;
+    let first = put(&mut disk, 3, &[11, 12, 13, 14]).is_ok() && disk.sync().is_ok();
+    let second = put(&mut disk, 7, &[15, 16, 17, 18, 19, 20]).is_ok() && disk.sync().is_ok();
+    let faults = disk.failures();
+    let is_refused = put(&mut disk, 0, &[1]).is_err();
+    let is_counted = disk.failures() == u64::from(is_refused);
+    push(
+        out,
+        &format!(in alloc;
+            "first {first}, second {second}, {faults} faults, counted {is_counted}, leaves "
+        ).ok()?,
+    )?;
+    push_bytes(alloc, out, &first_16(&mut disk.after_crash(0)).ok()?)
+}
+
+/// Answers a line: what is left of ten bytes that were synced or not, or of a copy; what crashes of many picks leave; and what room that was
+/// set aside is good for.
+pub fn answer(alloc: Global, asked: &str, out: &mut Vec<u8>) -> Option<()> {
+    let (verb, rest) = asked.split_once(' ').unwrap_or((asked, ""));
+    match verb {
+        "unsynced" => push_bytes(alloc, out, &left_of_ten(alloc, false, number(rest)?)?),
+        "synced" => push_bytes(alloc, out, &left_of_ten(alloc, true, number(rest)?)?),
+        "copied" => push_both(alloc, false, number(rest)?, out),
+        "copied-synced" => push_both(alloc, true, number(rest)?, out),
+        "tears" => push_torn(alloc, number(rest)?, out),
+        "two" => push_seen(alloc, number(rest)?, out),
+        "aside" => push_aside(alloc, out),
+        _ => None,
     }
-    Ok(false)
-}
-
-#[test]
-fn each_write_is_left_by_itself(rt: HostRuntime) -> Result<(), Fail> {
-    // Of (0, 2) the later write is there without the earlier one.
-    for want in &[(0, 0), (1, 0), (0, 2), (1, 2)] {
-        assert!(rt; is_seen(rt.alloc(), 202, *want)?, "{want:?}");
-    }
-    assert!(rt; is_torn(rt.alloc(), 202)?);
-    Ok(())
-}
-
-/// What a crash leaves of a copy of the disk with ten bytes, and then of the disk.
-fn left_of_both(alloc: Global, is_synced: bool, pick: u64) -> Result<([u8; 16], [u8; 16]), Fail> {
-    let disk = disk_with_ten(alloc, is_synced)?;
-    let copy = first_16(&mut disk.copy(alloc)?.after_crash(pick))?;
-    let left = first_16(&mut disk.after_crash(pick))?;
-    Ok((copy, left))
-}
-
-#[test]
-fn a_copy_is_left_the_same(rt: HostRuntime) -> Result<(), Fail> {
-    for (is_synced, pick, want) in &[
-        (false, 0, ZEROS),
-        (false, 1, TEN_AT_3),
-        (true, 0, TEN_AT_3),
-        (true, 1, TEN_AT_3),
-    ] {
-        let left = left_of_both(rt.alloc(), *is_synced, *pick)?;
-        assert!(rt; left == (*want, *want), "{is_synced} {pick}");
-    }
-    Ok(())
-}
-
-#[test]
-fn a_crash_leaves_all_that_was_synced(rt: HostRuntime) -> Result<(), Fail> {
-    for pick in 0..8 {
-        assert!(rt;
-            left_of_ten(rt.alloc(), true, pick)? == TEN_AT_3,
-            "pick {pick}"
-        );
-    }
-    Ok(())
-}
-
-/// Whether the ten bytes are put in two synced writes, in room that was set aside for them: these are
-/// no faults whatever memory is refused.
-fn are_put_in_two(disk: &mut MemDisk) -> bool {
-    let first = put(disk, 3, &[11, 12, 13, 14]).is_ok() && disk.sync().is_ok();
-    let second = put(disk, 7, &[15, 16, 17, 18, 19, 20]).is_ok() && disk.sync().is_ok();
-    first && second && disk.failures() == 0
-}
-
-/// Whether one call more, which may need memory, is a failure where it is refused.
-fn is_counted(disk: &mut MemDisk) -> bool {
-    let is_refused = put(disk, 0, &[1]).is_err();
-    disk.failures() == u64::from(is_refused)
-}
-
-#[test]
-fn room_set_aside_is_enough(rt: HostRuntime) -> Result<(), Fail> {
-    let mut disk = MemDisk::new(rt.alloc(), 16)?;
-    disk.set_aside(4, 10)?;
-    assert!(rt; are_put_in_two(&mut disk));
-    assert!(rt; is_counted(&mut disk));
-    assert!(rt; first_16(&mut disk.after_crash(0))? == TEN_AT_3);
-    Ok(())
 }

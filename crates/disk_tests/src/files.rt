@@ -1,106 +1,170 @@
 //! Real files as disks.
-use crate::bytes_on_a_disk::{TEN, TEN_AT_3, ZEROS, first_16, put};
-use drda_disk::{Disk, DiskFault, FileDisk, FileFault, FilePath, SystemFile};
-use std::fs::{self, OpenFile, OpenOptions};
-use std::io::ErrorKind;
-use std::process;
-use std::test::Fail;
 
-fn refused_as(fault: Result<FileDisk<SystemFile>, FileFault>) -> Option<ErrorKind> {
+use crate::told::{push, push_first_16, put, size};
+use drda_disk::{Disk, DiskFault, FileDisk, FileFault, FilePath, SystemFile};
+use std::alloc::Global;
+use std::fs::{self, OpenFile, OpenOptions};
+use std::io::{self, ErrorKind};
+use std::process;
+use test_bytes::bytes_of;
+
+/// A file as a disk, if one is open.
+#[derive(Drop)]
+pub struct Files {
+    alloc: Global,
+    disk: Option<FileDisk<SystemFile>>,
+}
+
+fn path_in_temp(rt: &HostRuntime, name: &str) -> Option<String> {
+    let folder = std::env::temp_dir(rt).ok()?;
+    let id = process::id(rt.process());
+    format!(in rt.alloc(); "{}/drda_disk-{id}-{name}", folder.as_str()).ok()
+}
+
+fn push_refused(alloc: Global, fault: FileFault, out: &mut Vec<u8>) -> Option<()> {
     match fault {
-        Err(FileFault::Io(error)) => Some(error.kind()),
-        _ => None,
+        FileFault::Io(error) => {
+            let kind = error.kind();
+            push(out, &format!(in alloc; "refused as {kind:?}").ok()?)
+        }
+        FileFault::InUse => push(out, "in use"),
     }
 }
 
-fn path_in_temp(rt: &HostRuntime, name: &str) -> Result<String, Fail> {
-    let folder = std::env::temp_dir(rt)?;
-    let id = process::id(rt.process());
-    Ok(format!(in rt.alloc(); "{}/drda_disk-{id}-{name}", folder.as_str())?)
-}
-
-#[test]
-fn a_file_is_a_disk(rt: HostRuntime) -> Result<(), Fail> {
-    let path = path_in_temp(&rt, "is_a_disk")?;
-    let mut disk = FileDisk::create(&mut FilePath::new(&rt, path.as_str()), 16)?;
-    let before = first_16(&mut disk);
-    let wrote = put(&mut disk, 3, &TEN);
-    let synced = disk.sync();
-    let after = first_16(&mut disk);
-    assert_eq!(rt; (before, after), (Ok(ZEROS), Ok(TEN_AT_3)));
-    assert_eq!(rt; (wrote, synced, disk.failures()), (Ok(()), Ok(()), 0));
-    drop(disk);
-
-    let mut again = FileDisk::open(&mut FilePath::new(&rt, path.as_str()))?;
-    assert_eq!(rt; (again.size(), first_16(&mut again)), (16, Ok(TEN_AT_3)));
-    fs::remove_file(&rt, path.as_str())?;
-    Ok(())
-}
-
-#[test]
-fn a_file_that_was_cut_off_is_a_fault(rt: HostRuntime) -> Result<(), Fail> {
-    let path = path_in_temp(&rt, "cut_off")?;
-    let mut disk = FileDisk::create(&mut FilePath::new(&rt, path.as_str()), 16)?;
-    // Somebody cuts the file off behind the disk's back: a read past its end is a fault.
+// Somebody cuts a file off behind its disk's back.
+fn cut(rt: &HostRuntime, path: &str, length: u64) -> io::Result<()> {
     OpenOptions::new()
         .write(true)
-        .open(&rt, path.as_str())?
-        .set_len(8)?;
-    assert_eq!(rt; (first_16(&mut disk), disk.failures()), (Err(DiskFault), 1));
-    drop(disk);
-    fs::remove_file(&rt, path.as_str())?;
-    Ok(())
+        .open(rt, path)?
+        .set_len(length)
 }
 
-#[test]
-fn a_file_has_one_disk(rt: HostRuntime) -> Result<(), Fail> {
-    let path = path_in_temp(&rt, "one_disk")?;
-    let path = path.as_str();
-    let missing = refused_as(FileDisk::open(&mut FilePath::new(&rt, path)));
-    let too_long = refused_as(FileDisk::create(&mut FilePath::new(&rt, path), usize::MAX));
-    let disk = FileDisk::create(&mut FilePath::new(&rt, path), 16)?;
-    let is_in_use = matches!(
-        FileDisk::open(&mut FilePath::new(&rt, path)),
-        Err(FileFault::InUse)
-    );
-    let is_there = refused_as(FileDisk::create(&mut FilePath::new(&rt, path), 16));
-    drop(disk);
-    fs::remove_file(&rt, path)?;
-    assert_eq!(rt;
-        (missing, too_long),
-        (Some(ErrorKind::NotFound), Some(ErrorKind::InvalidInput))
-    );
-    assert_eq!(rt;
-        (is_in_use, is_there),
-        (true, Some(ErrorKind::AlreadyExists))
-    );
-    Ok(())
-}
-
-#[test]
-fn a_folder_is_no_disk(rt: HostRuntime) -> Result<(), Fail> {
-    let folder = std::env::temp_dir(&rt)?;
-    let fault = refused_as(FileDisk::open(&mut FilePath::new(&rt, folder.as_str())));
-    assert_eq!(rt; fault, Some(ErrorKind::IsADirectory));
-    Ok(())
-}
-
-#[test]
-fn a_file_that_may_not_be_written_is_no_disk(rt: HostRuntime) -> Result<(), Fail> {
-    let path = path_in_temp(&rt, "read_only")?;
-    let path = path.as_str();
-    drop(FileDisk::create(&mut FilePath::new(&rt, path), 16)?);
-    let mut permissions = fs::metadata(&rt, path)?.permissions();
+fn lock(rt: &HostRuntime, path: &str) -> io::Result<()> {
+    let mut permissions = fs::metadata(rt, path)?.permissions();
     permissions.set_readonly(true);
-    fs::set_permissions(&rt, path, permissions)?;
-    let opened = FileDisk::open(&mut FilePath::new(&rt, path));
-    fs::remove_file(&rt, path)?;
-    // The system lets a privileged user write all the same.
-    let is_right = match opened {
+    fs::set_permissions(rt, path, permissions)
+}
+
+// Whether a file that may not be written is refused; the system lets a privileged user write all the same.
+fn is_refused(opened: Result<FileDisk<SystemFile>, FileFault>) -> bool {
+    match opened {
         Err(FileFault::Io(error)) => error.kind() == ErrorKind::PermissionDenied,
         Err(FileFault::InUse) => false,
         Ok(_) => true,
-    };
-    assert!(rt; is_right);
-    Ok(())
+    }
+}
+
+fn push_done(done: io::Result<()>, out: &mut Vec<u8>) -> Option<()> {
+    push(out, if done.is_ok() { "done" } else { "not done" })
+}
+
+fn push_answer(answer: Result<(), DiskFault>, out: &mut Vec<u8>) -> Option<()> {
+    push(out, if answer.is_ok() { "done" } else { "a fault" })
+}
+
+fn push_folder(rt: &HostRuntime, out: &mut Vec<u8>) -> Option<()> {
+    let folder = std::env::temp_dir(rt).ok()?;
+    match FileDisk::open(&mut FilePath::new(rt, folder.as_str())) {
+        Ok(_) => push(out, "opened"),
+        Err(fault) => push_refused(rt.alloc(), fault, out),
+    }
+}
+
+impl Files {
+    /// No file.
+    pub fn new(alloc: Global) -> Files {
+        Files { alloc, disk: None }
+    }
+
+    // A disk takes the place of the one before; where it is refused, that stays.
+    fn lay(
+        &mut self,
+        made: Result<FileDisk<SystemFile>, FileFault>,
+        told: &str,
+        out: &mut Vec<u8>,
+    ) -> Option<()> {
+        match made {
+            Ok(disk) => {
+                self.disk = Some(disk);
+                push(out, told)
+            }
+            Err(fault) => push_refused(self.alloc, fault, out),
+        }
+    }
+
+    fn answer_of_disk(&mut self, verb: &str, rest: &str, out: &mut Vec<u8>) -> Option<()> {
+        let disk = match &mut self.disk {
+            Some(disk) => disk,
+            None => return None,
+        };
+        match verb {
+            "put" => {
+                let bytes = bytes_of(self.alloc, &[rest]).ok()?;
+                push_answer(put(disk, 3, &bytes), out)
+            }
+            "sync" => push_answer(disk.sync(), out),
+            "read" => push_first_16(self.alloc, disk, out),
+            _ => {
+                let (size, failures) = (disk.size(), disk.failures());
+                push(
+                    out,
+                    &format!(in self.alloc; "{size} bytes, {failures} failures").ok()?,
+                )
+            }
+        }
+    }
+
+    fn answer_of_path(
+        &mut self,
+        rt: &HostRuntime,
+        verb: &str,
+        (name, rest): (&str, &str),
+        out: &mut Vec<u8>,
+    ) -> Option<()> {
+        let path = path_in_temp(rt, name)?;
+        let path = path.as_str();
+        match verb {
+            "create" => {
+                let made = FileDisk::create(&mut FilePath::new(rt, path), size(rest)?);
+                self.lay(made, "created", out)
+            }
+            "open" => {
+                let made = FileDisk::open(&mut FilePath::new(rt, path));
+                self.lay(made, "opened", out)
+            }
+            "cut" => push_done(cut(rt, path, rest.parse::<u64>().ok()?), out),
+            "lock" => push_done(lock(rt, path), out),
+            "locked" => {
+                let is_refused = is_refused(FileDisk::open(&mut FilePath::new(rt, path)));
+                push(
+                    out,
+                    if is_refused {
+                        "refused, or to a privileged user opened"
+                    } else {
+                        "refused otherwise"
+                    },
+                )
+            }
+            _ => push_done(fs::remove_file(rt, path), out),
+        }
+    }
+
+    /// Answers a line. `create`, `open`, `cut`, `lock`, `locked` and `remove` have a file's name behind them; `close` closes the disk, `put`,
+    /// `sync`, `read` and `size` concern it, and `folder` opens a folder.
+    pub fn answer(&mut self, rt: &HostRuntime, asked: &str, out: &mut Vec<u8>) -> Option<()> {
+        let (verb, rest) = asked.split_once(' ').unwrap_or((asked, ""));
+        match verb {
+            "close" => {
+                self.disk = None;
+                push(out, "done")
+            }
+            "folder" => push_folder(rt, out),
+            "put" | "sync" | "read" | "size" => self.answer_of_disk(verb, rest, out),
+            "create" | "open" | "cut" | "lock" | "locked" | "remove" => {
+                let named = rest.split_once(' ').unwrap_or((rest, ""));
+                self.answer_of_path(rt, verb, named, out)
+            }
+            _ => None,
+        }
+    }
 }

@@ -99,16 +99,3 @@ pub fn append<D: Disk>(
     let laid = laid_record(alloc, kind, body)?;
     Ok(journal.append(disk, &laid, hold, release))
 }
-
-/// What opening finds: how many records there are, or where the region is damaged.
-pub fn found<D: Disk>(
-    alloc: Global,
-    disk: &mut D,
-    region: Region,
-) -> Result<Result<usize, usize>, OpenError> {
-    match open(alloc, disk, region) {
-        Ok((_, records)) => Ok(Ok(records.len())),
-        Err(OpenError::Damaged { at }) => Ok(Err(at)),
-        Err(error) => Err(error),
-    }
-}

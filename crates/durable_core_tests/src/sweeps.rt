@@ -1,246 +1,208 @@
 //! Crashes at each device call of a script.
 
-use crate::asking::{Ask, Call, Told, ask_one};
-use crate::stores::{SIXTY_FOUR_MIB, Shown, TWO_MIB, show};
-use drda_disk::{Disk, FuseDisk, MemDisk};
-use durable_core::{DurableCore, open};
+use crate::bench::TWO_MIB;
+use crate::opened::{Opened, fresh};
+use crate::shown::{push_left, push_shown};
+use drda_disk::{FuseDisk, MemDisk};
+use durable_core::open;
 use half_store::format;
 use std::alloc::Global;
-use std::test::Fail;
-use xa_calls::{Ending, Verb};
+use test_calls::{Scripts, push_text};
 
-const NO_TABLE: Shown = (*b"00000", *b"---");
-
-const ONE: Shown = (*b"+----", *b"---");
-
-const FIRST_IN_DOUBT: Shown = (*b"+?---", *b"?--");
-
-const TWO: Shown = (*b"++---", *b"---");
-
-const SECOND_IN_DOUBT: Shown = (*b"++?--", *b"-?-");
-
-const ONE_LESS: Shown = (*b"-+---", *b"---");
-
-const CREATE: &'static str = "CREATE TABLE T (A INTEGER NOT NULL, PRIMARY KEY (A))";
-
-// The calls, and what a crash behind each leaves: a commit, a branch that is prepared and committed, one
-// that is prepared and rolled back, a rollback, a commit in one phase, and a unit that is left open.
-const EVENTS: [(Call, Shown); 21] = [
-    ((1, Ask::Run(CREATE), Told::Count(0)), NO_TABLE),
-    (
-        (1, Ask::Run("INSERT INTO T VALUES (1)"), Told::Count(1)),
-        NO_TABLE,
-    ),
-    ((1, Ask::Commit, Told::Done), ONE),
-    ((2, Ask::Xa(Verb::Start, 0x47), Told::Code(0)), ONE),
-    (
-        (2, Ask::Run("INSERT INTO T VALUES (2)"), Told::Count(1)),
-        ONE,
-    ),
-    (
-        (2, Ask::Xa(Verb::End(Ending::Kept), 0x47), Told::Code(0)),
-        ONE,
-    ),
-    (
-        (2, Ask::Xa(Verb::Prepare, 0x47), Told::Code(0)),
-        FIRST_IN_DOUBT,
-    ),
-    ((1, Ask::Xa(Verb::Commit, 0x47), Told::Code(0)), TWO),
-    ((3, Ask::Xa(Verb::Start, 0x48), Told::Code(0)), TWO),
-    (
-        (3, Ask::Run("INSERT INTO T VALUES (3)"), Told::Count(1)),
-        TWO,
-    ),
-    (
-        (3, Ask::Xa(Verb::End(Ending::Kept), 0x48), Told::Code(0)),
-        TWO,
-    ),
-    (
-        (3, Ask::Xa(Verb::Prepare, 0x48), Told::Code(0)),
-        SECOND_IN_DOUBT,
-    ),
-    ((3, Ask::Lost, Told::Done), SECOND_IN_DOUBT),
-    ((1, Ask::Xa(Verb::RollBack, 0x48), Told::Code(0)), TWO),
-    (
-        (1, Ask::Run("INSERT INTO T VALUES (4)"), Told::Count(1)),
-        TWO,
-    ),
-    ((1, Ask::RollBack, Told::Done), TWO),
-    ((4, Ask::Xa(Verb::Start, 0x49), Told::Code(0)), TWO),
-    (
-        (4, Ask::Run("DELETE FROM T WHERE A = 1"), Told::Count(1)),
-        TWO,
-    ),
-    (
-        (4, Ask::Xa(Verb::End(Ending::Kept), 0x49), Told::Code(0)),
-        TWO,
-    ),
-    (
-        (4, Ask::Xa(Verb::CommitOnePhase, 0x49), Told::Code(0)),
-        ONE_LESS,
-    ),
-    (
-        (1, Ask::Run("INSERT INTO T VALUES (5)"), Told::Count(1)),
-        ONE_LESS,
-    ),
-];
-
-// A unit in doubt, and a checkpoint with it; and once more, into the half that was there first, with a branch at
-// work.
-const CHECKPOINTS: [(Call, Shown); 11] = [
-    ((1, Ask::Run(CREATE), Told::Count(0)), NO_TABLE),
-    (
-        (1, Ask::Run("INSERT INTO T VALUES (1)"), Told::Count(1)),
-        NO_TABLE,
-    ),
-    ((1, Ask::Commit, Told::Done), ONE),
-    ((2, Ask::Xa(Verb::Start, 0x47), Told::Code(0)), ONE),
-    (
-        (2, Ask::Run("INSERT INTO T VALUES (2)"), Told::Count(1)),
-        ONE,
-    ),
-    (
-        (2, Ask::Xa(Verb::End(Ending::Kept), 0x47), Told::Code(0)),
-        ONE,
-    ),
-    (
-        (2, Ask::Xa(Verb::Prepare, 0x47), Told::Code(0)),
-        FIRST_IN_DOUBT,
-    ),
-    ((0, Ask::Checkpoint, Told::Done), FIRST_IN_DOUBT),
-    (
-        (4, Ask::Xa(Verb::Start, 0x49), Told::Code(0)),
-        FIRST_IN_DOUBT,
-    ),
-    (
-        (4, Ask::Run("DELETE FROM T WHERE A = 1"), Told::Count(1)),
-        FIRST_IN_DOUBT,
-    ),
-    ((0, Ask::Checkpoint, Told::Done), FIRST_IN_DOUBT),
-];
-
-// What a crash behind the last answered event leaves, and what it leaves if the next one is done too.
-fn run_all<D: Disk>(
-    alloc: Global,
-    core: &mut DurableCore<D>,
-    events: &[(Call, Shown)],
-) -> (Shown, Option<Shown>) {
-    let mut last = NO_TABLE;
-    for ((conversation, asked, told), shown) in events {
-        if ask_one(alloc, core, *conversation, *asked) != Some(*told) {
-            return (last, Some(*shown));
-        }
-        last = *shown;
-    }
-    (last, None)
+/// A call, what it is told, and what a crash behind it leaves.
+#[derive(Drop)]
+pub struct Event {
+    line: String,
+    told: Vec<u8>,
+    shown: Vec<u8>,
 }
 
-// The same in a fresh store, where the device stops behind so many calls, those of the opening included;
-// and the disk. What the disk was is formatted away.
+/// What a crash leaves before the first event.
+const NO_TABLE: &[u8] = b"00000 ---";
+
+// What the last of the first calls of a fresh store is told, and the disk then.
+fn played(
+    alloc: Global,
+    scripts: &Scripts,
+    lines: &str,
+    count: usize,
+) -> Option<(Vec<u8>, MemDisk)> {
+    let disk = FuseDisk::new(fresh(alloc, TWO_MIB)?, u64::MAX, false);
+    let core = open(alloc, disk).ok()?;
+    let mut opened = Opened { alloc, core };
+    let mut told = Vec::new(alloc);
+    for line in lines.lines().take(count) {
+        told.clear();
+        scripts.tell(&mut opened, line, &mut told)?;
+    }
+    Some((told, opened.core.into_disk().into_inner()))
+}
+
+fn played_event(
+    alloc: Global,
+    scripts: &Scripts,
+    lines: &str,
+    (place, line): (usize, &str),
+) -> Option<Event> {
+    let (told, disk) = played(alloc, scripts, lines, place.saturating_add(1))?;
+    let mut shown = Vec::new(alloc);
+    push_left(scripts, alloc, disk, 0, &mut shown)?;
+    let line = String::from_str(alloc, line).ok()?;
+    Some(Event { line, told, shown })
+}
+
+/// Appends what each call of a fresh store is told, and what a crash behind it leaves.
+pub fn events(
+    alloc: Global,
+    scripts: &Scripts,
+    lines: &str,
+    out: &mut Vec<u8>,
+) -> Option<Vec<Event>> {
+    let mut events = Vec::new(alloc);
+    for (place, line) in lines.lines().enumerate() {
+        let event = played_event(alloc, scripts, lines, (place, line))?;
+        push_text(out, if place == 0 { "" } else { "\n  " })?;
+        push_event(&event, out)?;
+        events.push(event).ok()?;
+    }
+    Some(events)
+}
+
+fn push_event(event: &Event, out: &mut Vec<u8>) -> Option<()> {
+    push_text(out, event.line.as_str())?;
+    push_text(out, ": ")?;
+    out.extend_from_slice(&event.told).ok()?;
+    push_text(out, ", leaves ")?;
+    out.extend_from_slice(&event.shown).ok()
+}
+
+// How many events are told as they were, up to the first that is not.
+fn count_told(scripts: &Scripts, opened: &mut Opened, events: &[Event]) -> Option<usize> {
+    for (place, event) in events.iter().enumerate() {
+        let mut told = Vec::new(opened.alloc);
+        scripts.tell(opened, event.line.as_str(), &mut told)?;
+        if told != event.told {
+            return Some(place);
+        }
+    }
+    Some(events.len())
+}
+
+// The same in a fresh store, where the device stops behind so many calls, those of the opening included; and the disk. What the disk was
+// is formatted away.
 fn stopped(
     alloc: Global,
+    scripts: &Scripts,
+    events: &[Event],
     disk: MemDisk,
-    events: &[(Call, Shown)],
     calls: u64,
-) -> Option<(Shown, Option<Shown>, FuseDisk<MemDisk>)> {
+) -> Option<(usize, FuseDisk<MemDisk>)> {
     let mut disk = disk;
     format(alloc, &mut disk, "SHOP").ok()?;
     match open(alloc, FuseDisk::new(disk, calls, false)) {
-        Ok(mut core) => {
-            let (last, next) = run_all(alloc, &mut core, events);
-            Some((last, next, core.into_disk()))
+        Ok(core) => {
+            let mut opened = Opened { alloc, core };
+            let count = count_told(scripts, &mut opened, events)?;
+            Some((count, opened.core.into_disk()))
         }
-        Err(refused) => Some((NO_TABLE, Some(NO_TABLE), refused.disk)),
+        Err(refused) => Some((0, refused.disk)),
     }
+}
+
+// Whether this is what stood behind the last event that was told, or what the next one leaves.
+fn is_left(events: &[Event], count: usize, shown: &[u8]) -> bool {
+    let last = match count.checked_sub(1) {
+        Some(place) => match events.get(place) {
+            Some(event) => event.shown.as_slice() == shown,
+            None => false,
+        },
+        None => shown == NO_TABLE,
+    };
+    let next = match events.get(count) {
+        Some(event) => event.shown.as_slice() == shown,
+        None => false,
+    };
+    last || next
 }
 
 // Whether a crash there leaves one of the two, and the disk.
 fn leaves_one(
     alloc: Global,
+    scripts: &Scripts,
+    events: &[Event],
     disk: MemDisk,
-    events: &[(Call, Shown)],
-    calls: u64,
-    pick: u64,
+    (calls, pick): (u64, u64),
 ) -> Option<(bool, MemDisk)> {
-    let (last, next, left) = stopped(alloc, disk, events, calls)?;
-    let mut core = open(alloc, left.into_inner().after_crash(pick)).ok()?;
-    let shown = show(alloc, &mut core);
-    Some((shown == last || next == Some(shown), core.into_disk()))
+    let (count, left) = stopped(alloc, scripts, events, disk, calls)?;
+    let left = FuseDisk::new(left.into_inner().after_crash(pick), u64::MAX, false);
+    let core = open(alloc, left).ok()?;
+    let mut opened = Opened { alloc, core };
+    let mut shown = Vec::new(alloc);
+    push_shown(scripts, &mut opened, &mut shown)?;
+    let disk = opened.core.into_disk().into_inner();
+    Some((is_left(events, count, &shown), disk))
 }
 
-// The same of crashes of several kinds.
-fn leaves_only(
+/// How many crashes there were, and how many left something else.
+type Counts = (u64, u64);
+
+// Crashes of several kinds at one device call.
+fn crash_at(
     alloc: Global,
-    disk: MemDisk,
-    events: &[(Call, Shown)],
-    calls: u64,
-    picks: &[u64],
-) -> Option<(bool, MemDisk)> {
-    let (mut only, mut disk) = (true, disk);
-    for pick in picks {
-        let (one, left) = leaves_one(alloc, disk, events, calls, *pick)?;
-        only = only && one;
+    scripts: &Scripts,
+    events: &[Event],
+    (disk, calls, picks): (MemDisk, u64, &str),
+    counts: &mut Counts,
+) -> Option<MemDisk> {
+    let mut disk = disk;
+    for pick in picks.split_ascii_whitespace() {
+        let pick = pick.parse::<u64>().ok()?;
+        let (is_one, left) = leaves_one(alloc, scripts, events, disk, (calls, pick))?;
         disk = left;
+        counts.0 = counts.0.wrapping_add(1);
+        counts.1 = counts.1.wrapping_add(u64::from(!is_one));
     }
-    Some((only, disk))
+    Some(disk)
 }
 
-// Whether all crashes at the last so many device calls of the script, in a store of so many bytes, leave
-// one of the two.
-fn leaves_whole_units(
+// Crashes at the last so many device calls of the events, which are all told as they were where the device does not stop.
+fn crash_all(
     alloc: Global,
-    size: usize,
-    events: &[(Call, Shown)],
-    calls: u64,
-    picks: &[u64],
-) -> Option<bool> {
+    scripts: &Scripts,
+    events: &[Event],
+    (size, calls, picks): (usize, u64, &str),
+    counts: &mut Counts,
+) -> Option<()> {
     let disk = MemDisk::new(alloc, size).ok()?;
-    let (_, next, whole) = stopped(alloc, disk, events, u64::MAX)?;
-    let mut only = next == None;
+    let (count, whole) = stopped(alloc, scripts, events, disk, u64::MAX)?;
     let end = whole.calls();
     let mut disk = whole.into_inner();
-    for k in end.saturating_sub(calls)..=end {
-        let (one, left) = leaves_only(alloc, disk, events, k, picks)?;
-        only = only && one;
-        disk = left;
+    if count != events.len() {
+        return None;
     }
-    Some(only)
+    for k in end.saturating_sub(calls)..=end {
+        disk = crash_at(alloc, scripts, events, (disk, k, picks), counts)?;
+    }
+    Some(())
 }
 
-// Without the writes since the last sync, with them, and with parts of them by two masks.
-#[test]
-fn a_crash_leaves_whole_units(rt: HostRuntime) -> Result<(), Fail> {
-    let whole = leaves_whole_units(rt.alloc(), TWO_MIB, &EVENTS, u64::MAX, &[0, 1, 2, 3]);
-    assert_eq!(rt; whole, Some(true));
-    Ok(())
-}
-
-// By four other masks.
-#[test]
-fn a_crash_inside_of_writes_leaves_whole_units(rt: HostRuntime) -> Result<(), Fail> {
-    let whole = leaves_whole_units(rt.alloc(), TWO_MIB, &EVENTS, u64::MAX, &[4, 5, 6, 7]);
-    assert_eq!(rt; whole, Some(true));
-    Ok(())
-}
-
-// At the calls of the last record.
-#[test]
-fn a_crash_leaves_whole_units_of_a_large_store(rt: HostRuntime) -> Result<(), Fail> {
-    let whole = leaves_whole_units(
-        rt.alloc(),
-        SIXTY_FOUR_MIB,
-        &EVENTS,
-        4,
-        &[0, 1, 2, 3, 4, 5, 6, 7],
-    );
-    assert_eq!(rt; whole, Some(true));
-    Ok(())
-}
-
-// At the calls of both checkpoints and of the prepare before them.
-#[test]
-fn a_crash_inside_of_a_checkpoint_leaves_what_was_there(rt: HostRuntime) -> Result<(), Fail> {
-    let whole = leaves_whole_units(rt.alloc(), TWO_MIB, &CHECKPOINTS, 32, &[0, 1, 5]);
-    assert_eq!(rt; whole, Some(true));
-    Ok(())
+/// Crashes of these picks at the last so many device calls of the events, in a store of so many bytes. Appends how many there were, and how
+/// many left neither what stood behind the last event that was told nor what the next one leaves.
+pub fn sweep(
+    alloc: Global,
+    scripts: &Scripts,
+    events: &[Event],
+    rest: &str,
+    out: &mut Vec<u8>,
+) -> Option<()> {
+    let (size, rest) = rest.split_once(' ')?;
+    let (calls, picks) = rest.split_once(' ')?;
+    let (size, calls) = (size.parse::<usize>().ok()?, calls.parse::<u64>().ok()?);
+    let mut counts = (0, 0);
+    crash_all(alloc, scripts, events, (size, calls, picks), &mut counts)?;
+    let (crashes, wrong) = counts;
+    push_text(
+        out,
+        &format!(in alloc; "{crashes} crashes, {wrong} of them wrong").ok()?,
+    )
 }
