@@ -57,9 +57,10 @@ def load_of(programs, server):
 
 
 class Rates:
-    """Rates by work, width and server, one a round."""
+    """Figures by work, width and server, one a round, and what they count."""
 
-    def __init__(self):
+    def __init__(self, unit="a second"):
+        self.unit = unit
         self.found = collections.defaultdict(lambda: collections.defaultdict(list))
 
     def add(self, work, width, rates):
@@ -67,7 +68,8 @@ class Rates:
             self.found[work, width][name].append(rate)
         with open("/proc/loadavg") as load:
             waiting = load.read().split()[0]
-        print(f"{work} {width}:", ", ".join(f"{name} {rate:,.0f}" for name, rate in rates.items()), f"(load {waiting})", flush=True)
+        told = ", ".join(f"{name} {rate:,.0f}" for name, rate in rates.items())
+        print(f"{work} {width}, {self.unit}: {told} (load {waiting})", flush=True)
 
     def tell(self):
         """A line for each work and width."""
@@ -75,7 +77,7 @@ class Rates:
             each = ("%s %s (%s to %s)" % (name, *(f"{it:,.0f}" for it in (statistics.median(all_of), min(all_of), max(all_of))))
                     for name, all_of in rates.items())
             ratios = (f"{statistics.median(map(ratio, rates[OURS], rates[name])):.2f} of {name}" for name in rates if name != OURS)
-            print(f"{work}, {width} connections, a second: {', '.join(each)}; {', '.join(ratios)}", flush=True)
+            print(f"{work}, {width} connections, {self.unit}: {', '.join(each)}; {', '.join(ratios)}", flush=True)
 
 
 def ratio(one, other):
