@@ -17,6 +17,9 @@ SEVERITIES = {
     wire.MGRDEPRM: {8}, wire.AGNPRMRM: {64},
 }
 
+# Refusals that the bytes of a command and its stage call for, and nothing else does.
+BY_BYTES = {wire.SYNTAXRM, wire.CMDNSPRM, wire.PRCCNVRM, wire.RDBNACRM, wire.RDBACCRM, wire.VALNSPRM}
+
 Command = namedtuple("Command", "correlator is_chained goes_on request objects")
 Fault = namedtuple("Fault", "code correlator")
 
@@ -32,13 +35,17 @@ def check(is_so, said):
 
 # ---- what comes in
 
+def is_head(kind, size):
+    """Whether an event may begin so."""
+    return size <= MOST_OF_EVENT if kind == events.SENDS else kind in (events.OPENS, events.IS_LOST, events.CHECKPOINT) and size == 0
+
+
 def event_list(data):
     """The events that a stream begins with, and whether the rest of it is a bad event; a rest of nothing is none."""
     found, at = [], 0
     while len(data) - at >= events.HEAD.size:
         kind, number, size = events.HEAD.unpack_from(data, at)
-        is_event = size <= MOST_OF_EVENT if kind == events.SENDS else kind in (events.OPENS, events.IS_LOST, events.CHECKPOINT) and size == 0
-        if not is_event or len(data) - at - events.HEAD.size < size:
+        if not is_head(kind, size) or len(data) - at - events.HEAD.size < size:
             return found, True
         found.append((kind, number, data[at + events.HEAD.size:at + events.HEAD.size + size]))
         at += events.HEAD.size + size
@@ -65,8 +72,9 @@ class Framing:
             self.dsss.append(one)
             form = one[0]
             if not (form & wire.CHAINED and form & wire.SAME):
-                first = self.dsss[0]
-                found.append(Command(first[1], bool(form & wire.CHAINED), bool(first[0] & wire.GOES_ON), first[2], [it[2] for it in self.dsss[1:]]))
+                (begins, correlator, request), *objects = self.dsss
+                is_chained, goes_on = bool(form & wire.CHAINED), bool(begins & wire.GOES_ON)
+                found.append(Command(correlator, is_chained, goes_on, request, [data for _, _, data in objects]))
                 self.dsss = []
 
     def next_dss(self):
@@ -217,7 +225,8 @@ READ = {
 REQUIRED = {
     wire.ACCSEC: {wire.SECMEC}, wire.SECCHK: {wire.SECMEC}, wire.ACCRDB: {wire.RDBNAM, wire.TYPDEFNAM}, wire.EXCSQLIMM: {wire.SQLSTT},
     wire.PRPSQLSTT: {wire.PKGNAMCSN, wire.SQLSTT}, wire.DSCSQLSTT: {wire.PKGNAMCSN}, wire.EXCSQLSTT: {wire.PKGNAMCSN},
-    wire.OPNQRY: {wire.PKGNAMCSN, wire.QRYBLKSZ}, wire.CNTQRY: {wire.PKGNAMCSN}, wire.CLSQRY: {wire.PKGNAMCSN}, wire.SYNCCTL: {wire.SYNCTYPE},
+    wire.OPNQRY: {wire.PKGNAMCSN, wire.QRYBLKSZ}, wire.CNTQRY: {wire.PKGNAMCSN}, wire.CLSQRY: {wire.PKGNAMCSN},
+    wire.SYNCCTL: {wire.SYNCTYPE},
 }
 
 FRESH, KNOWN, MECHANISM_CHOSEN, CHECKED, OPENED = range(5)
@@ -250,9 +259,13 @@ def judge_command(command, stage):
     there = [one for data in command.objects for one in objects_of(data, judges_of(data_objects))]
     if len(there) > MOST_OBJECTS:
         raise syntax(0x0F)
-    read = [(one, [data for found, data in list if found == one]) for items, list in ((parameters, here), (data_objects, there)) for one in items]
+    read = [(one, named_in(here, one)) for one in parameters] + [(one, named_in(there, one)) for one in data_objects]
     judge_items(REQUIRED.get(code, ()), read)
     return code
+
+
+def named_in(parts, code):
+    return [data for found, data in parts if found == code]
 
 
 def judges_of(items):
@@ -376,7 +389,8 @@ class Conversation:
         self.is_broken = breaks and command.is_chained
         for one in replies[:-1]:
             check(one.form & 0x70 == wire.CHAINED | wire.SAME, "a reply that is not the last has another form")
-        check(replies[-1].form & 0x70 == (wire.CHAINED if command.is_chained and not breaks else 0), "the last reply is chained otherwise")
+        due = wire.CHAINED if command.is_chained and not breaks else 0
+        check(replies[-1].form & 0x70 == due, "the last reply is chained otherwise")
         check(replies[0].correlator == command.correlator, "another correlator than the command's")
         self.judge_refusal(command, replies)
         return worst >= DAMAGE
@@ -395,7 +409,7 @@ class Conversation:
             elif wanted == wire.VALNSPRM:
                 check(int.from_bytes(told(first, wire.CODPNT), "big") in number, "VALNSPRM names another code point")
             return
-        check(first.code not in (wire.SYNTAXRM, wire.CMDNSPRM, wire.PRCCNVRM, wire.RDBNACRM, wire.RDBACCRM, wire.VALNSPRM), f"{wire.named(first.code)} was not due")
+        check(first.code not in BY_BYTES, f"{wire.named(first.code)} was not due")
         self.go_on(code, first)
 
     def go_on(self, code, reply):
@@ -452,7 +466,8 @@ class Judge:
             wanted, lists = answer[0], self.conversations[number].judge(data, answer[0][2])
         # One that is closed keeps its number until it is lost, and hears nothing more.
         is_closed = is_open and kind == events.SENDS and self.conversations[number].is_closed
-        check(answer == [wanted, *([(events.IS_CLOSED, number, b"")] if is_closed else [])], f"an event {kind:02X} is answered by {answer[0][:2]}")
+        due = [wanted, *([(events.IS_CLOSED, number, b"")] if is_closed else [])]
+        check(answer == due, f"an event {kind:02X} is answered by {answer[0][:2]}")
         return lists
 
     def is_between_commands(self, number):
