@@ -6,6 +6,7 @@ import event_records as events
 from drdad import wire
 
 MOST_OF_DSS, MOST_OF_EVENT, MOST_OBJECTS, PLACES = 1_048_576, 65_536, 8, 64
+RDB = b"SHOP"
 ERROR, DAMAGE = wire.ERROR, wire.PERMANENT_DAMAGE
 # What is answered besides reply messages.
 DATA = {wire.EXCSATRD, wire.ACCSECRD, wire.SQLCARD, wire.SQLDARD, wire.QRYDSC, wire.QRYDTA, wire.SYNCCRD}
@@ -336,6 +337,20 @@ def replies_of(data):
     return lists
 
 
+def messages_of(code, what):
+    """The data that a refusal may have, of this SYNERRCD, code point, or one of several code points; of a stage the database's name
+    in the one encoding or the other."""
+    if code == wire.SYNTAXRM:
+        more = [wire.number_object(wire.SYNERRCD, what, 1)]
+    elif code in (wire.CMDNSPRM, wire.VALNSPRM):
+        more = [wire.number_object(wire.CODPNT, one, 2) for one in ({what} if code == wire.CMDNSPRM else what)]
+    elif code == wire.PRCCNVRM:
+        more = [b""]
+    else:
+        more = [wire.ddm(wire.RDBNAM, name) for name in (RDB.ljust(18), RDB.ljust(18).decode().encode("cp500"))]
+    return [wire.number_object(wire.SVRCOD, ERROR, 2) + one for one in more]
+
+
 def told(reply, code):
     """What a reply message says of a parameter."""
     return wire.find(wire.objects(reply.data), code)
@@ -367,7 +382,8 @@ class Conversation:
             one = replies[0]
             self.is_closed = True
             is_fault = (one.form, one.correlator, one.code) == (wire.REPLY, fault.correlator, wire.SYNTAXRM)
-            check(is_fault and told(one, wire.SYNERRCD) == bytes([fault.code]), f"SYNERRCD {fault.code:02X} of the framing was due")
+            is_told = is_fault and one.data in messages_of(wire.SYNTAXRM, fault.code)
+            check(is_told, f"SYNERRCD {fault.code:02X} of the framing was due")
         check(next(left, None) is None, "more is answered than was asked")
         return lists
 
@@ -402,12 +418,7 @@ class Conversation:
         except Refused as refusal:
             wanted, number = refusal.args
             check(len(replies) == 1 and first.code == wanted, f"{wire.named(wanted)} {number} was due, and not {wire.named(first.code)}")
-            if wanted == wire.SYNTAXRM:
-                check(told(first, wire.SYNERRCD) == bytes([number]), f"SYNERRCD {number:02X} was due")
-            elif wanted == wire.CMDNSPRM:
-                check(told(first, wire.CODPNT) == number.to_bytes(2, "big"), "CMDNSPRM names another code point")
-            elif wanted == wire.VALNSPRM:
-                check(int.from_bytes(told(first, wire.CODPNT), "big") in number, "VALNSPRM names another code point")
+            check(first.data in messages_of(wanted, number), f"{wire.named(wanted)} {number} is told otherwise: {first.data.hex()}")
             return
         check(first.code not in BY_BYTES, f"{wire.named(first.code)} was not due")
         self.go_on(code, first)
