@@ -6,6 +6,7 @@ import event_records as events
 from drdad import wire
 
 MOST_OF_DSS, MOST_OF_EVENT, MOST_OBJECTS, PLACES = 1_048_576, 65_536, 8, 64
+RDB = b"SHOP"
 ERROR, DAMAGE = wire.ERROR, wire.PERMANENT_DAMAGE
 # What is answered besides reply messages.
 DATA = {wire.EXCSATRD, wire.ACCSECRD, wire.SQLCARD, wire.SQLDARD, wire.QRYDSC, wire.QRYDTA, wire.SYNCCRD}
@@ -16,6 +17,9 @@ SEVERITIES = {
     wire.OPNQRYRM: {0}, wire.ENDQRYRM: {4}, wire.OPNQFLRM: {8}, wire.CMDVLTRM: {8}, wire.QRYNOPRM: {8}, wire.QRYPOPRM: {8},
     wire.MGRDEPRM: {8}, wire.AGNPRMRM: {64},
 }
+
+# Refusals that the bytes of a command and its stage call for, and nothing else does.
+BY_BYTES = {wire.SYNTAXRM, wire.CMDNSPRM, wire.PRCCNVRM, wire.RDBNACRM, wire.RDBACCRM, wire.VALNSPRM}
 
 Command = namedtuple("Command", "correlator is_chained goes_on request objects")
 Fault = namedtuple("Fault", "code correlator")
@@ -32,13 +36,17 @@ def check(is_so, said):
 
 # ---- what comes in
 
+def is_head(kind, size):
+    """Whether an event may begin so."""
+    return size <= MOST_OF_EVENT if kind == events.SENDS else kind in (events.OPENS, events.IS_LOST, events.CHECKPOINT) and size == 0
+
+
 def event_list(data):
     """The events that a stream begins with, and whether the rest of it is a bad event; a rest of nothing is none."""
     found, at = [], 0
     while len(data) - at >= events.HEAD.size:
         kind, number, size = events.HEAD.unpack_from(data, at)
-        is_event = size <= MOST_OF_EVENT if kind == events.SENDS else kind in (events.OPENS, events.IS_LOST, events.CHECKPOINT) and size == 0
-        if not is_event or len(data) - at - events.HEAD.size < size:
+        if not is_head(kind, size) or len(data) - at - events.HEAD.size < size:
             return found, True
         found.append((kind, number, data[at + events.HEAD.size:at + events.HEAD.size + size]))
         at += events.HEAD.size + size
@@ -65,8 +73,9 @@ class Framing:
             self.dsss.append(one)
             form = one[0]
             if not (form & wire.CHAINED and form & wire.SAME):
-                first = self.dsss[0]
-                found.append(Command(first[1], bool(form & wire.CHAINED), bool(first[0] & wire.GOES_ON), first[2], [it[2] for it in self.dsss[1:]]))
+                (begins, correlator, request), *objects = self.dsss
+                is_chained, goes_on = bool(form & wire.CHAINED), bool(begins & wire.GOES_ON)
+                found.append(Command(correlator, is_chained, goes_on, request, [data for _, _, data in objects]))
                 self.dsss = []
 
     def next_dss(self):
@@ -217,7 +226,8 @@ READ = {
 REQUIRED = {
     wire.ACCSEC: {wire.SECMEC}, wire.SECCHK: {wire.SECMEC}, wire.ACCRDB: {wire.RDBNAM, wire.TYPDEFNAM}, wire.EXCSQLIMM: {wire.SQLSTT},
     wire.PRPSQLSTT: {wire.PKGNAMCSN, wire.SQLSTT}, wire.DSCSQLSTT: {wire.PKGNAMCSN}, wire.EXCSQLSTT: {wire.PKGNAMCSN},
-    wire.OPNQRY: {wire.PKGNAMCSN, wire.QRYBLKSZ}, wire.CNTQRY: {wire.PKGNAMCSN}, wire.CLSQRY: {wire.PKGNAMCSN}, wire.SYNCCTL: {wire.SYNCTYPE},
+    wire.OPNQRY: {wire.PKGNAMCSN, wire.QRYBLKSZ}, wire.CNTQRY: {wire.PKGNAMCSN}, wire.CLSQRY: {wire.PKGNAMCSN},
+    wire.SYNCCTL: {wire.SYNCTYPE},
 }
 
 FRESH, KNOWN, MECHANISM_CHOSEN, CHECKED, OPENED = range(5)
@@ -250,9 +260,13 @@ def judge_command(command, stage):
     there = [one for data in command.objects for one in objects_of(data, judges_of(data_objects))]
     if len(there) > MOST_OBJECTS:
         raise syntax(0x0F)
-    read = [(one, [data for found, data in list if found == one]) for items, list in ((parameters, here), (data_objects, there)) for one in items]
+    read = [(one, named_in(here, one)) for one in parameters] + [(one, named_in(there, one)) for one in data_objects]
     judge_items(REQUIRED.get(code, ()), read)
     return code
+
+
+def named_in(parts, code):
+    return [data for found, data in parts if found == code]
 
 
 def judges_of(items):
@@ -323,6 +337,20 @@ def replies_of(data):
     return lists
 
 
+def messages_of(code, what):
+    """The data that a refusal may have, of this SYNERRCD, code point, or one of several code points; of a stage the database's name
+    in the one encoding or the other."""
+    if code == wire.SYNTAXRM:
+        more = [wire.number_object(wire.SYNERRCD, what, 1)]
+    elif code in (wire.CMDNSPRM, wire.VALNSPRM):
+        more = [wire.number_object(wire.CODPNT, one, 2) for one in ({what} if code == wire.CMDNSPRM else what)]
+    elif code == wire.PRCCNVRM:
+        more = [b""]
+    else:
+        more = [wire.ddm(wire.RDBNAM, name) for name in (RDB.ljust(18), RDB.ljust(18).decode().encode("cp500"))]
+    return [wire.number_object(wire.SVRCOD, ERROR, 2) + one for one in more]
+
+
 def told(reply, code):
     """What a reply message says of a parameter."""
     return wire.find(wire.objects(reply.data), code)
@@ -354,7 +382,8 @@ class Conversation:
             one = replies[0]
             self.is_closed = True
             is_fault = (one.form, one.correlator, one.code) == (wire.REPLY, fault.correlator, wire.SYNTAXRM)
-            check(is_fault and told(one, wire.SYNERRCD) == bytes([fault.code]), f"SYNERRCD {fault.code:02X} of the framing was due")
+            is_told = is_fault and one.data in messages_of(wire.SYNTAXRM, fault.code)
+            check(is_told, f"SYNERRCD {fault.code:02X} of the framing was due")
         check(next(left, None) is None, "more is answered than was asked")
         return lists
 
@@ -376,7 +405,8 @@ class Conversation:
         self.is_broken = breaks and command.is_chained
         for one in replies[:-1]:
             check(one.form & 0x70 == wire.CHAINED | wire.SAME, "a reply that is not the last has another form")
-        check(replies[-1].form & 0x70 == (wire.CHAINED if command.is_chained and not breaks else 0), "the last reply is chained otherwise")
+        due = wire.CHAINED if command.is_chained and not breaks else 0
+        check(replies[-1].form & 0x70 == due, "the last reply is chained otherwise")
         check(replies[0].correlator == command.correlator, "another correlator than the command's")
         self.judge_refusal(command, replies)
         return worst >= DAMAGE
@@ -388,14 +418,9 @@ class Conversation:
         except Refused as refusal:
             wanted, number = refusal.args
             check(len(replies) == 1 and first.code == wanted, f"{wire.named(wanted)} {number} was due, and not {wire.named(first.code)}")
-            if wanted == wire.SYNTAXRM:
-                check(told(first, wire.SYNERRCD) == bytes([number]), f"SYNERRCD {number:02X} was due")
-            elif wanted == wire.CMDNSPRM:
-                check(told(first, wire.CODPNT) == number.to_bytes(2, "big"), "CMDNSPRM names another code point")
-            elif wanted == wire.VALNSPRM:
-                check(int.from_bytes(told(first, wire.CODPNT), "big") in number, "VALNSPRM names another code point")
+            check(first.data in messages_of(wanted, number), f"{wire.named(wanted)} {number} is told otherwise: {first.data.hex()}")
             return
-        check(first.code not in (wire.SYNTAXRM, wire.CMDNSPRM, wire.PRCCNVRM, wire.RDBNACRM, wire.RDBACCRM, wire.VALNSPRM), f"{wire.named(first.code)} was not due")
+        check(first.code not in BY_BYTES, f"{wire.named(first.code)} was not due")
         self.go_on(code, first)
 
     def go_on(self, code, reply):
@@ -452,7 +477,8 @@ class Judge:
             wanted, lists = answer[0], self.conversations[number].judge(data, answer[0][2])
         # One that is closed keeps its number until it is lost, and hears nothing more.
         is_closed = is_open and kind == events.SENDS and self.conversations[number].is_closed
-        check(answer == [wanted, *([(events.IS_CLOSED, number, b"")] if is_closed else [])], f"an event {kind:02X} is answered by {answer[0][:2]}")
+        due = [wanted, *([(events.IS_CLOSED, number, b"")] if is_closed else [])]
+        check(answer == due, f"an event {kind:02X} is answered by {answer[0][:2]}")
         return lists
 
     def is_between_commands(self, number):

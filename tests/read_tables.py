@@ -13,7 +13,8 @@ def questions(store):
     for number, name in enumerate(sorted(store.tables), 1):
         section = wire.section("SHOP", number)
         query = wire.ddm(wire.OPNQRY, section + wire.number_object(wire.QRYBLKSZ, 10_485_760))
-        sent += [wire.command(7, wire.ddm(wire.PRPSQLSTT, section), wire.statement(f"SELECT * FROM {name.decode()}")), wire.command(8, query)]
+        words = wire.statement(f"SELECT * FROM {name.decode()}")
+        sent += [wire.command(7, wire.ddm(wire.PRPSQLSTT, section), words), wire.command(8, query)]
     return talk.sent + b"".join(events.record(events.SENDS, 0, one) for one in sent), len(events.records(talk.answered))
 
 

@@ -75,7 +75,8 @@ def schema_in(front):
         columns.append(Column(name, kind, bool(takes_null), length))
     key = tuple(front.number(1) for _ in range(front.number(1)))
     need(len(columns) <= 64 and len({one.name for one in columns}) == len(columns))
-    need(1 <= len(key) <= 4 and len(set(key)) == len(key) and all(place < len(columns) and not columns[place].takes_null for place in key))
+    need(1 <= len(key) <= 4 and len(set(key)) == len(key))
+    need(all(place < len(columns) and not columns[place].takes_null for place in key))
     return Schema(tuple(columns), key)
 
 
