@@ -5,8 +5,10 @@ mod doubts;
 mod fault;
 mod files;
 mod listening;
+mod log;
 mod logins;
 mod network;
+mod notice;
 mod program;
 mod records;
 mod rooms;
@@ -14,11 +16,14 @@ mod stores;
 mod streams;
 mod threads;
 mod version;
+mod watching;
 
 // What a stream tells of that is read.
 pub use drda_node::Ready;
 pub use fault::Fault;
 pub use files::{StoreFiles, SystemFiles};
+pub use log::{ErrorLog, Log, Silent};
 pub use network::{Network, SystemNetwork};
+pub use notice::{Ending, Notice};
 pub use program::run_words;
 pub use threads::{Streams, serve_at, serve_streams};

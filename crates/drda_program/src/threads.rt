@@ -4,16 +4,21 @@ ghost use denote.Param.Send.{IsSend, IsSync};
 ghost use Rattle.std.specs.Prelude.{◌≡◌, IfOk, IfSome, length};
 ghost use Rattle.drda_program.specs.Threads.{IsServed};
 
+use crate::log::Log;
+use crate::notice::{Ending, Notice};
+use crate::watching::Watched;
 use command_kit::Ask;
 use conversation::{Front, Settings};
 use drda_disk::Disk;
 use dss_frames::stays_read;
-use shared_node::{Desk, Gate, Pass, Shared};
+use shared_node::{Admission, Desk, Gate, Pass, Shared, Turn};
 use std::alloc::{AllocError, Global};
 use std::io::{Read, Write};
+use std::net::SocketAddr;
 use std::sync::Wait;
 use std::thread::{self, JoinHandle, Threads};
-use stream_service::serve;
+use std::time::Clock;
+use stream_service::{Served, serve};
 
 /// How many conversations are served at a time.
 const PLACES: usize = 64;
@@ -28,71 +33,130 @@ pub trait Streams {
 
     /// Waits for the next stream; none where no more will come.
     fn next(&mut self) -> Option<(Self::Reader, Self::Writer)>;
+
+    /// Whose stream the last one is, where that is known.
+    fn peer(&self) -> Option<SocketAddr> {
+        None
+    }
 }
 
 /// What all threads share.
 #[derive(Clone, Copy)]
-struct Hall<'a, D: Disk, R: Wait, G: Gate> {
+struct Hall<'a, D: Disk, R: Wait, G: Gate, L: Log> {
     rt: &'a R,
     alloc: Global,
     shared: &'a Shared<D>,
     settings: &'a Settings,
     gate: &'a G,
+    log: &'a L,
+}
+
+/// A gate whose turns are told.
+#[derive(Clone, Copy)]
+struct Told<'a, G: Gate, L: Log> {
+    gate: &'a G,
+    log: &'a L,
+}
+
+impl<G: Gate, L: Log> Gate for Told<'_, G, L> {
+    fn turn(&self, conversation: u64, n: u64) {
+        self.gate.turn(conversation, n);
+    }
+
+    fn after(&self, conversation: u64, turn: &Turn) {
+        self.gate.after(conversation, turn);
+        tell_turn(self.log, turn);
+    }
+}
+
+// Tells of a checkpoint that was written, and of a device that failed.
+fn tell_turn<L: Log>(log: &L, turn: &Turn) {
+    if let Some(room) = turn.checkpointed {
+        log.tell(Notice::Checkpoint {
+            micros: turn.held,
+            room,
+        });
+    }
+    if turn.has_failed {
+        log.tell(Notice::DeviceFailed);
+    }
 }
 
 /// Serves a conversation over a stream, at a desk: what it is answered is what the desk's pass shows as listed,
 /// and its loss is the last call. Where memory is refused before the first byte, nothing is heard or written.
-pub fn serve_at<'a, D: Disk, R: Wait, G: Gate, I: Read, O: Write>(
+pub fn serve_at<'a, D: Disk, R: Wait + Clock, G: Gate, I: Read, O: Write>(
     alloc: Global,
     settings: &Settings,
     desk: &mut Desk<'a, D, R, G>,
     reader: &mut I,
     writer: &mut O,
-)
+) -> Served
     ensures { IfSome (I.remaining reader.old) (λ input. IsServed ⟦<Desk<'a, D, R, G> as Ask>⟧.asks settings.now desk.old input (O.contents writer.old) (O.contents writer.new) desk.new) }
 {
     stays_read();
-    if let Ok(mut front) = Front::new(alloc, settings) {
-        let _ = serve(alloc, &mut front, reader, writer, desk);
+    match Front::new(alloc, settings) {
+        Ok(mut front) => serve(alloc, &mut front, reader, writer, desk),
+        Err(_) => Served::NoMemory,
     }
 }
 
 // One conversation, in its thread. What it left unfinished is lost at its end, and its leave is given back.
-fn attend<D: Disk, R: Wait, G: Gate, I: Read + Drop, O: Write + Drop>(
-    hall: &Hall<'_, D, R, G>,
+fn attend<D: Disk, R: Wait + Clock, G: Gate, L: Log, I: Read + Drop, O: Write + Drop>(
+    hall: &Hall<'_, D, R, G, L>,
     pass: Pass,
     reader: I,
     writer: O,
 ) {
+    let conversation = pass.conversation();
+    let gate = Told {
+        gate: hall.gate,
+        log: hall.log,
+    };
     let mut reader = reader;
-    let mut writer = writer;
-    let mut desk = Desk::new(hall.rt, hall.shared, hall.gate, pass);
-    serve_at(
+    let mut writer = Watched::new(writer, hall.log, conversation);
+    let mut desk = Desk::new(hall.rt, hall.shared, &gate, pass);
+    let served = serve_at(
         hall.alloc,
         hall.settings,
         &mut desk,
         &mut reader,
         &mut writer,
     );
-    let _ = hall.shared.retire(hall.rt, desk.into_pass());
+    let (waited, held) = (desk.longest_wait(), desk.longest_hold());
+    let pass = desk.into_pass();
+    let calls = pass.count();
+    let _ = hall.shared.retire(hall.rt, pass);
+    hall.log.tell(Notice::Ends {
+        conversation,
+        ending: Ending {
+            served,
+            is_let_in: writer.is_let_in(),
+            calls,
+            waited,
+            held,
+        },
+    });
 }
 
 /// Serves the conversation of each stream in a thread of its own, until no more streams come; all have ended
 /// when it returns. A stream that comes while 64 are served is closed at once; where no thread can be made, the
-/// stream is served here, before the next is waited for. `gate` says when a call may be made. Refused only before
+/// stream is served here, before the next is waited for. One that comes once the device has failed is closed, and
+/// is the last. `gate` says when a call may be made, `log` is told what becomes of the streams. Refused only before
 /// the first stream, where there is no memory for 64 threads' names.
-pub fn serve_streams<D, R, G, S>(
+pub fn serve_streams<D, R, G, L, S>(
     rt: &R,
     alloc: Global,
     shared: &Shared<D>,
     settings: &Settings,
     gate: &G,
+    log: &L,
     streams: &mut S,
 ) -> Result<(), AllocError>
 where
     D: Disk + Send + Drop,
-    R: Threads + Wait + Sync,
+    R: Threads + Wait + Clock + Sync,
     G: Gate + Sync,
+    L: Log + Sync,
     S: Streams,
     S::Reader: Send,
     S::Writer: Send,
@@ -103,6 +167,7 @@ where
         shared,
         settings,
         gate,
+        log,
     };
     serve_in(rt, &hall, streams)
 }
@@ -119,11 +184,16 @@ fn no_threads(alloc: Global) -> Result<Vec<Option<JoinHandle<()>>>, AllocError>
 }
 
 // The same in a hall.
-fn serve_in<D, R, G, S>(rt: &R, hall: &Hall<'_, D, R, G>, streams: &mut S) -> Result<(), AllocError>
+fn serve_in<D, R, G, L, S>(
+    rt: &R,
+    hall: &Hall<'_, D, R, G, L>,
+    streams: &mut S,
+) -> Result<(), AllocError>
 where
     D: Disk + Send + Drop,
-    R: Threads + Wait + Sync,
+    R: Threads + Wait + Clock + Sync,
     G: Gate + Sync,
+    L: Log + Sync,
     S: Streams,
     S::Reader: Send,
     S::Writer: Send,
@@ -132,17 +202,28 @@ where
         thread::scope_env(),
         rt,
         move |scope| -> Result<(), AllocError>
-            requires { IsSync R.row × IsSync G.row × IsSend D.row × IsSend S.Reader.row × IsSend S.Writer.row }
+            requires { IsSync R.row × IsSync G.row × IsSync L.row × IsSend D.row × IsSend S.Reader.row × IsSend S.Writer.row }
         {
             let mut threads = no_threads(hall.alloc)?;
-            hall.shared.consider_checkpoint(rt);
+            tell_turn(hall.log, &hall.shared.consider_checkpoint(rt));
             'serving: for _ in 0..u64::MAX {
                 let Some((reader, writer)) = streams.next() else {
                     break 'serving;
                 };
-                let Some(pass) = hall.shared.admit(rt) else {
+                let received = hall.shared.receive(rt);
+                if matches!(received, Admission::Failed) {
+                    break 'serving;
+                }
+                let Admission::Admitted(pass) = received else {
+                    hall.log.tell(Notice::TurnedAway {
+                        peer: streams.peer(),
+                    });
                     continue 'serving;
                 };
+                hall.log.tell(Notice::Begins {
+                    conversation: pass.conversation(),
+                    peer: streams.peer(),
+                });
                 let place = pass.place();
                 // Whoever had this place has given its leave back, so its thread is at its end.
                 if let Some(thread) = threads[place].take() {

@@ -29,6 +29,8 @@ pub enum Way {
 pub struct Callers<'a> {
     pub way: Way,
     pub said: &'a [u8],
+    /// To how many seconds the reads of the last one were limited, 0 where they were not.
+    pub limit: u32,
 }
 
 #[derive(Drop)]
@@ -84,10 +86,15 @@ impl<'a> Network for Callers<'a> {
         }
     }
 
-    fn limit(&mut self, stream: &Call<'a>, _seconds: u32) -> io::Result<()> {
+    fn peer(&self, _stream: &Call<'a>) -> Option<SocketAddr> {
+        Some(address(51234))
+    }
+
+    fn limit(&mut self, stream: &Call<'a>, seconds: u32) -> io::Result<()> {
         if stream.caller == Caller::Alone {
             return refused();
         }
+        self.limit = seconds;
         Ok(())
     }
 

@@ -24,7 +24,7 @@ place_send = search (option_sends.the_send, count_sends.the_send)
 
 inside_send : (T : RattleType) (g : Ghosts T.Denot) → IsSend T → IsSend (inside.the_row T g)
 inside_send T g s =
-    let c = core_send T g s in declared_send (inside.the_type T g) (c, (search (sendable, crosses), (calls_sends.the_send, (Vec-send (option.the_row count.the_row) place_send, (search sendable, tt)))))
+    let c = core_send T g s in declared_send (inside.the_type T g) (c, (search (sendable, crosses), (calls_sends.the_send, (Vec-send (option.the_row count.the_row) place_send, (search sendable, (search sendable, tt))))))
 
 book_send : (T : RattleType) (g : Ghosts T.Denot) → IsSend T → IsSend (book.the_row T g)
 book_send T g s = view_send (inside.the_row T g) _ _ _ _ (inside_send T g s)

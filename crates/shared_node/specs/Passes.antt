@@ -1,5 +1,5 @@
 -- Passes: what each call of a book makes of it and of a pass.
-use Rattle.std.specs.Prelude.{◌≡◌, ◌≢◌, ◌⊎◌, ℕ, ◌+◌, ◌<◌, ◌≤◌, ◌^◌, true, Bool, List, [], ◌∷◌, ◌++◌, Option, Some, None, slice_get, slice_set}
+use Rattle.std.specs.Prelude.{◌≡◌, ◌≢◌, ◌⊎◌, ℕ, ◌+◌, ◌<◌, ◌≤◌, ◌^◌, true, false, Bool, List, [], ◌∷◌, ◌++◌, Option, Some, None, slice_get, slice_set}
 use Rattle.drda_disk.specs.Disk.{Life}
 use Rattle.core_calls.specs.Call.{Call, lost}
 use Rattle.core_calls.specs.Answer.{Answer, no_memory, answer_of}
@@ -9,6 +9,8 @@ use Rattle.recovery_laws.specs.Journaled.{OnDisk, shown_on}
 use Rattle.durable_core.specs.Steps.{MayWantMemory, Steps}
 use Rattle.shared_node.specs.declared.acted.Acted.{Acted}
 use Rattle.shared_node.specs.declared.acted.Acted.TheVariants.{Answered, StrangerPass}
+use Rattle.shared_node.specs.declared.admission.Admission.{Admission}
+use Rattle.shared_node.specs.declared.admission.Admission.TheVariants.{Admitted, Failed, TurnedAway}
 use Rattle.shared_node.specs.declared.count.Count.{Count}
 use Rattle.shared_node.specs.declared.pass.Pass.{Pass}
 use Rattle.shared_node.specs.Books.{Told}
@@ -39,6 +41,18 @@ pub record Admits {D : Type 0} (old : Told D) (pass : Pass) (new : Told D) : Typ
 -- no place is free, or no number is left
 abbrev pub HasNoLeave : {D : Type 0} → Told D → Type 0
 HasNoLeave book = ((place : ℕ) → place < 64 → slice_get book.places place ≢ Some None) ⊎ (book.next + 1 ≡ 2 ^ 64)
+
+-- who comes to be served is given leave, or none is there, or the device has failed
+abbrev pub IsReceived : {D : Type 0} → Told D → Admission → Told D → Type 0
+IsReceived old (Admitted pass) new = (old.core.is_failed ≡ false) × Admits old pass new × (pass.place < 64)
+IsReceived old TurnedAway new = (old.core.is_failed ≡ false) × (new ≡ old) × HasNoLeave old
+IsReceived old Failed new = (old.core.is_failed ≡ true) × (new ≡ old)
+
+-- leave that is given is for a conversation that has made no call
+abbrev pub IsLeave : Admission → Type 0
+IsLeave (Admitted pass) = (pass.place < 64) × (pass.count ≡ 0) × (calls_in pass ≡ [])
+IsLeave TurnedAway = Unit {0}
+IsLeave Failed = Unit {0}
 
 -- a place is free again
 abbrev pub retired : {D : Type 0} → Told D → Pass → Told D

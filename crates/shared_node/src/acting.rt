@@ -1,6 +1,7 @@
 //! The calls of a book.
 
 use crate::acted::Acted;
+use crate::admission::Admission;
 use crate::asking::{ask, checkpoint, is_done};
 use crate::book::Book;
 use crate::calls::CallList;
@@ -21,7 +22,7 @@ impl<D: Disk> Book<D> {
     ghost use Rattle.core_calls.specs.Call.{call_of};
     ghost use Rattle.recovery_laws.specs.Journaled.{Journaled, shown_on};
     ghost use Rattle.shared_node.specs.Books.{IsIdle, newly_opened};
-    ghost use Rattle.shared_node.specs.Passes.{Acts, Admits, HasNoLeave, Knows, Rests, retired};
+    ghost use Rattle.shared_node.specs.Passes.{Acts, Admits, HasNoLeave, IsReceived, Knows, Rests, retired};
 
     /// Opens a book over a core. Out of memory, the core is handed back.
     pub fn open(alloc: Global, core: DurableCore<D>) -> Result<Book<D>, DurableCore<D>>
@@ -40,6 +41,7 @@ impl<D: Disk> Book<D> {
             calls: CallList::none(),
             places,
             next: 1,
+            checkpoints: 0,
         })
     }
 
@@ -80,6 +82,22 @@ impl<D: Disk> Book<D> {
         })
     }
 
+    /// The same for who comes to be served: nobody is where the device has failed.
+    pub fn receive(&mut self) -> Admission
+        ensures received { IsReceived self.old result self.new }
+        ensures journaled { Journaled D.is_modelled (shown_on D.life self.old.core) (shown_on D.life self.new.core) }
+    {
+        calls_go_on::<D>();
+        self.core.is_durable();
+        if self.core.is_failed() {
+            return Admission::Failed;
+        }
+        match self.admit() {
+            Some(pass) => Admission::Admitted(pass),
+            None => Admission::TurnedAway,
+        }
+    }
+
     /// Does one call of the pass's conversation and lists it, as one step. It is answered as the core answers:
     /// by its step, or by an excuse. Where the journal has no room for its record, a checkpoint is written first.
     ///
@@ -100,7 +118,12 @@ impl<D: Disk> Book<D> {
         if is_out_of_numbers(pass.count, call) {
             return Acted::Answered(Answer::NoMemory);
         }
-        match ask(&mut self.core, pass.conversation, call) {
+        match ask(
+            &mut self.core,
+            &mut self.checkpoints,
+            pass.conversation,
+            call,
+        ) {
             Answer::NoMemory => Acted::Answered(Answer::NoMemory),
             answer => {
                 let is_taken = is_done(&answer);
@@ -127,7 +150,7 @@ impl<D: Disk> Book<D> {
         calls_go_on::<D>();
         self.core.is_durable();
         if self.core.is_checkpoint_due() {
-            checkpoint(&mut self.core);
+            checkpoint(&mut self.core, &mut self.checkpoints);
         }
     }
 

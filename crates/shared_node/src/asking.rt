@@ -9,14 +9,15 @@ ghost use Rattle.shared_node.specs.Passes.{IsAnswered, Rests};
 
 use core_calls::{Answer, CoreCall};
 use drda_disk::Disk;
-use durable_core::DurableCore;
+use durable_core::{Checkpointed, DurableCore};
 use recovery_laws::images::calls_go_on;
 use serializability::answers::answers_belong_to_calls;
 
 /// The core takes a step. Where the journal has no room for its record, the core writes a checkpoint first, so
-/// that `Full` is answered only where the store itself has none.
+/// that `Full` is answered only where the store itself has none; `count` counts it.
 pub(crate) fn ask<D: Disk>(
     core: &mut DurableCore<D>,
+    count: &mut u64,
     conversation: u64,
     call: &CoreCall<'_, '_>,
 ) -> Answer
@@ -27,20 +28,22 @@ pub(crate) fn ask<D: Disk>(
     answers_belong_to_calls();
     match core.step(conversation, call) {
         Answer::Full { need: _, room: _ } => {
-            checkpoint(core);
+            checkpoint(core, count);
             core.step(conversation, call)
         }
         answer => answer,
     }
 }
 
-/// Writes a checkpoint. Where it has no room, or memory is refused, the core goes on without; where the device
-/// fails, the next call tells.
-pub(crate) fn checkpoint<D: Disk>(core: &mut DurableCore<D>)
+/// Writes a checkpoint, and counts it. Where it has no room, or memory is refused, the core goes on without; where
+/// the device fails, the next call tells.
+pub(crate) fn checkpoint<D: Disk>(core: &mut DurableCore<D>, count: &mut u64)
     ensures rests { Rests core.old core.new }
     ensures journaled { Journaled D.is_modelled (shown_on D.life core.old) (shown_on D.life core.new) }
 {
-    let _ = core.checkpoint();
+    if core.checkpoint() == Checkpointed::Done {
+        *count = count.wrapping_add(1);
+    }
 }
 
 /// Whether an answer is one of the call's own. Else it is an excuse: the call was not done.

@@ -18,6 +18,8 @@ pub struct Book<D: Disk> {
     pub(crate) calls: CallList,
     pub(crate) places: Vec<Option<Count>>,
     pub(crate) next: u64,
+    // How many checkpoints were written since the book was opened; no clause reads it.
+    pub(crate) checkpoints: u64,
 }
 
 impl<D: Disk> Model for Book<D> {

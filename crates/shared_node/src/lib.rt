@@ -3,6 +3,7 @@
 
 mod acted;
 mod acting;
+mod admission;
 mod asking;
 mod book;
 mod calls;
@@ -13,8 +14,10 @@ mod listing;
 mod numbering;
 mod pass;
 mod shared;
+mod turn;
 
 pub use acted::Acted;
+pub use admission::Admission;
 pub use book::Book;
 pub use calls::CallList;
 pub use count::Count;
@@ -22,3 +25,4 @@ pub use desk::Desk;
 pub use gate::{Gate, OpenGate};
 pub use pass::Pass;
 pub use shared::Shared;
+pub use turn::Turn;

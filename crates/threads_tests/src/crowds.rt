@@ -3,7 +3,7 @@
 use crate::plays::{WELL, core_of, serve};
 use crate::stages::{Act, Cue, LIMIT, Point, Stage};
 use crate::talks::{Checker, Talk, Tape, commits};
-use drda_program::Streams;
+use drda_program::{Silent, Streams};
 use std::test::Fail;
 use std::thread::yield_now;
 
@@ -96,7 +96,7 @@ fn sixty_four_are_served_at_a_time(rt: HostRuntime) -> Result<(), Fail> {
         is_turned_away: false,
     };
     let core = core_of(rt.alloc()).ok_or("memory")?;
-    let (left, _) = serve(&rt, rt.alloc(), core, &stage, &mut crowd).ok_or("memory")?;
+    let (left, _) = serve(&rt, rt.alloc(), core, &stage, &Silent, &mut crowd).ok_or("memory")?;
     assert_eq!(rt; left, WELL);
     assert!(rt; crowd.is_turned_away && early.is_turned_away());
     assert!(rt; late.is_answered() && waiting.iter().all(|talk| talk.is_answered()));

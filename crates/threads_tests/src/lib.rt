@@ -8,6 +8,8 @@ mod crossings;
 #[cfg(test)]
 mod crowds;
 #[cfg(test)]
+mod ends;
+#[cfg(test)]
 mod fills;
 #[cfg(test)]
 mod orders;

@@ -3,13 +3,14 @@
 use crate::stages::{Cue, Stage};
 use crate::talks::{Checker, Talk, Tape};
 use conversation::Settings;
-use drda_disk::MemDisk;
-use drda_program::{Streams, serve_streams};
+use drda_disk::{Disk, MemDisk};
+use drda_program::{Log, Silent, Streams, serve_streams};
 use durable_core::{DurableCore, open};
 use shared_node::Shared;
 use std::alloc::Global;
 use std::sync::Wait;
 use std::thread::Threads;
+use std::time::Clock;
 use test_nodes::fresh_store;
 
 /// What is left when all have ended: how many waited for too long, whether each has given its leave back, and
@@ -59,7 +60,7 @@ pub fn core_of(alloc: Global) -> Option<DurableCore<MemDisk>> {
 
 /// Serves these conversations over a core, which is handed back; they wait for each other by these cues. None
 /// without memory.
-pub fn play<R: Threads + Wait + Sync>(
+pub fn play<R: Threads + Wait + Clock + Sync>(
     rt: &R,
     alloc: Global,
     core: DurableCore<MemDisk>,
@@ -72,20 +73,23 @@ pub fn play<R: Threads + Wait + Sync>(
         talks,
         number: 0,
     };
-    serve(rt, alloc, core, &stage, &mut callers)
+    serve(rt, alloc, core, &stage, &Silent, &mut callers)
 }
 
 /// Serves the conversations of these streams over a core, which is handed back, for ana with the password pw.
 /// None without memory.
-pub fn serve<R, S>(
+pub fn serve<R, D, L, S>(
     rt: &R,
     alloc: Global,
-    core: DurableCore<MemDisk>,
+    core: DurableCore<D>,
     stage: &Stage<'_>,
+    log: &L,
     streams: &mut S,
-) -> Option<(Left, DurableCore<MemDisk>)>
+) -> Option<(Left, DurableCore<D>)>
 where
-    R: Threads + Wait + Sync,
+    D: Disk + Send + Drop,
+    L: Log + Sync,
+    R: Threads + Wait + Clock + Sync,
     S: Streams,
     S::Reader: Send,
     S::Writer: Send,
@@ -95,7 +99,7 @@ where
         Err(_) => return None,
     };
     let settings = Settings::new(alloc, "ana", "pw", "SHOP").ok()?;
-    serve_streams(rt, alloc, &shared, &settings, stage, streams).ok()?;
+    serve_streams(rt, alloc, &shared, &settings, stage, log, streams).ok()?;
     let book = shared.close();
     let left = Left {
         late: stage.late(),

@@ -62,6 +62,11 @@ impl Talk {
         self.begun.load(Ordering::SeqCst) > 0
     }
 
+    /// Whether its one stream was closed.
+    pub fn is_closed(&self) -> bool {
+        self.closed.load(Ordering::SeqCst) > 0
+    }
+
     /// Whether its one stream was closed, unread and unanswered.
     pub fn is_turned_away(&self) -> bool {
         !self.is_begun()
