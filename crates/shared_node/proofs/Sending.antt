@@ -1,4 +1,5 @@
 -- Threads may share a book under a lock where its disk may go to another thread.
+use denote.Hole.{as_row}
 use denote.RattleType.{RattleType}
 use denote.Param.Send.{IsSend, IsSync, sendable, view_send}
 use denote.Param.SendFields.{declared_send, declared_sync}
@@ -15,6 +16,8 @@ use Rattle.std.specs.contracts.option.Option as option
 use Rattle.std.proofs.option.Option.TheSendSync as option_sends
 use Rattle.shared_node.specs.contracts.count.Count as count
 use Rattle.shared_node.proofs.count.Count.TheSendSync as count_sends
+use Rattle.shared_node.specs.contracts.filling.Filling as filling
+use Rattle.shared_node.proofs.filling.Filling.TheSendSync as filling_sends
 
 core_send : (T : RattleType) (g : Ghosts T.Denot) → IsSend T → IsSend (core.the_row T g)
 core_send T g s = core_sends.the_send T g s
@@ -22,9 +25,12 @@ core_send T g s = core_sends.the_send T g s
 place_send : IsSend (option.the_row count.the_row)
 place_send = search (option_sends.the_send, count_sends.the_send)
 
+rested_send : IsSend (as_row (option.the_field filling.the_row))
+rested_send = search (sendable, option_sends.the_send, filling_sends.the_send) depth 12
+
 inside_send : (T : RattleType) (g : Ghosts T.Denot) → IsSend T → IsSend (inside.the_row T g)
 inside_send T g s =
-    let c = core_send T g s in declared_send (inside.the_type T g) (c, (search (sendable, crosses), (calls_sends.the_send, (Vec-send (option.the_row count.the_row) place_send, (search sendable, tt)))))
+    let c = core_send T g s in declared_send (inside.the_type T g) (c, (search (sendable, crosses), (calls_sends.the_send, (Vec-send (option.the_row count.the_row) place_send, (search sendable, (rested_send, tt))))))
 
 book_send : (T : RattleType) (g : Ghosts T.Denot) → IsSend T → IsSend (book.the_row T g)
 book_send T g s = view_send (inside.the_row T g) _ _ _ _ (inside_send T g s)

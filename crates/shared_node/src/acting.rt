@@ -40,6 +40,7 @@ impl<D: Disk> Book<D> {
             calls: CallList::none(),
             places,
             next: 1,
+            rested: None,
         })
     }
 
@@ -100,7 +101,7 @@ impl<D: Disk> Book<D> {
         if is_out_of_numbers(pass.count, call) {
             return Acted::Answered(Answer::NoMemory);
         }
-        match ask(&mut self.core, pass.conversation, call) {
+        match ask(&mut self.core, &mut self.rested, pass.conversation, call) {
             Answer::NoMemory => Acted::Answered(Answer::NoMemory),
             answer => {
                 let is_taken = is_done(&answer);

@@ -7,9 +7,10 @@ ghost use Rattle.recovery_laws.specs.Journaled.{Journaled, shown_on};
 ghost use Rattle.serializability.specs.Belonging.{is_excuse};
 ghost use Rattle.shared_node.specs.Passes.{IsAnswered, Rests};
 
+use crate::filling::Filling;
 use core_calls::{Answer, CoreCall};
 use drda_disk::Disk;
-use durable_core::DurableCore;
+use durable_core::{Checkpointed, DurableCore};
 use recovery_laws::images::calls_go_on;
 use serializability::answers::answers_belong_to_calls;
 
@@ -17,6 +18,7 @@ use serializability::answers::answers_belong_to_calls;
 /// that `Full` is answered only where the store itself has none.
 pub(crate) fn ask<D: Disk>(
     core: &mut DurableCore<D>,
+    rested: &mut Option<Filling>,
     conversation: u64,
     call: &CoreCall<'_, '_>,
 ) -> Answer
@@ -27,7 +29,7 @@ pub(crate) fn ask<D: Disk>(
     answers_belong_to_calls();
     match core.step(conversation, call) {
         Answer::Full { need: _, room: _ } => {
-            checkpoint(core);
+            renew(core, rested);
             core.step(conversation, call)
         }
         answer => answer,
@@ -41,6 +43,24 @@ pub(crate) fn checkpoint<D: Disk>(core: &mut DurableCore<D>)
     ensures journaled { Journaled D.is_modelled (shown_on D.life core.old) (shown_on D.life core.new) }
 {
     let _ = core.checkpoint();
+}
+
+// Writes a checkpoint, unless nothing was recorded since the last one that was written for want of room: then
+// another gains none, and whoever tries again and again would hold all others up. `rested` is how the core was filled
+// behind it.
+fn renew<D: Disk>(core: &mut DurableCore<D>, rested: &mut Option<Filling>)
+    ensures rests { Rests core.old core.new }
+    ensures journaled { Journaled D.is_modelled (shown_on D.life core.old) (shown_on D.life core.new) }
+{
+    calls_go_on::<D>();
+    core.is_durable();
+    if *rested == Some(Filling::of(core)) {
+        return;
+    }
+    match core.checkpoint() {
+        Checkpointed::NoMemory => {}
+        _ => *rested = Some(Filling::of(core)),
+    }
 }
 
 /// Whether an answer is one of the call's own. Else it is an excuse: the call was not done.

@@ -8,6 +8,7 @@ mod book;
 mod calls;
 mod count;
 mod desk;
+mod filling;
 mod gate;
 mod listing;
 mod numbering;
