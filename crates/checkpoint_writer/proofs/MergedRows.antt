@@ -44,6 +44,11 @@ pub record Merges (modelled : Bool) (key_of : List ℕ → List ℕ) (table : Ta
   pub laid : HasLaid modelled key_of file (next_of begun) image writer rows
   pub given : (pages : List (List (List ℕ))) → IsTrue modelled → AreRead cache first → IsStored key_of table.places pages first → LieApart table.places begun → IsGiven key_of file cursor rows (without_keys (rows_of_table key_of table pages))
 
+-- and those are noted
+pub record MergesNoted (modelled : Bool) (key_of : List ℕ → List ℕ) (table : Table) (cache : Kept) (first : List ℕ) (begun : ImageWriter) (file : List ℕ) (image : ImageWriter) (writer : TableWriter) (cursor : RowCursor) (noted : List (List ℕ)) : Type 0 where
+  pub held : Merges modelled key_of table cache first begun file image writer cursor
+  pub same : noted ≡ held.rows
+
 -- ---- pages that stay where they are
 
 pub at_moves : (old new : List ℕ) (from n at : ℕ) (pages : List (List (List ℕ))) → Torn from n old new → (at + 8192 * length pages ≤ from) ⊎ (from + n ≤ at) → AreAt old at pages → AreAt new at pages
