@@ -135,8 +135,13 @@ module _ (schema : Schema) (key_of : List ℕ → List ℕ) (file : List ℕ) (a
 
   -- ---- the rows that were noted
 
+  pub none_noted : (keys : List (Vec ℕ)) (noted : List (List ℕ)) → keys ≡ [] → noted ≡ [] → AreNoted schema key_of file at 0 (map (λ k. k.items) keys) None noted
+  unfolding none_judged
+  none_noted keys noted none is = record { judged = none_judged keys none; rows_are = is }
+
   pub one_noted : (n : ℕ) (keys : List (List ℕ)) (key : Vec ℕ) (old new : Option (Vec ℕ)) (noted more : List (List ℕ)) → AreNoted schema key_of file at n keys (copied old) noted → JudgesBytes schema key_of (at + 8192 * n) (part file (at + 8192 * n) 8192) old (Ok key) new
       → ((rows : List (List ℕ)) → IsPage (a_page rows) (part file (at + 8192 * n) 8192) → more ≡ noted ++ rows) → AreNoted schema key_of file at (n + 1) (keys ++ key.items ∷ []) (copied new) more
+  unfolding one_more
   one_noted n keys key old new noted more so told notes = record {
     judged = one_more n keys key old new so.judged told;
     rows_are = notes told.0 told.1 ∙ ap (λ (rows : List (List ℕ)). rows ++ told.0) so.rows_are ∙ sym (rows_more so.judged.pages told.0);

@@ -33,7 +33,7 @@ loop-writer-init g c =
           laid = begins g.D.Disk.is_modelled key_of file c.args.image.now c.in_ok-writer.writer c.in_ok-writer.ensures.rows c.in_ok-writer.ensures.empty c.in_ok-writer.ensures.keys;
           given = λ pages honest read is apart. record { left = rows_of_table key_of c.args.table.now pages; is = c.rows-cursor.ensures.left key_of pages file is; same = refl };
         };
-        same = c.none.ensures;
+        same = c.none-noted.ensures;
       };
     }
 
@@ -75,17 +75,12 @@ loop-writer-preserved g c =
       end = c.next.ensures.end ∙ inv.end;
       forward = omega (arith, inv.forward, c.next.ensures.forward);
       at = inv.at;
-      merges = record {
-        held = one_more modelled key_of c.args.table.now c.args.cache.now first c.args.image.now file c.loop-writer.image c.loop-writer.writer c.loop-writer.cursor inv.merges.held
-            mid (life c.add.new.disk).seen c.add.new.image c.add.new.self c.next.new.self c.in-Some.row.items c.deref.result.now c.next.ensures.stays.same c.deref.ensures.value
-            (c.in_ok-add.ensures.laid (next_of c.args.image.now) inv.merges.held.rows there) c.add.ensures.adds.others (same_from c.args.image.now c.loop-writer.image inv.adds.half inv.adds.half_bytes) inv.adds.half_bytes
-            (c.next.ensures.end ∙ inv.end) (omega (arith, inv.forward, c.next.ensures.forward))
-            (λ left honest read is. rw c.in-Some.is at (c.in_ok-row.ensures.gives left honest (inv.kept honest read) is));
-        same =
-            c.note.ensures
-            ∙ ap (λ (row : List ℕ). c.loop-writer.noted.listed ++ row ∷ []) (c.deref-2.ensures.value ∙ sym c.deref.ensures.value)
-            ∙ ap (λ (rows : List (List ℕ)). rows ++ c.deref.result.now ∷ []) inv.merges.same;
-      };
+      merges = one_more modelled key_of c.args.table.now c.args.cache.now first c.args.image.now file c.loop-writer.image c.loop-writer.writer c.loop-writer.cursor inv.merges.held
+          mid (life c.add.new.disk).seen c.add.new.image c.add.new.self c.next.new.self c.in-Some.row.items c.deref.result.now c.loop-writer.noted.listed c.note.new.self.listed c.next.ensures.stays.same c.deref.ensures.value
+          (c.in_ok-add.ensures.laid (next_of c.args.image.now) inv.merges.held.rows there) c.add.ensures.adds.others (same_from c.args.image.now c.loop-writer.image inv.adds.half inv.adds.half_bytes) inv.adds.half_bytes
+          (c.next.ensures.end ∙ inv.end) (omega (arith, inv.forward, c.next.ensures.forward))
+          (λ left honest read is. rw c.in-Some.is at (c.in_ok-row.ensures.gives left honest (inv.kept honest read) is))
+          inv.merges.same (c.note.ensures ∙ ap (λ (row : List ℕ). c.loop-writer.noted.listed ++ row ∷ []) (c.deref-in-Some.ensures.value ∙ sym c.deref.ensures.value));
     }
 
 pub returns-in_err-finish-clause-adds : goal.returns-in_err-finish-clause-adds

@@ -1,14 +1,14 @@
-use Rattle.std.proofs.Common.{rules, ◌≡◌, ◌+◌, ◌*◌, ◌∙◌, ◌∷◌, [], ℕ, List, Ok, Err, length, length-append, map, sym, ap, subst, arith}
+use Rattle.std.proofs.Common.{rules, ◌≡◌, ◌+◌, ◌*◌, ◌∙◌, ◌∷◌, [], ℕ, List, Ok, Err, length, length-append, map, refl, sym, ap, subst, arith}
 use Rattle.std.specs.Global.{Vec}
 use Rattle.std.proofs.lemmas.List.{length-map, map-append}
 use Rattle.table_map.specs.Stored.{Places}
 use Rattle.drda_words.specs.Place.{part}
-use Rattle.drda_disk.proofs.Moments.{Stays-trans}
+use Rattle.drda_disk.proofs.Moments.{Stays-refl, Stays-trans}
 use Rattle.table_map.specs.Keyed.{copied}
 use Rattle.row_pages.specs.Page.{IsPage}
 use Rattle.store_check.specs.Judging.{JudgesBytes}
 use Rattle.store_check.specs.Whole.{places_in}
-use Rattle.store_check.proofs.Judged.{AreNoted, all_judged, all_noted, one_noted, stopped, without_memory}
+use Rattle.store_check.proofs.Judged.{AreNoted, all_judged, all_noted, none_noted, one_noted, stopped, without_memory}
 use Rattle.store_check.proofs.Standing.{a_page}
 use Rattle.store_check.proofs.table.check_table.Goals as goal
 
@@ -27,6 +27,15 @@ pub returns-in_err-push_bytes-clause-told : goal.returns-in_err-push_bytes-claus
 returns-in_err-push_bytes-clause-told g c honest read =
     let is : c.from_residual-in_err-push_bytes.result ≡ Err c.in_err-push_bytes.field-0.0 = search rules in
     without_memory c.args.schema.now (g.K.RowKeys.key_of c.args.keys.now) (g.D.Disk.life c.args.disk.now).seen c.args.at c.args.count c.in_err-push_bytes.field-0.0 (places_in c.from_residual-in_err-push_bytes.result) (ap places_in is) c.in_err-push_bytes.ensures.fault
+
+pub loop-page-init : goal.loop-page-init
+loop-page-init g c = record {
+  stays = Stays-refl (g.D.Disk.life c.args.disk.now);
+  faults = refl;
+  kept = λ honest read. read;
+  many = search rules;
+  noted = λ honest read. none_noted c.args.schema.now (g.K.RowKeys.key_of c.args.keys.now) (g.D.Disk.life c.args.disk.now).seen c.args.at c.new-first_keys.result.items c.none-rows.result.listed c.new-first_keys.ensures.items c.none-rows.ensures;
+}
 
 pub loop-page-preserved : goal.loop-page-preserved
 loop-page-preserved g c =
@@ -52,7 +61,7 @@ loop-page-preserved g c =
 pub returns-clause-told : goal.returns-clause-told
 returns-clause-told g c honest read =
     let inv = c.loop-page.invariant in
-    all_judged c.args.schema.now (g.K.RowKeys.key_of c.args.keys.now) (g.D.Disk.life c.args.disk.now).seen c.args.at c.loop-page.page c.args.count (map (λ (k : Vec ℕ). k.items) c.loop-page.first_keys.items) _ c.new.result (omega (arith, c.loop-page-test.false, c.loop-page.auto.page-end)) (inv.noted honest read).judged c.new.ensures
+    all_judged c.args.schema.now (g.K.RowKeys.key_of c.args.keys.now) (g.D.Disk.life c.args.disk.now).seen c.args.at c.loop-page.page c.args.count (map (λ (k : Vec ℕ). k.items) c.loop-page.first_keys.items) _ c.new-pages.result (omega (arith, c.loop-page-test.false, c.loop-page.auto.page-end)) (inv.noted honest read).judged c.new-pages.ensures
 
 pub returns-clause-rows : goal.returns-clause-rows
 returns-clause-rows g c pages honest read whole =
@@ -60,4 +69,4 @@ returns-clause-rows g c pages honest read whole =
     (omega (arith, c.loop-page-test.false, c.loop-page.auto.page-end)) (c.loop-page.invariant.noted honest read) whole
 
 pub returns-clause-count : goal.returns-clause-count
-returns-clause-count g c = ap (λ (p : Places). length p.keys) c.new.ensures ∙ simp length-map (omega (arith, c.loop-page.invariant.many, c.loop-page-test.false, c.loop-page.auto.page-end))
+returns-clause-count g c = ap (λ (p : Places). length p.keys) c.new-pages.ensures ∙ simp length-map (omega (arith, c.loop-page.invariant.many, c.loop-page-test.false, c.loop-page.auto.page-end))
