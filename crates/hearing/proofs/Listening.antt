@@ -1,10 +1,11 @@
 -- What a conversation heard of a piece, by how the last part of it was left.
-use Rattle.std.proofs.Common.{◌≡◌, ◌⊎◌, ◌≤◌, ℕ, true, List, [], ◌++◌, length, take, drop, refl, sym, ap, subst, ◌∙◌, append_assoc, append-nil, take_all, take-append-drop, inr, arith}
+use Rattle.std.proofs.Common.{◌≡◌, ◌⊎◌, ◌≤◌, ◌+◌, ℕ, true, List, [], ◌++◌, length, take, drop, refl, sym, ap, subst, ◌∙◌, append_assoc, append-nil, take_all, take-append-drop, inr}
 use Rattle.core_calls.specs.Call.{Call}
 use Rattle.core_calls.specs.Answer.{Answer}
 use Rattle.dss_frames.specs.declared.fault.FrameFault.{FrameFault}
 use Rattle.dss_frames.specs.Fault.{FaultAt}
 use Rattle.session_commands.specs.Settings.{Settings}
+use Rattle.hearing.specs.declared.fed.Fed.{Fed}
 use Rattle.hearing.specs.declared.fed.FedState.{FedState}
 use Rattle.hearing.specs.declared.fed.FedState.TheVariants.{Open, Closed as is_shut}
 use Rattle.hearing.specs.declared.fed.Heard.{Heard}
@@ -12,10 +13,19 @@ use Rattle.hearing.specs.declared.fed.Heard.TheVariants as heard_as
 use Rattle.hearing.specs.Attended.{Attended}
 use Rattle.hearing.specs.Hearing.{Hears, IsShortReply}
 use Rattle.hearing.specs.Pieces.{HearsAll, HearsLast, HearsPart, HearsPiece}
-use Rattle.hearing.specs.Feeding.{LeftAs, Told, bytes_behind}
+use Rattle.hearing.specs.Feeding.{LeftAs, Takes, Told, bytes_behind}
 use Rattle.hearing.proofs.Conversing.{hears_then}
+use Rattle.hearing.proofs.Stepping.{told_more}
 
 module _ {A : Type 0} (asks : A → Call → Answer → A → Type 0) (settings : Settings) where
+  -- what was heard before, and one part further on
+  pub further : (fault_more : (bytes more : List ℕ) (fault : FrameFault) → FaultAt bytes fault → FaultAt (bytes ++ more) fault) (a b c : Attended A) (piece out out' out1 out2 : List ℕ) (at : ℕ) (fed : Fed) (settings' : Settings)
+      → settings' ≡ settings → out1 ≡ out' → Told asks settings a (take at piece) out [] b out' → Takes asks settings' b (take fed.taken (drop at piece)) out1 fed c out2
+      → Told asks settings a (take (at + fed.taken) piece) out (bytes_behind fed.state) c out2
+  further fault_more a b c piece out out' out1 out2 at fed settings' same kept told takes =
+      told_more asks settings fault_more a b c piece out out1 out2 at fed.taken fed (subst (λ (z : List ℕ). Told asks settings a (take at piece) out [] b z) (sym kept) told)
+      (subst (λ (v : Settings). Takes asks v b (take fed.taken (drop at piece)) out1 fed c out2) same takes)
+
   -- it is open
   pub all : (a c : Attended A) (heard out out' : List ℕ) (taken : ℕ) (state : FedState) → Told asks settings a heard out (bytes_behind state) c out' → LeftAs state taken c → state ≡ Open → HearsAll asks settings a heard out c out'
   all a c heard out out' taken state told left is =
