@@ -87,6 +87,14 @@ module _ {A : Type 0} (asks : A → Call → Answer → A → Type 0) where
   none_done held asked (Some input) w0 settled = record { front = []; rest = input; replies = []; unsaid = []; input_is = refl; hears = nothing_yet held asked settled; short = inl refl; appended = Appends-nil w0 }
 
 module _ {A : Type 0} (asks : A → Call → Answer → A → Type 0) (settings : Settings) where
+  -- nothing of it is left
+  pub talked_all : (first last : Attended A) (input left : List ℕ) (w0 w : Option (List ℕ)) → Talked asks settings first input w0 left w last → left ≡ [] → AnswersAll asks settings first input w0 w last
+  talked_all first last input left w0 w t none = record {
+    replies = t.replies;
+    hears = subst (λ (z : List ℕ). Hears asks settings first z t.replies last) (sym (t.input_is ∙ ap (λ (z : List ℕ). t.front ++ z) none ∙ append-nil t.front)) t.hears;
+    appended = t.written;
+  }
+
   -- ---- at the end of the input, or at a fault
 
   pub ends : (first last : Attended A) (r0 r r' w0 w : Option (List ℕ)) → SoFar asks settings first r0 r w0 w last → Consumes r r' [] → IsAtEnd r' → IfSome r0 (λ input. Converses asks settings first input w0 Done w last)

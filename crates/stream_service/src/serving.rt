@@ -82,8 +82,9 @@ fn converse<A: Ask, R: Read, W: Write>(
         };
         let ended = answer_piece(alloc, front, asker, &buffer[..count], &mut replies, writer);
         overwrite(&mut buffer, count);
-        if let Some(served) = ended {
-            return served;
+        match ended {
+            None => {}
+            Some(served) => return served,
         }
     }
     Served::ReadFault
