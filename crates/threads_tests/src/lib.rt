@@ -4,6 +4,8 @@
 #[cfg(test)]
 mod books;
 #[cfg(test)]
+mod closings;
+#[cfg(test)]
 mod crossings;
 #[cfg(test)]
 mod crowds;
