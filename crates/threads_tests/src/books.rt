@@ -1,8 +1,8 @@
 //! A book over a store in memory, and what it is asked there, as plain data.
 
 use core_calls::{Answer, CoreCall};
-use drda_disk::{Disk, MemDisk};
-use durable_core::open;
+use drda_disk::{Disk, FuseDisk, MemDisk};
+use durable_core::{DurableCore, open};
 use row_values::Value;
 use shared_node::{Acted, Book, Pass};
 use sql_text::parse;
@@ -20,6 +20,19 @@ pub enum Told {
     Closed,
     Stranger,
     Other,
+}
+
+/// The core of a fresh store whose device fails behind its opening. None without memory.
+pub fn failing_core(alloc: Global) -> Option<DurableCore<FuseDisk<MemDisk>>> {
+    let disk = FuseDisk::new(fresh_store(alloc)?, u64::MAX, false);
+    let calls = match open(alloc, disk) {
+        Ok(core) => core.into_disk().calls(),
+        Err(_) => return None,
+    };
+    match open(alloc, FuseDisk::new(fresh_store(alloc)?, calls, false)) {
+        Ok(core) => Some(core),
+        Err(_) => None,
+    }
 }
 
 /// A book over the core of a disk. None where the disk is no store, and without memory.

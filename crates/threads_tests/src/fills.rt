@@ -39,9 +39,9 @@ fn is_committed<D: Disk>(
     }
 }
 
-// A book whose one conversation has made a table with a row, and put that anew so many times, with 2,000 letters;
-// each time it has committed. None where a call was not done.
-fn filled(alloc: Global, times: u64) -> Option<Book<MemDisk>> {
+/// A book whose one conversation has made a table with a row, and put that anew so many times, with 2,000 letters;
+/// each time it has committed. None where a call was not done.
+pub fn filled(alloc: Global, times: u64) -> Option<Book<MemDisk>> {
     let mut book = book_of(alloc)?;
     let mut pass = book.admit()?;
     let text = letters(alloc).ok()?;

@@ -21,3 +21,5 @@ mod plays;
 mod stages;
 #[cfg(test)]
 mod talks;
+#[cfg(test)]
+mod turns;
