@@ -24,6 +24,7 @@ use std::io::{self, Write};
 use std::net::{Ipv4Addr, SocketAddr, SocketAddrV4};
 use std::sync::Wait;
 use std::thread::Threads;
+use std::time::Clock;
 
 /// Serves conversations over the store of a path, on a port of 127.0.0.1, each in a thread of its own, as the
 /// options say: so many, or without end, and perhaps those alone whose clients go on to send. It ends early where no
@@ -41,7 +42,7 @@ pub(crate) fn serve_file<R, F, N, W>(
     out: &mut W,
 ) -> Result<(), Fault>
 where
-    R: Threads + Wait + Sync,
+    R: Threads + Wait + Clock + Sync,
     F: StoreFiles,
     N: Network,
     W: Write,
@@ -58,7 +59,7 @@ where
         Err(_) => return Err(Fault::NoMemory),
     };
     listen(rt, alloc, &shared, &settings, net, port, options, out)?;
-    end_of(shared)
+    end_of(alloc, shared)
 }
 
 // What a server of this login starts its conversations with, whose database has the name of its store. A name
@@ -90,7 +91,7 @@ fn listen<R, D, N, W>(
     out: &mut W,
 ) -> Result<(), Fault>
 where
-    R: Threads + Wait + Sync,
+    R: Threads + Wait + Clock + Sync,
     D: Disk + Send + Drop,
     N: Network,
     W: Write,
@@ -119,7 +120,7 @@ fn serve_all<R, D, N>(
     options: ServeOptions,
 ) -> Result<(), Fault>
 where
-    R: Threads + Wait + Sync,
+    R: Threads + Wait + Clock + Sync,
     D: Disk + Send + Drop,
     N: Network,
     N::Stream: Send,
@@ -141,11 +142,14 @@ where
     Ok(())
 }
 
-// How serving ends: a device that has failed is told.
-fn end_of<D: Disk + Drop>(shared: Shared<D>) -> Result<(), Fault>
+// How serving ends, once each thread has given its pass back: a device that has failed is told.
+fn end_of<D: Disk + Drop>(alloc: Global, shared: Shared<D>) -> Result<(), Fault>
     ensures { IfErr result IsOfDevice }
 {
-    let book = shared.close();
+    let book = match shared.close(Vec::new(alloc)) {
+        Ok(book) => book,
+        Err(book) => book,
+    };
     if book.core().is_failed() {
         return Err(Fault::Device);
     }

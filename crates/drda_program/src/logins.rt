@@ -17,9 +17,10 @@ use std::alloc::Global;
 use std::io::{self, ErrorKind, Read, Write};
 use std::sync::Wait;
 use std::thread::Threads;
+use std::time::Clock;
 
 /// Serves conversations over the store of a path, once the login is known.
-pub(crate) fn serve<T: Threads + Wait + Sync, F: StoreFiles, N: Network, W: Write>(
+pub(crate) fn serve<T: Threads + Wait + Clock + Sync, F: StoreFiles, N: Network, W: Write>(
     rt: &T,
     alloc: Global,
     files: &mut F,

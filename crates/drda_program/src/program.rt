@@ -23,6 +23,7 @@ use std::convert::AsStr;
 use std::io::{Read, Write};
 use std::sync::Wait;
 use std::thread::Threads;
+use std::time::Clock;
 use store_check::checkpoints_are_known;
 
 /// Does what the words say, the program's name first, and answers the exit status; a fault's line goes
@@ -53,7 +54,7 @@ use store_check::checkpoints_are_known;
 /// core that begins with that state, under one lock; `init` has made it a fresh store of the size and name that
 /// were asked. Where a disk may give back something else than what was written, no state is said of it.
 pub fn run_words<
-    T: Threads + Wait + Sync,
+    T: Threads + Wait + Clock + Sync,
     S: AsStr,
     F: StoreFiles,
     N: Network,
@@ -104,7 +105,7 @@ fn explain<F: StoreFiles, E: Write>(fault: Fault, files: &F, err: &mut E)
 
 // Does what the words say. What the parser of words has to say of a mistake is appended to `text`.
 fn try_words<
-    T: Threads + Wait + Sync,
+    T: Threads + Wait + Clock + Sync,
     S: AsStr,
     F: StoreFiles,
     N: Network,
@@ -133,7 +134,7 @@ where
     do_job(rt, alloc, job, files, net, reader, out)
 }
 
-fn do_job<T: Threads + Wait + Sync, F: StoreFiles, N: Network, R: Read + Ready, W: Write>(
+fn do_job<T: Threads + Wait + Clock + Sync, F: StoreFiles, N: Network, R: Read + Ready, W: Write>(
     rt: &T,
     alloc: Global,
     job: Job<'_>,

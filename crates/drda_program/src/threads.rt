@@ -13,6 +13,7 @@ use std::alloc::{AllocError, Global};
 use std::io::{Read, Write};
 use std::sync::Wait;
 use std::thread::{self, JoinHandle, Threads};
+use std::time::Clock;
 use stream_service::serve;
 
 /// How many conversations are served at a time.
@@ -32,7 +33,7 @@ pub trait Streams {
 
 /// What all threads share.
 #[derive(Clone, Copy)]
-struct Hall<'a, D: Disk, R: Wait, G: Gate> {
+struct Hall<'a, D: Disk, R: Wait + Clock, G: Gate> {
     rt: &'a R,
     alloc: Global,
     shared: &'a Shared<D>,
@@ -42,7 +43,7 @@ struct Hall<'a, D: Disk, R: Wait, G: Gate> {
 
 /// Serves a conversation over a stream, at a desk: what it is answered is what the desk's pass shows as listed,
 /// and its loss is the last call. Where memory is refused before the first byte, nothing is heard or written.
-pub fn serve_at<'a, D: Disk, R: Wait, G: Gate, I: Read, O: Write>(
+pub fn serve_at<'a, D: Disk, R: Wait + Clock, G: Gate, I: Read, O: Write>(
     alloc: Global,
     settings: &Settings,
     desk: &mut Desk<'a, D, R, G>,
@@ -58,7 +59,7 @@ pub fn serve_at<'a, D: Disk, R: Wait, G: Gate, I: Read, O: Write>(
 }
 
 // One conversation, in its thread. What it left unfinished is lost at its end, and its leave is given back.
-fn attend<D: Disk, R: Wait, G: Gate, I: Read + Drop, O: Write + Drop>(
+fn attend<D: Disk, R: Wait + Clock, G: Gate, I: Read + Drop, O: Write + Drop>(
     hall: &Hall<'_, D, R, G>,
     pass: Pass,
     reader: I,
@@ -91,7 +92,7 @@ pub fn serve_streams<D, R, G, S>(
 ) -> Result<(), AllocError>
 where
     D: Disk + Send + Drop,
-    R: Threads + Wait + Sync,
+    R: Threads + Wait + Clock + Sync,
     G: Gate + Sync,
     S: Streams,
     S::Reader: Send,
@@ -122,7 +123,7 @@ fn no_threads(alloc: Global) -> Result<Vec<Option<JoinHandle<()>>>, AllocError>
 fn serve_in<D, R, G, S>(rt: &R, hall: &Hall<'_, D, R, G>, streams: &mut S) -> Result<(), AllocError>
 where
     D: Disk + Send + Drop,
-    R: Threads + Wait + Sync,
+    R: Threads + Wait + Clock + Sync,
     G: Gate + Sync,
     S: Streams,
     S::Reader: Send,

@@ -9,6 +9,7 @@ use std::io::{Read, Write};
 use std::marker::Sync;
 use std::sync::Wait;
 use std::thread::Threads;
+use std::time::Clock;
 use test_bytes::bytes_of;
 
 /// What a trial is about: behind how many calls devices fail, the network, and the input.
@@ -55,7 +56,7 @@ fn callers_of<'a>(scene: &Scene<'a>) -> Callers<'a> {
 }
 
 // The program over these words and streams.
-fn end_of<T: Threads + Wait + Sync, R: Read + Ready, W: Write>(
+fn end_of<T: Threads + Wait + Clock + Sync, R: Read + Ready, W: Write>(
     rt: &T,
     alloc: Global,
     words: &[&str],
@@ -92,7 +93,7 @@ fn way_of(name: &str) -> Option<Way> {
     }
 }
 
-impl<'r, T: Threads + Wait + Sync> Trials<'r, T> {
+impl<'r, T: Threads + Wait + Clock + Sync> Trials<'r, T> {
     /// None so far.
     pub fn new(rt: &'r T, alloc: Global) -> Trials<'r, T> {
         Trials {

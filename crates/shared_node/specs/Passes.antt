@@ -44,6 +44,29 @@ HasNoLeave book = ((place : ℕ) → place < 64 → slice_get book.places place 
 abbrev pub retired : {D : Type 0} → Told D → Pass → Told D
 retired book pass = record book { places = slice_set book.places pass.place None }
 
+-- ---- all passes
+
+-- one of the passes is at this place
+abbrev pub IsAt : List Pass → ℕ → Type 0
+IsAt passes place = (at : ℕ) × (pass : Pass) × (slice_get passes at ≡ Some pass) × (pass.place ≡ place)
+
+-- each pass is counted as it counts itself, and no two of them are at one place
+pub record AreKnown (passes : List Pass) (places : List (Option Count)) : Type 0 where
+  pub known : (at : ℕ) (pass : Pass) → slice_get passes at ≡ Some pass → slice_get places pass.place ≡ Some (Some (count_of pass))
+  pub apart : (here there : ℕ) (one other : Pass) → slice_get passes here ≡ Some one → slice_get passes there ≡ Some other → one.place ≡ other.place → here ≡ there
+
+-- there is a pass at each place that is taken
+abbrev pub AreAll : List Pass → List (Option Count) → Type 0
+AreAll passes places = (place : ℕ) (c : Count) → slice_get places place ≡ Some (Some c) → IsAt passes place
+
+-- These passes are all that have leave, each once and counted as the book counts.
+pub record AreJustAt (passes : List Pass) (places : List (Option Count)) : Type 0 where
+  pub each : AreKnown passes places
+  pub all : AreAll passes places
+
+abbrev pub AreJust : {D : Type 0} → List Pass → Told D → Type 0
+AreJust passes book = AreJustAt passes book.places
+
 -- ---- calls
 
 -- Between two calls a core may write a checkpoint: its name, its state and its records stay.

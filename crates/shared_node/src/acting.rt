@@ -1,13 +1,14 @@
 //! The calls of a book.
 
 use crate::acted::Acted;
-use crate::asking::{ask, checkpoint, is_done};
+use crate::asking::{ask, is_done};
 use crate::book::Book;
 use crate::calls::CallList;
 use crate::count::Count;
 use crate::listing::list;
 use crate::numbering::{free_places, is_out_of_numbers, knows};
 use crate::pass::Pass;
+use crate::renewals::Renewals;
 use core_calls::{Answer, CoreCall};
 use drda_disk::Disk;
 use durable_core::DurableCore;
@@ -40,6 +41,7 @@ impl<D: Disk> Book<D> {
             calls: CallList::none(),
             places,
             next: 1,
+            renewals: Renewals::none(),
         })
     }
 
@@ -100,7 +102,7 @@ impl<D: Disk> Book<D> {
         if is_out_of_numbers(pass.count, call) {
             return Acted::Answered(Answer::NoMemory);
         }
-        match ask(&mut self.core, pass.conversation, call) {
+        match ask(&mut self.core, &mut self.renewals, pass.conversation, call) {
             Answer::NoMemory => Acted::Answered(Answer::NoMemory),
             answer => {
                 let is_taken = is_done(&answer);
@@ -127,7 +129,7 @@ impl<D: Disk> Book<D> {
         calls_go_on::<D>();
         self.core.is_durable();
         if self.core.is_checkpoint_due() {
-            checkpoint(&mut self.core);
+            self.renewals.renew(&mut self.core);
         }
     }
 
