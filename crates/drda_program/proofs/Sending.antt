@@ -13,12 +13,12 @@ use Rattle.session_commands.proofs.settings.Settings.TheSendSync as settings_sen
 use Rattle.shared_node.proofs.Sending.{shared_sync}
 use Rattle.drda_program.specs.contracts.threads.Hall as hall
 
-pub hall_sync : (l : NamedLft) (D R G : RattleType) (d : Ghosts D.Denot) → IsSend D → IsSync R → IsSync G → IsSync (hall.the_row l D R G d)
-hall_sync l D R G d sends runtime gate =
+pub hall_sync : (l : NamedLft) (D R G L : RattleType) (d : Ghosts D.Denot) → IsSend D → IsSync R → IsSync G → IsSync L → IsSync (hall.the_row l D R G L d)
+hall_sync l D R G L d sends runtime gate log =
     let shared = shared_sync D d sends in
-    declared_sync (hall.the_type l D R G d) (
+    declared_sync (hall.the_type l D R G L d) (
       search (sendable, runtime),
-      (search (sendable, crosses) depth 20, (search (sendable, shared), (search (sendable, settings_sends.the_sync) depth 12, (search (sendable, gate), tt)))),
+      (search (sendable, crosses) depth 20, (search (sendable, shared), (search (sendable, settings_sends.the_sync) depth 12, (search (sendable, gate), (search (sendable, log), tt))))),
     )
 
 -- what a closure takes along, under the name of its type
