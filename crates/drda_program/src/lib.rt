@@ -28,4 +28,6 @@ pub use log::{ErrorLog, Log, Silent};
 pub use network::{Network, SystemNetwork};
 pub use notice::{Ending, Notice};
 pub use program::run_words;
+// What ended a conversation.
+pub use stream_service::Served;
 pub use threads::{Streams, serve_at, serve_streams};

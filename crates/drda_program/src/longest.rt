@@ -22,7 +22,9 @@ impl Longest {
     }
 
     /// Whether a time, in microseconds, is to be told; then it is the longest that was.
-    pub(crate) fn rises_to(&self, micros: u64) -> bool {
+    pub(crate) fn rises_to(&self, micros: u64) -> bool
+        ensures { IsTrue result → 1000 ≤ micros }
+    {
         let told = self.told.load(Ordering::SeqCst);
         is_much_longer(micros, told) && self.told.fetch_max(micros, Ordering::SeqCst) < micros
     }

@@ -13,8 +13,8 @@ const CODE_POINT: [u16; 2] = [8, 9];
 /// Where in SECCHKRM the last byte of its severity stands, which is 0 where the login is right.
 const SEVERITY: u16 = 15;
 
-/// What a conversation's answers are written on. It tells of each login that is refused, until one is right; the
-/// answers up to that are shorter than 32,768 bytes each.
+/// What a conversation's answers are written on: it holds what the writer inside holds. It tells of each login that is
+/// refused, until one is right; the answers up to that are shorter than 32,768 bytes each.
 #[derive(Drop)]
 pub(crate) struct Watched<'a, W, L> {
     writer: W,
@@ -82,6 +82,8 @@ impl<'a, W: Write, L: Log> Watched<'a, W, L> {
 }
 
 impl<W: Write, L: Log> Write for Watched<'_, W, L> {
+    ghost contents = { λ w. W.contents w.writer };
+
     fn write(&mut self, bytes: &[u8]) -> io::Result<usize> {
         let count = self.writer.write(bytes)?;
         if !self.is_logged_in {

@@ -1,8 +1,10 @@
 //! A log that is kept.
 
-use drda_program::{Ending, Log, Notice};
+use crate::networks::address;
+use drda_program::{Ending, Log, Notice, Served};
 use std::alloc::Global;
 use std::fmt::Write;
+use std::net::SocketAddr;
 use std::sync::{Mutex, Wait};
 
 /// A log that keeps its lines, in which each time is 0. What is told of a time alone is left out: whether it comes
@@ -55,5 +57,51 @@ fn timeless(notice: Notice) -> Option<Notice> {
         Notice::Checkpoint { micros: _, room } => Some(Notice::Checkpoint { micros: 0, room }),
         Notice::LongestWait { .. } | Notice::LongestHold { .. } => None,
         other => Some(other),
+    }
+}
+
+/// What a log may be told, each kind of it at least once.
+pub fn notices() -> [Notice; 10] {
+    let peer = Some(address(51234));
+    [
+        Notice::Begins {
+            conversation: 1,
+            peer,
+        },
+        Notice::Begins {
+            conversation: u64::MAX,
+            peer: None,
+        },
+        Notice::TurnedAway { peer },
+        Notice::TurnedAway { peer: None },
+        Notice::Refused { conversation: 2 },
+        ends(peer),
+        Notice::Checkpoint {
+            micros: 1_234,
+            room: 2_048,
+        },
+        Notice::DeviceFailed,
+        Notice::LongestWait {
+            conversation: 3,
+            micros: 1_000,
+        },
+        Notice::LongestHold {
+            conversation: 4,
+            micros: 2_500,
+        },
+    ]
+}
+
+fn ends(peer: Option<SocketAddr>) -> Notice {
+    Notice::Ends {
+        conversation: 5,
+        peer,
+        ending: Ending {
+            served: Served::NoMemory,
+            is_logged_in: true,
+            calls: 6,
+            waited: 7,
+            held: 8,
+        },
     }
 }

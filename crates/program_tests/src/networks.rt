@@ -53,7 +53,8 @@ fn refused<T>() -> io::Result<T> {
     Err(io::Error::from(ErrorKind::Other))
 }
 
-fn address(port: u16) -> SocketAddr {
+/// A port of this machine.
+pub fn address(port: u16) -> SocketAddr {
     SocketAddr::V4(SocketAddrV4::new(Ipv4Addr::new(127, 0, 0, 1), port))
 }
 

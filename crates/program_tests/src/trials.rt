@@ -1,6 +1,6 @@
 //! Trials of the program, a line each.
 
-use crate::logs::Kept;
+use crate::logs::{Kept, notices};
 use crate::networks::{Caller, Callers, Way};
 use crate::shelves::Shelf;
 use crate::streams::{Broken, Unflushed};
@@ -117,8 +117,8 @@ impl<'r, T: Threads + Wait + Clock + Sync> Trials<'r, T> {
     }
 
     /// Tries each line: the streams, the network, behind how many calls devices fail, the input in
-    /// hexadecimal, which a caller says too, and then the program's words. None where a line is none of these,
-    /// and without memory.
+    /// hexadecimal, which a caller says too, and then the program's words. With `notices` for the streams it is
+    /// written what a log may be told. None where a line is none of these, and without memory.
     pub fn follow(&mut self, text: &str) -> Option<()> {
         for line in text.split('\n') {
             self.note(line.as_bytes())?;
@@ -160,6 +160,7 @@ impl<'r, T: Threads + Wait + Clock + Sync> Trials<'r, T> {
             "mute-out" => self.without_output(words, &scene),
             "mute-err" => self.without_errors(words, &scene),
             "unflushed" => self.without_flush(words, &scene),
+            "notices" => self.tell_notices(),
             _ => self.whole(words, &scene),
         }
     }
@@ -235,6 +236,15 @@ impl<'r, T: Threads + Wait + Clock + Sync> Trials<'r, T> {
         }
         let text = format!(in self.alloc; "reads limited to {limit} s").ok()?;
         self.note(text.as_bytes())
+    }
+
+    // What a log may be told.
+    fn tell_notices(&mut self) -> Option<()> {
+        for notice in notices() {
+            let line = format!(in self.alloc; "{notice}").ok()?;
+            self.note(line.as_bytes())?;
+        }
+        Some(())
     }
 
     fn note(&mut self, line: &[u8]) -> Option<()> {
