@@ -4,7 +4,7 @@ use crate::stages::{Cue, Stage};
 use crate::talks::{Checker, Talk, Tape};
 use conversation::Settings;
 use drda_disk::MemDisk;
-use drda_program::{Streams, serve_streams};
+use drda_program::{Silent, Streams, serve_streams};
 use durable_core::{DurableCore, open};
 use shared_node::Shared;
 use std::alloc::Global;
@@ -96,7 +96,7 @@ where
         Err(_) => return None,
     };
     let settings = Settings::new(alloc, "ana", "pw", "SHOP").ok()?;
-    serve_streams(rt, alloc, &shared, &settings, stage, streams).ok()?;
+    serve_streams(rt, alloc, &shared, &settings, stage, &Silent, streams).ok()?;
     let (book, is_idle) = match shared.close(Vec::new(alloc)) {
         Ok(book) => (book, true),
         Err(book) => (book, false),
