@@ -14,7 +14,7 @@ pub struct Renewals {
 }
 
 impl Renewals {
-    ghost use Rattle.std.specs.Prelude.{◌≡◌, None, Some};
+    ghost use Rattle.std.specs.Prelude.{◌≡◌, None, Some, true};
     ghost use Rattle.recovery_laws.specs.Journaled.{Journaled, shown_on};
     ghost use Rattle.shared_node.specs.Fillings.{filling_of};
     ghost use Rattle.shared_node.specs.Passes.{Rests};
