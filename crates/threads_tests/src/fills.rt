@@ -82,12 +82,31 @@ fn a_journal_that_fills_is_followed_by_a_checkpoint(rt: HostRuntime) -> Result<(
     Ok(())
 }
 
-// Puts in a row of 2,000 letters, and commits it, until that has no room. None where a call was not done.
-fn fill<D: Disk>(alloc: Global, book: &mut Book<D>, pass: &mut Pass) -> Option<()> {
+// Puts in so many rows of 2,000 letters, from a key on. Whether all were taken.
+fn add_rows<D: Disk>(
+    alloc: Global,
+    book: &mut Book<D>,
+    pass: &mut Pass,
+    first: i64,
+    rows: i64,
+) -> Option<bool> {
     let text = letters(alloc).ok()?;
-    for key in 0..1_000 {
+    let mut all = true;
+    for key in first..first.saturating_add(rows) {
         let values = [Value::Number(key), Value::Text(text.as_str())];
-        run(alloc, book, pass, ADD, &values)?;
+        all &= run(alloc, book, pass, ADD, &values)? == Told::Count(1);
+    }
+    Some(all)
+}
+
+// Commits units of so many rows, until one has no room. None where a call was not done.
+fn fill<D: Disk>(alloc: Global, book: &mut Book<D>, pass: &mut Pass, rows: i64) -> Option<()> {
+    let mut first = 0_i64;
+    for _ in 0..1_000 {
+        if !add_rows(alloc, book, pass, first, rows)? {
+            return None;
+        }
+        first = first.saturating_add(rows);
         match commit(book, pass) {
             Told::Done => {}
             Told::Full => return Some(()),
@@ -97,16 +116,16 @@ fn fill<D: Disk>(alloc: Global, book: &mut Book<D>, pass: &mut Pass) -> Option<(
     None
 }
 
-// How many commits have no room, of so many that are tried again on a full store; and the calls that the device had
-// then. None where a call was not done.
-fn tried(alloc: Global, times: u64) -> Option<(u64, u64)> {
+// How many commits have no room, of so many that are tried again on a store that is full for units of so many rows; and
+// the calls that the device had then. None where a call was not done.
+fn tried(alloc: Global, rows: i64, times: u64) -> Option<(u64, u64)> {
     let disk = FuseDisk::new(fresh_store(alloc)?, u64::MAX, false);
     let mut book = book_over(alloc, disk)?;
     let mut pass = book.admit()?;
     if !is_committed(alloc, &mut book, &mut pass, CREATE, &[]) {
         return None;
     }
-    fill(alloc, &mut book, &mut pass)?;
+    fill(alloc, &mut book, &mut pass, rows)?;
     let mut full = 0_u64;
     for _ in 0..times {
         if commit(&mut book, &mut pass) == Told::Full {
@@ -117,9 +136,15 @@ fn tried(alloc: Global, times: u64) -> Option<(u64, u64)> {
     Some((full, book.into_core().into_disk().calls()))
 }
 
+// Units of one row, behind which the tables have no room in a half; and one that is longer than all of a half, where
+// a checkpoint has room and gains nothing.
+const UNITS: [i64; 2] = [1, 516];
+
 #[test]
 fn a_full_store_is_not_written_again(rt: HostRuntime) -> Result<(), Fail> {
-    let (_, calls) = tried(rt.alloc(), 0).ok_or("not all was done")?;
-    assert_eq!(rt; tried(rt.alloc(), 3), Some((3, calls)));
+    for rows in UNITS {
+        let (_, calls) = tried(rt.alloc(), rows, 0).ok_or("not all was done")?;
+        assert_eq!(rt; tried(rt.alloc(), rows, 3), Some((3, calls)), "{rows}");
+    }
     Ok(())
 }
