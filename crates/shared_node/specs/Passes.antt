@@ -1,5 +1,5 @@
 -- Passes: what each call of a book makes of it and of a pass.
-use Rattle.std.specs.Prelude.{◌≡◌, ◌≢◌, ◌⊎◌, ℕ, ◌+◌, ◌<◌, ◌≤◌, ◌^◌, true, Bool, List, [], ◌∷◌, ◌++◌, Option, Some, None, slice_get, slice_set}
+use Rattle.std.specs.Prelude.{◌≡◌, ◌≢◌, ◌⊎◌, ℕ, ◌+◌, ◌<◌, ◌≤◌, ◌^◌, ⊤, true, Bool, List, [], ◌∷◌, ◌++◌, Option, Some, None, slice_get, slice_set}
 use Rattle.drda_disk.specs.Disk.{Life}
 use Rattle.core_calls.specs.Call.{Call, lost}
 use Rattle.core_calls.specs.Answer.{Answer, no_memory, answer_of}
@@ -11,7 +11,7 @@ use Rattle.shared_node.specs.declared.acted.Acted.{Acted}
 use Rattle.shared_node.specs.declared.acted.Acted.TheVariants.{Answered, StrangerPass}
 use Rattle.shared_node.specs.declared.count.Count.{Count}
 use Rattle.shared_node.specs.declared.pass.Pass.{Pass}
-use Rattle.shared_node.specs.Books.{Told}
+use Rattle.shared_node.specs.Books.{Told, calls_of}
 
 -- the calls that were made with it, as the book listed them
 abbrev pub calls_in : Pass → List AnsweredCall
@@ -50,10 +50,10 @@ retired book pass = record book { places = slice_set book.places pass.place None
 abbrev pub IsAt : List Pass → ℕ → Type 0
 IsAt passes place = (at : ℕ) × (pass : Pass) × (slice_get passes at ≡ Some pass) × (pass.place ≡ place)
 
--- each pass is counted as it counts itself, and no two of them are at one place
-pub record AreKnown (passes : List Pass) (places : List (Option Count)) : Type 0 where
-  pub known : (at : ℕ) (pass : Pass) → slice_get passes at ≡ Some pass → slice_get places pass.place ≡ Some (Some (count_of pass))
-  pub apart : (here there : ℕ) (one other : Pass) → slice_get passes here ≡ Some one → slice_get passes there ≡ Some other → one.place ≡ other.place → here ≡ there
+-- each pass is counted as it counts itself, and no other one is at its place
+abbrev pub AreKnown : List Pass → List (Option Count) → Type 0
+AreKnown [] places = ⊤
+AreKnown (pass ∷ passes) places = (slice_get places pass.place ≡ Some (Some (count_of pass))) × (IsAt passes pass.place → ⊥) × AreKnown passes places
 
 -- there is a pass at each place that is taken
 abbrev pub AreAll : List Pass → List (Option Count) → Type 0
@@ -63,6 +63,10 @@ AreAll passes places = (place : ℕ) (c : Count) → slice_get places place ≡ 
 pub record AreJustAt (passes : List Pass) (places : List (Option Count)) : Type 0 where
   pub each : AreKnown passes places
   pub all : AreAll passes places
+
+-- the book lists as many calls of each pass's conversation as the pass counts
+abbrev pub AreListed : {D : Type 0} → List Pass → Told D → Type 0
+AreListed passes book = (at : ℕ) (pass : Pass) → slice_get passes at ≡ Some pass → pass.count ≡ calls_of pass.conversation book.calls
 
 abbrev pub AreJust : {D : Type 0} → List Pass → Told D → Type 0
 AreJust passes book = AreJustAt passes book.places

@@ -83,7 +83,8 @@ impl<D: Disk> Book<D> {
     }
 
     /// Does one call of the pass's conversation and lists it, as one step. It is answered as the core answers:
-    /// by its step, or by an excuse. Where the journal has no room for its record, a checkpoint is written first.
+    /// by its step, or by an excuse. Where the journal has no room for its record, a checkpoint is written first, unless
+    /// nothing was recorded since the last one.
     ///
     /// `NoMemory`, which is not listed, comes where the core wants memory and none is there, and where the
     /// conversation has made 2^64 - 2 calls; of a loss only behind 2^64 - 1. `StrangerPass` comes where the book
@@ -119,8 +120,8 @@ impl<D: Disk> Book<D> {
         }
     }
 
-    /// Writes a checkpoint where one is due. Nothing is listed; where it has no room, or memory is refused, the
-    /// book goes on without; where the device fails, the next call tells.
+    /// Writes a checkpoint where one is due, and something was recorded since the last one. Nothing is listed; where it
+    /// has no room, or memory is refused, the book goes on without; where the device fails, the next call tells.
     pub fn consider_checkpoint(&mut self)
         ensures rests { Rests self.old.core self.new.core }
         ensures rest { self.new ≡ record self.old { core = self.new.core } }

@@ -1,14 +1,37 @@
 //! Whether passes are all that have leave.
 
-ghost use Rattle.std.specs.Prelude.{◌≡◌, ◌<◌, ◌↔◌, IsTrue, Some, slice_get};
+ghost use Rattle.std.specs.Prelude.{◌↔◌, IsTrue};
 ghost use Rattle.shared_node.specs.Passes.{AreAll, AreKnown, AreJustAt, IsAt};
 
+use crate::book::Book;
 use crate::count::Count;
 use crate::numbering::knows;
 use crate::pass::Pass;
+use drda_disk::Disk;
 
-/// Whether these passes are all that have leave at these places, each once, and counted as they are there.
-pub(crate) fn are_just(places: &[Option<Count>], passes: &[Pass]) -> bool
+impl<D: Disk> Book<D> {
+    ghost use Rattle.std.specs.Prelude.{◌≡◌, ◌↔◌, IsTrue, true};
+    ghost use Rattle.shared_node.specs.Books.{IsKept};
+    ghost use Rattle.shared_node.specs.Passes.{AreJust, AreListed};
+
+    /// What every book keeps. Does nothing.
+    pub(crate) fn is_kept(&self)
+        ensures { IsKept D.is_modelled D.life self.now }
+    {
+        let _next = &self.next;
+    }
+
+    /// Whether these passes are all that have leave, each once and counted as the book counts.
+    pub(crate) fn is_just(&self, passes: &[Pass]) -> bool
+        ensures just { IsTrue result ↔ AreJust passes.now self.now }
+        ensures listed { result ≡ true → AreListed passes.now self.now }
+    {
+        are_just(&self.places, passes)
+    }
+}
+
+// Whether these passes are all that have leave at these places, each once and counted as there.
+fn are_just(places: &[Option<Count>], passes: &[Pass]) -> bool
     ensures { IsTrue result ↔ AreJustAt passes.now places.now }
 {
     are_known(places, passes) && are_all(places, passes)
@@ -18,10 +41,12 @@ pub(crate) fn are_just(places: &[Option<Count>], passes: &[Pass]) -> bool
 fn are_known(places: &[Option<Count>], passes: &[Pass]) -> bool
     ensures { IsTrue result ↔ AreKnown passes.now places.now }
 {
-    for at in 0..passes.len() {
-        if !knows(places, &passes[at]) || is_at(&passes[..at], passes[at].place) {
+    let mut left = passes;
+    while let [pass, rest @ ..] = left {
+        if !knows(places, pass) || is_at(rest, pass.place) {
             return false;
         }
+        left = rest;
     }
     true
 }

@@ -1,7 +1,6 @@
 //! A book under a lock.
 
 use crate::book::Book;
-use crate::closing::are_just;
 use crate::pass::Pass;
 use crate::turn::{Begun, Turn, time};
 use drda_disk::Disk;
@@ -20,7 +19,7 @@ pub struct Shared<D: Disk> {
 
 impl<D: Disk> Shared<D> {
     ghost use Rattle.std.specs.Prelude.{◌≡◌, ◌<◌, [], IfErr, IfOk, IfSome};
-    ghost use Rattle.shared_node.specs.Passes.{AreJust, calls_in};
+    ghost use Rattle.shared_node.specs.Passes.{AreJust, AreListed, calls_in};
     ghost use Rattle.shared_node.specs.Locked.{Considers, Retires, UnderLock};
 
     /// Opens a book over a core, under a lock. Out of memory, the core is handed back.
@@ -47,8 +46,10 @@ impl<D: Disk> Shared<D> {
         let came = time(rt);
         let mut guard = self.book.lock(rt);
         let book = &mut *guard;
+        book.is_kept();
         let begun = Begun::new(rt, came, book);
         book.consider_checkpoint();
+        book.is_kept();
         begun.end(rt, book)
     }
 
@@ -57,7 +58,12 @@ impl<D: Disk> Shared<D> {
     pub fn retire<R: Wait>(&self, rt: &R, pass: Pass) -> bool
         ensures { UnderLock D.is_modelled D.life (Retires pass result) }
     {
-        self.book.lock(rt).retire(pass)
+        let mut guard = self.book.lock(rt);
+        let book = &mut *guard;
+        book.is_kept();
+        let is_taken = book.retire(pass);
+        book.is_kept();
+        is_taken
     }
 
     /// The book, once nobody shares it, as it was found. `Ok` comes exactly where these passes are all that have leave
@@ -65,10 +71,11 @@ impl<D: Disk> Shared<D> {
     /// `Err` comes, with the book: some of the passes are a stranger's, or some are missing.
     pub fn close(self, passes: Vec<Pass>) -> Result<Book<D>, Book<D>>
         ensures just { IfOk result (AreJust passes.items) }
+        ensures listed { IfOk result (AreListed passes.items) }
         ensures stranger { IfErr result (λ book. AreJust passes.items book → ⊥) }
     {
         let book = self.book.into_inner();
-        if are_just(&book.places, &passes) {
+        if book.is_just(&passes) {
             return Ok(book);
         }
         Err(book)

@@ -1,5 +1,7 @@
 //! What a turn at the lock was like, for people.
 
+ghost use Rattle.std.specs.Prelude.{◌≡◌, IfSome};
+
 use crate::book::Book;
 use drda_disk::Disk;
 use std::time::{Clock, Instant};
@@ -66,8 +68,6 @@ fn room_where<D: Disk>(book: &Book<D>, is_asked: bool) -> Option<usize>
     }
     None
 }
-
-ghost use Rattle.std.specs.Prelude.{◌≡◌, IfSome};
 
 /// The time, where the clock can be read.
 pub(crate) fn time<R: Clock>(rt: &R) -> Option<Instant> {

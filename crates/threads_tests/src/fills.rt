@@ -1,15 +1,18 @@
 //! Books whose journals fill.
 
-use crate::books::{Told, book_of, commit, run};
-use drda_disk::{Disk, MemDisk};
+use crate::books::{Told, book_of, book_over, commit, run};
+use drda_disk::{Disk, FuseDisk, MemDisk};
 use row_values::Value;
 use shared_node::{Book, Pass};
 use std::alloc::{AllocError, Global};
 use std::test::Fail;
+use test_nodes::fresh_store;
 
 const CREATE: &str = "CREATE TABLE B (K INTEGER NOT NULL, V VARCHAR(2000), PRIMARY KEY (K))";
 
 const INSERT: &str = "INSERT INTO B VALUES (1, 'x')";
+
+const ADD: &str = "INSERT INTO B VALUES (?, ?)";
 
 const UPDATE: &str = "UPDATE B SET V = ?";
 
@@ -36,9 +39,9 @@ fn is_committed<D: Disk>(
     }
 }
 
-// A book whose one conversation has made a table with a row, and put that anew so many times, with 2,000 letters;
-// each time it has committed. None where a call was not done.
-fn filled(alloc: Global, times: u64) -> Option<Book<MemDisk>> {
+/// A book whose one conversation has made a table with a row, and put that anew so many times, with 2,000 letters;
+/// each time it has committed. None where a call was not done.
+pub fn filled(alloc: Global, times: u64) -> Option<Book<MemDisk>> {
     let mut book = book_of(alloc)?;
     let mut pass = book.admit()?;
     let text = letters(alloc).ok()?;
@@ -75,6 +78,73 @@ fn a_journal_that_fills_is_followed_by_a_checkpoint(rt: HostRuntime) -> Result<(
         let (most, limit) = (least.saturating_add(50_000), behind.saturating_add(50_000));
         assert!(rt; least <= room && room < most, "{times}: {room}");
         assert!(rt; behind <= left && left < limit, "{times}: {left}");
+    }
+    Ok(())
+}
+
+// Puts in so many rows of 2,000 letters, from a key on. Whether all were taken.
+fn add_rows<D: Disk>(
+    alloc: Global,
+    book: &mut Book<D>,
+    pass: &mut Pass,
+    first: i64,
+    rows: i64,
+) -> Option<bool> {
+    let text = letters(alloc).ok()?;
+    let mut all = true;
+    for key in first..first.saturating_add(rows) {
+        let values = [Value::Number(key), Value::Text(text.as_str())];
+        all &= run(alloc, book, pass, ADD, &values)? == Told::Count(1);
+    }
+    Some(all)
+}
+
+// Commits units of so many rows, until one has no room. None where a call was not done.
+fn fill<D: Disk>(alloc: Global, book: &mut Book<D>, pass: &mut Pass, rows: i64) -> Option<()> {
+    let mut first = 0_i64;
+    for _ in 0..1_000 {
+        if !add_rows(alloc, book, pass, first, rows)? {
+            return None;
+        }
+        first = first.saturating_add(rows);
+        match commit(book, pass) {
+            Told::Done => {}
+            Told::Full => return Some(()),
+            _ => return None,
+        }
+    }
+    None
+}
+
+// How many commits have no room, of so many that are tried again on a store that is full for units of so many rows; and
+// the calls that the device had then. None where a call was not done.
+fn tried(alloc: Global, rows: i64, times: u64) -> Option<(u64, u64)> {
+    let disk = FuseDisk::new(fresh_store(alloc)?, u64::MAX, false);
+    let mut book = book_over(alloc, disk)?;
+    let mut pass = book.admit()?;
+    if !is_committed(alloc, &mut book, &mut pass, CREATE, &[]) {
+        return None;
+    }
+    fill(alloc, &mut book, &mut pass, rows)?;
+    let mut full = 0_u64;
+    for _ in 0..times {
+        if commit(&mut book, &mut pass) == Told::Full {
+            full = full.saturating_add(1);
+        }
+        book.consider_checkpoint();
+    }
+    Some((full, book.into_core().into_disk().calls()))
+}
+
+// Units of one row, behind which the tables have no room in a half; and one that is longer than all of a half, where
+// a checkpoint has room and gains nothing.
+const UNITS: [i64; 2] = [1, 516];
+
+#[test]
+fn a_full_store_is_not_written_again(rt: HostRuntime) -> Result<(), Fail> {
+    for rows in UNITS {
+        let (_, calls) = tried(rt.alloc(), rows, 0).ok_or("not all was done")?;
+        assert_eq!(rt; tried(rt.alloc(), rows, 3), Some((3, calls)), "{rows}");
     }
     Ok(())
 }
