@@ -14,10 +14,17 @@ const CODE_POINT: [u16; 2] = [8, 9];
 const SEVERITY: u16 = 15;
 
 /// What a conversation's answers are written on: it holds what the writer inside holds. It tells of each login that is
-/// refused, until one is right; the answers up to that are shorter than 32,768 bytes each.
+/// refused, until one is right.
 #[derive(Drop)]
 pub(crate) struct Watched<'a, W, L> {
     writer: W,
+    watch: Watch<'a, L>,
+}
+
+/// How far the answers of a conversation were looked at. Those up to a login that is right are shorter than 32,768
+/// bytes each.
+#[derive(Drop)]
+struct Watch<'a, L> {
     log: &'a L,
     conversation: u64,
     is_logged_in: bool,
@@ -31,26 +38,45 @@ impl<'a, W: Write, L: Log> Watched<'a, W, L> {
     pub(crate) fn new(writer: W, log: &'a L, conversation: u64) -> Watched<'a, W, L> {
         Watched {
             writer,
-            log,
-            conversation,
-            is_logged_in: false,
-            at: 0,
-            length: 0,
-            code_point: 0,
+            watch: Watch {
+                log,
+                conversation,
+                is_logged_in: false,
+                at: 0,
+                length: 0,
+                code_point: 0,
+            },
         }
     }
 
     /// Whether a login was right.
     pub(crate) fn is_logged_in(&self) -> bool {
-        self.is_logged_in
+        self.watch.is_logged_in
+    }
+}
+
+impl<W: Write, L: Log> Write for Watched<'_, W, L> {
+    ghost contents = { λ w. W.contents w.writer };
+
+    fn write(&mut self, bytes: &[u8]) -> io::Result<usize> {
+        let count = self.writer.write(bytes)?;
+        self.watch.look(&bytes[..count]);
+        Ok(count)
     }
 
-    // Bytes of answers are written, until a login is right.
-    fn watch(&mut self, bytes: &[u8]) {
+    fn flush(&mut self) -> io::Result<()> {
+        self.writer.flush()
+    }
+}
+
+impl<L: Log> Watch<'_, L> {
+    // Bytes of answers were written; they are looked at until a login is right.
+    fn look(&mut self, bytes: &[u8]) {
         for byte in bytes {
-            if !self.is_logged_in {
-                self.step(u16::from(*byte));
+            if self.is_logged_in {
+                return;
             }
+            self.step(u16::from(*byte));
         }
     }
 
@@ -78,21 +104,5 @@ impl<'a, W: Write, L: Log> Watched<'a, W, L> {
                 conversation: self.conversation,
             });
         }
-    }
-}
-
-impl<W: Write, L: Log> Write for Watched<'_, W, L> {
-    ghost contents = { λ w. W.contents w.writer };
-
-    fn write(&mut self, bytes: &[u8]) -> io::Result<usize> {
-        let count = self.writer.write(bytes)?;
-        if !self.is_logged_in {
-            self.watch(&bytes[..count]);
-        }
-        Ok(count)
-    }
-
-    fn flush(&mut self) -> io::Result<()> {
-        self.writer.flush()
     }
 }
