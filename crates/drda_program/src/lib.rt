@@ -26,7 +26,7 @@ pub use fault::Fault;
 pub use files::{StoreFiles, SystemFiles};
 pub use log::{ErrorLog, Log, Silent};
 pub use network::{Network, SystemNetwork};
-pub use notice::{Ending, Notice};
+pub use notice::{Notice, Outcome};
 pub use program::run_words;
 // What ended a conversation.
 pub use stream_service::Served;

@@ -24,7 +24,7 @@ pub enum Notice {
     Ends {
         conversation: u64,
         peer: Option<SocketAddr>,
-        ending: Ending,
+        outcome: Outcome,
     },
     /// A checkpoint was written, with the lock held for so long; so many bytes are left for records.
     Checkpoint {
@@ -47,7 +47,7 @@ pub enum Notice {
 
 /// How a conversation has ended.
 #[derive(Clone, Copy, Debug, PartialEq, Eq)]
-pub struct Ending {
+pub struct Outcome {
     /// What ended it.
     pub served: Served,
     /// Whether its user and its password were right.
@@ -78,11 +78,11 @@ impl fmt::Display for Notice {
             Notice::Ends {
                 conversation,
                 peer,
-                ending,
+                outcome,
             } => {
                 write!(f, "drdad: conversation {conversation} ends, of ")?;
                 write_peer(f, peer)?;
-                write_ending(f, ending)
+                write_outcome(f, outcome)
             }
             Notice::Checkpoint { micros, room } => write!(
                 f,
@@ -114,9 +114,9 @@ fn write_peer<W: fmt::Write>(f: &mut fmt::Formatter<W>, peer: Option<SocketAddr>
     }
 }
 
-fn write_ending<W: fmt::Write>(f: &mut fmt::Formatter<W>, ending: Ending) -> fmt::Result {
-    let (cause, login) = (cause_of(ending.served), login_of(ending.is_logged_in));
-    let (calls, waited, held) = (ending.calls, ending.waited, ending.held);
+fn write_outcome<W: fmt::Write>(f: &mut fmt::Formatter<W>, outcome: Outcome) -> fmt::Result {
+    let (cause, login) = (cause_of(outcome.served), login_of(outcome.is_logged_in));
+    let (calls, waited, held) = (outcome.calls, outcome.waited, outcome.held);
     write!(
         f,
         ": {cause}, {login}, calls {calls}, waited at most {waited} us, lock held at most {held} us"

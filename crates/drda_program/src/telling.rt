@@ -7,14 +7,14 @@ use shared_node::{Gate, Turn};
 
 /// A gate whose turns are told.
 #[derive(Clone, Copy)]
-pub(crate) struct Told<'a, G, L> {
+pub(crate) struct TellingGate<'a, G, L> {
     pub(crate) gate: &'a G,
     pub(crate) log: &'a L,
     pub(crate) waits: &'a Longest,
     pub(crate) holds: &'a Longest,
 }
 
-impl<G: Gate, L: Log> Gate for Told<'_, G, L> {
+impl<G: Gate, L: Log> Gate for TellingGate<'_, G, L> {
     fn turn(&self, conversation: u64, n: u64) {
         self.gate.turn(conversation, n);
     }

@@ -6,8 +6,8 @@ ghost use Rattle.drda_program.specs.Threads.{IsServed};
 
 use crate::log::Log;
 use crate::longest::Longest;
-use crate::notice::{Ending, Notice};
-use crate::telling::{Told, tell_turn};
+use crate::notice::{Notice, Outcome};
+use crate::telling::{TellingGate, tell_turn};
 use crate::watching::Watched;
 use command_kit::Ask;
 use conversation::{Front, Settings};
@@ -82,7 +82,7 @@ fn attend<D: Disk, R: Wait + Clock, G: Gate, L: Log, I: Read + Drop, O: Write + 
     writer: O,
 ) {
     let conversation = pass.conversation();
-    let gate = Told {
+    let gate = TellingGate {
         gate: hall.gate,
         log: hall.log,
         waits: hall.waits,
@@ -105,7 +105,7 @@ fn attend<D: Disk, R: Wait + Clock, G: Gate, L: Log, I: Read + Drop, O: Write + 
     hall.log.tell(Notice::Ends {
         conversation,
         peer,
-        ending: Ending {
+        outcome: Outcome {
             served,
             is_logged_in: writer.is_logged_in(),
             calls,

@@ -1,7 +1,7 @@
 //! A log that is kept.
 
 use crate::networks::address;
-use drda_program::{Ending, Log, Notice, Served};
+use drda_program::{Log, Notice, Outcome, Served};
 use std::alloc::Global;
 use std::fmt::Write;
 use std::net::SocketAddr;
@@ -44,14 +44,14 @@ fn timeless(notice: Notice) -> Option<Notice> {
         Notice::Ends {
             conversation,
             peer,
-            ending,
+            outcome,
         } => Some(Notice::Ends {
             conversation,
             peer,
-            ending: Ending {
+            outcome: Outcome {
                 waited: 0,
                 held: 0,
-                ..ending
+                ..outcome
             },
         }),
         Notice::Checkpoint { micros: _, room } => Some(Notice::Checkpoint { micros: 0, room }),
@@ -96,7 +96,7 @@ fn ends(peer: Option<SocketAddr>) -> Notice {
     Notice::Ends {
         conversation: 5,
         peer,
-        ending: Ending {
+        outcome: Outcome {
             served: Served::NoMemory,
             is_logged_in: true,
             calls: 6,
