@@ -7,7 +7,7 @@ import event_records as events
 import written_conversations as written
 from drdad import wire
 
-STORIES, RUNS, CALLS = 100, 2, 20
+STORIES, RUNS, CALLS = 200, 2, 20
 TABLES, KEYS, PLACES, BRANCHES = ("T0", "T1"), range(4), range(3), (b"A", b"C", b"D")
 JOIN, SUSPEND, RESUME, FORGET = 0x00200000, 0x02000000, 0x08000000, 0x06
 ACTIVE, IDLE, PREPARED, ROLLBACK_ONLY = "active", "idle", "prepared", "rollback only"

@@ -8,7 +8,8 @@ use sql_descriptions::Description;
 use sql_text::Command;
 use std::alloc::{AllocError, Global};
 use std::sync::Arc;
-use tables::{Change, PlainFault};
+use tables::{Change, PlainFault, RowList};
+use test_calls::push_row;
 use unit_locks::{Access, Claim};
 
 /// The values of the markers.
@@ -60,6 +61,28 @@ pub fn push_run(
         }
     };
     push(out, &text)
+}
+
+// The places of the columns that are asked for, and each row with all of its values.
+fn push_list(alloc: Global, list: &RowList, out: &mut Vec<u8>) -> Option<()> {
+    push_places(alloc, list.selected(), out)?;
+    for place in 0..list.len() {
+        push_row(alloc, out, list.row(place))?;
+    }
+    Some(())
+}
+
+/// Appends the rows that a query finds, which is not refused.
+pub fn push_found(
+    alloc: Global,
+    command: &Command<'_>,
+    view: &mut Watched,
+    out: &mut Vec<u8>,
+) -> Option<()> {
+    match answer(alloc, command, 0, view).ok()? {
+        Answer::Rows(list) => push_list(alloc, &list, out),
+        _ => None,
+    }
 }
 
 fn claimed(

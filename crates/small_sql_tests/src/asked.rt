@@ -1,7 +1,7 @@
 //! What is asked, a line each.
 
 use crate::answers::{
-    push, push_absent_claims, push_bound, push_claims, push_description, push_run,
+    push, push_absent_claims, push_bound, push_claims, push_description, push_found, push_run,
 };
 use crate::watched::Watched;
 use core_calls::Side;
@@ -20,8 +20,9 @@ fn statement<'a>(alloc: Global, text: &'a str) -> Result<Statement<'a>, SqlError
     parse(alloc, text)
 }
 
-// `run LEFT` runs the command where so many bytes of changes are left, `claims` and `absent` tell what it claims and would claim where its
-// table is not there, `bound` what it is bound to, `columns` and `parameters` what it is described by.
+// `run LEFT` runs the command where so many bytes of changes are left, `find` tells the rows of a query, `claims` and `absent` tell what a
+// command claims and would claim where its table is not there, `bound` what it is bound to, `columns` and `parameters` what it is
+// described by.
 fn push_answer(
     alloc: Global,
     command: &Command<'_>,
@@ -31,6 +32,7 @@ fn push_answer(
 ) -> Option<()> {
     match asked.0 {
         "run" => push_run(alloc, command, asked.1, view, out),
+        "find" => push_found(alloc, command, view, out),
         "claims" => push_claims(alloc, command, view, out),
         "absent" => push_absent_claims(alloc, command, out),
         "bound" => push_bound(alloc, command, view, out),
