@@ -1,6 +1,7 @@
 //! A core, a book over it, and conversations that are served over it.
 
 use crate::books::Desks;
+use crate::locks::Locks;
 use crate::plays::Core;
 use crate::scenes::Scene;
 use core_calls::{Answer, CoreCall};
@@ -10,6 +11,7 @@ use std::alloc::Global;
 use std::marker::Sync;
 use std::sync::Wait;
 use std::thread::Threads;
+use std::time::Clock;
 use test_calls::{Calls, Scripts, push_text};
 use test_nodes::fresh_store;
 use xa_calls::{InvalidRequest, Request};
@@ -21,6 +23,7 @@ pub struct Bench<'r, R> {
     alloc: Global,
     core: Option<Core>,
     desks: Desks,
+    locks: Locks,
     scene: Scene,
 }
 
@@ -38,7 +41,7 @@ fn core_that_stops(alloc: Global, calls: u64) -> Option<Core> {
     core_with(alloc, opening.saturating_add(calls))
 }
 
-impl<'r, R: Threads + Wait + Sync> Bench<'r, R> {
+impl<'r, R: Threads + Wait + Clock + Sync> Bench<'r, R> {
     /// No core.
     pub fn new(rt: &'r R, alloc: Global) -> Bench<'r, R> {
         Bench {
@@ -46,17 +49,26 @@ impl<'r, R: Threads + Wait + Sync> Bench<'r, R> {
             alloc,
             core: None,
             desks: Desks::new(alloc),
+            locks: Locks::new(alloc),
             scene: Scene::new(alloc),
         }
     }
 
-    // A new book over the core, beside the passes of the one before it where those are to be strangers.
-    fn open_book(&mut self, is_stranger: bool, out: &mut Vec<u8>) -> Option<()> {
-        if !is_stranger {
-            self.desks.forget();
+    // A new book over the core, under a lock or not.
+    fn open_book(&mut self, is_locked: bool, out: &mut Vec<u8>) -> Option<()> {
+        let core = self.core.take()?;
+        if is_locked {
+            self.locks.open(core)?;
+        } else {
+            self.desks.open(core)?;
         }
-        self.desks.open(self.core.take()?)?;
         push_text(out, "opened")
+    }
+
+    fn forget(&mut self, out: &mut Vec<u8>) -> Option<()> {
+        self.desks.forget();
+        self.locks.forget();
+        push_text(out, "forgotten")
     }
 
     fn serve(&mut self, is_crowd: bool, out: &mut Vec<u8>) -> Option<()> {
@@ -67,11 +79,11 @@ impl<'r, R: Threads + Wait + Sync> Bench<'r, R> {
 
     fn make(&mut self, core: Option<Core>, out: &mut Vec<u8>) -> Option<()> {
         self.core = Some(core?);
-        push_text(out, "formatted")
+        push_text(out, "a core")
     }
 }
 
-impl<'r, R: Threads + Wait + Sync> Calls for Bench<'r, R> {
+impl<'r, R: Threads + Wait + Clock + Sync> Calls for Bench<'r, R> {
     fn step(&mut self, conversation: u64, call: &CoreCall<'_, '_>) -> Option<Answer> {
         self.desks.ask(conversation, call)
     }
@@ -96,8 +108,8 @@ impl<'r, R: Threads + Wait + Sync> Calls for Bench<'r, R> {
         None
     }
 
-    // `fresh` is a core over a fresh store, and `stops N` one whose device fails behind so many calls more; `book` a new book over it, and
-    // `another` one beside the passes of the one before it. `serve` serves the conversations that were laid, and `crowd` such of
+    // `fresh` is a core over a fresh store, `stops N` one whose device fails behind so many calls more, and `core` that of the book; `book` a new
+    // book over it, and `lock` one under a lock; `forget` leaves no pass. `serve` serves the conversations that were laid, and `crowd` such of
     // which the last one comes until it is heard.
     fn do_other(
         &mut self,
@@ -109,9 +121,17 @@ impl<'r, R: Threads + Wait + Sync> Calls for Bench<'r, R> {
         match verb {
             "fresh" => self.make(core_with(self.alloc, u64::MAX), out),
             "stops" => self.make(core_that_stops(self.alloc, rest.parse::<u64>().ok()?), out),
-            "book" | "another" => self.open_book(verb == "another", out),
+            "core" => {
+                let core = self.desks.into_core();
+                self.make(core, out)
+            }
+            "book" | "lock" => self.open_book(verb == "lock", out),
+            "forget" => self.forget(out),
             "serve" | "crowd" => self.serve(verb == "crowd", out),
             "talks" | "cue" | "order" => self.scene.lay(scripts, verb, rest, out),
+            "holds" | "writes" | "back" | "consider" | "close" => {
+                self.locks.tell(self.rt, verb, rest, out)
+            }
             _ => self.desks.tell(verb, rest, out),
         }
     }

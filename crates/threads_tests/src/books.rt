@@ -32,8 +32,8 @@ fn counts_of(passes: &[Option<Pass>]) -> (u64, usize, u64) {
     (count, taken.iter().filter(|it| **it).count(), calls)
 }
 
-// The place of a pass by its number.
-fn place_of(number: u64) -> Option<usize> {
+/// The place of what has this number, from 1 on.
+pub fn place_of(number: u64) -> Option<usize> {
     usize::try_from(number.checked_sub(1)?).ok()
 }
 
@@ -79,6 +79,17 @@ impl Desks {
                 Some(Answer::Closed)
             }
         }
+    }
+
+    /// The book's core, as the last call left it.
+    pub fn into_core(&mut self) -> Option<Core> {
+        Some(self.book.take()?.into_core())
+    }
+
+    // How many calls the book's device has had. The book is gone then.
+    fn said_calls(&mut self) -> Option<String> {
+        let calls = self.into_core()?.into_disk().calls();
+        format!(in self.alloc; "{calls} calls of the device").ok()
     }
 
     // Leave for one conversation more, where the book gives it.
@@ -140,8 +151,8 @@ impl Desks {
         Some(())
     }
 
-    /// `admit` and `retire N` give leave and take it back, `passes` and `told` tell of the passes and of the book, and `checkpoint`
-    /// considers one.
+    /// `admit` and `retire N` give leave and take it back, `passes` and `told` tell of the passes and of the book, `checkpoint`
+    /// considers one, and `calls` tells how often the device was called.
     pub fn tell(&mut self, verb: &str, rest: &str, out: &mut Vec<u8>) -> Option<()> {
         match verb {
             "admit" => push_text(out, &self.admit()?),
@@ -151,6 +162,7 @@ impl Desks {
                 self.consider_checkpoint()?;
                 push_text(out, "considered")
             }
+            "calls" => push_text(out, &self.said_calls()?),
             "told" => push_text(out, &self.said_book()?),
             _ => None,
         }

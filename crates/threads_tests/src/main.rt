@@ -5,10 +5,12 @@
 mod bench;
 mod books;
 mod cues;
+mod locks;
 mod plays;
 mod scenes;
 mod stages;
 mod talks;
+mod tallies;
 
 use crate::bench::Bench;
 use std::io::{self, Write};

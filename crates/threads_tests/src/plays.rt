@@ -4,13 +4,14 @@ use crate::stages::{Cue, LIMIT, Stage};
 use crate::talks::{Checker, Talk, Tape};
 use conversation::Settings;
 use drda_disk::{FuseDisk, MemDisk};
-use drda_program::{Streams, serve_streams};
+use drda_program::{Silent, Streams, serve_streams};
 use durable_core::DurableCore;
 use shared_node::{Book, Shared};
 use std::alloc::Global;
 use std::marker::Sync;
 use std::sync::Wait;
 use std::thread::{Threads, yield_now};
+use std::time::Clock;
 
 /// A core over a disk in memory that may fail.
 pub type Core = DurableCore<FuseDisk<MemDisk>>;
@@ -66,7 +67,7 @@ impl<'a> Streams for Callers<'a> {
 
 /// Serves these conversations over a core, which is handed back; they wait for each other by these cues. Where
 /// `is_crowd`, the last one comes again and again, until it is heard. None without memory.
-pub fn play<R: Threads + Wait + Sync>(
+pub fn play<R: Threads + Wait + Clock + Sync>(
     rt: &R,
     alloc: Global,
     core: Core,
@@ -86,29 +87,32 @@ pub fn play<R: Threads + Wait + Sync>(
         number: 0,
         tries: 0,
     };
-    let book = serve(rt, alloc, core, &stage, &mut callers)?;
+    let (book, is_idle) = serve(rt, alloc, core, &stage, &mut callers)?;
     let left = Left {
         late: stage.late(),
-        is_idle: book.is_idle(),
+        is_idle,
         is_failed: book.core().is_failed(),
     };
     Some((left, book.into_core()))
 }
 
-// Serves the conversations of these callers over a core, for ana with the password pw. The book that is left. None
-// without memory.
-fn serve<R: Threads + Wait + Sync>(
+// Serves the conversations of these callers over a core, for ana with the password pw. The book that is left, and whether all
+// leave came back to it. None without memory.
+fn serve<R: Threads + Wait + Clock + Sync>(
     rt: &R,
     alloc: Global,
     core: Core,
     stage: &Stage<'_>,
     callers: &mut Callers<'_>,
-) -> Option<Book<FuseDisk<MemDisk>>> {
+) -> Option<(Book<FuseDisk<MemDisk>>, bool)> {
     let shared = match Shared::new(alloc, core) {
         Ok(shared) => shared,
         Err(_) => return None,
     };
     let settings = Settings::new(alloc, "ana", "pw", "SHOP").ok()?;
-    serve_streams(rt, alloc, &shared, &settings, stage, callers).ok()?;
-    Some(shared.close())
+    serve_streams(rt, alloc, &shared, &settings, stage, &Silent, callers).ok()?;
+    match shared.close(Vec::new(alloc)) {
+        Ok(book) => Some((book, true)),
+        Err(book) => Some((book, false)),
+    }
 }

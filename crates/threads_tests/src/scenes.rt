@@ -8,6 +8,7 @@ use std::alloc::Global;
 use std::marker::Sync;
 use std::sync::Wait;
 use std::thread::Threads;
+use std::time::Clock;
 use test_calls::{Scripts, push_text};
 
 /// Conversations that are still to be served, and their cues.
@@ -43,8 +44,8 @@ impl Scene {
         }
     }
 
-    /// `COUNT NAMES | NAMES`: so many conversations more that say what the scripts of the first names spell, and are to be
-    /// answered what those of the others do.
+    // `COUNT NAMES | NAMES`: so many conversations more that say what the scripts of the first names spell, and are to be
+    // answered what those of the others do.
     fn add_talks(&mut self, scripts: &Scripts, rest: &str) -> Option<()> {
         let (count, names) = rest.split_once(' ')?;
         let (said, heard) = names.split_once('|')?;
@@ -74,7 +75,7 @@ impl Scene {
     }
 
     /// Serves the conversations over a core, which is handed back, and appends what became of them. Then there are none.
-    pub fn play<R: Threads + Wait + Sync>(
+    pub fn play<R: Threads + Wait + Clock + Sync>(
         &mut self,
         rt: &R,
         core: Core,
