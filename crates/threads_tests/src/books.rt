@@ -1,91 +1,170 @@
-//! A book over a store in memory, and what it is asked there, as plain data.
+//! A book, and passes, of which some may be another book's.
 
+use crate::plays::Core;
 use core_calls::{Answer, CoreCall};
-use drda_disk::{Disk, FuseDisk, MemDisk};
-use durable_core::{DurableCore, open};
-use row_values::Value;
+use drda_disk::{FuseDisk, MemDisk};
 use shared_node::{Acted, Book, Pass};
-use sql_text::parse;
-use std::alloc::Global;
-use test_nodes::fresh_store;
+use std::alloc::{AllocError, Global};
+use test_calls::push_text;
 
-/// What became of a call.
-#[derive(Clone, Copy, Debug, PartialEq, Eq)]
-pub enum Told {
-    Count(u32),
-    Done,
-    Refused,
-    Full,
-    DeviceFailed,
-    Closed,
-    Stranger,
-    Other,
-}
-
-/// The core of a fresh store whose device fails behind its opening. None without memory.
-pub fn failing_core(alloc: Global) -> Option<DurableCore<FuseDisk<MemDisk>>> {
-    let disk = FuseDisk::new(fresh_store(alloc)?, u64::MAX, false);
-    let calls = match open(alloc, disk) {
-        Ok(core) => core.into_disk().calls(),
-        Err(_) => return None,
-    };
-    match open(alloc, FuseDisk::new(fresh_store(alloc)?, calls, false)) {
-        Ok(core) => Some(core),
-        Err(_) => None,
-    }
-}
-
-/// A book over the core of a disk. None where the disk is no store, and without memory.
-pub fn book_over<D: Disk + Drop>(alloc: Global, disk: D) -> Option<Book<D>> {
-    let core = match open(alloc, disk) {
-        Ok(core) => core,
-        Err(_) => return None,
-    };
-    match Book::open(alloc, core) {
-        Ok(book) => Some(book),
-        Err(_) => None,
-    }
-}
-
-/// A book over a fresh store.
-pub fn book_of(alloc: Global) -> Option<Book<MemDisk>> {
-    book_over(alloc, fresh_store(alloc)?)
-}
-
-/// What becomes of a call.
-pub fn ask<D: Disk>(book: &mut Book<D>, pass: &mut Pass, call: &CoreCall<'_, '_>) -> Told {
-    match book.act(pass, call) {
-        Acted::Answered(Answer::Count(count)) => Told::Count(count),
-        Acted::Answered(Answer::Done) => Told::Done,
-        Acted::Answered(Answer::Refused(_)) => Told::Refused,
-        Acted::Answered(Answer::Full { .. }) => Told::Full,
-        Acted::Answered(Answer::DeviceFailed) => Told::DeviceFailed,
-        Acted::Answered(Answer::Closed) => Told::Closed,
-        Acted::Answered(_) => Told::Other,
-        Acted::StrangerPass => Told::Stranger,
-    }
-}
-
-/// What becomes of a commit.
-pub fn commit<D: Disk>(book: &mut Book<D>, pass: &mut Pass) -> Told {
-    ask(book, pass, &CoreCall::Commit)
-}
-
-/// What becomes of a statement with these values for its markers. None where it is none, and without memory.
-pub fn run<D: Disk>(
+/// A book, and passes in the order in which they were given, from 1 on.
+#[derive(Drop)]
+pub struct Desks {
     alloc: Global,
-    book: &mut Book<D>,
-    pass: &mut Pass,
-    text: &str,
-    parameters: &[Value<'_>],
-) -> Option<Told> {
-    let statement = match parse(alloc, text) {
-        Ok(statement) => statement,
-        Err(_) => return None,
-    };
-    let call = CoreCall::Run {
-        statement: &statement,
-        parameters,
-    };
-    Some(ask(book, pass, &call))
+    book: Option<Book<FuseDisk<MemDisk>>>,
+    passes: Vec<Option<Pass>>,
+    strangers: u64,
+}
+
+// How many passes there are, at how many places, and how many calls they count.
+fn counts_of(passes: &[Option<Pass>]) -> (u64, usize, u64) {
+    let (mut count, mut calls) = (0_u64, 0_u64);
+    let mut taken = [false; 64];
+    for pass in passes {
+        if let Some(pass) = pass {
+            count = count.saturating_add(1);
+            calls = calls.saturating_add(pass.count());
+            if let Some(place) = taken.get_mut(pass.place()) {
+                *place = true;
+            }
+        }
+    }
+    (count, taken.iter().filter(|it| **it).count(), calls)
+}
+
+/// The place of what has this number, from 1 on.
+pub fn place_of(number: u64) -> Option<usize> {
+    usize::try_from(number.checked_sub(1)?).ok()
+}
+
+impl Desks {
+    /// No book, and no pass.
+    pub fn new(alloc: Global) -> Desks {
+        Desks {
+            alloc,
+            book: None,
+            passes: Vec::new(alloc),
+            strangers: 0,
+        }
+    }
+
+    /// A new book over a core. The passes of the one before it stay.
+    pub fn open(&mut self, core: Core) -> Option<()> {
+        match Book::open(self.alloc, core) {
+            Ok(book) => {
+                self.book = Some(book);
+                Some(())
+            }
+            Err(_) => None,
+        }
+    }
+
+    /// There is no pass any more.
+    pub fn forget(&mut self) {
+        self.passes.clear();
+    }
+
+    /// What the book answers to a call with the pass of this number: to a stranger's, which is counted, as where it is closed.
+    pub fn ask(&mut self, number: u64, call: &CoreCall<'_, '_>) -> Option<Answer> {
+        let Some(Some(pass)) = self.passes.get_mut(place_of(number)?) else {
+            return None;
+        };
+        let Some(book) = &mut self.book else {
+            return None;
+        };
+        match book.act(pass, call) {
+            Acted::Answered(answer) => Some(answer),
+            Acted::StrangerPass => {
+                self.strangers = self.strangers.saturating_add(1);
+                Some(Answer::Closed)
+            }
+        }
+    }
+
+    /// The book's core, as the last call left it.
+    pub fn into_core(&mut self) -> Option<Core> {
+        Some(self.book.take()?.into_core())
+    }
+
+    // How many calls the book's device has had. The book is gone then.
+    fn said_calls(&mut self) -> Option<String> {
+        let calls = self.into_core()?.into_disk().calls();
+        format!(in self.alloc; "{calls} calls of the device").ok()
+    }
+
+    // Leave for one conversation more, where the book gives it.
+    fn admit(&mut self) -> Option<String> {
+        let Some(book) = &mut self.book else {
+            return None;
+        };
+        let Some(pass) = book.admit() else {
+            return String::from_str(self.alloc, "no leave").ok();
+        };
+        let conversation = pass.conversation();
+        self.passes.push(Some(pass)).ok()?;
+        format!(in self.alloc; "conversation {conversation}").ok()
+    }
+
+    // The book takes the pass of this number back, if it knows it.
+    fn retire(&mut self, number: &str) -> Option<&'static str> {
+        let Some(slot) = self.passes.get_mut(place_of(number.parse::<u64>().ok()?)?) else {
+            return None;
+        };
+        let pass = slot.take()?;
+        let Some(book) = &mut self.book else {
+            return None;
+        };
+        Some(if book.retire(pass) {
+            "taken back"
+        } else {
+            "a stranger's"
+        })
+    }
+
+    // How many passes there are, how many calls they count, and how many of strangers were shown.
+    fn said_passes(&self) -> Result<String, AllocError> {
+        let (count, places, calls) = counts_of(&self.passes);
+        let strangers = self.strangers;
+        format!(in self.alloc;
+            "passes: {count}, places: {places}, calls: {calls}, strangers: {strangers}"
+        )
+    }
+
+    // What is told of the book.
+    fn said_book(&self) -> Option<String> {
+        let Some(book) = &self.book else {
+            return None;
+        };
+        let (room, is_idle, is_failed) = (
+            book.core().room(),
+            book.is_idle(),
+            book.core().is_failed(),
+        );
+        format!(in self.alloc; "room: {room}, idle: {is_idle}, failed: {is_failed}").ok()
+    }
+
+    fn consider_checkpoint(&mut self) -> Option<()> {
+        let Some(book) = &mut self.book else {
+            return None;
+        };
+        book.consider_checkpoint();
+        Some(())
+    }
+
+    /// `admit` and `retire N` give leave and take it back, `passes` and `told` tell of the passes and of the book, `checkpoint`
+    /// considers one, and `calls` tells how often the device was called.
+    pub fn tell(&mut self, verb: &str, rest: &str, out: &mut Vec<u8>) -> Option<()> {
+        match verb {
+            "admit" => push_text(out, &self.admit()?),
+            "retire" => push_text(out, self.retire(rest)?),
+            "passes" => push_text(out, &self.said_passes().ok()?),
+            "checkpoint" => {
+                self.consider_checkpoint()?;
+                push_text(out, "considered")
+            }
+            "calls" => push_text(out, &self.said_calls()?),
+            "told" => push_text(out, &self.said_book()?),
+            _ => None,
+        }
+    }
 }

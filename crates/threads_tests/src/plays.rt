@@ -1,40 +1,53 @@
 //! Conversations that are served over one core, a thread for each.
 
-use crate::stages::{Cue, Stage};
+use crate::stages::{Cue, LIMIT, Stage};
 use crate::talks::{Checker, Talk, Tape};
 use conversation::Settings;
-use drda_disk::MemDisk;
+use drda_disk::{FuseDisk, MemDisk};
 use drda_program::{Silent, Streams, serve_streams};
-use durable_core::{DurableCore, open};
-use shared_node::Shared;
+use durable_core::DurableCore;
+use shared_node::{Book, Shared};
 use std::alloc::Global;
+use std::marker::Sync;
 use std::sync::Wait;
-use std::thread::Threads;
+use std::thread::{Threads, yield_now};
 use std::time::Clock;
-use test_nodes::fresh_store;
+
+/// A core over a disk in memory that may fail.
+pub type Core = DurableCore<FuseDisk<MemDisk>>;
 
 /// What is left when all have ended: how many waited for too long, whether each has given its leave back, and
 /// whether the device has failed.
-#[derive(Clone, Copy, Debug, PartialEq, Eq)]
+#[derive(Clone, Copy)]
 pub struct Left {
     pub late: u64,
     pub is_idle: bool,
     pub is_failed: bool,
 }
 
-/// What is left where all went well.
-pub const WELL: Left = Left {
-    late: 0,
-    is_idle: true,
-    is_failed: false,
-};
-
-/// Conversations that come one after the other, and are numbered from 1 on.
+/// Conversations that come one after the other, and are numbered from 1 on; and one more that comes again and
+/// again, until it is heard.
 #[derive(Drop)]
 struct Callers<'a> {
     stage: &'a Stage<'a>,
     talks: &'a [Talk],
+    again: Option<&'a Talk>,
     number: u64,
+    tries: u64,
+}
+
+impl<'a> Callers<'a> {
+    // The conversation that comes again and again. Once it is heard, it is told, and none comes any more.
+    fn try_again(&mut self) -> Option<(Tape<'a>, Checker<'a>)> {
+        let talk = self.again?;
+        if talk.is_begun() || self.tries >= LIMIT {
+            self.stage.tell();
+            return None;
+        }
+        self.tries = self.tries.saturating_add(1);
+        yield_now();
+        Some(talk.streams(self.stage, self.number.saturating_add(1)))
+    }
 }
 
 impl<'a> Streams for Callers<'a> {
@@ -43,68 +56,63 @@ impl<'a> Streams for Callers<'a> {
     type Writer = Checker<'a>;
 
     fn next(&mut self) -> Option<(Tape<'a>, Checker<'a>)> {
-        let (talk, talks) = self.talks.split_first()?;
+        let Some((talk, talks)) = self.talks.split_first() else {
+            return self.try_again();
+        };
         self.talks = talks;
         self.number = self.number.saturating_add(1);
         Some(talk.streams(self.stage, self.number))
     }
 }
 
-/// The core of a fresh store of the name SHOP. None without memory.
-pub fn core_of(alloc: Global) -> Option<DurableCore<MemDisk>> {
-    match open(alloc, fresh_store(alloc)?) {
-        Ok(core) => Some(core),
-        Err(_) => None,
-    }
-}
-
-/// Serves these conversations over a core, which is handed back; they wait for each other by these cues. None
-/// without memory.
+/// Serves these conversations over a core, which is handed back; they wait for each other by these cues. Where
+/// `is_crowd`, the last one comes again and again, until it is heard. None without memory.
 pub fn play<R: Threads + Wait + Clock + Sync>(
     rt: &R,
     alloc: Global,
-    core: DurableCore<MemDisk>,
+    core: Core,
     cues: &[Cue],
     talks: &[Talk],
-) -> Option<(Left, DurableCore<MemDisk>)> {
+    is_crowd: bool,
+) -> Option<(Left, Core)> {
     let stage = Stage::new(cues);
+    let (talks, again) = match talks.split_last() {
+        Some((last, others)) if is_crowd => (others, Some(last)),
+        _ => (talks, None),
+    };
     let mut callers = Callers {
         stage: &stage,
         talks,
+        again,
         number: 0,
+        tries: 0,
     };
-    serve(rt, alloc, core, &stage, &mut callers)
+    let (book, is_idle) = serve(rt, alloc, core, &stage, &mut callers)?;
+    let left = Left {
+        late: stage.late(),
+        is_idle,
+        is_failed: book.core().is_failed(),
+    };
+    Some((left, book.into_core()))
 }
 
-/// Serves the conversations of these streams over a core, which is handed back, for ana with the password pw.
-/// None without memory.
-pub fn serve<R, S>(
+// Serves the conversations of these callers over a core, for ana with the password pw. The book that is left, and whether all
+// leave came back to it. None without memory.
+fn serve<R: Threads + Wait + Clock + Sync>(
     rt: &R,
     alloc: Global,
-    core: DurableCore<MemDisk>,
+    core: Core,
     stage: &Stage<'_>,
-    streams: &mut S,
-) -> Option<(Left, DurableCore<MemDisk>)>
-where
-    R: Threads + Wait + Clock + Sync,
-    S: Streams,
-    S::Reader: Send,
-    S::Writer: Send,
-{
+    callers: &mut Callers<'_>,
+) -> Option<(Book<FuseDisk<MemDisk>>, bool)> {
     let shared = match Shared::new(alloc, core) {
         Ok(shared) => shared,
         Err(_) => return None,
     };
     let settings = Settings::new(alloc, "ana", "pw", "SHOP").ok()?;
-    serve_streams(rt, alloc, &shared, &settings, stage, &Silent, streams).ok()?;
-    let (book, is_idle) = match shared.close(Vec::new(alloc)) {
-        Ok(book) => (book, true),
-        Err(book) => (book, false),
-    };
-    let left = Left {
-        late: stage.late(),
-        is_idle: is_idle && book.is_idle(),
-        is_failed: book.core().is_failed(),
-    };
-    Some((left, book.into_core()))
+    serve_streams(rt, alloc, &shared, &settings, stage, &Silent, callers).ok()?;
+    match shared.close(Vec::new(alloc)) {
+        Ok(book) => Some((book, true)),
+        Err(book) => Some((book, false)),
+    }
 }

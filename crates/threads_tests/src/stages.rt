@@ -7,16 +7,17 @@ use std::thread::yield_now;
 /// How often is looked at most, until what is waited for has come.
 pub const LIMIT: u64 = 10_000_000;
 
-/// Where a conversation is: before a call, a read or a write of its own, counted from 0.
-#[derive(Clone, Copy, Debug, PartialEq, Eq)]
+/// Where a conversation is: before a call, a read or a write of its own, counted from 0, or where its stream was closed.
+#[derive(Clone, Copy, PartialEq, Eq)]
 pub enum Point {
     Call(u64),
     Read(u64),
     Write(u64),
+    Closed,
 }
 
 /// What is done at a point.
-#[derive(Clone, Copy, Debug)]
+#[derive(Clone, Copy)]
 pub enum Act {
     /// It is told that the point was reached.
     Tells,
@@ -25,7 +26,7 @@ pub enum Act {
 }
 
 /// What conversations, from one number to another, do at a point.
-#[derive(Clone, Copy, Debug)]
+#[derive(Clone, Copy)]
 pub struct Cue {
     pub conversations: (u64, u64),
     pub point: Point,

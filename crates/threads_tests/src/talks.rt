@@ -1,14 +1,11 @@
 //! Conversations over streams in memory: what they say, and whether they are answered as they should be.
 
 use crate::stages::{Point, Stage};
-use std::alloc::{AllocError, Global};
+use std::alloc::Global;
 use std::io::{self, Read, Write};
 use std::sync::atomic::{AtomicU64, Ordering};
-use test_bytes::*;
-
-const CONNECT: [&str; 4] = [EXCSAT_ALONE, ACCSEC, SECCHK_ALONE, ACCRDB];
-
-const CONNECTED: [&str; 4] = [EXCSATRD_ALONE, ACCSECRD, SECCHKRM_ALONE, ACCRDBRM];
+use test_bytes::{bytes_of, push_texts};
+use test_calls::Scripts;
 
 /// What a conversation says and what it is to be answered; and what became of it, which each thread may look at.
 #[derive(Drop)]
@@ -21,22 +18,42 @@ pub struct Talk {
     closed: AtomicU64,
 }
 
+/// The bytes of each line of the scripts of these names: of each line a piece, which one read gives.
+pub fn pieces_of(alloc: Global, scripts: &Scripts, names: &str) -> Option<Vec<Vec<u8>>> {
+    let mut pieces = Vec::new(alloc);
+    for name in names.split_ascii_whitespace() {
+        push_pieces(alloc, &mut pieces, scripts.lines(name)?)?;
+    }
+    Some(pieces)
+}
+
+fn push_pieces(alloc: Global, pieces: &mut Vec<Vec<u8>>, lines: &str) -> Option<()> {
+    for line in lines.lines() {
+        pieces.push(bytes_of(alloc, &[line]).ok()?).ok()?;
+    }
+    Some(())
+}
+
+/// The same bytes, one after the other.
+pub fn bytes_named(alloc: Global, scripts: &Scripts, names: &str) -> Option<Vec<u8>> {
+    let mut bytes = Vec::new(alloc);
+    for name in names.split_ascii_whitespace() {
+        push_texts(&mut bytes, &[scripts.lines(name)?]).ok()?;
+    }
+    Some(bytes)
+}
+
 impl Talk {
-    /// A conversation that opens the database, and then says this. Each text is a piece, which one read gives.
-    pub fn new(alloc: Global, requests: &[&str], replies: &[&str]) -> Result<Talk, AllocError> {
-        let mut pieces = Vec::new(alloc);
-        push_pieces(alloc, &mut pieces, &CONNECT)?;
-        push_pieces(alloc, &mut pieces, requests)?;
-        let mut wanted = bytes_of(alloc, &CONNECTED)?;
-        push_texts(&mut wanted, replies)?;
-        Ok(Talk {
+    /// A conversation that says these pieces, and is to be answered so.
+    pub fn new(pieces: Vec<Vec<u8>>, replies: Vec<u8>) -> Talk {
+        Talk {
             pieces,
-            replies: wanted,
+            replies,
             begun: AtomicU64::new(0),
             right: AtomicU64::new(0),
             wrong: AtomicU64::new(0),
             closed: AtomicU64::new(0),
-        })
+        }
     }
 
     /// What it is read from and written to, as the conversation of this number.
@@ -62,37 +79,30 @@ impl Talk {
         self.begun.load(Ordering::SeqCst) > 0
     }
 
-    /// Whether its one stream was closed, unread and unanswered.
-    pub fn is_turned_away(&self) -> bool {
+    // Whether its one stream was closed, unread and unanswered.
+    fn is_turned_away(&self) -> bool {
         !self.is_begun()
             && self.right.load(Ordering::SeqCst) == 0
             && self.wrong.load(Ordering::SeqCst) == 0
             && self.closed.load(Ordering::SeqCst) == 1
     }
 
-    /// Whether it was answered to the last byte, once, and by no other byte.
-    pub fn is_answered(&self) -> bool {
+    // Whether it was answered to the last byte, once, and by no other byte.
+    fn is_answered(&self) -> bool {
         self.right.load(Ordering::SeqCst) == self.replies.len() as u64
             && self.wrong.load(Ordering::SeqCst) == 0
     }
-}
 
-fn push_pieces(alloc: Global, pieces: &mut Vec<Vec<u8>>, texts: &[&str]) -> Result<(), AllocError> {
-    for text in texts {
-        let piece = bytes_of(alloc, &[*text])?;
-        pieces.push(piece)?;
+    /// What became of it.
+    pub fn end(&self) -> &'static str {
+        if self.is_answered() {
+            "answered"
+        } else if self.is_turned_away() {
+            "turned away"
+        } else {
+            "answered otherwise"
+        }
     }
-    Ok(())
-}
-
-/// So many conversations that commit twice.
-pub fn commits(alloc: Global, count: usize) -> Result<Vec<Talk>, AllocError> {
-    let mut talks = Vec::new(alloc);
-    for _ in 0..count {
-        let talk = Talk::new(alloc, &[RDBCMM, RDBCMM], &[COMMITTED, COMMITTED])?;
-        talks.push(talk)?;
-    }
-    Ok(talks)
 }
 
 /// What a conversation is read from, piece by piece.
@@ -119,13 +129,14 @@ impl Read for Tape<'_> {
 
 impl Drop for Tape<'_> {
     fn drop(self) {
-        self.talk.closed.fetch_add(1, Ordering::SeqCst);
         let Tape {
-            talk: _,
-            stage: _,
-            number: _,
+            talk,
+            stage,
+            number,
             reads: _,
         } = self;
+        talk.closed.fetch_add(1, Ordering::SeqCst);
+        stage.reach(number, Point::Closed);
     }
 }
 

@@ -1,0 +1,138 @@
+//! A core, a book over it, and conversations that are served over it.
+
+use crate::books::Desks;
+use crate::locks::Locks;
+use crate::plays::Core;
+use crate::scenes::Scene;
+use core_calls::{Answer, CoreCall};
+use drda_disk::FuseDisk;
+use durable_core::open;
+use std::alloc::Global;
+use std::marker::Sync;
+use std::sync::Wait;
+use std::thread::Threads;
+use std::time::Clock;
+use test_calls::{Calls, Scripts, push_text};
+use test_nodes::fresh_store;
+use xa_calls::{InvalidRequest, Request};
+
+/// What is asked for, and what for it is asked of.
+#[derive(Drop)]
+pub struct Bench<'r, R> {
+    rt: &'r R,
+    alloc: Global,
+    core: Option<Core>,
+    desks: Desks,
+    locks: Locks,
+    scene: Scene,
+}
+
+// A core over a fresh store of the name SHOP, whose device fails behind so many calls.
+fn core_with(alloc: Global, calls: u64) -> Option<Core> {
+    match open(alloc, FuseDisk::new(fresh_store(alloc)?, calls, false)) {
+        Ok(core) => Some(core),
+        Err(_) => None,
+    }
+}
+
+// The same, whose device fails behind so many calls more than those of the opening.
+fn core_that_stops(alloc: Global, calls: u64) -> Option<Core> {
+    let opening = core_with(alloc, u64::MAX)?.into_disk().calls();
+    core_with(alloc, opening.saturating_add(calls))
+}
+
+impl<'r, R: Threads + Wait + Clock + Sync> Bench<'r, R> {
+    /// No core.
+    pub fn new(rt: &'r R, alloc: Global) -> Bench<'r, R> {
+        Bench {
+            rt,
+            alloc,
+            core: None,
+            desks: Desks::new(alloc),
+            locks: Locks::new(alloc),
+            scene: Scene::new(alloc),
+        }
+    }
+
+    // A new book over the core, under a lock or not.
+    fn open_book(&mut self, is_locked: bool, out: &mut Vec<u8>) -> Option<()> {
+        let core = self.core.take()?;
+        if is_locked {
+            self.locks.open(core)?;
+        } else {
+            self.desks.open(core)?;
+        }
+        push_text(out, "opened")
+    }
+
+    fn forget(&mut self, out: &mut Vec<u8>) -> Option<()> {
+        self.desks.forget();
+        self.locks.forget();
+        push_text(out, "forgotten")
+    }
+
+    fn serve(&mut self, is_crowd: bool, out: &mut Vec<u8>) -> Option<()> {
+        let core = self.core.take()?;
+        self.core = Some(self.scene.play(self.rt, core, is_crowd, out)?);
+        Some(())
+    }
+
+    fn make(&mut self, core: Option<Core>, out: &mut Vec<u8>) -> Option<()> {
+        self.core = Some(core?);
+        push_text(out, "a core")
+    }
+}
+
+impl<'r, R: Threads + Wait + Clock + Sync> Calls for Bench<'r, R> {
+    fn step(&mut self, conversation: u64, call: &CoreCall<'_, '_>) -> Option<Answer> {
+        self.desks.ask(conversation, call)
+    }
+
+    fn commit(&mut self, conversation: u64) -> Option<Answer> {
+        self.desks.ask(conversation, &CoreCall::Commit)
+    }
+
+    fn roll_back(&mut self, conversation: u64) -> Option<Answer> {
+        self.desks.ask(conversation, &CoreCall::RollBack)
+    }
+
+    fn lose(&mut self, conversation: u64) -> Option<Answer> {
+        self.desks.ask(conversation, &CoreCall::Lost)
+    }
+
+    fn xa(
+        &mut self,
+        _conversation: u64,
+        _request: Result<Request, InvalidRequest>,
+    ) -> Option<Answer> {
+        None
+    }
+
+    // `fresh` is a core over a fresh store, `stops N` one whose device fails behind so many calls more, and `core` that of the book; `book` a new
+    // book over it, and `lock` one under a lock; `forget` leaves no pass. `serve` serves the conversations that were laid, and `crowd` such of
+    // which the last one comes until it is heard.
+    fn do_other(
+        &mut self,
+        scripts: &Scripts,
+        verb: &str,
+        rest: &str,
+        out: &mut Vec<u8>,
+    ) -> Option<()> {
+        match verb {
+            "fresh" => self.make(core_with(self.alloc, u64::MAX), out),
+            "stops" => self.make(core_that_stops(self.alloc, rest.parse::<u64>().ok()?), out),
+            "core" => {
+                let core = self.desks.into_core();
+                self.make(core, out)
+            }
+            "book" | "lock" => self.open_book(verb == "lock", out),
+            "forget" => self.forget(out),
+            "serve" | "crowd" => self.serve(verb == "crowd", out),
+            "talks" | "cue" | "order" => self.scene.lay(scripts, verb, rest, out),
+            "holds" | "writes" | "back" | "consider" | "close" => {
+                self.locks.tell(self.rt, verb, rest, out)
+            }
+            _ => self.desks.tell(verb, rest, out),
+        }
+    }
+}
