@@ -38,10 +38,10 @@ class Server:
         options = {"text": True, **({} if "input" in options else {"stdin": subprocess.DEVNULL}), **options}
         return subprocess.run([self.program, *words], capture_output=True, **options)
 
-    def start(self, *words):
+    def start(self, *words, stderr=None):
         """Serves the store on a free port, and returns once the server listens; one that does not in time is killed."""
         command = [self.program, "serve", self.store, "--port", "0", "--user", f"{USER}:{PASSWORD}", *words]
-        self.process = subprocess.Popen(command, stdout=subprocess.PIPE, stdin=subprocess.DEVNULL, text=True)
+        self.process = subprocess.Popen(command, stdout=subprocess.PIPE, stdin=subprocess.DEVNULL, stderr=stderr, text=True)
         late = threading.Timer(WAITS, self.process.kill)
         late.start()
         found = re.fullmatch(r"listening (\d+)\n", self.process.stdout.readline())

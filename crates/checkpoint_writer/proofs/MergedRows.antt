@@ -44,6 +44,11 @@ pub record Merges (modelled : Bool) (key_of : List ℕ → List ℕ) (table : Ta
   pub laid : HasLaid modelled key_of file (next_of begun) image writer rows
   pub given : (pages : List (List (List ℕ))) → IsTrue modelled → AreRead cache first → IsStored key_of table.places pages first → LieApart table.places begun → IsGiven key_of file cursor rows (without_keys (rows_of_table key_of table pages))
 
+-- and those are noted
+pub record MergesNoted (modelled : Bool) (key_of : List ℕ → List ℕ) (table : Table) (cache : Kept) (first : List ℕ) (begun : ImageWriter) (file : List ℕ) (image : ImageWriter) (writer : TableWriter) (cursor : RowCursor) (noted : List (List ℕ)) : Type 0 where
+  pub held : Merges modelled key_of table cache first begun file image writer cursor
+  pub same : noted ≡ held.rows
+
 -- ---- pages that stay where they are
 
 pub at_moves : (old new : List ℕ) (from n at : ℕ) (pages : List (List (List ℕ))) → Torn from n old new → (at + 8192 * length pages ≤ from) ⊎ (from + n ≤ at) → AreAt old at pages → AreAt new at pages
@@ -93,29 +98,32 @@ module _ (modelled : Bool) (key_of : List ℕ → List ℕ) (table : Table) (cac
   pub same_file : (now : List ℕ) → now ≡ file → HasLaid modelled key_of now (next_of begun) image writer held.rows
   same_file now same = subst (λ (f : List ℕ). HasLaid modelled key_of f (next_of begun) image writer held.rows) (sym same) held.laid
 
-  -- a row that was given and laid
-  pub one_more : (mid new : List ℕ) (after : ImageWriter) (more : TableWriter) (next : RowCursor) (row now : List ℕ) → mid ≡ file → now ≡ row
+  -- a row that was given, laid and noted
+  pub one_more : (mid new : List ℕ) (after : ImageWriter) (more : TableWriter) (next : RowCursor) (row now : List ℕ) (noted noted_then : List (List ℕ)) → mid ≡ file → now ≡ row
       → HasLaid modelled key_of new (next_of begun) after more (held.rows ++ now ∷ []) → Torn (next_of image) (end_of_half image - next_of image) mid new
       → from_of image ≡ from_of begun → half_bytes_of image ≡ half_bytes_of begun → next.base.at + 8192 * next.base.pages ≡ table.places.at + 8192 * length table.places.keys → table.places.at ≤ next.base.at
       → ((left : Rows) → IsTrue modelled → AreRead cache first → IsLeft key_of file cursor left → GoesOn key_of file left row next)
-      → Merges modelled key_of table cache first begun new after more next
-  one_more mid new after more next row now same is_row laid torn from half end forward gives = record {
-    rows = held.rows ++ now ∷ [];
-    laid = laid;
-    given = λ pages honest read is apart.
-        let so = held.given pages honest read is apart in
-        let goes = gives so.left honest read so.is in
-        record {
-          left = goes.more;
-          is = left_moves key_of mid new (next_of image) (end_of_half image - next_of image) next goes.more torn
-              (⊎_elim (λ low. inl (omega (arith, low, end, from))) (λ high. inr (omega (arith, high, forward, from, half, image.fits))) apart)
-              (subst (λ (f : List ℕ). IsLeft key_of f next goes.more) (sym same) goes.is);
-          same =
-              append_assoc held.rows (now ∷ []) (without_keys goes.more)
-              ∙ ap (λ (r : List ℕ). held.rows ++ r ∷ without_keys goes.more) is_row
-              ∙ ap (λ (l : Rows). held.rows ++ without_keys l) (sym goes.same)
-              ∙ so.same;
-        };
+      → noted ≡ held.rows → noted_then ≡ noted ++ now ∷ [] → MergesNoted modelled key_of table cache first begun new after more next noted_then
+  one_more mid new after more next row now noted noted_then same is_row laid torn from half end forward gives old_noted noted_more = record {
+    held = record {
+      rows = held.rows ++ now ∷ [];
+      laid = laid;
+      given = λ pages honest read is apart.
+          let so = held.given pages honest read is apart in
+          let goes = gives so.left honest read so.is in
+          record {
+            left = goes.more;
+            is = left_moves key_of mid new (next_of image) (end_of_half image - next_of image) next goes.more torn
+                (⊎_elim (λ low. inl (omega (arith, low, end, from))) (λ high. inr (omega (arith, high, forward, from, half, image.fits))) apart)
+                (subst (λ (f : List ℕ). IsLeft key_of f next goes.more) (sym same) goes.is);
+            same =
+                append_assoc held.rows (now ∷ []) (without_keys goes.more)
+                ∙ ap (λ (r : List ℕ). held.rows ++ r ∷ without_keys goes.more) is_row
+                ∙ ap (λ (l : Rows). held.rows ++ without_keys l) (sym goes.same)
+                ∙ so.same;
+          };
+    };
+    same = noted_more ∙ ap (λ (rows : List (List ℕ)). rows ++ now ∷ []) old_noted;
   }
 
   -- where a page has no room, all pages have none

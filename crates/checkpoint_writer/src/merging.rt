@@ -17,7 +17,7 @@ use half_store::ImageWriter;
 use key_map::laws::changes_win;
 use row_pages::{PageCache, PageKind, one_laying};
 use std::alloc::{AllocError, Global};
-use table_map::{RowKeys, TableMap, TablePages};
+use table_map::{NotedPages, NotedRows, RowKeys, TableMap, TablePages};
 
 /// The bytes of the longest row that stands in a page.
 const LONGEST_ROW_BYTES: usize = 8_187;
@@ -116,7 +116,7 @@ impl TableWriter {
 
 /// Writes all rows of a table, in the order of their keys, into pages behind those that the image has,
 /// so that a page ends only where the next row does not fit. No rows take no page. Where the pages
-/// lie then is returned, with the key of each one's first row.
+/// lie then is returned, with the key of each one's first row, and the rows are noted beside it.
 ///
 /// `Full` is told only where the half has no room for all of the pages and a gate behind them. Of a
 /// table whose pages stand there `Damaged` is told only where one of all rows is too long for a page;
@@ -128,15 +128,18 @@ pub fn merge_into<K: RowKeys, D: Disk>(
     cache: &mut PageCache,
     disk: &mut D,
     image: &mut ImageWriter,
-) -> Result<TablePages, ImageError>
+) -> Result<NotedPages, ImageError>
     requires table { table.now.places.at + 8192 * length table.now.places.keys ≤ length (D.life disk.old).seen }
     requires inside { from_of image.old + half_bytes_of image.old ≤ length (D.life disk.old).seen }
     ensures adds { AddsPages D.is_modelled (D.life disk.old) (D.life disk.new) image.old image.new }
-    ensures at { IfOk result (λ written. written.at ≡ next_of image.old) }
-    ensures pages { IfOk result (λ written. next_of image.new ≡ written.at + 8192 * length written.keys) }
+    ensures at { IfOk result (λ written. written.pages.at ≡ next_of image.old) }
+    ensures pages { IfOk result (λ written. next_of image.new ≡ written.pages.at + 8192 * length written.pages.keys) }
     ensures rows { (pages : List (List (List ℕ))) → IsTrue D.is_modelled → AreRead cache.old (D.life disk.old).seen → IsStored (K.key_of keys.now) table.now.places pages (D.life disk.old).seen
         → LieApart table.now.places image.old → HaveKeys (K.key_of keys.now) (rows_of_table (K.key_of keys.now) table.now pages)
-        → IfOk result (λ written. IsImageOf (K.key_of keys.now) (rows_of_table (K.key_of keys.now) table.now pages) written (D.life disk.new).seen) }
+        → IfOk result (λ written. IsImageOf (K.key_of keys.now) (rows_of_table (K.key_of keys.now) table.now pages) written.pages (D.life disk.new).seen) }
+    ensures noted { (pages : List (List (List ℕ))) → IsTrue D.is_modelled → AreRead cache.old (D.life disk.old).seen → IsStored (K.key_of keys.now) table.now.places pages (D.life disk.old).seen
+        → LieApart table.now.places image.old
+        → IfOk result (λ written. written.rows.listed ≡ without_keys (rows_of_table (K.key_of keys.now) table.now pages)) }
     ensures full { (pages : List (List (List ℕ))) → IsTrue D.is_modelled → AreRead cache.old (D.life disk.old).seen → IsStored (K.key_of keys.now) table.now.places pages (D.life disk.old).seen
         → LieApart table.now.places image.old
         → TellsFull result (end_of_half image.old) (next_of image.old + 8192 * length (laid (without_keys (rows_of_table (K.key_of keys.now) table.now pages)))) }
@@ -151,10 +154,15 @@ pub fn merge_into<K: RowKeys, D: Disk>(
     let at = image.finish_pages().at;
     let mut cursor = table.rows(alloc);
     let mut writer = TableWriter::new(alloc)?;
+    let mut noted = NotedRows::none();
     while let Some(row) = cursor.next(alloc, keys, cache, disk)? {
         writer.add(alloc, keys, cache, disk, image, &row)?;
+        noted.note(&row);
     }
     let TableWriter { rows, first_keys } = writer;
     rows.finish(cache, disk, image)?;
-    Ok(TablePages::new(at, first_keys))
+    Ok(NotedPages {
+        pages: TablePages::new(at, first_keys),
+        rows: noted,
+    })
 }

@@ -1,12 +1,13 @@
 -- The grammar of the words, by those of `clap`.
 --   drdad init PATH --size N --rdb NAME
 --   drdad pipe [PATH] [--rdb NAME] [--user U:P] [--user-file FILE]
---   drdad serve PATH --port N [--user U:P] [--user-file FILE] [--count N] [--idle N]
+--   drdad serve PATH --port N [--user U:P] [--user-file FILE] [--count N] [--idle N] [--log]
 --   drdad indoubt PATH
 --   drdad room PATH
 --   drdad check PATH
 --   drdad version
 use Rattle.std.specs.Prelude.{◌≡◌, true, false, List, [], ◌∷◌, Option, Some, codes}
+use Rattle.clap.specs.declared.builder.action.ArgAction.TheVariants.{SetTrue}
 use Rattle.clap.specs.declared.builder.arg.Arg.{Arg}
 use Rattle.clap.specs.declared.builder.command.Command.{Command}
 use Rattle.clap.specs.Words.{AddsSubcommand, App, Kinds, Row, Rule, Text, app_of, fault_of, new_app, new_rule, subcommand_of, with_rule, with_subcommand}
@@ -28,6 +29,10 @@ needed_option id = record (option_rule id) { required = true }
 abbrev pub default_option : Text → Text → Rule
 default_option id value = record (option_rule id) { defaults = value ∷ [] }
 
+-- --ID alone: its value is the text `true` where it is given, and `false` where it is not
+abbrev pub flag_rule : Text → Rule
+flag_rule id = record (new_rule id) { long = Some id; action = Some SetTrue }
+
 abbrev pub init : App
 init = with_rule (with_rule (with_rule (new_app (codes "init")) (needed_word (codes "path"))) (needed_option (codes "size"))) (needed_option (codes "rdb"))
 
@@ -35,7 +40,7 @@ abbrev pub pipe : App
 pipe = with_rule (with_rule (with_rule (with_rule (new_app (codes "pipe")) (word_rule (codes "path"))) (default_option (codes "rdb") (codes "RDB"))) (option_rule (codes "user"))) (option_rule (codes "user-file"))
 
 abbrev pub serve : App
-serve = with_rule (with_rule (with_rule (with_rule (with_rule (with_rule (new_app (codes "serve")) (needed_word (codes "path"))) (needed_option (codes "port"))) (option_rule (codes "user"))) (option_rule (codes "user-file"))) (option_rule (codes "count"))) (option_rule (codes "idle"))
+serve = with_rule (with_rule (with_rule (with_rule (with_rule (with_rule (with_rule (new_app (codes "serve")) (needed_word (codes "path"))) (needed_option (codes "port"))) (option_rule (codes "user"))) (option_rule (codes "user-file"))) (option_rule (codes "count"))) (option_rule (codes "idle"))) (flag_rule (codes "log"))
 
 abbrev pub in_doubt : App
 in_doubt = with_rule (new_app (codes "indoubt")) (needed_word (codes "path"))

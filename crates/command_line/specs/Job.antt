@@ -1,5 +1,5 @@
 -- What words ask for.
-use Rattle.std.specs.Prelude.{ℕ, Bool, ◌==◌, nat_lt, List, [], ◌∷◌, length, Option, Some, None, codes, bytes_eq, if◌then◌else◌, option_map, option_and_then}
+use Rattle.std.specs.Prelude.{ℕ, Bool, false, ◌==◌, nat_lt, List, [], ◌∷◌, length, Option, Some, None, codes, bytes_eq, if◌then◌else◌, option_map, option_and_then}
 use Rattle.std.specs.List.{position_or_len, before_first, after_first}
 use Rattle.clap.specs.Words.{Kinds, Row, Text, first_of}
 use Rattle.command_line.specs.Grammar.{faults, given}
@@ -101,12 +101,17 @@ abbrev pub timed : Option Text → Option (Option ℕ)
 timed None = Some None
 timed (Some text) = option_map (λ (n : ℕ). Some n) (seconds_in text)
 
-abbrev pub options_with : Option (Option ℕ) → Option (Option ℕ) → Option ServeOptions
-options_with (Some count) (Some idle) = Some (record { count = count; idle = idle })
-options_with count idle = None
+-- whether a flag is given
+abbrev pub is_given : Option Text → Bool
+is_given None = false
+is_given (Some text) = bytes_eq text (codes "true")
 
-abbrev pub options_by : Option Text → Option Text → Option ServeOptions
-options_by count idle = options_with (counted count) (timed idle)
+abbrev pub options_with : Option (Option ℕ) → Option (Option ℕ) → Bool → Option ServeOptions
+options_with (Some count) (Some idle) is_logged = Some (record { count = count; idle = idle; is_logged = is_logged })
+options_with count idle is_logged = None
+
+abbrev pub options_by : Option Text → Option Text → Option Text → Option ServeOptions
+options_by count idle log = options_with (counted count) (timed idle) (is_given log)
 
 abbrev pub serve_with : Text → Option ℕ → Option LoginSource → Option ServeOptions → Option Job
 serve_with path (Some port) (Some login) (Some options) = Some (serve path port login options)
@@ -134,7 +139,7 @@ abbrev pub said_to : Text → List Row → Option Job
 said_to name rows =
     if bytes_eq name (codes "init") then init_by (value rows (codes "path")) (value rows (codes "size")) (value rows (codes "rdb"))
     else (if bytes_eq name (codes "pipe") then pipe_by (value rows (codes "path")) (value rows (codes "rdb")) (value rows (codes "user")) (value rows (codes "user-file"))
-    else (if bytes_eq name (codes "serve") then serve_by (value rows (codes "path")) (value rows (codes "port")) (value rows (codes "user")) (value rows (codes "user-file")) (options_by (value rows (codes "count")) (value rows (codes "idle")))
+    else (if bytes_eq name (codes "serve") then serve_by (value rows (codes "path")) (value rows (codes "port")) (value rows (codes "user")) (value rows (codes "user-file")) (options_by (value rows (codes "count")) (value rows (codes "idle")) (value rows (codes "log")))
     else (if bytes_eq name (codes "indoubt") then in_doubt_by (value rows (codes "path"))
     else (if bytes_eq name (codes "room") then room_by (value rows (codes "path"))
     else (if bytes_eq name (codes "check") then check_by (value rows (codes "path"))

@@ -4,7 +4,7 @@ ghost use Rattle.std.specs.Prelude.{◌≡◌, IfOk, codes};
 ghost use Rattle.clap.specs.Words.{App, app_of, rule_of, with_subcommand};
 ghost use Rattle.command_line.specs.Grammar as grammar;
 
-use clap::{Arg, Command};
+use clap::{Arg, ArgAction, Command};
 use std::alloc::{AllocError, Global};
 
 const STORE_FILE: &str = "The file of the store";
@@ -40,6 +40,16 @@ fn needed_option<'a>(alloc: Global, id: &'a str, value: &'a str, help: &'a str) 
         .long(id)
         .value_name(value)
         .required(true)
+        .help(help)
+}
+
+fn flag<'a>(alloc: Global, id: &'a str, help: &'a str) -> Arg<'a>
+    ensures rule { rule_of result ≡ grammar.flag_rule id.entry.now }
+    ensures own { grammar.IsOwn result }
+{
+    Arg::new(alloc, id)
+        .long(id)
+        .action(ArgAction::SetTrue)
         .help(help)
 }
 
@@ -128,6 +138,11 @@ fn serve<'a>(alloc: Global) -> Result<Command<'a>, AllocError>
             "idle",
             "N",
             "Closes a connection that has sent nothing for so many seconds, 1 to 4294967",
+        ))?
+        .arg(flag(
+            alloc,
+            "log",
+            "Tells on standard error what becomes of conversations, a line each",
         ))
 }
 

@@ -25,6 +25,8 @@ pub struct ServeOptions {
     pub count: Option<u64>,
     /// `--idle N`: how many seconds a client may send nothing, 1 to 4,294,967, or for ever.
     pub idle: Option<u32>,
+    /// `--log`: whether it is told on standard error what becomes of them.
+    pub is_logged: bool,
 }
 
 /// What the words ask for. Contracts see it by `plain_job`.
@@ -44,7 +46,7 @@ pub enum Job<'a> {
         rdb: &'a str,
         login: LoginSource<'a>,
     },
-    /// `serve PATH --port N --user U:P [--count N] [--idle N]`, or with `--user-file FILE`:
+    /// `serve PATH --port N --user U:P [--count N] [--idle N] [--log]`, or with `--user-file FILE`:
     /// conversations over sockets.
     Serve {
         path: &'a str,

@@ -57,12 +57,20 @@ pub(crate) fn serve_by<'a>(
     })
 }
 
-pub(crate) fn options_by(count: Option<&str>, idle: Option<&str>) -> Option<ServeOptions>
-    ensures { result ≡ spec.options_by (option_map (λ t. t.now) count.entry) (option_map (λ t. t.now) idle.entry) }
+pub(crate) fn options_by(
+    count: Option<&str>,
+    idle: Option<&str>,
+    log: Option<&str>,
+) -> Option<ServeOptions>
+    ensures { result ≡ spec.options_by (option_map (λ t. t.now) count.entry) (option_map (λ t. t.now) idle.entry) (option_map (λ t. t.now) log.entry) }
 {
     let count = counted(count)?;
     let idle = timed(idle)?;
-    Some(ServeOptions { count, idle })
+    Some(ServeOptions {
+        count,
+        idle,
+        is_logged: is_given(log),
+    })
 }
 
 pub(crate) fn in_doubt_by<'a>(path: Option<&'a str>) -> Option<Job<'a>>
@@ -126,5 +134,15 @@ fn timed(text: Option<&str>) -> Option<Option<u32>>
             Some(number) => Some(Some(number)),
             None => None,
         },
+    }
+}
+
+// Whether a flag is given, by the text that the parser of words gives it.
+fn is_given(text: Option<&str>) -> bool
+    ensures { result ≡ spec.is_given (option_map (λ t. t.now) text.entry) }
+{
+    match text {
+        Some(text) => text == "true",
+        None => false,
     }
 }

@@ -117,14 +117,18 @@ fn pipe_in<'a>(given: &ArgMatches<'a>) -> Option<Job<'a>>
 }
 
 fn serve_in<'a>(given: &ArgMatches<'a>) -> Option<Job<'a>>
-    ensures { option_map spec.plain_job result ≡ spec.serve_by (spec.value (rows_of (found_of given.now)) (codes "path")) (spec.value (rows_of (found_of given.now)) (codes "port")) (spec.value (rows_of (found_of given.now)) (codes "user")) (spec.value (rows_of (found_of given.now)) (codes "user-file")) (spec.options_by (spec.value (rows_of (found_of given.now)) (codes "count")) (spec.value (rows_of (found_of given.now)) (codes "idle"))) }
+    ensures { option_map spec.plain_job result ≡ spec.serve_by (spec.value (rows_of (found_of given.now)) (codes "path")) (spec.value (rows_of (found_of given.now)) (codes "port")) (spec.value (rows_of (found_of given.now)) (codes "user")) (spec.value (rows_of (found_of given.now)) (codes "user-file")) (spec.options_by (spec.value (rows_of (found_of given.now)) (codes "count")) (spec.value (rows_of (found_of given.now)) (codes "idle")) (spec.value (rows_of (found_of given.now)) (codes "log"))) }
 {
     serve_by(
         given.get_str("path"),
         given.get_str("port"),
         given.get_str("user"),
         given.get_str("user-file"),
-        options_by(given.get_str("count"), given.get_str("idle")),
+        options_by(
+            given.get_str("count"),
+            given.get_str("idle"),
+            given.get_str("log"),
+        ),
     )
 }
 

@@ -10,6 +10,7 @@ ghost use Rattle.drda_program.specs.Stores.{IsOfDevice, RefusesName};
 
 use crate::fault::Fault;
 use crate::files::StoreFiles;
+use crate::log::{Log, Switched};
 use crate::network::Network;
 use crate::stores::open_file;
 use crate::streams::flush;
@@ -24,16 +25,18 @@ use std::io::{self, Write};
 use std::net::{Ipv4Addr, SocketAddr, SocketAddrV4};
 use std::sync::Wait;
 use std::thread::Threads;
+use std::time::Clock;
 
 /// Serves conversations over the store of a path, on a port of 127.0.0.1, each in a thread of its own, as the
 /// options say: so many, or without end, and perhaps those alone whose clients go on to send. It ends early where no
 /// stream is let in any more; a stream that fails ends its own conversation alone, and where the device has failed
-/// each command is answered so.
-pub(crate) fn serve_file<R, F, N, W>(
+/// each command is answered so. What becomes of them is told to `log`, where the options say so.
+pub(crate) fn serve_file<R, F, N, L, W>(
     rt: &R,
     alloc: Global,
     files: &mut F,
     net: &mut N,
+    log: &L,
     path: &str,
     port: u16,
     login: Login<'_>,
@@ -41,9 +44,10 @@ pub(crate) fn serve_file<R, F, N, W>(
     out: &mut W,
 ) -> Result<(), Fault>
 where
-    R: Threads + Wait + Sync,
+    R: Threads + Wait + Clock + Sync,
     F: StoreFiles,
     N: Network,
+    L: Log + Sync,
     W: Write,
     F::Disk: Send,
     N::Stream: Send,
@@ -57,8 +61,8 @@ where
         Ok(shared) => shared,
         Err(_) => return Err(Fault::NoMemory),
     };
-    listen(rt, alloc, &shared, &settings, net, port, options, out)?;
-    end_of(shared)
+    listen(rt, alloc, &shared, &settings, net, log, port, options, out)?;
+    end_of(alloc, shared)
 }
 
 // What a server of this login starts its conversations with, whose database has the name of its store. A name
@@ -79,20 +83,22 @@ fn settings_for<D: Disk>(
 }
 
 // Listens on a port of 127.0.0.1, says which on `out`, and serves the conversations of its streams.
-fn listen<R, D, N, W>(
+fn listen<R, D, N, L, W>(
     rt: &R,
     alloc: Global,
     shared: &Shared<D>,
     settings: &Settings,
     net: &mut N,
+    log: &L,
     port: u16,
     options: ServeOptions,
     out: &mut W,
 ) -> Result<(), Fault>
 where
-    R: Threads + Wait + Sync,
+    R: Threads + Wait + Clock + Sync,
     D: Disk + Send + Drop,
     N: Network,
+    L: Log + Sync,
     W: Write,
     N::Stream: Send,
     N::Writer: Send,
@@ -102,26 +108,28 @@ where
     match net.bind(address) {
         Ok(listener) => {
             say_port(net, &listener, out)?;
-            serve_all(rt, alloc, shared, settings, net, &listener, options)
+            serve_all(rt, alloc, shared, settings, net, log, &listener, options)
         }
         Err(_) => Err(Fault::Device),
     }
 }
 
 // Serves the streams that a listener lets in.
-fn serve_all<R, D, N>(
+fn serve_all<R, D, N, L>(
     rt: &R,
     alloc: Global,
     shared: &Shared<D>,
     settings: &Settings,
     net: &mut N,
+    log: &L,
     listener: &N::Listener,
     options: ServeOptions,
 ) -> Result<(), Fault>
 where
-    R: Threads + Wait + Sync,
+    R: Threads + Wait + Clock + Sync,
     D: Disk + Send + Drop,
     N: Network,
+    L: Log + Sync,
     N::Stream: Send,
     N::Writer: Send,
     ensures { IfErr result IsOfDevice }
@@ -134,18 +142,33 @@ where
         failures: 0,
         has_failed: false,
     };
-    serve_streams(rt, alloc, shared, settings, &OpenGate, &mut streams)?;
+    let switched = Switched {
+        log,
+        is_on: options.is_logged,
+    };
+    serve_streams(
+        rt,
+        alloc,
+        shared,
+        settings,
+        &OpenGate,
+        &switched,
+        &mut streams,
+    )?;
     if streams.has_failed {
         return Err(Fault::Device);
     }
     Ok(())
 }
 
-// How serving ends: a device that has failed is told.
-fn end_of<D: Disk + Drop>(shared: Shared<D>) -> Result<(), Fault>
+// How serving ends, once each thread has given its pass back: a device that has failed is told.
+fn end_of<D: Disk + Drop>(alloc: Global, shared: Shared<D>) -> Result<(), Fault>
     ensures { IfErr result IsOfDevice }
 {
-    let book = shared.close();
+    let book = match shared.close(Vec::new(alloc)) {
+        Ok(book) => book,
+        Err(book) => book,
+    };
     if book.core().is_failed() {
         return Err(Fault::Device);
     }
@@ -186,6 +209,10 @@ impl<N: Network> Streams for LetIn<'_, N> {
             }
         }
         None
+    }
+
+    fn peer(&self, reader: &N::Stream) -> Option<SocketAddr> {
+        self.net.peer(reader)
     }
 }
 

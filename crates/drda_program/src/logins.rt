@@ -9,6 +9,7 @@ ghost use Rattle.drda_program.specs.Stores.{IsOfDevice};
 use crate::fault::Fault;
 use crate::files::StoreFiles;
 use crate::listening::serve_file;
+use crate::log::Log;
 use crate::network::Network;
 use crate::records::{answer_file, answer_in_memory};
 use command_line::{Login, LoginSource, ServeOptions, login_in_file};
@@ -17,13 +18,15 @@ use std::alloc::Global;
 use std::io::{self, ErrorKind, Read, Write};
 use std::sync::Wait;
 use std::thread::Threads;
+use std::time::Clock;
 
 /// Serves conversations over the store of a path, once the login is known.
-pub(crate) fn serve<T: Threads + Wait + Sync, F: StoreFiles, N: Network, W: Write>(
+pub(crate) fn serve<T, F, N, L, W>(
     rt: &T,
     alloc: Global,
     files: &mut F,
     net: &mut N,
+    log: &L,
     path: &str,
     port: u16,
     source: LoginSource<'_>,
@@ -31,6 +34,11 @@ pub(crate) fn serve<T: Threads + Wait + Sync, F: StoreFiles, N: Network, W: Writ
     out: &mut W,
 ) -> Result<(), Fault>
 where
+    T: Threads + Wait + Clock + Sync,
+    F: StoreFiles,
+    N: Network,
+    L: Log + Sync,
+    W: Write,
     F::Disk: Send,
     N::Stream: Send,
     N::Writer: Send,
@@ -40,7 +48,7 @@ where
 {
     let text = read_source(alloc, files, source)?;
     let login = login_by(source, &text)?;
-    serve_file(rt, alloc, files, net, path, port, login, options, out)
+    serve_file(rt, alloc, files, net, log, path, port, login, options, out)
 }
 
 /// Runs a node over the store of a path, or over one in memory, once the login is known.

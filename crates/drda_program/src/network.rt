@@ -40,6 +40,9 @@ pub trait Network {
     fn accept(&mut self, listener: &Self::Listener) -> io::Result<Self::Stream>
         ensures { calls.lets_in self.old listener.now (result_ok result) self.new };
 
+    /// Whose stream it is, where that is known.
+    fn peer(&self, stream: &Self::Stream) -> Option<SocketAddr>;
+
     /// From now on a read of the stream that has waited for so many seconds fails.
     fn limit(&mut self, stream: &Self::Stream, seconds: u32) -> io::Result<()>
         ensures { calls.limits self.old stream.now seconds (result_ok result) self.new };
@@ -83,6 +86,10 @@ impl<'a, R: Net + Clock> Network for SystemNetwork<'a, R> {
     fn accept(&mut self, listener: &R::Listener) -> io::Result<R::Stream> {
         let (stream, _) = listener.accept()?;
         Ok(stream)
+    }
+
+    fn peer(&self, stream: &R::Stream) -> Option<SocketAddr> {
+        stream.peer_addr().ok()
     }
 
     fn limit(&mut self, stream: &R::Stream, seconds: u32) -> io::Result<()> {

@@ -8,6 +8,7 @@ ghost use Rattle.drda_program.specs.Program.{Checks, Does, Exits, Lists, Makes, 
 use crate::doubts::doubt_text;
 use crate::fault::Fault;
 use crate::files::StoreFiles;
+use crate::log::Log;
 use crate::logins::{pipe, serve};
 use crate::network::Network;
 use crate::rooms::room_text;
@@ -23,6 +24,7 @@ use std::convert::AsStr;
 use std::io::{Read, Write};
 use std::sync::Wait;
 use std::thread::Threads;
+use std::time::Clock;
 use store_check::checkpoints_are_known;
 
 /// Does what the words say, the program's name first, and answers the exit status; a fault's line goes
@@ -33,9 +35,9 @@ use store_check::checkpoints_are_known;
 /// - `init PATH --size N --rdb NAME` makes a store in a new file, and says its size.
 /// - `pipe [PATH] [--rdb NAME] --user U:P` answers event records from `reader` to `out`, over the store
 ///   of the path, or over one in memory that is just made and has this name.
-/// - `serve PATH --port N --user U:P [--count N] [--idle N]` says its port and serves conversations over
+/// - `serve PATH --port N --user U:P [--count N] [--idle N] [--log]` says its port and serves conversations over
 ///   sockets, up to 64 side by side, each in a thread of its own; with `--idle N` a connection on which nothing has
-///   come for N seconds is closed.
+///   come for N seconds is closed, with `--log` what becomes of conversations is told to `log`.
 /// - `indoubt PATH` lists the units in doubt of a store.
 /// - `room PATH` tells the name and size of a store, its room, and how many units are in doubt.
 /// - `check PATH` says that a store is whole, where it is.
@@ -53,10 +55,11 @@ use store_check::checkpoints_are_known;
 /// core that begins with that state, under one lock; `init` has made it a fresh store of the size and name that
 /// were asked. Where a disk may give back something else than what was written, no state is said of it.
 pub fn run_words<
-    T: Threads + Wait + Sync,
+    T: Threads + Wait + Clock + Sync,
     S: AsStr,
     F: StoreFiles,
     N: Network,
+    L: Log + Sync,
     R: Read + Ready,
     W: Write,
     E: Write,
@@ -66,6 +69,7 @@ pub fn run_words<
     words: &[S],
     files: &mut F,
     net: &mut N,
+    log: &L,
     reader: &mut R,
     out: &mut W,
     err: &mut E,
@@ -79,7 +83,7 @@ where
         (E.contents err.old) (E.contents err.new) }
 {
     let mut text = String::new(alloc);
-    match try_words(rt, alloc, words, files, net, reader, out, &mut text) {
+    match try_words(rt, alloc, words, files, net, log, reader, out, &mut text) {
         Ok(()) => 0,
         Err(fault) => {
             let _ = write_whole(err, text.as_bytes());
@@ -104,10 +108,11 @@ fn explain<F: StoreFiles, E: Write>(fault: Fault, files: &F, err: &mut E)
 
 // Does what the words say. What the parser of words has to say of a mistake is appended to `text`.
 fn try_words<
-    T: Threads + Wait + Sync,
+    T: Threads + Wait + Clock + Sync,
     S: AsStr,
     F: StoreFiles,
     N: Network,
+    L: Log + Sync,
     R: Read + Ready,
     W: Write,
 >(
@@ -116,6 +121,7 @@ fn try_words<
     words: &[S],
     files: &mut F,
     net: &mut N,
+    log: &L,
     reader: &mut R,
     out: &mut W,
     text: &mut String,
@@ -130,15 +136,23 @@ where
     ensures quiet { said (map S.text words.now) ≢ None → string_bytes text.new ≡ string_bytes text.old }
 {
     let job = job_of(alloc, words, text)?;
-    do_job(rt, alloc, job, files, net, reader, out)
+    do_job(rt, alloc, job, files, net, log, reader, out)
 }
 
-fn do_job<T: Threads + Wait + Sync, F: StoreFiles, N: Network, R: Read + Ready, W: Write>(
+fn do_job<
+    T: Threads + Wait + Clock + Sync,
+    F: StoreFiles,
+    N: Network,
+    L: Log + Sync,
+    R: Read + Ready,
+    W: Write,
+>(
     rt: &T,
     alloc: Global,
     job: Job<'_>,
     files: &mut F,
     net: &mut N,
+    log: &L,
     reader: &mut R,
     out: &mut W,
 ) -> Result<(), Fault>
@@ -157,7 +171,7 @@ where
             port,
             login,
             options,
-        } => serve(rt, alloc, files, net, path, port, login, options, out),
+        } => serve(rt, alloc, files, net, log, path, port, login, options, out),
         Job::InDoubt { path } => list_doubts(alloc, files, path, out),
         Job::Room { path } => tell_room(alloc, files, path, out),
         Job::Check { path } => check(alloc, files, path, out),

@@ -1,7 +1,7 @@
 //! `drdad`: a DRDA application server.
 #![tactic(auto)]
 
-use drda_program::{Fault, SystemFiles, SystemNetwork, run_words};
+use drda_program::{ErrorLog, Fault, SystemFiles, SystemNetwork, run_words};
 use std::io::BufReader;
 use std::process::ExitCode;
 
@@ -23,6 +23,7 @@ fn main(rt: HostRuntime) -> ExitCode {
         words.as_slice(),
         &mut SystemFiles::new(alloc, &rt),
         &mut SystemNetwork::new(&rt),
+        &ErrorLog::new(&rt),
         &mut reader,
         &mut rt.stdout(),
         &mut rt.stderr(),

@@ -26,7 +26,7 @@ pub enum FedState {
     Later,
 }
 
-/// How a conversation stands that was given all of a piece.
+/// How a conversation stands that was given all of a piece, or what was taken of it.
 #[derive(Clone, Copy, Debug, PartialEq, Eq)]
 pub enum Heard {
     /// It heard all of the piece and waits for more.
@@ -35,4 +35,13 @@ pub enum Heard {
     Closed,
     /// Memory was refused: not all of the piece was heard, or not all replies were appended.
     NoMemory,
+}
+
+/// What became of a piece of which a conversation was given as much as `out` had room for.
+#[derive(Clone, Copy, Debug, PartialEq, Eq)]
+pub struct HeardSome {
+    /// How many bytes of the piece were taken, from its front.
+    pub taken: usize,
+    /// How it stands with the conversation now, by these bytes.
+    pub heard: Heard,
 }

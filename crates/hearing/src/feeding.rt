@@ -1,12 +1,13 @@
 //! One conversation and the bytes that come to it.
 
-ghost use Rattle.std.specs.Prelude.{◌≡◌, ◌≤◌, ◌+◌, length, take, vec_len, vec_capacity};
+ghost use Rattle.std.specs.Prelude.{◌≡◌, ◌⊎◌, ◌≤◌, ◌<◌, ◌+◌, length, take, vec_len, vec_capacity};
 ghost use Rattle.hearing.specs.declared.fed.FedState.TheVariants as state;
+ghost use Rattle.hearing.specs.declared.fed.Heard.TheVariants as heard_as;
 ghost use Rattle.hearing.specs.Attended.{attended_by};
 ghost use Rattle.hearing.specs.Feeding.{IsBetweenCommands, Takes, state_for};
 ghost use Rattle.hearing.specs.Pieces.{HearsPiece};
 
-use crate::fed::{Fed, FedState, Heard};
+use crate::fed::{Fed, FedState, Heard, HeardSome};
 use command_kit::Ask;
 use conversation::{Front, Need};
 use dss_frames::stays_read;
@@ -60,21 +61,55 @@ pub fn feed_all<A: Ask>(front: &mut Front, asker: &mut A, piece: &[u8], out: &mu
     ensures settings { front.new.settings ≡ front.old.settings }
     ensures hears { HearsPiece A.asks front.old.settings (attended_by front.old asker.old) piece.now out.old.items result (attended_by front.new asker.new) out.new.items }
 {
+    feed_some(front, asker, piece, usize::MAX, out).heard
+}
+
+/// The same, until `out` is longer than `most` bytes behind a command: so it never has more than these and the replies
+/// to one command. What was taken of the piece was heard as `feed_all` hears a piece; the rest is to be fed again.
+pub fn feed_some<A: Ask>(
+    front: &mut Front,
+    asker: &mut A,
+    piece: &[u8],
+    most: usize,
+    out: &mut Vec<u8>,
+) -> HeardSome
+    requires { IsBetweenCommands front.old }
+    ensures settled { IsBetweenCommands front.new }
+    ensures settings { front.new.settings ≡ front.old.settings }
+    ensures within { result.taken ≤ length piece.now }
+    ensures hears { HearsPiece A.asks front.old.settings (attended_by front.old asker.old) (take result.taken piece.now) out.old.items result.heard (attended_by front.new asker.new) out.new.items }
+    ensures goes_on { result.heard ≡ heard_as.Open → 1 ≤ length piece.now → 1 ≤ result.taken }
+    ensures all { result.heard ≡ heard_as.Open → (result.taken ≡ length piece.now) ⊎ (most < vec_len out.new) }
+{
     stays_read();
     let mut at = 0;
     'feeding: loop {
-        let fed = feed(front, asker, &piece[at..], out);
+        let Ok(()) = out.reserve(21) else {
+            return so_far(at, Heard::NoMemory);
+        };
+        let fed = hand_on(front, asker, &piece[at..], out);
         at += fed.taken;
         match fed.state {
-            FedState::Open => return Heard::Open,
-            FedState::Closed => return Heard::Closed,
-            FedState::Later => return Heard::NoMemory,
+            FedState::Open => {
+                if at == piece.len() || out.len() > most {
+                    return so_far(at, Heard::Open);
+                }
+            }
+            FedState::Closed => return so_far(at, Heard::Closed),
+            FedState::Later => return so_far(at, Heard::NoMemory),
             FedState::Short(reply) => match out.extend_from_slice(&reply) {
                 Ok(()) => {}
-                Err(_) => return Heard::NoMemory,
+                Err(_) => return so_far(at, Heard::NoMemory),
             },
         }
     }
+}
+
+#[inline(always)]
+fn so_far(taken: usize, heard: Heard) -> HeardSome
+    ensures { result ≡ record { taken = taken; heard = heard } }
+{
+    HeardSome { taken, heard }
 }
 
 // One step, with the bytes in front that belong to one command: some of them, where there are any, or none

@@ -5,6 +5,6 @@ mod fed;
 mod feeding;
 mod writing;
 
-pub use fed::{Fed, FedState, Heard};
-pub use feeding::{feed, feed_all};
+pub use fed::{Fed, FedState, Heard, HeardSome};
+pub use feeding::{feed, feed_all, feed_some};
 pub use writing::write_whole;

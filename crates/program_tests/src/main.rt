@@ -2,6 +2,7 @@
 //! in a line of standard input; what it comes to goes to standard output, which is compared.
 #![tactic(auto)]
 
+mod logs;
 mod networks;
 mod shelves;
 mod streams;

@@ -33,6 +33,8 @@ pub struct Callers<'a> {
     pub said: &'a [u8],
     /// How often letting one in has failed.
     pub failures: u64,
+    /// To how many seconds the reads of the last one were limited, 0 where they were not.
+    pub limit: u32,
 }
 
 #[derive(Drop)]
@@ -51,7 +53,8 @@ fn refused<T>() -> io::Result<T> {
     Err(io::Error::from(ErrorKind::Other))
 }
 
-fn address(port: u16) -> SocketAddr {
+/// A port of this machine.
+pub fn address(port: u16) -> SocketAddr {
     SocketAddr::V4(SocketAddrV4::new(Ipv4Addr::new(127, 0, 0, 1), port))
 }
 
@@ -101,10 +104,15 @@ impl<'a> Network for Callers<'a> {
         }
     }
 
-    fn limit(&mut self, stream: &Call<'a>, _seconds: u32) -> io::Result<()> {
+    fn peer(&self, _stream: &Call<'a>) -> Option<SocketAddr> {
+        Some(address(51234))
+    }
+
+    fn limit(&mut self, stream: &Call<'a>, seconds: u32) -> io::Result<()> {
         if stream.caller == Caller::Alone {
             return refused();
         }
+        self.limit = seconds;
         Ok(())
     }
 

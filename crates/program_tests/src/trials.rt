@@ -1,14 +1,16 @@
 //! Trials of the program, a line each.
 
+use crate::logs::{Kept, notices};
 use crate::networks::{Caller, Callers, Way};
 use crate::shelves::Shelf;
 use crate::streams::{Broken, Unflushed};
-use drda_program::{Ready, run_words};
+use drda_program::{Ready, Silent, run_words};
 use std::alloc::Global;
 use std::io::{Read, Write};
 use std::marker::Sync;
 use std::sync::Wait;
 use std::thread::Threads;
+use std::time::Clock;
 use test_bytes::bytes_of;
 
 /// What a trial is about: behind how many calls devices fail, the network, and the input.
@@ -19,13 +21,15 @@ struct Scene<'a> {
     input: &'a [u8],
 }
 
-/// What the program has said on standard error, its status, and the size of the file that it has made, 0 where
-/// it has made none.
+/// What the program has said on standard error, its status, the size of the file that it has made, 0 where it has
+/// made none, the lines of its log, and to how many seconds the reads of a stream were limited, 0 where they were not.
 #[derive(Drop)]
 struct Ended {
     status: u8,
     made: usize,
     err: Vec<u8>,
+    log: String,
+    limit: u32,
 }
 
 /// What became of the trials.
@@ -51,11 +55,12 @@ fn callers_of<'a>(scene: &Scene<'a>) -> Callers<'a> {
         way: scene.way,
         said: scene.input,
         failures: 0,
+        limit: 0,
     }
 }
 
 // The program over these words and streams.
-fn end_of<T: Threads + Wait + Sync, R: Read + Ready, W: Write>(
+fn end_of<T: Threads + Wait + Clock + Sync, R: Read + Ready, W: Write>(
     rt: &T,
     alloc: Global,
     words: &[&str],
@@ -65,14 +70,17 @@ fn end_of<T: Threads + Wait + Sync, R: Read + Ready, W: Write>(
 ) -> Ended {
     let mut files = Shelf::new(alloc, scene.calls);
     let mut net = callers_of(scene);
+    let log = Kept::new(rt, alloc);
     let mut err = Vec::new(alloc);
     let status = run_words(
-        rt, alloc, words, &mut files, &mut net, reader, out, &mut err,
+        rt, alloc, words, &mut files, &mut net, &log, reader, out, &mut err,
     );
     Ended {
         status,
         made: files.made,
         err,
+        log: log.into_lines(),
+        limit: net.limit,
     }
 }
 
@@ -92,7 +100,7 @@ fn way_of(name: &str) -> Option<Way> {
     }
 }
 
-impl<'r, T: Threads + Wait + Sync> Trials<'r, T> {
+impl<'r, T: Threads + Wait + Clock + Sync> Trials<'r, T> {
     /// None so far.
     pub fn new(rt: &'r T, alloc: Global) -> Trials<'r, T> {
         Trials {
@@ -102,15 +110,15 @@ impl<'r, T: Threads + Wait + Sync> Trials<'r, T> {
         }
     }
 
-    /// Each line with what the program came to: its status, the size of the file that it made, what it wrote
-    /// and what it said on standard error.
+    /// Each line with what the program came to: its status, the size of the file that it made, what it wrote, the
+    /// lines of its log, the limit of a stream's reads, and what it said on standard error.
     pub fn written(&self) -> &[u8] {
         &self.written
     }
 
     /// Tries each line: the streams, the network, behind how many calls devices fail, the input in
-    /// hexadecimal, which a caller says too, and then the program's words. None where a line is none of these,
-    /// and without memory.
+    /// hexadecimal, which a caller says too, and then the program's words. With `notices` for the streams it is
+    /// written what a log may be told. None where a line is none of these, and without memory.
     pub fn follow(&mut self, text: &str) -> Option<()> {
         for line in text.split('\n') {
             self.note(line.as_bytes())?;
@@ -152,6 +160,7 @@ impl<'r, T: Threads + Wait + Sync> Trials<'r, T> {
             "mute-out" => self.without_output(words, &scene),
             "mute-err" => self.without_errors(words, &scene),
             "unflushed" => self.without_flush(words, &scene),
+            "notices" => self.tell_notices(),
             _ => self.whole(words, &scene),
         }
     }
@@ -196,6 +205,7 @@ impl<'r, T: Threads + Wait + Sync> Trials<'r, T> {
             words,
             &mut files,
             &mut net,
+            &Silent,
             &mut reader,
             &mut out,
             &mut Broken,
@@ -204,6 +214,8 @@ impl<'r, T: Threads + Wait + Sync> Trials<'r, T> {
             status,
             made: files.made,
             err: Vec::new(self.alloc),
+            log: String::new(self.alloc),
+            limit: net.limit,
         };
         self.tell(&ended, &out)
     }
@@ -213,7 +225,26 @@ impl<'r, T: Threads + Wait + Sync> Trials<'r, T> {
         let text = format!(in self.alloc; "status {status}, a file of {made} bytes").ok()?;
         self.note(text.as_bytes())?;
         self.written.extend_from_slice(out).ok()?;
+        self.written.extend_from_slice(ended.log.as_bytes()).ok()?;
+        self.tell_limit(ended.limit)?;
         self.written.extend_from_slice(&ended.err).ok()
+    }
+
+    fn tell_limit(&mut self, limit: u32) -> Option<()> {
+        if limit == 0 {
+            return Some(());
+        }
+        let text = format!(in self.alloc; "reads limited to {limit} s").ok()?;
+        self.note(text.as_bytes())
+    }
+
+    // What a log may be told.
+    fn tell_notices(&mut self) -> Option<()> {
+        for notice in notices() {
+            let line = format!(in self.alloc; "{notice}").ok()?;
+            self.note(line.as_bytes())?;
+        }
+        Some(())
     }
 
     fn note(&mut self, line: &[u8]) -> Option<()> {

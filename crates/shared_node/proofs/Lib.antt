@@ -1,4 +1,5 @@
 pub mod Counting
 pub mod Leading
+pub mod Listed
 pub mod Opening
 pub mod Sending

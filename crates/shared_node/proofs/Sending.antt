@@ -15,6 +15,7 @@ use Rattle.std.specs.contracts.option.Option as option
 use Rattle.std.proofs.option.Option.TheSendSync as option_sends
 use Rattle.shared_node.specs.contracts.count.Count as count
 use Rattle.shared_node.proofs.count.Count.TheSendSync as count_sends
+use Rattle.shared_node.proofs.renewals.Renewals.TheSendSync as renewals_sends
 
 core_send : (T : RattleType) (g : Ghosts T.Denot) → IsSend T → IsSend (core.the_row T g)
 core_send T g s = core_sends.the_send T g s
@@ -24,7 +25,7 @@ place_send = search (option_sends.the_send, count_sends.the_send)
 
 inside_send : (T : RattleType) (g : Ghosts T.Denot) → IsSend T → IsSend (inside.the_row T g)
 inside_send T g s =
-    let c = core_send T g s in declared_send (inside.the_type T g) (c, (search (sendable, crosses), (calls_sends.the_send, (Vec-send (option.the_row count.the_row) place_send, (search sendable, tt)))))
+    let c = core_send T g s in declared_send (inside.the_type T g) (c, (search (sendable, crosses), (calls_sends.the_send, (Vec-send (option.the_row count.the_row) place_send, (search sendable, (renewals_sends.the_send, tt))))))
 
 book_send : (T : RattleType) (g : Ghosts T.Denot) → IsSend T → IsSend (book.the_row T g)
 book_send T g s = view_send (inside.the_row T g) _ _ _ _ (inside_send T g s)

@@ -1,5 +1,5 @@
 -- Passes: what each call of a book makes of it and of a pass.
-use Rattle.std.specs.Prelude.{◌≡◌, ◌≢◌, ◌⊎◌, ℕ, ◌+◌, ◌<◌, ◌≤◌, ◌^◌, true, Bool, List, [], ◌∷◌, ◌++◌, Option, Some, None, slice_get, slice_set}
+use Rattle.std.specs.Prelude.{◌≡◌, ◌≢◌, ◌⊎◌, ℕ, ◌+◌, ◌<◌, ◌≤◌, ◌^◌, ⊤, true, Bool, List, [], ◌∷◌, ◌++◌, Option, Some, None, slice_get, slice_set}
 use Rattle.drda_disk.specs.Disk.{Life}
 use Rattle.core_calls.specs.Call.{Call, lost}
 use Rattle.core_calls.specs.Answer.{Answer, no_memory, answer_of}
@@ -11,7 +11,7 @@ use Rattle.shared_node.specs.declared.acted.Acted.{Acted}
 use Rattle.shared_node.specs.declared.acted.Acted.TheVariants.{Answered, StrangerPass}
 use Rattle.shared_node.specs.declared.count.Count.{Count}
 use Rattle.shared_node.specs.declared.pass.Pass.{Pass}
-use Rattle.shared_node.specs.Books.{Told}
+use Rattle.shared_node.specs.Books.{Told, calls_of}
 
 -- the calls that were made with it, as the book listed them
 abbrev pub calls_in : Pass → List AnsweredCall
@@ -43,6 +43,33 @@ HasNoLeave book = ((place : ℕ) → place < 64 → slice_get book.places place 
 -- a place is free again
 abbrev pub retired : {D : Type 0} → Told D → Pass → Told D
 retired book pass = record book { places = slice_set book.places pass.place None }
+
+-- ---- all passes
+
+-- one of the passes is at this place
+abbrev pub IsAt : List Pass → ℕ → Type 0
+IsAt passes place = (at : ℕ) × (pass : Pass) × (slice_get passes at ≡ Some pass) × (pass.place ≡ place)
+
+-- each pass is counted as it counts itself, and no other one is at its place
+abbrev pub AreKnown : List Pass → List (Option Count) → Type 0
+AreKnown [] places = ⊤
+AreKnown (pass ∷ passes) places = (slice_get places pass.place ≡ Some (Some (count_of pass))) × (IsAt passes pass.place → ⊥) × AreKnown passes places
+
+-- there is a pass at each place that is taken
+abbrev pub AreAll : List Pass → List (Option Count) → Type 0
+AreAll passes places = (place : ℕ) (c : Count) → slice_get places place ≡ Some (Some c) → IsAt passes place
+
+-- These passes are all that have leave, each once and counted as the book counts.
+pub record AreJustAt (passes : List Pass) (places : List (Option Count)) : Type 0 where
+  pub each : AreKnown passes places
+  pub all : AreAll passes places
+
+-- the book lists as many calls of each pass's conversation as the pass counts
+abbrev pub AreListed : {D : Type 0} → List Pass → Told D → Type 0
+AreListed passes book = (at : ℕ) (pass : Pass) → slice_get passes at ≡ Some pass → pass.count ≡ calls_of pass.conversation book.calls
+
+abbrev pub AreJust : {D : Type 0} → List Pass → Told D → Type 0
+AreJust passes book = AreJustAt passes book.places
 
 -- ---- calls
 

@@ -1,13 +1,14 @@
 //! The calls of a book.
 
 use crate::acted::Acted;
-use crate::asking::{ask, checkpoint, is_done};
+use crate::asking::{ask, is_done};
 use crate::book::Book;
 use crate::calls::CallList;
 use crate::count::Count;
 use crate::listing::list;
 use crate::numbering::{free_places, is_out_of_numbers, knows};
 use crate::pass::Pass;
+use crate::renewals::Renewals;
 use core_calls::{Answer, CoreCall};
 use drda_disk::Disk;
 use durable_core::DurableCore;
@@ -40,6 +41,7 @@ impl<D: Disk> Book<D> {
             calls: CallList::none(),
             places,
             next: 1,
+            renewals: Renewals::none(),
         })
     }
 
@@ -81,7 +83,8 @@ impl<D: Disk> Book<D> {
     }
 
     /// Does one call of the pass's conversation and lists it, as one step. It is answered as the core answers:
-    /// by its step, or by an excuse. Where the journal has no room for its record, a checkpoint is written first.
+    /// by its step, or by an excuse. Where the journal has no room for its record, a checkpoint is written first, unless
+    /// nothing was recorded since the last one.
     ///
     /// `NoMemory`, which is not listed, comes where the core wants memory and none is there, and where the
     /// conversation has made 2^64 - 2 calls; of a loss only behind 2^64 - 1. `StrangerPass` comes where the book
@@ -100,7 +103,7 @@ impl<D: Disk> Book<D> {
         if is_out_of_numbers(pass.count, call) {
             return Acted::Answered(Answer::NoMemory);
         }
-        match ask(&mut self.core, pass.conversation, call) {
+        match ask(&mut self.core, &mut self.renewals, pass.conversation, call) {
             Answer::NoMemory => Acted::Answered(Answer::NoMemory),
             answer => {
                 let is_taken = is_done(&answer);
@@ -117,8 +120,8 @@ impl<D: Disk> Book<D> {
         }
     }
 
-    /// Writes a checkpoint where one is due. Nothing is listed; where it has no room, or memory is refused, the
-    /// book goes on without; where the device fails, the next call tells.
+    /// Writes a checkpoint where one is due, and something was recorded since the last one. Nothing is listed; where it
+    /// has no room, or memory is refused, the book goes on without; where the device fails, the next call tells.
     pub fn consider_checkpoint(&mut self)
         ensures rests { Rests self.old.core self.new.core }
         ensures rest { self.new ≡ record self.old { core = self.new.core } }
@@ -127,7 +130,7 @@ impl<D: Disk> Book<D> {
         calls_go_on::<D>();
         self.core.is_durable();
         if self.core.is_checkpoint_due() {
-            checkpoint(&mut self.core);
+            self.renewals.renew(&mut self.core);
         }
     }
 

@@ -5,18 +5,20 @@ ghost use Rattle.core_calls.specs.Answer.{answer_of};
 ghost use Rattle.core_calls.specs.Call.{call_of};
 ghost use Rattle.recovery_laws.specs.Journaled.{Journaled, shown_on};
 ghost use Rattle.serializability.specs.Belonging.{is_excuse};
-ghost use Rattle.shared_node.specs.Passes.{IsAnswered, Rests};
+ghost use Rattle.shared_node.specs.Passes.{IsAnswered};
 
+use crate::renewals::Renewals;
 use core_calls::{Answer, CoreCall};
 use drda_disk::Disk;
 use durable_core::DurableCore;
 use recovery_laws::images::calls_go_on;
 use serializability::answers::answers_belong_to_calls;
 
-/// The core takes a step. Where the journal has no room for its record, the core writes a checkpoint first, so
-/// that `Full` is answered only where the store itself has none.
+/// The core takes a step. Where the journal has no room for its record, the core writes a checkpoint first, unless
+/// nothing was recorded since the last one; so `Full` is answered only where the store itself has no room.
 pub(crate) fn ask<D: Disk>(
     core: &mut DurableCore<D>,
+    renewals: &mut Renewals,
     conversation: u64,
     call: &CoreCall<'_, '_>,
 ) -> Answer
@@ -27,20 +29,11 @@ pub(crate) fn ask<D: Disk>(
     answers_belong_to_calls();
     match core.step(conversation, call) {
         Answer::Full { need: _, room: _ } => {
-            checkpoint(core);
+            renewals.renew(core);
             core.step(conversation, call)
         }
         answer => answer,
     }
-}
-
-/// Writes a checkpoint. Where it has no room, or memory is refused, the core goes on without; where the device
-/// fails, the next call tells.
-pub(crate) fn checkpoint<D: Disk>(core: &mut DurableCore<D>)
-    ensures rests { Rests core.old core.new }
-    ensures journaled { Journaled D.is_modelled (shown_on D.life core.old) (shown_on D.life core.new) }
-{
-    let _ = core.checkpoint();
 }
 
 /// Whether an answer is one of the call's own. Else it is an excuse: the call was not done.

@@ -2,6 +2,7 @@
 
 use crate::calls::CallList;
 use crate::count::Count;
+use crate::renewals::Renewals;
 use drda_disk::Disk;
 use durable_core::DurableCore;
 use std::marker::Model;
@@ -18,6 +19,8 @@ pub struct Book<D: Disk> {
     pub(crate) calls: CallList,
     pub(crate) places: Vec<Option<Count>>,
     pub(crate) next: u64,
+    // No clause of a book reads them.
+    pub(crate) renewals: Renewals,
 }
 
 impl<D: Disk> Model for Book<D> {

@@ -4,23 +4,27 @@ use crate::acted::Acted;
 use crate::gate::Gate;
 use crate::pass::Pass;
 use crate::shared::Shared;
+use crate::turn::{Begun, time};
 use command_kit::Ask;
 use core_calls::{Answer, CoreCall};
 use drda_disk::Disk;
 use std::sync::Wait;
+use std::time::Clock;
 
 /// One conversation at the book, which is asked under the lock, call by call: its turn comes outside of the
 /// lock, the call and what it lists are one step inside of it. Behind a loss a checkpoint is considered.
 #[derive(Drop)]
-pub struct Desk<'a, D: Disk, R: Wait, G: Gate> {
+pub struct Desk<'a, D: Disk, R: Wait + Clock, G: Gate> {
     rt: &'a R,
     shared: &'a Shared<D>,
     gate: &'a G,
     pass: Pass,
     asked: u64,
+    waited: u64,
+    held: u64,
 }
 
-impl<'a, D: Disk, R: Wait, G: Gate> Desk<'a, D, R, G> {
+impl<'a, D: Disk, R: Wait + Clock, G: Gate> Desk<'a, D, R, G> {
     ghost use Rattle.std.specs.Prelude.{◌≡◌};
 
     /// A desk for the calls of a pass.
@@ -33,7 +37,23 @@ impl<'a, D: Disk, R: Wait, G: Gate> Desk<'a, D, R, G> {
             gate,
             pass,
             asked: 0,
+            waited: 0,
+            held: 0,
         }
+    }
+
+    /// For how many microseconds one of its calls waited for the lock at most.
+    pub fn longest_wait(&self) -> u64
+        ensures { result ≡ self.now.waited }
+    {
+        self.waited
+    }
+
+    /// For how many microseconds one of its calls held the lock at most.
+    pub fn longest_hold(&self) -> u64
+        ensures { result ≡ self.now.held }
+    {
+        self.held
     }
 
     /// The pass, which shows the calls that were listed.
@@ -44,7 +64,7 @@ impl<'a, D: Disk, R: Wait, G: Gate> Desk<'a, D, R, G> {
     }
 }
 
-impl<'a, D: Disk, R: Wait, G: Gate> Ask for Desk<'a, D, R, G> {
+impl<'a, D: Disk, R: Wait + Clock, G: Gate> Ask for Desk<'a, D, R, G> {
     ghost use Rattle.shared_node.specs.Desks.{DeskAsks};
 
     ghost asks = { λ old call answer new. DeskAsks old.pass call answer new.pass };
@@ -52,12 +72,20 @@ impl<'a, D: Disk, R: Wait, G: Gate> Ask for Desk<'a, D, R, G> {
     fn ask(&mut self, call: &CoreCall<'_, '_>) -> Answer {
         self.gate.turn(self.pass.conversation(), self.asked);
         self.asked = self.asked.wrapping_add(1);
-        let mut guard = self.shared.book.lock(self.rt);
-        let book = &mut *guard;
-        let acted = book.act(&mut self.pass, call);
-        if matches!(*call, CoreCall::Lost) {
-            book.consider_checkpoint();
-        }
+        let came = time(self.rt);
+        let (acted, turn) = {
+            let mut guard = self.shared.book.lock(self.rt);
+            let book = &mut *guard;
+            let begun = Begun::new(self.rt, came, book);
+            let acted = book.act(&mut self.pass, call);
+            if matches!(*call, CoreCall::Lost) {
+                book.consider_checkpoint();
+            }
+            (acted, begun.end(self.rt, book))
+        };
+        self.waited = self.waited.max(turn.waited);
+        self.held = self.held.max(turn.held);
+        self.gate.after(self.pass.conversation(), &turn);
         match acted {
             Acted::Answered(answer) => answer,
             Acted::StrangerPass => Answer::Closed,

@@ -2,20 +2,25 @@
 
 use crate::book::Book;
 use crate::pass::Pass;
+use crate::turn::{Begun, Turn, time};
 use drda_disk::Disk;
 use durable_core::DurableCore;
 use std::alloc::Global;
 use std::sync::{Mutex, Wait};
+use std::time::Clock;
 
-/// A book under the one lock, to be shared by the threads of its conversations.
+/// A book under the one lock, to be shared by the threads of its conversations. Which book a call found under the
+/// lock can't be said outside of it, where other threads have made calls before and after it; but that it was kept,
+/// what the call made of it, and that it was kept then.
 #[derive(Drop)]
 pub struct Shared<D: Disk> {
     pub(crate) book: Mutex<Book<D>>,
 }
 
 impl<D: Disk> Shared<D> {
-    ghost use Rattle.std.specs.Prelude.{◌≡◌, ◌<◌, [], IfErr, IfSome};
-    ghost use Rattle.shared_node.specs.Passes.{calls_in};
+    ghost use Rattle.std.specs.Prelude.{◌≡◌, ◌<◌, [], IfErr, IfOk, IfSome};
+    ghost use Rattle.shared_node.specs.Passes.{AreJust, AreListed, calls_in};
+    ghost use Rattle.shared_node.specs.Locked.{Considers, Retires, UnderLock};
 
     /// Opens a book over a core, under a lock. Out of memory, the core is handed back.
     pub fn new(alloc: Global, core: DurableCore<D>) -> Result<Shared<D>, DurableCore<D>>
@@ -34,18 +39,45 @@ impl<D: Disk> Shared<D> {
         self.book.lock(rt).admit()
     }
 
-    /// Writes a checkpoint where one is due.
-    pub fn consider_checkpoint<R: Wait>(&self, rt: &R) {
-        self.book.lock(rt).consider_checkpoint();
+    /// Writes a checkpoint where one is due, and tells what its turn at the lock was like.
+    pub fn consider_checkpoint<R: Wait + Clock>(&self, rt: &R) -> Turn
+        ensures { UnderLock D.is_modelled D.life (Considers result) }
+    {
+        let came = time(rt);
+        let mut guard = self.book.lock(rt);
+        let book = &mut *guard;
+        book.is_kept();
+        let begun = Begun::new(rt, came, book);
+        book.consider_checkpoint();
+        book.is_kept();
+        begun.end(rt, book)
     }
 
-    /// Takes a pass back, whose conversation was lost. False where the book does not count as the pass does.
-    pub fn retire<R: Wait>(&self, rt: &R, pass: Pass) -> bool {
-        self.book.lock(rt).retire(pass)
+    /// Takes a pass back, whose conversation was lost, and its place is free. False where the book does not count as
+    /// the pass does: then nothing is done.
+    pub fn retire<R: Wait>(&self, rt: &R, pass: Pass) -> bool
+        ensures { UnderLock D.is_modelled D.life (Retires pass result) }
+    {
+        let mut guard = self.book.lock(rt);
+        let book = &mut *guard;
+        book.is_kept();
+        let is_taken = book.retire(pass);
+        book.is_kept();
+        is_taken
     }
 
-    /// The book, once nobody shares it.
-    pub fn close(self) -> Book<D> {
-        self.book.into_inner()
+    /// The book, once nobody shares it, as it was found. `Ok` comes exactly where these passes are all that have leave
+    /// at it, each once and counted as the book counts: so it lists just as many calls of each as the pass does. Else
+    /// `Err` comes, with the book: some of the passes are a stranger's, or some are missing.
+    pub fn close(self, passes: Vec<Pass>) -> Result<Book<D>, Book<D>>
+        ensures just { IfOk result (AreJust passes.items) }
+        ensures listed { IfOk result (AreListed passes.items) }
+        ensures stranger { IfErr result (λ book. AreJust passes.items book → ⊥) }
+    {
+        let book = self.book.into_inner();
+        if book.is_just(&passes) {
+            return Ok(book);
+        }
+        Err(book)
     }
 }

@@ -13,12 +13,12 @@ use Rattle.table_map.specs.Keyed.{copied, first_key, first_keys}
 use Rattle.table_map.specs.Stored.{Places}
 use Rattle.store_check.specs.Errors.{error_at}
 use Rattle.store_check.specs.Judging.{GoesOn, JudgesBytes, JudgesPage, go_on, last_key}
-use Rattle.store_check.specs.Whole.{ChecksTable, IsFirstBad}
+use Rattle.store_check.specs.Whole.{ChecksTable, IsFirstBad, IsWhole}
 use Rattle.store_check.specs.declared.errors.CheckError.{CheckError}
 use Rattle.store_check.specs.declared.errors.CheckError.TheVariants.{NoMemory, DeviceFailed, Damaged}
 use Rattle.store_check.proofs.Rising.{joined, last_joined, parted}
 use Rattle.store_check.proofs.Standing.{a_page, all_last, all_more, keys_more, rows_more, stand_last, stand_more}
-use Rattle.store_check.proofs.Whole.{AreGood, is_good, is_whole}
+use Rattle.store_check.proofs.Whole.{AreGood, is_good, is_whole, one_list}
 
 -- ---- one page
 
@@ -53,6 +53,11 @@ pub record AreJudged (schema : Schema) (key_of : List ℕ → List ℕ) (file : 
   pub good : AreGood schema key_of file at pages
   pub keys_are : keys ≡ first_keys key_of pages
   pub last_is : last ≡ last_key key_of None (rows_over pages)
+
+-- and these are their rows
+pub record AreNoted (schema : Schema) (key_of : List ℕ → List ℕ) (file : List ℕ) (at n : ℕ) (keys : List (List ℕ)) (last : Option (List ℕ)) (noted : List (List ℕ)) : Type 0 where
+  pub judged : AreJudged schema key_of file at n keys last
+  pub rows_are : noted ≡ rows_over judged.pages
 
 module _ (schema : Schema) (key_of : List ℕ → List ℕ) (file : List ℕ) (at : ℕ) where
   pub none_judged : (keys : List (Vec ℕ)) → keys ≡ [] → AreJudged schema key_of file at 0 (map (λ k. k.items) keys) None
@@ -127,3 +132,21 @@ module _ (schema : Schema) (key_of : List ℕ → List ℕ) (file : List ℕ) (a
   -- nor does it tell anything where there was no memory
   pub without_memory : (count : ℕ) (e : CheckError) (result : Result Places CheckError) → result ≡ Err e → e ≡ NoMemory → ChecksTable schema key_of file at count result
   without_memory count e result is none = subst (λ (r : Result Places CheckError). ChecksTable schema key_of file at count r) (sym (is ∙ ap (λ (x : CheckError). Err x) none)) tt
+
+  -- ---- the rows that were noted
+
+  pub none_noted : (keys : List (Vec ℕ)) (noted : List (List ℕ)) → keys ≡ [] → noted ≡ [] → AreNoted schema key_of file at 0 (map (λ k. k.items) keys) None noted
+  unfolding none_judged
+  none_noted keys noted none is = record { judged = none_judged keys none; rows_are = is }
+
+  pub one_noted : (n : ℕ) (keys : List (List ℕ)) (key : Vec ℕ) (old new : Option (Vec ℕ)) (noted more : List (List ℕ)) → AreNoted schema key_of file at n keys (copied old) noted → JudgesBytes schema key_of (at + 8192 * n) (part file (at + 8192 * n) 8192) old (Ok key) new
+      → ((rows : List (List ℕ)) → IsPage (a_page rows) (part file (at + 8192 * n) 8192) → more ≡ noted ++ rows) → AreNoted schema key_of file at (n + 1) (keys ++ key.items ∷ []) (copied new) more
+  unfolding one_more
+  one_noted n keys key old new noted more so told notes = record {
+    judged = one_more n keys key old new so.judged told;
+    rows_are = notes told.0 told.1 ∙ ap (λ (rows : List (List ℕ)). rows ++ told.0) so.rows_are ∙ sym (rows_more so.judged.pages told.0);
+  }
+
+  pub all_noted : OnePage → (n count : ℕ) (keys : List (List ℕ)) (last : Option (List ℕ)) (noted : List (List ℕ)) (pages : List (List (List ℕ))) → n ≡ count → AreNoted schema key_of file at n keys last noted → IsWhole schema key_of file at count pages → noted ≡ rows_over pages
+  all_noted law n count keys last noted pages all so whole =
+      so.rows_are ∙ ap rows_over (one_list schema key_of file at law count so.judged.pages pages (record { whole = is_whole schema key_of file at so.judged.pages so.judged.good; many = so.judged.many ∙ all }) whole)

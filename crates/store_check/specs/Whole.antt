@@ -7,6 +7,7 @@ use Rattle.row_pages.specs.Laying.{HasSome, rows_over}
 use Rattle.key_map.specs.Merging.{InOrder}
 use Rattle.table_map.specs.Keyed.{first_keys, keyed_rows}
 use Rattle.table_map.specs.Stored.{AreAt, IsStored, Places}
+use Rattle.table_map.specs.declared.noted.NotedPages.{NotedPages}
 use Rattle.store_check.specs.Breaking.{BreaksAt}
 use Rattle.store_check.specs.declared.errors.CheckError.{CheckError}
 use Rattle.store_check.specs.declared.errors.CheckError.TheVariants.{NoMemory, DeviceFailed, Damaged}
@@ -35,6 +36,11 @@ ChecksTable schema key_of file at count (Ok places) = (pages : List (List (List 
 ChecksTable schema key_of file at count (Err (Damaged here)) = IsFirstBad schema key_of file at count here
 ChecksTable schema key_of file at count (Err NoMemory) = Unit {0}
 ChecksTable schema key_of file at count (Err DeviceFailed) = Unit {0}
+
+-- where the pages lie of which the rows were noted, or why there are none
+abbrev pub places_in : Result NotedPages CheckError → Result Places CheckError
+places_in (Ok table) = Ok table.pages
+places_in (Err e) = Err e
 
 -- ---- laws
 

@@ -82,7 +82,7 @@ fn check_stored<K: KeysBySchema, D: Disk>(
     ensures cause { CountsCheck result (D.life disk.old).faults (D.life disk.new).faults }
 {
     let schema = &table.schema;
-    check_table(
+    let checked = check_table(
         alloc,
         &KeysOf { keys, schema },
         schema,
@@ -90,7 +90,8 @@ fn check_stored<K: KeysBySchema, D: Disk>(
         disk,
         at + PAGE_BYTES * table.first_page as usize,
         table.pages as usize,
-    )
+    )?;
+    Ok(checked.pages)
 }
 
 /// Puts a table behind others.

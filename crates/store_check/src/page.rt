@@ -1,8 +1,9 @@
 //! One page of a table.
-ghost use Rattle.std.specs.Prelude.{◌≡◌, ◌+◌, ◌≤◌, ℕ, List, IsTrue, length};
+ghost use Rattle.std.specs.Prelude.{◌≡◌, ◌+◌, ◌≤◌, ◌++◌, ℕ, List, IsTrue, OnOk, length};
 ghost use Rattle.drda_words.specs.Place.{part};
 ghost use Rattle.drda_disk.specs.Disk.{Stays};
 ghost use Rattle.row_pages.specs.Keeping.{AreRead};
+ghost use Rattle.row_pages.specs.Page.{IsPage};
 ghost use Rattle.store_check.specs.Errors.{CountsCheck};
 ghost use Rattle.store_check.specs.Judging.{JudgesBytes, JudgesPage};
 
@@ -13,10 +14,10 @@ use drda_disk::Disk;
 use row_pages::{KeptPage, PageCache, PageKind, one_page};
 use row_values::Schema;
 use std::alloc::Global;
-use table_map::RowKeys;
+use table_map::{NotedRows, RowKeys};
 
 /// The key of the first row of a page that lies at an offset. Its rows go on behind the last key, or
-/// it is damaged.
+/// it is damaged. They are noted.
 fn judge<K: RowKeys>(
     alloc: Global,
     keys: &K,
@@ -24,8 +25,10 @@ fn judge<K: RowKeys>(
     page: &KeptPage,
     at: usize,
     last: &mut Option<Vec<u8>>,
+    noted: &mut NotedRows,
 ) -> Result<Vec<u8>, CheckError>
     ensures judged { JudgesPage schema.now (K.key_of keys.now) at page.now last.old result last.new }
+    ensures noted { OnOk result (noted.new.listed ≡ noted.old.listed ++ page.now.rows) }
     ensures cause { (n : ℕ) → CountsCheck result n n }
 {
     if page.page_ref().kind() != PageKind::Rows {
@@ -36,7 +39,7 @@ fn judge<K: RowKeys>(
         Ok(None) => return Err(CheckError::Damaged { at }),
         Err(_) => return Err(CheckError::NoMemory),
     };
-    match are_rows(alloc, keys, schema, page, last) {
+    match are_rows(alloc, keys, schema, page, last, noted) {
         Ok(true) => Ok(key),
         Ok(false) => Err(CheckError::Damaged { at }),
         Err(_) => Err(CheckError::NoMemory),
@@ -44,7 +47,7 @@ fn judge<K: RowKeys>(
 }
 
 /// The key of the first row of the page at an offset. Its rows go on behind the last key, or it is
-/// damaged.
+/// damaged. They are noted.
 pub(crate) fn check_page<K: RowKeys, D: Disk>(
     alloc: Global,
     keys: &K,
@@ -53,16 +56,19 @@ pub(crate) fn check_page<K: RowKeys, D: Disk>(
     disk: &mut D,
     at: usize,
     last: &mut Option<Vec<u8>>,
+    noted: &mut NotedRows,
 ) -> Result<Vec<u8>, CheckError>
     requires { at + 8192 ≤ length (D.life disk.old).seen }
     ensures judged { IsTrue D.is_modelled → AreRead cache.old (D.life disk.old).seen → JudgesBytes schema.now (K.key_of keys.now) at (part (D.life disk.old).seen at 8192) last.old result last.new }
+    ensures noted { (rows : List (List ℕ)) → IsTrue D.is_modelled → AreRead cache.old (D.life disk.old).seen → IsPage (record { kind = PageKind.Rows; rows = rows }) (part (D.life disk.old).seen at 8192)
+        → OnOk result (noted.new.listed ≡ noted.old.listed ++ rows) }
     ensures kept { IsTrue D.is_modelled → AreRead cache.old (D.life disk.old).seen → AreRead cache.new (D.life disk.new).seen }
     ensures stays { Stays (D.life disk.old) (D.life disk.new) }
     ensures cause { CountsCheck result (D.life disk.old).faults (D.life disk.new).faults }
 {
     one_page();
     match cache.page(alloc, disk, at) {
-        Ok(page) => judge(alloc, keys, schema, page, at, last),
+        Ok(page) => judge(alloc, keys, schema, page, at, last, noted),
         Err(fault) => Err(error_at(at, fault)),
     }
 }

@@ -1,5 +1,5 @@
 //! The rows of one page.
-ghost use Rattle.std.specs.Prelude.{◌≡◌, Ok, true, IfOk};
+ghost use Rattle.std.specs.Prelude.{◌≡◌, ◌++◌, Ok, true, IfOk};
 ghost use Rattle.table_map.specs.Keyed.{copied, first_of};
 ghost use Rattle.store_check.specs.Judging.{go_on, is_behind, last_key};
 
@@ -7,7 +7,7 @@ use row_pages::KeptPage;
 use row_values::{RowRef, Schema};
 use std::alloc::{AllocError, Global};
 use std::cmp::Ordering;
-use table_map::RowKeys;
+use table_map::{NotedRows, RowKeys};
 
 /// Whether a key comes behind the last one, where there is one.
 fn is_behind(last: &Option<Vec<u8>>, key: &[u8]) -> bool
@@ -39,16 +39,18 @@ pub(crate) fn first_in<K: RowKeys>(
 }
 
 /// Whether the rows of a page are rows of the schema whose keys rise behind the last key, which then
-/// is that of the page's last row.
+/// is that of the page's last row. They are noted then.
 pub(crate) fn are_rows<K: RowKeys>(
     alloc: Global,
     keys: &K,
     schema: &Schema,
     page: &KeptPage,
     last: &mut Option<Vec<u8>>,
+    noted: &mut NotedRows,
 ) -> Result<bool, AllocError>
     ensures good { IfOk result (λ good. good ≡ go_on schema.now (K.key_of keys.now) (copied last.old) page.now.rows) }
     ensures last { result ≡ Ok true → copied last.new ≡ last_key (K.key_of keys.now) (copied last.old) page.now.rows }
+    ensures noted { result ≡ Ok true → noted.new.listed ≡ noted.old.listed ++ page.now.rows }
 {
     let mut rows = page.page_ref().rows();
     while let Some(row) = rows.next() {
@@ -59,6 +61,7 @@ pub(crate) fn are_rows<K: RowKeys>(
         if !is_behind(last, &key) {
             return Ok(false);
         }
+        noted.note(row);
         *last = Some(key);
     }
     Ok(true)

@@ -2,17 +2,18 @@
 ghost use Rattle.std.specs.Prelude.{◌≡◌, ◌+◌, ◌*◌, ◌^◌, ◌≤◌, ◌++◌, ◌∷◌, [], ℕ, List, IsTrue, IfErr, IfOk, OnOk, length};
 ghost use Rattle.drda_disk.specs.Disk.{Stays};
 ghost use Rattle.row_pages.specs.Keeping.{AreRead};
+ghost use Rattle.row_pages.specs.Laying.{rows_over};
 ghost use Rattle.store_check.specs.Errors.{CountsCheck};
-ghost use Rattle.store_check.specs.Whole.{ChecksTable};
+ghost use Rattle.store_check.specs.Whole.{ChecksTable, IsWhole, places_in};
 ghost use Rattle.store_check.specs.declared.errors.CheckError.TheVariants.{NoMemory};
 
 use crate::CheckError;
 use crate::page::check_page;
 use drda_disk::Disk;
-use row_pages::{PAGE_BYTES, PageCache};
+use row_pages::{PAGE_BYTES, PageCache, one_page};
 use row_values::Schema;
 use std::alloc::Global;
-use table_map::{RowKeys, TablePages};
+use table_map::{NotedPages, NotedRows, RowKeys, TablePages};
 
 /// Puts bytes behind others.
 fn push_bytes(list: &mut Vec<Vec<u8>>, bytes: Vec<u8>) -> Result<(), CheckError>
@@ -28,7 +29,8 @@ fn push_bytes(list: &mut Vec<Vec<u8>>, bytes: Vec<u8>) -> Result<(), CheckError>
 
 /// Checks the pages of a table, so many from an offset on: each is a page of rows and has some, all
 /// rows are rows of the schema, and their keys rise from row to row and from page to page. Where the
-/// pages lie is returned then, with the key of each one's first row, as the table's map asks for it.
+/// pages lie is returned then, with the key of each one's first row, as the table's map asks for it;
+/// all rows are noted beside them.
 ///
 /// `Damaged` comes exactly where the pages are not so, and tells where the first bad one of them
 /// lies: with the pages in front of it it is not so, and without it it is. Nothing is written.
@@ -40,22 +42,27 @@ pub fn check_table<K: RowKeys, D: Disk>(
     disk: &mut D,
     at: usize,
     count: usize,
-) -> Result<TablePages, CheckError>
+) -> Result<NotedPages, CheckError>
     requires small { at + 8192 * count ≤ 2 ^ 40 }
     requires inside { at + 8192 * count ≤ length (D.life disk.old).seen }
-    ensures at { IfOk result (λ pages. pages.at ≡ at) }
-    ensures count { IfOk result (λ pages. length pages.keys ≡ count) }
-    ensures told { IsTrue D.is_modelled → AreRead cache.old (D.life disk.old).seen → ChecksTable schema.now (K.key_of keys.now) (D.life disk.old).seen at count result }
+    ensures at { IfOk result (λ table. table.pages.at ≡ at) }
+    ensures count { IfOk result (λ table. length table.pages.keys ≡ count) }
+    ensures told { IsTrue D.is_modelled → AreRead cache.old (D.life disk.old).seen → ChecksTable schema.now (K.key_of keys.now) (D.life disk.old).seen at count (places_in result) }
+    ensures rows { (pages : List (List (List ℕ))) → IsTrue D.is_modelled → AreRead cache.old (D.life disk.old).seen → IsWhole schema.now (K.key_of keys.now) (D.life disk.old).seen at count pages
+        → IfOk result (λ table. table.rows.listed ≡ rows_over pages) }
     ensures kept { IsTrue D.is_modelled → AreRead cache.old (D.life disk.old).seen → AreRead cache.new (D.life disk.new).seen }
     ensures stays { Stays (D.life disk.old) (D.life disk.new) }
     ensures cause { CountsCheck result (D.life disk.old).faults (D.life disk.new).faults }
 {
+    one_page();
     let mut first_keys = Vec::new(alloc);
     let mut last = None;
+    let mut rows = NotedRows::none();
     for page in 0..count {
         let here = at + PAGE_BYTES * page;
-        let key = check_page(alloc, keys, schema, cache, disk, here, &mut last)?;
+        let key = check_page(alloc, keys, schema, cache, disk, here, &mut last, &mut rows)?;
         push_bytes(&mut first_keys, key)?;
     }
-    Ok(TablePages::new(at, first_keys))
+    let pages = TablePages::new(at, first_keys);
+    Ok(NotedPages { pages, rows })
 }

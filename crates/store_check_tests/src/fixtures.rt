@@ -127,7 +127,7 @@ pub fn checked<D: Disk>(alloc: Global, disk: &mut D, count: usize) -> Result<usi
     if disk.size() < DISK_BYTES || count > 4 {
         return Err(CheckError::DeviceFailed);
     }
-    let pages = check_table(
+    let checked = check_table(
         alloc,
         &FirstColumn,
         &schema,
@@ -136,7 +136,7 @@ pub fn checked<D: Disk>(alloc: Global, disk: &mut D, count: usize) -> Result<usi
         TABLE_AT,
         count,
     )?;
-    let table = TableMap::new(alloc, pages);
+    let table = TableMap::new(alloc, checked.pages);
     let mut rows = RowList::new(alloc);
     match table.scan_into(alloc, &FirstColumn, &mut cache, disk, &mut rows) {
         Ok(()) => Ok(rows.len()),

@@ -18,9 +18,9 @@ use Rattle.hearing.proofs.Conversing.{hears_then}
 use Rattle.hearing.proofs.Stepping.{told_start}
 use Rattle.hearing.specs.declared.fed.Heard.{Heard}
 use Rattle.hearing.specs.declared.fed.Heard.TheVariants as piece_is
-use Rattle.stream_service.specs.Serving.{AnswersButShort, BreaksOff, Converses, Loses, Serves}
+use Rattle.stream_service.specs.Serving.{AnswersAll, AnswersButShort, AnswersLast, AnswersPiece, BreaksOff, Converses, Loses, Serves}
 use Rattle.stream_service.specs.declared.serving.Served.{Served}
-use Rattle.stream_service.specs.declared.serving.Served.TheVariants.{Done, ReadFault, NoMemory}
+use Rattle.stream_service.specs.declared.serving.Served.TheVariants.{Done, ReadFault, WriteFault, NoMemory}
 
 cut_in_front : (count : ℕ) (xs ys : List ℕ) → take (length (take count xs)) (xs ++ ys) ≡ take count xs
 cut_in_front count xs ys =
@@ -77,12 +77,24 @@ module _ {A : Type 0} (asks : A → Call → Answer → A → Type 0) where
   starts held asked None w settled = tt
   starts held asked (Some input) w settled = record { front = []; replies = []; input_is = refl; hears = nothing_yet held asked settled; written = Appends-nil w }
 
+  -- nothing of a piece yet
+  pub begins : (held : Held) (asked : A) (piece : List ℕ) (w : Option (List ℕ)) → IsBetweenCommands held → Talked held.settings (attended_by held asked) piece w piece w (attended_by held asked)
+  begins held asked piece w settled = record { front = []; replies = []; input_is = refl; hears = nothing_yet held asked settled; written = Appends-nil w }
+
   pub none_done : (held : Held) (asked : A) (r0 w0 : Option (List ℕ)) → IsBetweenCommands held
       → IfSome r0 (λ input. Converses asks held.settings (attended_by held asked) input w0 NoMemory w0 (attended_by held asked))
   none_done held asked None w0 settled = tt
   none_done held asked (Some input) w0 settled = record { front = []; rest = input; replies = []; unsaid = []; input_is = refl; hears = nothing_yet held asked settled; short = inl refl; appended = Appends-nil w0 }
 
 module _ {A : Type 0} (asks : A → Call → Answer → A → Type 0) (settings : Settings) where
+  -- nothing of it is left
+  pub talked_all : (first last : Attended A) (input left : List ℕ) (w0 w : Option (List ℕ)) → Talked asks settings first input w0 left w last → left ≡ [] → AnswersAll asks settings first input w0 w last
+  talked_all first last input left w0 w t none = record {
+    replies = t.replies;
+    hears = subst (λ (z : List ℕ). Hears asks settings first z t.replies last) (sym (t.input_is ∙ ap (λ (z : List ℕ). t.front ++ z) none ∙ append-nil t.front)) t.hears;
+    appended = t.written;
+  }
+
   -- ---- at the end of the input, or at a fault
 
   pub ends : (first last : Attended A) (r0 r r' w0 w : Option (List ℕ)) → SoFar asks settings first r0 r w0 w last → Consumes r r' [] → IsAtEnd r' → IfSome r0 (λ input. Converses asks settings first input w0 Done w last)
@@ -107,83 +119,117 @@ module _ {A : Type 0} (asks : A → Call → Answer → A → Type 0) (settings 
   serves first last asked served None w0 w c l = tt
   serves first last asked served (Some input) w0 w c l = record { last = last; converses = c; loses = l }
 
+  -- ---- what was heard of a piece, with its answers written
+
+  pub said_all : (mid last : Attended A) (piece out' : List ℕ) (w w' : Option (List ℕ)) → HearsAll asks settings mid piece [] last out' → Appends w w' out' → AnswersAll asks settings mid piece w w' last
+  said_all mid last piece out' w w' h wrote = record { replies = h.replies; hears = h.hears; appended = subst (λ (z : List ℕ). Appends w w' z) h.appended wrote }
+
+  pub said_last : (mid last : Attended A) (piece out' : List ℕ) (w w' : Option (List ℕ)) → HearsLast asks settings mid piece [] last out' → Appends w w' out' → AnswersLast asks settings mid piece w w' last
+  said_last mid last piece out' w w' h wrote = record { replies = h.replies; hears = h.hears; appended = subst (λ (z : List ℕ). Appends w w' z) h.appended wrote }
+
+  pub said_short : (mid last : Attended A) (piece out' : List ℕ) (w w' : Option (List ℕ)) → HearsPart asks settings mid piece [] last out' → Appends w w' out' → AnswersButShort asks settings mid piece w w' last
+  said_short mid last piece out' w w' h wrote = record {
+    front = h.heard;
+    rest = h.rest;
+    replies = h.replies;
+    unsaid = h.unsaid;
+    input_is = h.parts;
+    hears = h.hears;
+    short = h.short;
+    appended = subst (λ (z : List ℕ). Appends w w' z) h.appended wrote;
+  }
+
+  pub said_front : (mid last : Attended A) (piece out' : List ℕ) (w w' : Option (List ℕ)) → HearsPart asks settings mid piece [] last out' → (count : ℕ) × Appends w w' (take count out') → BreaksOff asks settings mid piece w w' last
+  said_front mid last piece out' w w' h (count, wrote) =
+      let wrote_replies : Appends w w' (take count h.replies) = subst (λ (z : List ℕ). Appends w w' (take count z)) h.appended wrote in
+      let cut : take count h.replies ≡ take (length (take count h.replies)) (h.replies ++ h.unsaid) = sym (cut_in_front count h.replies h.unsaid) in
+      record {
+        front = h.heard;
+        rest = h.rest;
+        replies = h.replies ++ h.unsaid;
+        count = length (take count h.replies);
+        input_is = h.parts;
+        hears = h.hears;
+        appended = subst (λ (z : List ℕ). Appends w w' z) cut wrote_replies;
+      }
+
   -- ---- a piece more
 
   module _ (fault_more : (bytes more : List ℕ) (fault : FrameFault) → FaultAt bytes fault → FaultAt (bytes ++ more) fault) where
     -- it was heard whole, and its answers written
-    talked_more : (first mid last : Attended A) (input left piece left' out' : List ℕ) (w0 w w' : Option (List ℕ)) → Talked asks settings first input w0 left w mid → left ≡ piece ++ left' → HearsAll asks settings mid piece [] last out'
-        → Appends w w' out' → Talked asks settings first input w0 left' w' last
-    talked_more first mid last input left piece left' out' w0 w w' t took h wrote = record {
+    pub talked_more : (first mid last : Attended A) (input left piece left' : List ℕ) (w0 w w' : Option (List ℕ)) → Talked asks settings first input w0 left w mid → left ≡ piece ++ left' → AnswersAll asks settings mid piece w w' last
+        → Talked asks settings first input w0 left' w' last
+    talked_more first mid last input left piece left' w0 w w' t took h = record {
       front = t.front ++ piece;
       replies = t.replies ++ h.replies;
       input_is = t.input_is ∙ ap (λ (z : List ℕ). t.front ++ z) took ∙ sym (append_assoc t.front piece left');
       hears = hears_then asks settings fault_more first mid last t.front piece t.replies h.replies t.hears h.hears;
-      written = Appends-trans w0 w w' t.replies h.replies t.written (subst (λ (z : List ℕ). Appends w w' z) h.appended wrote);
+      written = Appends-trans w0 w w' t.replies h.replies t.written h.appended;
     }
 
-    pub goes_on : (first mid last : Attended A) (piece out' : List ℕ) (r0 r r' w0 w w' : Option (List ℕ)) → SoFar asks settings first r0 r w0 w mid → Consumes r r' piece → HearsAll asks settings mid piece [] last out' → Appends w w' out'
-        → SoFar asks settings first r0 r' w0 w' last
-    goes_on first mid last piece out' None r r' w0 w w' s took h wrote = tt
-    goes_on first mid last piece out' (Some input) None r' w0 w w' s took h wrote = absurd s
-    goes_on first mid last piece out' (Some input) (Some left) None w0 w w' s took h wrote = absurd took
-    goes_on first mid last piece out' (Some input) (Some left) (Some left') w0 w w' s took h wrote = talked_more first mid last input left piece left' out' w0 w w' s took h wrote
-
     -- the conversation was closed: it was answered whatever stands behind
-    pub closes : (first mid last : Attended A) (piece out' : List ℕ) (r0 r r' w0 w w' : Option (List ℕ)) → SoFar asks settings first r0 r w0 w mid → Consumes r r' piece → HearsLast asks settings mid piece [] last out' → Appends w w' out'
-        → IfSome r0 (λ input. Converses asks settings first input w0 Done w' last)
-    closes first mid last piece out' None r r' w0 w w' s took h wrote = tt
-    closes first mid last piece out' (Some input) None r' w0 w w' s took h wrote = absurd s
-    closes first mid last piece out' (Some input) (Some left) None w0 w w' s took h wrote = absurd took
-    closes first mid last piece out' (Some input) (Some left) (Some left') w0 w w' s took h wrote = record {
-      replies = s.replies ++ h.replies;
-      hears = subst (λ (z : List ℕ). Hears asks settings first z (s.replies ++ h.replies) last) (sym (s.input_is ∙ ap (λ (z : List ℕ). s.front ++ z) took))
-          (hears_then asks settings fault_more first mid last s.front (piece ++ left') s.replies h.replies s.hears (h.hears left'));
-      appended = Appends-trans w0 w w' s.replies h.replies s.written (subst (λ (z : List ℕ). Appends w w' z) h.appended wrote);
+    pub last_more : (first mid last : Attended A) (input left piece left' : List ℕ) (w0 w w' : Option (List ℕ)) → Talked asks settings first input w0 left w mid → left ≡ piece ++ left' → AnswersLast asks settings mid piece w w' last
+        → AnswersLast asks settings first input w0 w' last
+    last_more first mid last input left piece left' w0 w w' t took h = record {
+      replies = t.replies ++ h.replies;
+      hears = λ more.
+          let there : t.front ++ (piece ++ (left' ++ more)) ≡ input ++ more =
+          ap (λ (z : List ℕ). t.front ++ z) (sym (append_assoc piece left' more) ∙ ap (λ (z : List ℕ). z ++ more) (sym took)) ∙ sym (append_assoc t.front left more) ∙ ap (λ (z : List ℕ). z ++ more) (sym t.input_is) in
+          subst (λ (z : List ℕ). Hears asks settings first z (t.replies ++ h.replies) last) there
+          (hears_then asks settings fault_more first mid last t.front (piece ++ (left' ++ more)) t.replies h.replies t.hears (h.hears (left' ++ more)));
+      appended = Appends-trans w0 w w' t.replies h.replies t.written h.appended;
     }
 
     -- of the answers to a prefix of the input a prefix is written
-    broken : (first mid last : Attended A) (input left piece left' out' : List ℕ) (w0 w w' : Option (List ℕ)) (count : ℕ) → Talked asks settings first input w0 left w mid → left ≡ piece ++ left' → HearsPart asks settings mid piece [] last out'
-        → Appends w w' (take count out') → BreaksOff asks settings first input w0 w' last
-    broken first mid last input left piece left' out' w0 w w' count t took h wrote =
-        let wrote_replies : Appends w w' (take count h.replies) = subst (λ (z : List ℕ). Appends w w' (take count z)) h.appended wrote in
-        let cut : take count h.replies ≡ take (length (take count h.replies)) (h.replies ++ h.unsaid) = sym (cut_in_front count h.replies h.unsaid) in
-        let wrote_cut : Appends w w' (take (length (take count h.replies)) (h.replies ++ h.unsaid)) = subst (λ (z : List ℕ). Appends w w' z) cut wrote_replies in
-        record {
-          front = t.front ++ h.heard;
-          rest = h.rest ++ left';
-          replies = t.replies ++ (h.replies ++ h.unsaid);
-          count = length t.replies + length (take count h.replies);
-          input_is = t.input_is ∙ ap (λ (z : List ℕ). t.front ++ z) (took ∙ ap (λ (z : List ℕ). z ++ left') h.parts ∙ append_assoc h.heard h.rest left') ∙ sym (append_assoc t.front h.heard (h.rest ++ left'));
-          hears = hears_then asks settings fault_more first mid last t.front h.heard t.replies (h.replies ++ h.unsaid) t.hears h.hears;
-          appended = subst (λ (z : List ℕ). Appends w0 w' z) (sym (take-append-add t.replies (h.replies ++ h.unsaid) (length (take count h.replies))))
-              (Appends-trans w0 w w' t.replies (take (length (take count h.replies)) (h.replies ++ h.unsaid)) t.written wrote_cut);
-        }
-
-    pub breaks_off : (first mid last : Attended A) (piece out' : List ℕ) (r0 r r' w0 w w' : Option (List ℕ)) → SoFar asks settings first r0 r w0 w mid → Consumes r r' piece → HearsPart asks settings mid piece [] last out'
-        → (count : ℕ) × Appends w w' (take count out') → IfSome r0 (λ input. BreaksOff asks settings first input w0 w' last)
-    breaks_off first mid last piece out' None r r' w0 w w' s took h wrote = tt
-    breaks_off first mid last piece out' (Some input) None r' w0 w w' s took h wrote = absurd s
-    breaks_off first mid last piece out' (Some input) (Some left) None w0 w w' s took h wrote = absurd took
-    breaks_off first mid last piece out' (Some input) (Some left) (Some left') w0 w w' s took h (count, wrote) = broken first mid last input left piece left' out' w0 w w' count s took h wrote
+    pub front_more : (first mid last : Attended A) (input left piece left' : List ℕ) (w0 w w' : Option (List ℕ)) → Talked asks settings first input w0 left w mid → left ≡ piece ++ left' → BreaksOff asks settings mid piece w w' last
+        → BreaksOff asks settings first input w0 w' last
+    front_more first mid last input left piece left' w0 w w' t took h = record {
+      front = t.front ++ h.front;
+      rest = h.rest ++ left';
+      replies = t.replies ++ h.replies;
+      count = length t.replies + h.count;
+      input_is = t.input_is ∙ ap (λ (z : List ℕ). t.front ++ z) (took ∙ ap (λ (z : List ℕ). z ++ left') h.input_is ∙ append_assoc h.front h.rest left') ∙ sym (append_assoc t.front h.front (h.rest ++ left'));
+      hears = hears_then asks settings fault_more first mid last t.front h.front t.replies h.replies t.hears h.hears;
+      appended = subst (λ (z : List ℕ). Appends w0 w' z) (sym (take-append-add t.replies h.replies h.count)) (Appends-trans w0 w w' t.replies (take h.count h.replies) t.written h.appended);
+    }
 
     -- all of them are, but perhaps the last, which is short
-    but_short : (first mid last : Attended A) (input left piece left' out' : List ℕ) (w0 w w' : Option (List ℕ)) → Talked asks settings first input w0 left w mid → left ≡ piece ++ left' → HearsPart asks settings mid piece [] last out'
-        → Appends w w' out' → AnswersButShort asks settings first input w0 w' last
-    but_short first mid last input left piece left' out' w0 w w' t took h wrote = record {
-      front = t.front ++ h.heard;
+    pub short_more : (first mid last : Attended A) (input left piece left' : List ℕ) (w0 w w' : Option (List ℕ)) → Talked asks settings first input w0 left w mid → left ≡ piece ++ left' → AnswersButShort asks settings mid piece w w' last
+        → AnswersButShort asks settings first input w0 w' last
+    short_more first mid last input left piece left' w0 w w' t took h = record {
+      front = t.front ++ h.front;
       rest = h.rest ++ left';
       replies = t.replies ++ h.replies;
       unsaid = h.unsaid;
-      input_is = t.input_is ∙ ap (λ (z : List ℕ). t.front ++ z) (took ∙ ap (λ (z : List ℕ). z ++ left') h.parts ∙ append_assoc h.heard h.rest left') ∙ sym (append_assoc t.front h.heard (h.rest ++ left'));
-      hears = subst (λ (z : List ℕ). Hears asks settings first (t.front ++ h.heard) z last) (sym (append_assoc t.replies h.replies h.unsaid))
-          (hears_then asks settings fault_more first mid last t.front h.heard t.replies (h.replies ++ h.unsaid) t.hears h.hears);
+      input_is = t.input_is ∙ ap (λ (z : List ℕ). t.front ++ z) (took ∙ ap (λ (z : List ℕ). z ++ left') h.input_is ∙ append_assoc h.front h.rest left') ∙ sym (append_assoc t.front h.front (h.rest ++ left'));
+      hears = subst (λ (z : List ℕ). Hears asks settings first (t.front ++ h.front) z last) (sym (append_assoc t.replies h.replies h.unsaid))
+          (hears_then asks settings fault_more first mid last t.front h.front t.replies (h.replies ++ h.unsaid) t.hears h.hears);
       short = h.short;
-      appended = Appends-trans w0 w w' t.replies h.replies t.written (subst (λ (z : List ℕ). Appends w w' z) h.appended wrote);
+      appended = Appends-trans w0 w w' t.replies h.replies t.written h.appended;
     }
 
-    pub answers_but_short : (first mid last : Attended A) (piece out' : List ℕ) (r0 r r' w0 w w' : Option (List ℕ)) → SoFar asks settings first r0 r w0 w mid → Consumes r r' piece → HearsPart asks settings mid piece [] last out'
-        → Appends w w' out' → IfSome r0 (λ input. AnswersButShort asks settings first input w0 w' last)
-    answers_but_short first mid last piece out' None r r' w0 w w' s took h wrote = tt
-    answers_but_short first mid last piece out' (Some input) None r' w0 w w' s took h wrote = absurd s
-    answers_but_short first mid last piece out' (Some input) (Some left) None w0 w w' s took h wrote = absurd took
-    answers_but_short first mid last piece out' (Some input) (Some left) (Some left') w0 w w' s took h wrote = but_short first mid last input left piece left' out' w0 w w' s took h wrote
+    -- ---- a piece of the stream more
+
+    pub goes_on : (first mid last : Attended A) (piece : List ℕ) (r0 r r' w0 w w' : Option (List ℕ)) → SoFar asks settings first r0 r w0 w mid → Consumes r r' piece → AnswersAll asks settings mid piece w w' last
+        → SoFar asks settings first r0 r' w0 w' last
+    goes_on first mid last piece None r r' w0 w w' s took h = tt
+    goes_on first mid last piece (Some input) None r' w0 w w' s took h = absurd s
+    goes_on first mid last piece (Some input) (Some left) None w0 w w' s took h = absurd took
+    goes_on first mid last piece (Some input) (Some left) (Some left') w0 w w' s took h = talked_more first mid last input left piece left' w0 w w' s took h
+
+    -- it is the last
+    ends_with : (served : Served) (first mid last : Attended A) (input left piece left' : List ℕ) (w0 w w' : Option (List ℕ)) → Talked asks settings first input w0 left w mid → left ≡ piece ++ left'
+        → AnswersPiece asks settings mid piece w (Some served) w' last → Converses asks settings first input w0 served w' last
+    ends_with Done first mid last input left piece left' w0 w w' t took h =
+        let l = last_more first mid last input left piece left' w0 w w' t took h in
+        record { replies = l.replies; hears = subst (λ (z : List ℕ). Hears asks settings first z l.replies last) (append-nil input) (l.hears []); appended = l.appended }
+    ends_with ReadFault first mid last input left piece left' w0 w w' t took h = absurd h
+    ends_with WriteFault first mid last input left piece left' w0 w w' t took h = front_more first mid last input left piece left' w0 w w' t took h
+    ends_with NoMemory first mid last input left piece left' w0 w w' t took h = short_more first mid last input left piece left' w0 w w' t took h
+
+    pub ends_in : (served : Served) (first mid last : Attended A) (piece : List ℕ) (r0 r r' w0 w w' : Option (List ℕ)) → SoFar asks settings first r0 r w0 w mid → Consumes r r' piece
+        → AnswersPiece asks settings mid piece w (Some served) w' last → IfSome r0 (λ input. Converses asks settings first input w0 served w' last)
+    ends_in served first mid last piece None r r' w0 w w' s took h = tt
+    ends_in served first mid last piece (Some input) None r' w0 w w' s took h = absurd s
+    ends_in served first mid last piece (Some input) (Some left) None w0 w w' s took h = absurd took
+    ends_in served first mid last piece (Some input) (Some left) (Some left') w0 w w' s took h = ends_with served first mid last input left piece left' w0 w w' s took h

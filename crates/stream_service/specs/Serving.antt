@@ -1,7 +1,7 @@
 -- What serving a stream comes to: what stood in the input, what the writer held before and holds now, and how the
 -- conversation stood with who is asked, before and at its end. `asks` says which call, which answer and which
 -- state of who is asked belong together.
-use Rattle.std.specs.Prelude.{◌≡◌, ◌⊎◌, ℕ, List, [], ◌++◌, Option, take}
+use Rattle.std.specs.Prelude.{◌≡◌, ◌⊎◌, ℕ, List, [], ◌++◌, Option, Some, None, take}
 use Rattle.std.specs.Io.KnownBytes.{Appends}
 use Rattle.core_calls.specs.Answer.{Answer}
 use Rattle.core_calls.specs.Call.{Call, lost}
@@ -20,6 +20,12 @@ module _ {A : Type 0} (asks : A → Call → Answer → A → Type 0) where
   pub record AnswersAll (settings : Settings) (before : Attended A) (input : List ℕ) (written written' : Option (List ℕ)) (last : Attended A) : Type 0 where
     pub replies : List ℕ
     pub hears : Hears asks settings before input replies last
+    pub appended : Appends written written' replies
+
+  -- all of a piece was heard, its answers are written, and the conversation hears nothing of whatever comes after it
+  pub record AnswersLast (settings : Settings) (before : Attended A) (piece : List ℕ) (written written' : Option (List ℕ)) (last : Attended A) : Type 0 where
+    pub replies : List ℕ
+    pub hears : (more : List ℕ) → Hears asks settings before (piece ++ more) replies last
     pub appended : Appends written written' replies
 
   -- a prefix of the input was heard, and its answers are written
@@ -51,6 +57,14 @@ module _ {A : Type 0} (asks : A → Call → Answer → A → Type 0) where
     pub input_is : input ≡ front ++ rest
     pub hears : Hears asks settings before front replies last
     pub appended : Appends written written' (take count replies)
+
+  -- a piece of the input, by how the conversation goes on or ends with it
+  abbrev pub AnswersPiece : Settings → Attended A → List ℕ → Option (List ℕ) → Option Served → Option (List ℕ) → Attended A → Type 0
+  AnswersPiece settings before piece written None written' last = AnswersAll settings before piece written written' last
+  AnswersPiece settings before piece written (Some Done) written' last = AnswersLast settings before piece written written' last
+  AnswersPiece settings before piece written (Some ReadFault) written' last = ⊥
+  AnswersPiece settings before piece written (Some WriteFault) written' last = BreaksOff settings before piece written written' last
+  AnswersPiece settings before piece written (Some NoMemory) written' last = AnswersButShort settings before piece written written' last
 
   -- by how it ends, up to before the conversation is lost
   abbrev pub Converses : Settings → Attended A → List ℕ → Option (List ℕ) → Served → Option (List ℕ) → Attended A → Type 0

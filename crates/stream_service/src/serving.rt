@@ -3,18 +3,21 @@
 ghost use Rattle.std.specs.Prelude.{◌≡◌, IfSome};
 ghost use Rattle.hearing.specs.Attended.{attended_by};
 ghost use Rattle.hearing.specs.Feeding.{IsBetweenCommands};
-ghost use Rattle.stream_service.specs.Serving.{Converses, Loses, Serves};
+ghost use Rattle.stream_service.specs.Serving.{AnswersPiece, Converses, Loses, Serves};
 
 use command_kit::Ask;
 use conversation::Front;
 use core_calls::CoreCall;
 use dss_frames::stays_read;
-use hearing::{Heard, feed_all, write_whole};
+use hearing::{Heard, feed_some, write_whole};
 use std::alloc::{AllocError, Global};
 use std::io::{Read, Write};
 
 /// The most bytes that are read at once.
 const PIECE: usize = 65_536;
+
+/// Answers of more bytes are written before the next command is done.
+const LONG: usize = 65_536;
 
 /// How the service of a stream ended.
 #[derive(Clone, Copy, Debug, PartialEq, Eq)]
@@ -31,7 +34,7 @@ pub enum Served {
 
 /// Serves a conversation over a stream whose halves are handed in. Its bytes are heard as they are read,
 /// as many at once as are there up to 65,536, and what it is answered to them is written before the next
-/// are read; so it goes on until the stream ends or fails, the conversation is closed or memory is refused.
+/// are read, and before the next command where it is longer than 65,536 bytes; so it goes on until the stream ends or fails, the conversation is closed or memory is refused.
 /// Whatever ends it, the last call of `asker` is that the conversation is lost: a unit of work that it left
 /// open ends without its changes.
 ///
@@ -77,29 +80,62 @@ fn converse<A: Ask, R: Read, W: Write>(
             Ok(count) => count,
             Err(_) => return Served::ReadFault,
         };
-        empty(alloc, &mut replies);
-        let heard = feed_all(front, asker, &buffer[..count], &mut replies);
+        let ended = answer_piece(alloc, front, asker, &buffer[..count], &mut replies, writer);
         overwrite(&mut buffer, count);
-        let Ok(()) = write_whole(writer, &replies) else {
-            return Served::WriteFault;
-        };
-        match heard {
-            Heard::Open => {}
-            Heard::Closed => return Served::Done,
-            Heard::NoMemory => return Served::NoMemory,
+        match ended {
+            None => {}
+            Some(served) => return served,
         }
     }
     Served::ReadFault
 }
 
-ghost use Rattle.std.specs.Prelude.{◌≤◌, ◌++◌, [], IfOk, drop, length, replicate};
+// Hears a piece, and writes the answers to it: whenever they are long, and at its end. So no more of them are gathered
+// than is long, and what one command is answered. None where the conversation goes on.
+fn answer_piece<A: Ask, W: Write>(
+    alloc: Global,
+    front: &mut Front,
+    asker: &mut A,
+    piece: &[u8],
+    replies: &mut Vec<u8>,
+    writer: &mut W,
+) -> Option<Served>
+    requires settled { IsBetweenCommands front.old }
+    requires empty { replies.old.items ≡ [] }
+    ensures settled { IsBetweenCommands front.new }
+    ensures settings { front.new.settings ≡ front.old.settings }
+    ensures empty { result ≡ None → replies.new.items ≡ [] }
+    ensures answers { AnswersPiece A.asks front.old.settings (attended_by front.old asker.old) piece.now (W.contents writer.old) result (W.contents writer.new) (attended_by front.new asker.new) }
+{
+    stays_read();
+    let mut taken = 0;
+    'hearing: loop {
+        let part = feed_some(front, asker, &piece[taken..], LONG, replies);
+        taken += part.taken;
+        let Ok(()) = write_whole(writer, replies) else {
+            return Some(Served::WriteFault);
+        };
+        empty(alloc, replies);
+        match part.heard {
+            Heard::Open => {
+                if taken == piece.len() {
+                    return None;
+                }
+            }
+            Heard::Closed => return Some(Served::Done),
+            Heard::NoMemory => return Some(Served::NoMemory),
+        }
+    }
+}
+
+ghost use Rattle.std.specs.Prelude.{◌≤◌, ◌++◌, [], None, IfOk, drop, length, replicate};
 
 // Takes out what was written. Where that was long its memory is given back: a conversation that asked for much and
 // then says nothing holds no more than its buffers.
 fn empty(alloc: Global, replies: &mut Vec<u8>)
     ensures { replies.new.items ≡ [] }
 {
-    if replies.capacity() > PIECE {
+    if replies.capacity() > LONG {
         *replies = Vec::new(alloc);
     } else {
         replies.clear();

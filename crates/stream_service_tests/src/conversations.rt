@@ -1,7 +1,7 @@
 //! Conversations that are heard whole, one after the other.
 
 use crate::cores::{core_of, serve_over};
-use crate::streams::{Looking, OneByOne};
+use crate::streams::{Looking, Measuring, OneByOne};
 use drda_disk::MemDisk;
 use durable_core::DurableCore;
 use std::alloc::Global;
@@ -109,5 +109,31 @@ fn what_was_heard_is_overwritten(rt: HostRuntime) -> Result<(), Fail> {
     let mut out = Vec::new(rt.alloc());
     let served = serve_over(rt.alloc(), &mut core, &mut reader, &mut out);
     assert_eq!(rt; (served, reader.finds), (Some(Served::Done), false));
+    Ok(())
+}
+
+// So many times EXCSAT, of 30 bytes each.
+fn many_times(alloc: Global, count: usize) -> Option<Vec<u8>> {
+    let once = bytes_of(alloc, &[EXCSAT_ALONE]).ok()?;
+    let mut input = Vec::new(alloc);
+    for _ in 0..count {
+        input.extend_from_slice(&once).ok()?;
+    }
+    Some(input)
+}
+
+// 2,000 commands come in one piece, and each answer has 69 bytes: more than 65,536 and one answer are never gathered.
+#[test]
+fn long_answers_are_written_in_between(rt: HostRuntime) -> Result<(), Fail> {
+    let mut core = core_of(rt.alloc()).ok_or("memory")?;
+    let input = many_times(rt.alloc(), 2_000).ok_or("memory")?;
+    let mut reader = input.as_slice();
+    let mut writer = Measuring {
+        size: 0,
+        longest: 0,
+    };
+    let served = serve_over(rt.alloc(), &mut core, &mut reader, &mut writer);
+    assert_eq!(rt; (served, writer.size), (Some(Served::Done), 138_000));
+    assert!(rt; writer.longest <= 65_536 + 69, "{}", writer.longest);
     Ok(())
 }

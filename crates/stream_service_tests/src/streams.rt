@@ -55,3 +55,22 @@ impl Write for Full {
         Ok(())
     }
 }
+
+/// A stream that takes all at once, and remembers how many bytes that were in all and at the most.
+#[derive(Drop)]
+pub struct Measuring {
+    pub size: usize,
+    pub longest: usize,
+}
+
+impl Write for Measuring {
+    fn write(&mut self, bytes: &[u8]) -> io::Result<usize> {
+        self.size = self.size.saturating_add(bytes.len());
+        self.longest = self.longest.max(bytes.len());
+        Ok(bytes.len())
+    }
+
+    fn flush(&mut self) -> io::Result<()> {
+        Ok(())
+    }
+}

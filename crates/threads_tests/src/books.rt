@@ -1,8 +1,8 @@
 //! A book over a store in memory, and what it is asked there, as plain data.
 
 use core_calls::{Answer, CoreCall};
-use drda_disk::{Disk, MemDisk};
-use durable_core::open;
+use drda_disk::{Disk, FuseDisk, MemDisk};
+use durable_core::{DurableCore, open};
 use row_values::Value;
 use shared_node::{Acted, Book, Pass};
 use sql_text::parse;
@@ -15,10 +15,24 @@ pub enum Told {
     Count(u32),
     Done,
     Refused,
+    Full,
     DeviceFailed,
     Closed,
     Stranger,
     Other,
+}
+
+/// The core of a fresh store whose device fails behind its opening. None without memory.
+pub fn failing_core(alloc: Global) -> Option<DurableCore<FuseDisk<MemDisk>>> {
+    let disk = FuseDisk::new(fresh_store(alloc)?, u64::MAX, false);
+    let calls = match open(alloc, disk) {
+        Ok(core) => core.into_disk().calls(),
+        Err(_) => return None,
+    };
+    match open(alloc, FuseDisk::new(fresh_store(alloc)?, calls, false)) {
+        Ok(core) => Some(core),
+        Err(_) => None,
+    }
 }
 
 /// A book over the core of a disk. None where the disk is no store, and without memory.
@@ -44,6 +58,7 @@ pub fn ask<D: Disk>(book: &mut Book<D>, pass: &mut Pass, call: &CoreCall<'_, '_>
         Acted::Answered(Answer::Count(count)) => Told::Count(count),
         Acted::Answered(Answer::Done) => Told::Done,
         Acted::Answered(Answer::Refused(_)) => Told::Refused,
+        Acted::Answered(Answer::Full { .. }) => Told::Full,
         Acted::Answered(Answer::DeviceFailed) => Told::DeviceFailed,
         Acted::Answered(Answer::Closed) => Told::Closed,
         Acted::Answered(_) => Told::Other,

@@ -1,15 +1,18 @@
 //! Books whose journals fill.
 
-use crate::books::{Told, book_of, commit, run};
-use drda_disk::{Disk, MemDisk};
+use crate::books::{Told, book_of, book_over, commit, run};
+use drda_disk::{Disk, FuseDisk, MemDisk};
 use row_values::Value;
 use shared_node::{Book, Pass};
 use std::alloc::{AllocError, Global};
 use std::test::Fail;
+use test_nodes::fresh_store;
 
 const CREATE: &str = "CREATE TABLE B (K INTEGER NOT NULL, V VARCHAR(2000), PRIMARY KEY (K))";
 
 const INSERT: &str = "INSERT INTO B VALUES (1, 'x')";
+
+const ADD: &str = "INSERT INTO B VALUES (?, ?)";
 
 const UPDATE: &str = "UPDATE B SET V = ?";
 
@@ -36,9 +39,9 @@ fn is_committed<D: Disk>(
     }
 }
 
-// A book whose one conversation has made a table with a row, and put that anew so many times, with 2,000 letters;
-// each time it has committed. None where a call was not done.
-fn filled(alloc: Global, times: u64) -> Option<Book<MemDisk>> {
+/// A book whose one conversation has made a table with a row, and put that anew so many times, with 2,000 letters;
+/// each time it has committed. None where a call was not done.
+pub fn filled(alloc: Global, times: u64) -> Option<Book<MemDisk>> {
     let mut book = book_of(alloc)?;
     let mut pass = book.admit()?;
     let text = letters(alloc).ok()?;
@@ -76,5 +79,47 @@ fn a_journal_that_fills_is_followed_by_a_checkpoint(rt: HostRuntime) -> Result<(
         assert!(rt; least <= room && room < most, "{times}: {room}");
         assert!(rt; behind <= left && left < limit, "{times}: {left}");
     }
+    Ok(())
+}
+
+// Puts in a row of 2,000 letters, and commits it, until that has no room. None where a call was not done.
+fn fill<D: Disk>(alloc: Global, book: &mut Book<D>, pass: &mut Pass) -> Option<()> {
+    let text = letters(alloc).ok()?;
+    for key in 0..1_000 {
+        let values = [Value::Number(key), Value::Text(text.as_str())];
+        run(alloc, book, pass, ADD, &values)?;
+        match commit(book, pass) {
+            Told::Done => {}
+            Told::Full => return Some(()),
+            _ => return None,
+        }
+    }
+    None
+}
+
+// How many commits have no room, of so many that are tried again on a full store; and the calls that the device had
+// then. None where a call was not done.
+fn tried(alloc: Global, times: u64) -> Option<(u64, u64)> {
+    let disk = FuseDisk::new(fresh_store(alloc)?, u64::MAX, false);
+    let mut book = book_over(alloc, disk)?;
+    let mut pass = book.admit()?;
+    if !is_committed(alloc, &mut book, &mut pass, CREATE, &[]) {
+        return None;
+    }
+    fill(alloc, &mut book, &mut pass)?;
+    let mut full = 0_u64;
+    for _ in 0..times {
+        if commit(&mut book, &mut pass) == Told::Full {
+            full = full.saturating_add(1);
+        }
+        book.consider_checkpoint();
+    }
+    Some((full, book.into_core().into_disk().calls()))
+}
+
+#[test]
+fn a_full_store_is_not_written_again(rt: HostRuntime) -> Result<(), Fail> {
+    let (_, calls) = tried(rt.alloc(), 0).ok_or("not all was done")?;
+    assert_eq!(rt; tried(rt.alloc(), 3), Some((3, calls)));
     Ok(())
 }

@@ -4,6 +4,8 @@
 #[cfg(test)]
 mod books;
 #[cfg(test)]
+mod closings;
+#[cfg(test)]
 mod crossings;
 #[cfg(test)]
 mod crowds;
@@ -19,3 +21,5 @@ mod plays;
 mod stages;
 #[cfg(test)]
 mod talks;
+#[cfg(test)]
+mod turns;

@@ -1,13 +1,11 @@
 //! Leave at a book, and what it counts.
 
-use crate::books::{Told, ask, book_of, book_over, commit, run};
+use crate::books::{Told, ask, book_of, commit, failing_core, run};
 use core_calls::CoreCall;
 use drda_disk::{Disk, FuseDisk, MemDisk};
-use durable_core::open;
 use shared_node::{Book, Pass};
 use std::alloc::{AllocError, Global};
 use std::test::Fail;
-use test_nodes::fresh_store;
 
 const CREATE: &str = "CREATE TABLE T (K INTEGER NOT NULL, PRIMARY KEY (K))";
 
@@ -173,12 +171,10 @@ const CALLS: [(Asked, Told, u64); 6] = [
 
 // A book over a store whose device fails behind its opening.
 fn book_of_failing(alloc: Global) -> Option<Book<FuseDisk<MemDisk>>> {
-    let disk = FuseDisk::new(fresh_store(alloc)?, u64::MAX, false);
-    let calls = match open(alloc, disk) {
-        Ok(core) => core.into_disk().calls(),
-        Err(_) => return None,
-    };
-    book_over(alloc, FuseDisk::new(fresh_store(alloc)?, calls, false))
+    match Book::open(alloc, failing_core(alloc)?) {
+        Ok(book) => Some(book),
+        Err(_) => None,
+    }
 }
 
 #[test]

@@ -4,12 +4,13 @@ use crate::stages::{Cue, Stage};
 use crate::talks::{Checker, Talk, Tape};
 use conversation::Settings;
 use drda_disk::MemDisk;
-use drda_program::{Streams, serve_streams};
+use drda_program::{Silent, Streams, serve_streams};
 use durable_core::{DurableCore, open};
 use shared_node::Shared;
 use std::alloc::Global;
 use std::sync::Wait;
 use std::thread::Threads;
+use std::time::Clock;
 use test_nodes::fresh_store;
 
 /// What is left when all have ended: how many waited for too long, whether each has given its leave back, and
@@ -59,7 +60,7 @@ pub fn core_of(alloc: Global) -> Option<DurableCore<MemDisk>> {
 
 /// Serves these conversations over a core, which is handed back; they wait for each other by these cues. None
 /// without memory.
-pub fn play<R: Threads + Wait + Sync>(
+pub fn play<R: Threads + Wait + Clock + Sync>(
     rt: &R,
     alloc: Global,
     core: DurableCore<MemDisk>,
@@ -85,7 +86,7 @@ pub fn serve<R, S>(
     streams: &mut S,
 ) -> Option<(Left, DurableCore<MemDisk>)>
 where
-    R: Threads + Wait + Sync,
+    R: Threads + Wait + Clock + Sync,
     S: Streams,
     S::Reader: Send,
     S::Writer: Send,
@@ -95,11 +96,14 @@ where
         Err(_) => return None,
     };
     let settings = Settings::new(alloc, "ana", "pw", "SHOP").ok()?;
-    serve_streams(rt, alloc, &shared, &settings, stage, streams).ok()?;
-    let book = shared.close();
+    serve_streams(rt, alloc, &shared, &settings, stage, &Silent, streams).ok()?;
+    let (book, is_idle) = match shared.close(Vec::new(alloc)) {
+        Ok(book) => (book, true),
+        Err(book) => (book, false),
+    };
     let left = Left {
         late: stage.late(),
-        is_idle: book.is_idle(),
+        is_idle: is_idle && book.is_idle(),
         is_failed: book.core().is_failed(),
     };
     Some((left, book.into_core()))

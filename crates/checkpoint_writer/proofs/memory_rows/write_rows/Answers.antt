@@ -1,4 +1,4 @@
-use Rattle.std.proofs.Common.{rules, ◌≡◌, ◌+◌, ◌*◌, ◌∙◌, length, map, ap, refl, subst, sym, arith}
+use Rattle.std.proofs.Common.{rules, ◌≡◌, ◌∙◌, length, map, ap, refl, subst, sym, arith}
 use Rattle.row_pages.specs.Laying.{laid}
 use Rattle.key_map.specs.Walk.{rows_left}
 use Rattle.half_store.specs.Writing.{next_of}

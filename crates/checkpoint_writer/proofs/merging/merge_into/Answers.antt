@@ -1,4 +1,4 @@
-use Rattle.std.proofs.Common.{rules, ◌≡◌, inl, inr, ⊎_elim, ◌-◌, [], ◌∙◌, length, map, sym, ap, subst, arith, refl}
+use Rattle.std.proofs.Common.{rules, ◌≡◌, inl, inr, ⊎_elim, ℕ, ◌-◌, List, [], ◌∷◌, ◌++◌, ◌∙◌, length, map, sym, ap, subst, arith, refl}
 use Rattle.std.proofs.lemmas.List.{length-map}
 use Rattle.row_pages.specs.Laying.{laid}
 use Rattle.half_store.specs.Writing.{next_of}
@@ -28,9 +28,12 @@ loop-writer-init g c =
       forward = omega (arith, c.rows-cursor.ensures.begins);
       at = c.finish_pages-at.ensures.begins;
       merges = record {
-        rows = [];
-        laid = begins g.D.Disk.is_modelled key_of file c.args.image.now c.in_ok-writer.writer c.in_ok-writer.ensures.rows c.in_ok-writer.ensures.empty c.in_ok-writer.ensures.keys;
-        given = λ pages honest read is apart. record { left = rows_of_table key_of c.args.table.now pages; is = c.rows-cursor.ensures.left key_of pages file is; same = refl };
+        held = record {
+          rows = [];
+          laid = begins g.D.Disk.is_modelled key_of file c.args.image.now c.in_ok-writer.writer c.in_ok-writer.ensures.rows c.in_ok-writer.ensures.empty c.in_ok-writer.ensures.keys;
+          given = λ pages honest read is apart. record { left = rows_of_table key_of c.args.table.now pages; is = c.rows-cursor.ensures.left key_of pages file is; same = refl };
+        };
+        same = c.none-noted.ensures;
       };
     }
 
@@ -48,11 +51,11 @@ returns-in_err-add-clause-full g c =
     let first = (g.D.Disk.life c.args.disk.now).seen in
     let file = (g.D.Disk.life c.loop-writer.disk).seen in
     let mid = (g.D.Disk.life c.next.new.disk).seen in
-    let there = same_file g.D.Disk.is_modelled key_of c.args.table.now c.args.cache.now first c.args.image.now file c.loop-writer.image c.loop-writer.writer c.loop-writer.cursor inv.merges mid c.next.ensures.stays.same in
-    full_before g.D.Disk.is_modelled key_of c.args.table.now c.args.cache.now first c.args.image.now file c.loop-writer.image c.loop-writer.writer c.loop-writer.cursor inv.merges
+    let there = same_file g.D.Disk.is_modelled key_of c.args.table.now c.args.cache.now first c.args.image.now file c.loop-writer.image c.loop-writer.writer c.loop-writer.cursor inv.merges.held mid c.next.ensures.stays.same in
+    full_before g.D.Disk.is_modelled key_of c.args.table.now c.args.cache.now first c.args.image.now file c.loop-writer.image c.loop-writer.writer c.loop-writer.cursor inv.merges.held
     c.in_err-add.field-0.0 c.deref.result.now c.in-Some.row.items c.next.new.self c.deref.ensures.value (same_from c.args.image.now c.loop-writer.image inv.adds.half inv.adds.half_bytes) inv.adds.half_bytes
     (λ left honest read is. rw c.in-Some.is at (c.in_ok-row.ensures.gives left honest (inv.kept honest read) is))
-    (λ rest. c.in_err-add.ensures.full (next_of c.args.image.now) inv.merges.rows rest there) c.from_residual-in_err-add.result (search rules)
+    (λ rest. c.in_err-add.ensures.full (next_of c.args.image.now) inv.merges.held.rows rest there) c.from_residual-in_err-add.result (search rules)
 
 pub loop-writer-preserved : goal.loop-writer-preserved
 loop-writer-preserved g c =
@@ -63,7 +66,7 @@ loop-writer-preserved g c =
     let first = (life c.args.disk.now).seen in
     let file = (life c.loop-writer.disk).seen in
     let mid = (life c.next.new.disk).seen in
-    let there = same_file modelled key_of c.args.table.now c.args.cache.now first c.args.image.now file c.loop-writer.image c.loop-writer.writer c.loop-writer.cursor inv.merges mid c.next.ensures.stays.same in
+    let there = same_file modelled key_of c.args.table.now c.args.cache.now first c.args.image.now file c.loop-writer.image c.loop-writer.writer c.loop-writer.cursor inv.merges.held mid c.next.ensures.stays.same in
     record {
       adds = and_more modelled (life c.args.disk.now) (life c.loop-writer.disk) (life c.add.new.disk) c.args.image.now c.loop-writer.image c.add.new.image inv.adds
           (and_more modelled (life c.loop-writer.disk) (life c.next.new.disk) (life c.add.new.disk) c.loop-writer.image c.loop-writer.image c.add.new.image (reads modelled (life c.loop-writer.disk) (life c.next.new.disk) c.loop-writer.image c.next.ensures.stays) c.add.ensures.adds);
@@ -72,11 +75,12 @@ loop-writer-preserved g c =
       end = c.next.ensures.end ∙ inv.end;
       forward = omega (arith, inv.forward, c.next.ensures.forward);
       at = inv.at;
-      merges = one_more modelled key_of c.args.table.now c.args.cache.now first c.args.image.now file c.loop-writer.image c.loop-writer.writer c.loop-writer.cursor inv.merges
-          mid (life c.add.new.disk).seen c.add.new.image c.add.new.self c.next.new.self c.in-Some.row.items c.deref.result.now c.next.ensures.stays.same c.deref.ensures.value
-          (c.in_ok-add.ensures.laid (next_of c.args.image.now) inv.merges.rows there) c.add.ensures.adds.others (same_from c.args.image.now c.loop-writer.image inv.adds.half inv.adds.half_bytes) inv.adds.half_bytes
+      merges = one_more modelled key_of c.args.table.now c.args.cache.now first c.args.image.now file c.loop-writer.image c.loop-writer.writer c.loop-writer.cursor inv.merges.held
+          mid (life c.add.new.disk).seen c.add.new.image c.add.new.self c.next.new.self c.in-Some.row.items c.deref.result.now c.loop-writer.noted.listed c.note.new.self.listed c.next.ensures.stays.same c.deref.ensures.value
+          (c.in_ok-add.ensures.laid (next_of c.args.image.now) inv.merges.held.rows there) c.add.ensures.adds.others (same_from c.args.image.now c.loop-writer.image inv.adds.half inv.adds.half_bytes) inv.adds.half_bytes
           (c.next.ensures.end ∙ inv.end) (omega (arith, inv.forward, c.next.ensures.forward))
-          (λ left honest read is. rw c.in-Some.is at (c.in_ok-row.ensures.gives left honest (inv.kept honest read) is));
+          (λ left honest read is. rw c.in-Some.is at (c.in_ok-row.ensures.gives left honest (inv.kept honest read) is))
+          inv.merges.same (c.note.ensures ∙ ap (λ (row : List ℕ). c.loop-writer.noted.listed ++ row ∷ []) (c.deref-in-Some.ensures.value ∙ sym c.deref.ensures.value));
     }
 
 pub returns-in_err-finish-clause-adds : goal.returns-in_err-finish-clause-adds
@@ -93,11 +97,11 @@ returns-in_err-finish-clause-full g c =
     let first = (g.D.Disk.life c.args.disk.now).seen in
     let file = (g.D.Disk.life c.loop-writer.disk).seen in
     let mid = (g.D.Disk.life c.next.new.disk).seen in
-    let there = same_file g.D.Disk.is_modelled key_of c.args.table.now c.args.cache.now first c.args.image.now file c.loop-writer.image c.loop-writer.writer c.loop-writer.cursor inv.merges mid c.next.ensures.stays.same in
-    full_last g.D.Disk.is_modelled key_of c.args.table.now c.args.cache.now first c.args.image.now file c.loop-writer.image c.loop-writer.writer c.loop-writer.cursor inv.merges
+    let there = same_file g.D.Disk.is_modelled key_of c.args.table.now c.args.cache.now first c.args.image.now file c.loop-writer.image c.loop-writer.writer c.loop-writer.cursor inv.merges.held mid c.next.ensures.stays.same in
+    full_last g.D.Disk.is_modelled key_of c.args.table.now c.args.cache.now first c.args.image.now file c.loop-writer.image c.loop-writer.writer c.loop-writer.cursor inv.merges.held
     c.in_err-finish.field-0.0 (same_from c.args.image.now c.loop-writer.image inv.adds.half inv.adds.half_bytes) inv.adds.half_bytes
     (λ left honest read is. rw c.in_default.is at (c.in_ok-row.ensures.gives left honest (inv.kept honest read) is))
-    (c.in_err-finish.ensures.full (next_of c.args.image.now) inv.merges.rows there.laying) c.from_residual-in_err-finish.result (search rules)
+    (c.in_err-finish.ensures.full (next_of c.args.image.now) inv.merges.held.rows there.laying) c.from_residual-in_err-finish.result (search rules)
 
 pub new-requires-2 : goal.new-requires-2
 new-requires-2 g c =
@@ -106,10 +110,10 @@ new-requires-2 g c =
     let first = (g.D.Disk.life c.args.disk.now).seen in
     let file = (g.D.Disk.life c.loop-writer.disk).seen in
     let mid = (g.D.Disk.life c.next.new.disk).seen in
-    let there = same_file g.D.Disk.is_modelled key_of c.args.table.now c.args.cache.now first c.args.image.now file c.loop-writer.image c.loop-writer.writer c.loop-writer.cursor inv.merges mid c.next.ensures.stays.same in
-    let count : length c.loop-writer.writer.first_keys.items ≡ length (laid inv.merges.rows) =
-    sym (length-map c.loop-writer.writer.first_keys.items (λ key. key.items)) ∙ ap length there.keys ∙ many_keys key_of (laid inv.merges.rows) in
-    omega (arith, inv.at, count, c.in_ok-finish.ensures.pages (next_of c.args.image.now) inv.merges.rows there.laying, c.finish.new.image.fits, end_small c.finish.new.image)
+    let there = same_file g.D.Disk.is_modelled key_of c.args.table.now c.args.cache.now first c.args.image.now file c.loop-writer.image c.loop-writer.writer c.loop-writer.cursor inv.merges.held mid c.next.ensures.stays.same in
+    let count : length c.loop-writer.writer.first_keys.items ≡ length (laid inv.merges.held.rows) =
+    sym (length-map c.loop-writer.writer.first_keys.items (λ key. key.items)) ∙ ap length there.keys ∙ many_keys key_of (laid inv.merges.held.rows) in
+    omega (arith, inv.at, count, c.in_ok-finish.ensures.pages (next_of c.args.image.now) inv.merges.held.rows there.laying, c.finish.new.image.fits, end_small c.finish.new.image)
 
 pub returns-clause-adds : goal.returns-clause-adds
 returns-clause-adds g c =
@@ -125,10 +129,10 @@ returns-clause-pages g c =
     let first = (g.D.Disk.life c.args.disk.now).seen in
     let file = (g.D.Disk.life c.loop-writer.disk).seen in
     let mid = (g.D.Disk.life c.next.new.disk).seen in
-    let there = same_file g.D.Disk.is_modelled key_of c.args.table.now c.args.cache.now first c.args.image.now file c.loop-writer.image c.loop-writer.writer c.loop-writer.cursor inv.merges mid c.next.ensures.stays.same in
-    let count : length c.new-2.result.keys ≡ length (laid inv.merges.rows) = ap (λ (p : Places). length p.keys) c.new-2.ensures ∙ ap length there.keys ∙ many_keys key_of (laid inv.merges.rows) in
+    let there = same_file g.D.Disk.is_modelled key_of c.args.table.now c.args.cache.now first c.args.image.now file c.loop-writer.image c.loop-writer.writer c.loop-writer.cursor inv.merges.held mid c.next.ensures.stays.same in
+    let count : length c.new-2.result.keys ≡ length (laid inv.merges.held.rows) = ap (λ (p : Places). length p.keys) c.new-2.ensures ∙ ap length there.keys ∙ many_keys key_of (laid inv.merges.held.rows) in
     let at : c.new-2.result.at ≡ next_of c.args.image.now = ap (λ (p : Places). p.at) c.new-2.ensures ∙ inv.at in
-    omega (arith, at, count, c.in_ok-finish.ensures.pages (next_of c.args.image.now) inv.merges.rows there.laying)
+    omega (arith, at, count, c.in_ok-finish.ensures.pages (next_of c.args.image.now) inv.merges.held.rows there.laying)
 
 pub returns-clause-rows : goal.returns-clause-rows
 returns-clause-rows g c pages honest read is apart own =
@@ -139,12 +143,22 @@ returns-clause-rows g c pages honest read is apart own =
     let file = (g.D.Disk.life c.loop-writer.disk).seen in
     let mid = (g.D.Disk.life c.next.new.disk).seen in
     let new = (g.D.Disk.life c.finish.new.disk).seen in
-    let there = same_file modelled key_of c.args.table.now c.args.cache.now first c.args.image.now file c.loop-writer.image c.loop-writer.writer c.loop-writer.cursor inv.merges mid c.next.ensures.stays.same in
-    let all = all_given modelled key_of c.args.table.now c.args.cache.now first c.args.image.now file c.loop-writer.image c.loop-writer.writer c.loop-writer.cursor inv.merges
+    let there = same_file modelled key_of c.args.table.now c.args.cache.now first c.args.image.now file c.loop-writer.image c.loop-writer.writer c.loop-writer.cursor inv.merges.held mid c.next.ensures.stays.same in
+    let all = all_given modelled key_of c.args.table.now c.args.cache.now first c.args.image.now file c.loop-writer.image c.loop-writer.writer c.loop-writer.cursor inv.merges.held
     (λ left honest read is. rw c.in_default.is at (c.in_ok-row.ensures.gives left honest (inv.kept honest read) is)) pages honest read is apart in
     subst (λ (p : Places). IsImageOf key_of (rows_of_table key_of c.args.table.now pages) p new) (sym (c.new-2.ensures ∙ ap (λ n. record { at = n; keys = map (λ key. key.items) c.loop-writer.writer.first_keys.items }) inv.at))
-    (stored c.one_laying.ensures.laid c.changes_win.ensures.order key_of c.args.table.now pages first new (next_of c.args.image.now) c.loop-writer.writer.rows.page.kind (map (λ key. key.items) c.loop-writer.writer.first_keys.items) inv.merges.rows
-    is own all there.kind (c.in_ok-finish.ensures.stand (next_of c.args.image.now) inv.merges.rows there.laying honest) there.keys there.laying.short)
+    (stored c.one_laying.ensures.laid c.changes_win.ensures.order key_of c.args.table.now pages first new (next_of c.args.image.now) c.loop-writer.writer.rows.page.kind (map (λ key. key.items) c.loop-writer.writer.first_keys.items) inv.merges.held.rows
+    is own all there.kind (c.in_ok-finish.ensures.stand (next_of c.args.image.now) inv.merges.held.rows there.laying honest) there.keys there.laying.short)
+
+pub returns-clause-noted : goal.returns-clause-noted
+returns-clause-noted g c pages honest read is apart =
+    let inv = c.loop-writer.invariant in
+    let key_of = g.K.RowKeys.key_of c.args.keys.now in
+    let first = (g.D.Disk.life c.args.disk.now).seen in
+    let file = (g.D.Disk.life c.loop-writer.disk).seen in
+    inv.merges.same
+    ∙ all_given g.D.Disk.is_modelled key_of c.args.table.now c.args.cache.now first c.args.image.now file c.loop-writer.image c.loop-writer.writer c.loop-writer.cursor inv.merges.held
+    (λ left honest read is. rw c.in_default.is at (c.in_ok-row.ensures.gives left honest (inv.kept honest read) is)) pages honest read is apart
 
 pub returns-in_err-row-clause-damaged : goal.returns-in_err-row-clause-damaged
 returns-in_err-row-clause-damaged g c pages honest read is apart =
@@ -169,6 +183,6 @@ returns-in_err-add-clause-damaged g c pages honest read is apart =
     let file = (g.D.Disk.life c.loop-writer.disk).seen in
     handed_on _ _ c.in_err-add.field-0.0 c.add.result c.from_residual-in_err-add.result (search rules) (search rules)
     (λ long short. long
-    (short_row g.D.Disk.is_modelled key_of c.args.table.now c.args.cache.now first c.args.image.now file c.loop-writer.image c.loop-writer.writer c.loop-writer.cursor inv.merges
+    (short_row g.D.Disk.is_modelled key_of c.args.table.now c.args.cache.now first c.args.image.now file c.loop-writer.image c.loop-writer.writer c.loop-writer.cursor inv.merges.held
     c.deref.result.now c.in-Some.row.items c.next.new.self c.deref.ensures.value (λ left honest read is. rw c.in-Some.is at (c.in_ok-row.ensures.gives left honest (inv.kept honest read) is)) pages honest read is apart short))
     c.add.ensures.damaged

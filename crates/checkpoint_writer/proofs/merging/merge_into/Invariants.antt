@@ -4,7 +4,7 @@ use Rattle.row_pages.specs.Keeping.{AreRead}
 use Rattle.half_store.specs.Writing.{next_of}
 use Rattle.table_map.specs.Cursor.{weight}
 use Rattle.checkpoint_writer.specs.Adding.{AddsPages}
-use Rattle.checkpoint_writer.proofs.MergedRows.{Merges}
+use Rattle.checkpoint_writer.proofs.MergedRows.{MergesNoted}
 use Rattle.checkpoint_writer.proofs.merging.merge_into.Given as goal
 
 abbrev pub invariant-loop-writer : goal.invariant-loop-writer
@@ -15,7 +15,7 @@ invariant-loop-writer g l = record {
   end : l.cursor.base.at + 8192 * l.cursor.base.pages ≡ l.fn.table.places.at + 8192 * length l.fn.table.places.keys;
   forward : l.fn.table.places.at ≤ l.cursor.base.at;
   at : l.at ≡ next_of l.fn.image;
-  merges : Merges g.D.Disk.is_modelled (g.K.RowKeys.key_of l.keys) l.fn.table l.fn.cache (g.D.Disk.life l.fn.disk).seen l.fn.image (g.D.Disk.life l.disk).seen l.image l.writer l.cursor;
+  merges : MergesNoted g.D.Disk.is_modelled (g.K.RowKeys.key_of l.keys) l.fn.table l.fn.cache (g.D.Disk.life l.fn.disk).seen l.fn.image (g.D.Disk.life l.disk).seen l.image l.writer l.cursor l.noted.listed;
 }
 
 abbrev pub decreases-loop-writer : goal.decreases-loop-writer

@@ -17,4 +17,6 @@ returns c =
     let own-4 = c.in_ok-arg-4.ensures.globals ∙ neither _ _ own-3 c.user_file_option.ensures.own in
     let is-5 = c.in_ok-arg-5.ensures.shape c.option.ensures.own ∙ ap₂ with_rule is-4 c.option.ensures.rule in
     let own-5 = c.in_ok-arg-5.ensures.globals ∙ neither _ _ own-4 c.option.ensures.own in
-    IfOk-weaker c.arg-6.result _ _ (λ r added. (added.shape c.option-2.ensures.own ∙ ap₂ with_rule is-5 c.option-2.ensures.rule, λ old new adds. adds.shape (added.globals ∙ neither _ _ own-5 c.option-2.ensures.own))) c.arg-6.ensures
+    let is-6 = c.in_ok-arg-6.ensures.shape c.option-2.ensures.own ∙ ap₂ with_rule is-5 c.option-2.ensures.rule in
+    let own-6 = c.in_ok-arg-6.ensures.globals ∙ neither _ _ own-5 c.option-2.ensures.own in
+    IfOk-weaker c.arg-7.result _ _ (λ r added. (added.shape c.flag.ensures.own ∙ ap₂ with_rule is-6 c.flag.ensures.rule, λ old new adds. adds.shape (added.globals ∙ neither _ _ own-6 c.flag.ensures.own))) c.arg-7.ensures

@@ -7,6 +7,6 @@ use Rattle.command_line.proofs.words.serve_in.Goals as goal
 pub returns : goal.returns
 returns c =
     let found = found_of c.args.given.now in
-    let options : c.options_by.result ≡ options_by (first_of (codes "count") (rows_of found)) (first_of (codes "idle") (rows_of found)) =
-    c.options_by.ensures ∙ ap₂ options_by (c.get_str-5.ensures ∙ first_value-rows found (codes "count")) (c.get_str-6.ensures ∙ first_value-rows found (codes "idle")) in
+    let options : c.options_by.result ≡ options_by (first_of (codes "count") (rows_of found)) (first_of (codes "idle") (rows_of found)) (first_of (codes "log") (rows_of found)) =
+    c.options_by.ensures ∙ ap₂ (λ f x. f x) (ap₂ options_by (c.get_str-5.ensures ∙ first_value-rows found (codes "count")) (c.get_str-6.ensures ∙ first_value-rows found (codes "idle"))) (c.get_str-7.ensures ∙ first_value-rows found (codes "log")) in
     c.serve_by.ensures ∙ ap₂ (λ f x. f x) (ap₂ (λ f x. f x) (ap₂ (λ f x. f x) (ap₂ serve_by (c.get_str.ensures ∙ first_value-rows found (codes "path")) (c.get_str-2.ensures ∙ first_value-rows found (codes "port"))) (c.get_str-3.ensures ∙ first_value-rows found (codes "user"))) (c.get_str-4.ensures ∙ first_value-rows found (codes "user-file"))) options

@@ -3,7 +3,7 @@ use Rattle.std.specs.Prelude.{IsTrue}
 use Rattle.drda_disk.specs.Disk.{Stays}
 use Rattle.row_pages.specs.Keeping.{AreRead}
 use Rattle.table_map.specs.Keyed.{copied}
-use Rattle.store_check.proofs.Judged.{AreJudged}
+use Rattle.store_check.proofs.Judged.{AreNoted}
 use Rattle.store_check.proofs.table.check_table.Given as goal
 
 abbrev pub invariant-loop-page : goal.invariant-loop-page
@@ -12,6 +12,6 @@ invariant-loop-page g l = record {
   faults : (g.D.Disk.life l.disk).faults ≡ (g.D.Disk.life l.fn.disk).faults;
   kept : IsTrue g.D.Disk.is_modelled → AreRead l.fn.cache (g.D.Disk.life l.fn.disk).seen → AreRead l.cache (g.D.Disk.life l.disk).seen;
   many : length l.first_keys.items ≡ l.page;
-  judged : IsTrue g.D.Disk.is_modelled → AreRead l.fn.cache (g.D.Disk.life l.fn.disk).seen
-      → AreJudged l.schema (g.K.RowKeys.key_of l.keys) (g.D.Disk.life l.fn.disk).seen l.at l.page (map (λ k. k.items) l.first_keys.items) (copied l.last);
+  noted : IsTrue g.D.Disk.is_modelled → AreRead l.fn.cache (g.D.Disk.life l.fn.disk).seen
+      → AreNoted l.schema (g.K.RowKeys.key_of l.keys) (g.D.Disk.life l.fn.disk).seen l.at l.page (map (λ k. k.items) l.first_keys.items) (copied l.last) l.rows.listed;
 }

@@ -1,9 +1,10 @@
-use Rattle.std.proofs.Common.{◌≡◌, ℕ, List, [], ◌++◌, length, take, drop, ap, refl, subst, ◌∙◌, arith}
-use Rattle.std.specs.Io.KnownBytes.{Appends, Consumes}
+use Rattle.std.proofs.Common.{◌≡◌, ℕ, List, [], ◌++◌, length, take, drop, Option, ap, refl, subst, ◌∙◌, arith}
+use Rattle.std.specs.Io.KnownBytes.{Consumes}
 use Rattle.session_commands.specs.Settings.{Settings}
 use Rattle.hearing.specs.Attended.{attended_by}
-use Rattle.hearing.specs.Pieces.{HearsAll, HearsLast, HearsPart}
-use Rattle.stream_service.proofs.Streams.{answers_but_short, breaks_off, closes, ends, goes_on, in_part, none_done, read_fault, starts}
+use Rattle.stream_service.specs.Serving.{AnswersPiece}
+use Rattle.stream_service.specs.declared.serving.Served.{Served}
+use Rattle.stream_service.proofs.Streams.{ends, ends_in, goes_on, none_done, read_fault, starts}
 use Rattle.hearing.proofs.Written.{take_front}
 use Rattle.stream_service.proofs.serving.converse.Goals as goal
 
@@ -15,6 +16,7 @@ pub talking-init : goal.talking-init
 talking-init g c =
     record {
       room = c.in-Ok.ensures;
+      empty = c.new-replies.ensures.items;
       settled = c.requires;
       settings = refl;
       so_far = starts g.A.Ask.asks c.args.front.now c.args.asker.now (g.R.Read.remaining c.args.reader.now) (g.W.Write.contents c.args.writer.now) c.requires;
@@ -36,8 +38,8 @@ returns-in-Err g c =
     read_fault g.A.Ask.asks c.args.front.now.settings (attended_by c.args.front.now c.args.asker.now) (attended_by c.talking.front c.talking.asker)
     (g.R.Read.remaining c.args.reader.now) (g.R.Read.remaining c.talking.reader) (g.W.Write.contents c.args.writer.now) (g.W.Write.contents c.talking.writer) c.talking.invariant.so_far
 
-pub returns-in_default-write_whole : goal.returns-in_default-write_whole
-returns-in_default-write_whole g c =
+pub returns-in-Some : goal.returns-in-Some
+returns-in-Some g c =
     let buffer = c.read.new.buf in
     let behind = drop (length c.read.new.buf) c.talking.buffer.items in
     let lent : length c.deref_mut.result.now ≡ 65536 = ap length c.deref_mut.ensures.value ∙ c.talking.invariant.room in
@@ -50,89 +52,21 @@ returns-in_default-write_whole g c =
     let settings = c.args.front.now.settings in
     let first = attended_by c.args.front.now c.args.asker.now in
     let mid = attended_by c.talking.front c.talking.asker in
-    let last = attended_by c.feed_all-heard.new.front c.feed_all-heard.new.asker in
-    let out = c.empty.new.replies.items in
-    let out' = c.feed_all-heard.new.out.items in
+    let last = attended_by c.answer_piece-ended.new.front c.answer_piece-ended.new.asker in
+    let ended = c.answer_piece-ended.result in
     let r0 = g.R.Read.remaining c.args.reader.now in
     let r = g.R.Read.remaining c.talking.reader in
     let r' = g.R.Read.remaining c.read.new.self in
     let w0 = g.W.Write.contents c.args.writer.now in
     let w = g.W.Write.contents c.talking.writer in
-    let w' = g.W.Write.contents c.write_whole.new.writer in
+    let w' = g.W.Write.contents c.answer_piece-ended.new.writer in
     let more_fault = c.stays_read.ensures.fault in
     let took : Consumes r r' (take n buffer) = c.in-Ok-read.ensures.bytes.0 in
-    let heard = in_part asks c.feed_all-heard.result c.talking.front.settings mid last (take n c.deref.result.now) out out' c.feed_all-heard.ensures.hears in
-    let here : HearsPart asks settings mid (take n buffer) [] last out' =
-    subst (λ (v : Settings). HearsPart asks v mid (take n buffer) [] last out') c.talking.invariant.settings
-    (subst (λ (z : List ℕ). HearsPart asks c.talking.front.settings mid (take n buffer) z last out') c.empty.ensures
-    (subst (λ (z : List ℕ). HearsPart asks c.talking.front.settings mid (take n z) out last out') same heard)) in
-    let wrote = subst (λ (z : List ℕ). (count : ℕ) × Appends w w' (take count z)) c.deref-in-talking.ensures.value c.in_default-write_whole.ensures.err in
-    breaks_off asks settings more_fault first mid last (take n buffer) out' r0 r r' w0 w w' c.talking.invariant.so_far took here wrote
-
-pub returns-in-Closed : goal.returns-in-Closed
-returns-in-Closed g c =
-    let buffer = c.read.new.buf in
-    let behind = drop (length c.read.new.buf) c.talking.buffer.items in
-    let lent : length c.deref_mut.result.now ≡ 65536 = ap length c.deref_mut.ensures.value ∙ c.talking.invariant.room in
-    let full : length c.read.new.buf ≡ 65536 = omega (arith, lent) in
-    let size : length c.read.new.buf ≡ c.talking.buffer.len = omega (arith, lent, full) in
-    let back = take_front c.talking.buffer.len buffer behind size in
-    let same : c.deref.result.now ≡ buffer = c.deref.ensures.value ∙ back in
-    let n = c.in-Ok-read.count in
-    let asks = g.A.Ask.asks in
-    let settings = c.args.front.now.settings in
-    let first = attended_by c.args.front.now c.args.asker.now in
-    let mid = attended_by c.talking.front c.talking.asker in
-    let last = attended_by c.feed_all-heard.new.front c.feed_all-heard.new.asker in
-    let out = c.empty.new.replies.items in
-    let out' = c.feed_all-heard.new.out.items in
-    let r0 = g.R.Read.remaining c.args.reader.now in
-    let r = g.R.Read.remaining c.talking.reader in
-    let r' = g.R.Read.remaining c.read.new.self in
-    let w0 = g.W.Write.contents c.args.writer.now in
-    let w = g.W.Write.contents c.talking.writer in
-    let w' = g.W.Write.contents c.write_whole.new.writer in
-    let more_fault = c.stays_read.ensures.fault in
-    let took : Consumes r r' (take n buffer) = c.in-Ok-read.ensures.bytes.0 in
-    let here : HearsLast asks settings mid (take n buffer) [] last out' =
-    subst (λ (v : Settings). HearsLast asks v mid (take n buffer) [] last out') c.talking.invariant.settings
-    (subst (λ (z : List ℕ). HearsLast asks c.talking.front.settings mid (take n buffer) z last out') c.empty.ensures
-    (subst (λ (z : List ℕ). HearsLast asks c.talking.front.settings mid (take n z) out last out') same c.in-Closed.ensures.hears)) in
-    let wrote : Appends w w' out' = subst (λ (z : List ℕ). Appends w w' z) c.deref-in-talking.ensures.value c.in-Ok-write_whole.ensures.ok in
-    closes asks settings more_fault first mid last (take n buffer) out' r0 r r' w0 w w' c.talking.invariant.so_far took here wrote
-
-pub returns-in-NoMemory : goal.returns-in-NoMemory
-returns-in-NoMemory g c =
-    let buffer = c.read.new.buf in
-    let behind = drop (length c.read.new.buf) c.talking.buffer.items in
-    let lent : length c.deref_mut.result.now ≡ 65536 = ap length c.deref_mut.ensures.value ∙ c.talking.invariant.room in
-    let full : length c.read.new.buf ≡ 65536 = omega (arith, lent) in
-    let size : length c.read.new.buf ≡ c.talking.buffer.len = omega (arith, lent, full) in
-    let back = take_front c.talking.buffer.len buffer behind size in
-    let same : c.deref.result.now ≡ buffer = c.deref.ensures.value ∙ back in
-    let n = c.in-Ok-read.count in
-    let asks = g.A.Ask.asks in
-    let settings = c.args.front.now.settings in
-    let first = attended_by c.args.front.now c.args.asker.now in
-    let mid = attended_by c.talking.front c.talking.asker in
-    let last = attended_by c.feed_all-heard.new.front c.feed_all-heard.new.asker in
-    let out = c.empty.new.replies.items in
-    let out' = c.feed_all-heard.new.out.items in
-    let r0 = g.R.Read.remaining c.args.reader.now in
-    let r = g.R.Read.remaining c.talking.reader in
-    let r' = g.R.Read.remaining c.read.new.self in
-    let w0 = g.W.Write.contents c.args.writer.now in
-    let w = g.W.Write.contents c.talking.writer in
-    let w' = g.W.Write.contents c.write_whole.new.writer in
-    let more_fault = c.stays_read.ensures.fault in
-    let took : Consumes r r' (take n buffer) = c.in-Ok-read.ensures.bytes.0 in
-    let heard = in_part asks c.feed_all-heard.result c.talking.front.settings mid last (take n c.deref.result.now) out out' c.feed_all-heard.ensures.hears in
-    let here : HearsPart asks settings mid (take n buffer) [] last out' =
-    subst (λ (v : Settings). HearsPart asks v mid (take n buffer) [] last out') c.talking.invariant.settings
-    (subst (λ (z : List ℕ). HearsPart asks c.talking.front.settings mid (take n buffer) z last out') c.empty.ensures
-    (subst (λ (z : List ℕ). HearsPart asks c.talking.front.settings mid (take n z) out last out') same heard)) in
-    let wrote : Appends w w' out' = subst (λ (z : List ℕ). Appends w w' z) c.deref-in-talking.ensures.value c.in-Ok-write_whole.ensures.ok in
-    answers_but_short asks settings more_fault first mid last (take n buffer) out' r0 r r' w0 w w' c.talking.invariant.so_far took here wrote
+    let here : AnswersPiece asks settings mid (take n buffer) w ended w' last =
+    subst (λ (v : Settings). AnswersPiece asks v mid (take n buffer) w ended w' last) c.talking.invariant.settings
+    (subst (λ (z : List ℕ). AnswersPiece asks c.talking.front.settings mid (take n z) w ended w' last) same c.answer_piece-ended.ensures.answers) in
+    let at_end = subst (λ (s : Option Served). AnswersPiece asks settings mid (take n buffer) w s w' last) c.in-Some.is here in
+    ends_in asks settings more_fault c.in-Some.served first mid last (take n buffer) r0 r r' w0 w w' c.talking.invariant.so_far took at_end
 
 pub talking-preserved : goal.talking-preserved
 talking-preserved g c =
@@ -148,29 +82,28 @@ talking-preserved g c =
     let settings = c.args.front.now.settings in
     let first = attended_by c.args.front.now c.args.asker.now in
     let mid = attended_by c.talking.front c.talking.asker in
-    let last = attended_by c.feed_all-heard.new.front c.feed_all-heard.new.asker in
-    let out = c.empty.new.replies.items in
-    let out' = c.feed_all-heard.new.out.items in
+    let last = attended_by c.answer_piece-ended.new.front c.answer_piece-ended.new.asker in
+    let ended = c.answer_piece-ended.result in
     let r0 = g.R.Read.remaining c.args.reader.now in
     let r = g.R.Read.remaining c.talking.reader in
     let r' = g.R.Read.remaining c.read.new.self in
     let w0 = g.W.Write.contents c.args.writer.now in
     let w = g.W.Write.contents c.talking.writer in
-    let w' = g.W.Write.contents c.write_whole.new.writer in
+    let w' = g.W.Write.contents c.answer_piece-ended.new.writer in
     let more_fault = c.stays_read.ensures.fault in
     let took : Consumes r r' (take n buffer) = c.in-Ok-read.ensures.bytes.0 in
-    let here : HearsAll asks settings mid (take n buffer) [] last out' =
-    subst (λ (v : Settings). HearsAll asks v mid (take n buffer) [] last out') c.talking.invariant.settings
-    (subst (λ (z : List ℕ). HearsAll asks c.talking.front.settings mid (take n buffer) z last out') c.empty.ensures
-    (subst (λ (z : List ℕ). HearsAll asks c.talking.front.settings mid (take n z) out last out') same c.in-Open.ensures.hears)) in
-    let wrote : Appends w w' out' = subst (λ (z : List ℕ). Appends w w' z) c.deref-in-talking.ensures.value c.in-Ok-write_whole.ensures.ok in
+    let here : AnswersPiece asks settings mid (take n buffer) w ended w' last =
+    subst (λ (v : Settings). AnswersPiece asks v mid (take n buffer) w ended w' last) c.talking.invariant.settings
+    (subst (λ (z : List ℕ). AnswersPiece asks c.talking.front.settings mid (take n z) w ended w' last) same c.answer_piece-ended.ensures.answers) in
+    let still_on = subst (λ (s : Option Served). AnswersPiece asks settings mid (take n buffer) w s w' last) c.in-None.is here in
     let kept : length c.overwrite.new.bytes ≡ 65536 = omega (arith, lent, full, size) in
     let still = take_front c.talking.buffer.len c.overwrite.new.bytes (drop (length c.overwrite.new.bytes) (take c.talking.buffer.len (buffer ++ behind))) (omega (arith, kept, full, size)) in
     record {
       room = ap length still ∙ kept;
-      settled = c.feed_all-heard.ensures.settled;
-      settings = c.feed_all-heard.ensures.settings ∙ c.talking.invariant.settings;
-      so_far = goes_on asks settings more_fault first mid last (take n buffer) out' r0 r r' w0 w w' c.talking.invariant.so_far took here wrote;
+      empty = c.answer_piece-ended.ensures.empty c.in-None.is;
+      settled = c.answer_piece-ended.ensures.settled;
+      settings = c.answer_piece-ended.ensures.settings ∙ c.talking.invariant.settings;
+      so_far = goes_on asks settings more_fault first mid last (take n buffer) r0 r r' w0 w w' c.talking.invariant.so_far took still_on;
     }
 
 pub returns : goal.returns

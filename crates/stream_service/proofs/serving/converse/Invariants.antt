@@ -1,4 +1,4 @@
-use Rattle.std.proofs.Common.{◌≡◌, length}
+use Rattle.std.proofs.Common.{◌≡◌, [], length}
 use Rattle.hearing.specs.Attended.{attended_by}
 use Rattle.hearing.specs.Feeding.{IsBetweenCommands}
 use Rattle.stream_service.proofs.Streams.{SoFar}
@@ -7,6 +7,7 @@ use Rattle.stream_service.proofs.serving.converse.Given as goal
 abbrev pub invariant-talking : goal.invariant-talking
 invariant-talking g l = record {
   room : length l.buffer.items ≡ 65536;
+  empty : l.replies.items ≡ [];
   settled : IsBetweenCommands l.front;
   settings : l.front.settings ≡ l.fn.front.settings;
   so_far : SoFar g.A.Ask.asks l.fn.front.settings (attended_by l.fn.front l.fn.asker) (g.R.Read.remaining l.fn.reader) (g.R.Read.remaining l.reader) (g.W.Write.contents l.fn.writer) (g.W.Write.contents l.writer) (attended_by l.front l.asker);

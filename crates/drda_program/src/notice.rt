@@ -1,0 +1,142 @@
+//! What a server tells of its conversations.
+
+use std::fmt;
+use std::net::SocketAddr;
+use stream_service::Served;
+
+/// What a server tells of its conversations, a line each. Times are in microseconds, 0 where the clock can't be read.
+#[derive(Clone, Copy, Debug, PartialEq, Eq)]
+pub enum Notice {
+    /// A conversation begins, of a stream of this peer. Its number is given once.
+    Begins {
+        conversation: u64,
+        peer: Option<SocketAddr>,
+    },
+    /// A stream of this peer is closed at once, since 64 conversations are served.
+    TurnedAway {
+        peer: Option<SocketAddr>,
+    },
+    /// The user or the password of a conversation is refused.
+    Refused {
+        conversation: u64,
+    },
+    /// A conversation of this peer has ended.
+    Ends {
+        conversation: u64,
+        peer: Option<SocketAddr>,
+        ending: Ending,
+    },
+    /// A checkpoint was written, with the lock held for so long; so many bytes are left for records.
+    Checkpoint {
+        micros: u64,
+        room: usize,
+    },
+    /// The device has failed.
+    DeviceFailed,
+    /// A call of a conversation waited for the lock for so long, longer than any that was told before.
+    LongestWait {
+        conversation: u64,
+        micros: u64,
+    },
+    /// A call of a conversation held the lock for so long, longer than any that was told before.
+    LongestHold {
+        conversation: u64,
+        micros: u64,
+    },
+}
+
+/// How a conversation has ended.
+#[derive(Clone, Copy, Debug, PartialEq, Eq)]
+pub struct Ending {
+    /// What ended it.
+    pub served: Served,
+    /// Whether its user and its password were right.
+    pub is_logged_in: bool,
+    /// How many of its calls are listed, its loss among them.
+    pub calls: u64,
+    /// For how many microseconds one of them waited for the lock at most.
+    pub waited: u64,
+    /// For how many microseconds one of them held the lock at most.
+    pub held: u64,
+}
+
+impl fmt::Display for Notice {
+    fn fmt<W: fmt::Write>(&self, f: &mut fmt::Formatter<W>) -> fmt::Result {
+        match *self {
+            Notice::Begins { conversation, peer } => {
+                write!(f, "drdad: conversation {conversation} begins, of ")?;
+                write_peer(f, peer)
+            }
+            Notice::TurnedAway { peer } => {
+                write!(f, "drdad: 64 conversations are served, turned away ")?;
+                write_peer(f, peer)
+            }
+            Notice::Refused { conversation } => write!(
+                f,
+                "drdad: conversation {conversation}: user or password refused"
+            ),
+            Notice::Ends {
+                conversation,
+                peer,
+                ending,
+            } => {
+                write!(f, "drdad: conversation {conversation} ends, of ")?;
+                write_peer(f, peer)?;
+                write_ending(f, ending)
+            }
+            Notice::Checkpoint { micros, room } => write!(
+                f,
+                "drdad: checkpoint: lock held {micros} us, room {room}"
+            ),
+            Notice::DeviceFailed => write!(f, "drdad: the device has failed"),
+            Notice::LongestWait {
+                conversation,
+                micros,
+            } => write!(
+                f,
+                "drdad: conversation {conversation} waited {micros} us for the lock, a new longest"
+            ),
+            Notice::LongestHold {
+                conversation,
+                micros,
+            } => write!(
+                f,
+                "drdad: conversation {conversation} held the lock {micros} us, a new longest"
+            ),
+        }
+    }
+}
+
+fn write_peer<W: fmt::Write>(f: &mut fmt::Formatter<W>, peer: Option<SocketAddr>) -> fmt::Result {
+    match peer {
+        Some(peer) => write!(f, "{peer}"),
+        None => write!(f, "an unknown peer"),
+    }
+}
+
+fn write_ending<W: fmt::Write>(f: &mut fmt::Formatter<W>, ending: Ending) -> fmt::Result {
+    let (cause, login) = (cause_of(ending.served), login_of(ending.is_logged_in));
+    let (calls, waited, held) = (ending.calls, ending.waited, ending.held);
+    write!(
+        f,
+        ": {cause}, {login}, calls {calls}, waited at most {waited} us, lock held at most {held} us"
+    )
+}
+
+// What ended a conversation.
+fn cause_of(served: Served) -> &'static str {
+    match served {
+        Served::Done => "stream ended or closed",
+        Served::ReadFault => "read failed or nothing came",
+        Served::WriteFault => "write failed",
+        Served::NoMemory => "no memory",
+    }
+}
+
+fn login_of(is_logged_in: bool) -> &'static str {
+    if is_logged_in {
+        "logged in"
+    } else {
+        "never logged in"
+    }
+}

@@ -1,0 +1,51 @@
+//! What calls at the lock tell.
+
+use crate::log::Log;
+use crate::longest::Longest;
+use crate::notice::Notice;
+use shared_node::{Gate, Turn};
+
+/// A gate whose turns are told.
+#[derive(Clone, Copy)]
+pub(crate) struct Told<'a, G, L> {
+    pub(crate) gate: &'a G,
+    pub(crate) log: &'a L,
+    pub(crate) waits: &'a Longest,
+    pub(crate) holds: &'a Longest,
+}
+
+impl<G: Gate, L: Log> Gate for Told<'_, G, L> {
+    fn turn(&self, conversation: u64, n: u64) {
+        self.gate.turn(conversation, n);
+    }
+
+    fn after(&self, conversation: u64, turn: &Turn) {
+        self.gate.after(conversation, turn);
+        tell_turn(self.log, turn);
+        if self.waits.rises_to(turn.waited) {
+            self.log.tell(Notice::LongestWait {
+                conversation,
+                micros: turn.waited,
+            });
+        }
+        if self.holds.rises_to(turn.held) {
+            self.log.tell(Notice::LongestHold {
+                conversation,
+                micros: turn.held,
+            });
+        }
+    }
+}
+
+/// Tells of a checkpoint that was written, and of a device that failed.
+pub(crate) fn tell_turn<L: Log>(log: &L, turn: &Turn) {
+    if let Some(room) = turn.checkpointed {
+        log.tell(Notice::Checkpoint {
+            micros: turn.held,
+            room,
+        });
+    }
+    if turn.has_failed {
+        log.tell(Notice::DeviceFailed);
+    }
+}

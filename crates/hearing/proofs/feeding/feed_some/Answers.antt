@@ -1,0 +1,152 @@
+use Rattle.std.proofs.Common.{◌≡◌, ◌+◌, ℕ, List, [], length, take, ap, sym, subst, ◌∙◌, refl, inl, inr, arith, rules}
+use Rattle.std.proofs.lemmas.List.{take_rest}
+use Rattle.hearing.specs.declared.fed.FedState.{FedState}
+use Rattle.hearing.specs.declared.fed.FedState.TheVariants.{Later}
+use Rattle.hearing.specs.declared.fed.Heard.TheVariants as heard_as
+use Rattle.hearing.specs.declared.fed.HeardSome.{HeardSome}
+use Rattle.hearing.specs.Attended.{attended_by}
+use Rattle.hearing.specs.Hearing.{IsShortReply}
+use Rattle.hearing.specs.Feeding.{Told, bytes_behind}
+use Rattle.hearing.specs.Pieces.{HearsPiece}
+use Rattle.hearing.proofs.Stepping.{told_start, within_piece}
+use Rattle.hearing.proofs.Listening.{all, further, last, part, said_behind}
+use Rattle.hearing.proofs.feeding.feed_some.Goals as goal
+
+pub feeding-init : goal.feeding-init
+feeding-init g c = record {
+  within = omega arith;
+  settled = c.requires;
+  settings = refl;
+  heard = told_start g.A.Ask.asks c.args.front.now c.args.asker.now c.args.out.now.items c.requires;
+}
+
+pub returns-in_default-clause-hears : goal.returns-in_default-clause-hears
+returns-in_default-clause-hears g c =
+    let asks = g.A.Ask.asks in
+    let settings = c.args.front.now.settings in
+    let a = attended_by c.args.front.now c.args.asker.now in
+    let b = attended_by c.feeding.front c.feeding.asker in
+    let piece = c.args.piece.now in
+    let out = c.args.out.now.items in
+    let told = subst (λ (z : List ℕ). Told asks settings a (take c.feeding.at piece) out [] b z) (sym c.reserve.ensures.items) c.feeding.invariant.heard in
+    subst (λ (r : HeardSome). HearsPiece asks settings a (take r.taken piece) out r.heard b c.reserve.new.self.items) (sym c.so_far.ensures)
+    (part asks settings a b (take c.feeding.at piece) out c.reserve.new.self.items Later told (inl refl))
+
+pub returns-then-at-piece-clause-hears : goal.returns-then-at-piece-clause-hears
+returns-then-at-piece-clause-hears g c =
+    let asks = g.A.Ask.asks in
+    let settings = c.args.front.now.settings in
+    let a = attended_by c.args.front.now c.args.asker.now in
+    let b = attended_by c.feeding.front c.feeding.asker in
+    let new = attended_by c.hand_on-fed.new.front c.hand_on-fed.new.asker in
+    let piece = c.args.piece.now in
+    let fed = c.hand_on-fed.result in
+    let out = c.args.out.now.items in
+    let out1 = c.reserve.new.self.items in
+    let out2 = c.hand_on-fed.new.out.items in
+    let count = c.feeding.at + fed.taken in
+    let told : Told asks settings a (take count piece) out (bytes_behind fed.state) new out2 =
+    further asks settings c.stays_read.ensures.fault a b new piece out c.feeding.out.items out1 out2 c.feeding.at fed c.feeding.front.settings c.feeding.invariant.settings c.reserve.ensures.items c.feeding.invariant.heard (rw take_rest at c.hand_on-fed.ensures.takes) in
+    subst (λ (r : HeardSome). HearsPiece asks settings a (take r.taken piece) out r.heard new out2) (sym c.so_far-then-at-piece.ensures)
+    (all asks settings a new (take count piece) out out2 fed.taken fed.state told c.hand_on-fed.ensures.takes.state c.in-Open.is)
+
+pub feeding-preserved-in-Open : goal.feeding-preserved-in-Open
+feeding-preserved-in-Open g c =
+    let asks = g.A.Ask.asks in
+    let settings = c.args.front.now.settings in
+    let a = attended_by c.args.front.now c.args.asker.now in
+    let b = attended_by c.feeding.front c.feeding.asker in
+    let new = attended_by c.hand_on-fed.new.front c.hand_on-fed.new.asker in
+    let piece = c.args.piece.now in
+    let fed = c.hand_on-fed.result in
+    let out = c.args.out.now.items in
+    let out1 = c.reserve.new.self.items in
+    let out2 = c.hand_on-fed.new.out.items in
+    let count = c.feeding.at + fed.taken in
+    let told : Told asks settings a (take count piece) out (bytes_behind fed.state) new out2 =
+    further asks settings c.stays_read.ensures.fault a b new piece out c.feeding.out.items out1 out2 c.feeding.at fed c.feeding.front.settings c.feeding.invariant.settings c.reserve.ensures.items c.feeding.invariant.heard (rw take_rest at c.hand_on-fed.ensures.takes) in
+    record {
+      within = within_piece piece c.feeding.at _ fed.taken c.feeding.invariant.within c.hand_on-fed.ensures.within;
+      settled = c.hand_on-fed.ensures.settled;
+      settings = c.hand_on-fed.ensures.settings ∙ c.feeding.invariant.settings;
+      heard = subst (λ (s : FedState). Told asks settings a (take count piece) out (bytes_behind s) new out2) c.in-Open.is told;
+    }
+
+pub returns-in-Closed-clause-hears : goal.returns-in-Closed-clause-hears
+returns-in-Closed-clause-hears g c =
+    let asks = g.A.Ask.asks in
+    let settings = c.args.front.now.settings in
+    let a = attended_by c.args.front.now c.args.asker.now in
+    let b = attended_by c.feeding.front c.feeding.asker in
+    let new = attended_by c.hand_on-fed.new.front c.hand_on-fed.new.asker in
+    let piece = c.args.piece.now in
+    let fed = c.hand_on-fed.result in
+    let out = c.args.out.now.items in
+    let out1 = c.reserve.new.self.items in
+    let out2 = c.hand_on-fed.new.out.items in
+    let count = c.feeding.at + fed.taken in
+    let told : Told asks settings a (take count piece) out (bytes_behind fed.state) new out2 =
+    further asks settings c.stays_read.ensures.fault a b new piece out c.feeding.out.items out1 out2 c.feeding.at fed c.feeding.front.settings c.feeding.invariant.settings c.reserve.ensures.items c.feeding.invariant.heard (rw take_rest at c.hand_on-fed.ensures.takes) in
+    subst (λ (r : HeardSome). HearsPiece asks settings a (take r.taken piece) out r.heard new out2) (sym c.so_far-in-Closed.ensures)
+    (last asks settings c.stays_read.ensures.fault a new (take count piece) out out2 fed.taken fed.state told c.hand_on-fed.ensures.takes.state c.in-Closed.is)
+
+pub returns-in-Later-clause-hears : goal.returns-in-Later-clause-hears
+returns-in-Later-clause-hears g c =
+    let asks = g.A.Ask.asks in
+    let settings = c.args.front.now.settings in
+    let a = attended_by c.args.front.now c.args.asker.now in
+    let b = attended_by c.feeding.front c.feeding.asker in
+    let new = attended_by c.hand_on-fed.new.front c.hand_on-fed.new.asker in
+    let piece = c.args.piece.now in
+    let fed = c.hand_on-fed.result in
+    let out = c.args.out.now.items in
+    let out1 = c.reserve.new.self.items in
+    let out2 = c.hand_on-fed.new.out.items in
+    let count = c.feeding.at + fed.taken in
+    let told : Told asks settings a (take count piece) out (bytes_behind fed.state) new out2 =
+    further asks settings c.stays_read.ensures.fault a b new piece out c.feeding.out.items out1 out2 c.feeding.at fed c.feeding.front.settings c.feeding.invariant.settings c.reserve.ensures.items c.feeding.invariant.heard (rw take_rest at c.hand_on-fed.ensures.takes) in
+    subst (λ (r : HeardSome). HearsPiece asks settings a (take r.taken piece) out r.heard new out2) (sym c.so_far-in-Later.ensures)
+    (part asks settings a new (take count piece) out out2 fed.state told (inl (ap bytes_behind c.in-Later.is)))
+
+pub feeding-preserved : goal.feeding-preserved
+feeding-preserved g c =
+    let asks = g.A.Ask.asks in
+    let settings = c.args.front.now.settings in
+    let a = attended_by c.args.front.now c.args.asker.now in
+    let b = attended_by c.feeding.front c.feeding.asker in
+    let new = attended_by c.hand_on-fed.new.front c.hand_on-fed.new.asker in
+    let piece = c.args.piece.now in
+    let fed = c.hand_on-fed.result in
+    let out = c.args.out.now.items in
+    let out1 = c.reserve.new.self.items in
+    let out2 = c.hand_on-fed.new.out.items in
+    let count = c.feeding.at + fed.taken in
+    let told : Told asks settings a (take count piece) out (bytes_behind fed.state) new out2 =
+    further asks settings c.stays_read.ensures.fault a b new piece out c.feeding.out.items out1 out2 c.feeding.at fed c.feeding.front.settings c.feeding.invariant.settings c.reserve.ensures.items c.feeding.invariant.heard (rw take_rest at c.hand_on-fed.ensures.takes) in
+    record {
+      within = within_piece piece c.feeding.at _ fed.taken c.feeding.invariant.within c.hand_on-fed.ensures.within;
+      settled = c.hand_on-fed.ensures.settled;
+      settings = c.hand_on-fed.ensures.settings ∙ c.feeding.invariant.settings;
+      heard = said_behind asks settings a new (take count piece) out out2 _ _ fed.state told (ap bytes_behind c.in-Short.is) c.in-Ok-extend_from_slice.ensures.items;
+    }
+
+pub returns-in-Err-clause-hears : goal.returns-in-Err-clause-hears
+returns-in-Err-clause-hears g c =
+    let asks = g.A.Ask.asks in
+    let settings = c.args.front.now.settings in
+    let a = attended_by c.args.front.now c.args.asker.now in
+    let b = attended_by c.feeding.front c.feeding.asker in
+    let new = attended_by c.hand_on-fed.new.front c.hand_on-fed.new.asker in
+    let piece = c.args.piece.now in
+    let fed = c.hand_on-fed.result in
+    let out = c.args.out.now.items in
+    let out1 = c.reserve.new.self.items in
+    let out2 = c.hand_on-fed.new.out.items in
+    let count = c.feeding.at + fed.taken in
+    let told : Told asks settings a (take count piece) out (bytes_behind fed.state) new out2 =
+    further asks settings c.stays_read.ensures.fault a b new piece out c.feeding.out.items out1 out2 c.feeding.at fed c.feeding.front.settings c.feeding.invariant.settings c.reserve.ensures.items c.feeding.invariant.heard (rw take_rest at c.hand_on-fed.ensures.takes) in
+    let behind : bytes_behind fed.state ≡ c.in-Short.reply = ap bytes_behind c.in-Short.is in
+    let short : length c.in-Short.reply ≡ 16 = search rules in
+    subst (λ (r : HeardSome). HearsPiece asks settings a (take r.taken piece) out r.heard new c.extend_from_slice.new.self.items) (sym c.so_far-in-Err.ensures)
+    (subst (λ (z : List ℕ). HearsPiece asks settings a (take count piece) out heard_as.NoMemory new z) (sym c.in-Err.ensures.items)
+    (part asks settings a new (take count piece) out out2 fed.state told (inr (subst (λ (z : List ℕ). IsShortReply z) (sym behind) short))))

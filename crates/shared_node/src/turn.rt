@@ -1,0 +1,85 @@
+//! What a turn at the lock was like, for people.
+
+ghost use Rattle.std.specs.Prelude.{◌≡◌, IfSome};
+
+use crate::book::Book;
+use drda_disk::Disk;
+use std::time::{Clock, Instant};
+
+/// What a turn at the lock was like. Of its times no contract says anything.
+#[derive(Clone, Copy, Debug, PartialEq, Eq)]
+pub struct Turn {
+    /// For how many microseconds the lock was waited for; 0 where the clock can't be read.
+    pub waited: u64,
+    /// For how many microseconds it was held; 0 where the clock can't be read.
+    pub held: u64,
+    /// The bytes that are left for records, where a checkpoint was written in this turn.
+    pub checkpointed: Option<usize>,
+    /// Whether the device failed in this turn.
+    pub has_failed: bool,
+}
+
+/// A turn that has begun, with what the book was like then.
+#[derive(Clone, Copy)]
+pub(crate) struct Begun {
+    waited: u64,
+    at: Option<Instant>,
+    written: u64,
+    is_failed: bool,
+}
+
+impl Begun {
+    ghost use Rattle.std.specs.Prelude.{◌≡◌, IfSome, false, true};
+
+    /// The lock was waited for since this time, and is held now.
+    pub(crate) fn new<D: Disk, R: Clock>(rt: &R, since: Option<Instant>, book: &Book<D>) -> Begun
+        ensures { result.is_failed ≡ book.now.core.is_failed }
+    {
+        let at = time(rt);
+        Begun {
+            waited: micros_between(since, at),
+            at,
+            written: book.renewals.written,
+            is_failed: book.core.is_failed(),
+        }
+    }
+
+    /// The turn, which ends now.
+    pub(crate) fn end<D: Disk, R: Clock>(self, rt: &R, book: &Book<D>) -> Turn
+        ensures room { IfSome result.checkpointed (λ room. room ≡ book.now.core.room) }
+        ensures failed { result.has_failed ≡ true → (self.is_failed ≡ false) × (book.now.core.is_failed ≡ true) }
+        ensures unfailed { self.is_failed ≡ false → book.now.core.is_failed ≡ true → result.has_failed ≡ true }
+    {
+        Turn {
+            waited: self.waited,
+            held: micros_between(self.at, time(rt)),
+            checkpointed: room_where(book, book.renewals.written != self.written),
+            has_failed: book.core.is_failed() && !self.is_failed,
+        }
+    }
+}
+
+// The bytes that are left for records, where they are asked for.
+fn room_where<D: Disk>(book: &Book<D>, is_asked: bool) -> Option<usize>
+    ensures { IfSome result (λ room. room ≡ book.now.core.room) }
+{
+    if is_asked {
+        return Some(book.core.room());
+    }
+    None
+}
+
+/// The time, where the clock can be read.
+pub(crate) fn time<R: Clock>(rt: &R) -> Option<Instant> {
+    Instant::now(rt).ok()
+}
+
+// The microseconds from one time to another, 0 where one of them is not known.
+fn micros_between(from: Option<Instant>, to: Option<Instant>) -> u64 {
+    match (from, to) {
+        (Some(from), Some(to)) => {
+            u64::try_from(to.duration_since(from).as_micros()).unwrap_or(u64::MAX)
+        }
+        _ => 0,
+    }
+}

@@ -1,0 +1,17 @@
+use Rattle.std.proofs.Common.{◌≡◌, ◌≤◌, ◌-◌, [], length, drop}
+use Rattle.hearing.specs.Attended.{attended_by}
+use Rattle.hearing.specs.Feeding.{IsBetweenCommands}
+use Rattle.stream_service.proofs.Streams.{Talked}
+use Rattle.stream_service.proofs.serving.answer_piece.Given as goal
+
+abbrev pub invariant-hearing : goal.invariant-hearing
+invariant-hearing g l = record {
+  within : l.taken ≤ length l.piece;
+  empty : l.replies.items ≡ [];
+  settled : IsBetweenCommands l.front;
+  settings : l.front.settings ≡ l.fn.front.settings;
+  talked : Talked g.A.Ask.asks l.fn.front.settings (attended_by l.fn.front l.fn.asker) l.piece (g.W.Write.contents l.fn.writer) (drop l.taken l.piece) (g.W.Write.contents l.writer) (attended_by l.front l.asker);
+}
+
+abbrev pub decreases-hearing : goal.decreases-hearing
+decreases-hearing g l = length l.piece - l.taken
