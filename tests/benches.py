@@ -1,0 +1,11 @@
+"""The programs of bench/."""
+import os, pathlib, subprocess
+
+TOP = pathlib.Path(__file__).resolve().parent.parent
+
+
+def built(name):
+    """Proves and builds a program of bench/ (bench/run), and gives its path."""
+    subprocess.run([TOP / "bench" / "run", name], stdin=subprocess.DEVNULL, stdout=subprocess.DEVNULL, check=True)
+    scratch = f"{os.environ.get('TMPDIR', '/tmp')}/drdad-bench.{os.getuid()}{TOP}"
+    return f"{scratch}/crates/{name}/out/{name}"
