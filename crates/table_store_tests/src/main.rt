@@ -1,0 +1,29 @@
+//! Tests of table_store: changes of its tables and of plain ones, and what both show. What each line of standard input comes to goes to
+//! standard output, which is compared.
+#![tactic(auto)]
+
+mod asked;
+mod changes;
+mod stores;
+
+use crate::asked::Asked;
+use std::io::{self, Write};
+use std::process::ExitCode;
+
+fn main(rt: HostRuntime) -> ExitCode {
+    match answer_all(&rt) {
+        Ok(true) => ExitCode::from(0),
+        _ => ExitCode::from(1),
+    }
+}
+
+// Whether each line was answered.
+fn answer_all(rt: &HostRuntime) -> io::Result<bool> {
+    let text = io::read_to_string(rt.alloc(), rt.stdin())?;
+    let mut asked = Asked::new(rt.alloc());
+    let is_done = asked.follow(&text).is_some();
+    let mut out = rt.stdout();
+    out.write_all(asked.written())?;
+    out.flush()?;
+    Ok(is_done)
+}
