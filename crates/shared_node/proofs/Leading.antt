@@ -1,9 +1,9 @@
 -- A call that is listed leads from the core before it to the core behind it.
-use Rattle.std.proofs.Common.{◌≡◌, ◌⊎◌, ◌≢◌, ℕ, Bool, true, false, ◌∷◌, [], ◌++◌, List, if◌then◌else◌, refl, sym, ap, subst, ◌∙◌, inl, inr}
+use Rattle.std.proofs.Common.{◌≡◌, ℕ, Bool, true, false, ◌∷◌, [], ◌++◌, List, if◌then◌else◌, refl, sym, ap, subst, ◌∙◌, inl, inr}
 use Rattle.drda_disk.specs.Disk.{Life}
 use Rattle.core_calls.specs.Call.{Call, lost}
 use Rattle.core_calls.specs.Answer.{Answer, closed, device_failed, full, no_memory}
-use Rattle.core_model.specs.Step.{CoreState, Kept, Mark, Taken, step_by}
+use Rattle.core_model.specs.Step.{CoreState, Kept, Taken, step_by}
 use Rattle.serializability.specs.Answered.{AnsweredCall, CallsLead, CallsLeadOn, IsAnswer}
 use Rattle.serializability.specs.Belonging.{AnswersBelong, Belongs, ExcusesBelongToNone, is_excuse}
 use Rattle.recovery_laws.specs.Journaled.{IsUnchanged, OnDisk, shown_on}

@@ -9,7 +9,6 @@ use Rattle.durable_core.proofs.durable.DurableCore.TheSendSync as core_sends
 use Rattle.shared_node.specs.contracts.book.Book as book
 use Rattle.shared_node.specs.contracts.book.Book.TheInside as inside
 use Rattle.shared_node.specs.contracts.shared.Shared as shared
-use Rattle.shared_node.specs.contracts.calls.CallList as calls
 use Rattle.shared_node.proofs.calls.CallList.TheSendSync as calls_sends
 use Rattle.std.specs.contracts.option.Option as option
 use Rattle.std.proofs.option.Option.TheSendSync as option_sends

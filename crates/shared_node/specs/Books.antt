@@ -1,7 +1,6 @@
 -- A book: a core, and what was asked of it since the book was opened.
-use Rattle.std.specs.Prelude.{◌≡◌, ◌≤◌, ◌<◌, ℕ, ◌+◌, Bool, true, List, [], ◌∷◌, ◌++◌, Option, Some, None, ◌==◌, if◌then◌else◌, length, replicate, slice_get, slice_set}
+use Rattle.std.specs.Prelude.{◌≡◌, ◌≤◌, ◌<◌, ℕ, ◌+◌, Bool, List, [], ◌∷◌, Option, Some, None, ◌==◌, if◌then◌else◌, length, replicate, slice_get}
 use Rattle.drda_disk.specs.Disk.{Life}
-use Rattle.core_model.specs.Step.{CoreState}
 use Rattle.serializability.specs.Answered.{AnsweredCall, CallsLead}
 use Rattle.recovery_laws.specs.Journaled.{Journaled, OnDisk, shown_on}
 use Rattle.shared_node.specs.declared.count.Count.{Count}

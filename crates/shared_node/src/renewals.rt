@@ -14,7 +14,7 @@ pub struct Renewals {
 }
 
 impl Renewals {
-    ghost use Rattle.std.specs.Prelude.{◌≡◌, None, Some};
+    ghost use Rattle.std.specs.Prelude.{◌≡◌, ◌↔◌, IsTrue, None, Some};
     ghost use Rattle.recovery_laws.specs.Journaled.{Journaled, shown_on};
     ghost use Rattle.shared_node.specs.Fillings.{filling_of};
     ghost use Rattle.shared_node.specs.Passes.{Rests};
@@ -54,7 +54,7 @@ impl Renewals {
 
     // Whether the core is as full as behind the last one.
     fn is_as_full<D: Disk>(&self, core: &DurableCore<D>) -> bool
-        ensures { self.now.last ≡ Some (filling_of core.now) → result ≡ true }
+        ensures { IsTrue result ↔ (self.now.last ≡ Some (filling_of core.now)) }
     {
         match self.last {
             Some(last) => last == Filling::of(core),

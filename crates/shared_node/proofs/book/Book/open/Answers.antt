@@ -1,8 +1,3 @@
-use Rattle.std.proofs.Common.{List, None, Option, replicate, sym, subst}
-use Rattle.recovery_laws.specs.Journaled.{Journaled, OnDisk, shown_on}
-use Rattle.serializability.specs.Answered.{AnsweredCall, CallsLead}
-use Rattle.shared_node.specs.declared.count.Count.{Count}
-use Rattle.shared_node.specs.Books.{AreCounted}
 use Rattle.shared_node.proofs.Opening.{opens}
 use Rattle.shared_node.proofs.book.Book.open.Goals as goal
 
