@@ -3,18 +3,27 @@
 use crate::stages::{Cue, LIMIT, Stage};
 use crate::talks::{Checker, Talk, Tape};
 use conversation::Settings;
-use drda_disk::{FuseDisk, MemDisk};
+use drda_disk::MemDisk;
 use drda_program::{Silent, Streams, serve_streams};
-use durable_core::DurableCore;
+use durable_core::{DurableCore, open};
 use shared_node::{Book, Shared};
 use std::alloc::Global;
 use std::marker::Sync;
 use std::sync::Wait;
 use std::thread::{Threads, yield_now};
 use std::time::Clock;
+use test_nodes::fresh_store;
 
-/// A core over a disk in memory that may fail.
-pub type Core = DurableCore<FuseDisk<MemDisk>>;
+/// A core over a disk in memory.
+pub type Core = DurableCore<MemDisk>;
+
+/// The core of a fresh store of the name SHOP. None without memory.
+pub fn fresh_core(alloc: Global) -> Option<Core> {
+    match open(alloc, fresh_store(alloc)?) {
+        Ok(core) => Some(core),
+        Err(_) => None,
+    }
+}
 
 /// What is left when all have ended: how many waited for too long, whether each has given its leave back, and
 /// whether the device has failed.
@@ -104,7 +113,7 @@ fn serve<R: Threads + Wait + Clock + Sync>(
     core: Core,
     stage: &Stage<'_>,
     callers: &mut Callers<'_>,
-) -> Option<(Book<FuseDisk<MemDisk>>, bool)> {
+) -> Option<(Book<MemDisk>, bool)> {
     let shared = match Shared::new(alloc, core) {
         Ok(shared) => shared,
         Err(_) => return None,

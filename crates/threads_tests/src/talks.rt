@@ -4,8 +4,6 @@ use crate::stages::{Point, Stage};
 use std::alloc::Global;
 use std::io::{self, Read, Write};
 use std::sync::atomic::{AtomicU64, Ordering};
-use test_bytes::{bytes_of, push_texts};
-use test_calls::Scripts;
 
 /// What a conversation says and what it is to be answered; and what became of it, which each thread may look at.
 #[derive(Drop)]
@@ -18,27 +16,42 @@ pub struct Talk {
     closed: AtomicU64,
 }
 
-/// The bytes of each line of the scripts of these names: of each line a piece, which one read gives.
-pub fn pieces_of(alloc: Global, scripts: &Scripts, names: &str) -> Option<Vec<Vec<u8>>> {
-    let mut pieces = Vec::new(alloc);
-    for name in names.split_ascii_whitespace() {
-        push_pieces(alloc, &mut pieces, scripts.lines(name)?)?;
-    }
-    Some(pieces)
+/// Bytes by a name.
+#[derive(Drop)]
+pub struct Named {
+    pub name: String,
+    pub bytes: Vec<u8>,
 }
 
-fn push_pieces(alloc: Global, pieces: &mut Vec<Vec<u8>>, lines: &str) -> Option<()> {
-    for line in lines.lines() {
-        pieces.push(bytes_of(alloc, &[line]).ok()?).ok()?;
+// Appends a copy of the bytes of each that has the name.
+fn push_pieces(
+    alloc: Global,
+    pieces: &mut Vec<Vec<u8>>,
+    named: &[Named],
+    name: &str,
+) -> Option<()> {
+    for it in named {
+        if it.name.as_str() == name {
+            pieces.push(Vec::from_slice(alloc, &it.bytes).ok()?).ok()?;
+        }
     }
     Some(())
 }
 
-/// The same bytes, one after the other.
-pub fn bytes_named(alloc: Global, scripts: &Scripts, names: &str) -> Option<Vec<u8>> {
-    let mut bytes = Vec::new(alloc);
+/// The bytes of these names, each of which one read gives.
+pub fn pieces_of(alloc: Global, named: &[Named], names: &str) -> Option<Vec<Vec<u8>>> {
+    let mut pieces = Vec::new(alloc);
     for name in names.split_ascii_whitespace() {
-        push_texts(&mut bytes, &[scripts.lines(name)?]).ok()?;
+        push_pieces(alloc, &mut pieces, named, name)?;
+    }
+    Some(pieces)
+}
+
+/// These bytes, one after the other.
+pub fn joined(alloc: Global, pieces: &[Vec<u8>]) -> Option<Vec<u8>> {
+    let mut bytes = Vec::new(alloc);
+    for piece in pieces {
+        bytes.extend_from_slice(piece).ok()?;
     }
     Some(bytes)
 }

@@ -1,7 +1,6 @@
 //! A book under a lock, and passes, of which some may be another book's.
 
-use crate::books::place_of;
-use crate::plays::Core;
+use crate::books::{Core, place_of};
 use crate::tallies::{Tally, Told};
 use command_kit::Ask;
 use core_calls::{Answer, CoreCall};

@@ -1,11 +1,14 @@
 //! A book, and passes, of which some may be another book's.
 
-use crate::plays::Core;
 use core_calls::{Answer, CoreCall};
 use drda_disk::{FuseDisk, MemDisk};
+use durable_core::DurableCore;
 use shared_node::{Acted, Book, Pass};
 use std::alloc::{AllocError, Global};
 use test_calls::push_text;
+
+/// A core over a disk in memory that may fail.
+pub type Core = DurableCore<FuseDisk<MemDisk>>;
 
 /// A book, and passes in the order in which they were given, from 1 on.
 #[derive(Drop)]

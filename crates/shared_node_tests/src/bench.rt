@@ -1,22 +1,18 @@
-//! A core, a book over it, and conversations that are served over it.
+//! A core, and books over it.
 
-use crate::books::Desks;
+use crate::books::{Core, Desks};
 use crate::locks::Locks;
-use crate::plays::Core;
-use crate::scenes::Scene;
 use core_calls::{Answer, CoreCall};
-use drda_disk::FuseDisk;
+use drda_disk::{FuseDisk, MemDisk};
 use durable_core::open;
+use half_store::format;
 use std::alloc::Global;
-use std::marker::Sync;
 use std::sync::Wait;
-use std::thread::Threads;
 use std::time::Clock;
 use test_calls::{Calls, Scripts, push_text};
-use test_nodes::fresh_store;
 use xa_calls::{InvalidRequest, Request};
 
-/// What is asked for, and what for it is asked of.
+/// A core, books that are asked, and passes.
 #[derive(Drop)]
 pub struct Bench<'r, R> {
     rt: &'r R,
@@ -24,10 +20,19 @@ pub struct Bench<'r, R> {
     core: Option<Core>,
     desks: Desks,
     locks: Locks,
-    scene: Scene,
 }
 
-// A core over a fresh store of the name SHOP, whose device fails behind so many calls.
+/// The least store.
+const TWO_MIB: usize = 2_097_152;
+
+// A disk with a fresh store of the name SHOP.
+fn fresh_store(alloc: Global) -> Option<MemDisk> {
+    let mut disk = MemDisk::new(alloc, TWO_MIB).ok()?;
+    format(alloc, &mut disk, "SHOP").ok()?;
+    Some(disk)
+}
+
+// A core over a fresh store, whose device fails behind so many calls.
 fn core_with(alloc: Global, calls: u64) -> Option<Core> {
     match open(alloc, FuseDisk::new(fresh_store(alloc)?, calls, false)) {
         Ok(core) => Some(core),
@@ -41,7 +46,7 @@ fn core_that_stops(alloc: Global, calls: u64) -> Option<Core> {
     core_with(alloc, opening.saturating_add(calls))
 }
 
-impl<'r, R: Threads + Wait + Clock + Sync> Bench<'r, R> {
+impl<'r, R: Wait + Clock> Bench<'r, R> {
     /// No core.
     pub fn new(rt: &'r R, alloc: Global) -> Bench<'r, R> {
         Bench {
@@ -50,7 +55,6 @@ impl<'r, R: Threads + Wait + Clock + Sync> Bench<'r, R> {
             core: None,
             desks: Desks::new(alloc),
             locks: Locks::new(alloc),
-            scene: Scene::new(alloc),
         }
     }
 
@@ -71,19 +75,13 @@ impl<'r, R: Threads + Wait + Clock + Sync> Bench<'r, R> {
         push_text(out, "forgotten")
     }
 
-    fn serve(&mut self, is_crowd: bool, out: &mut Vec<u8>) -> Option<()> {
-        let core = self.core.take()?;
-        self.core = Some(self.scene.play(self.rt, core, is_crowd, out)?);
-        Some(())
-    }
-
     fn make(&mut self, core: Option<Core>, out: &mut Vec<u8>) -> Option<()> {
         self.core = Some(core?);
         push_text(out, "a core")
     }
 }
 
-impl<'r, R: Threads + Wait + Clock + Sync> Calls for Bench<'r, R> {
+impl<'r, R: Wait + Clock> Calls for Bench<'r, R> {
     fn step(&mut self, conversation: u64, call: &CoreCall<'_, '_>) -> Option<Answer> {
         self.desks.ask(conversation, call)
     }
@@ -109,11 +107,10 @@ impl<'r, R: Threads + Wait + Clock + Sync> Calls for Bench<'r, R> {
     }
 
     // `fresh` is a core over a fresh store, `stops N` one whose device fails behind so many calls more, and `core` that of the book; `book` a new
-    // book over it, and `lock` one under a lock; `forget` leaves no pass. `serve` serves the conversations that were laid, and `crowd` such of
-    // which the last one comes until it is heard.
+    // book over it, and `lock` one under a lock; `forget` leaves no pass.
     fn do_other(
         &mut self,
-        scripts: &Scripts,
+        _scripts: &Scripts,
         verb: &str,
         rest: &str,
         out: &mut Vec<u8>,
@@ -127,8 +124,6 @@ impl<'r, R: Threads + Wait + Clock + Sync> Calls for Bench<'r, R> {
             }
             "book" | "lock" => self.open_book(verb == "lock", out),
             "forget" => self.forget(out),
-            "serve" | "crowd" => self.serve(verb == "crowd", out),
-            "talks" | "cue" | "order" => self.scene.lay(scripts, verb, rest, out),
             "holds" | "writes" | "back" | "consider" | "close" => {
                 self.locks.tell(self.rt, verb, rest, out)
             }
