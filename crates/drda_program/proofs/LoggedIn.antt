@@ -1,5 +1,5 @@
 -- What is done with a login, wherever it stands.
-use Rattle.std.proofs.Common.{◌≡◌, ◌∙◌, refl, sym, ap, subst, inl, inr, ℕ, List, Some, None, Result, Ok, Err, Option}
+use Rattle.std.proofs.Common.{◌≡◌, ◌∙◌, refl, sym, ap, subst, inl, inr, ℕ, List, Result, Ok, Err}
 use Rattle.command_line.specs.Job.{Login, LoginSource, in_words, in_file, login_in_file, plain_login}
 use Rattle.command_line.specs.declared.job.Login.{Login as CodeLogin}
 use Rattle.drda_program.specs.Files.{FileCalls}

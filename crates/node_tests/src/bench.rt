@@ -3,7 +3,7 @@
 use crate::conversations::{push_act, two_units};
 use crate::readers::{Counting, Failing, Full, InPieces, OneByOne};
 use crate::records::{push, push_records};
-use drda_disk::{FuseDisk, MemDisk};
+use drda_disk::{Disk, FuseDisk, MemDisk};
 use drda_node::{Checkpointed, ConversationId, FedState, Node, OpenError, Ready, RunEnd, run};
 use std::alloc::Global;
 use std::io::{BufReader, Read};
@@ -50,9 +50,9 @@ fn name_of(end: RunEnd) -> &'static str {
 }
 
 // How a node ends over a reader, and what it has written then.
-fn push_run<R: Read + Ready>(
+fn push_run<D: Disk + Drop, R: Read + Ready>(
     alloc: Global,
-    node: &mut Bench,
+    node: &mut Node<D>,
     reader: &mut R,
     out: &mut Vec<u8>,
 ) -> Option<()> {
@@ -66,9 +66,9 @@ fn push_run<R: Read + Ready>(
 
 /// Appends how a node ends over these events and what it writes: where they lie ready, `slow` where they come byte by byte, and `fails` where
 /// the stream fails behind them.
-pub fn push_answers(
+pub fn push_answers<D: Disk + Drop>(
     alloc: Global,
-    node: &mut Bench,
+    node: &mut Node<D>,
     how: &str,
     events: &[u8],
     out: &mut Vec<u8>,
@@ -84,9 +84,9 @@ pub fn push_answers(
 }
 
 /// The same where the events come in pieces of this size, and how often the node writes.
-pub fn push_pieces(
+pub fn push_pieces<D: Disk + Drop>(
     alloc: Global,
-    node: &mut Bench,
+    node: &mut Node<D>,
     size: usize,
     events: &[u8],
     out: &mut Vec<u8>,
@@ -110,9 +110,9 @@ pub fn push_pieces(
 }
 
 /// Appends how a node ends whose writer fails behind so many bytes, and what it has taken then.
-pub fn push_full(
+pub fn push_full<D: Disk + Drop>(
     alloc: Global,
-    node: &mut Bench,
+    node: &mut Node<D>,
     room: usize,
     events: &[u8],
     out: &mut Vec<u8>,
@@ -129,7 +129,12 @@ pub fn push_full(
 }
 
 /// Appends how many of these bytes a new conversation takes, and whether it is open then.
-pub fn push_fed(alloc: Global, node: &mut Bench, bytes: &[u8], out: &mut Vec<u8>) -> Option<()> {
+pub fn push_fed<D: Disk + Drop>(
+    alloc: Global,
+    node: &mut Node<D>,
+    bytes: &[u8],
+    out: &mut Vec<u8>,
+) -> Option<()> {
     let id = node.open_conversation().ok()?;
     let mut replies = Vec::new(alloc);
     if !node.is_open(id) {
@@ -149,7 +154,7 @@ pub fn push_fed(alloc: Global, node: &mut Bench, bytes: &[u8], out: &mut Vec<u8>
 }
 
 // 63 conversations more, each with a name of its own, and then no more.
-fn opens_others(node: &mut Bench, first: ConversationId) -> Option<bool> {
+fn opens_others<D: Disk + Drop>(node: &mut Node<D>, first: ConversationId) -> Option<bool> {
     for _ in 1..64 {
         let id = node.open_conversation().ok()?;
         if id == first || !node.is_open(id) || !node.is_open(first) {
@@ -160,7 +165,7 @@ fn opens_others(node: &mut Bench, first: ConversationId) -> Option<bool> {
 }
 
 // Whether a conversation that is lost is not open any more, and one that is opened in its place has another name.
-fn is_opened_anew(node: &mut Bench, first: ConversationId) -> Option<bool> {
+fn is_opened_anew<D: Disk + Drop>(node: &mut Node<D>, first: ConversationId) -> Option<bool> {
     if node.is_open(first) {
         node.lost(first);
     }
@@ -171,7 +176,11 @@ fn is_opened_anew(node: &mut Bench, first: ConversationId) -> Option<bool> {
 
 /// Appends whether a node opens 64 conversations, each with a name of its own, one of which may be lost and opened anew; and whether a
 /// checkpoint is done then.
-pub fn push_opened(alloc: Global, node: &mut Bench, out: &mut Vec<u8>) -> Option<()> {
+pub fn push_opened<D: Disk + Drop>(
+    alloc: Global,
+    node: &mut Node<D>,
+    out: &mut Vec<u8>,
+) -> Option<()> {
     let first = node.open_conversation().ok()?;
     let others = opens_others(node, first)?;
     let anew = is_opened_anew(node, first)?;
