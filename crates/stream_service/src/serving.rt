@@ -1,6 +1,7 @@
 //! A conversation over two halves of a stream.
 
 ghost use Rattle.std.specs.Prelude.{◌≡◌, IfSome};
+ghost use Rattle.conversation.specs.Held.{newly_held};
 ghost use Rattle.hearing.specs.Attended.{attended_by};
 ghost use Rattle.hearing.specs.Feeding.{IsBetweenCommands};
 ghost use Rattle.stream_service.specs.Serving.{AnswersPiece, Converses, Loses, Serves};
@@ -36,7 +37,8 @@ pub enum Served {
 /// as many at once as are there up to 65,536, and what it is answered to them is written before the next
 /// are read, and before the next command where it is longer than 65,536 bytes; so it goes on until the stream ends or fails, the conversation is closed or memory is refused.
 /// Whatever ends it, the last call of `asker` is that the conversation is lost: a unit of work that it left
-/// open ends without its changes.
+/// open ends without its changes. `front` begins anew then: the memory of what came, in which a password may stand, is
+/// overwritten before it is given back.
 ///
 /// `Done` comes only where the conversation was answered all of the input. An asker that can't go on is
 /// answered for by AGNPRMRM, which closes the conversation, and so is `Done` too. What was heard was done,
@@ -52,9 +54,11 @@ pub fn serve<A: Ask, R: Read, W: Write>(
     requires { IsBetweenCommands front.old }
     ensures serves { IfSome (R.remaining reader.old) (λ input. Serves A.asks front.old.settings (attended_by front.old asker.old) input (W.contents writer.old) result (W.contents writer.new) asker.new) }
     ensures lost { (before : A) × Loses A.asks before asker.new }
+    ensures forgets { front.new ≡ newly_held front.old.settings }
 {
     let served = converse(alloc, front, reader, writer, asker);
     let _ = asker.ask(&CoreCall::Lost);
+    front.restart(alloc);
     served
 }
 
@@ -67,7 +71,8 @@ fn converse<A: Ask, R: Read, W: Write>(
     asker: &mut A,
 ) -> Served
     requires { IsBetweenCommands front.old }
-    ensures { IfSome (R.remaining reader.old) (λ input. Converses A.asks front.old.settings (attended_by front.old asker.old) input (W.contents writer.old) result (W.contents writer.new) (attended_by front.new asker.new)) }
+    ensures settings { front.new.settings ≡ front.old.settings }
+    ensures converses { IfSome (R.remaining reader.old) (λ input. Converses A.asks front.old.settings (attended_by front.old asker.old) input (W.contents writer.old) result (W.contents writer.new) (attended_by front.new asker.new)) }
 {
     stays_read();
     let Ok(mut buffer) = room_for_a_piece(alloc) else {

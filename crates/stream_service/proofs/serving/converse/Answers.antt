@@ -8,8 +8,8 @@ use Rattle.stream_service.proofs.Streams.{ends, ends_in, goes_on, none_done, rea
 use Rattle.hearing.proofs.Written.{take_front}
 use Rattle.stream_service.proofs.serving.converse.Goals as goal
 
-pub returns-in_default : goal.returns-in_default
-returns-in_default g c =
+pub returns-in_default-clause-converses : goal.returns-in_default-clause-converses
+returns-in_default-clause-converses g c =
     none_done g.A.Ask.asks c.args.front.now c.args.asker.now (g.R.Read.remaining c.args.reader.now) (g.W.Write.contents c.args.writer.now) c.requires
 
 pub talking-init : goal.talking-init
@@ -22,8 +22,8 @@ talking-init g c =
       so_far = starts g.A.Ask.asks c.args.front.now c.args.asker.now (g.R.Read.remaining c.args.reader.now) (g.W.Write.contents c.args.writer.now) c.requires;
     }
 
-pub returns-in-Ok-eq0 : goal.returns-in-Ok-eq0
-returns-in-Ok-eq0 g c =
+pub returns-in-Ok-eq0-clause-converses : goal.returns-in-Ok-eq0-clause-converses
+returns-in-Ok-eq0-clause-converses g c =
     let r = g.R.Read.remaining c.talking.reader in
     let r' = g.R.Read.remaining c.read.new.self in
     let lent : length c.deref_mut.result.now ≡ 65536 = ap length c.deref_mut.ensures.value ∙ c.talking.invariant.room in
@@ -33,13 +33,13 @@ returns-in-Ok-eq0 g c =
     (g.R.Read.remaining c.args.reader.now) r r' (g.W.Write.contents c.args.writer.now) (g.W.Write.contents c.talking.writer) c.talking.invariant.so_far took
     (c.in-Ok-eq0.ensures.bytes.1 zero_bytes (omega (arith, lent)))
 
-pub returns-in-Err : goal.returns-in-Err
-returns-in-Err g c =
+pub returns-in-Err-clause-converses : goal.returns-in-Err-clause-converses
+returns-in-Err-clause-converses g c =
     read_fault g.A.Ask.asks c.args.front.now.settings (attended_by c.args.front.now c.args.asker.now) (attended_by c.talking.front c.talking.asker)
     (g.R.Read.remaining c.args.reader.now) (g.R.Read.remaining c.talking.reader) (g.W.Write.contents c.args.writer.now) (g.W.Write.contents c.talking.writer) c.talking.invariant.so_far
 
-pub returns-in-Some : goal.returns-in-Some
-returns-in-Some g c =
+pub returns-in-Some-clause-converses : goal.returns-in-Some-clause-converses
+returns-in-Some-clause-converses g c =
     let buffer = c.read.new.buf in
     let behind = drop (length c.read.new.buf) c.talking.buffer.items in
     let lent : length c.deref_mut.result.now ≡ 65536 = ap length c.deref_mut.ensures.value ∙ c.talking.invariant.room in
@@ -106,7 +106,7 @@ talking-preserved g c =
       so_far = goes_on asks settings more_fault first mid last (take n buffer) r0 r r' w0 w w' c.talking.invariant.so_far took still_on;
     }
 
-pub returns : goal.returns
-returns g c =
+pub returns-clause-converses : goal.returns-clause-converses
+returns-clause-converses g c =
     read_fault g.A.Ask.asks c.args.front.now.settings (attended_by c.args.front.now c.args.asker.now) (attended_by c.talking.front c.talking.asker)
     (g.R.Read.remaining c.args.reader.now) (g.R.Read.remaining c.talking.reader) (g.W.Write.contents c.args.writer.now) (g.W.Write.contents c.talking.writer) c.talking.invariant.so_far
