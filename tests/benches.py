@@ -5,7 +5,7 @@ TOP = pathlib.Path(__file__).resolve().parent.parent
 
 
 def built(name):
-    """Proves and builds a program of bench/ (bench/run), and gives its path."""
-    subprocess.run([TOP / "bench" / "run", name], stdin=subprocess.DEVNULL, stdout=subprocess.DEVNULL, check=True)
+    """Proves and builds a program of bench/ (bench/run), and gives its path. It is run once, over no conversation of `Node::feed`."""
+    subprocess.run([TOP / "bench" / "run", name], input=b"n", stdout=subprocess.DEVNULL, check=True)
     scratch = f"{os.environ.get('TMPDIR', '/tmp')}/drdad-bench.{os.getuid()}{TOP}"
     return f"{scratch}/crates/{name}/out/{name}"
