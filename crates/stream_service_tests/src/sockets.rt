@@ -8,18 +8,34 @@ use std::io::{Read, Write};
 use std::net::{Ipv4Addr, Net, OpenListener, OpenStream, Shutdown, SocketAddr, SocketAddrV4};
 use std::test::Fail;
 use stream_service::Served;
-use test_bytes::sentences::{CREATE, CREATED};
+use test_bytes::sentences::*;
 use test_bytes::*;
 
-const REQUESTS: [&str; 6] = [EXCSAT_ALONE, ACCSEC, SECCHK_ALONE, ACCRDB, CREATE, RDBCMM];
+// The database is opened, a row is committed, and a cursor reads it.
+const REQUESTS: [&str; 10] = [
+    EXCSAT_ALONE,
+    ACCSEC,
+    SECCHK_ALONE,
+    ACCRDB,
+    CREATE,
+    RDBCMM,
+    INSERT,
+    RDBCMM,
+    PREPARE,
+    QUERY,
+];
 
-const REPLIES: [&str; 6] = [
+const REPLIES: [&str; 10] = [
     EXCSATRD_ALONE,
     ACCSECRD,
     SECCHKRM_ALONE,
     ACCRDBRM,
     CREATED,
     COMMITTED,
+    FIRST_ROW,
+    COMMITTED,
+    PREPARED,
+    ONE_ROW,
 ];
 
 // Serves the one who waits.
