@@ -1,1 +1,2 @@
+pub mod CodePage
 pub mod Names

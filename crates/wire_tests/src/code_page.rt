@@ -1,6 +1,6 @@
 //! Texts in code page 500.
 
-use ebcdic_500::{CodePageError, byte_of, char_of, decode, encode};
+use drda_names::{CodePageError, byte_of, char_of, decode, encode};
 use std::alloc::Global;
 use std::test::Fail;
 

@@ -1,4 +1,4 @@
-//! Tests of ebcdic_500, ddm_objects and dss_frames.
+//! Tests of drda_names, ddm_objects and dss_frames.
 #![tactic(auto)]
 
 #[cfg(test)]
