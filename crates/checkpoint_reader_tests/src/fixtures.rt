@@ -7,7 +7,7 @@ use checkpoint_reader::read_checkpoint;
 use checkpoint_writer::{ImageError, TablePlace, merge_into, write_catalogue};
 use drda_disk::{Disk, MemDisk, Region};
 use half_store::{Active, ImageWriter, begin_image, format, open};
-use row_forms::row_form;
+use key_map::row_form;
 use row_pages::PageCache;
 use row_values::{Column, Kind, Schema};
 use std::alloc::{AllocError, Global};

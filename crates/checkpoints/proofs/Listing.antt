@@ -16,7 +16,7 @@ use Rattle.row_values.specs.Key.{row_key}
 use Rattle.row_values.proofs.ValueLaws.{both_true, first_true, second_true}
 use Rattle.row_pages.specs.Laying.{IsShort, Laying, laid, rows_over}
 use Rattle.row_pages.specs.declared.page.PageKind.TheVariants as kind
-use Rattle.row_forms.specs.RowForm.{row_form}
+use Rattle.key_map.specs.RowForm.{row_form}
 use Rattle.key_map.specs.Merging.{Rows}
 use Rattle.tables.specs.Tables.{Store, Table}
 use Rattle.tables.specs.View.{is_entry, is_store, is_table}

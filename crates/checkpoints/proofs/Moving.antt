@@ -10,7 +10,7 @@ use Rattle.drda_disk.specs.Disk.{Torn}
 use Rattle.row_values.specs.Schema.{is_name}
 use Rattle.row_values.proofs.ValueLaws.{first_true, second_true}
 use Rattle.row_pages.specs.Laying.{laid}
-use Rattle.row_forms.specs.RowForm.{row_form}
+use Rattle.key_map.specs.RowForm.{row_form}
 use Rattle.tables.specs.Tables.{Store, Table}
 use Rattle.tables.specs.View.{is_store, is_table}
 use Rattle.table_map.specs.Table.{without_keys}

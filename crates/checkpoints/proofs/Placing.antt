@@ -13,7 +13,7 @@ use Rattle.row_values.proofs.RowColumns.{row_is}
 use Rattle.key_map.specs.SortForm.{sort_form}
 use Rattle.key_map.specs.Merging.{Rows}
 use Rattle.key_map.specs.Walk.{rows_left}
-use Rattle.row_forms.specs.RowForm.{RowsHaveTheirForms, row_form}
+use Rattle.key_map.specs.RowForm.{RowsHaveTheirForms, row_form}
 use Rattle.row_pages.specs.Laying.{IsShort, laid}
 use Rattle.tables.specs.Tables.{Table}
 use Rattle.tables.specs.View.{is_entry, is_table}

@@ -1,7 +1,7 @@
 -- Tables that are laid into the pages of a half, one behind another.
 use Rattle.std.specs.Prelude.{◌≡◌, ℕ, ◌+◌, ◌-◌, ◌&&◌, true, List, [], ◌∷◌}
 use Rattle.std.specs.Map.{values_of}
-use Rattle.row_forms.specs.RowForm.{row_form}
+use Rattle.key_map.specs.RowForm.{row_form}
 use Rattle.row_values.specs.Schema.{is_name}
 use Rattle.row_pages.specs.Laying.{laid}
 use Rattle.key_map.specs.Merging.{Rows}

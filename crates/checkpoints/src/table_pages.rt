@@ -18,7 +18,7 @@ use crate::lent::{LentTable, LentTables};
 use checkpoint_writer::{ImageError, TablePlace, write_rows};
 use drda_disk::Disk;
 use half_store::ImageWriter;
-use row_forms::laws::rows_have_their_forms;
+use key_map::laws::rows_have_their_forms;
 use row_pages::PageCache;
 use std::alloc::Global;
 

@@ -7,3 +7,6 @@ pub mod Seen
 pub mod Numbers
 pub mod Texts
 pub mod Values
+pub mod Joined
+pub mod Picked
+pub mod RowForms

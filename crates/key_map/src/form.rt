@@ -47,8 +47,8 @@ fn put_value(form: &mut Vec<u8>, value: &Value<'_>) -> Result<(), AllocError>
     Ok(())
 }
 
-// The number, counted from the least of BIGINT.
-fn counted_up(number: i64) -> u64
+/// The number, counted from the least of BIGINT.
+pub(crate) fn counted_up(number: i64) -> u64
     ensures { result ≡ counted_up number }
 {
     if number < 0 {
@@ -58,7 +58,8 @@ fn counted_up(number: i64) -> u64
     }
 }
 
-fn put_text(form: &mut Vec<u8>, bytes: &[u8]) -> Result<(), AllocError>
+/// Appends the form of a text or of bytes, or some of it where memory is refused.
+pub(crate) fn put_text(form: &mut Vec<u8>, bytes: &[u8]) -> Result<(), AllocError>
     ensures { OnOk result (form.new.items ≡ form.old.items ++ text_form bytes.now) }
 {
     for byte in bytes {

@@ -1,6 +1,7 @@
-//! Laws of rows with changes.
+//! Laws of rows with changes, and of the forms of rows.
 
 ghost use Rattle.key_map.specs.Merging.{ChangeFirst, ChangeHere, KnownByKeys, MergedAt, MergedInOrder, RowFirst};
+ghost use Rattle.key_map.specs.RowForm.{RowsHaveTheirForms};
 
 /// At each key there is what a change says of it, and without a change what was there; the keys
 /// are still in order.
@@ -20,4 +21,9 @@ pub fn changes_and_rows_in_turn()
     ensures change { ChangeFirst }
     ensures row { RowFirst }
     ensures both { ChangeHere }
+{}
+
+/// The form of a row is the sort form of its key.
+pub fn rows_have_their_forms()
+    ensures { RowsHaveTheirForms }
 {}

@@ -1,7 +1,6 @@
 //! The forms of rows of two columns, of which the second comes first in the key.
 
-use key_map::sort_form;
-use row_forms::{compare, row_form};
+use key_map::{compare, row_form, sort_form};
 use row_values::{Column, Kind, RowRef, Schema, is_key};
 use std::alloc::Global;
 use std::test::Fail;

@@ -1,4 +1,4 @@
-//! Tests of row_forms.
+//! Tests of the forms of rows in key_map.
 #![tactic(auto)]
 
 #[cfg(test)]

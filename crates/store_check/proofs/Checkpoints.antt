@@ -14,7 +14,7 @@ use Rattle.row_values.specs.Key.{key_cmp, row_key}
 use Rattle.row_pages.specs.Laying.{rows_over}
 use Rattle.key_map.specs.Slots.{by_bytes}
 use Rattle.key_map.specs.SortForm.{ValuesKeepOrder}
-use Rattle.row_forms.specs.RowForm.{RowsHaveTheirForms}
+use Rattle.key_map.specs.RowForm.{RowsHaveTheirForms}
 use Rattle.tables.specs.Tables.{Store, Table}
 use Rattle.tables.specs.View.{is_entry, is_store, is_table}
 use Rattle.tables.proofs.Finding.{itself}

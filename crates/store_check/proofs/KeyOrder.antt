@@ -22,7 +22,7 @@ use Rattle.row_values.proofs.ValueLaws.{chained, kept, mapped}
 use Rattle.key_map.specs.Slots.{by_bytes}
 use Rattle.key_map.specs.SortForm.{ValuesKeepOrder, is_sortable, sort_form}
 use Rattle.key_map.specs.Merging.{Above, InOrder}
-use Rattle.row_forms.specs.RowForm.{RowsHaveTheirForms, row_form}
+use Rattle.key_map.specs.RowForm.{RowsHaveTheirForms, row_form}
 use Rattle.table_map.specs.Keyed.{keyed_rows}
 use Rattle.store_check.specs.Checkpoint.{at_keys}
 

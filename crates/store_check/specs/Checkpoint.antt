@@ -3,7 +3,7 @@ use Rattle.std.specs.Prelude.{◌≡◌, ℕ, ◌+◌, ◌*◌, true, List, [], 
 use Rattle.drda_words.specs.Place.{part}
 use Rattle.row_values.specs.Schema.{Schema}
 use Rattle.row_values.specs.Key.{row_key}
-use Rattle.row_forms.specs.RowForm.{row_form}
+use Rattle.key_map.specs.RowForm.{row_form}
 use Rattle.row_pages.specs.Laying.{rows_over}
 use Rattle.tables.specs.Tables.{Store, Table}
 use Rattle.tables.specs.View.{is_store}

@@ -2,9 +2,9 @@
 ghost use Rattle.std.specs.Prelude.{◌≡◌, ℕ, List, IfOk};
 ghost use Rattle.row_values.specs.Schema.{Schema};
 ghost use Rattle.key_map.specs.Slots.{by_bytes};
-ghost use Rattle.row_forms.specs.RowForm.{row_form};
+ghost use Rattle.key_map.specs.RowForm.{row_form};
 
-use row_forms::{compare, row_form};
+use key_map::{compare, row_form};
 use row_values::Schema as TableSchema;
 use std::alloc::{AllocError, Global};
 use std::cmp::Ordering;

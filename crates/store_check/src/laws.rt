@@ -7,7 +7,7 @@ ghost use Rattle.store_check.specs.Whole.{OneFirstBad, OneWhole, WholeIsNotBad, 
 
 use checkpoint_writer::catalogues_are_read;
 use key_map::key_order::forms_keep_order;
-use row_forms::laws::rows_have_their_forms;
+use key_map::laws::rows_have_their_forms;
 use row_pages::{one_laying, one_page};
 
 /// Pages that are whole have no first bad one.

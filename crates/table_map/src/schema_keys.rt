@@ -1,8 +1,8 @@
 //! The keys of a table's rows by its schema.
-ghost use Rattle.row_forms.specs.RowForm.{row_form};
+ghost use Rattle.key_map.specs.RowForm.{row_form};
 
 use crate::RowKeys;
-use row_forms::{compare, row_form};
+use key_map::{compare, row_form};
 use row_values::Schema;
 use std::alloc::{AllocError, Global};
 use std::cmp::Ordering;

@@ -3,7 +3,7 @@ ghost use Rattle.std.specs.Prelude.{◌≡◌, ◌+◌, ◌*◌, ◌≤◌, IfOk
 
 use crate::fixtures::{TABLE_AT, put};
 use drda_disk::{Disk, MemDisk};
-use row_forms::row_form;
+use key_map::row_form;
 use row_pages::{PageBuilder, PageCache, PageFault, PageKind};
 use row_values::{Column, Kind, Schema};
 use std::alloc::{AllocError, Global};

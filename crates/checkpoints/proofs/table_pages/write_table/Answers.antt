@@ -1,5 +1,5 @@
 use Rattle.std.proofs.Common.{rules, ◌≡◌, ◌+◌, ◌*◌, ◌-◌, length, refl, arith}
-use Rattle.row_forms.specs.RowForm.{row_form}
+use Rattle.key_map.specs.RowForm.{row_form}
 use Rattle.row_pages.specs.Laying.{laid}
 use Rattle.key_map.specs.Walk.{rows_left}
 use Rattle.table_map.specs.Table.{without_keys}

@@ -1,0 +1,8 @@
+-- What is found of the rest is found of the whole.
+use Rattle.std.proofs.Common.{drop}
+use Rattle.key_map.specs.declared.front.Front.{Front}
+use Rattle.key_map.specs.Fronts.{Compares}
+use Rattle.key_map.proofs.front.bytes.Given as goal
+
+abbrev pub invariant-loop-next : goal.invariant-loop-next
+invariant-loop-next l = (o : Front) → Compares l.rest (drop l.next-index l.piece) o → Compares l.fn.form l.piece o

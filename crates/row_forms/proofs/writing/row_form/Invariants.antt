@@ -1,9 +1,0 @@
--- What is written and the form of the values that are left are the whole.
-use Rattle.std.proofs.Common.{◌≡◌, ◌++◌, drop}
-use Rattle.row_values.specs.Schema.{picked}
-use Rattle.key_map.specs.SortForm.{values_form}
-use Rattle.row_forms.specs.RowForm.{row_form, values_read}
-use Rattle.row_forms.proofs.writing.row_form.Given as goal
-
-abbrev pub invariant-loop-place : goal.invariant-loop-place
-invariant-loop-place l = l.form.items ++ values_form (picked (values_read l.schema.columns l.row) (drop l.place-index l.schema.key)) ≡ row_form l.schema l.row
