@@ -3,3 +3,5 @@ mod Listing
 mod Moving
 mod Holding
 mod Ending
+mod ReadBack
+mod Left

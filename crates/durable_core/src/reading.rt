@@ -17,7 +17,7 @@ ghost use Rattle.recovery.specs.Replay.{durable_of};
 ghost use Rattle.durable_core.specs.Reads.{ArePagesInside, Counts, IsInside, IsPlain, TellsDamage};
 
 use crate::errors::OpenError;
-use checkpoint_reader::read_checkpoint;
+use checkpoints::read_checkpoint;
 use drda_disk::{Disk, Region};
 use half_store::Active;
 use recovery::{PreparedUnit, Replay, ReplayError, replay};
