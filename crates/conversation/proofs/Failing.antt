@@ -38,7 +38,7 @@ use Rattle.sql_commands.specs.Commands as sql_does
 use Rattle.cursor_commands.specs.Blocks.{rows_in_block}
 use Rattle.cursor_commands.specs.Commands as cursors_do
 use Rattle.cursor_commands.specs.Replies.{query_opened, rows_description, some_rows}
-use Rattle.xa_commands.specs.SyncControl as xa_does
+use Rattle.sql_commands.specs.SyncControl as xa_does
 use Rattle.conversation.specs.Commands.{doing}
 use Rattle.xa_calls.specs.declared.request.Request.{Request}
 use Rattle.xa_calls.specs.declared.request.Request.TheVariants as request

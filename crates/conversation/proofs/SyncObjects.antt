@@ -14,7 +14,7 @@ use Rattle.xa_calls.specs.declared.request.Request.{Request}
 use Rattle.xa_calls.specs.declared.request.Request.TheVariants.{Branch, Recover}
 use Rattle.sqlam_replies.specs.Message.{scalar}
 use Rattle.command_kit.specs.declared.statements.Statements.{Statements}
-use Rattle.xa_commands.specs.SyncControl as does
+use Rattle.sql_commands.specs.SyncControl as does
 use Rattle.conversation.proofs.SentObjects.{AllSent, IsSent, SendsObjects, container_tree, not_done_sent, objects_are_trees, trees_in}
 
 abbrev returned : XaCode → Obj

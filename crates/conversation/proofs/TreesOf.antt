@@ -25,7 +25,7 @@ use Rattle.session_commands.specs.declared.session.Session.{Session}
 use Rattle.session_commands.specs.Access.{Answer, access_done, refused}
 use Rattle.session_commands.specs.Settings.{Settings}
 use Rattle.cursor_commands.specs.Commands.{name_in}
-use Rattle.xa_commands.specs.SyncControl.{request_of}
+use Rattle.sql_commands.specs.SyncControl.{request_of}
 use Rattle.conversation.specs.Commands.{doing}
 use Rattle.conversation.specs.declared.chain.Link.{Link}
 use Rattle.conversation.specs.Done.{Exchanges, IsExcused, IsFollowed}

@@ -8,7 +8,7 @@ use Rattle.command_kit.specs.declared.statements.Statements.{Statements}
 use Rattle.command_kit.specs.Doing.{Doing}
 use Rattle.sql_commands.specs.Commands as sql
 use Rattle.cursor_commands.specs.Commands as cursors
-use Rattle.xa_commands.specs.SyncControl as xa
+use Rattle.sql_commands.specs.SyncControl as xa
 
 -- unicode, the database's name as it is answered, the command, what it brought and what is kept; a command that
 -- needs no open database does nothing here

@@ -37,7 +37,9 @@ pub(crate) fn do_on_database<A: Ask>(
         Command::Opnqry | Command::Cntqry | Command::Clsqry => {
             cursor_commands::do_command(alloc, accepted, rdb, statements, asker, replies)
         }
-        Command::Syncctl => { xa_commands::do_command(alloc, accepted, statements, asker, replies) }
+        Command::Syncctl => {
+            sql_commands::do_sync_control(alloc, accepted, statements, asker, replies)
+        }
         _ => sql_commands::do_command(alloc, accepted, rdb, unicode, statements, asker, replies),
     }
 }

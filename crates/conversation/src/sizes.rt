@@ -11,5 +11,5 @@ use drda_commands::Accepted;
 pub(crate) fn most_length(accepted: &Accepted<'_>, statements: &Statements) -> usize
     ensures { result ≡ spec.most_length accepted.now.command (given_of accepted.now.given) statements.now }
 {
-    cursor_commands::most_length(accepted, statements).max(xa_commands::MAX_REPLIES_LENGTH)
+    cursor_commands::most_length(accepted, statements).max(sql_commands::MAX_SYNC_REPLY_LENGTH)
 }

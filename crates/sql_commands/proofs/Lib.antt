@@ -1,3 +1,4 @@
 pub mod Described
 pub mod Holding
 pub mod Prepared
+pub mod CardLengths

@@ -7,9 +7,9 @@ use core_calls::{Answer, CoreCall};
 use ddm_objects::{code_point, put};
 use drda_commands::{Stage, judge};
 use dss_frames::{Format, Segments, write_dss};
+use sql_commands::do_sync_control;
 use std::alloc::{AllocError, Global};
 use xa_calls::{InvalidRequest, Request, Verb, XaCode, Xids};
-use xa_commands::do_command;
 
 /// The XID of format 1 with the parts `G` and `B`.
 pub const XID: &'static [u8] = b"\x00\x00\x00\x01\x00\x00\x00\x01\x00\x00\x00\x01GB";
@@ -96,7 +96,7 @@ pub fn control(
         && let Some((request, objects)) = group.split_first()
         && let Ok(accepted) = judge(Stage::Opened, false, request.contents, objects)
     {
-        do_command(alloc, accepted, statements, asker, replies)?;
+        do_sync_control(alloc, accepted, statements, asker, replies)?;
         return Ok(true);
     }
     Ok(false)

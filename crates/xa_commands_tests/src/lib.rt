@@ -1,4 +1,4 @@
-//! Tests of xa_commands.
+//! Tests of SYNCCTL in sql_commands.
 #![tactic(auto)]
 
 #[cfg(test)]

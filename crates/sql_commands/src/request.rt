@@ -4,7 +4,7 @@ ghost use Rattle.std.specs.Prelude.{◌≡◌, unwrap_or};
 ghost use Rattle.std.specs.Result.{result_ok};
 ghost use Rattle.drda_commands.specs.Values.{sync_type_in};
 ghost use Rattle.drda_commands.specs.Views.{given_of};
-ghost use Rattle.xa_commands.specs.SyncControl as spec;
+ghost use Rattle.sql_commands.specs.SyncControl as spec;
 
 use ddm_objects::code_point;
 use drda_commands::{Accepted, ItemKind};

@@ -2,7 +2,7 @@
 
 ghost use Rattle.std.specs.Prelude.{◌≡◌, Some};
 ghost use Rattle.std.specs.Result.{result_ok};
-ghost use Rattle.xa_commands.specs.SyncControl as spec;
+ghost use Rattle.sql_commands.specs.SyncControl as spec;
 
 use command_kit::Statements;
 use xa_calls::{InvalidRequest, Request, Verb, XaCode};

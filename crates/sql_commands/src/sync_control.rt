@@ -8,7 +8,7 @@ ghost use Rattle.command_kit.specs.Doing.{asking};
 ghost use Rattle.command_kit.specs.Done.{WasDone};
 ghost use Rattle.command_kit.specs.Sizes.{written_lengths};
 ghost use Rattle.xa_calls.specs.declared.request.Request.TheVariants.{Recover};
-ghost use Rattle.xa_commands.specs.SyncControl as spec;
+ghost use Rattle.sql_commands.specs.SyncControl as spec;
 
 use crate::card::{MAX_CARD_LENGTH, code_card, in_doubt_card};
 use crate::kept::call_behind;
@@ -21,7 +21,7 @@ use std::alloc::{AllocError, Global};
 use xa_calls::{InvalidRequest, Request};
 
 /// The most bytes that the reply to a SYNCCTL takes as a DSS.
-pub const MAX_REPLIES_LENGTH: usize = 36_902;
+pub const MAX_SYNC_REPLY_LENGTH: usize = 36_902;
 
 // Asks which branches are in doubt.
 fn recover<A: Ask>(
@@ -31,7 +31,7 @@ fn recover<A: Ask>(
     replies: &mut Vec<Reply>,
 ) -> Result<(), AllocError>
     ensures ok { OnOk result (WasDone A.asks (asking (call.xa (Some Recover)) (spec.after_recover statements.now)) asker.old asker.new statements.now replies.old.items replies.new.items) }
-    ensures size { OnOk result (written_lengths replies.new.items ≤ written_lengths replies.old.items + MAX_REPLIES_LENGTH) }
+    ensures size { OnOk result (written_lengths replies.new.items ≤ written_lengths replies.old.items + MAX_SYNC_REPLY_LENGTH) }
     ensures asker { OnErr result (asker.new ≡ asker.old) }
     ensures replies { OnErr result (replies.new.items ≡ replies.old.items) }
 {
@@ -53,7 +53,7 @@ fn call<A: Ask>(
     replies: &mut Vec<Reply>,
 ) -> Result<(), AllocError>
     ensures ok { OnOk result (WasDone A.asks (asking (call.xa (result_ok request)) (spec.after_call (result_ok request) statements.old)) asker.old asker.new statements.new replies.old.items replies.new.items) }
-    ensures size { OnOk result (written_lengths replies.new.items ≤ written_lengths replies.old.items + MAX_REPLIES_LENGTH) }
+    ensures size { OnOk result (written_lengths replies.new.items ≤ written_lengths replies.old.items + MAX_SYNC_REPLY_LENGTH) }
     ensures asker { OnErr result (asker.new ≡ asker.old) }
     ensures statements { OnErr result (statements.new ≡ statements.old) }
     ensures replies { OnErr result (replies.new.items ≡ replies.old.items) }
@@ -74,7 +74,7 @@ fn call<A: Ask>(
 /// for it, also where it names none, and the reply is the SYNCCRD of its code, or of the branches in doubt.
 /// A start and an end that are answered 0 begin the telling of changes anew, and such an end closes all
 /// cursors. Out of memory, nothing is asked and nothing changes.
-pub fn do_command<A: Ask>(
+pub fn do_sync_control<A: Ask>(
     alloc: Global,
     accepted: Accepted<'_>,
     statements: &mut Statements,
@@ -82,7 +82,7 @@ pub fn do_command<A: Ask>(
     replies: &mut Vec<Reply>,
 ) -> Result<(), AllocError>
     ensures ok { OnOk result (WasDone A.asks (spec.doing (given_of accepted.entry.given) statements.old) asker.old asker.new statements.new replies.old.items replies.new.items) }
-    ensures size { OnOk result (written_lengths replies.new.items ≤ written_lengths replies.old.items + MAX_REPLIES_LENGTH) }
+    ensures size { OnOk result (written_lengths replies.new.items ≤ written_lengths replies.old.items + MAX_SYNC_REPLY_LENGTH) }
     ensures asker { OnErr result (asker.new ≡ asker.old) }
     ensures statements { OnErr result (statements.new ≡ statements.old) }
     ensures replies { OnErr result (replies.new.items ≡ replies.old.items) }

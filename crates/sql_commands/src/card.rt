@@ -2,7 +2,7 @@
 
 ghost use Rattle.std.specs.Prelude.{◌≡◌, ◌≤◌, [], length, nat_le, true, vec_capacity};
 ghost use Rattle.std.specs.List.{list_all};
-ghost use Rattle.xa_commands.specs.SyncControl as spec;
+ghost use Rattle.sql_commands.specs.SyncControl as spec;
 
 use command_kit::Reply;
 use sqlam_replies::{synccrd, synccrd_with};

@@ -1,7 +1,7 @@
 -- Those that are left are short where all are.
 use Rattle.std.proofs.Common.{◌≡◌, drop, length, nat_le}
 use Rattle.std.specs.List.{list_all}
-use Rattle.xa_commands.proofs.card.xids_are_short.Given as goal
+use Rattle.sql_commands.proofs.card.xids_are_short.Given as goal
 
 abbrev pub invariant-loop-xid : goal.invariant-loop-xid
 invariant-loop-xid l =
