@@ -20,7 +20,7 @@ use Rattle.hearing.specs.Attended.{Attended}
 use Rattle.hearing.specs.Hearing.{Hears}
 use Rattle.hearing.specs.Pieces.{HearsPiece}
 use Rattle.hearing.specs.Feeding.{EndsAtFault, EndsWithCommand, LeftAs, Takes}
-use Rattle.recovery_laws.specs.Journaled.{CallsGoOn}
+use Rattle.recovery.specs.Journaled.{CallsGoOn}
 use Rattle.drda_node.specs.declared.asker.CoreAsker.{CoreAsker}
 use Rattle.drda_node.specs.Asking.{AskedCore, IsJournaled, IsSameAsker, asks, asks_of, core_of}
 

@@ -6,7 +6,7 @@ use Rattle.core_calls.specs.Call.{Call}
 use Rattle.core_calls.specs.Call as call
 use Rattle.core_calls.specs.Answer.{Answer}
 use Rattle.core_model.specs.Step.{step_state}
-use Rattle.recovery_laws.specs.Journaled.{IsUnchanged, OnDisk, shown_on}
+use Rattle.recovery.specs.Journaled.{IsUnchanged, OnDisk, shown_on}
 use Rattle.durable_core.specs.Steps.{Loses, Steps}
 use Rattle.durable_core.specs.Checkpointing.{Becomes, Checkpoints, IsSameCore}
 use Rattle.durable_core.specs.declared.checkpointing.Checkpointed.{Checkpointed}

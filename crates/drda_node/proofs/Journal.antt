@@ -2,7 +2,7 @@
 use Rattle.std.proofs.Common.{◌≡◌, Bool, false, sym, ap, subst, inl, inr}
 use Rattle.std.specs.Prelude.{IsTrue}
 use Rattle.drda_disk.specs.Disk.{Life}
-use Rattle.recovery_laws.specs.Journaled.{CallsGoOn, IsDurable, OnDisk, shown_on}
+use Rattle.recovery.specs.Journaled.{CallsGoOn, IsDurable, OnDisk, shown_on}
 use Rattle.drda_node.specs.declared.asker.CoreAsker.{CoreAsker}
 use Rattle.drda_node.specs.Asking.{IsJournaled}
 use Rattle.drda_node.proofs.Askers.{IsAskedSome}

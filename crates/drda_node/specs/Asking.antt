@@ -10,7 +10,7 @@ use Rattle.core_calls.specs.Call.{Call}
 use Rattle.core_calls.specs.Answer.{Answer, closed, device_failed, full, no_memory}
 use Rattle.core_model.specs.Step.{CoreState, answer as answer_to, step_state}
 use Rattle.unit_records.specs.Due.{record_due}
-use Rattle.recovery_laws.specs.Journaled.{Journaled, OnDisk, shown_on}
+use Rattle.recovery.specs.Journaled.{Journaled, OnDisk, shown_on}
 use Rattle.durable_core.specs.Steps.{MayWantMemory, RoomAfter, due_entries}
 use Rattle.drda_node.specs.declared.asker.CoreAsker.{CoreAsker}
 

@@ -1,6 +1,6 @@
 -- Which conversation is meant: a place, and the number that was given to the one that stands there.
 use Rattle.std.specs.Prelude.{◌≡◌, ℕ, ◌+◌, ◌<◌, ◌^◌, List, map, Option, Some, None, slice_get, slice_set, if◌then◌else◌}
-use Rattle.recovery_laws.specs.Journaled.{OnDisk}
+use Rattle.recovery.specs.Journaled.{OnDisk}
 use Rattle.drda_node.specs.declared.node.Node.{Node}
 use Rattle.drda_node.specs.declared.slot.Slot.{Slot}
 use Rattle.drda_node.specs.declared.node.ConversationId.{ConversationId}

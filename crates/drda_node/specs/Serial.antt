@@ -2,8 +2,8 @@
 use Rattle.std.specs.Prelude.{List, [], ◌∷◌}
 use Rattle.core_model.specs.Laws.{IsSane}
 use Rattle.recovery.specs.Durable.{Durable}
-use Rattle.recovery_laws.specs.Part.{opened}
-use Rattle.recovery_laws.specs.Openings.{IsOpening}
+use Rattle.recovery.specs.Part.{opened}
+use Rattle.recovery.specs.Openings.{IsOpening}
 use Rattle.serializability.specs.Answered.{AnsweredCall, Begins, CallsLead, SerialRun, committed}
 use Rattle.drda_node.specs.Asking.{AskedCore}
 use Rattle.drda_node.specs.Calls.{AskedCall, IsHistory}

@@ -14,7 +14,7 @@ use crate::node::Node;
 use drda_disk::Disk;
 use durable_core::Checkpointed;
 use hearing::Heard;
-use recovery_laws::images::calls_go_on;
+use recovery::images::calls_go_on;
 use std::alloc::AllocError;
 
 /// Kinds of records that go out.

@@ -10,7 +10,7 @@ use conversation::Settings;
 use drda_disk::Disk;
 use durable_core::{Checkpointed, DurableCore};
 use hearing::{Fed, Heard};
-use recovery_laws::images::calls_go_on;
+use recovery::images::calls_go_on;
 use std::alloc::Global;
 use thiserror::Error;
 
@@ -50,7 +50,7 @@ impl<D: Disk> Node<D> {
     ghost use Rattle.drda_node.specs.Asking.{IsJournaled, asked_of};
     ghost use Rattle.drda_node.specs.Machine.{at_start, is_full, lost, IsOpen, opened};
     ghost use Rattle.drda_node.specs.Feeding.{Feeds};
-    ghost use Rattle.recovery_laws.specs.Journaled.{shown_on};
+    ghost use Rattle.recovery.specs.Journaled.{shown_on};
     ghost use Rattle.durable_core.specs.Checkpointing.{Checkpoints};
     ghost use Rattle.drda_node.specs.Happening.{IsCheckpointed};
     ghost use Rattle.drda_node.specs.Hearing.{HearsPiece};
@@ -269,7 +269,7 @@ impl<D: Disk> Node<D> {
 
 ghost use Rattle.drda_node.specs.Asking.{IsJournaled, asked_of, left_by};
 ghost use Rattle.drda_node.specs.Happening.{IsCheckpointed};
-ghost use Rattle.recovery_laws.specs.Journaled.{shown_on};
+ghost use Rattle.recovery.specs.Journaled.{shown_on};
 ghost use Rattle.durable_core.specs.Checkpointing.{Checkpoints};
 
 // Ends what was a conversation's alone. What the core answers says nothing that is not known.

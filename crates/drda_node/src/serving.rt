@@ -12,7 +12,7 @@ use crate::node::Node;
 use crate::reading::{Incoming, read_event};
 use crate::ready::{Ready, holds_record};
 use drda_disk::Disk;
-use recovery_laws::images::calls_go_on;
+use recovery::images::calls_go_on;
 use std::alloc::{AllocError, Global};
 use std::io::Write;
 

@@ -7,7 +7,7 @@ use conversation::{Front, Settings};
 use drda_disk::Disk;
 use dss_frames::stays_read;
 use hearing::{Fed, Heard};
-use recovery_laws::images::calls_go_on;
+use recovery::images::calls_go_on;
 use std::alloc::{AllocError, Global};
 
 /// A place for a conversation, with the number that was given to the one that stands there.

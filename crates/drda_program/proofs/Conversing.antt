@@ -3,7 +3,7 @@ use Rattle.std.proofs.Common.{◌≡◌, refl, sym, subst, inl, inr, ℕ, Bool, 
 use Rattle.std.specs.Prelude.{IfErr}
 use Rattle.std.specs.Io.KnownBytes.{Appends}
 use Rattle.drda_disk.specs.Disk.{Life}
-use Rattle.recovery_laws.specs.Journaled.{OnDisk}
+use Rattle.recovery.specs.Journaled.{OnDisk}
 use Rattle.drda_program.proofs.Ran.{found}
 use Rattle.drda_program.specs.Files.{FileCalls}
 use Rattle.drda_program.specs.Listening.{HasListened, Listens, port_line}

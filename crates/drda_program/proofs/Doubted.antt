@@ -9,8 +9,8 @@ use Rattle.store_check.specs.Checkpoint.{CheckpointsAreStores}
 use Rattle.core_model.specs.Step.{CoreState}
 use Rattle.recovery.specs.Durable.{Doubts}
 use Rattle.recovery.specs.Sound.{LeadsAreSound}
-use Rattle.recovery_laws.specs.Part.{doubt_branches}
-use Rattle.recovery_laws.specs.Journaled.{OnDisk}
+use Rattle.recovery.specs.Part.{doubt_branches}
+use Rattle.recovery.specs.Journaled.{OnDisk}
 use Rattle.durable_core.specs.Opening.{StoodThere}
 use Rattle.drda_program.specs.Opening.{AreDoubts}
 

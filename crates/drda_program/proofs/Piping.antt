@@ -4,7 +4,7 @@ use Rattle.drda_disk.specs.Disk.{Life}
 use Rattle.session_commands.specs.Settings.{Settings, is_rdb_name}
 use Rattle.half_store.specs.Fresh.{is_name}
 use Rattle.recovery.specs.Durable.{fresh}
-use Rattle.recovery_laws.specs.Journaled.{OnDisk}
+use Rattle.recovery.specs.Journaled.{OnDisk}
 use Rattle.durable_core.specs.Opening.{IsOpenedTo}
 use Rattle.drda_node.specs.Asking.{AskedCore, asked_of}
 use Rattle.drda_node.specs.Machine.{Machine, at_start}

@@ -2,7 +2,7 @@
 use Rattle.std.proofs.Common.{◌≡◌, subst, inl, inr, ℕ, Bool, List, Option, Some, IfSome, Result, Ok}
 use Rattle.std.specs.Io.KnownBytes.{Keeps}
 use Rattle.drda_disk.specs.Disk.{Life}
-use Rattle.recovery_laws.specs.Journaled.{OnDisk}
+use Rattle.recovery.specs.Journaled.{OnDisk}
 use Rattle.drda_node.specs.Asking.{IsJournaled, asked_of}
 use Rattle.drda_node.specs.Machine.{Machine}
 use Rattle.drda_node.specs.Serving.{Runs}

@@ -1,7 +1,7 @@
 -- What making and opening stores reports, as those report it who ask for it.
 use Rattle.std.proofs.Common.{◌≡◌, sym, subst, ℕ, true, List, Result, Ok, Err}
 use Rattle.half_store.specs.Fresh.{is_name, is_store_of}
-use Rattle.recovery_laws.specs.Journaled.{OnDisk}
+use Rattle.recovery.specs.Journaled.{OnDisk}
 use Rattle.durable_core.specs.Reads.{IsExcused}
 use Rattle.durable_core.specs.declared.errors.OpenError.{OpenError}
 use Rattle.durable_core.specs.declared.errors.OpenError.TheVariants as errors

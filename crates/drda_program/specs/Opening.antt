@@ -7,8 +7,8 @@ use Rattle.drda_words.specs.Order.{rises}
 use Rattle.drda_disk.specs.Disk.{LeavesOnly, Life, Only, Stays}
 use Rattle.half_store.specs.Fresh.{IsFresh, IsNoneOrFresh}
 use Rattle.recovery.specs.Durable.{Durable}
-use Rattle.recovery_laws.specs.Opens.{OpensTo}
-use Rattle.recovery_laws.specs.Journaled.{OnDisk}
+use Rattle.recovery.specs.Opens.{OpensTo}
+use Rattle.recovery.specs.Journaled.{OnDisk}
 use Rattle.durable_core.specs.Opening.{IsOpenedTo, StoodThere}
 use Rattle.durable_core.specs.Reads.{IsExcused, TellsNoStore}
 use Rattle.durable_core.specs.declared.errors.OpenError.{OpenError}

@@ -6,9 +6,9 @@ use Rattle.drda_disk.specs.Disk.{Life}
 use Rattle.session_commands.specs.Settings.{Settings, is_rdb_name}
 use Rattle.half_store.specs.Fresh.{is_store_of}
 use Rattle.recovery.specs.Durable.{Durable, fresh}
-use Rattle.recovery_laws.specs.Journaled.{OnDisk}
-use Rattle.recovery_laws.specs.Opens.{OpensTo}
-use Rattle.recovery_laws.specs.Part.{opened}
+use Rattle.recovery.specs.Journaled.{OnDisk}
+use Rattle.recovery.specs.Opens.{OpensTo}
+use Rattle.recovery.specs.Part.{opened}
 use Rattle.drda_node.specs.Asking.{AskedCore, IsJournaled, asked_of}
 use Rattle.drda_node.specs.Machine.{Machine, at_start}
 use Rattle.drda_node.specs.Serving.{Runs}

@@ -4,7 +4,7 @@ ghost use Rattle.std.specs.Prelude.{◌≡◌, false, IsTrue, List, ℕ, OnOk};
 ghost use Rattle.drda_disk.specs.Disk.{LeavesOnly, Only};
 ghost use Rattle.half_store.specs.Fresh.{IsFresh, IsNoneOrFresh, IsUnmarked, is_store_of};
 ghost use Rattle.recovery.specs.Durable.{fresh as fresh_store};
-ghost use Rattle.recovery_laws.specs.Opens.{OpensTo};
+ghost use Rattle.recovery.specs.Opens.{OpensTo};
 ghost use Rattle.drda_program.specs.Endings.{fault_for};
 ghost use Rattle.drda_program.specs.Opening.{IsMade, IsOpened, OpensStore};
 ghost use Rattle.drda_program.specs.Stores.{BeginsFresh, FindsFresh, MakesFile, MakesNamed};
@@ -14,7 +14,7 @@ use crate::files::StoreFiles;
 use drda_disk::{Disk, MemDisk};
 use durable_core::{DurableCore, OpenError};
 use half_store::{FormatError, format, is_store};
-use recovery_laws::images::fresh_stores_open;
+use recovery::images::fresh_stores_open;
 use std::alloc::Global;
 
 /// The bytes of a store in memory.

@@ -6,10 +6,10 @@ use Rattle.unit_journal.specs.Journal.{held_of, region_of, room_of}
 use Rattle.unit_journal.specs.Record.{laid}
 use Rattle.recovery.specs.Durable.{Durable}
 use Rattle.recovery.specs.Laws.{held_for}
-use Rattle.recovery_laws.specs.Part.{opened}
-use Rattle.recovery_laws.specs.Journaled.{OnDisk}
-use Rattle.recovery_laws.specs.ImageLaws.{OpensToOne}
-use Rattle.recovery_laws.specs.Opens.{Holds, OpensTo}
+use Rattle.recovery.specs.Part.{opened}
+use Rattle.recovery.specs.Journaled.{OnDisk}
+use Rattle.recovery.specs.ImageLaws.{OpensToOne}
+use Rattle.recovery.specs.Opens.{Holds, OpensTo}
 use Rattle.durable_core.specs.Found.{IsFound, StandsThere, durable_in, name_in}
 use Rattle.durable_core.specs.Opening.{Finds, IsOpenedTo, StoodThere}
 use Rattle.durable_core.specs.Reads.{IsExcused}

@@ -14,8 +14,8 @@ use Rattle.unit_journal.specs.Stands.{DamagedFrom, Stands, StandsFrom}
 use Rattle.recovery.specs.Durable.{Durable, at_checkpoint, next}
 use Rattle.recovery.specs.Journal.{HasNoPlace, Leads, LeadsOn, OneState}
 use Rattle.recovery.specs.Laws.{held_for}
-use Rattle.recovery_laws.specs.ImageLaws.{IsThere, OpensThere}
-use Rattle.recovery_laws.proofs.Reading.{one_store}
+use Rattle.recovery.specs.ImageLaws.{IsThere, OpensThere}
+use Rattle.recovery.proofs.Reading.{one_store}
 use Rattle.durable_core.specs.Damage.{DamageOpensNot, HasBadPage, IsBadJournal, OneDamage, PreparesOne}
 
 -- ---- lists

@@ -21,8 +21,8 @@ use Rattle.recovery.specs.Durable.{Doubts}
 use Rattle.recovery.specs.Replay.{doubt_in, doubts_in}
 use Rattle.recovery.specs.Sound.{IsSound}
 use Rattle.recovery.specs.declared.prepared.PreparedUnit.{PreparedUnit}
-use Rattle.recovery_laws.specs.Part.{doubt_branches, doubt_units, opened}
-use Rattle.recovery_laws.proofs.Doubts.{xids_count}
+use Rattle.recovery.specs.Part.{doubt_branches, doubt_units, opened}
+use Rattle.recovery.proofs.Doubts.{xids_count}
 use Rattle.rdb_core.specs.Restored.{RestoresUnit, with_in_doubt}
 use Rattle.xa_manager.specs.declared.table.RestoreError.{RestoreError}
 use Rattle.xa_manager.specs.declared.table.RestoreError.TheVariants as error

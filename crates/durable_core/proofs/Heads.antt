@@ -10,7 +10,7 @@ use Rattle.half_store.specs.declared.errors.OpenError.{OpenError as HeadError}
 use Rattle.unit_journal.specs.Open.{IsWhole}
 use Rattle.unit_journal.specs.declared.errors.OpenError.{OpenError as JournalError}
 use Rattle.unit_journal.specs.declared.errors.OpenError.TheVariants.{Damaged}
-use Rattle.recovery_laws.proofs.Reading.{half_large}
+use Rattle.recovery.proofs.Reading.{half_large}
 use Rattle.durable_core.specs.Reads.{ArePagesInside, IsHead, IsInside}
 
 -- a half's end lies in the disk

@@ -7,12 +7,12 @@ use Rattle.unit_journal.specs.declared.journal.Journal.{Journal}
 use Rattle.recovery.specs.Durable.{Durable}
 use Rattle.recovery.specs.Laws.{held_for}
 use Rattle.core_model.specs.Step.{CoreState}
-use Rattle.recovery_laws.specs.Kept.{IsKept}
-use Rattle.recovery_laws.specs.StepLaws.{OpeningsAreKept}
-use Rattle.recovery_laws.specs.Part.{durable_part, opened}
+use Rattle.recovery.specs.Kept.{IsKept}
+use Rattle.recovery.specs.StepLaws.{OpeningsAreKept}
+use Rattle.recovery.specs.Part.{durable_part, opened}
 use Rattle.journal_recorder.specs.Recording.{disk_of, journal_of}
 use Rattle.journal_recorder.specs.declared.recorder.DiskRecorder.{DiskRecorder}
-use Rattle.recovery_laws.specs.Opens.{Holds}
+use Rattle.recovery.specs.Opens.{Holds}
 use Rattle.durable_core.specs.Recorded.{IsOnDisk, IsRecorded}
 use Rattle.durable_core.specs.Found.{IsFound, durable_in, name_in}
 use Rattle.durable_core.specs.declared.reading.Found.{Found}

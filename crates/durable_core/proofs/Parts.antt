@@ -20,9 +20,9 @@ use Rattle.recovery.specs.Durable.{Doubts, Durable, at_checkpoint}
 use Rattle.recovery.specs.Journal.{Leads, OneState}
 use Rattle.recovery.specs.Laws.{held_for}
 use Rattle.recovery.specs.Sound.{IsSound, LeadsAreSound}
-use Rattle.recovery_laws.specs.Opens.{Holds, IsJournal, OpensTo}
-use Rattle.recovery_laws.specs.ImageLaws.{IsThere, OpensThere, OpensToOne}
-use Rattle.recovery_laws.proofs.Reading.{one_store}
+use Rattle.recovery.specs.Opens.{Holds, IsJournal, OpensTo}
+use Rattle.recovery.specs.ImageLaws.{IsThere, OpensThere, OpensToOne}
+use Rattle.recovery.proofs.Reading.{one_store}
 use Rattle.durable_core.specs.Reads.{IsHead, IsInside, IsPlain}
 use Rattle.durable_core.specs.Found.{IsFound, StandsThere, durable_in, name_in}
 use Rattle.durable_core.specs.declared.errors.OpenError.{OpenError}

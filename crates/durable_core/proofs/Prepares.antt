@@ -8,7 +8,7 @@ use Rattle.unit_journal.specs.Record.{Entry, entries_of, entry_of as entry_in}
 use Rattle.unit_journal.specs.declared.record.Record.{Record}
 use Rattle.unit_records.specs.Records.{entry_of, prepared}
 use Rattle.recovery.specs.Laying.{prepares_of}
-use Rattle.recovery_laws.specs.Part.{durable_part}
+use Rattle.recovery.specs.Part.{durable_part}
 
 abbrev pub prepare_by : CoreState → List ℕ → Entry
 prepare_by s xid = entry_of (prepared xid (unit_of (global xid) s.base.units).changes (unit_of (global xid) s.base.units).claims)

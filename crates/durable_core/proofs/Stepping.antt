@@ -19,14 +19,14 @@ use Rattle.core_model.specs.Step.{CoreState, answer, step_state}
 use Rattle.unit_records.specs.Due.{record_due}
 use Rattle.unit_records.specs.declared.record_error.RecordError.{RecordError}
 use Rattle.unit_records.specs.declared.record_error.RecordError.TheVariants as error
-use Rattle.recovery_laws.specs.Part.{durable_part}
-use Rattle.recovery_laws.specs.Kept.{IsKept}
-use Rattle.recovery_laws.specs.StepLaws.{DecisionsAreOfDoubts, RecordsLead, SilentStepsStay, StepsKeep}
+use Rattle.recovery.specs.Part.{durable_part}
+use Rattle.recovery.specs.Kept.{IsKept}
+use Rattle.recovery.specs.StepLaws.{DecisionsAreOfDoubts, RecordsLead, SilentStepsStay, StepsKeep}
 use Rattle.journal_recorder.specs.Recording.{Allows, Fails, IsLeftOpen, Records, disk_of, has_failed, journal_of, made_of}
 use Rattle.journal_recorder.specs.declared.recorder.DiskRecorder.{DiskRecorder}
-use Rattle.recovery_laws.specs.Opens.{Holds}
-use Rattle.recovery_laws.specs.ImageLaws.{RecordsStay}
-use Rattle.recovery_laws.specs.Journaled.{FaultsAfter, IsDurable, IsUnchanged, IsUntouched, Journaled, Made, OnDisk, OneCallIsMade, shown_on}
+use Rattle.recovery.specs.Opens.{Holds}
+use Rattle.recovery.specs.ImageLaws.{RecordsStay}
+use Rattle.recovery.specs.Journaled.{FaultsAfter, IsDurable, IsUnchanged, IsUntouched, Journaled, Made, OnDisk, OneCallIsMade, shown_on}
 use Rattle.rdb_core.specs.Recorded as told
 use Rattle.rdb_core.specs.Steps as core
 use Rattle.durable_core.specs.Recorded.{IsOnDisk, IsRecorded, core_on}

@@ -26,10 +26,10 @@ use Rattle.recovery.specs.Laying.{DoubtsAreLaid, are_placed, prepares_of}
 use Rattle.recovery.specs.Sound.{IsSound, LeadsAreSound}
 use Rattle.recovery.proofs.Laying.{prepares_good}
 use Rattle.core_model.specs.Step.{CoreState}
-use Rattle.recovery_laws.specs.Part.{durable_part}
-use Rattle.recovery_laws.specs.Opens.{Holds, IsJournal, OpensTo}
-use Rattle.recovery_laws.specs.Journaled.{FaultsAfter, Journaled, Made, OneCallIsMade, OpensAfterSome, shown_on}
-use Rattle.recovery_laws.proofs.Reading.{active_sized, half_large, one_store}
+use Rattle.recovery.specs.Part.{durable_part}
+use Rattle.recovery.specs.Opens.{Holds, IsJournal, OpensTo}
+use Rattle.recovery.specs.Journaled.{FaultsAfter, Journaled, Made, OneCallIsMade, OpensAfterSome, shown_on}
+use Rattle.recovery.proofs.Reading.{active_sized, half_large, one_store}
 use Rattle.journal_recorder.specs.Checkpointing.{IsSwitched, KeepsOld, LeavesOldOrNew, LeavesOpen, Switches}
 use Rattle.journal_recorder.specs.Recording.{disk_of, has_failed, journal_of, made_of}
 use Rattle.journal_recorder.specs.declared.recorder.DiskRecorder.{DiskRecorder}

@@ -5,8 +5,8 @@ use Rattle.unit_records.specs.Records.{entry_of}
 use Rattle.checkpoints.specs.Room.{need_of}
 use Rattle.recovery.specs.Laws.{held_for}
 use Rattle.recovery.specs.Laying.{prepares_of}
-use Rattle.recovery_laws.specs.Journaled.{IsUnchanged, Shown}
-use Rattle.recovery_laws.specs.Part.{durable_part}
+use Rattle.recovery.specs.Journaled.{IsUnchanged, Shown}
+use Rattle.recovery.specs.Part.{durable_part}
 use Rattle.durable_core.specs.declared.checkpointing.Checkpointed.{Checkpointed}
 use Rattle.durable_core.specs.declared.checkpointing.Checkpointed.TheVariants.{Closed, DeviceFailed, Done, Full, NoMemory}
 

@@ -14,7 +14,7 @@ use Rattle.unit_records.specs.Records.{IsRecord, prepared}
 use Rattle.recovery.specs.Durable.{Doubts, Durable, at_checkpoint, doubt_of}
 use Rattle.recovery.specs.Journal.{HasNoPlace, Leads}
 use Rattle.recovery.specs.Laws.{held_for}
-use Rattle.recovery_laws.specs.Opens.{IsJournal, OpensTo}
+use Rattle.recovery.specs.Opens.{IsJournal, OpensTo}
 
 -- the head is damaged there, or the header page of a half
 abbrev pub IsBadHead : List ℕ → ℕ → Type 0

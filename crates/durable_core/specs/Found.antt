@@ -9,7 +9,7 @@ use Rattle.recovery.specs.Durable.{Durable}
 use Rattle.recovery.specs.Laws.{held_for}
 use Rattle.recovery.specs.Replay.{doubts_in}
 use Rattle.recovery.specs.Sound.{IsSound}
-use Rattle.recovery_laws.specs.Opens.{Holds}
+use Rattle.recovery.specs.Opens.{Holds}
 use Rattle.durable_core.specs.declared.reading.Found.{Found}
 
 abbrev pub name_in : Found → List ℕ

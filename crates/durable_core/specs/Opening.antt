@@ -4,9 +4,9 @@ use Rattle.drda_disk.specs.declared.region.Region.{Region}
 use Rattle.unit_journal.specs.Record.{Entry, laid}
 use Rattle.recovery.specs.Durable.{Durable}
 use Rattle.recovery.specs.Laws.{held_for}
-use Rattle.recovery_laws.specs.Part.{opened}
-use Rattle.recovery_laws.specs.Opens.{Holds}
-use Rattle.recovery_laws.specs.Journaled.{OnDisk}
+use Rattle.recovery.specs.Part.{opened}
+use Rattle.recovery.specs.Opens.{Holds}
+use Rattle.recovery.specs.Journaled.{OnDisk}
 use Rattle.durable_core.specs.Reads.{CountsError, IsExcused, TellsNoStore}
 use Rattle.durable_core.specs.declared.errors.Refused.{Refused}
 

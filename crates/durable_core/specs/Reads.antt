@@ -5,7 +5,7 @@ use Rattle.drda_disk.specs.declared.region.Region.{Region}
 use Rattle.half_store.specs.Active.{active_of, not_a_store}
 use Rattle.half_store.specs.Opened.{store_of}
 use Rattle.half_store.specs.declared.active.Active.{Active}
-use Rattle.recovery_laws.specs.Opens.{IsJournal}
+use Rattle.recovery.specs.Opens.{IsJournal}
 use Rattle.durable_core.specs.Damage.{IsDamagedAt}
 use Rattle.durable_core.specs.declared.errors.OpenError.{OpenError}
 use Rattle.durable_core.specs.declared.errors.OpenError.TheVariants.{Damaged, DeviceFailed, NoMemory, NotAStore}

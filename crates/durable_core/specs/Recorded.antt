@@ -6,12 +6,12 @@ use Rattle.unit_journal.specs.Journal.{IsSettled, held_of, region_of, room_of}
 use Rattle.unit_journal.specs.Record.{Entry}
 use Rattle.recovery.specs.Laws.{held_for}
 use Rattle.core_model.specs.Step.{CoreState}
-use Rattle.recovery_laws.specs.Kept.{IsKept}
-use Rattle.recovery_laws.specs.Part.{durable_part}
+use Rattle.recovery.specs.Kept.{IsKept}
+use Rattle.recovery.specs.Part.{durable_part}
 use Rattle.journal_recorder.specs.Recording.{disk_of, has_failed, journal_of, made_of}
 use Rattle.journal_recorder.specs.declared.recorder.DiskRecorder.{DiskRecorder}
-use Rattle.recovery_laws.specs.Opens.{Holds}
-use Rattle.recovery_laws.specs.Journaled.{OnDisk}
+use Rattle.recovery.specs.Opens.{Holds}
+use Rattle.recovery.specs.Journaled.{OnDisk}
 
 -- what is seen of a core, by its name, its state and who records
 abbrev pub core_on : {D : Type 0} → List ℕ → CoreState → DiskRecorder D → OnDisk D

@@ -7,7 +7,7 @@ use Rattle.core_calls.specs.Call.{Call, lost}
 use Rattle.core_calls.specs.Answer.{Answer, closed, device_failed, full, no_memory}
 use Rattle.core_model.specs.Step.{CoreState, answer, step_state}
 use Rattle.unit_records.specs.Due.{record_due}
-use Rattle.recovery_laws.specs.Journaled.{IsUnchanged, Shown}
+use Rattle.recovery.specs.Journaled.{IsUnchanged, Shown}
 use Rattle.rdb_core.specs.Steps.{may_want_any}
 
 -- what a record makes of the room

@@ -5,16 +5,16 @@ ghost use Rattle.core_calls.specs.Answer.{answer_of};
 ghost use Rattle.core_calls.specs.Call.{call_of};
 ghost use Rattle.xa_manager.specs.Branch.{in_doubt_xids};
 ghost use Rattle.rdb_core.specs.InDoubt.{xids_left};
-ghost use Rattle.recovery_laws.specs.Journaled.{IsDurable, Journaled, shown_on};
+ghost use Rattle.recovery.specs.Journaled.{IsDurable, Journaled, shown_on};
 ghost use Rattle.durable_core.specs.Steps.{Loses, Steps};
 
 use core_calls::{Answer, CoreCall};
 use drda_disk::Disk;
 use journal_recorder::DiskRecorder;
 use rdb_core::{Core, InDoubt, PlainState};
+use recovery::images::{calls_make_records, records_stay};
 use recovery::laws::doubts_hold_their_decisions;
-use recovery_laws::images::{calls_make_records, records_stay};
-use recovery_laws::steps::steps_are_recorded;
+use recovery::step_laws::steps_are_recorded;
 use std::alloc::AllocError;
 use std::marker::Model;
 
@@ -34,7 +34,7 @@ pub struct DurableCore<D: Disk> {
 
 impl<D: Disk> Model for DurableCore<D> {
     ghost use Rattle.std.specs.Prelude.{string_bytes};
-    ghost use Rattle.recovery_laws.specs.Journaled.{OnDisk};
+    ghost use Rattle.recovery.specs.Journaled.{OnDisk};
 
     ghost Value = { OnDisk D };
 

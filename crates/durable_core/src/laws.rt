@@ -2,8 +2,8 @@
 
 ghost use Rattle.durable_core.specs.Damage.{DamageOpensNot, OneDamage};
 
+use recovery::images::images_open_there;
 use recovery::laws::records_lead_one_way;
-use recovery_laws::images::images_open_there;
 use store_check::{checkpoints_are_known, one_first_bad_of_half};
 use unit_journal::a_region_has_one_reading;
 

@@ -3,7 +3,7 @@
 ghost use Rattle.std.specs.Prelude.{◌≡◌, OnOk, []};
 ghost use Rattle.recovery.specs.Replay.{doubts_in};
 ghost use Rattle.recovery.specs.Sound.{IsSound};
-ghost use Rattle.recovery_laws.specs.Part.{opened};
+ghost use Rattle.recovery.specs.Part.{opened};
 ghost use Rattle.rdb_core.specs.State.{recorder_of, state_of};
 
 use rdb_core::Core;

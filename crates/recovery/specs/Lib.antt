@@ -5,3 +5,11 @@ pub mod Sound
 pub mod Replay
 pub mod Journal
 pub mod Laying
+pub mod QuestionPlaces
+pub mod Part
+pub mod Kept
+pub mod StepLaws
+pub mod Opens
+pub mod Openings
+pub mod Journaled
+pub mod ImageLaws

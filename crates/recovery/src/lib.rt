@@ -1,13 +1,20 @@
-//! What the records of a journal stand for: the committed tables and the units in doubt.
+//! What the records of a journal stand for: the committed tables and the units in doubt. And the laws of
+//! recovery: what statements change has its place in the tables that they see, each step of the core
+//! makes just the record that leads to what is durable after it, and what the images of a store's disk
+//! open to.
 #![tactic(auto)]
 
 mod claimed;
 mod gathered;
+pub mod images;
 mod journal;
 mod laid;
 pub mod laws;
+pub mod openings;
 mod placed;
+pub mod places;
 mod prepared;
+pub mod step_laws;
 mod steps;
 
 pub use journal::{ReplayError, replay};

@@ -6,7 +6,7 @@ use Rattle.core_calls.specs.Answer.{Answer, closed, device_failed, full, no_memo
 use Rattle.core_model.specs.Step.{CoreState, Kept, Taken, step_by}
 use Rattle.serializability.specs.Answered.{AnsweredCall, CallsLead, CallsLeadOn, IsAnswer}
 use Rattle.serializability.specs.Belonging.{AnswersBelong, Belongs, ExcusesBelongToNone, is_excuse}
-use Rattle.recovery_laws.specs.Journaled.{IsUnchanged, OnDisk, shown_on}
+use Rattle.recovery.specs.Journaled.{IsUnchanged, OnDisk, shown_on}
 use Rattle.durable_core.specs.Steps.{IsExcused, IsTaken, MayWantMemory, Steps}
 use Rattle.shared_node.specs.Passes.{IsAnswered, Rests}
 

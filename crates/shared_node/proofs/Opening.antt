@@ -6,7 +6,7 @@ use Rattle.core_calls.specs.Answer.{Answer, no_memory}
 use Rattle.core_model.specs.Step.{CoreState, Kept, Taken}
 use Rattle.serializability.specs.Answered.{AnsweredCall, CallsLead, CallsLeadOn}
 use Rattle.serializability.specs.Belonging.{AnswersBelong, ExcusesBelongToNone, is_excuse}
-use Rattle.recovery_laws.specs.Journaled.{Journaled, OnDisk, shown_on}
+use Rattle.recovery.specs.Journaled.{Journaled, OnDisk, shown_on}
 use Rattle.shared_node.specs.declared.count.Count.{Count}
 use Rattle.shared_node.specs.Books.{AreCounted, IsKept, Told}
 use Rattle.shared_node.specs.Passes.{IsAnswered}

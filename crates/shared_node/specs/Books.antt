@@ -2,7 +2,7 @@
 use Rattle.std.specs.Prelude.{◌≡◌, ◌≤◌, ◌<◌, ℕ, ◌+◌, Bool, List, [], ◌∷◌, Option, Some, None, ◌==◌, if◌then◌else◌, length, replicate, slice_get}
 use Rattle.drda_disk.specs.Disk.{Life}
 use Rattle.serializability.specs.Answered.{AnsweredCall, CallsLead}
-use Rattle.recovery_laws.specs.Journaled.{Journaled, OnDisk, shown_on}
+use Rattle.recovery.specs.Journaled.{Journaled, OnDisk, shown_on}
 use Rattle.shared_node.specs.declared.count.Count.{Count}
 
 -- as its callers see it

@@ -1,7 +1,7 @@
 -- How full a core is.
 use Rattle.std.specs.Prelude.{ℕ, ◌^◌, ◌-◌, min, length}
 use Rattle.xa_manager.specs.Branch.{in_doubt_xids}
-use Rattle.recovery_laws.specs.Journaled.{OnDisk}
+use Rattle.recovery.specs.Journaled.{OnDisk}
 use Rattle.shared_node.specs.declared.filling.Filling.{Filling}
 
 -- a number, as far as one is counted up to

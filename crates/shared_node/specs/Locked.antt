@@ -1,7 +1,7 @@
 -- What a call makes of the book that it finds under the lock.
 use Rattle.std.specs.Prelude.{◌≡◌, ◌↔◌, Bool, true, false, IfSome, IsTrue}
 use Rattle.drda_disk.specs.Disk.{Life}
-use Rattle.recovery_laws.specs.Journaled.{Journaled, shown_on}
+use Rattle.recovery.specs.Journaled.{Journaled, shown_on}
 use Rattle.shared_node.specs.declared.pass.Pass.{Pass}
 use Rattle.shared_node.specs.declared.turn.Turn.{Turn}
 use Rattle.shared_node.specs.Books.{IsKept, Told}

@@ -5,7 +5,7 @@ use Rattle.core_calls.specs.Call.{Call, lost}
 use Rattle.core_calls.specs.Answer.{Answer, no_memory, answer_of}
 use Rattle.core_model.specs.Step.{Mark}
 use Rattle.serializability.specs.Answered.{AnsweredCall}
-use Rattle.recovery_laws.specs.Journaled.{OnDisk, shown_on}
+use Rattle.recovery.specs.Journaled.{OnDisk, shown_on}
 use Rattle.durable_core.specs.Steps.{MayWantMemory, Steps}
 use Rattle.shared_node.specs.declared.acted.Acted.{Acted}
 use Rattle.shared_node.specs.declared.acted.Acted.TheVariants.{Answered, StrangerPass}

@@ -12,7 +12,7 @@ use crate::renewals::Renewals;
 use core_calls::{Answer, CoreCall};
 use drda_disk::Disk;
 use durable_core::DurableCore;
-use recovery_laws::images::calls_go_on;
+use recovery::images::calls_go_on;
 use serializability::answers::{answers_are_serial, answers_belong_to_calls};
 use std::alloc::Global;
 use std::snapshot::Snapshot;
@@ -20,7 +20,7 @@ use std::snapshot::Snapshot;
 impl<D: Disk> Book<D> {
     ghost use Rattle.std.specs.Prelude.{◌≡◌, ◌<◌, ◌↔◌, IfErr, IfOk, IfSome, IsTrue, None, false, true};
     ghost use Rattle.core_calls.specs.Call.{call_of};
-    ghost use Rattle.recovery_laws.specs.Journaled.{Journaled, shown_on};
+    ghost use Rattle.recovery.specs.Journaled.{Journaled, shown_on};
     ghost use Rattle.shared_node.specs.Books.{IsIdle, newly_opened};
     ghost use Rattle.shared_node.specs.Passes.{Acts, Admits, HasNoLeave, Knows, Rests, retired};
 

@@ -3,7 +3,7 @@
 ghost use Rattle.std.specs.Prelude.{◌≡◌, false, true};
 ghost use Rattle.core_calls.specs.Answer.{answer_of};
 ghost use Rattle.core_calls.specs.Call.{call_of};
-ghost use Rattle.recovery_laws.specs.Journaled.{Journaled, shown_on};
+ghost use Rattle.recovery.specs.Journaled.{Journaled, shown_on};
 ghost use Rattle.serializability.specs.Belonging.{is_excuse};
 ghost use Rattle.shared_node.specs.Passes.{IsAnswered};
 
@@ -11,7 +11,7 @@ use crate::renewals::Renewals;
 use core_calls::{Answer, CoreCall};
 use drda_disk::Disk;
 use durable_core::DurableCore;
-use recovery_laws::images::calls_go_on;
+use recovery::images::calls_go_on;
 use serializability::answers::answers_belong_to_calls;
 
 /// The core takes a step. Where the journal has no room for its record, the core writes a checkpoint first, unless

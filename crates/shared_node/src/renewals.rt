@@ -3,7 +3,7 @@
 use crate::filling::Filling;
 use drda_disk::Disk;
 use durable_core::{Checkpointed, DurableCore};
-use recovery_laws::images::calls_go_on;
+use recovery::images::calls_go_on;
 
 /// The checkpoints that a book writes: how many were written since it was opened, and how full the core was behind
 /// the last one that was written, or that had no room.
@@ -15,7 +15,7 @@ pub struct Renewals {
 
 impl Renewals {
     ghost use Rattle.std.specs.Prelude.{◌≡◌, ◌↔◌, IsTrue, None, Some};
-    ghost use Rattle.recovery_laws.specs.Journaled.{Journaled, shown_on};
+    ghost use Rattle.recovery.specs.Journaled.{Journaled, shown_on};
     ghost use Rattle.shared_node.specs.Fillings.{filling_of};
     ghost use Rattle.shared_node.specs.Passes.{Rests};
 

@@ -6,11 +6,11 @@ use Rattle.session_commands.specs.Settings.{Settings}
 use Rattle.unit_journal.specs.Record.{Entry}
 use Rattle.unit_records.specs.Records.{UnitRecord, entry_of}
 use Rattle.recovery.specs.Durable.{Durable, replayed_from}
-use Rattle.recovery_laws.specs.Openings.{ImagesAreSound}
-use Rattle.recovery_laws.specs.Part.{durable_part, opened}
-use Rattle.recovery_laws.specs.Opens.{OpensTo}
-use Rattle.recovery_laws.specs.StepLaws.{OpeningsAreKept}
-use Rattle.recovery_laws.specs.Journaled.{OnDisk, OpensAfterAll, OpensAfterSome}
+use Rattle.recovery.specs.Openings.{ImagesAreSound}
+use Rattle.recovery.specs.Part.{durable_part, opened}
+use Rattle.recovery.specs.Opens.{OpensTo}
+use Rattle.recovery.specs.StepLaws.{OpeningsAreKept}
+use Rattle.recovery.specs.Journaled.{OnDisk, OpensAfterAll, OpensAfterSome}
 use Rattle.durable_core.specs.Opening.{IsOpenedTo}
 use Rattle.durable_core.specs.Reads.{IsExcused}
 use Rattle.durable_core.specs.declared.errors.Refused.{Refused}

@@ -9,8 +9,8 @@ use Rattle.drda_disk.specs.declared.fuse.FuseDisk.{FuseDisk}
 use Rattle.drda_disk.specs.declared.memory.MemDisk.{MemDisk}
 use Rattle.core_model.specs.Step.{CoreState}
 use Rattle.recovery.specs.Durable.{Durable}
-use Rattle.recovery_laws.specs.Part.{opened}
-use Rattle.recovery_laws.specs.Opens.{OpensTo}
+use Rattle.recovery.specs.Part.{opened}
+use Rattle.recovery.specs.Opens.{OpensTo}
 use Rattle.drda_node.specs.declared.serving.RunEnd.{RunEnd}
 use Rattle.durable_core.specs.declared.errors.OpenError.{OpenError}
 use Rattle.durable_core.specs.Reads.{IsExcused}

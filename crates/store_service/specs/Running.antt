@@ -6,9 +6,9 @@ use Rattle.drda_disk.specs.Disk.{LeavesOnly, Life, Now, Only, Stays}
 use Rattle.session_commands.specs.Settings.{Settings, is_rdb_name}
 use Rattle.unit_records.specs.Records.{IsGood, UnitRecord, entry_of}
 use Rattle.recovery.specs.Durable.{Durable, replayed_from}
-use Rattle.recovery_laws.specs.Part.{durable_part, opened}
-use Rattle.recovery_laws.specs.Opens.{OpensTo}
-use Rattle.recovery_laws.specs.Journaled.{Journaled, OnDisk, OpensAfterAll, OpensAfterSome, shown_on}
+use Rattle.recovery.specs.Part.{durable_part, opened}
+use Rattle.recovery.specs.Opens.{OpensTo}
+use Rattle.recovery.specs.Journaled.{Journaled, OnDisk, OpensAfterAll, OpensAfterSome, shown_on}
 use Rattle.durable_core.specs.declared.errors.OpenError.{OpenError}
 use Rattle.durable_core.specs.declared.errors.OpenError.TheVariants.{Damaged, DeviceFailed, NoMemory, NotAStore}
 use Rattle.drda_node.specs.Asking.{AskedCore, asked_of}

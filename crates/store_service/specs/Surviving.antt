@@ -3,8 +3,8 @@ use Rattle.std.specs.Prelude.{◌≡◌, ℕ, List, [], map, Some, Result, Ok, E
 use Rattle.core_model.specs.Step.{CoreState}
 use Rattle.unit_records.specs.Records.{UnitRecord, entry_of}
 use Rattle.recovery.specs.Durable.{Durable}
-use Rattle.recovery_laws.specs.Part.{opened}
-use Rattle.recovery_laws.specs.Journaled.{OpensAfterAll}
+use Rattle.recovery.specs.Part.{opened}
+use Rattle.recovery.specs.Journaled.{OpensAfterAll}
 use Rattle.session_commands.specs.Settings.{Settings}
 use Rattle.drda_node.specs.Machine.{Machine, at_start}
 use Rattle.drda_node.specs.Serving.{Runs}

@@ -7,8 +7,8 @@ ghost use Rattle.store_service.specs.Running.{IsStore, RunsCore, RunsNode, RunsS
 use drda_disk::Disk;
 use drda_node::{DurableCore, Node, Ready, RunEnd, Settings, SettingsError, open, run};
 use durable_core::OpenError;
-use recovery_laws::openings::openings_begin_histories;
-use recovery_laws::steps::openings_are_kept;
+use recovery::openings::openings_begin_histories;
+use recovery::step_laws::openings_are_kept;
 use std::alloc::Global;
 use std::io::Write;
 

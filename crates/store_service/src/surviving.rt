@@ -3,8 +3,8 @@
 ghost use Rattle.std.specs.Prelude.{◌≡◌, IfErr, IfOk, List, true, ℕ};
 ghost use Rattle.drda_disk.specs.MemDisk.{life_of};
 ghost use Rattle.recovery.specs.Durable.{Durable};
-ghost use Rattle.recovery_laws.specs.Opens.{OpensTo};
-ghost use Rattle.recovery_laws.specs.Part.{opened};
+ghost use Rattle.recovery.specs.Opens.{OpensTo};
+ghost use Rattle.recovery.specs.Part.{opened};
 ghost use Rattle.durable_core.specs.Reads.{IsExcused};
 ghost use Rattle.store_service.specs.Running.{IsRefusal, IsStore};
 ghost use Rattle.store_service.specs.Surviving.{Survives};

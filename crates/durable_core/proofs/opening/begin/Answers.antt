@@ -1,7 +1,7 @@
 use Rattle.std.proofs.Common.{◌≡◌, ◌∙◌, ap}
 use Rattle.recovery.specs.Replay.{doubts_in}
 use Rattle.core_model.specs.Step.{CoreState}
-use Rattle.recovery_laws.specs.Part.{opened}
+use Rattle.recovery.specs.Part.{opened}
 use Rattle.journal_recorder.specs.Recording.{disk_of, journal_of}
 use Rattle.journal_recorder.specs.declared.recorder.DiskRecorder.{DiskRecorder}
 use Rattle.rdb_core.specs.State.{recorder_of, state_of}

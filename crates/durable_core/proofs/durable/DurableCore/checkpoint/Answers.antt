@@ -9,8 +9,8 @@ use Rattle.table_store.specs.TableStore.{store_in}
 use Rattle.recovery.specs.Journal.{AreGood}
 use Rattle.recovery.specs.Laying.{prepares_of}
 use Rattle.unit_records.specs.Records.{entry_of}
-use Rattle.recovery_laws.specs.Journaled.{Journaled, OnDisk, shown_on}
-use Rattle.recovery_laws.specs.Part.{durable_part}
+use Rattle.recovery.specs.Journaled.{Journaled, OnDisk, shown_on}
+use Rattle.recovery.specs.Part.{durable_part}
 use Rattle.durable_core.specs.Recorded.{core_on}
 use Rattle.durable_core.proofs.Stepping.{stays_failed}
 use Rattle.durable_core.proofs.Switching.{Laws, kept_journaled, kept_so, open_journaled, switched_journaled, switched_so, untouched_journaled}

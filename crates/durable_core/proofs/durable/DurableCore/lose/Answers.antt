@@ -3,7 +3,7 @@ use Rattle.core_calls.specs.Answer.{answer_of}
 use Rattle.core_calls.specs.Call.{lost}
 use Rattle.rdb_core.specs.State.{recorder_of, state_of}
 use Rattle.journal_recorder.specs.Recording.{has_failed}
-use Rattle.recovery_laws.specs.Journaled.{Journaled, OnDisk, shown_on}
+use Rattle.recovery.specs.Journaled.{Journaled, OnDisk, shown_on}
 use Rattle.durable_core.specs.Recorded.{core_on}
 use Rattle.durable_core.proofs.Stepping.{stays_failed, taken_step}
 use Rattle.durable_core.proofs.durable.DurableCore.lose.Goals as goal

@@ -1,0 +1,133 @@
+-- Units that come into doubt and are decided, and those of the branches in doubt.
+use Rattle.std.proofs.Common.{◌≡◌, ⊎_elim, ℕ, Bool, true, false, not, List, [], ◌∷◌, Option, Some, None, refl, sym, ◌∙◌, ap, subst, Ordering, Greater}
+use Rattle.std.specs.Prelude.{bytes_eq, if◌then◌else◌}
+use Rattle.std.specs.Ordering.{match_ordering, nat_cmp, ordering_reverse}
+use Rattle.std.specs.Cmp.Lexicographic.{slice_cmp}
+use Rattle.drda_words.specs.Order.{precedes}
+use Rattle.drda_words.proofs.Precedes.{bytes_eq-refl, cmp_turned, precedes-Less, precedes_other, same_bytes}
+use Rattle.xa_manager.specs.declared.branch.Branch.{Branch}
+use Rattle.xa_manager.specs.declared.branch.BranchState.{BranchState}
+use Rattle.xa_manager.specs.declared.branch.BranchState.TheVariants.{Prepared}
+use Rattle.xa_manager.specs.Branch.{is_in_doubt, state_of, with_state, without}
+use Rattle.xa_manager.proofs.Rising.{Above, Rises, with_state_above, without_above}
+use Rattle.core_model.specs.Units.{Work}
+use Rattle.core_model.proofs.Owners.{both, which}
+use Rattle.recovery.specs.Durable.{Doubts, doubt_of, with_doubt, without_doubt}
+use Rattle.recovery.proofs.Doubts.{first_state, pairs, pairs_in, pairs_out, state_rest}
+
+-- an XID comes before each branch that is known behind it
+above_known : (bs : List Branch) (y x : List ℕ) (s : BranchState) → Above y bs → state_of bs x ≡ Some s → precedes y x ≡ true
+above_known [] y x s above known = absurd cc
+above_known (b ∷ bs) y x s above known =
+    ⊎_elim
+    (λ so. subst (λ (z : List ℕ). precedes y z ≡ true) (same_bytes b.xid x so) above.0)
+    (λ n. above_known bs y x s above.1 (sym (state_rest b bs x n) ∙ known))
+    (which (bytes_eq b.xid x))
+
+pub eq_turned : (a b : List ℕ) → bytes_eq a b ≡ false → bytes_eq b a ≡ false
+eq_turned a b ne = ⊎_elim (λ so. both (bytes_eq a b) (ap (bytes_eq a) (same_bytes b a so) ∙ bytes_eq-refl a) ne) (λ n. n) (which (bytes_eq b a))
+
+module _ (f : List ℕ → Work) where
+  -- ---- a unit comes into doubt
+
+  -- with a unit before the branches: before, instead of, or behind the first
+  abbrev put_at : List ℕ → Work → Branch → List Branch → Ordering → Doubts
+  put_at x w b bs o = match_ordering o ((x, w) ∷ (b.xid, f b.xid) ∷ pairs f bs) ((b.xid, w) ∷ pairs f bs) ((b.xid, f b.xid) ∷ with_doubt (pairs f bs) x w)
+
+  put_first : (bs : List Branch) (x : List ℕ) (w : Work) → Above x bs → with_doubt (pairs f bs) x w ≡ (x, w) ∷ pairs f bs
+  put_first [] x w above = refl
+  put_first (b ∷ bs) x w above =
+      ⊎_elim
+      (λ so. ap (λ (l : Doubts). with_doubt l x w) (pairs_in f b bs so) ∙ ap (put_at x w b bs) (precedes-Less x b.xid above.0) ∙ ap (λ (l : Doubts). (x, w) ∷ l) (sym (pairs_in f b bs so)))
+      (λ n. ap (λ (l : Doubts). with_doubt l x w) (pairs_out f b bs n) ∙ put_first bs x w above.1 ∙ ap (λ (l : Doubts). (x, w) ∷ l) (sym (pairs_out f b bs n)))
+      (which (is_in_doubt b.state))
+
+  pub pairs_prepared : (bs : List Branch) (x : List ℕ) (old : BranchState) → Rises bs → state_of bs x ≡ Some old → is_in_doubt old ≡ false → with_doubt (pairs f bs) x (f x) ≡ pairs f (with_state bs x Prepared)
+  pairs_prepared [] x old rise known out = absurd cc
+  pairs_prepared (b ∷ bs) x old rise known out =
+      let set_to : Branch = record { xid = b.xid; state = Prepared } in
+      let turned : Bool → Doubts = λ t. pairs f ((if t then set_to else b) ∷ with_state bs x Prepared) in
+      ⊎_elim
+      (λ so.
+      let at : b.xid ≡ x = same_bytes b.xid x so in
+      let above : Above x bs = subst (λ (y : List ℕ). Above y bs) at rise.0 in
+      ap (λ (l : Doubts). with_doubt l x (f x)) (pairs_out f b bs (first_state b bs x old so known ∙ out)) ∙ put_first bs x (f x) above
+      ∙ ap (λ (y : List ℕ). (y, f y) ∷ pairs f bs) (sym at)
+      ∙ ap (λ (l : List Branch). (b.xid, f b.xid) ∷ pairs f l) (sym (with_state_above bs x Prepared above))
+      ∙ sym (pairs_in f set_to (with_state bs x Prepared) refl) ∙ sym (ap turned so))
+      (λ n.
+      let tail : state_of bs x ≡ Some old = sym (state_rest b bs x n) ∙ known in
+      let rest = pairs_prepared bs x old rise.1 tail out in
+      let later : slice_cmp nat_cmp x b.xid ≡ Greater = cmp_turned x b.xid ∙ ap (λ (o : Ordering). ordering_reverse o) (precedes-Less b.xid x (above_known bs b.xid x old rise.0 tail)) in
+      ⊎_elim
+      (λ doubt. ap (λ (l : Doubts). with_doubt l x (f x)) (pairs_in f b bs doubt) ∙ ap (put_at x (f x) b bs) later ∙ ap (λ (l : Doubts). (b.xid, f b.xid) ∷ l) rest ∙ sym (pairs_in f b (with_state bs x Prepared) doubt) ∙ sym (ap turned n))
+      (λ sure. ap (λ (l : Doubts). with_doubt l x (f x)) (pairs_out f b bs sure) ∙ rest ∙ sym (pairs_out f b (with_state bs x Prepared) sure) ∙ sym (ap turned n))
+      (which (is_in_doubt b.state)))
+      (which (bytes_eq b.xid x))
+
+  -- ---- a unit that is sought
+
+  abbrev found_by : List ℕ → Branch → List Branch → Bool → Option Work
+  found_by x b bs t = if t then Some (f b.xid) else doubt_of (pairs f bs) x
+
+  sought_in : (b : Branch) (bs : List Branch) (x : List ℕ) → is_in_doubt b.state ≡ true → doubt_of (pairs f (b ∷ bs)) x ≡ found_by x b bs (bytes_eq x b.xid)
+  sought_in b bs x so = ap (λ (l : Doubts). doubt_of l x) (pairs_in f b bs so)
+
+  sought_out : (b : Branch) (bs : List Branch) (x : List ℕ) → is_in_doubt b.state ≡ false → doubt_of (pairs f (b ∷ bs)) x ≡ doubt_of (pairs f bs) x
+  sought_out b bs x n = ap (λ (l : Doubts). doubt_of l x) (pairs_out f b bs n)
+
+  -- not that of the first branch
+  sought_rest : (b : Branch) (bs : List Branch) (x : List ℕ) → bytes_eq x b.xid ≡ false → doubt_of (pairs f (b ∷ bs)) x ≡ doubt_of (pairs f bs) x
+  sought_rest b bs x ne = ⊎_elim (λ so. sought_in b bs x so ∙ ap (found_by x b bs) ne) (λ n. sought_out b bs x n) (which (is_in_doubt b.state))
+
+  none_above : (bs : List Branch) (x : List ℕ) → Above x bs → doubt_of (pairs f bs) x ≡ None
+  none_above [] x above = refl
+  none_above (b ∷ bs) x above = sought_rest b bs x (precedes_other x b.xid above.0) ∙ none_above bs x above.1
+
+  pub not_doubted : (bs : List Branch) (x : List ℕ) (old : BranchState) → Rises bs → state_of bs x ≡ Some old → is_in_doubt old ≡ false → doubt_of (pairs f bs) x ≡ None
+  not_doubted [] x old rise known out = refl
+  not_doubted (b ∷ bs) x old rise known out =
+      ⊎_elim
+      (λ so. sought_out b bs x (first_state b bs x old so known ∙ out) ∙ none_above bs x (subst (λ (y : List ℕ). Above y bs) (same_bytes b.xid x so) rise.0))
+      (λ n. sought_rest b bs x (eq_turned b.xid x n) ∙ not_doubted bs x old rise.1 (sym (state_rest b bs x n) ∙ known) out)
+      (which (bytes_eq b.xid x))
+
+  pub doubted : (bs : List Branch) (x : List ℕ) → state_of bs x ≡ Some Prepared → doubt_of (pairs f bs) x ≡ Some (f x)
+  doubted [] x known = absurd cc
+  doubted (b ∷ bs) x known =
+      ⊎_elim
+      (λ so.
+      let at : b.xid ≡ x = same_bytes b.xid x so in
+      sought_in b bs x (first_state b bs x Prepared so known) ∙ ap (found_by x b bs) (ap (bytes_eq x) at ∙ bytes_eq-refl x) ∙ ap (λ (y : List ℕ). let o : Option Work = Some (f y) in o) at)
+      (λ n. sought_rest b bs x (eq_turned b.xid x n) ∙ doubted bs x (sym (state_rest b bs x n) ∙ known))
+      (which (bytes_eq b.xid x))
+
+  -- ---- a unit is decided
+
+  abbrev left_by : List ℕ → Branch → List Branch → Bool → Doubts
+  left_by x b bs t = if t then pairs f bs else (b.xid, f b.xid) ∷ without_doubt (pairs f bs) x
+
+  pub pairs_decided : (bs : List Branch) (x : List ℕ) → Rises bs → state_of bs x ≡ Some Prepared → without_doubt (pairs f bs) x ≡ pairs f (without bs x)
+  pairs_decided [] x rise known = refl
+  pairs_decided (b ∷ bs) x rise known =
+      let kept : Bool → Doubts = λ t. pairs f (if not t then b ∷ without bs x else without bs x) in
+      ⊎_elim
+      (λ so.
+      let at : b.xid ≡ x = same_bytes b.xid x so in
+      let above : Above x bs = subst (λ (y : List ℕ). Above y bs) at rise.0 in
+      ap (λ (l : Doubts). without_doubt l x) (pairs_in f b bs (first_state b bs x Prepared so known)) ∙ ap (left_by x b bs) (ap (bytes_eq x) at ∙ bytes_eq-refl x)
+      ∙ ap (pairs f) (sym (without_above bs x above)) ∙ sym (ap kept so))
+      (λ n.
+      let rest = pairs_decided bs x rise.1 (sym (state_rest b bs x n) ∙ known) in
+      ⊎_elim
+      (λ doubt. ap (λ (l : Doubts). without_doubt l x) (pairs_in f b bs doubt) ∙ ap (left_by x b bs) (eq_turned b.xid x n) ∙ ap (λ (l : Doubts). (b.xid, f b.xid) ∷ l) rest ∙ sym (pairs_in f b (without bs x) doubt) ∙ sym (ap kept n))
+      (λ sure. ap (λ (l : Doubts). without_doubt l x) (pairs_out f b bs sure) ∙ rest ∙ sym (pairs_out f b (without bs x) sure) ∙ sym (ap kept n))
+      (which (is_in_doubt b.state)))
+      (which (bytes_eq b.xid x))
+
+-- then its branch is not known
+pub none_left : (bs : List Branch) (x : List ℕ) → state_of (without bs x) x ≡ None
+none_left [] x = refl
+none_left (b ∷ bs) x =
+    let kept : Bool → Option BranchState = λ t. state_of (if not t then b ∷ without bs x else without bs x) x in
+    ⊎_elim (λ so. ap kept so ∙ none_left bs x) (λ n. ap kept n ∙ state_rest b (without bs x) x n ∙ none_left bs x) (which (bytes_eq b.xid x))

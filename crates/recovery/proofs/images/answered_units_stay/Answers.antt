@@ -1,0 +1,5 @@
+use Rattle.recovery.proofs.Staying.{answered_stays}
+use Rattle.recovery.proofs.images.answered_units_stay.Goals as goal
+
+pub returns : goal.returns
+returns g c = answered_stays g.D.Disk.life

@@ -1,0 +1,36 @@
+-- Steps of the core, and what is durable of it.
+use Rattle.std.specs.Prelude.{◌≡◌, ◌≤◌, ℕ, Some, None}
+use Rattle.core_calls.specs.Call.{Call}
+use Rattle.core_model.specs.Step.{CoreState, step_state}
+use Rattle.unit_records.specs.Records.{UnitRecord}
+use Rattle.unit_records.specs.Room.{released}
+use Rattle.recovery.specs.Durable.{Durable, next}
+use Rattle.recovery.specs.Laws.{held_for}
+use Rattle.recovery.specs.Sound.{IsSound}
+use Rattle.unit_records.specs.Due.{record_due}
+use Rattle.recovery.specs.Part.{durable_part, opened}
+use Rattle.recovery.specs.Kept.{IsKept}
+
+-- a kept core stays so
+abbrev pub StepsKeep : Type 0
+StepsKeep = (s : CoreState) (conversation : ℕ) (k : Call) → IsKept s → IsKept (step_state s conversation k)
+
+-- where no record is due, nothing durable changes
+abbrev pub SilentStepsStay : Type 0
+SilentStepsStay = (s : CoreState) (conversation : ℕ) (k : Call) → IsKept s → record_due s conversation k ≡ None → durable_part (step_state s conversation k) ≡ durable_part s
+
+-- a record that is due has its place, and leads to what is durable then
+abbrev pub RecordsLead : Type 0
+RecordsLead = (s : CoreState) (conversation : ℕ) (k : Call) (r : UnitRecord) → IsKept s → record_due s conversation k ≡ Some r → next (durable_part s) r ≡ Some (durable_part (step_state s conversation k))
+
+-- what a record that is due releases was held for a unit in doubt
+abbrev pub DecisionsAreOfDoubts : Type 0
+DecisionsAreOfDoubts = (s : CoreState) (conversation : ℕ) (k : Call) (r : UnitRecord) → IsKept s → record_due s conversation k ≡ Some r → released r ≤ held_for (durable_part s).doubts
+
+-- what records lead to is sound, and a core that is opened over it is kept
+pub record IsOpened (d : Durable) : Type 0 where
+  pub kept : IsKept (opened d)
+  pub part : durable_part (opened d) ≡ d
+
+abbrev pub OpeningsAreKept : Type 0
+OpeningsAreKept = (d : Durable) → IsSound d → IsOpened d

@@ -1,0 +1,69 @@
+//! Laws of the definitions. The functions do nothing: their contracts are the laws.
+
+ghost use Rattle.recovery.specs.Journaled.{AnsweredStays, CallsGoOn, OneCallIsMade};
+ghost use Rattle.recovery.specs.ImageLaws.{FreshStoresOpen, OpensThere, OpensToOne, RecordsOpen, RecordsStay};
+
+use crate::laws::{records_follow_one_another, records_lead_one_way};
+use drda_disk::Disk;
+use store_check::checkpoints_are_known;
+use unit_journal::a_region_has_one_reading;
+use unit_records::laws::records_have_one_reading;
+
+/// An image opens to one state at most.
+pub fn images_open_to_one_state()
+    ensures { OpensToOne }
+{
+    a_region_has_one_reading();
+    checkpoints_are_known();
+    records_lead_one_way();
+}
+
+/// An image that opens has its journal where its active half says.
+pub fn images_open_there()
+    ensures { OpensThere }
+{}
+
+/// Where a record is added, images from before it or after it open to the state before it or behind it.
+pub fn records_open()
+    ensures { RecordsOpen }
+{
+    checkpoints_are_known();
+    records_have_one_reading();
+}
+
+/// Where a record was added, an image in which it stands opens to the state behind it.
+pub fn records_stay()
+    ensures { RecordsStay }
+{
+    checkpoints_are_known();
+    records_have_one_reading();
+}
+
+/// A store that was just made opens without tables and without units in doubt, and its journal has no
+/// records.
+pub fn fresh_stores_open()
+    ensures { FreshStoresOpen }
+{
+    checkpoints_are_known();
+}
+
+/// Calls one after another leave on the disk, at any moment, the state after the first of all their
+/// records.
+pub fn calls_go_on<D: Disk>()
+    ensures { CallsGoOn D.life }
+{
+    records_follow_one_another();
+}
+
+/// What one call makes of a core and its disk: it makes one record, or none, or the core had failed.
+pub fn calls_make_records<D: Disk>()
+    ensures { OneCallIsMade D.life }
+{
+    records_open();
+}
+
+/// What calls have answered is in each image that a crash leaves from then on, though the device failed
+/// later in the same call.
+pub fn answered_units_stay<D: Disk>()
+    ensures { AnsweredStays D.life }
+{}

@@ -1,0 +1,34 @@
+//! Laws of the definitions. The functions do nothing: their contracts are the laws.
+
+ghost use Rattle.recovery.specs.StepLaws.{DecisionsAreOfDoubts, OpeningsAreKept, RecordsLead, SilentStepsStay, StepsKeep};
+
+use crate::laws::{doubts_hold_their_decisions, places_depend_on_tables};
+use crate::places::changes_have_places;
+use core_model::laws::units_in_doubt_wait;
+use tables::laws::changes_are_local;
+use unit_locks::adding;
+use xa_manager::{actions_fit_states, works_while_active};
+
+/// What is durable of a core is what its records lead to: each step of a kept core makes one record due at
+/// most, which has its place among those before and leads to what is durable after the step; a step
+/// without a record changes nothing durable.
+pub fn steps_are_recorded()
+    ensures keep { StepsKeep }
+    ensures silent { SilentStepsStay }
+    ensures lead { RecordsLead }
+    ensures decisions { DecisionsAreOfDoubts }
+{
+    actions_fit_states();
+    adding();
+    changes_are_local();
+    changes_have_places();
+    doubts_hold_their_decisions();
+    places_depend_on_tables();
+    units_in_doubt_wait();
+    works_while_active();
+}
+
+/// A core that is opened over what records lead to is kept, and just that is durable of it.
+pub fn openings_are_kept()
+    ensures { OpeningsAreKept }
+{}

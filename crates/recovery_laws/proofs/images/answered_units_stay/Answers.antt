@@ -1,5 +1,0 @@
-use Rattle.recovery_laws.proofs.Staying.{answered_stays}
-use Rattle.recovery_laws.proofs.images.answered_units_stay.Goals as goal
-
-pub returns : goal.returns
-returns g c = answered_stays g.D.Disk.life

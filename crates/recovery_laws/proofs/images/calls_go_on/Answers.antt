@@ -1,5 +1,0 @@
-use Rattle.recovery_laws.proofs.Going.{calls_go_on}
-use Rattle.recovery_laws.proofs.images.calls_go_on.Goals as goal
-
-pub returns : goal.returns
-returns g c = calls_go_on c.records_follow_one_another.ensures.goes_on g.D.Disk.life

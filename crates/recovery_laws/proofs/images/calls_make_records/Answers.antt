@@ -1,5 +1,0 @@
-use Rattle.recovery_laws.proofs.Making.{one_call_is_made}
-use Rattle.recovery_laws.proofs.images.calls_make_records.Goals as goal
-
-pub returns : goal.returns
-returns g c = one_call_is_made c.records_open.ensures g.D.Disk.life

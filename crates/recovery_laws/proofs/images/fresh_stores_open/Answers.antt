@@ -1,5 +1,0 @@
-use Rattle.recovery_laws.proofs.Reading.{fresh_stores_open}
-use Rattle.recovery_laws.proofs.images.fresh_stores_open.Goals as goal
-
-pub returns : goal.returns
-returns c = fresh_stores_open c.checkpoints_are_known.ensures.none

@@ -1,5 +1,0 @@
-use Rattle.recovery_laws.proofs.Reading.{opens_there}
-use Rattle.recovery_laws.proofs.images.images_open_there.Goals as goal
-
-pub returns : goal.returns
-returns c = opens_there

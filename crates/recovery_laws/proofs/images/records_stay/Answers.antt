@@ -1,5 +1,0 @@
-use Rattle.recovery_laws.proofs.Adding.{records_stay}
-use Rattle.recovery_laws.proofs.images.records_stay.Goals as goal
-
-pub returns : goal.returns
-returns c = records_stay c.records_have_one_reading.ensures.written c.checkpoints_are_known.ensures.framed
