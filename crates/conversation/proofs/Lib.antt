@@ -11,4 +11,9 @@ mod CursorObjects
 mod SyncObjects
 mod TreesOf
 pub mod Failing
-mod Feeding
+mod NotTaken
+pub mod Conversing
+pub mod Stepping
+mod Pieces
+mod Listening
+pub mod Written

@@ -10,3 +10,7 @@ pub mod Laws
 pub mod Commands
 pub mod Sizes
 pub mod Usable
+pub mod Attended
+pub mod Hearing
+pub mod Pieces
+pub mod Feeding

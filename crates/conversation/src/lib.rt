@@ -1,16 +1,23 @@
 //! One conversation of DRDA: the bytes of a requester in, commands judged in the order of refusals and
-//! done, and replies out. It asks what statements mean of whoever is handed in, and knows nothing of
+//! done, and replies out; and what it hears of pieces of bytes that come to it, whoever it asks, with its
+//! answers written whole. It asks what statements mean of whoever is handed in, and knows nothing of
 //! sockets, threads or the disk.
 #![tactic(auto)]
 
 mod chain;
 mod database;
 mod exchange;
+mod fed;
+mod feeding;
 mod front;
 pub mod laws;
 mod sizes;
 mod state;
+mod writing;
 
 pub use drda_commands::{Mechanism, Stage};
+pub use fed::{Fed, FedState, Heard, HeardSome};
+pub use feeding::{feed, feed_all, feed_some};
 pub use front::{Front, Need};
 pub use session_commands::{Agreed, Session, Settings, SettingsError};
+pub use writing::write_whole;

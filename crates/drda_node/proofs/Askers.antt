@@ -11,15 +11,15 @@ use Rattle.session_commands.specs.Settings.{Settings}
 use Rattle.conversation.specs.Standing.{Standing}
 use Rattle.conversation.specs.Done.{Does, DoesAll, Exchanges, IsExcused}
 use Rattle.conversation.specs.Steps.{Converses, Ends}
-use Rattle.hearing.specs.declared.fed.Fed.{Fed}
-use Rattle.hearing.specs.declared.fed.FedState.{FedState}
-use Rattle.hearing.specs.declared.fed.FedState.TheVariants as state
-use Rattle.hearing.specs.declared.fed.Heard.{Heard}
-use Rattle.hearing.specs.declared.fed.Heard.TheVariants as heard
-use Rattle.hearing.specs.Attended.{Attended}
-use Rattle.hearing.specs.Hearing.{Hears}
-use Rattle.hearing.specs.Pieces.{HearsPiece}
-use Rattle.hearing.specs.Feeding.{EndsAtFault, EndsWithCommand, LeftAs, Takes}
+use Rattle.conversation.specs.declared.fed.Fed.{Fed}
+use Rattle.conversation.specs.declared.fed.FedState.{FedState}
+use Rattle.conversation.specs.declared.fed.FedState.TheVariants as state
+use Rattle.conversation.specs.declared.fed.Heard.{Heard}
+use Rattle.conversation.specs.declared.fed.Heard.TheVariants as heard
+use Rattle.conversation.specs.Attended.{Attended}
+use Rattle.conversation.specs.Hearing.{Hears}
+use Rattle.conversation.specs.Pieces.{HearsPiece}
+use Rattle.conversation.specs.Feeding.{EndsAtFault, EndsWithCommand, LeftAs, Takes}
 use Rattle.recovery.specs.Journaled.{CallsGoOn}
 use Rattle.drda_node.specs.declared.asker.CoreAsker.{CoreAsker}
 use Rattle.drda_node.specs.Asking.{AskedCore, IsJournaled, IsSameAsker, asks, asks_of, core_of}

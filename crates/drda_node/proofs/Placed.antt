@@ -1,8 +1,8 @@
 -- What a conversation heard that stands at a place of a machine.
 use Rattle.std.proofs.Common.{◌≡◌, ℕ, List, Some, slice_get, sym, subst}
-use Rattle.hearing.specs.declared.fed.Heard.{Heard}
-use Rattle.hearing.specs.declared.fed.Heard.TheVariants.{Closed, NoMemory, Open}
-use Rattle.hearing.specs.Pieces as pieces
+use Rattle.conversation.specs.declared.fed.Heard.{Heard}
+use Rattle.conversation.specs.declared.fed.Heard.TheVariants.{Closed, NoMemory, Open}
+use Rattle.conversation.specs.Pieces as pieces
 use Rattle.drda_node.specs.Asking.{asks}
 use Rattle.drda_node.specs.Machine.{Conversation, IsOpen, Machine}
 use Rattle.drda_node.specs.Hearing.{Attended, HearsPiece, attended, attended_at, conversation_of}

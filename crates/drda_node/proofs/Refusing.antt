@@ -2,8 +2,8 @@
 use Rattle.std.proofs.Common.{◌≡◌, ◌+◌, ◌<◌, ◌^◌, ℕ, List, [], ◌∷◌, ◌++◌, Option, Some, None, Result, Ok, Err, slice_get, refl, sym, ap, subst, append-nil, inl, inr}
 use Rattle.std.specs.Prelude.{OnErr, OnOk}
 use Rattle.durable_core.specs.declared.checkpointing.Checkpointed.{Checkpointed}
-use Rattle.hearing.specs.declared.fed.Heard.{Heard}
-use Rattle.hearing.specs.declared.fed.Heard.TheVariants.{Closed, NoMemory, Open}
+use Rattle.conversation.specs.declared.fed.Heard.{Heard}
+use Rattle.conversation.specs.declared.fed.Heard.TheVariants.{Closed, NoMemory, Open}
 use Rattle.drda_node.specs.Machine.{Conversation, IsOpen, Machine, lost, opened}
 use Rattle.drda_node.specs.Hearing.{HearsAt, HearsPiece}
 use Rattle.drda_node.specs.Records.{Event, checkpoints, loses, opens, record_text, sends}

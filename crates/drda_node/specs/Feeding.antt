@@ -1,8 +1,8 @@
 -- What feeding a conversation of a machine gives.
 use Rattle.std.specs.Prelude.{◌≡◌, ℕ, List, Some, slice_get}
 use Rattle.conversation.specs.Held.{Held}
-use Rattle.hearing.specs.declared.fed.Fed.{Fed}
-use Rattle.hearing.specs.Feeding.{Takes}
+use Rattle.conversation.specs.declared.fed.Fed.{Fed}
+use Rattle.conversation.specs.Feeding.{Takes}
 use Rattle.drda_node.specs.Asking.{asks}
 use Rattle.drda_node.specs.Machine.{Conversation, Machine}
 use Rattle.drda_node.specs.Hearing.{Attended, attended, attended_at}

@@ -1,11 +1,11 @@
 -- What a conversation answers to bytes, and what it makes of the core that it asks.
 use Rattle.std.specs.Prelude.{◌≡◌, ◌⊎◌, ℕ, true, false, List, [], ◌++◌, Some, slice_get, slice_set}
 use Rattle.session_commands.specs.Settings.{Settings}
-use Rattle.hearing.specs.declared.fed.Heard.{Heard}
-use Rattle.hearing.specs.declared.fed.Heard.TheVariants.{Open, Closed, NoMemory}
-use Rattle.hearing.specs.Attended as standing
-use Rattle.hearing.specs.Hearing as hearing
-pub use Rattle.hearing.specs.Hearing.{IsShortReply}
+use Rattle.conversation.specs.declared.fed.Heard.{Heard}
+use Rattle.conversation.specs.declared.fed.Heard.TheVariants.{Open, Closed, NoMemory}
+use Rattle.conversation.specs.Attended as standing
+use Rattle.conversation.specs.Hearing as hearing
+pub use Rattle.conversation.specs.Hearing.{IsShortReply}
 use Rattle.drda_node.specs.Asking.{AskedCore, asks}
 use Rattle.drda_node.specs.Machine.{Conversation, Machine}
 

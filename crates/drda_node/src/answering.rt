@@ -11,9 +11,9 @@ ghost use Rattle.drda_node.specs.Register.{core_in, machine};
 
 use crate::event::{HEAD_SIZE, Head, push_record};
 use crate::node::Node;
+use conversation::Heard;
 use drda_disk::Disk;
 use durable_core::Checkpointed;
-use hearing::Heard;
 use recovery::images::calls_go_on;
 use std::alloc::AllocError;
 

@@ -5,7 +5,7 @@ ghost use Rattle.std.specs.Io.KnownBytes.{Appends};
 ghost use Rattle.drda_node.specs.Gathering.{Ends, PassesOn, WritesFront};
 
 use crate::serving::RunEnd;
-use hearing::write_whole;
+use conversation::write_whole;
 use std::io::Write;
 
 /// The most bytes of answers that are gathered.

@@ -17,9 +17,8 @@ mod slot;
 
 pub use asker::CoreAsker;
 // What a node is started with.
-pub use conversation::{Settings, SettingsError};
+pub use conversation::{Fed, FedState, Heard, Settings, SettingsError};
 pub use durable_core::{Checkpointed, DurableCore, open};
-pub use hearing::{Fed, FedState, Heard};
 pub use node::{ConversationId, Node, OpenError};
 pub use ready::Ready;
 pub use serving::{RunEnd, run};

@@ -1,12 +1,11 @@
 //! A place for a conversation.
 
-ghost use Rattle.hearing.specs.Feeding.{IsBetweenCommands};
+ghost use Rattle.conversation.specs.Feeding.{IsBetweenCommands};
 
 use crate::asker::CoreAsker;
-use conversation::{Front, Settings};
+use conversation::{Fed, Front, Heard, Settings};
 use drda_disk::Disk;
 use dss_frames::stays_read;
-use hearing::{Fed, Heard};
 use recovery::images::calls_go_on;
 use std::alloc::{AllocError, Global};
 
@@ -21,9 +20,9 @@ pub struct Slot {
 
 impl Slot {
     ghost use Rattle.std.specs.Prelude.{◌≡◌, IfOk, true};
-    ghost use Rattle.hearing.specs.Attended.{attended_by};
-    ghost use Rattle.hearing.specs.Feeding.{Takes};
-    ghost use Rattle.hearing.specs.Pieces.{HearsPiece};
+    ghost use Rattle.conversation.specs.Attended.{attended_by};
+    ghost use Rattle.conversation.specs.Feeding.{Takes};
+    ghost use Rattle.conversation.specs.Pieces.{HearsPiece};
     ghost use Rattle.drda_node.specs.Asking.{IsJournaled, IsSameAsker, asks, core_of};
     ghost use Rattle.drda_node.specs.Register.{shown};
     ghost use Rattle.drda_node.specs.Machine.{beginning};
@@ -81,7 +80,7 @@ impl Slot {
     {
         calls_go_on::<D>();
         asker.core.is_durable();
-        hearing::feed(&mut self.front, asker, piece, out)
+        conversation::feed(&mut self.front, asker, piece, out)
     }
 
     /// Gives the conversation all of these bytes.
@@ -101,6 +100,6 @@ impl Slot {
     {
         calls_go_on::<D>();
         asker.core.is_durable();
-        hearing::feed_all(&mut self.front, asker, piece, out)
+        conversation::feed_all(&mut self.front, asker, piece, out)
     }
 }

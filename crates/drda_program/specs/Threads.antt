@@ -4,7 +4,7 @@ use Rattle.core_calls.specs.Call.{Call}
 use Rattle.core_calls.specs.Answer.{Answer}
 use Rattle.session_commands.specs.Settings.{Settings}
 use Rattle.conversation.specs.Held.{newly_held}
-use Rattle.hearing.specs.Attended.{attended_by}
+use Rattle.conversation.specs.Attended.{attended_by}
 use Rattle.stream_service.specs.Serving.{Serves}
 use Rattle.stream_service.specs.declared.serving.Served.{Served}
 

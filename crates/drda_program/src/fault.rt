@@ -5,7 +5,7 @@ ghost use Rattle.std.specs.Io.KnownBytes.{Appends};
 ghost use Rattle.drda_program.specs.Endings.{line_for, status_for};
 
 use command_line::BadWords;
-use hearing::write_whole;
+use conversation::write_whole;
 use std::alloc::{AllocError, Global};
 use std::fmt::Write as _;
 use std::io::Write;

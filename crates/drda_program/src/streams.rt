@@ -4,7 +4,7 @@ ghost use Rattle.std.specs.Prelude.{◌≡◌, IfErr, OnOk};
 ghost use Rattle.std.specs.Io.KnownBytes.{Appends, Keeps};
 
 use crate::fault::Fault;
-use hearing::write_whole;
+use conversation::write_whole;
 use std::io::Write;
 
 /// Sends what was written on its way; what fails is the device.

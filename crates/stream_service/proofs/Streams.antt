@@ -10,14 +10,14 @@ use Rattle.core_calls.specs.Answer.{Answer}
 use Rattle.core_calls.specs.Call.{Call}
 use Rattle.session_commands.specs.Settings.{Settings}
 use Rattle.conversation.specs.Held.{Held}
-use Rattle.hearing.specs.Attended.{Attended, attended_by}
-use Rattle.hearing.specs.Feeding.{IsBetweenCommands}
-use Rattle.hearing.specs.Hearing.{Hears}
-use Rattle.hearing.specs.Pieces.{HearsAll, HearsLast, HearsPart, HearsPiece}
-use Rattle.hearing.proofs.Conversing.{hears_then}
-use Rattle.hearing.proofs.Stepping.{told_start}
-use Rattle.hearing.specs.declared.fed.Heard.{Heard}
-use Rattle.hearing.specs.declared.fed.Heard.TheVariants as piece_is
+use Rattle.conversation.specs.Attended.{Attended, attended_by}
+use Rattle.conversation.specs.Feeding.{IsBetweenCommands}
+use Rattle.conversation.specs.Hearing.{Hears}
+use Rattle.conversation.specs.Pieces.{HearsAll, HearsLast, HearsPart, HearsPiece}
+use Rattle.conversation.proofs.Conversing.{hears_then}
+use Rattle.conversation.proofs.Stepping.{told_start}
+use Rattle.conversation.specs.declared.fed.Heard.{Heard}
+use Rattle.conversation.specs.declared.fed.Heard.TheVariants as piece_is
 use Rattle.stream_service.specs.Serving.{AnswersAll, AnswersButShort, AnswersLast, AnswersPiece, BreaksOff, Converses, Loses, Serves}
 use Rattle.stream_service.specs.declared.serving.Served.{Served}
 use Rattle.stream_service.specs.declared.serving.Served.TheVariants.{Done, ReadFault, WriteFault, NoMemory}

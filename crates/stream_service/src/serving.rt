@@ -2,15 +2,14 @@
 
 ghost use Rattle.std.specs.Prelude.{◌≡◌, IfSome};
 ghost use Rattle.conversation.specs.Held.{newly_held};
-ghost use Rattle.hearing.specs.Attended.{attended_by};
-ghost use Rattle.hearing.specs.Feeding.{IsBetweenCommands};
+ghost use Rattle.conversation.specs.Attended.{attended_by};
+ghost use Rattle.conversation.specs.Feeding.{IsBetweenCommands};
 ghost use Rattle.stream_service.specs.Serving.{AnswersPiece, Converses, Loses, Serves};
 
 use command_kit::Ask;
-use conversation::Front;
+use conversation::{Front, Heard, feed_some, write_whole};
 use core_calls::CoreCall;
 use dss_frames::stays_read;
-use hearing::{Heard, feed_some, write_whole};
 use std::alloc::{AllocError, Global};
 use std::io::{Read, Write};
 

@@ -4,7 +4,7 @@ use Rattle.std.proofs.KnownBytes.{Consumes-nil}
 use Rattle.drda_node.specs.declared.event.Head.{Head}
 use Rattle.drda_node.specs.declared.event.Head.TheVariants.{Sends}
 use Rattle.drda_node.specs.Reading.{IsHead}
-use Rattle.hearing.proofs.Written.{take_front}
+use Rattle.conversation.proofs.Written.{take_front}
 use Rattle.drda_node.proofs.Recording.{bad_tail, front_read, received, no_bytes, head_size, head_small}
 use Rattle.drda_node.proofs.reading.await_event.Goals as goal
 

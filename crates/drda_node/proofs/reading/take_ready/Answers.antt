@@ -1,6 +1,6 @@
 use Rattle.std.proofs.Common.{◌≡◌, ◌≤◌, ◌+◌, ◌-◌, ◌++◌, ℕ, length, take, drop, slice_index, ◌∙◌, ap, arith, rules, take_all, length-drop, le_of_eq}
 use Rattle.drda_node.specs.Reading.{size_of}
-use Rattle.hearing.proofs.Written.{take_front}
+use Rattle.conversation.proofs.Written.{take_front}
 use Rattle.drda_node.proofs.Recording.{received_ready, head_size}
 use Rattle.drda_node.proofs.reading.take_ready.Goals as goal
 

@@ -7,7 +7,7 @@ use Rattle.drda_node.specs.Reading.{event_of}
 use Rattle.drda_node.specs.Happening.{BreaksOff, Happens}
 use Rattle.drda_node.specs.Serving.{GoesOn}
 use Rattle.drda_node.proofs.Refusing.{broken_keep}
-use Rattle.hearing.proofs.Written.{take_front}
+use Rattle.conversation.proofs.Written.{take_front}
 use Rattle.drda_node.proofs.Runs.{SoFar, ends, is_bad, no_memory, not_begun, one_more, read_fault, starts, write_fault}
 use Rattle.drda_node.proofs.serving.run.Goals as goal
 

@@ -4,10 +4,10 @@ use Rattle.std.specs.Io.KnownBytes.{Appends}
 use Rattle.core_calls.specs.Answer.{Answer}
 use Rattle.core_calls.specs.Call.{Call}
 use Rattle.session_commands.specs.Settings.{Settings}
-use Rattle.hearing.specs.declared.fed.Heard.{Heard}
-use Rattle.hearing.specs.Attended.{Attended, attended_by}
-use Rattle.hearing.specs.Pieces.{HearsPiece}
-use Rattle.hearing.proofs.Stepping.{within_piece}
+use Rattle.conversation.specs.declared.fed.Heard.{Heard}
+use Rattle.conversation.specs.Attended.{Attended, attended_by}
+use Rattle.conversation.specs.Pieces.{HearsPiece}
+use Rattle.conversation.proofs.Stepping.{within_piece}
 use Rattle.stream_service.proofs.Streams.{begins, front_more, in_part, last_more, said_all, said_front, said_last, said_short, short_more, talked_all, talked_more}
 use Rattle.stream_service.proofs.serving.answer_piece.Goals as goal
 

@@ -1,11 +1,11 @@
 use Rattle.std.proofs.Common.{◌≡◌, ℕ, List, [], ◌++◌, length, take, drop, Option, ap, refl, subst, ◌∙◌, arith}
 use Rattle.std.specs.Io.KnownBytes.{Consumes}
 use Rattle.session_commands.specs.Settings.{Settings}
-use Rattle.hearing.specs.Attended.{attended_by}
+use Rattle.conversation.specs.Attended.{attended_by}
 use Rattle.stream_service.specs.Serving.{AnswersPiece}
 use Rattle.stream_service.specs.declared.serving.Served.{Served}
 use Rattle.stream_service.proofs.Streams.{ends, ends_in, goes_on, none_done, read_fault, starts}
-use Rattle.hearing.proofs.Written.{take_front}
+use Rattle.conversation.proofs.Written.{take_front}
 use Rattle.stream_service.proofs.serving.converse.Goals as goal
 
 pub returns-in_default-clause-converses : goal.returns-in_default-clause-converses

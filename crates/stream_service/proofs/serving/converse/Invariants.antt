@@ -1,6 +1,6 @@
 use Rattle.std.proofs.Common.{◌≡◌, [], length}
-use Rattle.hearing.specs.Attended.{attended_by}
-use Rattle.hearing.specs.Feeding.{IsBetweenCommands}
+use Rattle.conversation.specs.Attended.{attended_by}
+use Rattle.conversation.specs.Feeding.{IsBetweenCommands}
 use Rattle.stream_service.proofs.Streams.{SoFar}
 use Rattle.stream_service.proofs.serving.converse.Given as goal
 

@@ -1,4 +1,4 @@
-use Rattle.hearing.specs.Attended.{attended_by}
+use Rattle.conversation.specs.Attended.{attended_by}
 use Rattle.stream_service.proofs.Streams.{serves}
 use Rattle.stream_service.proofs.serving.serve.Goals as goal
 

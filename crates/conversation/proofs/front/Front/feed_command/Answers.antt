@@ -1,4 +1,4 @@
-use Rattle.conversation.proofs.Feeding.{keeps_to_nothing}
+use Rattle.conversation.proofs.NotTaken.{keeps_to_nothing}
 use Rattle.conversation.proofs.front.Front.feed_command.Goals as goal
 
 pub returns-then-is_closed-clause-first : goal.returns-then-is_closed-clause-first

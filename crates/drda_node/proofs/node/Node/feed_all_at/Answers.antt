@@ -1,7 +1,7 @@
 use Rattle.std.proofs.Common.{◌≡◌, Some, map, slice_get, slice_set, refl, ap, ◌∙◌, sym, subst}
 use Rattle.session_commands.specs.Settings.{Settings}
-use Rattle.hearing.specs.Attended.{attended_by}
-use Rattle.hearing.specs.Pieces as pieces
+use Rattle.conversation.specs.Attended.{attended_by}
+use Rattle.conversation.specs.Pieces as pieces
 use Rattle.drda_node.specs.Asking.{asked_of, asks, core_of}
 use Rattle.drda_node.specs.Machine.{Machine}
 use Rattle.drda_node.specs.Feeding.{shown_held}

@@ -1,7 +1,7 @@
 use Rattle.std.proofs.Common.{◌≡◌, Some, refl, ap, ◌∙◌, sym, subst}
 use Rattle.session_commands.specs.Settings.{Settings}
-use Rattle.hearing.specs.Attended.{attended_by}
-use Rattle.hearing.specs.Feeding.{Takes}
+use Rattle.conversation.specs.Attended.{attended_by}
+use Rattle.conversation.specs.Feeding.{Takes}
 use Rattle.drda_node.specs.Feeding.{shown_held}
 use Rattle.drda_node.specs.Asking.{asked_of, asks, core_of}
 use Rattle.drda_node.specs.declared.slot.Slot.{Slot}

@@ -1,4 +1,4 @@
-use Rattle.hearing.specs.Attended.{attended_by}
+use Rattle.conversation.specs.Attended.{attended_by}
 use Rattle.drda_node.proofs.Askers.{takes}
 use Rattle.drda_node.proofs.Journal.{of_some}
 use Rattle.drda_node.proofs.slot.Slot.feed.Goals as goal

@@ -4,10 +4,10 @@ use Rattle.std.specs.Prelude.{◌≡◌, ◌⊎◌, ℕ, true, false, List, [], 
 use Rattle.core_calls.specs.Call.{Call}
 use Rattle.core_calls.specs.Answer.{Answer}
 use Rattle.session_commands.specs.Settings.{Settings}
-use Rattle.hearing.specs.declared.fed.Heard.{Heard}
-use Rattle.hearing.specs.declared.fed.Heard.TheVariants.{Open, Closed, NoMemory}
-use Rattle.hearing.specs.Attended.{Attended}
-use Rattle.hearing.specs.Hearing.{Hears, IsShortReply}
+use Rattle.conversation.specs.declared.fed.Heard.{Heard}
+use Rattle.conversation.specs.declared.fed.Heard.TheVariants.{Open, Closed, NoMemory}
+use Rattle.conversation.specs.Attended.{Attended}
+use Rattle.conversation.specs.Hearing.{Hears, IsShortReply}
 
 module _ {A : Type 0} (asks : A → Call → Answer → A → Type 0) where
   -- all of it, whose replies were appended, and the conversation is open

@@ -5,17 +5,17 @@ use Rattle.core_calls.specs.Answer.{Answer}
 use Rattle.dss_frames.specs.declared.fault.FrameFault.{FrameFault}
 use Rattle.dss_frames.specs.Fault.{FaultAt}
 use Rattle.session_commands.specs.Settings.{Settings}
-use Rattle.hearing.specs.declared.fed.Fed.{Fed}
-use Rattle.hearing.specs.declared.fed.FedState.{FedState}
-use Rattle.hearing.specs.declared.fed.FedState.TheVariants.{Open, Closed as is_shut}
-use Rattle.hearing.specs.declared.fed.Heard.{Heard}
-use Rattle.hearing.specs.declared.fed.Heard.TheVariants as heard_as
-use Rattle.hearing.specs.Attended.{Attended}
-use Rattle.hearing.specs.Hearing.{Hears, IsShortReply}
-use Rattle.hearing.specs.Pieces.{HearsAll, HearsLast, HearsPart, HearsPiece}
-use Rattle.hearing.specs.Feeding.{LeftAs, Takes, Told, bytes_behind}
-use Rattle.hearing.proofs.Conversing.{hears_then}
-use Rattle.hearing.proofs.Stepping.{told_more}
+use Rattle.conversation.specs.declared.fed.Fed.{Fed}
+use Rattle.conversation.specs.declared.fed.FedState.{FedState}
+use Rattle.conversation.specs.declared.fed.FedState.TheVariants.{Open, Closed as is_shut}
+use Rattle.conversation.specs.declared.fed.Heard.{Heard}
+use Rattle.conversation.specs.declared.fed.Heard.TheVariants as heard_as
+use Rattle.conversation.specs.Attended.{Attended}
+use Rattle.conversation.specs.Hearing.{Hears, IsShortReply}
+use Rattle.conversation.specs.Pieces.{HearsAll, HearsLast, HearsPart, HearsPiece}
+use Rattle.conversation.specs.Feeding.{LeftAs, Takes, Told, bytes_behind}
+use Rattle.conversation.proofs.Conversing.{hears_then}
+use Rattle.conversation.proofs.Stepping.{told_more}
 
 module _ {A : Type 0} (asks : A → Call → Answer → A → Type 0) (settings : Settings) where
   -- what was heard before, and one part further on

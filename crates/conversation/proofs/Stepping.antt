@@ -18,13 +18,13 @@ use Rattle.conversation.specs.Exchange.{excused}
 use Rattle.conversation.specs.Standing.{Standing, standing}
 use Rattle.conversation.specs.Done.{Does}
 use Rattle.conversation.specs.Steps.{Steps, Converses, KeepsToFirst}
-use Rattle.hearing.specs.Attended.{Attended, attended_by}
-use Rattle.hearing.specs.Hearing.{Hears}
-use Rattle.hearing.specs.declared.fed.Fed.{Fed}
-use Rattle.hearing.specs.declared.fed.FedState.{FedState}
-use Rattle.hearing.specs.declared.fed.FedState.TheVariants.{Open, Later, Closed as is_shut, Short as is_short}
-use Rattle.hearing.specs.Feeding.{IsBetweenCommands, EndsAtFault, EndsWithCommand, Told, Takes, LeftAs, bytes_behind, state_for}
-use Rattle.hearing.proofs.Conversing.{hears_then, hears_closed}
+use Rattle.conversation.specs.Attended.{Attended, attended_by}
+use Rattle.conversation.specs.Hearing.{Hears}
+use Rattle.conversation.specs.declared.fed.Fed.{Fed}
+use Rattle.conversation.specs.declared.fed.FedState.{FedState}
+use Rattle.conversation.specs.declared.fed.FedState.TheVariants.{Open, Later, Closed as is_shut, Short as is_short}
+use Rattle.conversation.specs.Feeding.{IsBetweenCommands, EndsAtFault, EndsWithCommand, Told, Takes, LeftAs, bytes_behind, state_for}
+use Rattle.conversation.proofs.Conversing.{hears_then, hears_closed}
 
 abbrev pub reply_behind : Need → List ℕ
 reply_behind Bytes = []

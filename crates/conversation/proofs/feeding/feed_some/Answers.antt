@@ -1,16 +1,16 @@
 use Rattle.std.proofs.Common.{◌≡◌, ◌+◌, ℕ, List, [], length, take, ap, sym, subst, ◌∙◌, refl, inl, inr, arith, rules}
 use Rattle.std.proofs.lemmas.List.{take_rest}
-use Rattle.hearing.specs.declared.fed.FedState.{FedState}
-use Rattle.hearing.specs.declared.fed.FedState.TheVariants.{Later}
-use Rattle.hearing.specs.declared.fed.Heard.TheVariants as heard_as
-use Rattle.hearing.specs.declared.fed.HeardSome.{HeardSome}
-use Rattle.hearing.specs.Attended.{attended_by}
-use Rattle.hearing.specs.Hearing.{IsShortReply}
-use Rattle.hearing.specs.Feeding.{Told, bytes_behind}
-use Rattle.hearing.specs.Pieces.{HearsPiece}
-use Rattle.hearing.proofs.Stepping.{told_start, within_piece}
-use Rattle.hearing.proofs.Listening.{all, further, last, part, said_behind}
-use Rattle.hearing.proofs.feeding.feed_some.Goals as goal
+use Rattle.conversation.specs.declared.fed.FedState.{FedState}
+use Rattle.conversation.specs.declared.fed.FedState.TheVariants.{Later}
+use Rattle.conversation.specs.declared.fed.Heard.TheVariants as heard_as
+use Rattle.conversation.specs.declared.fed.HeardSome.{HeardSome}
+use Rattle.conversation.specs.Attended.{attended_by}
+use Rattle.conversation.specs.Hearing.{IsShortReply}
+use Rattle.conversation.specs.Feeding.{Told, bytes_behind}
+use Rattle.conversation.specs.Pieces.{HearsPiece}
+use Rattle.conversation.proofs.Stepping.{told_start, within_piece}
+use Rattle.conversation.proofs.Listening.{all, further, last, part, said_behind}
+use Rattle.conversation.proofs.feeding.feed_some.Goals as goal
 
 pub feeding-init : goal.feeding-init
 feeding-init g c = record {

@@ -5,7 +5,7 @@ use Rattle.core_calls.specs.Call.{Call}
 use Rattle.core_calls.specs.Answer.{Answer}
 use Rattle.session_commands.specs.Settings.{Settings}
 use Rattle.conversation.specs.Steps.{Converses}
-use Rattle.hearing.specs.Attended.{Attended}
+use Rattle.conversation.specs.Attended.{Attended}
 
 -- a closed conversation hears nothing any more
 pub record HearsNothing {A : Type 0} (before : Attended A) (replies : List ℕ) (after : Attended A) : Type 0 where

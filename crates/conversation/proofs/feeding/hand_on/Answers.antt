@@ -2,12 +2,12 @@ use Rattle.std.proofs.Common.{◌≡◌, ◌≤◌, ◌∙◌, ℕ, Bool, false,
 use Rattle.std.proofs.Math.Dec.{ltb}
 use Rattle.std.proofs.lemmas.Bool.{ltb-false}
 use Rattle.dss_frames.specs.Fault.{IsUnfinished}
-use Rattle.hearing.specs.declared.fed.FedState.{FedState}
-use Rattle.hearing.specs.Attended.{attended_by}
-use Rattle.hearing.specs.Feeding.{Takes}
-use Rattle.hearing.proofs.Stepping.{IsOfOne, handed, moved_on, of_one}
-use Rattle.hearing.proofs.feeding.hand_on.Goals.{then-taken-gt0, else-taken-gt0}
-use Rattle.hearing.proofs.feeding.hand_on.Goals as goal
+use Rattle.conversation.specs.declared.fed.FedState.{FedState}
+use Rattle.conversation.specs.Attended.{attended_by}
+use Rattle.conversation.specs.Feeding.{Takes}
+use Rattle.conversation.proofs.Stepping.{IsOfOne, handed, moved_on, of_one}
+use Rattle.conversation.proofs.feeding.hand_on.Goals.{then-taken-gt0, else-taken-gt0}
+use Rattle.conversation.proofs.feeding.hand_on.Goals as goal
 
 none_fed : (count : ℕ) (has_fed : Bool) → has_fed ≡ ltb 0 count → has_fed ≡ false → count ≡ 0
 none_fed count has_fed is not = let few : count ≤ 0 = ltb-false 0 count (sym is ∙ not) in omega (arith, few)

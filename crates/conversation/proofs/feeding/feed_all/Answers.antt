@@ -1,7 +1,7 @@
 use Rattle.std.proofs.Common.{◌≡◌, ◌⊎◌, ◌≤◌, ◌<◌, ℕ, inl, inr, arith}
-use Rattle.hearing.specs.Attended.{attended_by}
-use Rattle.hearing.proofs.Listening.{whole}
-use Rattle.hearing.proofs.feeding.feed_all.Goals as goal
+use Rattle.conversation.specs.Attended.{attended_by}
+use Rattle.conversation.proofs.Listening.{whole}
+use Rattle.conversation.proofs.feeding.feed_all.Goals as goal
 
 all_taken : (taken size most bytes : ℕ) → (taken ≡ size) ⊎ (most < bytes) → bytes ≤ most → size ≤ taken
 all_taken taken size most bytes (inl e) few = omega (arith, e)

@@ -1,15 +1,15 @@
 //! One conversation and the bytes that come to it.
 
 ghost use Rattle.std.specs.Prelude.{◌≡◌, ◌⊎◌, ◌≤◌, ◌<◌, ◌+◌, length, take, vec_len, vec_capacity};
-ghost use Rattle.hearing.specs.declared.fed.FedState.TheVariants as state;
-ghost use Rattle.hearing.specs.declared.fed.Heard.TheVariants as heard_as;
-ghost use Rattle.hearing.specs.Attended.{attended_by};
-ghost use Rattle.hearing.specs.Feeding.{IsBetweenCommands, Takes, state_for};
-ghost use Rattle.hearing.specs.Pieces.{HearsPiece};
+ghost use Rattle.conversation.specs.declared.fed.FedState.TheVariants as state;
+ghost use Rattle.conversation.specs.declared.fed.Heard.TheVariants as heard_as;
+ghost use Rattle.conversation.specs.Attended.{attended_by};
+ghost use Rattle.conversation.specs.Feeding.{IsBetweenCommands, Takes, state_for};
+ghost use Rattle.conversation.specs.Pieces.{HearsPiece};
 
 use crate::fed::{Fed, FedState, Heard, HeardSome};
+use crate::front::{Front, Need};
 use command_kit::Ask;
-use conversation::{Front, Need};
 use dss_frames::stays_read;
 
 /// Gives a conversation bytes, does each command that is whole, and appends its replies to `out`. All bytes

@@ -8,14 +8,14 @@ use Rattle.core_calls.specs.Call.{Call}
 use Rattle.core_calls.specs.Answer.{Answer}
 use Rattle.session_commands.specs.Settings.{Settings}
 use Rattle.conversation.specs.Held.{Held}
-use Rattle.hearing.specs.Attended.{Attended, attended_by}
-use Rattle.hearing.specs.Hearing.{Hears}
-use Rattle.hearing.specs.declared.fed.Fed.{Fed}
-use Rattle.hearing.specs.declared.fed.FedState.{FedState}
-use Rattle.hearing.specs.declared.fed.FedState.TheVariants.{Open, Closed, Later}
-use Rattle.hearing.specs.Feeding.{IsBetweenCommands, IsLeft, EndsAtFault, EndsWithCommand, Told, Takes, LeftAs, bytes_behind}
-use Rattle.hearing.proofs.Conversing.{reads_then, reads_so_far}
-use Rattle.hearing.proofs.Stepping.{told_start, told_more, within_piece, none_more, left_more, more_taken}
+use Rattle.conversation.specs.Attended.{Attended, attended_by}
+use Rattle.conversation.specs.Hearing.{Hears}
+use Rattle.conversation.specs.declared.fed.Fed.{Fed}
+use Rattle.conversation.specs.declared.fed.FedState.{FedState}
+use Rattle.conversation.specs.declared.fed.FedState.TheVariants.{Open, Closed, Later}
+use Rattle.conversation.specs.Feeding.{IsBetweenCommands, IsLeft, EndsAtFault, EndsWithCommand, Told, Takes, LeftAs, bytes_behind}
+use Rattle.conversation.proofs.Conversing.{reads_then, reads_so_far}
+use Rattle.conversation.proofs.Stepping.{told_start, told_more, within_piece, none_more, left_more, more_taken}
 
 nothing_or_some : (piece : List ℕ) → IsLeft 0 piece
 nothing_or_some [] = inr refl

@@ -1,7 +1,7 @@
 use Rattle.std.proofs.Common.{arith, length-drop}
 use Rattle.std.proofs.lemmas.List.{take_rest}
-use Rattle.hearing.proofs.Written.{wrote_more}
-use Rattle.hearing.proofs.writing.write_whole.Goals as goal
+use Rattle.conversation.proofs.Written.{wrote_more}
+use Rattle.conversation.proofs.writing.write_whole.Goals as goal
 
 pub writing-preserved : goal.writing-preserved
 writing-preserved g c = record {

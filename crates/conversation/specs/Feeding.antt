@@ -9,11 +9,11 @@ use Rattle.session_commands.specs.Settings.{Settings}
 use Rattle.conversation.specs.declared.front.Need.{Need}
 use Rattle.conversation.specs.declared.front.Need.TheVariants.{Bytes, Local, Short as short, Closed as closed}
 use Rattle.conversation.specs.Held.{Held}
-use Rattle.hearing.specs.declared.fed.Fed.{Fed}
-use Rattle.hearing.specs.declared.fed.FedState.{FedState}
-use Rattle.hearing.specs.declared.fed.FedState.TheVariants.{Open, Closed, Short, Later}
-use Rattle.hearing.specs.Attended.{Attended}
-use Rattle.hearing.specs.Hearing.{Hears}
+use Rattle.conversation.specs.declared.fed.Fed.{Fed}
+use Rattle.conversation.specs.declared.fed.FedState.{FedState}
+use Rattle.conversation.specs.declared.fed.FedState.TheVariants.{Open, Closed, Short, Later}
+use Rattle.conversation.specs.Attended.{Attended}
+use Rattle.conversation.specs.Hearing.{Hears}
 
 -- between two calls the rest of an open conversation holds no whole command and no fault
 abbrev pub IsBetweenCommands : Held → Type 0

@@ -1,8 +1,8 @@
 use Rattle.std.proofs.Common.{◌≡◌, ◌-◌, length}
-use Rattle.hearing.specs.Attended.{attended_by}
-use Rattle.hearing.specs.Feeding.{IsBetweenCommands}
-use Rattle.hearing.proofs.Pieces.{IsUnderWay}
-use Rattle.hearing.proofs.feeding.feed.Given as goal
+use Rattle.conversation.specs.Attended.{attended_by}
+use Rattle.conversation.specs.Feeding.{IsBetweenCommands}
+use Rattle.conversation.proofs.Pieces.{IsUnderWay}
+use Rattle.conversation.proofs.feeding.feed.Given as goal
 
 abbrev pub invariant-pieces : goal.invariant-pieces
 invariant-pieces g l = record {

@@ -10,8 +10,8 @@ use Rattle.session_commands.specs.Settings.{Settings}
 use Rattle.conversation.specs.Standing.{Standing}
 use Rattle.conversation.specs.Done.{DoesAll}
 use Rattle.conversation.specs.Steps.{Converses, Ends, ReadsAll}
-use Rattle.hearing.specs.Attended.{Attended}
-use Rattle.hearing.specs.Hearing.{Hears}
+use Rattle.conversation.specs.Attended.{Attended}
+use Rattle.conversation.specs.Hearing.{Hears}
 
 -- ---- readings
 

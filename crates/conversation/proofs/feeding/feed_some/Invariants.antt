@@ -1,7 +1,7 @@
 use Rattle.std.proofs.Common.{◌≡◌, ◌≤◌, ◌-◌, [], length, take}
-use Rattle.hearing.specs.Attended.{attended_by}
-use Rattle.hearing.specs.Feeding.{IsBetweenCommands, Told}
-use Rattle.hearing.proofs.feeding.feed_some.Given as goal
+use Rattle.conversation.specs.Attended.{attended_by}
+use Rattle.conversation.specs.Feeding.{IsBetweenCommands, Told}
+use Rattle.conversation.proofs.feeding.feed_some.Given as goal
 
 abbrev pub invariant-feeding : goal.invariant-feeding
 invariant-feeding g l = record {

@@ -1,13 +1,13 @@
 use Rattle.std.proofs.Common.{◌≡◌, ◌≤◌, ◌<◌, ◌+◌, ℕ, List, length, take, drop, refl, sym, subst, ◌∙◌, arith}
 use Rattle.std.proofs.lemmas.List.{take_rest}
-use Rattle.hearing.specs.declared.fed.FedState.{FedState}
-use Rattle.hearing.specs.declared.fed.FedState.TheVariants.{Later}
-use Rattle.hearing.specs.Attended.{attended_by}
-use Rattle.hearing.specs.Feeding.{Takes}
+use Rattle.conversation.specs.declared.fed.FedState.{FedState}
+use Rattle.conversation.specs.declared.fed.FedState.TheVariants.{Later}
+use Rattle.conversation.specs.Attended.{attended_by}
+use Rattle.conversation.specs.Feeding.{Takes}
 use Rattle.session_commands.specs.Settings.{Settings}
-use Rattle.hearing.proofs.Pieces.{IsUnderWay, starts, stays_closed, stops, ends_so, goes_on}
-use Rattle.hearing.proofs.Stepping.{within_piece}
-use Rattle.hearing.proofs.feeding.feed.Goals as goal
+use Rattle.conversation.proofs.Pieces.{IsUnderWay, starts, stays_closed, stops, ends_so, goes_on}
+use Rattle.conversation.proofs.Stepping.{within_piece}
+use Rattle.conversation.proofs.feeding.feed.Goals as goal
 
 below : (a b : ℕ) → a ≤ b → (a ≡ b → ⊥) → a < b
 below a b le apart = omega (arith, le, apart)

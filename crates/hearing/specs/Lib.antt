@@ -1,4 +1,0 @@
-pub mod Attended
-pub mod Hearing
-pub mod Pieces
-pub mod Feeding
