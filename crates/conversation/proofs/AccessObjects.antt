@@ -1,5 +1,5 @@
 -- What the commands before those of SQL are answered, and refused ones, are containers.
-use Rattle.std.proofs.Common.{◌==◌, ◌≡◌, ℕ, Bool, true, false, List, [], ◌∷◌, ◌++◌, Option, Some, None, refl, sym, ap, ◌∙◌, if◌then◌else◌, append_assoc, append-nil}
+use Rattle.std.proofs.Common.{◌==◌, ◌≡◌, ℕ, Bool, true, false, List, [], ◌∷◌, ◌++◌, Option, Some, None, option_map, refl, sym, ap, ◌∙◌, if◌then◌else◌, append_assoc, append-nil}
 use Rattle.std.specs.Prelude.{codes}
 use Rattle.std.specs.Int.{w16, to_be_bytes}
 use Rattle.ddm_objects.specs.declared.code_point.TheConstants.{EXTNAM, SRVCLSNM, SRVNAM, SRVRLSLV, MGRLVLLS, RDBNAM, SECMEC, SECCHKCD, CCSIDSBC, CCSIDMBC, PRDID, TYPDEFNAM, TYPDEFOVR, EXCSATRD, ACCSECRD, SECCHKRM, ACCRDBRM, RDBACCRM, RDBNACRM, RDBNFNRM}
@@ -18,9 +18,10 @@ use Rattle.sqlam_replies.specs.declared.message.ReplyMessage.TheVariants as says
 use Rattle.sqlam_replies.specs.Message.{error, info, message_of, scalar}
 use Rattle.session_commands.specs.declared.reply.TheConstants.{SERVER_NAME, SERVER_CLASS, RELEASE_LEVEL}
 use Rattle.session_commands.specs.declared.session.Session.{Session}
-use Rattle.session_commands.specs.Access.{Answer, access_done, asked_for, bytes_of, check_code, is_ours, mechanism_for}
+use Rattle.session_commands.specs.declared.answer.AtOnce.TheVariants.{ManagerMissing}
+use Rattle.session_commands.specs.Access.{Answer, access_done, answered_at_once, asked_for, bytes_of, check_code, is_ours, mechanism_for}
 use Rattle.session_commands.specs.Levels.{levels_for}
-use Rattle.session_commands.specs.Replies.{manager_missing, refusal_reply, rdb_error, rdb_not_found, excsatrd, accsecrd, accsecrd_refused, mechanism_code, check_severity, accrdbrm, ccsids}
+use Rattle.session_commands.specs.Replies.{refusal_reply, rdb_error, rdb_not_found, excsatrd, accsecrd, accsecrd_refused, mechanism_code, check_severity, accrdbrm, ccsids}
 use Rattle.session_commands.specs.Settings.{Settings}
 use Rattle.conversation.specs.Laws.{is_access}
 use Rattle.conversation.proofs.SentObjects.{IsTree, container_tree, message_of_trees, message_tree}
@@ -92,9 +93,9 @@ abbrev pub HasTree : Command → Option Answer → Type 0
 HasTree command None = is_access command ≡ false
 HasTree command (Some a) = IsTree a.reply
 
-missing_tree : (session : Session) (b : Bool) → HasTree Syncctl (if b then Some (record { session = session; reply = manager_missing }) else None)
-missing_tree session true = message_tree (message_of says.ManagerDependency)
-missing_tree session false = refl
+missing_tree : (settings : Settings) (session : Session) (given : Given) (b : Bool) → HasTree Syncctl (option_map (λ what. answered_at_once settings session what given) (if b then Some ManagerMissing else None))
+missing_tree settings session given true = message_tree (message_of says.ManagerDependency)
+missing_tree settings session given false = refl
 
 pub done_tree : (settings : Settings) (session : Session) (command : Command) (given : Given) → HasTree command (access_done settings session command given)
 done_tree settings session Excsat given = excsatrd_tree (value_of (found_at Parameter MGRLVLLS given))
@@ -110,5 +111,5 @@ done_tree settings session Accrdb given =
     let rdbnam : Occurs = found_at Parameter RDBNAM given in
     either_tree (is_ours settings session.agreed.unicode rdbnam) (record { session = record session { stage = Opened }; reply = accrdbrm session.agreed.unicode })
     (record { session = session; reply = rdb_not_found (bytes_of rdbnam) }) (accrdbrm_tree session.agreed.unicode) (rdb_error_tree RDBNFNRM (bytes_of rdbnam))
-done_tree settings session Syncctl given = missing_tree session (session.agreed.xa == 0)
+done_tree settings session Syncctl given = missing_tree settings session given (session.agreed.xa == 0)
 done_tree settings session command given = refl

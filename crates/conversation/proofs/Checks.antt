@@ -1,5 +1,5 @@
 -- The database is opened only behind a check of the user.
-use Rattle.std.proofs.Common.{◌≡◌, ◌⊎◌, ◌==◌, ℕ, Bool, true, false, List, [], ◌∷◌, ◌++◌, Option, Some, None, Ok, Err, Result, refl, sym, ap, subst, ◌∙◌, inl, inr, if◌then◌else◌}
+use Rattle.std.proofs.Common.{◌≡◌, ◌⊎◌, ◌==◌, ℕ, Bool, true, false, List, [], ◌∷◌, ◌++◌, Option, Some, None, option_map, Ok, Err, Result, refl, sym, ap, subst, ◌∙◌, inl, inr, if◌then◌else◌}
 use Rattle.std.proofs.Common.{append_assoc, arith}
 use Rattle.core_calls.specs.Call.{Call}
 use Rattle.core_calls.specs.Answer as core
@@ -16,10 +16,11 @@ use Rattle.drda_commands.specs.Given.{Given, contents_of, found_at}
 use Rattle.drda_commands.specs.Judge.{Accepted, due_or_refused}
 use Rattle.session_commands.specs.declared.session.Session.{Session}
 use Rattle.conversation.specs.Done.{Does, DoesAll, Exchanges, IsExcused, IsFollowed}
-use Rattle.session_commands.specs.Access.{Answer, access_done, asked_for, bytes_of, check_code, is_ours, known_from, mechanism_for, refused}
+use Rattle.session_commands.specs.declared.answer.AtOnce.TheVariants.{ManagerMissing}
+use Rattle.session_commands.specs.Access.{Answer, access_done, answered_at_once, asked_for, bytes_of, check_code, is_ours, known_from, mechanism_for, refused}
 use Rattle.conversation.specs.Exchange.{Plan, at_once, at_once_or, link_of, plan, plan_for, database_plan}
 use Rattle.conversation.specs.Laws.{OpenedBehindACheck, ChecksTheUser, HasCheckedTheUser, verdict}
-use Rattle.session_commands.specs.Replies.{manager_missing, secchkrm, rdb_not_found}
+use Rattle.session_commands.specs.Replies.{secchkrm, rdb_not_found}
 use Rattle.session_commands.specs.Settings.{Settings}
 use Rattle.conversation.specs.Standing.{Standing, beginning}
 use Rattle.conversation.proofs.Asking.{accepted_due}
@@ -71,9 +72,9 @@ abbrev ChecksBy : Command → Option Answer → Type 0
 ChecksBy command None = Unit {0}
 ChecksBy command (Some a) = is_checked a.session.stage ≡ true → (command ≡ Secchk) × (a.reply ≡ secchkrm 0)
 
-missing_unchecked : (session : Session) → is_checked session.stage ≡ false → (b : Bool) → ChecksBy Syncctl (if b then Some (record { session = session; reply = manager_missing }) else None)
-missing_unchecked session off true = λ on. both _ on off
-missing_unchecked session off false = tt
+missing_unchecked : (settings : Settings) (session : Session) (given : Given) → is_checked session.stage ≡ false → (b : Bool) → ChecksBy Syncctl (option_map (λ what. answered_at_once settings session what given) (if b then Some ManagerMissing else None))
+missing_unchecked settings session given off true = λ on. both _ on off
+missing_unchecked settings session given off false = tt
 
 done_unchecked : (settings : Settings) (session : Session) (command : Command) (given : Given) → due_or_refused command session.stage ≡ Ok tt → is_checked session.stage ≡ false
     → ChecksBy command (access_done settings session command given)
@@ -85,7 +86,7 @@ done_unchecked settings session Secchk given due off = λ on.
     let code : ℕ = check_code settings session (found_at Parameter 0x11A2 given) (found_at Parameter 0x11A0 given) (found_at Parameter 0x11A1 given) in
     (refl, ap secchkrm (code_is session code (code == 0) refl off on))
 done_unchecked settings session Accrdb given due off = λ on. both (is_checked session.stage) (accrdb_due session.stage due) off
-done_unchecked settings session Syncctl given due off = missing_unchecked session off (session.agreed.xa == 0)
+done_unchecked settings session Syncctl given due off = missing_unchecked settings session given off (session.agreed.xa == 0)
 done_unchecked settings session command given due off = tt
 
 -- ---- one command

@@ -1,5 +1,5 @@
 -- Only AGNPRMRM closes a conversation.
-use Rattle.std.proofs.Common.{◌≡◌, ◌⊎◌, ◌+◌, ◌&&◌, ◌||◌, ◌==◌, ℕ, Bool, true, false, not, max, List, [], ◌∷◌, ◌++◌, Option, Some, None, Result, Ok, Err, if◌then◌else◌, refl, sym, ap, subst, ◌∙◌, inl, inr, ⊎_elim}
+use Rattle.std.proofs.Common.{◌≡◌, ◌⊎◌, ◌+◌, ◌&&◌, ◌||◌, ◌==◌, ℕ, Bool, true, false, not, max, List, [], ◌∷◌, ◌++◌, Option, Some, None, option_map, Result, Ok, Err, if◌then◌else◌, refl, sym, ap, subst, ◌∙◌, inl, inr, ⊎_elim}
 use Rattle.core_calls.specs.Call.{Call, describe}
 use Rattle.core_calls.specs.declared.sql_fault.SqlFault.TheVariants.{NotPrepared}
 use Rattle.core_calls.specs.Answer as core
@@ -49,11 +49,12 @@ use Rattle.sections.specs.declared.fault.OpenFault.TheVariants as unopened
 use Rattle.conversation.specs.declared.chain.Link.{Link}
 use Rattle.session_commands.specs.declared.session.Session.{Session}
 use Rattle.conversation.specs.Done.{Exchanges, IsExcused, IsFollowed}
-use Rattle.session_commands.specs.Access.{Answer, access_done, asked_for, bytes_of, check_code, is_ours, mechanism_for, refused}
+use Rattle.session_commands.specs.declared.answer.AtOnce.TheVariants.{ManagerMissing}
+use Rattle.session_commands.specs.Access.{Answer, access_done, answered_at_once, asked_for, bytes_of, check_code, is_ours, mechanism_for, refused}
 use Rattle.conversation.specs.Exchange.{Plan, at_once, at_once_or, breaks, chain_bits, closes, excused, link_of, plan, plan_for, sent, database_plan, worst}
 use Rattle.conversation.specs.Laws.{AskedInVain, OnlyFailureCloses, OnlyUnusableAnswersClose, verdict}
 use Rattle.conversation.specs.Usable.{are_in_doubt, are_rows, is_code, is_description, is_end, is_usable, is_usable_anyway}
-use Rattle.session_commands.specs.Replies.{manager_missing, accrdbrm, rdb_not_found, refusal_reply}
+use Rattle.session_commands.specs.Replies.{accrdbrm, rdb_not_found, refusal_reply}
 use Rattle.session_commands.specs.Settings.{Settings}
 use Rattle.conversation.specs.Standing.{Standing}
 use Rattle.conversation.proofs.Single.{at_once_session, one_format, one_sent}
@@ -256,9 +257,9 @@ check_mild : (b : Bool) → closes (max (if b then 0 else 8) 0) ≡ false
 check_mild true = refl
 check_mild false = refl
 
-missing_open : (session : Session) (b : Bool) → StaysOpen session (if b then Some (record { session = session; reply = manager_missing }) else None)
-missing_open session true = (refl, refl)
-missing_open session false = tt
+missing_open : (settings : Settings) (session : Session) (given : Given) (b : Bool) → StaysOpen session (option_map (λ what. answered_at_once settings session what given) (if b then Some ManagerMissing else None))
+missing_open settings session given true = (refl, refl)
+missing_open settings session given false = tt
 
 access_open : (settings : Settings) (session : Session) (command : Command) (given : Given) → StaysOpen session (access_done settings session command given)
 access_open settings session Excsat given = (refl, refl)
@@ -273,7 +274,7 @@ access_open settings session Accrdb given =
     let rdbnam : Occurs = found_at Parameter RDBNAM given in
     either_open session (is_ours settings session.agreed.unicode rdbnam) (record { session = record session { stage = Opened }; reply = accrdbrm session.agreed.unicode })
     (record { session = session; reply = rdb_not_found (bytes_of rdbnam) }) (refl, refl) (refl, refl)
-access_open settings session Syncctl given = missing_open session (session.agreed.xa == 0)
+access_open settings session Syncctl given = missing_open settings session given (session.agreed.xa == 0)
 access_open settings session command given = tt
 
 refusal_mild : (settings : Settings) (unicode : Bool) (refusal : Refusal) → closes (worst (refusal_reply settings unicode refusal ∷ [])) ≡ false

@@ -17,7 +17,7 @@ use Rattle.conversation.specs.declared.chain.Link.{Link}
 use Rattle.session_commands.specs.declared.session.Session.{Session}
 use Rattle.session_commands.specs.Access.{Answer, access_done, refused}
 use Rattle.session_commands.specs.declared.answer.Answer as rust_answer
-use Rattle.session_commands.specs.Views.{IsAppended, IsAppendedIfDue, answer_of}
+use Rattle.session_commands.specs.Views.{IsAppended, answer_of}
 use Rattle.conversation.specs.Exchange.{Plan, at_once, at_once_or, link_of, plan, plan_for, sent, database_plan}
 use Rattle.conversation.specs.Done.{Exchanges}
 use Rattle.session_commands.specs.Settings.{Settings}
@@ -65,27 +65,6 @@ taken_back v w at next place opened kept =
     let here : at ≡ length v.items = omega (arith, place, v.ok.0) in
     sym (take-take at (vec_len w) next (omega (arith, long, here, w.ok.0))) ∙ ap (take at) kept ∙ front_before v.items w.items unset at here opened
 
-pub nothing_sent : (at : ℕ) (old mid : List ℕ) → at ≡ length old → mid ≡ old ++ unset → take at mid ≡ old
-nothing_sent at old mid place is = front_before old mid unset at place is
-
--- the answer that is due, or that none is, where room for a DSS's header was left first
-found_in : (answer : rust_answer.Answer) (out out' : List ℕ) (o : Option Answer) → IsAppendedIfDue (Some answer) out out' o → (due : Answer) × (o ≡ Some due) × IsAppended answer out out' due
-found_in answer out out' None h = absurd h
-found_in answer out out' (Some due) h = (due, refl, h)
-
-pub due_of : {made : Option rust_answer.Answer} (answer : rust_answer.Answer) (old opened mid : List ℕ) (o : Option Answer)
-    → made ≡ Some answer → opened ≡ old ++ unset → IsAppendedIfDue made opened mid o → (due : Answer) × (o ≡ Some due) × IsAppended answer (old ++ unset) mid due
-due_of answer old opened mid o is room h =
-    let told : IsAppendedIfDue (Some answer) opened mid o = subst (λ (m : Option rust_answer.Answer). IsAppendedIfDue m opened mid o) is h in
-    found_in answer (old ++ unset) mid o (subst (λ (f : List ℕ). IsAppendedIfDue (Some answer) f mid o) room told)
-
-none_in : (out out' : List ℕ) (o : Option Answer) → IsAppendedIfDue None out out' o → (o ≡ None) × (out' ≡ out)
-none_in out out' None h = (refl, h)
-none_in out out' (Some due) h = absurd h
-
-pub none_due : {made : Option rust_answer.Answer} (out out' : List ℕ) (o : Option Answer) → made ≡ None → IsAppendedIfDue made out out' o → (o ≡ None) × (out' ≡ out)
-none_due out out' o is h = none_in out out' o (subst (λ (m : Option rust_answer.Answer). IsAppendedIfDue m out out' o) is h)
-
 pub verdict_is : (r : Result rust_accepted.Accepted Refusal) (v : Result Accepted Refusal) → Answers accepted_of Some r v → verdict_of r ≡ v
 verdict_is (Ok x) v h = sym h
 verdict_is (Err e) v h = sym h
@@ -125,16 +104,16 @@ module _ {A : Type 0} (asks : A → Call → core.Answer → A → Type 0) where
       once r s link (refused settings s.session refusal) (plan settings s.session s.statements v) session statements out out' (sym (ap (plan settings s.session s.statements) is)) goes bytes kept
 
   -- a command on the database
-  pub on_database : {T E : Type 0} (r : Result T E) (settings : Settings) (s s' : Standing A) (link : Link) (accepted : Accepted) (v : Result Accepted Refusal) (out front out' : List ℕ)
-      → v ≡ Ok accepted → access_done settings s.session accepted.command accepted.given ≡ None → front ≡ out
-      → OnOk r (Appends asks (database_plan settings s.session s.statements accepted.command accepted.given) link s front s' out')
+  pub on_database : {T E : Type 0} (r : Result T E) (settings : Settings) (s s' : Standing A) (link : Link) (accepted : Accepted) (v : Result Accepted Refusal) (out out' : List ℕ)
+      → v ≡ Ok accepted → access_done settings s.session accepted.command accepted.given ≡ None
+      → OnOk r (Appends asks (database_plan settings s.session s.statements accepted.command accepted.given) link s out s' out')
       → OnOk r (Appends asks (plan settings s.session s.statements v) link s out s' out')
-  on_database (Err e) settings s s' link accepted v out front out' is none same done = tt
-  on_database (Ok x) settings s s' link accepted v out front out' is none same done =
+  on_database (Err e) settings s s' link accepted v out out' is none done = tt
+  on_database (Ok x) settings s s' link accepted v out out' is none done =
       let otherwise : Plan = database_plan settings s.session s.statements accepted.command accepted.given in
       let here : plan settings s.session s.statements v ≡ otherwise =
       ap (plan settings s.session s.statements) is ∙ ap (λ (f : Option Answer). at_once_or s.statements f otherwise) none in
-      subst (λ (p : Plan). Appends asks p link s out s' out') (sym here) (subst (λ (f : List ℕ). Appends asks otherwise link s f s' out') same done)
+      subst (λ (p : Plan). Appends asks p link s out s' out') (sym here) done
 
   -- a plan that was followed is the exchange
   pub turned : (settings : Settings) (s s' : Standing A) (command : List Dss) (request : Dss) (objects : List Dss) (link : Link) (p : Plan) (out out' : List ℕ)

@@ -17,10 +17,10 @@ use crate::database::do_on_database;
 use crate::sizes::most_length;
 use crate::state::State;
 use command_kit::Ask;
-use drda_commands::{Accepted, Refusal, judge};
+use drda_commands::{Accepted, Given, Refusal, judge};
 use drda_names::push_padded;
 use dss_frames::{Format, Group, OpenedDss, close_dss, open_dss};
-use session_commands::{Answer, Settings, answered_at_once, refused};
+use session_commands::{Answer, AtOnce, Settings, answered_at_once, refused};
 use sqlam_replies::ReplyKind;
 use std::alloc::{AllocError, Global};
 
@@ -158,6 +158,32 @@ fn refuse(
     }
 }
 
+// Answers a command that the core is not asked for. Out of memory nothing is appended.
+#[inline(always)]
+fn tell(
+    settings: &Settings,
+    state: &mut State,
+    what: AtOnce,
+    given: Given<'_>,
+    link: Link,
+    out: &mut Vec<u8>,
+) -> Result<(), AllocError>
+    ensures session { OnOk result (state.new.session ≡ (spec.sent link (answers.answered_at_once settings.now state.old.session what (given_of given.entry)).session ((answers.answered_at_once settings.now state.old.session what (given_of given.entry)).reply ∷ [])).session) }
+    ensures bytes { OnOk result (out.new.items ≡ out.old.items ++ (spec.sent link (answers.answered_at_once settings.now state.old.session what (given_of given.entry)).session ((answers.answered_at_once settings.now state.old.session what (given_of given.entry)).reply ∷ [])).bytes) }
+    ensures statements { state.new.statements ≡ state.old.statements }
+    ensures err_session { OnErr result (state.new.session ≡ state.old.session) }
+    ensures err_out { OnErr result (out.new.items ≡ out.old.items) }
+{
+    let dss = open_dss(out)?;
+    match answered_at_once(settings, state.session, what, given, out) {
+        Ok(answer) => send_one(state, answer, link, dss, out),
+        Err(error) => {
+            out.truncate(dss.at);
+            Err(error)
+        }
+    }
+}
+
 // Does a command of which the judge says this. Out of memory nothing is asked, and nothing appended.
 #[inline(always)]
 fn answer<A: Ask>(
@@ -178,17 +204,9 @@ fn answer<A: Ask>(
         Ok(accepted) => accepted,
         Err(refusal) => return refuse(settings, state, refusal, link, out),
     };
-    let dss = open_dss(out)?;
-    match answered_at_once(settings, state.session, accepted, out) {
-        Ok(Some(answer)) => send_one(state, answer, link, dss, out),
-        Ok(None) => {
-            out.truncate(dss.at);
-            run(alloc, settings, state, accepted, link, asker, out)
-        }
-        Err(error) => {
-            out.truncate(dss.at);
-            Err(error)
-        }
+    match AtOnce::of(state.session, accepted.command) {
+        Some(what) => tell(settings, state, what, accepted.given, link, out),
+        None => run(alloc, settings, state, accepted, link, asker, out),
     }
 }
 

@@ -1,6 +1,6 @@
 -- What the commands that open the database reply and keep (DRDA V5 volume 1, "Connection Flows"; volume 3,
 -- EXCSAT, ACCSEC, SECCHK, ACCRDB), and what a refused command is answered.
-use Rattle.std.specs.Prelude.{ℕ, ◌==◌, Bool, true, false, ◌&&◌, List, [], ◌∷◌, Option, Some, None, if◌then◌else◌}
+use Rattle.std.specs.Prelude.{ℕ, ◌==◌, Bool, true, false, ◌&&◌, List, [], ◌∷◌, Option, Some, None, option_map, if◌then◌else◌}
 use Rattle.ddm_objects.specs.declared.code_point.TheConstants.{MGRLVLLS, SECMEC, RDBNAM, USRID, PASSWORD}
 use Rattle.drda_commands.specs.declared.refusal.Refusal.{Refusal}
 use Rattle.drda_commands.specs.declared.table.Command.{Command}
@@ -13,6 +13,8 @@ use Rattle.drda_commands.specs.declared.stage.Mechanism.TheVariants.{UserAndPass
 use Rattle.drda_commands.specs.Given.{Given, Occurs, never, once, twice, value_of, found_at}
 use Rattle.drda_names.specs.Names.{is_name, is_padded_name}
 use Rattle.sqlam_replies.specs.Reply.{Reply}
+use Rattle.session_commands.specs.declared.answer.AtOnce.{AtOnce}
+use Rattle.session_commands.specs.declared.answer.AtOnce.TheVariants as once
 use Rattle.session_commands.specs.declared.session.Agreed.{Agreed}
 use Rattle.session_commands.specs.declared.session.Session.{Session}
 use Rattle.session_commands.specs.Levels.{agreed_after, nothing_agreed}
@@ -116,18 +118,30 @@ accrdb_done settings session rdbnam =
 -- ---- SYNCCTL
 
 -- it needs the agreement on a level of XAMGR
-abbrev pub unless_agreed : Session → Option Answer
-unless_agreed session = if session.agreed.xa == 0 then Some (record { session = session; reply = manager_missing }) else None
+abbrev pub manager_is_missing : Session → Answer
+manager_is_missing session = record { session = session; reply = manager_missing }
 
--- what is answered without the database: the commands that open it, and what it can't be asked
+-- ---- what is answered without the database
+
+-- the commands that open it, and what it can't be asked
+abbrev pub at_once : Session → Command → Option AtOnce
+at_once session Excsat = Some once.Excsat
+at_once session Accsec = Some once.Accsec
+at_once session Secchk = Some once.Secchk
+at_once session Accrdb = Some once.Accrdb
+at_once session Syncctl = if session.agreed.xa == 0 then Some once.ManagerMissing else None
+at_once session command = None
+
+abbrev pub answered_at_once : Settings → Session → AtOnce → Given → Answer
+answered_at_once settings session once.Excsat given = excsat_done session (value_of (found_at Parameter MGRLVLLS given))
+answered_at_once settings session once.Accsec given = accsec_done settings session (found_at Parameter SECMEC given) (found_at Parameter RDBNAM given)
+answered_at_once settings session once.Secchk given =
+    checked_with session (check_code settings session (found_at Parameter SECMEC given) (found_at Parameter USRID given) (found_at Parameter PASSWORD given))
+answered_at_once settings session once.Accrdb given = accrdb_done settings session (found_at Parameter RDBNAM given)
+answered_at_once settings session once.ManagerMissing given = manager_is_missing session
+
 abbrev pub access_done : Settings → Session → Command → Given → Option Answer
-access_done settings session Excsat given = Some (excsat_done session (value_of (found_at Parameter MGRLVLLS given)))
-access_done settings session Accsec given = Some (accsec_done settings session (found_at Parameter SECMEC given) (found_at Parameter RDBNAM given))
-access_done settings session Secchk given =
-    Some (checked_with session (check_code settings session (found_at Parameter SECMEC given) (found_at Parameter USRID given) (found_at Parameter PASSWORD given)))
-access_done settings session Accrdb given = Some (accrdb_done settings session (found_at Parameter RDBNAM given))
-access_done settings session Syncctl given = unless_agreed session
-access_done settings session command given = None
+access_done settings session command given = option_map (λ what. answered_at_once settings session what given) (at_once session command)
 
 -- ---- a refused command
 

@@ -1,5 +1,5 @@
 -- What the types of the code show.
-use Rattle.std.specs.Prelude.{◌≡◌, List, ℕ, ◌++◌, Option, Some, None}
+use Rattle.std.specs.Prelude.{◌≡◌, List, ℕ, ◌++◌}
 use Rattle.sqlam_replies.specs.Kind.{dss_type_of}
 use Rattle.session_commands.specs.declared.answer.Answer as rust_answer
 use Rattle.session_commands.specs.Access.{Answer}
@@ -11,9 +11,3 @@ answer_of answer text = record { session = answer.session; reply = record { dss_
 -- this is the answer that is due, and its text was appended
 abbrev pub IsAppended : rust_answer.Answer → List ℕ → List ℕ → Answer → Type 0
 IsAppended answer out out' due = (answer_of answer due.reply.text ≡ due) × (out' ≡ out ++ due.reply.text)
-
--- the same where an answer is due; and else there is none, and nothing was appended
-abbrev pub IsAppendedIfDue : Option rust_answer.Answer → List ℕ → List ℕ → Option Answer → Type 0
-IsAppendedIfDue None out out' None = out' ≡ out
-IsAppendedIfDue (Some answer) out out' (Some due) = IsAppended answer out out' due
-IsAppendedIfDue answer out out' due = ⊥

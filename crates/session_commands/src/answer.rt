@@ -4,7 +4,7 @@ ghost use Rattle.std.specs.Prelude.{◌≡◌, IfOk, OnErr, take, vec_len};
 ghost use Rattle.std.specs.Option.{option_copied};
 ghost use Rattle.drda_commands.specs.Views.{given_of};
 ghost use Rattle.session_commands.specs.Access as spec;
-ghost use Rattle.session_commands.specs.Views.{IsAppended, IsAppendedIfDue};
+ghost use Rattle.session_commands.specs.Views.{IsAppended};
 
 use crate::access::{accrdb, accsec, check_code, checked};
 use crate::levels::agreed_by;
@@ -12,7 +12,7 @@ use crate::reply::{write_excsatrd, write_manager_missing, write_refusal};
 use crate::session::{Agreed, Session};
 use crate::settings::Settings;
 use ddm_objects::code_point;
-use drda_commands::{Accepted, Command, ItemKind, Refusal, Stage};
+use drda_commands::{Command, Given, ItemKind, Refusal, Stage};
 use sqlam_replies::ReplyKind;
 use std::alloc::AllocError;
 
@@ -65,61 +65,85 @@ fn excsat(session: Session, asked: Option<&[u8]>, out: &mut Vec<u8>) -> Result<A
 }
 
 // MGRDEPRM for a SYNCCTL, where no level of XAMGR is agreed on.
-fn unless_agreed(session: Session, out: &mut Vec<u8>) -> Result<Option<Answer>, AllocError>
-    ensures ok { IfOk result (λ a. IsAppendedIfDue a out.old.items out.new.items (spec.unless_agreed session)) }
+fn manager_missing(session: Session, out: &mut Vec<u8>) -> Result<Answer, AllocError>
+    ensures ok { IfOk result (λ a. IsAppended a out.old.items out.new.items (spec.manager_is_missing session)) }
     ensures err { OnErr result (take (vec_len out.old) out.new.items ≡ out.old.items) }
 {
-    if session.agreed.xa != 0 {
-        return Ok(None);
-    }
     write_manager_missing(out)?;
-    Ok(Some(Answer {
+    Ok(Answer {
         session,
         kind: ReplyKind::Message,
         severity: 8,
-    }))
+    })
 }
 
-/// What is answered without the database, with the text of the answer appended to `out`: the commands that
-/// open it, and a SYNCCTL without an agreement on XAMGR (MGRDEPRM). None of any other command, and then
-/// nothing is appended.
-///
-/// EXCSAT agrees on levels. ACCSEC agrees on a mechanism, or lists those that there are. SECCHK has checked the
-/// user exactly where its code is 00. ACCRDB opens the database. A name of another database is RDBNFNRM, and
-/// leaves what is remembered. AllocError where memory is refused; some of the text may have been appended.
+/// A command that is answered without the database.
+#[derive(Clone, Copy)]
+pub enum AtOnce {
+    /// It agrees on levels.
+    Excsat,
+    /// It agrees on a mechanism, or lists those that there are.
+    Accsec,
+    /// It has checked the user exactly where its code is 00.
+    Secchk,
+    /// It opens the database.
+    Accrdb,
+    /// A SYNCCTL without an agreement on XAMGR: MGRDEPRM.
+    ManagerMissing,
+}
+
+impl AtOnce {
+    /// Which of these a command is; None of one that the core is asked for.
+    #[inline(always)]
+    pub fn of(session: Session, command: Command) -> Option<AtOnce>
+        ensures { result ≡ spec.at_once session command }
+    {
+        match command {
+            Command::Excsat => Some(AtOnce::Excsat),
+            Command::Accsec => Some(AtOnce::Accsec),
+            Command::Secchk => Some(AtOnce::Secchk),
+            Command::Accrdb => Some(AtOnce::Accrdb),
+            Command::Syncctl if session.agreed.xa == 0 => Some(AtOnce::ManagerMissing),
+            _ => None,
+        }
+    }
+}
+
+/// What is answered without the database, with the text of the answer appended to `out`. A name of another
+/// database is RDBNFNRM, and leaves what is remembered. AllocError where memory is refused; some of the text may
+/// have been appended.
 pub fn answered_at_once(
     settings: &Settings,
     session: Session,
-    accepted: Accepted<'_>,
+    what: AtOnce,
+    given: Given<'_>,
     out: &mut Vec<u8>,
-) -> Result<Option<Answer>, AllocError>
-    ensures ok { IfOk result (λ a. IsAppendedIfDue a out.old.items out.new.items (spec.access_done settings.now session accepted.entry.command (given_of accepted.entry.given))) }
+) -> Result<Answer, AllocError>
+    ensures ok { IfOk result (λ a. IsAppended a out.old.items out.new.items (spec.answered_at_once settings.now session what (given_of given.entry))) }
     ensures err { OnErr result (take (vec_len out.old) out.new.items ≡ out.old.items) }
 {
-    let given = accepted.given;
-    match accepted.command {
-        Command::Excsat => {
+    match what {
+        AtOnce::Excsat => {
             let asked = given.found(ItemKind::Parameter, code_point::MGRLVLLS);
-            Ok(Some(excsat(session, asked.value(), out)?))
+            excsat(session, asked.value(), out)
         }
-        Command::Accsec => {
+        AtOnce::Accsec => {
             let mechanism = given.found(ItemKind::Parameter, code_point::SECMEC);
             let rdb = given.found(ItemKind::Parameter, code_point::RDBNAM);
-            Ok(Some(accsec(settings, session, mechanism, rdb, out)?))
+            accsec(settings, session, mechanism, rdb, out)
         }
-        Command::Secchk => {
+        AtOnce::Secchk => {
             let mechanism = given.found(ItemKind::Parameter, code_point::SECMEC);
             let user = given.found(ItemKind::Parameter, code_point::USRID);
             let password = given.found(ItemKind::Parameter, code_point::PASSWORD);
             let code = check_code(settings, session, mechanism, user, password);
-            Ok(Some(checked(session, code, out)?))
+            checked(session, code, out)
         }
-        Command::Accrdb => {
+        AtOnce::Accrdb => {
             let rdb = given.found(ItemKind::Parameter, code_point::RDBNAM);
-            Ok(Some(accrdb(settings, session, rdb, out)?))
+            accrdb(settings, session, rdb, out)
         }
-        Command::Syncctl => unless_agreed(session, out),
-        _ => Ok(None),
+        AtOnce::ManagerMissing => manager_missing(session, out),
     }
 }
 

@@ -9,6 +9,6 @@ mod reply;
 mod session;
 mod settings;
 
-pub use answer::{Answer, answered_at_once, refused};
+pub use answer::{Answer, AtOnce, answered_at_once, refused};
 pub use session::{Agreed, Session, fresh_session};
 pub use settings::{Settings, SettingsError};
