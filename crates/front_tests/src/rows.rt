@@ -1,6 +1,6 @@
 //! Rows of requests and replies.
 
-use crate::pieces::is_answered;
+use crate::pieces::{Outcome, outcome};
 use conversation::{Settings, SettingsError};
 use std::alloc::Global;
 use test_bytes::push_texts;
@@ -38,6 +38,7 @@ pub struct Rows {
     target: Target,
     request: Vec<u8>,
     reply: Vec<u8>,
+    is_lost: bool,
     written: Vec<u8>,
 }
 
@@ -50,6 +51,7 @@ impl Rows {
             target: Target::Name,
             request: Vec::new(alloc),
             reply: Vec::new(alloc),
+            is_lost: false,
             written: Vec::new(alloc),
         }
     }
@@ -67,14 +69,17 @@ impl Rows {
         Some(())
     }
 
-    // `>` begins a request and `<` its reply; `.` says whether the one is answered by the other, and `name` whether
-    // the request's bytes are a database's name. A word behind : is a name for the bytes that follow, and $ stands in
+    // `>` begins a request and `<` its reply; `.` says whether the one is answered by the other, `asked` that too and how
+    // often the core is asked for it, which behind `lost` is a lost one, and `name` whether the request's bytes are a
+    // database's name. A word behind : is a name for the bytes that follow, and $ stands in
     // front of it where they are meant. One behind # is written down. All else is bytes.
     fn take(&mut self, word: &str) -> Option<()> {
         match word {
             ">" => self.begin(),
             "<" => self.target = Target::Reply,
+            "lost" => self.is_lost = true,
             "." => return self.judge(),
+            "asked" => return self.judge_asked(),
             "name" => return self.judge_name(),
             _ => return self.take_text(word.as_bytes(), word),
         }
@@ -93,6 +98,7 @@ impl Rows {
     fn begin(&mut self) {
         self.request.clear();
         self.reply.clear();
+        self.is_lost = false;
         self.target = Target::Request;
     }
 
@@ -128,13 +134,23 @@ impl Rows {
         self.written.push(b'\n').ok()
     }
 
+    fn outcome(&self) -> Option<Outcome> {
+        outcome(self.alloc, &self.request, &self.reply, self.is_lost)
+    }
+
     fn judge(&mut self) -> Option<()> {
-        let text: &[u8] = if is_answered(self.alloc, &self.request, &self.reply)? {
-            b"answered"
-        } else {
-            b"answered otherwise"
-        };
-        self.note(text)
+        let outcome = self.outcome()?;
+        self.note(text_of(outcome.is_answered))
+    }
+
+    fn judge_asked(&mut self) -> Option<()> {
+        let outcome = self.outcome()?;
+        self.written
+            .extend_from_slice(text_of(outcome.is_answered))
+            .ok()?;
+        self.written.extend_from_slice(b", asked ").ok()?;
+        self.written.push(b'0'.saturating_add(outcome.asked)).ok()?;
+        self.note(if outcome.is_closed { b", closed" } else { b"" })
     }
 
     fn judge_name(&mut self) -> Option<()> {
@@ -145,5 +161,13 @@ impl Rows {
             Err(SettingsError::NoMemory) => return None,
         };
         self.note(text)
+    }
+}
+
+fn text_of(is_answered: bool) -> &'static [u8] {
+    if is_answered {
+        b"answered"
+    } else {
+        b"answered otherwise"
     }
 }

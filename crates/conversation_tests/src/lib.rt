@@ -1,7 +1,0 @@
-//! Tests of conversation: SQL commands over a core that is a script.
-#![tactic(auto)]
-
-#[cfg(test)]
-mod commands;
-#[cfg(test)]
-mod fixtures;
