@@ -122,7 +122,7 @@ const WHOLE: usize = 1_000_000;
 
 /// What becomes of a request over a core that is lost or not, where it is the same whatever pieces it comes in: whole, in
 /// pieces of some sizes, and cut at each place. None where it is not, and without memory.
-pub fn outcome(alloc: Global, request: &[u8], reply: &[u8], is_lost: bool) -> Option<Outcome> {
+pub fn judged(alloc: Global, request: &[u8], reply: &[u8], is_lost: bool) -> Option<Outcome> {
     let whole = outcome_in_pieces(alloc, request, reply, is_lost, (WHOLE, WHOLE))?;
     for size in [1, 2, 3, 7, 10] {
         if outcome_in_pieces(alloc, request, reply, is_lost, (size, size))? != whole {

@@ -1,6 +1,6 @@
 //! Rows of requests and replies.
 
-use crate::pieces::{Outcome, outcome};
+use crate::pieces::{Outcome, judged};
 use conversation::{Settings, SettingsError};
 use std::alloc::Global;
 use test_bytes::push_texts;
@@ -134,17 +134,17 @@ impl Rows {
         self.written.push(b'\n').ok()
     }
 
-    fn outcome(&self) -> Option<Outcome> {
-        outcome(self.alloc, &self.request, &self.reply, self.is_lost)
+    fn judged(&self) -> Option<Outcome> {
+        judged(self.alloc, &self.request, &self.reply, self.is_lost)
     }
 
     fn judge(&mut self) -> Option<()> {
-        let outcome = self.outcome()?;
+        let outcome = self.judged()?;
         self.note(text_of(outcome.is_answered))
     }
 
     fn judge_asked(&mut self) -> Option<()> {
-        let outcome = self.outcome()?;
+        let outcome = self.judged()?;
         self.written
             .extend_from_slice(text_of(outcome.is_answered))
             .ok()?;
