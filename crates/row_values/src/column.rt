@@ -62,7 +62,7 @@ impl Column {
 
     /// Whether the column's name is in capitals, 1 to 30 bytes, a letter and then letters, digits
     /// and `_`, and its length one that its type has.
-    pub fn is_valid(&self) -> bool
+    pub(crate) fn is_valid(&self) -> bool
         ensures { result ≡ is_column (column_of self.now) }
     {
         is_name(self.name.as_bytes()) && is_length(self.kind, self.length)

@@ -14,9 +14,10 @@ ghost use Rattle.sql_semantics.specs.Update.{updated_row, updated_rows};
 ghost use Rattle.core_calls.specs.StatementError.{fault_of};
 ghost use Rattle.sql_changes.specs.Assigned.{StandFor};
 
+use crate::room::have_room;
+use crate::row::new_row;
 use crate::target::Targets;
 use crate::updated_row::all_set;
-use crate::{have_room, new_row};
 use core_calls::{SqlFault, StatementError};
 use row_values::RowRef;
 use std::alloc::Global;

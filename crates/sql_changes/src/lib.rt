@@ -19,6 +19,4 @@ pub use creation::{MAX_TABLES, create};
 pub use given::{GivenRow, insert};
 pub use key::given_key;
 pub use removal::delete;
-pub use room::have_room;
-pub use row::{misfit_fault, new_row};
 pub use target::Targets;

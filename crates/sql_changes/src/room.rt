@@ -8,7 +8,7 @@ ghost use Rattle.tables.specs.ChangeView.{change_of};
 use tables::Change;
 
 /// Whether the changes have no more bytes than are left.
-pub fn have_room(changes: &[Change], left: usize) -> bool
+pub(crate) fn have_room(changes: &[Change], left: usize) -> bool
     ensures { result ≡ nat_le (length (flat_map change_bytes (map change_of changes.now))) left }
 {
     let mut room = left;

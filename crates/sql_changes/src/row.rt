@@ -15,7 +15,7 @@ use sql_predicates::Constant;
 use std::alloc::{AllocError, Global};
 
 /// The fault of a value that does not fit its column.
-pub fn misfit_fault(misfit: Misfit) -> SqlFault
+pub(crate) fn misfit_fault(misfit: Misfit) -> SqlFault
     ensures { result ≡ checked.misfit_fault misfit }
 {
     match misfit {
@@ -45,7 +45,7 @@ pub(crate) fn first_misfit(mut columns: &[Column], mut values: &[Value<'_>]) -> 
 
 /// The bytes of the row of these values. It is a syntax error where there is not one value for each
 /// column, or one does not fit; a limit is reached where the row has more than 4,000 bytes.
-pub fn new_row(
+pub(crate) fn new_row(
     alloc: Global,
     schema: &Schema,
     values: &[Value<'_>],

@@ -11,7 +11,7 @@ ghost use Rattle.sql_semantics.specs.Update as update;
 ghost use Rattle.core_calls.specs.StatementError.{fault_of};
 ghost use Rattle.sql_changes.specs.Assigned.{all_set, assigned};
 
-use crate::misfit_fault;
+use crate::row::misfit_fault;
 use crate::target::Target;
 use crate::total::total;
 use core_calls::{SqlFault, StatementError};

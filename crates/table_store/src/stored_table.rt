@@ -64,7 +64,7 @@ impl StoredTable {
     }
 
     /// The schema.
-    pub fn schema_ref(&self) -> &Schema
+    pub(crate) fn schema_ref(&self) -> &Schema
         ensures { result.now ≡ self.now.schema }
     {
         &self.schema

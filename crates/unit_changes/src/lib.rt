@@ -12,4 +12,4 @@ mod unit;
 mod unit_view;
 
 pub use unit::{MAX_CHANGED_BYTES, UnitChanges};
-pub use unit_view::{UnitView, row_under, rows_under, schema_under, tables_under};
+pub use unit_view::{UnitView, row_under, schema_under, tables_under};

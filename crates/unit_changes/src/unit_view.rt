@@ -114,7 +114,7 @@ pub fn row_under<V: TableView>(
 /// All rows of the table behind the unit's changes, in the order of their keys. Where the base has
 /// another schema of a table that the unit changed, or bytes that are no row of it, the answer is want
 /// of memory.
-pub fn rows_under<V: TableView>(
+fn rows_under<V: TableView>(
     base: &mut V,
     changes: &UnitChanges,
     alloc: Global,

@@ -21,7 +21,7 @@ pub enum BranchState {
 
 impl BranchState {
     /// Whether the conversation is joined to the branch.
-    pub fn is_joined_by(self, conversation: u64) -> bool
+    pub(crate) fn is_joined_by(self, conversation: u64) -> bool
         ensures { result ≡ is_joined_by conversation self }
     {
         match self {
@@ -31,7 +31,7 @@ impl BranchState {
     }
 
     /// Whether some conversation is joined to the branch.
-    pub fn is_active(self) -> bool
+    pub(crate) fn is_active(self) -> bool
         ensures { result ≡ is_active self }
     {
         match self {
