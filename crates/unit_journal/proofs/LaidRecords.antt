@@ -1,9 +1,13 @@
 -- The bytes of a laid record, and the body in them.
-use Rattle.std.proofs.Common.{◌≡◌, ℕ, ◌-◌, ◌^◌, ◌<◌, List, [], ◌∷◌, ◌++◌, length, take, drop, refl, sym, ◌∙◌, ap, arith}
+use Rattle.std.proofs.Common.{◌≡◌, ℕ, ◌+◌, ◌-◌, ◌^◌, ◌<◌, List, [], ◌∷◌, ◌++◌, length, take, drop, refl, sym, ◌∙◌, ap, arith, length-append}
 use Rattle.std.proofs.lemmas.List.{take_at}
 use Rattle.unit_journal.specs.Record.{Entry, behind, body_in}
 use Rattle.unit_journal.specs.declared.kind.Kind.{Kind}
-use Rattle.unit_journal.proofs.Appending.{length-bytes}
+use Rattle.unit_journal.proofs.Spelling.{length-behind}
+
+-- the bytes of a laid record
+pub length-bytes : (e : Entry) (bytes : List ℕ) → bytes ≡ behind e ++ 0 ∷ [] → length bytes ≡ 6 + length e.body
+length-bytes e bytes is = omega (arith, ap length is, length-append (behind e) (0 ∷ []), length-behind e)
 
 -- a list that ends by its new front, with a closed gate behind it
 pub closed : (kind : Kind) (old now front rest bytes : List ℕ) (n : ℕ) → now ≡ old → front ≡ behind (record { kind = kind; body = drop 5 now }) → length front ≡ n → bytes ≡ take n (front ++ rest) ++ 0 ∷ []

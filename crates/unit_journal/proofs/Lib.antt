@@ -1,6 +1,7 @@
 pub mod Spelling
 pub mod Appending
 mod LaidRecords
+mod LaidGroups
 mod Reading
 mod Opening
 pub mod Readings

@@ -1,4 +1,4 @@
-use Rattle.std.specs.Prelude.{ℕ}
+use Rattle.std.specs.Prelude.{ℕ, ◌==◌, if◌then◌else◌}
 use Rattle.unit_journal.specs.declared.kind.Kind.{Kind}
 use Rattle.unit_journal.specs.declared.kind.Kind.TheVariants.{Commit, Prepare, Decide}
 
@@ -7,3 +7,7 @@ abbrev pub code_of : Kind → ℕ
 code_of Commit = 1
 code_of Prepare = 2
 code_of Decide = 3
+
+-- the kind of a byte that is one's
+abbrev pub kind_for : ℕ → Kind
+kind_for byte = if byte == 1 then Commit else if byte == 2 then Prepare else Decide

@@ -1,6 +1,7 @@
 pub mod Kind
 pub mod Record
 pub mod LaidRecord
+pub mod LaidGroup
 pub mod Stands
 pub mod Journal
 pub mod Errors

@@ -41,7 +41,11 @@ pub record DamagedFrom (at limit : ℕ) (gate : ℕ) (image : List ℕ) : Type 0
 abbrev pub IsDamagedAt : Region → ℕ → List ℕ → Type 0
 IsDamagedAt region gate image = DamagedFrom region.at (end_of region) gate image
 
--- nothing outside the region changes, and the records are those or one more
-pub record IsBeforeOrAfter (region : Region) (old : List ℕ) (es : List Entry) (e : Entry) (image : List ℕ) : Type 0 where
+-- nothing outside the region changes, and the records are those, or those and all of the others behind them
+pub record IsBeforeOrAfterAll (region : Region) (old : List ℕ) (es gs : List Entry) (image : List ℕ) : Type 0 where
   pub others : SameOutside region old image
-  pub stands : Stands region es image ⊎ Stands region (es ++ e ∷ []) image
+  pub stands : Stands region es image ⊎ Stands region (es ++ gs) image
+
+-- or those and one more
+abbrev pub IsBeforeOrAfter : Region → List ℕ → List Entry → Entry → List ℕ → Type 0
+IsBeforeOrAfter region old es e = IsBeforeOrAfterAll region old es (e ∷ [])

@@ -75,8 +75,18 @@ impl LaidRecord {
 
     /// What is written behind its gate.
     pub(crate) fn bytes(&self) -> &[u8]
-        ensures { result.now ≡ behind (entry_in self.now) ++ 0 ∷ [] }
+        ensures bytes { result.now ≡ behind (entry_in self.now) ++ 0 ∷ [] }
+        ensures len { length result.now ≡ 6 + length (entry_in self.now).body }
+        ensures short { length (entry_in self.now).body < 2 ^ 32 }
     {
         &self.bytes
+    }
+
+    /// The same, and the record is given up for them.
+    pub(crate) fn into_bytes(self) -> Vec<u8>
+        ensures bytes { result.items ≡ behind (entry_in self) ++ 0 ∷ [] }
+        ensures short { length (entry_in self).body < 2 ^ 32 }
+    {
+        self.bytes
     }
 }

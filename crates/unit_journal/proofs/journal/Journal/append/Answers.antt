@@ -1,58 +1,19 @@
-use Rattle.std.proofs.Common.{◌+◌, length, arith}
-use Rattle.drda_disk.proofs.Parts.{Torn-wider, Torn-trans}
-use Rattle.unit_journal.specs.Record.{Entry}
+use Rattle.std.proofs.Common.{◌≡◌, ◌+◌, ◌∷◌, [], OnOk, subst}
+use Rattle.unit_journal.specs.Errors.{SaysFull}
+use Rattle.unit_journal.specs.Journal.{room_of}
 use Rattle.unit_journal.specs.LaidRecord.{entry_in}
-use Rattle.unit_journal.proofs.Spelling.{length-laid-push}
-use Rattle.unit_journal.proofs.Appending.{length-bytes, first, second, settled}
+use Rattle.unit_journal.proofs.LaidGroups.{laid_one}
 use Rattle.unit_journal.proofs.journal.Journal.append.Goals as goal
 
-pub returns-in_err-write_through-clause-any_moment : goal.returns-in_err-write_through-clause-any_moment
-returns-in_err-write_through-clause-any_moment g c es s =
-    let e : Entry = entry_in c.args.laid.now in
-    let n = length-bytes e _ c.bytes-bytes.ensures in
-    first g.D.Disk.is_modelled (g.D.Disk.life c.args.disk.now) c.args.self.now es e s c.bytes-bytes.result.now c.bytes-bytes.ensures (omega arith) (omega arith) (g.D.Disk.life c.write_through.new.disk) (c.write_through.ensures.any_moment s.durable)
-
-pub returns-in_err-write_through-2-clause-any_moment : goal.returns-in_err-write_through-2-clause-any_moment
-returns-in_err-write_through-2-clause-any_moment g c es s =
-    let e : Entry = entry_in c.args.laid.now in
-    let n = length-bytes e _ c.bytes-bytes.ensures in
-    second g.D.Disk.is_modelled (g.D.Disk.life c.args.disk.now) c.args.self.now es e s c.bytes-bytes.result.now c.bytes-bytes.ensures (omega arith) (omega arith) (g.D.Disk.life c.write_through.new.disk)
-    (c.in_ok-write_through.ensures.written s.modelled_disk) (g.D.Disk.life c.write_through-2.new.disk) (c.write_through.ensures.any_moment s.durable) (c.write_through-2.ensures.any_moment c.in_ok-write_through.ensures.durable)
+pub returns-clause-ok : goal.returns-clause-ok
+returns-clause-ok g c es s = c.append_behind.ensures.ok es (entry_in c.args.laid.now ∷ []) (laid_one (entry_in c.args.laid.now) _ c.bytes.ensures.bytes) s
 
 pub returns-clause-any_moment : goal.returns-clause-any_moment
-returns-clause-any_moment g c es s =
-    let e : Entry = entry_in c.args.laid.now in
-    let n = length-bytes e _ c.bytes-bytes.ensures in
-    second g.D.Disk.is_modelled (g.D.Disk.life c.args.disk.now) c.args.self.now es e s c.bytes-bytes.result.now c.bytes-bytes.ensures (omega arith) (omega arith) (g.D.Disk.life c.write_through.new.disk)
-    (c.in_ok-write_through.ensures.written s.modelled_disk) (g.D.Disk.life c.write_through-2.new.disk) (c.write_through.ensures.any_moment s.durable) (c.write_through-2.ensures.any_moment c.in_ok-write_through.ensures.durable)
+returns-clause-any_moment g c es s = c.append_behind.ensures.any_moment es (entry_in c.args.laid.now ∷ []) (laid_one (entry_in c.args.laid.now) _ c.bytes.ensures.bytes) s
 
-pub returns-clause-ok : goal.returns-clause-ok
-returns-clause-ok g c es s =
-    let e : Entry = entry_in c.args.laid.now in
-    let n = length-bytes e _ c.bytes-bytes.ensures in
-    record {
-      modelled_disk = s.modelled_disk;
-      durable = c.in_ok-write_through-2.ensures.durable;
-      stands = settled g.D.Disk.is_modelled (g.D.Disk.life c.args.disk.now) c.args.self.now es e s c.bytes-bytes.result.now c.bytes-bytes.ensures (omega arith) (omega arith) (g.D.Disk.life c.write_through.new.disk)
-          (c.in_ok-write_through.ensures.written s.modelled_disk) (g.D.Disk.life c.write_through-2.new.disk) (c.in_ok-write_through-2.ensures.written s.modelled_disk);
-      next = omega (arith, s.next, length-laid-push es e);
-    }
+pub returns-clause-full : goal.returns-clause-full
+returns-clause-full g c = subst (λ n. SaysFull c.append_behind.result (n + c.args.hold) c.args.release (room_of c.args.self.now)) c.bytes.ensures.len c.append_behind.ensures.full
 
-pub returns-in_err-write_through-clause-others : goal.returns-in_err-write_through-clause-others
-returns-in_err-write_through-clause-others g c =
-    let n = length-bytes (entry_in c.args.laid.now) _ c.bytes-bytes.ensures in
-    Torn-wider (c.args.self.now.next + 1) (length c.bytes-bytes.result.now) c.args.self.now.region.at c.args.self.now.region.length _ _ (omega arith) (omega arith) c.write_through.ensures.others
-
-pub returns-in_err-write_through-2-clause-others : goal.returns-in_err-write_through-2-clause-others
-returns-in_err-write_through-2-clause-others g c =
-    let n = length-bytes (entry_in c.args.laid.now) _ c.bytes-bytes.ensures in
-    let one = Torn-wider (c.args.self.now.next + 1) (length c.bytes-bytes.result.now) c.args.self.now.region.at c.args.self.now.region.length _ _ (omega arith) (omega arith) c.write_through.ensures.others in
-    let two = Torn-wider c.args.self.now.next 1 c.args.self.now.region.at c.args.self.now.region.length _ _ (omega arith) (omega arith) c.write_through-2.ensures.others in
-    Torn-trans _ _ _ _ _ one two
-
-pub returns-clause-others : goal.returns-clause-others
-returns-clause-others g c =
-    let n = length-bytes (entry_in c.args.laid.now) _ c.bytes-bytes.ensures in
-    let one = Torn-wider (c.args.self.now.next + 1) (length c.bytes-bytes.result.now) c.args.self.now.region.at c.args.self.now.region.length _ _ (omega arith) (omega arith) c.write_through.ensures.others in
-    let two = Torn-wider c.args.self.now.next 1 c.args.self.now.region.at c.args.self.now.region.length _ _ (omega arith) (omega arith) c.write_through-2.ensures.others in
-    Torn-trans _ _ _ _ _ one two
+pub returns-clause-room : goal.returns-clause-room
+returns-clause-room g c =
+    subst (λ n. OnOk c.append_behind.result (room_of c.append_behind.new.self + (n + c.args.hold) ≡ room_of c.args.self.now + c.args.release)) c.bytes.ensures.len c.append_behind.ensures.room
