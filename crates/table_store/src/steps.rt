@@ -17,6 +17,8 @@ use tables::{Action, Change};
 pub struct Step {
     pub table: Vec<u8>,
     pub form: Option<Vec<u8>>,
+    /// Whether the change puts a row: once it is made, the row has its room.
+    pub is_put: bool,
 }
 
 /// Makes room for all changes, where no table is held ready.
@@ -33,7 +35,7 @@ pub(crate) fn reserve_all(
 {
     for change in changes {
         let form = tables.reserve(alloc, change)?;
-        push_step(steps, alloc, name_of(change), form)?;
+        push_step(steps, alloc, change, form)?;
     }
     Ok(())
 }
@@ -46,16 +48,28 @@ fn name_of(change: &Change) -> &[u8] {
     }
 }
 
+fn is_put(change: &Change) -> bool {
+    match &change.action {
+        Action::Put { table: _, row: _ } => true,
+        _ => false,
+    }
+}
+
 fn push_step(
     steps: &mut Vec<Step>,
     alloc: Global,
-    name: &[u8],
+    change: &Change,
     form: Option<Vec<u8>>,
 ) -> Result<(), AllocError>
     ensures { OnOk result (forms_of steps.new.items ≡ forms_of steps.old.items ++ form_in form ∷ []) }
 {
-    let table = Vec::from_slice(alloc, name)?;
-    steps.push(Step { table, form })?;
+    let table = Vec::from_slice(alloc, name_of(change))?;
+    let is_put = is_put(change);
+    steps.push(Step {
+        table,
+        form,
+        is_put,
+    })?;
     Ok(())
 }
 
@@ -71,13 +85,32 @@ pub(crate) fn apply_all(tables: &mut TablesByName, steps: &[Step], changes: Vec<
     }
 }
 
+/// Gives up the room of rows that were taken out, once all changes are made: a row that was put is in
+/// its room, or a later change took it out.
+pub(crate) fn release_removed(tables: &mut TablesByName, steps: &[Step])
+    ensures { store_of tables.new ≡ store_of tables.old }
+{
+    for step in steps {
+        if !step.is_put {
+            release_step(tables, step);
+        }
+    }
+}
+
 /// Gives up the room of rows that are not there.
 pub(crate) fn release_all(tables: &mut TablesByName, steps: &[Step])
     ensures { store_of tables.new ≡ store_of tables.old }
 {
     for step in steps {
-        if let Some(form) = &step.form {
-            tables.release(step.table.as_slice(), form.as_slice());
-        }
+        release_step(tables, step);
+    }
+}
+
+// Gives up the room of a change, where it has no row.
+fn release_step(tables: &mut TablesByName, step: &Step)
+    ensures { store_of tables.new ≡ store_of tables.old }
+{
+    if let Some(form) = &step.form {
+        tables.release(step.table.as_slice(), form.as_slice());
     }
 }
