@@ -48,13 +48,6 @@ fn name_of(change: &Change) -> &[u8] {
     }
 }
 
-fn is_put(change: &Change) -> bool {
-    match &change.action {
-        Action::Put { table: _, row: _ } => true,
-        _ => false,
-    }
-}
-
 fn push_step(
     steps: &mut Vec<Step>,
     alloc: Global,
@@ -64,7 +57,7 @@ fn push_step(
     ensures { OnOk result (forms_of steps.new.items ≡ forms_of steps.old.items ++ form_in form ∷ []) }
 {
     let table = Vec::from_slice(alloc, name_of(change))?;
-    let is_put = is_put(change);
+    let is_put = matches!(&change.action, Action::Put { .. });
     steps.push(Step {
         table,
         form,
@@ -85,32 +78,13 @@ pub(crate) fn apply_all(tables: &mut TablesByName, steps: &[Step], changes: Vec<
     }
 }
 
-/// Gives up the room of rows that were taken out, once all changes are made: a row that was put is in
-/// its room, or a later change took it out.
-pub(crate) fn release_removed(tables: &mut TablesByName, steps: &[Step])
-    ensures { store_of tables.new ≡ store_of tables.old }
-{
-    for step in steps {
-        if !step.is_put {
-            release_step(tables, step);
-        }
-    }
-}
-
 /// Gives up the room of rows that are not there.
 pub(crate) fn release_all(tables: &mut TablesByName, steps: &[Step])
     ensures { store_of tables.new ≡ store_of tables.old }
 {
     for step in steps {
-        release_step(tables, step);
-    }
-}
-
-// Gives up the room of a change, where it has no row.
-fn release_step(tables: &mut TablesByName, step: &Step)
-    ensures { store_of tables.new ≡ store_of tables.old }
-{
-    if let Some(form) = &step.form {
-        tables.release(step.table.as_slice(), form.as_slice());
+        if let Some(form) = &step.form {
+            tables.release(step.table.as_slice(), form.as_slice());
+        }
     }
 }

@@ -5,7 +5,7 @@ ghost use Rattle.tables.specs.Applied.{apply_all};
 ghost use Rattle.tables.specs.ChangeView.{change_of};
 
 use crate::lending::TablesLeft;
-use crate::steps::{Step, apply_all, release_all, release_removed, reserve_all};
+use crate::steps::{Step, apply_all, release_all, reserve_all};
 use crate::tables_by_name::TablesByName;
 use crate::view::StoreView;
 use std::alloc::{AllocError, Global};
@@ -75,9 +75,9 @@ impl TableStore {
         ensures { store_in self.new ≡ apply_all (map change_of changes.items) (store_in self.old) }
     {
         apply_all(&mut self.tables, self.steps.as_slice(), changes);
-        release_removed(&mut self.tables, self.steps.as_slice());
-        self.tables.keep_created();
-        self.steps.clear();
+        // A row that was put is in its room, unless a change behind it took it out, whose step is kept.
+        self.steps.retain(|step| !step.is_put);
+        self.release();
     }
 
     /// Gives up the room that is reserved and not used. The tables stay.
