@@ -11,6 +11,7 @@ use Rattle.std.proofs.lemmas.Map.{lookup-none}
 use Rattle.std.proofs.lemmas.Map.Entries.{none_past_head, none_below_head}
 use Rattle.std.proofs.lemmas.Map.Keys.{sorted_head, sorted_tail, IsDistinct-from_sorted}
 use Rattle.std.proofs.lemmas.Map.Lookups.{CmpEqualImpliesEq}
+use Rattle.std.proofs.lemmas.Option.{same_Some}
 use Rattle.key_map.specs.Slots.{with_row, rows_of}
 
 -- a row that is there, if it is
@@ -134,6 +135,26 @@ module _ {K X : Type 0} {R : K → K → Ordering} (o : IsTotalOrder R) where
 
     not_there : (q : K) (s : K × Option X) (ss : List (K × Option X)) → IsStrictlySortedBy R (keys_of (s ∷ ss)) → IsSome (lookup (is_at (R q)) (s ∷ ss)) → R q s.0 ≡ Less → ⊥
     not_there q s ss up room below = let none = lookup-none (is_at (R q)) (s ∷ ss) (none_below_head o q s ss up below) in false≢true (sym (ap is_some none) ∙ room)
+
+    same_step : (r : Ordering) (q k : K) (v w : Option X) (ss ts : List (K × Option X)) (more : Option (Option X)) → (r ≡ Less → ⊥) → cond (is_eq r) (Some v) more ≡ Some w → (r ≡ Greater → more ≡ Some w → ts ≡ ss) → match_ordering r ((q, w) ∷ (k, v) ∷ ss) ((k, w) ∷ ss) ((k, v) ∷ ts) ≡ (k, v) ∷ ss
+    same_step Less q k v w ss ts more apart h f = absurd (apart refl)
+    same_step Equal q k v w ss ts more apart h f = ap (λ x. (k, x) ∷ ss) (sym (same_Some v w h))
+    same_step Greater q k v w ss ts more apart h f = ap (λ t. (k, v) ∷ t) (f refl h)
+
+    -- a slot that is written as it is stays
+    insert_same : (q : K) (w : Option X) (ss : List (K × Option X)) → IsStrictlySortedBy R (keys_of ss) → lookup (is_at (R q)) ss ≡ Some w → insert_entry R ss q w ≡ ss
+    insert_same q w [] up h = absurd cc
+    insert_same q w (s ∷ ss) up h =
+        same_step (R q s.0) q s.0 s.1 w ss (insert_entry R ss q w) (lookup (is_at (R q)) ss) (not_there q s ss up (ap is_some h)) h
+        (λ above there. insert_same q w ss (sorted_tail R s.0 (keys_of ss) up) there)
+
+    kept_step : (q : K) (ss : List (K × Option X)) (found : Option (Option X)) → IsStrictlySortedBy R (keys_of ss) → lookup (is_at (R q)) ss ≡ found → rows_of (insert_entry R ss q (row_in found)) ≡ rows_of ss
+    kept_step q ss None up h = blank_row q ss h
+    kept_step q ss (Some w) up h = ap rows_of (insert_same q w ss up h)
+
+    -- a slot that is made unless it is there changes no row
+    pub kept_row : (q : K) (ss : List (K × Option X)) → IsStrictlySortedBy R (keys_of ss) → rows_of (insert_entry R ss q (row_in (lookup (is_at (R q)) ss))) ≡ rows_of ss
+    kept_row q ss up = kept_step q ss (lookup (is_at (R q)) ss) up refl
 
     there_step : (r : Ordering) (v : Option X) (more : Option (Option X)) → IsSome (cond (is_eq r) (Some v) more) → r ≡ Greater → IsSome more
     there_step Less v more h is = h

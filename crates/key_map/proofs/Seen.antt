@@ -1,5 +1,6 @@
 -- The slots that a tree of byte vectors has.
 use Rattle.std.proofs.Common.{◌≡◌, ℕ, List, [], ◌∷◌, Bool, true, false, cond, refl, sym, ap, subst, ◌∙◌, Option, Some, None, is_some, option_map, filter, Ordering, Less, Equal, Greater}
+use Rattle.std.specs.Prelude.{unwrap_or}
 use Rattle.std.specs.Ordering.{match_ordering}
 use Rattle.std.specs.Global.{Vec}
 use Rattle.std.specs.Map.{keys_of, lookup, set_value}
@@ -9,7 +10,7 @@ use Rattle.std.specs.List.Sorted.{IsStrictlySortedBy}
 use Rattle.std.specs.Map.{remove_entry}
 use Rattle.std.proofs.lemmas.Cmp.{nat_list_cmp_total}
 use Rattle.std.proofs.lemmas.Map.Lookups.{exact_bytes}
-use Rattle.key_map.proofs.RowLaws.{rows_rise, row_in, get_row, put_row, remove_row, blank_row, drop_row, drop_room, set_room, insert_room, insert_here}
+use Rattle.key_map.proofs.RowLaws.{rows_rise, row_in, get_row, put_row, remove_row, kept_row, drop_row, drop_room, set_room, insert_room, insert_here}
 use Rattle.key_map.specs.Slots.{HasRoom, is_blank, rows_of, with_row, Slots, by_bytes, by_key, slots_in, finds}
 
 abbrev pub Entry : Type 0
@@ -110,25 +111,27 @@ module _ (es : List Entry) (s : Slots) (seen : slots_in es ≡ s) (up : IsStrict
       some_step None = refl
       some_step (Some v) = refl
 
-  pub there_seen : (q : List ℕ) (b : Bool) → b ≡ is_some (lookup (finds q) es) → b ≡ true → HasRoom q s
-  there_seen q b is has = lookup_some q ∙ sym is ∙ has
+  module _ (k : Vec ℕ) (q : List ℕ) (same : k.items ≡ q) (fs : List Entry) (is : fs ≡ insert_entry cmp es k (unwrap_or (lookup (finds k.items) es) None)) where
+    row_seen : (o : Option (Option (Vec ℕ))) → bytes_in (unwrap_or o None) ≡ row_in (option_map bytes_in o)
+    row_seen None = refl
+    row_seen (Some v) = refl
 
-  none_from : {A : Type 0} (o : Option A) → is_some o ≡ false → o ≡ None
-  none_from None h = refl
-  none_from (Some v) h = absurd cc
+    slot_there : bytes_in (unwrap_or (lookup (finds k.items) es) None) ≡ row_in (lookup (by_key q) s)
+    slot_there = row_seen (lookup (finds k.items) es) ∙ ap row_in (sym (lookup_seen k.items es)) ∙ ap (λ t. row_in (lookup (by_key k.items) t)) seen ∙ ap (λ p. row_in (lookup (by_key p) s)) same
 
-  module _ (k : Vec ℕ) (q : List ℕ) (same : k.items ≡ q) (fs : List Entry) (is : fs ≡ insert_entry cmp es k None) where
-    added : slots_in fs ≡ insert_entry by_bytes s q None
-    added = ap slots_in is ∙ insert_seen es k None ∙ ap (λ (t : Slots). insert_entry by_bytes t k.items None) seen ∙ ap (λ p. insert_entry by_bytes s p None) same
+    added : slots_in fs ≡ insert_entry by_bytes s q (row_in (lookup (by_key q) s))
+    added =
+        ap slots_in is ∙ insert_seen es k (unwrap_or (lookup (finds k.items) es) None) ∙ ap (λ (t : Slots). insert_entry by_bytes t k.items (bytes_in (unwrap_or (lookup (finds k.items) es) None))) seen
+        ∙ ap (λ p. insert_entry by_bytes s p (bytes_in (unwrap_or (lookup (finds k.items) es) None))) same ∙ ap (insert_entry by_bytes s q) slot_there
 
-    pub blank_seen : (b : Bool) → b ≡ is_some (lookup (finds q) es) → b ≡ false → rows_of (slots_in fs) ≡ rows_of s
-    blank_seen b at none = ap rows_of added ∙ blank_row nat_list_cmp_total q s (none_from (lookup (by_key q) s) (lookup_some q ∙ sym at ∙ none))
+    pub kept_seen : rows_of (slots_in fs) ≡ rows_of s
+    kept_seen = ap rows_of added ∙ kept_row nat_list_cmp_total exact_bytes q s rising
 
     pub new_room : HasRoom q (slots_in fs)
-    new_room = subst (λ (t : Slots). HasRoom q t) (sym added) (insert_here nat_list_cmp_total s q None)
+    new_room = subst (λ (t : Slots). HasRoom q t) (sym added) (insert_here nat_list_cmp_total s q (row_in (lookup (by_key q) s)))
 
     pub other_room : (p : List ℕ) → HasRoom p s → HasRoom p (slots_in fs)
-    other_room p h = subst (λ (t : Slots). HasRoom p t) (sym added) (insert_room nat_list_cmp_total (by_key p) s q None h)
+    other_room p h = subst (λ (t : Slots). HasRoom p t) (sym added) (insert_room nat_list_cmp_total (by_key p) s q (row_in (lookup (by_key q) s)) h)
 
   module _ (q : List ℕ) (fs : List Entry) (is : fs ≡ remove_entry (finds q) es) where
     dropped : slots_in fs ≡ remove_entry (by_key q) s

@@ -7,7 +7,7 @@ ghost use Rattle.std.specs.BTreeMap.{insert_entry};
 ghost use Rattle.key_map.specs.Slots.{Slots, HasRoom, by_bytes, by_key, has_room, IsInOrder, rows_of, slots_in};
 ghost use Rattle.key_map.specs.Walk.{from_key, rows_left};
 
-use crate::slots::{drop_slot, is_blank, write_slot};
+use crate::slots::{drop_slot, is_blank, make_slot, write_slot};
 use crate::walk::Rows;
 use std::alloc::{AllocError, Global};
 use std::collections::BTreeMap;
@@ -68,11 +68,8 @@ impl OrderedRows {
         ensures room { OnOk result (HasRoom key.now self.new) }
         ensures others { (q : List ℕ) → HasRoom q self.old → HasRoom q self.new }
     {
-        if self.slots.contains_key(key) {
-            return Ok(());
-        }
         let copy = Vec::from_slice(alloc, key)?;
-        self.slots.insert(copy, None)?;
+        make_slot(&mut self.slots, copy)?;
         Ok(())
     }
 

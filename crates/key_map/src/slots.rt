@@ -1,10 +1,25 @@
 //! What is done to one slot of the tree.
 
-ghost use Rattle.std.specs.Prelude.{◌≡◌, None};
+ghost use Rattle.std.specs.Prelude.{◌≡◌, None, OnErr, OnOk, unwrap_or};
+ghost use Rattle.std.specs.BTreeMap.{insert_entry};
 ghost use Rattle.std.specs.Map.{lookup, remove_entry, set_value};
-ghost use Rattle.key_map.specs.Slots.{finds, is_blank, IsInOrder};
+ghost use Rattle.key_map.specs.Slots.{by_bytes, finds, is_blank, IsInOrder};
 
+use std::alloc::AllocError;
 use std::collections::BTreeMap;
+
+/// Makes an empty slot at a key, unless the key has one, by one search.
+pub(crate) fn make_slot(
+    slots: &mut BTreeMap<Vec<u8>, Option<Vec<u8>>>,
+    key: Vec<u8>,
+) -> Result<(), AllocError>
+    ensures entries { OnOk result (slots.new.entries ≡ insert_entry (λ x y. by_bytes x.items y.items) slots.old.entries key (unwrap_or (lookup (finds key.items) slots.old.entries) None)) }
+    ensures kept { OnErr result (slots.new.entries ≡ slots.old.entries) }
+    ensures ordered { IsInOrder slots.new }
+{
+    let _slot = slots.entry(key)?.or_insert(None);
+    Ok(())
+}
 
 /// Writes what a key's slot has, where there is one.
 pub(crate) fn write_slot(

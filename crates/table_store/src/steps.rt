@@ -17,6 +17,8 @@ use tables::{Action, Change};
 pub struct Step {
     pub table: Vec<u8>,
     pub form: Option<Vec<u8>>,
+    /// Whether the change puts a row: once it is made, the row has its room.
+    pub is_put: bool,
 }
 
 /// Makes room for all changes, where no table is held ready.
@@ -33,7 +35,7 @@ pub(crate) fn reserve_all(
 {
     for change in changes {
         let form = tables.reserve(alloc, change)?;
-        push_step(steps, alloc, name_of(change), form)?;
+        push_step(steps, alloc, change, form)?;
     }
     Ok(())
 }
@@ -49,13 +51,18 @@ fn name_of(change: &Change) -> &[u8] {
 fn push_step(
     steps: &mut Vec<Step>,
     alloc: Global,
-    name: &[u8],
+    change: &Change,
     form: Option<Vec<u8>>,
 ) -> Result<(), AllocError>
     ensures { OnOk result (forms_of steps.new.items ≡ forms_of steps.old.items ++ form_in form ∷ []) }
 {
-    let table = Vec::from_slice(alloc, name)?;
-    steps.push(Step { table, form })?;
+    let table = Vec::from_slice(alloc, name_of(change))?;
+    let is_put = matches!(&change.action, Action::Put { .. });
+    steps.push(Step {
+        table,
+        form,
+        is_put,
+    })?;
     Ok(())
 }
 

@@ -75,6 +75,8 @@ impl TableStore {
         ensures { store_in self.new ≡ apply_all (map change_of changes.items) (store_in self.old) }
     {
         apply_all(&mut self.tables, self.steps.as_slice(), changes);
+        // A row that was put is in its room, unless a change behind it took it out, whose step is kept.
+        self.steps.retain(|step| !step.is_put);
         self.release();
     }
 
