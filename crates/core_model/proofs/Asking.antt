@@ -146,7 +146,7 @@ refusals_change_nothing s c call.lost q is h = none_is_some q is
 
 -- ---- a refusal makes no change
 
-nil_right : (xs : List Change) → xs ++ [] ≡ xs
+pub nil_right : (xs : List Change) → xs ++ [] ≡ xs
 nil_right [] = refl
 nil_right (x ∷ xs) = ap (λ ys. x ∷ ys) (nil_right xs)
 

@@ -9,3 +9,4 @@ pub mod Sounding
 pub mod Standing
 pub mod Deciding
 pub mod Histories
+pub mod Telling

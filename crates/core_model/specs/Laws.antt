@@ -1,23 +1,28 @@
 -- What holds of each step.
-use Rattle.std.specs.Prelude.{◌≡◌, ◌≢◌, ◌⊎◌, ◌≤◌, ℕ, Bool, true, false, List, [], ◌∷◌, ◌++◌, ◌==◌, length, Option, Some, None}
+use Rattle.std.specs.Prelude.{◌≡◌, ◌≢◌, ◌⊎◌, ◌≤◌, ◌<◌, ◌+◌, ℕ, Bool, true, false, List, [], ◌∷◌, ◌++◌, ◌==◌, length, Option, Some, None, Ok, Err}
+use Rattle.std.specs.List.{flat_map}
 use Rattle.sql_text.specs.declared.tree.Statement.{Statement}
 use Rattle.row_values.specs.Value.{Value}
+use Rattle.row_values.specs.Schema.{Schema}
 use Rattle.drda_words.specs.Order.{IsRising}
-use Rattle.tables.specs.Change.{Change}
-use Rattle.tables.specs.Tables.{Store}
+use Rattle.tables.specs.Change.{Change, change_bytes}
+use Rattle.tables.specs.Tables.{Store, schema_of}
 use Rattle.tables.specs.View.{is_sound, is_store}
 use Rattle.unit_locks.specs.Claim.{Claim}
-use Rattle.unit_locks.specs.Claims.{AreDistinct, In}
+use Rattle.unit_locks.specs.Claims.{AreDistinct, In, all_added}
 use Rattle.unit_locks.specs.Clash.{clash}
+use Rattle.xa_calls.specs.declared.code.XaCode.TheVariants as code
 use Rattle.xa_calls.specs.declared.request.Verb.{Verb}
+use Rattle.xa_calls.specs.declared.request.Verb.TheVariants as verb
 use Rattle.xa_calls.specs.declared.request.Request.TheVariants as request
 use Rattle.xa_manager.specs.declared.branch.Branch.{Branch}
 use Rattle.xa_manager.specs.declared.branch.BranchState.{BranchState}
-use Rattle.xa_manager.specs.declared.branch.BranchState.TheVariants.{Prepared}
+use Rattle.xa_manager.specs.declared.branch.BranchState.TheVariants.{Idle, Prepared}
 use Rattle.xa_manager.specs.declared.due.Action.{Action}
 use Rattle.xa_manager.specs.declared.due.Action.TheVariants as action
 use Rattle.xa_manager.specs.declared.due.Decision.TheVariants as decided
 use Rattle.xa_manager.specs.Branch.{is_lost_with, joined_xid, state_of}
+use Rattle.core_calls.specs.declared.call.Side.{Side}
 use Rattle.core_calls.specs.declared.refusal.Refusal.{Refusal}
 use Rattle.core_calls.specs.declared.refusal.Refusal.TheVariants as refusal
 use Rattle.core_calls.specs.declared.sql_fault.SqlFault.TheVariants as fault
@@ -27,9 +32,12 @@ use Rattle.core_calls.specs.Answer as told
 use Rattle.core_calls.specs.Answer.{Answer}
 use Rattle.sql_semantics.specs.Frame as frame
 use Rattle.sql_semantics.specs.Frame.{Within, changes_of, claims_in}
-use Rattle.sql_semantics.specs.Meaning.{meaning}
-use Rattle.core_model.specs.Units.{Held, Owner, Work, comes_before, global, has_work, idle, left_of, local, same_owner, unit_of, view}
-use Rattle.core_model.specs.Asked.{Question, describing, is_select, meant, querying, running}
+use Rattle.sql_semantics.specs.Describe.{described}
+use Rattle.sql_semantics.specs.Meaning.{Changes, meaning, within_room}
+use Rattle.sql_semantics.specs.Scope.{table_name}
+use Rattle.core_model.specs.Units.{Held, Owner, Work, clashes, comes_before, global, has_work, idle, left_of, local, same_owner, unit_of, view}
+use Rattle.core_model.specs.Asked as asked
+use Rattle.core_model.specs.Asked.{Done, Question, TooMany, describing, is_create, is_select, kept, meant, outcome, querying, running}
 use Rattle.core_model.specs.Events.{Ask, Base, Commit, Event, Leave}
 use Rattle.core_model.specs.Step.{CoreState, MarkedCall, answer, due_in, events, lost_xids, next, owner_of, replay, step_state}
 
@@ -142,6 +150,46 @@ RefusalsMakeNoChange =
     (s : CoreState) (conversation : ℕ) (k : Call) (q : Question) (r : Refusal) → question_of k ≡ Some q → answered s conversation k ≡ told.refused r
     → (unit_of (owner_of s.branches conversation) (step_state s conversation k).base.units).changes ≡ (unit_of (owner_of s.branches conversation) s.base.units).changes
 
+-- ---- what a description claims, and of what there is one
+
+-- the schema of the statement's table, as its unit sees it
+abbrev pub schema_seen : CoreState → ℕ → Statement → Option Schema
+schema_seen s conversation statement = schema_of (view s.base.store (unit_of (owner_of s.branches conversation) s.base.units)) (table_name statement.command)
+
+-- of a table that is there it neither claims nor changes anything
+abbrev pub DescriptionsClaimNothing : Type 0
+DescriptionsClaimNothing =
+    (s : CoreState) (conversation : ℕ) (statement : Statement) (side : Side) (schema : Schema) → schema_seen s conversation statement ≡ Some schema
+    → unit_of (owner_of s.branches conversation) (step_state s conversation (call.describe statement side)).base.units ≡ unit_of (owner_of s.branches conversation) s.base.units
+
+-- a CREATE has none; of a table that is there, every other statement is answered by its own, whatever others claim
+abbrev pub AllButCreationsAreDescribed : Type 0
+AllButCreationsAreDescribed =
+    (s : CoreState) (conversation : ℕ) (statement : Statement) (side : Side)
+    → (is_create statement.command ≡ true → answered s conversation (call.describe statement side) ≡ told.refused (refusal.Unfit fault.NotPrepared))
+    × (is_create statement.command ≡ false → (schema : Schema) → schema_seen s conversation statement ≡ Some schema → length (unit_of (owner_of s.branches conversation) s.base.units).claims ≤ 65535
+    → answered s conversation (call.describe statement side) ≡ asked.told (described side statement.command (Some schema)))
+
+-- ---- the limits of a unit
+
+-- claims that clash with none are kept up to 65,535 of the unit, and refused from one more on
+abbrev pub ClaimsHaveALimit : Type 0
+ClaimsHaveALimit =
+    (ds : List Claim) (u : Work) (cs : List Claim) (a : Answer) (xs : List Change) → clashes cs ds ≡ false
+    → (length (all_added u.claims cs) ≤ 65535 → outcome ds u cs a xs ≡ Done a (kept u cs xs))
+    × (65535 < length (all_added u.claims cs) → outcome ds u cs a xs ≡ TooMany)
+
+-- the bytes of changes
+abbrev pub bytes_of : List Change → ℕ
+bytes_of xs = length (flat_map change_bytes xs)
+
+-- changes are made up to 1,048,576 bytes of the unit, and refused from one more on
+abbrev pub ChangesHaveALimit : Type 0
+ChangesHaveALimit =
+    (u : Work) (xs : List Change) (n : ℕ)
+    → (bytes_of u.changes + bytes_of xs ≤ 1048576 → within_room (left_of u) xs n ≡ Ok (Changes xs n))
+    × (bytes_of u.changes ≤ 1048576 → 1048576 < bytes_of u.changes + bytes_of xs → within_room (left_of u) xs n ≡ Err fault.LimitReached)
+
 -- ---- the ends of units
 
 -- a commit of a conversation that is joined to no branch
@@ -155,6 +203,13 @@ abbrev pub GlobalUnitsStay : Type 0
 GlobalUnitsStay =
     (s : CoreState) (conversation : ℕ) (xid : List ℕ) → joined_xid s.branches conversation ≡ Some xid
     → (step_state s conversation call.commit ≡ s) × (step_state s conversation call.roll_back ≡ s)
+
+-- outside of one they are done, inside of one both are refused
+abbrev pub EndsAreAnswered : Type 0
+EndsAreAnswered =
+    (s : CoreState) (conversation : ℕ)
+    → (joined_xid s.branches conversation ≡ None → (answered s conversation call.commit ≡ told.done) × (answered s conversation call.roll_back ≡ told.done))
+    × ((xid : List ℕ) → joined_xid s.branches conversation ≡ Some xid → (answered s conversation call.commit ≡ told.in_global) × (answered s conversation call.roll_back ≡ told.in_global))
 
 -- what each action does to the units
 abbrev pub Does : Action → Owner → Base → Base → Type 0
@@ -174,6 +229,22 @@ abbrev pub BranchesWork : Type 0
 BranchesWork =
     (s : CoreState) (conversation : ℕ) (verb : Verb) (xid : List ℕ)
     → Does (due_in s.branches s.base conversation verb xid).action (global xid) s.base (step_state s conversation (call.xa (Some (request.Branch verb xid)))).base
+
+-- what a call of an XID is answered
+abbrev pub answered_of : CoreState → ℕ → Verb → List ℕ → Answer
+answered_of s conversation verb xid = answered s conversation (call.xa (Some (request.Branch verb xid)))
+
+abbrev pub has_local_work : CoreState → ℕ → Bool
+has_local_work s conversation = has_work (unit_of (local conversation) s.base.units)
+
+-- who is joined to no branch starts one, or joins one, only where the local unit has neither claims nor changes
+abbrev pub StartsWantNoWork : Type 0
+StartsWantNoWork =
+    (s : CoreState) (conversation : ℕ) (xid : List ℕ) → joined_xid s.branches conversation ≡ None
+    → (state_of s.branches xid ≡ None → has_local_work s conversation ≡ true → answered_of s conversation verb.Start xid ≡ told.xa code.Outside)
+    × ((state : BranchState) → state_of s.branches xid ≡ Some state → has_local_work s conversation ≡ true → answered_of s conversation verb.Join xid ≡ told.xa code.Outside)
+    × (state_of s.branches xid ≡ None → has_local_work s conversation ≡ false → length s.branches < 1024 → answered_of s conversation verb.Start xid ≡ told.xa code.Done)
+    × ((last : ℕ) → state_of s.branches xid ≡ Some (Idle last) → has_local_work s conversation ≡ false → answered_of s conversation verb.Join xid ≡ told.xa code.Done)
 
 -- ---- the loss of a conversation
 

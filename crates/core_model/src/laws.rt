@@ -1,6 +1,6 @@
 //! Laws of the definitions. The functions do nothing: their contracts are the laws.
 
-ghost use Rattle.core_model.specs.Laws.{AnswersAreMeanings, BranchesWork, ChangesLie, ClaimsAreKept, ClaimsStayFew, GlobalUnitsStay, HistoriesAreSane, InDoubtWait, LocalUnitsEnd, LostLeavesNothing, NewCoresAreSane, OneListing, RefusalsChangeNothing, RefusalsMakeNoChange, StatementsStay, StoresStay, UnfitIsRefused, UnitsSeeStores, UnitsStayApart, UnitsStayListed, WorkIsWhereJoined};
+ghost use Rattle.core_model.specs.Laws.{AllButCreationsAreDescribed, AnswersAreMeanings, BranchesWork, ChangesHaveALimit, ChangesLie, ClaimsAreKept, ClaimsHaveALimit, ClaimsStayFew, DescriptionsClaimNothing, EndsAreAnswered, GlobalUnitsStay, HistoriesAreSane, InDoubtWait, LocalUnitsEnd, LostLeavesNothing, NewCoresAreSane, OneListing, RefusalsChangeNothing, RefusalsMakeNoChange, StartsWantNoWork, StatementsStay, StoresStay, UnfitIsRefused, UnitsSeeStores, UnitsStayApart, UnitsStayListed, WorkIsWhereJoined};
 
 use sql_semantics::laws::statements_are_framed;
 use tables::laws::changes_are_local;
@@ -37,6 +37,22 @@ pub fn claims_are_kept()
     adding();
 }
 
+/// A description of a table that is there claims nothing, and changes nothing.
+pub fn descriptions_claim_nothing()
+    ensures { DescriptionsClaimNothing }
+{}
+
+/// A CREATE is not described; of a table that is there every other statement is.
+pub fn all_but_creations_are_described()
+    ensures { AllButCreationsAreDescribed }
+{}
+
+/// The least that is refused of a unit: 65,536 claims, and 1,048,577 bytes of changes.
+pub fn units_have_limits()
+    ensures claims { ClaimsHaveALimit }
+    ensures bytes { ChangesHaveALimit }
+{}
+
 /// A commit makes the changes of its unit and ends it, a rollback ends it; other units keep what they
 /// have. Inside of a global unit neither does anything.
 pub fn local_units_end()
@@ -44,9 +60,20 @@ pub fn local_units_end()
     ensures joined { GlobalUnitsStay }
 {}
 
+/// A conversation's own commit and rollback are answered that they are done, and inside of a global unit that
+/// they are not.
+pub fn ends_are_answered()
+    ensures { EndsAreAnswered }
+{}
+
 /// An XA call does to the units what is due of its branch, and nothing else.
 pub fn branches_work()
     ensures { BranchesWork }
+{}
+
+/// A branch is started or joined only from a local unit that has neither claims nor changes.
+pub fn starts_want_no_work()
+    ensures { StartsWantNoWork }
 {}
 
 /// With a conversation goes its local unit, and the unit of each unprepared branch that it was the last
