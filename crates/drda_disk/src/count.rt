@@ -1,7 +1,7 @@
 //! A count of failures.
 ghost use Rattle.std.specs.Prelude.{◌≡◌, ◌+◌, ◌-◌, ◌^◌, min};
 
-use ghost_values::GhostValue;
+use drda_words::GhostValue;
 
 /// How many calls have failed.
 #[derive(Drop)]

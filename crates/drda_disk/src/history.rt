@@ -2,7 +2,7 @@
 ghost use Rattle.std.specs.Prelude.{◌≡◌, List, [], ◌∷◌};
 ghost use Rattle.drda_disk.specs.Replay.{Step, wrote, synced};
 
-use ghost_values::GhostValue;
+use drda_words::GhostValue;
 use std::marker::Model;
 
 /// A list of writes and syncs, as clauses see it.

@@ -23,10 +23,10 @@ use denote.Steps.{nothing}
 use denote.Triple.Entry.{alive, Res}
 use denote.Triple.Walked.{says, Stays, stay_dropped, walk_of, ends_at, Goes-dropped}
 use Rattle.std.proofs.raw_atomic.Walks.{proved_at}
-use Rattle.ghost_values.specs.contracts.GhostValue.of.{ended, clauses}
-use Rattle.ghost_values.specs.contracts.GhostValue.of.Key.{name as #self}
-use Rattle.ghost_values.proofs.GhostValue.of.Statement.{statement}
-use Rattle.ghost_values.proofs.GhostValue.of.Code as code
+use Rattle.drda_words.specs.contracts.ghost_value.GhostValue.of.{ended, clauses}
+use Rattle.drda_words.specs.contracts.ghost_value.GhostValue.of.Key.{name as #self}
+use Rattle.drda_words.proofs.ghost_value.GhostValue.of.Statement.{statement}
+use Rattle.drda_words.proofs.ghost_value.GhostValue.of.Code as code
 
 pub of_spec : {M : Type 1} → statement M
 of_spec 𝓤 𝓛 𝓜 𝓡 wired T W LT LW =
