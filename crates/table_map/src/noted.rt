@@ -8,9 +8,9 @@ use std::marker::Model;
 
 /// A list of rows, as clauses see it.
 #[derive(Drop)]
-pub struct RowList {}
+pub struct ListedRows {}
 
-impl Model for RowList {
+impl Model for ListedRows {
     ghost Value = { List (List ℕ) };
 
     ghost view = { λ _. [] };
@@ -19,7 +19,7 @@ impl Model for RowList {
 /// Rows that were read from pages, or laid into them, in their order. It takes no memory.
 #[derive(Drop)]
 pub struct NotedRows {
-    pub listed: GhostValue<RowList>,
+    pub listed: GhostValue<ListedRows>,
 }
 
 impl NotedRows {
