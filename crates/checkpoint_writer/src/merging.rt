@@ -139,7 +139,7 @@ pub fn merge_into<K: RowKeys, D: Disk>(
         → IfOk result (λ written. IsImageOf (K.key_of keys.now) (rows_of_table (K.key_of keys.now) table.now pages) written.pages (D.life disk.new).seen) }
     ensures noted { (pages : List (List (List ℕ))) → IsTrue D.is_modelled → AreRead cache.old (D.life disk.old).seen → IsStored (K.key_of keys.now) table.now.places pages (D.life disk.old).seen
         → LieApart table.now.places image.old
-        → IfOk result (λ written. written.rows.listed ≡ without_keys (rows_of_table (K.key_of keys.now) table.now pages)) }
+        → IfOk result (λ written. written.rows.listed.value ≡ without_keys (rows_of_table (K.key_of keys.now) table.now pages)) }
     ensures full { (pages : List (List (List ℕ))) → IsTrue D.is_modelled → AreRead cache.old (D.life disk.old).seen → IsStored (K.key_of keys.now) table.now.places pages (D.life disk.old).seen
         → LieApart table.now.places image.old
         → TellsFull result (end_of_half image.old) (next_of image.old + 8192 * length (laid (without_keys (rows_of_table (K.key_of keys.now) table.now pages)))) }

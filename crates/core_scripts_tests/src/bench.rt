@@ -63,8 +63,8 @@ impl Calls for Bench {
         Some(self.core.roll_back(conversation))
     }
 
-    fn lose(&mut self, conversation: u64) -> Option<Answer> {
-        Some(self.core.lose(conversation))
+    fn lost(&mut self, conversation: u64) -> Option<Answer> {
+        Some(self.core.lost(conversation))
     }
 
     fn xa(

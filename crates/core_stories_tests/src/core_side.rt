@@ -175,6 +175,6 @@ pub fn ask_core(
         Call::Commit => Some(plain(core.commit(conversation))),
         Call::RollBack => Some(plain(core.roll_back(conversation))),
         Call::Xa(spelled, branch) => Some(xa(core, conversation, *spelled, *branch)),
-        Call::Lost => Some(plain(core.lose(conversation))),
+        Call::Lost => Some(plain(core.lost(conversation))),
     }
 }

@@ -157,7 +157,7 @@ impl Machine {
         tell(What::Done, 0)
     }
 
-    fn lose(&mut self, conversation: usize) -> Told {
+    fn lost(&mut self, conversation: usize) -> Told {
         self.end_unit(conversation, false);
         for branch in 0..BRANCHES {
             if goes_with(self.branches[branch], conversation) {
@@ -237,7 +237,7 @@ impl Machine {
             Call::Commit => self.end(conversation, true),
             Call::RollBack => self.end(conversation, false),
             Call::Xa(spelled, branch) => self.xa(conversation, *spelled, *branch),
-            Call::Lost => self.lose(conversation),
+            Call::Lost => self.lost(conversation),
         }
     }
 }

@@ -3,7 +3,7 @@ use Rattle.std.proofs.Common.{◌≡◌, ℕ, ◌+◌, ◌-◌, ◌≤◌, List,
 use Rattle.std.proofs.lemmas.List.{take_at, drop_at, drop-drop, take-append-drop, take-append-le, length-take-le}
 use borrow.Rule.Slice.PartMut.{post_of, put_mid, same_len_mid, mid_len}
 use Rattle.drda_words.specs.Place.{part}
-use Rattle.drda_disk.specs.Disk.{Life, overlaid, Torn, Elapses, Tears, Now}
+use Rattle.drda_disk.specs.Disk.{Life, overlaid, Torn}
 use Rattle.drda_disk.specs.PositionalFile.{MayTear}
 use Rattle.drda_disk.specs.Images.{Torn-refl, Torn-overlaid}
 use Rattle.drda_disk.proofs.Parts.{part-add, part_before, part-overlaid, take-add, Torn-wider, Torn-trans}

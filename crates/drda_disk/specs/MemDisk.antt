@@ -7,7 +7,7 @@ use Rattle.drda_disk.specs.declared.memory.MemDisk.{MemDisk}
 
 -- its member `life`
 abbrev pub life_of : MemDisk → Life
-life_of m = replayed (replicate m.size 0) m.bytes.items m.history.steps (count_of m.faults)
+life_of m = replayed (replicate m.size 0) m.bytes.items m.history.steps.value (count_of m.faults)
 
 -- what a read gives
 abbrev pub read_of : MemDisk → List ℕ

@@ -1,5 +1,5 @@
 -- All that a crash may leave of a disk in memory, from what it was at first and its calls since.
-use Rattle.std.specs.Prelude.{◌≡◌, ℕ, ◌+◌, ◌≤◌, List, [], ◌∷◌, length, take, drop, reverse, nat_le, if◌then◌else◌}
+use Rattle.std.specs.Prelude.{◌≡◌, ℕ, ◌+◌, ◌≤◌, List, [], ◌∷◌, length, drop, nat_le, if◌then◌else◌}
 use Rattle.std.proofs.Common.{arith}
 use Rattle.drda_disk.specs.Disk.{Torn, overlaid, Life}
 

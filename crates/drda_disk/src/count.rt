@@ -1,43 +1,15 @@
 //! A count of failures.
-ghost use Rattle.std.specs.Prelude.{◌≡◌, ◌+◌, ◌-◌, ◌^◌, ℕ, min};
-ghost use Rattle.std.specs.Borrow.{ftrue};
+ghost use Rattle.std.specs.Prelude.{◌≡◌, ◌+◌, ◌-◌, ◌^◌, min};
 
-use std::marker::{Model, PhantomData, Send};
-
-/// A number without a greatest value, which only clauses read. It takes no memory.
-#[derive(Drop)]
-pub(crate) struct Tally {
-    marker: PhantomData<u8>,
-    pub(crate) ghost number: { ℕ },
-}
-
-impl Model for Tally {
-    ghost also_owns = { λ _. ftrue };
-}
-
-impl Tally {
-    fn new() -> Tally
-        ensures { result.number ≡ 0 }
-    {
-        Tally {
-            marker: PhantomData,
-        }
-    }
-
-    fn raise(&mut self)
-        ensures { self.new.number ≡ self.old.number + 1 }
-    {}
-}
-
-// It holds nothing, so it may go to another thread.
-unsafe impl Send for Tally {}
+use drda_words::GhostValue;
 
 /// How many calls have failed.
 #[derive(Drop)]
 pub(crate) struct FaultCount {
-    tally: Tally,
+    // clauses see a `u64` as a number without a greatest value
+    tally: GhostValue<u64>,
     shown: u64,
-    ghost stops: { shown ≡ min tally.number (2 ^ 64 - 1) },
+    ghost stops: { shown ≡ min tally.value (2 ^ 64 - 1) },
 }
 
 impl FaultCount {
@@ -47,7 +19,7 @@ impl FaultCount {
         ensures { count_of result ≡ 0 }
     {
         FaultCount {
-            tally: Tally::new(),
+            tally: GhostValue::of(&()),
             shown: 0,
         }
     }
@@ -55,7 +27,7 @@ impl FaultCount {
     pub(crate) fn raise(&mut self)
         ensures { count_of self.new ≡ count_of self.old + 1 }
     {
-        self.tally.raise();
+        self.tally.set(&());
         self.shown = self.shown.saturating_add(1);
     }
 

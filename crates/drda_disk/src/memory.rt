@@ -26,9 +26,9 @@ pub struct MemDisk {
     history: History,
     faults: FaultCount,
     ghost whole: { recorded_len writes.items ≡ length written.items },
-    ghost read: { bytes.items ≡ read_after (replicate size 0) history.steps },
-    ghost durable: { synced.items ≡ synced_after (replicate size 0) history.steps },
-    ghost since: { steps_of writes.items written.items ≡ unsynced history.steps },
+    ghost read: { bytes.items ≡ read_after (replicate size 0) history.steps.value },
+    ghost durable: { synced.items ≡ synced_after (replicate size 0) history.steps.value },
+    ghost since: { steps_of writes.items written.items ≡ unsynced history.steps.value },
 }
 
 impl MemDisk {
@@ -124,7 +124,7 @@ impl Disk for MemDisk {
 
     ghost is_modelled = { true };
 
-    ghost life = { λ m. replayed (replicate m.size 0) m.bytes.items m.history.steps (count_of m.faults) };
+    ghost life = { λ m. replayed (replicate m.size 0) m.bytes.items m.history.steps.value (count_of m.faults) };
 
     ghost reads = { λ m at bytes ok m'. m' ≡ m };
 
@@ -132,9 +132,9 @@ impl Disk for MemDisk {
 
     ghost syncs = { λ m ok m'. (read_of m' ≡ read_of m) × (synced_of m' ≡ read_of m) };
 
-    ghost read_is_image = { λ m _. read_is_image (replicate m.size 0) m.bytes.items m.history.steps m.read };
+    ghost read_is_image = { λ m _. read_is_image (replicate m.size 0) m.bytes.items m.history.steps.value m.read };
 
-    ghost now_counts = { λ m t c le now. counts (replicate m.size 0) m.history.steps t c le now };
+    ghost now_counts = { λ m t c le now. counts (replicate m.size 0) m.history.steps.value t c le now };
 
     fn size(&self) -> usize {
         self.bytes.len()
@@ -167,7 +167,7 @@ impl Disk for MemDisk {
     {
         match record_write(&mut self.writes, &mut self.written, at, bytes) {
             Ok(()) => {
-                self.history.note_write(&[at as u64], bytes);
+                self.history.note_write(at, bytes);
                 overwrite(&mut self.bytes, at, bytes);
                 Ok(())
             }

@@ -156,14 +156,14 @@ pub(crate) fn leave_all(writes: &[Write], written: &[u8], file: &mut Vec<u8>, pi
 
 /// The history of a disk with these writes over bytes that were synced.
 pub(crate) fn history_of(durable: &[u8], writes: &[Write], written: &[u8]) -> History
-    ensures { result.steps ≡ steps_of writes.now written.now ++ synced ∷ (wrote 0 durable.now ∷ []) }
+    ensures { result.steps.value ≡ steps_of writes.now written.now ++ synced ∷ (wrote 0 durable.now ∷ []) }
 {
     let mut history = History::of(durable);
     let mut rest = written;
     for write in writes {
         let (bytes, later) = cut(rest, write.len);
         rest = later;
-        history.note_write(&[write.at as u64], bytes);
+        history.note_write(write.at, bytes);
     }
     history
 }

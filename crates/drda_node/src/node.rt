@@ -277,7 +277,7 @@ fn end_units<D: Disk>(core: &mut DurableCore<D>, conversation: u64)
     ensures left { asked_of core.new ≡ left_by (asked_of core.old) conversation }
     ensures journaled { IsJournaled D.is_modelled D.life core.old core.new }
 {
-    let _ = core.lose(conversation);
+    let _ = core.lost(conversation);
 }
 
 // Writes a checkpoint of the core.

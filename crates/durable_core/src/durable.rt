@@ -68,7 +68,7 @@ impl<D: Disk> DurableCore<D> {
 
     /// The conversation is lost: its local unit ends, and so does each branch that it was the last to
     /// start or join, and that is not prepared. Nothing is recorded, and no memory is taken.
-    pub fn lose(&mut self, conversation: u64) -> Answer
+    pub fn lost(&mut self, conversation: u64) -> Answer
         ensures step { Loses (shown_on D.life self.old) conversation (answer_of result) (shown_on D.life self.new) }
         ensures journaled { Journaled D.is_modelled (shown_on D.life self.old) (shown_on D.life self.new) }
     {
@@ -80,7 +80,7 @@ impl<D: Disk> DurableCore<D> {
         if recorder.is_failed() {
             return Answer::Closed;
         }
-        self.core.lose(conversation)
+        self.core.lost(conversation)
     }
 
     /// The name of the database.

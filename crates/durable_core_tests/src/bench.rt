@@ -165,8 +165,8 @@ impl Calls for Bench {
         self.opened()?.roll_back(conversation)
     }
 
-    fn lose(&mut self, conversation: u64) -> Option<Answer> {
-        self.opened()?.lose(conversation)
+    fn lost(&mut self, conversation: u64) -> Option<Answer> {
+        self.opened()?.lost(conversation)
     }
 
     fn xa(

@@ -77,8 +77,8 @@ impl Calls for Opened {
         ask_plain(self.alloc, &mut self.core, conversation, Plain::RollBack)
     }
 
-    fn lose(&mut self, conversation: u64) -> Option<Answer> {
-        Some(self.core.lose(conversation))
+    fn lost(&mut self, conversation: u64) -> Option<Answer> {
+        Some(self.core.lost(conversation))
     }
 
     fn xa(

@@ -1,4 +1,3 @@
-pub mod Kinds
 pub mod Laying
 pub mod Recording
 pub mod Checkpointing

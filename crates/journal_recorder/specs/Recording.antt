@@ -24,7 +24,7 @@ has_failed r = r.is_failed
 
 -- the records that it made, or began where the device failed, in their order
 abbrev pub made_of : {D : Type 0} → DiskRecorder D → List Entry
-made_of r = r.made.entries
+made_of r = r.made.entries.value
 
 module _ {D : Type 0} (modelled : Bool) (life : D → Life) where
   abbrev pub life_of : DiskRecorder D → Life

@@ -1,39 +1,43 @@
 //! The records that were made, which clauses alone read.
 
-ghost use Rattle.std.specs.Prelude.{◌≡◌, List, [], ◌∷◌, ◌++◌, slice_index};
-ghost use Rattle.std.specs.Borrow.{ftrue};
+ghost use Rattle.std.specs.Prelude.{◌≡◌, List, [], ◌∷◌, ◌++◌};
 ghost use Rattle.unit_journal.specs.Record.{Entry};
-ghost use Rattle.journal_recorder.specs.Kinds.{kind_for};
 
-use std::marker::{Model, PhantomData, Send};
+use drda_words::GhostValue;
+use std::marker::Model;
+use unit_journal::Kind;
+
+/// A list of records, as clauses see it.
+#[derive(Drop)]
+pub(crate) struct EntryList {}
+
+impl Model for EntryList {
+    ghost Value = { List Entry };
+
+    ghost view = { λ _. [] };
+}
 
 /// The records that were made so far, or begun where the device failed, in their order. It takes no
 /// memory.
 #[derive(Drop)]
 pub(crate) struct MadeRecords {
-    marker: PhantomData<u8>,
-    pub(crate) ghost entries: { List Entry },
-}
-
-impl Model for MadeRecords {
-    ghost also_owns = { λ _. ftrue };
+    pub(crate) entries: GhostValue<EntryList>,
 }
 
 impl MadeRecords {
     /// No records.
     pub(crate) fn none() -> MadeRecords
-        ensures { result.entries ≡ [] }
+        ensures { result.entries.value ≡ [] }
     {
         MadeRecords {
-            marker: PhantomData,
+            entries: GhostValue::of(&()),
         }
     }
 
-    /// One record more, of the kind of the one byte that is given.
-    pub(crate) fn note(&mut self, _kind: &[u8], _body: &[u8])
-        ensures { self.new.entries ≡ self.old.entries ++ record { kind = kind_for (slice_index _kind.now 0); body = _body.now } ∷ [] }
-    {}
+    /// One record more.
+    pub(crate) fn note(&mut self, kind: Kind, body: &[u8])
+        ensures { self.new.entries.value ≡ self.old.entries.value ++ record { kind = kind; body = body.now } ∷ [] }
+    {
+        self.entries.set(&(kind, body));
+    }
 }
-
-// It holds nothing, so it may go to another thread.
-unsafe impl Send for MadeRecords {}

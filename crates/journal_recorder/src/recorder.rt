@@ -6,14 +6,13 @@ ghost use Rattle.tables.specs.ChangeView.{change_of};
 ghost use Rattle.unit_journal.specs.Journal.{held_of, region_of, room_of};
 ghost use Rattle.unit_journal.specs.LaidRecord.{entry_in};
 ghost use Rattle.unit_records.specs.Records.{UnitRecord, committed, decided, prepared};
-ghost use Rattle.journal_recorder.specs.Kinds.{kind_for};
 
 use crate::laying::{lay_commit, lay_decide, lay_prepare};
 use crate::made::MadeRecords;
 use drda_disk::{Disk, Region};
 use std::alloc::Global;
 use tables::Change;
-use unit_journal::{AppendError, Journal, Kind, LaidRecord};
+use unit_journal::{AppendError, Journal, LaidRecord};
 use unit_locks::Claim;
 use unit_records::{RecordContents, RecordError, Recorder, held_for_decision};
 use xa_calls::Xid;
@@ -150,7 +149,7 @@ impl<D: Disk> DiskRecorder<D> {
     {
         match self.journal.append(&mut self.disk, laid, hold, release) {
             Ok(()) => {
-                self.made.note(&[number_of(laid.kind())], laid.body());
+                self.made.note(laid.kind(), laid.body());
                 Ok(())
             }
             Err(AppendError::Full(full)) => Err(RecordError::Full {
@@ -159,21 +158,10 @@ impl<D: Disk> DiskRecorder<D> {
             }),
             Err(AppendError::DeviceFailed) => {
                 self.is_failed = true;
-                self.made.note(&[number_of(laid.kind())], laid.body());
+                self.made.note(laid.kind(), laid.body());
                 Err(RecordError::DeviceFailed)
             }
         }
-    }
-}
-
-// The number that a kind is noted by.
-fn number_of(kind: Kind) -> u8
-    ensures { kind_for result ≡ kind }
-{
-    match kind {
-        Kind::Commit => 1,
-        Kind::Prepare => 2,
-        Kind::Decide => 3,
     }
 }
 

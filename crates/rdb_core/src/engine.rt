@@ -118,7 +118,7 @@ impl<R: Recorder> Core<R> {
 
     /// The conversation is lost: its local unit ends, and so does each branch that it was the last to
     /// start or join, and that is not prepared. Takes no memory.
-    pub fn lose(&mut self, conversation: u64) -> Answer
+    pub fn lost(&mut self, conversation: u64) -> Answer
         ensures { Takes R.records (state_of self.old) conversation lost (answer_of result) (state_of self.new) (recorder_of self.old) (recorder_of self.new) }
     {
         let _changes = self.units.end(&Owner::Local(conversation));

@@ -48,7 +48,7 @@ pub(crate) fn find<V: TableView>(
 where
     V::Fault: Drop,
     requires fit { unfit (question_of question) ≡ None }
-    ensures { IfOk result (λ found. IsTrue V.is_told → FindsOver found (others (plain_owner owner.now) units.now) (question_of question.entry) (left_of (unit_of (plain_owner owner.now) units.now)) (V.store view.old)) }
+    ensures { IfOk result (λ found. IsTrue V.is_faithful → FindsOver found (others (plain_owner owner.now) units.now) (question_of question.entry) (left_of (unit_of (plain_owner owner.now) units.now)) (V.store view.old)) }
 {
     match question {
         Question::Running {
@@ -77,7 +77,7 @@ fn find_statement<V: TableView>(
 ) -> Result<Option<Found>, AllocError>
 where
     V::Fault: Drop,
-    ensures { IfOk result (λ found. IsTrue V.is_told → Finds found (others (plain_owner owner.now) units.now) (claims_in (map value_of parameters.now) command.now (V.store view.old)) (meant (covered_answer (map value_of parameters.now) (left_of (unit_of (plain_owner owner.now) units.now)) command.now (V.store view.old))) (changes_of (covered_answer (map value_of parameters.now) (left_of (unit_of (plain_owner owner.now) units.now)) command.now (V.store view.old)))) }
+    ensures { IfOk result (λ found. IsTrue V.is_faithful → Finds found (others (plain_owner owner.now) units.now) (claims_in (map value_of parameters.now) command.now (V.store view.old)) (meant (covered_answer (map value_of parameters.now) (left_of (unit_of (plain_owner owner.now) units.now)) command.now (V.store view.old))) (changes_of (covered_answer (map value_of parameters.now) (left_of (unit_of (plain_owner owner.now) units.now)) command.now (V.store view.old)))) }
 {
     let Ok(bound) = bind(alloc, command, parameters, view) else {
         return Err(AllocError);
@@ -97,9 +97,9 @@ fn find_bound<V: TableView>(
 ) -> Result<Option<Found>, AllocError>
 where
     V::Fault: Drop,
-    requires over { IsTrue V.is_told → IsOver bound.now (V.store view.old) }
-    requires good { IsTrue V.is_told → is_store (V.store view.old) ≡ true }
-    ensures { IfOk result (λ found. IsTrue V.is_told → (params : List SqlValue) (c : SqlCommand) → IsBound params c bound.now → Finds found (others (plain_owner owner.now) units.now) (claims_in params c (V.store view.old)) (meant (covered_answer params (left_of (unit_of (plain_owner owner.now) units.now)) c (V.store view.old))) (changes_of (covered_answer params (left_of (unit_of (plain_owner owner.now) units.now)) c (V.store view.old)))) }
+    requires over { IsTrue V.is_faithful → IsOver bound.now (V.store view.old) }
+    requires good { IsTrue V.is_faithful → is_store (V.store view.old) ≡ true }
+    ensures { IfOk result (λ found. IsTrue V.is_faithful → (params : List SqlValue) (c : SqlCommand) → IsBound params c bound.now → Finds found (others (plain_owner owner.now) units.now) (claims_in params c (V.store view.old)) (meant (covered_answer params (left_of (unit_of (plain_owner owner.now) units.now)) c (V.store view.old))) (changes_of (covered_answer params (left_of (unit_of (plain_owner owner.now) units.now)) c (V.store view.old)))) }
 {
     let schema = bound.schema()?;
     let claims = claims(alloc, bound)?;
@@ -127,7 +127,7 @@ fn find_description<V: TableView>(
 where
     V::Fault: Drop,
     requires { is_create statement.now.command ≡ false }
-    ensures { IfOk result (λ found. IsTrue V.is_told → Finds found (others (plain_owner owner.now) units.now) (described_claims (table_name statement.now.command) (schema_of (V.store view.old) (table_name statement.now.command))) (told (described side statement.now.command (schema_of (V.store view.old) (table_name statement.now.command)))) []) }
+    ensures { IfOk result (λ found. IsTrue V.is_faithful → Finds found (others (plain_owner owner.now) units.now) (described_claims (table_name statement.now.command) (schema_of (V.store view.old) (table_name statement.now.command))) (told (described side statement.now.command (schema_of (V.store view.old) (table_name statement.now.command)))) []) }
 {
     let Ok(schema) = table_schema(alloc, &statement.command, view) else {
         return Err(AllocError);

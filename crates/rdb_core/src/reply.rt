@@ -59,10 +59,10 @@ pub(crate) fn statement_reply<V: TableView>(
 ) -> Result<Reply, AllocError>
 where
     V::Fault: Drop,
-    requires over { IsTrue V.is_told → IsOver bound.now (V.store view.old) }
-    requires good { IsTrue V.is_told → is_store (V.store view.old) ≡ true }
-    ensures answer { IfOk result (λ r. IsTrue V.is_told → (params : List SqlValue) (c : SqlCommand) → IsBound params c bound.now → answer_of r.answer ≡ meant (frame.covered_answer params left c (V.store view.old))) }
-    ensures changes { IfOk result (λ r. IsTrue V.is_told → (params : List SqlValue) (c : SqlCommand) → IsBound params c bound.now → map change_of r.changes.items ≡ frame.changes_of (frame.covered_answer params left c (V.store view.old))) }
+    requires over { IsTrue V.is_faithful → IsOver bound.now (V.store view.old) }
+    requires good { IsTrue V.is_faithful → is_store (V.store view.old) ≡ true }
+    ensures answer { IfOk result (λ r. IsTrue V.is_faithful → (params : List SqlValue) (c : SqlCommand) → IsBound params c bound.now → answer_of r.answer ≡ meant (frame.covered_answer params left c (V.store view.old))) }
+    ensures changes { IfOk result (λ r. IsTrue V.is_faithful → (params : List SqlValue) (c : SqlCommand) → IsBound params c bound.now → map change_of r.changes.items ≡ frame.changes_of (frame.covered_answer params left c (V.store view.old))) }
 {
     statements_are_framed();
     match small_sql::run(alloc, bound, left, view) {
@@ -105,7 +105,7 @@ pub(crate) fn description_reply<V: TableView>(
 ) -> Result<Reply, AllocError>
 where
     V::Fault: Drop,
-    ensures answer { IfOk result (λ r. IsTrue V.is_told → answer_of r.answer ≡ told (described side statement.now.command (schema_of (V.store view.old) (table_name statement.now.command)))) }
+    ensures answer { IfOk result (λ r. IsTrue V.is_faithful → answer_of r.answer ≡ told (described side statement.now.command (schema_of (V.store view.old) (table_name statement.now.command)))) }
     ensures changes { IfOk result (λ r. map change_of r.changes.items ≡ []) }
 {
     match small_sql::describe(alloc, side, &statement.command, view) {

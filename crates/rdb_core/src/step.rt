@@ -44,7 +44,7 @@ impl<R: Recorder> Core<R> {
             CoreCall::Commit => self.commit(conversation),
             CoreCall::RollBack => self.roll_back(conversation),
             CoreCall::Xa(request) => self.xa(conversation, request),
-            CoreCall::Lost => self.lose(conversation),
+            CoreCall::Lost => self.lost(conversation),
         }
     }
 

@@ -34,9 +34,9 @@ fn loses_what_was_joined_last(rt: HostRuntime) -> Result<(), Fail> {
         assert_eq!(rt; ask(&mut core, conversation, verb, xid), Some(0));
     }
     assert_eq!(rt; ask(&mut core, 3, Verb::Start, other), Some(0));
-    assert!(rt; matches!(core.lose(1), Answer::Done));
+    assert!(rt; matches!(core.lost(1), Answer::Done));
     assert_eq!(rt; ask(&mut core, 1, Verb::Start, xid), Some(-8));
-    assert!(rt; matches!(core.lose(2), Answer::Done));
+    assert!(rt; matches!(core.lost(2), Answer::Done));
     assert_eq!(rt; ask(&mut core, 1, Verb::Start, xid), Some(0));
     assert_eq!(rt; ask(&mut core, 4, Verb::Start, other), Some(-8));
     Ok(())

@@ -94,7 +94,7 @@ impl<'r, R: Wait + Clock> Calls for Bench<'r, R> {
         self.desks.ask(conversation, &CoreCall::RollBack)
     }
 
-    fn lose(&mut self, conversation: u64) -> Option<Answer> {
+    fn lost(&mut self, conversation: u64) -> Option<Answer> {
         self.desks.ask(conversation, &CoreCall::Lost)
     }
 

@@ -110,9 +110,9 @@ pub fn bind<'a, 't, V: TableView>(
     view: &mut V,
 ) -> Result<Bound<'a, 't>, V::Fault>
     ensures bound { IfOk result (λ b. IsBound (map value_of params.now) command.now b) }
-    ensures over { IfOk result (λ b. IsTrue V.is_told → IsOver b (V.store view.old)) }
-    ensures good { IfOk result (λ _. IsTrue V.is_told → is_store (V.store view.old) ≡ true) }
-    ensures fault { IfErr result (λ fault. IsTrue V.is_told → V.tells_damage fault ≡ false) }
+    ensures over { IfOk result (λ b. IsTrue V.is_faithful → IsOver b (V.store view.old)) }
+    ensures good { IfOk result (λ _. IsTrue V.is_faithful → is_store (V.store view.old) ≡ true) }
+    ensures fault { IfErr result (λ fault. IsTrue V.is_faithful → V.tells_damage fault ≡ false) }
     ensures store { V.store view.new ≡ V.store view.old }
 {
     let Ok(table) = subject(alloc, command) else {

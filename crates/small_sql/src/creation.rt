@@ -41,8 +41,8 @@ pub(crate) fn create<V: TableView>(
     left: usize,
     view: &mut V,
 ) -> Result<Answer, V::Fault>
-    ensures answer { IfOk result (λ answer. IsTrue V.is_told → answer_of answer ≡ answered (create_answer left table.now (defined_schema definitions.now key.now) (length (V.store view.old)))) }
-    ensures fault { IfErr result (λ fault. IsTrue V.is_told → V.tells_damage fault ≡ false) }
+    ensures answer { IfOk result (λ answer. IsTrue V.is_faithful → answer_of answer ≡ answered (create_answer left table.now (defined_schema definitions.now key.now) (length (V.store view.old)))) }
+    ensures fault { IfErr result (λ fault. IsTrue V.is_faithful → V.tells_damage fault ≡ false) }
     ensures store { V.store view.new ≡ V.store view.old }
 {
     let tables = view.tables()?;

@@ -24,8 +24,8 @@ pub fn describe<V: TableView>(
     command: &Command<'_>,
     view: &mut V,
 ) -> Result<Result<Description, SqlFault>, V::Fault>
-    ensures answer { IfOk result (λ answer. IsTrue V.is_told → described side command.now (schema_of (V.store view.old) (scope.table_name command.now)) ≡ described_as answer) }
-    ensures fault { IfErr result (λ fault. IsTrue V.is_told → V.tells_damage fault ≡ false) }
+    ensures answer { IfOk result (λ answer. IsTrue V.is_faithful → described side command.now (schema_of (V.store view.old) (scope.table_name command.now)) ≡ described_as answer) }
+    ensures fault { IfErr result (λ fault. IsTrue V.is_faithful → V.tells_damage fault ≡ false) }
     ensures store { V.store view.new ≡ V.store view.old }
 {
     let schema = table_schema(alloc, command, view)?;

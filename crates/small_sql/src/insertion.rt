@@ -31,8 +31,8 @@ fn is_free<V: TableView>(
     table: &str,
     scope: &Scope,
 ) -> Result<bool, V::Fault>
-    ensures free { IfOk result (λ free. IsTrue V.is_told → free ≡ (length (rows_of_key (key_in (scope_of scope.now)) table.now (V.store view.old)) == 0)) }
-    ensures fault { IfErr result (λ fault. IsTrue V.is_told → V.tells_damage fault ≡ false) }
+    ensures free { IfOk result (λ free. IsTrue V.is_faithful → free ≡ (length (rows_of_key (key_in (scope_of scope.now)) table.now (V.store view.old)) == 0)) }
+    ensures fault { IfErr result (λ fault. IsTrue V.is_faithful → V.tells_damage fault ≡ false) }
     ensures store { V.store view.new ≡ V.store view.old }
 {
     match scope {
@@ -76,10 +76,10 @@ pub(crate) fn insert<V: TableView>(
     left: usize,
     view: &mut V,
 ) -> Result<Answer, V::Fault>
-    requires schema { IsTrue V.is_told → schema_of (V.store view.old) table.now ≡ Some (arc_value schema.now) }
-    requires good { IsTrue V.is_told → is_store (V.store view.old) ≡ true }
-    ensures answer { IfOk result (λ answer. IsTrue V.is_told → answer_of answer ≡ inserted table.now (arc_value schema.now) left (key_in (scope_of scope.now)) (values_given row.now) (rows_covered (scope_of scope.now) table.now (V.store view.old))) }
-    ensures fault { IfErr result (λ fault. IsTrue V.is_told → V.tells_damage fault ≡ false) }
+    requires schema { IsTrue V.is_faithful → schema_of (V.store view.old) table.now ≡ Some (arc_value schema.now) }
+    requires good { IsTrue V.is_faithful → is_store (V.store view.old) ≡ true }
+    ensures answer { IfOk result (λ answer. IsTrue V.is_faithful → answer_of answer ≡ inserted table.now (arc_value schema.now) left (key_in (scope_of scope.now)) (values_given row.now) (rows_covered (scope_of scope.now) table.now (V.store view.old))) }
+    ensures fault { IfErr result (λ fault. IsTrue V.is_faithful → V.tells_damage fault ≡ false) }
     ensures store { V.store view.new ≡ V.store view.old }
 {
     statements_are_framed();

@@ -45,10 +45,10 @@ pub(crate) fn select<V: TableView>(
     view: &mut V,
 ) -> Result<Answer, V::Fault>
     requires selects { is_selection (arc_value schema.now) places.now ≡ true }
-    requires schema { IsTrue V.is_told → schema_of (V.store view.old) table.now ≡ Some (arc_value schema.now) }
-    requires good { IsTrue V.is_told → is_store (V.store view.old) ≡ true }
-    ensures answer { IfOk result (λ answer. IsTrue V.is_told → answer_of answer ≡ Rows (record { schema = arc_value schema.now; selected = places.now; rows = matching filter.now (arc_value schema.now) (rows_covered (scope_of scope.now) table.now (V.store view.old)) })) }
-    ensures fault { IfErr result (λ fault. IsTrue V.is_told → V.tells_damage fault ≡ false) }
+    requires schema { IsTrue V.is_faithful → schema_of (V.store view.old) table.now ≡ Some (arc_value schema.now) }
+    requires good { IsTrue V.is_faithful → is_store (V.store view.old) ≡ true }
+    ensures answer { IfOk result (λ answer. IsTrue V.is_faithful → answer_of answer ≡ Rows (record { schema = arc_value schema.now; selected = places.now; rows = matching filter.now (arc_value schema.now) (rows_covered (scope_of scope.now) table.now (V.store view.old)) })) }
+    ensures fault { IfErr result (λ fault. IsTrue V.is_faithful → V.tells_damage fault ≡ false) }
     ensures store { V.store view.new ≡ V.store view.old }
 {
     let Ok(list) = no_rows(alloc, schema, places) else {

@@ -77,8 +77,8 @@ fn looked_up<V: TableView>(
     table: &str,
     scope: &Scope,
 ) -> Result<Rows, V::Fault>
-    ensures rows { IfOk result (λ rows. IsTrue V.is_told → rows ≡ rows_covered (scope_of scope.now) table.now (V.store view.old)) }
-    ensures fault { IfErr result (λ fault. IsTrue V.is_told → V.tells_damage fault ≡ false) }
+    ensures rows { IfOk result (λ rows. IsTrue V.is_faithful → rows ≡ rows_covered (scope_of scope.now) table.now (V.store view.old)) }
+    ensures fault { IfErr result (λ fault. IsTrue V.is_faithful → V.tells_damage fault ≡ false) }
     ensures store { V.store view.new ≡ V.store view.old }
 {
     match scope {
@@ -105,10 +105,10 @@ pub(crate) fn rows_found<V: TableView>(
     list: RowList,
 ) -> Result<RowList, V::Fault>
     requires fresh { list.rows ≡ [] }
-    requires schema { IsTrue V.is_told → schema_of (V.store view.old) table.now ≡ Some list.schema }
-    requires good { IsTrue V.is_told → is_store (V.store view.old) ≡ true }
-    ensures rows { IfOk result (λ found. IsTrue V.is_told → found ≡ record list { rows = matching wanted.now list.schema (rows_covered (scope_of scope.now) table.now (V.store view.old)) }) }
-    ensures fault { IfErr result (λ fault. IsTrue V.is_told → V.tells_damage fault ≡ false) }
+    requires schema { IsTrue V.is_faithful → schema_of (V.store view.old) table.now ≡ Some list.schema }
+    requires good { IsTrue V.is_faithful → is_store (V.store view.old) ≡ true }
+    ensures rows { IfOk result (λ found. IsTrue V.is_faithful → found ≡ record list { rows = matching wanted.now list.schema (rows_covered (scope_of scope.now) table.now (V.store view.old)) }) }
+    ensures fault { IfErr result (λ fault. IsTrue V.is_faithful → V.tells_damage fault ≡ false) }
     ensures store { V.store view.new ≡ V.store view.old }
 {
     stores_hold_tables();
@@ -129,10 +129,10 @@ pub(crate) fn rows_matched<V: TableView>(
     scope: &Scope,
     wanted: &Filter,
 ) -> Result<RowList, V::Fault>
-    requires schema { IsTrue V.is_told → schema_of (V.store view.old) table.now ≡ Some (arc_value schema.now) }
-    requires good { IsTrue V.is_told → is_store (V.store view.old) ≡ true }
-    ensures rows { IfOk result (λ found. IsTrue V.is_told → found ≡ record { schema = arc_value schema.now; selected = []; rows = matching wanted.now (arc_value schema.now) (rows_covered (scope_of scope.now) table.now (V.store view.old)) }) }
-    ensures fault { IfErr result (λ fault. IsTrue V.is_told → V.tells_damage fault ≡ false) }
+    requires schema { IsTrue V.is_faithful → schema_of (V.store view.old) table.now ≡ Some (arc_value schema.now) }
+    requires good { IsTrue V.is_faithful → is_store (V.store view.old) ≡ true }
+    ensures rows { IfOk result (λ found. IsTrue V.is_faithful → found ≡ record { schema = arc_value schema.now; selected = []; rows = matching wanted.now (arc_value schema.now) (rows_covered (scope_of scope.now) table.now (V.store view.old)) }) }
+    ensures fault { IfErr result (λ fault. IsTrue V.is_faithful → V.tells_damage fault ≡ false) }
     ensures store { V.store view.new ≡ V.store view.old }
 {
     let Ok(schema) = Arc::try_clone(schema) else {

@@ -44,10 +44,10 @@ pub(crate) fn delete<V: TableView>(
     left: usize,
     view: &mut V,
 ) -> Result<Answer, V::Fault>
-    requires schema { IsTrue V.is_told → schema_of (V.store view.old) table.now ≡ Some (arc_value schema.now) }
-    requires good { IsTrue V.is_told → is_store (V.store view.old) ≡ true }
-    ensures answer { IfOk result (λ answer. IsTrue V.is_told → answer_of answer ≡ removed table.now (arc_value schema.now) left (matching filter.now (arc_value schema.now) (rows_covered (scope_of scope.now) table.now (V.store view.old)))) }
-    ensures fault { IfErr result (λ fault. IsTrue V.is_told → V.tells_damage fault ≡ false) }
+    requires schema { IsTrue V.is_faithful → schema_of (V.store view.old) table.now ≡ Some (arc_value schema.now) }
+    requires good { IsTrue V.is_faithful → is_store (V.store view.old) ≡ true }
+    ensures answer { IfOk result (λ answer. IsTrue V.is_faithful → answer_of answer ≡ removed table.now (arc_value schema.now) left (matching filter.now (arc_value schema.now) (rows_covered (scope_of scope.now) table.now (V.store view.old)))) }
+    ensures fault { IfErr result (λ fault. IsTrue V.is_faithful → V.tells_damage fault ≡ false) }
     ensures store { V.store view.new ≡ V.store view.old }
 {
     if !is_name(table.as_bytes()) {

@@ -39,8 +39,8 @@ fn run_absent<V: TableView>(
     left: usize,
     view: &mut V,
 ) -> Result<Answer, V::Fault>
-    ensures answer { IfOk result (λ answer. IsTrue V.is_told → schema_of (V.store view.old) table.now ≡ None → table.now ≡ meant.table_name command.now → (params : List Value) → meaning params left command.now (V.store view.old) ≡ answer_of answer) }
-    ensures fault { IfErr result (λ fault. IsTrue V.is_told → V.tells_damage fault ≡ false) }
+    ensures answer { IfOk result (λ answer. IsTrue V.is_faithful → schema_of (V.store view.old) table.now ≡ None → table.now ≡ meant.table_name command.now → (params : List Value) → meaning params left command.now (V.store view.old) ≡ answer_of answer) }
+    ensures fault { IfErr result (λ fault. IsTrue V.is_faithful → V.tells_damage fault ≡ false) }
     ensures store { V.store view.new ≡ V.store view.old }
 {
     match command {
@@ -65,10 +65,10 @@ fn run_found<V: TableView>(
     view: &mut V,
 ) -> Result<Answer, V::Fault>
     requires selects { selects (Some (arc_value schema.now)) task.now ≡ true }
-    requires schema { IsTrue V.is_told → schema_of (V.store view.old) table.now ≡ Some (arc_value schema.now) }
-    requires good { IsTrue V.is_told → is_store (V.store view.old) ≡ true }
-    ensures answer { IfOk result (λ answer. IsTrue V.is_told → (params : List Value) (c : SqlCommand) → table.now ≡ meant.table_name c → scope_of scope.now ≡ meant.scope params c (Some (arc_value schema.now)) → DoesFound params c (arc_value schema.now) (scope_of scope.now) task.now → meaning params left c (V.store view.old) ≡ answer_of answer) }
-    ensures fault { IfErr result (λ fault. IsTrue V.is_told → V.tells_damage fault ≡ false) }
+    requires schema { IsTrue V.is_faithful → schema_of (V.store view.old) table.now ≡ Some (arc_value schema.now) }
+    requires good { IsTrue V.is_faithful → is_store (V.store view.old) ≡ true }
+    ensures answer { IfOk result (λ answer. IsTrue V.is_faithful → (params : List Value) (c : SqlCommand) → table.now ≡ meant.table_name c → scope_of scope.now ≡ meant.scope params c (Some (arc_value schema.now)) → DoesFound params c (arc_value schema.now) (scope_of scope.now) task.now → meaning params left c (V.store view.old) ≡ answer_of answer) }
+    ensures fault { IfErr result (λ fault. IsTrue V.is_faithful → V.tells_damage fault ≡ false) }
     ensures store { V.store view.new ≡ V.store view.old }
 {
     statements_are_framed();
@@ -96,10 +96,10 @@ pub fn run<V: TableView>(
     left: usize,
     view: &mut V,
 ) -> Result<Answer, V::Fault>
-    requires over { IsTrue V.is_told → IsOver bound.now (V.store view.old) }
-    requires good { IsTrue V.is_told → is_store (V.store view.old) ≡ true }
-    ensures answer { IfOk result (λ answer. IsTrue V.is_told → (params : List Value) (c : SqlCommand) → IsBound params c bound.now → meaning params left c (V.store view.old) ≡ answer_of answer) }
-    ensures fault { IfErr result (λ fault. IsTrue V.is_told → V.tells_damage fault ≡ false) }
+    requires over { IsTrue V.is_faithful → IsOver bound.now (V.store view.old) }
+    requires good { IsTrue V.is_faithful → is_store (V.store view.old) ≡ true }
+    ensures answer { IfOk result (λ answer. IsTrue V.is_faithful → (params : List Value) (c : SqlCommand) → IsBound params c bound.now → meaning params left c (V.store view.old) ≡ answer_of answer) }
+    ensures fault { IfErr result (λ fault. IsTrue V.is_faithful → V.tells_damage fault ≡ false) }
     ensures store { V.store view.new ≡ V.store view.old }
 {
     let table = bound.table.as_str();

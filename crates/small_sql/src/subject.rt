@@ -46,9 +46,9 @@ pub fn table_schema<V: TableView>(
     command: &Command<'_>,
     view: &mut V,
 ) -> Result<Option<Arc<Schema, Global>>, V::Fault>
-    ensures found { IfOk result (λ schema. IsTrue V.is_told → option_map arc_value schema ≡ schema_of (V.store view.old) (scope.table_name command.now)) }
-    ensures good { IfOk result (λ _. IsTrue V.is_told → is_store (V.store view.old) ≡ true) }
-    ensures fault { IfErr result (λ fault. IsTrue V.is_told → V.tells_damage fault ≡ false) }
+    ensures found { IfOk result (λ schema. IsTrue V.is_faithful → option_map arc_value schema ≡ schema_of (V.store view.old) (scope.table_name command.now)) }
+    ensures good { IfOk result (λ _. IsTrue V.is_faithful → is_store (V.store view.old) ≡ true) }
+    ensures fault { IfErr result (λ fault. IsTrue V.is_faithful → V.tells_damage fault ≡ false) }
     ensures store { V.store view.new ≡ V.store view.old }
 {
     let Ok(table) = subject(alloc, command) else {

@@ -32,7 +32,7 @@ impl TableView for Watched {
 
     ghost store = { λ w. w.view };
 
-    ghost is_told = { true };
+    ghost is_faithful = { true };
 
     ghost tells_damage = { is_damage };
 

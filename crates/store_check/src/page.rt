@@ -28,7 +28,7 @@ fn judge<K: RowKeys>(
     noted: &mut NotedRows,
 ) -> Result<Vec<u8>, CheckError>
     ensures judged { JudgesPage schema.now (K.key_of keys.now) at page.now last.old result last.new }
-    ensures noted { OnOk result (noted.new.listed ≡ noted.old.listed ++ page.now.rows) }
+    ensures noted { OnOk result (noted.new.listed.value ≡ noted.old.listed.value ++ page.now.rows) }
     ensures cause { (n : ℕ) → CountsCheck result n n }
 {
     if page.page_ref().kind() != PageKind::Rows {
@@ -61,7 +61,7 @@ pub(crate) fn check_page<K: RowKeys, D: Disk>(
     requires { at + 8192 ≤ length (D.life disk.old).seen }
     ensures judged { IsTrue D.is_modelled → AreRead cache.old (D.life disk.old).seen → JudgesBytes schema.now (K.key_of keys.now) at (part (D.life disk.old).seen at 8192) last.old result last.new }
     ensures noted { (rows : List (List ℕ)) → IsTrue D.is_modelled → AreRead cache.old (D.life disk.old).seen → IsPage (record { kind = PageKind.Rows; rows = rows }) (part (D.life disk.old).seen at 8192)
-        → OnOk result (noted.new.listed ≡ noted.old.listed ++ rows) }
+        → OnOk result (noted.new.listed.value ≡ noted.old.listed.value ++ rows) }
     ensures kept { IsTrue D.is_modelled → AreRead cache.old (D.life disk.old).seen → AreRead cache.new (D.life disk.new).seen }
     ensures stays { Stays (D.life disk.old) (D.life disk.new) }
     ensures cause { CountsCheck result (D.life disk.old).faults (D.life disk.new).faults }

@@ -50,7 +50,7 @@ pub(crate) fn are_rows<K: RowKeys>(
 ) -> Result<bool, AllocError>
     ensures good { IfOk result (λ good. good ≡ go_on schema.now (K.key_of keys.now) (copied last.old) page.now.rows) }
     ensures last { result ≡ Ok true → copied last.new ≡ last_key (K.key_of keys.now) (copied last.old) page.now.rows }
-    ensures noted { result ≡ Ok true → noted.new.listed ≡ noted.old.listed ++ page.now.rows }
+    ensures noted { result ≡ Ok true → noted.new.listed.value ≡ noted.old.listed.value ++ page.now.rows }
 {
     let mut rows = page.page_ref().rows();
     while let Some(row) = rows.next() {

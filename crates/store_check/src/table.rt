@@ -49,7 +49,7 @@ pub fn check_table<K: RowKeys, D: Disk>(
     ensures count { IfOk result (λ table. length table.pages.keys ≡ count) }
     ensures told { IsTrue D.is_modelled → AreRead cache.old (D.life disk.old).seen → ChecksTable schema.now (K.key_of keys.now) (D.life disk.old).seen at count (places_in result) }
     ensures rows { (pages : List (List (List ℕ))) → IsTrue D.is_modelled → AreRead cache.old (D.life disk.old).seen → IsWhole schema.now (K.key_of keys.now) (D.life disk.old).seen at count pages
-        → IfOk result (λ table. table.rows.listed ≡ rows_over pages) }
+        → IfOk result (λ table. table.rows.listed.value ≡ rows_over pages) }
     ensures kept { IsTrue D.is_modelled → AreRead cache.old (D.life disk.old).seen → AreRead cache.new (D.life disk.new).seen }
     ensures stays { Stays (D.life disk.old) (D.life disk.new) }
     ensures cause { CountsCheck result (D.life disk.old).faults (D.life disk.new).faults }

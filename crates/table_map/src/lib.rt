@@ -18,7 +18,7 @@ mod table;
 pub use cursor::RowCursor;
 pub use keys::RowKeys;
 pub use laws::stored_tables_are_whole;
-pub use noted::{NotedPages, NotedRows};
+pub use noted::{ListedRows, NotedPages, NotedRows};
 pub use pages::TablePages;
 pub use schema_keys::SchemaKeys;
 pub use table::TableMap;

@@ -28,7 +28,7 @@ impl<'a> TableView for StoreView<'a> {
 
     ghost store = { λ v. store_in v.store.now };
 
-    ghost is_told = { true };
+    ghost is_faithful = { true };
 
     ghost tells_damage = { is_damage };
 

@@ -97,7 +97,7 @@ impl TableView for PlainView {
 
     ghost store = { λ s. s };
 
-    ghost is_told = { true };
+    ghost is_faithful = { true };
 
     ghost tells_damage = { is_damage };
 

@@ -11,16 +11,15 @@ use std::alloc::{AllocError, Global};
 use std::sync::Arc;
 
 /// A view of the tables of a store. A call that answers tells of the store truly where the view is
-/// told truly itself: `is_told` is a constant of the type, true for tables in memory, and false for
-/// tables in a file, of which no contract can say what it holds. A view that is told truly never tells
-/// damage. No call changes the store.
+/// faithful: `is_faithful` is a constant of the type, true for tables in memory, and false for
+/// tables in a file, of which no contract can say what it holds. A faithful view never tells damage. No call changes the store.
 pub trait TableView {
     /// Why a view may not answer: out of memory, or the store is damaged, or what else there is.
     type Fault: From<AllocError>;
 
     ghost store: { Self → Store };
 
-    ghost is_told: { Bool };
+    ghost is_faithful: { Bool };
 
     ghost tells_damage: { Self.Fault → Bool };
 
@@ -30,16 +29,16 @@ pub trait TableView {
         alloc: Global,
         table: &str,
     ) -> Result<Option<Arc<Schema, Global>>, Self::Fault>
-        ensures found { IfOk result (λ schema. IsTrue is_told → option_map arc_value schema ≡ schema_of (store self.old) table.now) }
-        ensures good { IsTrue is_told → is_store (store self.old) ≡ true }
-        ensures fault { IfErr result (λ fault. IsTrue is_told → tells_damage fault ≡ false) }
+        ensures found { IfOk result (λ schema. IsTrue is_faithful → option_map arc_value schema ≡ schema_of (store self.old) table.now) }
+        ensures good { IsTrue is_faithful → is_store (store self.old) ≡ true }
+        ensures fault { IfErr result (λ fault. IsTrue is_faithful → tells_damage fault ≡ false) }
         ensures store { store self.new ≡ store self.old };
 
     /// How many tables there are.
     fn tables(&mut self) -> Result<usize, Self::Fault>
-        ensures count { IfOk result (λ n. IsTrue is_told → n ≡ length (store self.old)) }
-        ensures good { IsTrue is_told → is_store (store self.old) ≡ true }
-        ensures fault { IfErr result (λ fault. IsTrue is_told → tells_damage fault ≡ false) }
+        ensures count { IfOk result (λ n. IsTrue is_faithful → n ≡ length (store self.old)) }
+        ensures good { IsTrue is_faithful → is_store (store self.old) ≡ true }
+        ensures fault { IfErr result (λ fault. IsTrue is_faithful → tells_damage fault ≡ false) }
         ensures store { store self.new ≡ store self.old };
 
     /// The row of this key, where the table has it. A table that is not there has no rows.
@@ -49,20 +48,20 @@ pub trait TableView {
         table: &str,
         key: &[u8],
     ) -> Result<Option<Vec<u8>>, Self::Fault>
-        ensures found { IfOk result (λ row. IsTrue is_told → option_map (λ bytes. bytes.items) row ≡ row_of (store self.old) table.now key.now) }
-        ensures good { IsTrue is_told → is_store (store self.old) ≡ true }
-        ensures fault { IfErr result (λ fault. IsTrue is_told → tells_damage fault ≡ false) }
+        ensures found { IfOk result (λ row. IsTrue is_faithful → option_map (λ bytes. bytes.items) row ≡ row_of (store self.old) table.now key.now) }
+        ensures good { IsTrue is_faithful → is_store (store self.old) ≡ true }
+        ensures fault { IfErr result (λ fault. IsTrue is_faithful → tells_damage fault ≡ false) }
         ensures store { store self.new ≡ store self.old };
 
     /// All rows of the table, in the order of their keys. A table that is not there has none.
     fn scan(&mut self, alloc: Global, table: &str) -> Result<Rows, Self::Fault>
-        ensures rows { IfOk result (λ rows. IsTrue is_told → rows ≡ rows_of (store self.old) table.now) }
-        ensures good { IsTrue is_told → is_store (store self.old) ≡ true }
-        ensures fault { IfErr result (λ fault. IsTrue is_told → tells_damage fault ≡ false) }
+        ensures rows { IfOk result (λ rows. IsTrue is_faithful → rows ≡ rows_of (store self.old) table.now) }
+        ensures good { IsTrue is_faithful → is_store (store self.old) ≡ true }
+        ensures fault { IfErr result (λ fault. IsTrue is_faithful → tells_damage fault ≡ false) }
         ensures store { store self.new ≡ store self.old };
 
-    /// The fault of a row that is none of its table's schema, which only a view that is not told
-    /// truly can meet.
+    /// The fault of a row that is none of its table's schema, which only a view that is not
+    /// faithful can meet.
     fn damaged(&self) -> Self::Fault
         ensures { tells_damage result ≡ true };
 

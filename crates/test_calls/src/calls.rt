@@ -19,7 +19,7 @@ pub trait Calls {
     fn roll_back(&mut self, conversation: u64) -> Option<Answer>;
 
     /// The conversation is lost.
-    fn lose(&mut self, conversation: u64) -> Option<Answer>;
+    fn lost(&mut self, conversation: u64) -> Option<Answer>;
 
     fn xa(&mut self, conversation: u64, request: Result<Request, InvalidRequest>) -> Option<Answer>;
 
@@ -103,7 +103,7 @@ pub(crate) fn ask<C: Calls>(
     match (verb, rest.is_empty()) {
         ("commit", true) => core.commit(conversation),
         ("rollback", true) => core.roll_back(conversation),
-        ("lost", true) => core.lose(conversation),
+        ("lost", true) => core.lost(conversation),
         ("run" | "query" | "columns" | "parameters", _) => {
             ask_text(alloc, core, conversation, verb, rest)
         }

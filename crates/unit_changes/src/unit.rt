@@ -133,8 +133,8 @@ impl UnitChanges {
         base: &mut V,
         alloc: Global,
     ) -> Result<usize, V::Fault>
-        ensures count { IfOk result (λ n. IsTrue V.is_told → is_store (V.store base.old) ≡ true → n + length (V.store base.old) ≡ length (apply_all self.now (V.store base.old))) }
-        ensures fault { IfErr result (λ fault. IsTrue V.is_told → V.tells_damage fault ≡ false) }
+        ensures count { IfOk result (λ n. IsTrue V.is_faithful → is_store (V.store base.old) ≡ true → n + length (V.store base.old) ≡ length (apply_all self.now (V.store base.old))) }
+        ensures fault { IfErr result (λ fault. IsTrue V.is_faithful → V.tells_damage fault ≡ false) }
         ensures store { V.store base.new ≡ V.store base.old }
     {
         changes_are_local();
@@ -159,9 +159,9 @@ fn count_lacking<V: TableView>(
     base: &mut V,
     alloc: Global,
 ) -> Result<usize, V::Fault>
-    ensures count { IfOk result (λ n. IsTrue V.is_told → n ≡ lacking (map table_of tables.now) (V.store base.old)) }
-    ensures new { OnOk result (IsTrue V.is_told → AreNew (map table_of tables.now) (V.store base.old)) }
-    ensures fault { IfErr result (λ fault. IsTrue V.is_told → V.tells_damage fault ≡ false) }
+    ensures count { IfOk result (λ n. IsTrue V.is_faithful → n ≡ lacking (map table_of tables.now) (V.store base.old)) }
+    ensures new { OnOk result (IsTrue V.is_faithful → AreNew (map table_of tables.now) (V.store base.old)) }
+    ensures fault { IfErr result (λ fault. IsTrue V.is_faithful → V.tells_damage fault ≡ false) }
     ensures store { V.store base.new ≡ V.store base.old }
 {
     let mut count: usize = 0;
@@ -173,10 +173,10 @@ fn count_lacking<V: TableView>(
 
 // One where the base lacks the table, which is new then, else 0.
 fn lacks<V: TableView>(table: &TableChanges, base: &mut V, alloc: Global) -> Result<usize, V::Fault>
-    ensures count { IfOk result (λ n. IsTrue V.is_told → n ≡ (if is_some (schema_of (V.store base.old) (string_bytes table.now.name)) then 0 else 1)) }
+    ensures count { IfOk result (λ n. IsTrue V.is_faithful → n ≡ (if is_some (schema_of (V.store base.old) (string_bytes table.now.name)) then 0 else 1)) }
     ensures one { IfOk result (λ n. n ≤ 1) }
-    ensures new { OnOk result (IsTrue V.is_told → IsNewIn (V.store base.old) (table_of table.now)) }
-    ensures fault { IfErr result (λ fault. IsTrue V.is_told → V.tells_damage fault ≡ false) }
+    ensures new { OnOk result (IsTrue V.is_faithful → IsNewIn (V.store base.old) (table_of table.now)) }
+    ensures fault { IfErr result (λ fault. IsTrue V.is_faithful → V.tells_damage fault ≡ false) }
     ensures store { V.store base.new ≡ V.store base.old }
 {
     let _columns = table.schema.columns();

@@ -35,9 +35,9 @@ pub fn schema_under<V: TableView>(
     alloc: Global,
     table: &str,
 ) -> Result<Option<Arc<Schema, Global>>, V::Fault>
-    ensures found { IfOk result (λ schema. IsTrue V.is_told → option_map arc_value schema ≡ schema_of (apply_all changes.now (V.store base.old)) table.now) }
-    ensures good { IsTrue V.is_told → is_store (apply_all changes.now (V.store base.old)) ≡ true }
-    ensures fault { IfErr result (λ fault. IsTrue V.is_told → V.tells_damage fault ≡ false) }
+    ensures found { IfOk result (λ schema. IsTrue V.is_faithful → option_map arc_value schema ≡ schema_of (apply_all changes.now (V.store base.old)) table.now) }
+    ensures good { IsTrue V.is_faithful → is_store (apply_all changes.now (V.store base.old)) ≡ true }
+    ensures fault { IfErr result (λ fault. IsTrue V.is_faithful → V.tells_damage fault ≡ false) }
     ensures store { V.store base.new ≡ V.store base.old }
 {
     changes.keep_stores();
@@ -63,9 +63,9 @@ fn fit<V: TableView>(
     alloc: Global,
     table: &str,
 ) -> Result<(), V::Fault>
-    ensures fits { OnOk result (IsTrue V.is_told → Fits told.now.is_new (arc_value told.now.schema) (schema_of (V.store base.old) table.now)) }
-    ensures good { IsTrue V.is_told → is_store (V.store base.old) ≡ true }
-    ensures fault { IfErr result (λ fault. IsTrue V.is_told → V.tells_damage fault ≡ false) }
+    ensures fits { OnOk result (IsTrue V.is_faithful → Fits told.now.is_new (arc_value told.now.schema) (schema_of (V.store base.old) table.now)) }
+    ensures good { IsTrue V.is_faithful → is_store (V.store base.old) ≡ true }
+    ensures fault { IfErr result (λ fault. IsTrue V.is_faithful → V.tells_damage fault ≡ false) }
     ensures store { V.store base.new ≡ V.store base.old }
 {
     let is_fit = match base.schema(alloc, table)? {
@@ -87,9 +87,9 @@ pub fn row_under<V: TableView>(
     table: &str,
     key: &[u8],
 ) -> Result<Option<Vec<u8>>, V::Fault>
-    ensures found { IfOk result (λ row. IsTrue V.is_told → option_map (λ bytes. bytes.items) row ≡ row_of (apply_all changes.now (V.store base.old)) table.now key.now) }
-    ensures good { IsTrue V.is_told → is_store (apply_all changes.now (V.store base.old)) ≡ true }
-    ensures fault { IfErr result (λ fault. IsTrue V.is_told → V.tells_damage fault ≡ false) }
+    ensures found { IfOk result (λ row. IsTrue V.is_faithful → option_map (λ bytes. bytes.items) row ≡ row_of (apply_all changes.now (V.store base.old)) table.now key.now) }
+    ensures good { IsTrue V.is_faithful → is_store (apply_all changes.now (V.store base.old)) ≡ true }
+    ensures fault { IfErr result (λ fault. IsTrue V.is_faithful → V.tells_damage fault ≡ false) }
     ensures store { V.store base.new ≡ V.store base.old }
 {
     changes.keep_stores();
@@ -120,9 +120,9 @@ fn rows_under<V: TableView>(
     alloc: Global,
     table: &str,
 ) -> Result<Rows, V::Fault>
-    ensures rows { IfOk result (λ rows. IsTrue V.is_told → rows ≡ rows_of (apply_all changes.now (V.store base.old)) table.now) }
-    ensures good { IsTrue V.is_told → is_store (apply_all changes.now (V.store base.old)) ≡ true }
-    ensures fault { IfErr result (λ fault. IsTrue V.is_told → V.tells_damage fault ≡ false) }
+    ensures rows { IfOk result (λ rows. IsTrue V.is_faithful → rows ≡ rows_of (apply_all changes.now (V.store base.old)) table.now) }
+    ensures good { IsTrue V.is_faithful → is_store (apply_all changes.now (V.store base.old)) ≡ true }
+    ensures fault { IfErr result (λ fault. IsTrue V.is_faithful → V.tells_damage fault ≡ false) }
     ensures store { V.store base.new ≡ V.store base.old }
 {
     forms_keep_order();
@@ -148,9 +148,9 @@ pub fn tables_under<V: TableView>(
     changes: &UnitChanges,
     alloc: Global,
 ) -> Result<usize, V::Fault>
-    ensures count { IfOk result (λ n. IsTrue V.is_told → n ≡ length (apply_all changes.now (V.store base.old))) }
-    ensures good { IsTrue V.is_told → is_store (apply_all changes.now (V.store base.old)) ≡ true }
-    ensures fault { IfErr result (λ fault. IsTrue V.is_told → V.tells_damage fault ≡ false) }
+    ensures count { IfOk result (λ n. IsTrue V.is_faithful → n ≡ length (apply_all changes.now (V.store base.old))) }
+    ensures good { IsTrue V.is_faithful → is_store (apply_all changes.now (V.store base.old)) ≡ true }
+    ensures fault { IfErr result (λ fault. IsTrue V.is_faithful → V.tells_damage fault ≡ false) }
     ensures store { V.store base.new ≡ V.store base.old }
 {
     changes.keep_stores();
@@ -177,7 +177,7 @@ impl<'a, V: TableView> TableView for UnitView<'a, V> {
 
     ghost store = { λ v. apply_all v.changes.now (V.store v.base.now) };
 
-    ghost is_told = { V.is_told };
+    ghost is_faithful = { V.is_faithful };
 
     ghost tells_damage = { V.tells_damage };
 

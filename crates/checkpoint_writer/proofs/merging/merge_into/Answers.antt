@@ -76,11 +76,11 @@ loop-writer-preserved g c =
       forward = omega (arith, inv.forward, c.next.ensures.forward);
       at = inv.at;
       merges = one_more modelled key_of c.args.table.now c.args.cache.now first c.args.image.now file c.loop-writer.image c.loop-writer.writer c.loop-writer.cursor inv.merges.held
-          mid (life c.add.new.disk).seen c.add.new.image c.add.new.self c.next.new.self c.in-Some.row.items c.deref.result.now c.loop-writer.noted.listed c.note.new.self.listed c.next.ensures.stays.same c.deref.ensures.value
+          mid (life c.add.new.disk).seen c.add.new.image c.add.new.self c.next.new.self c.in-Some.row.items c.deref.result.now c.loop-writer.noted.listed.value c.note.new.self.listed.value c.next.ensures.stays.same c.deref.ensures.value
           (c.in_ok-add.ensures.laid (next_of c.args.image.now) inv.merges.held.rows there) c.add.ensures.adds.others (same_from c.args.image.now c.loop-writer.image inv.adds.half inv.adds.half_bytes) inv.adds.half_bytes
           (c.next.ensures.end ∙ inv.end) (omega (arith, inv.forward, c.next.ensures.forward))
           (λ left honest read is. rw c.in-Some.is at (c.in_ok-row.ensures.gives left honest (inv.kept honest read) is))
-          inv.merges.same (c.note.ensures ∙ ap (λ (row : List ℕ). c.loop-writer.noted.listed ++ row ∷ []) (c.deref-in-Some.ensures.value ∙ sym c.deref.ensures.value));
+          inv.merges.same (c.note.ensures ∙ ap (λ (row : List ℕ). c.loop-writer.noted.listed.value ++ row ∷ []) (c.deref-in-Some.ensures.value ∙ sym c.deref.ensures.value));
     }
 
 pub returns-in_err-finish-clause-adds : goal.returns-in_err-finish-clause-adds

@@ -10,5 +10,5 @@ loop-write-preserved c =
     record {
       rest = c.cut.ensures.later ∙ next_rest c.args.writes.now c.args.written.now c.loop-write.write-index _ c.loop-write-test.true rest at_rest;
       so_far = next_noted c.args.writes.now c.args.written.now c.loop-write.write-index _ c.loop-write-test.true rest at_rest c.cut.result.0.now c.cut.ensures.first
-          (synced ∷ (wrote 0 c.args.durable.now ∷ [])) c.loop-write.history.steps c.note_write.new.self.steps c.loop-write.invariant.so_far c.note_write.ensures;
+          (synced ∷ (wrote 0 c.args.durable.now ∷ [])) c.loop-write.history.steps.value c.note_write.new.self.steps.value c.loop-write.invariant.so_far c.note_write.ensures;
     }

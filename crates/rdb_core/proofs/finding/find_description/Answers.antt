@@ -8,15 +8,15 @@ use Rattle.core_model.specs.Asked.{described_claims, told as told_of}
 use Rattle.rdb_core.proofs.finding.find_description.Goals as goal
 
 pub returns : goal.returns
-returns g c = λ is_told.
+returns g c = λ is_faithful.
     let s = g.V.TableView.store c.args.view.now in
     let name = table_name c.args.statement.now.command in
     let lent : option_copied c.as_deref.result ≡ option_map arc_value c.in-Ok.schema = search rules in
     record {
-      claims = c.in_ok-claimed.ensures ∙ ap (described_claims name) (lent ∙ c.in-Ok.ensures.found is_told);
+      claims = c.in_ok-claimed.ensures ∙ ap (described_claims name) (lent ∙ c.in-Ok.ensures.found is_faithful);
       free = search rules;
       answer =
-          c.in_ok-answer.ensures.answer is_told
+          c.in_ok-answer.ensures.answer is_faithful
           ∙ ap (λ (t : Store). told_of (described c.args.side c.args.statement.now.command (schema_of t name))) c.in-Ok.ensures.store;
       changes = c.in_ok-answer.ensures.changes;
     }

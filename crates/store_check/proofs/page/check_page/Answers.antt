@@ -19,4 +19,4 @@ pub returns-in-Ok-clause-noted : goal.returns-in-Ok-clause-noted
 returns-in-Ok-clause-noted g c rows honest read is =
     let page = c.in-Ok.page.now in
     let same = c.one_page.ensures page (a_page rows) (part (g.D.Disk.life c.args.disk.now).seen c.args.at 8192) (c.in-Ok.ensures.page honest read) is in
-    subst (λ (l : List (List ℕ)). OnOk c.judge.result (c.judge.new.noted.listed ≡ c.args.noted.now.listed ++ l)) (ap (λ (p : Page). p.rows) same) c.judge.ensures.noted
+    subst (λ (l : List (List ℕ)). OnOk c.judge.result (c.judge.new.noted.listed.value ≡ c.args.noted.now.listed.value ++ l)) (ap (λ (p : Page). p.rows) same) c.judge.ensures.noted

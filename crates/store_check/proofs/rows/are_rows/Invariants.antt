@@ -9,5 +9,5 @@ invariant-loop-row g l = record {
   finite : (goal.iterator-loop-row g).is_finite l.rows;
   good : go_on l.schema (g.K.RowKeys.key_of l.keys) (copied l.last) l.rows ≡ go_on l.schema (g.K.RowKeys.key_of l.keys) (copied l.fn.last) l.page.rows;
   last : last_key (g.K.RowKeys.key_of l.keys) (copied l.last) l.rows ≡ last_key (g.K.RowKeys.key_of l.keys) (copied l.fn.last) l.page.rows;
-  noted : l.noted.listed ++ l.rows ≡ l.fn.noted.listed ++ l.page.rows;
+  noted : l.noted.listed.value ++ l.rows ≡ l.fn.noted.listed.value ++ l.page.rows;
 }

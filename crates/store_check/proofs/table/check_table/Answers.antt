@@ -34,7 +34,7 @@ loop-page-init g c = record {
   faults = refl;
   kept = λ honest read. read;
   many = search rules;
-  noted = λ honest read. none_noted c.args.schema.now (g.K.RowKeys.key_of c.args.keys.now) (g.D.Disk.life c.args.disk.now).seen c.args.at c.new-first_keys.result.items c.none-rows.result.listed c.new-first_keys.ensures.items c.none-rows.ensures;
+  noted = λ honest read. none_noted c.args.schema.now (g.K.RowKeys.key_of c.args.keys.now) (g.D.Disk.life c.args.disk.now).seen c.args.at c.new-first_keys.result.items c.none-rows.result.listed.value c.new-first_keys.ensures.items c.none-rows.ensures;
 }
 
 pub loop-page-preserved : goal.loop-page-preserved
@@ -52,8 +52,8 @@ loop-page-preserved g c =
       kept = λ honest read. c.check_page.ensures.kept honest (inv.kept honest read);
       many = ap length c.in_ok-push_bytes.ensures.items ∙ omega (arith, length-append c.loop-page.first_keys.items (key ∷ []), inv.many);
       noted = λ honest read.
-          subst (λ (keys : List (List ℕ)). AreNoted c.args.schema.now key_of file c.args.at (i + 1) keys (copied c.check_page.new.last) c.check_page.new.noted.listed) (sym keys_are)
-          (one_noted c.args.schema.now key_of file c.args.at i (map (λ (k : Vec ℕ). k.items) c.loop-page.first_keys.items) key c.loop-page.last c.check_page.new.last c.loop-page.rows.listed c.check_page.new.noted.listed (inv.noted honest read)
+          subst (λ (keys : List (List ℕ)). AreNoted c.args.schema.now key_of file c.args.at (i + 1) keys (copied c.check_page.new.last) c.check_page.new.noted.listed.value) (sym keys_are)
+          (one_noted c.args.schema.now key_of file c.args.at i (map (λ (k : Vec ℕ). k.items) c.loop-page.first_keys.items) key c.loop-page.last c.check_page.new.last c.loop-page.rows.listed.value c.check_page.new.noted.listed.value (inv.noted honest read)
           (subst (λ (f : List ℕ). JudgesBytes c.args.schema.now key_of here (part f here 8192) c.loop-page.last (Ok key) c.check_page.new.last) inv.stays.same (c.in_ok-key.ensures.judged honest (inv.kept honest read)))
           (λ rows is. c.in_ok-key.ensures.noted rows honest (inv.kept honest read) (subst (λ (f : List ℕ). IsPage (a_page rows) (part f here 8192)) (sym inv.stays.same) is)));
     }
@@ -65,7 +65,7 @@ returns-clause-told g c honest read =
 
 pub returns-clause-rows : goal.returns-clause-rows
 returns-clause-rows g c pages honest read whole =
-    all_noted c.args.schema.now (g.K.RowKeys.key_of c.args.keys.now) (g.D.Disk.life c.args.disk.now).seen c.args.at c.one_page.ensures c.loop-page.page c.args.count (map (λ (k : Vec ℕ). k.items) c.loop-page.first_keys.items) _ c.loop-page.rows.listed pages
+    all_noted c.args.schema.now (g.K.RowKeys.key_of c.args.keys.now) (g.D.Disk.life c.args.disk.now).seen c.args.at c.one_page.ensures c.loop-page.page c.args.count (map (λ (k : Vec ℕ). k.items) c.loop-page.first_keys.items) _ c.loop-page.rows.listed.value pages
     (omega (arith, c.loop-page-test.false, c.loop-page.auto.page-end)) (c.loop-page.invariant.noted honest read) whole
 
 pub returns-clause-count : goal.returns-clause-count

@@ -13,5 +13,5 @@ invariant-loop-page g l = record {
   kept : IsTrue g.D.Disk.is_modelled → AreRead l.fn.cache (g.D.Disk.life l.fn.disk).seen → AreRead l.cache (g.D.Disk.life l.disk).seen;
   many : length l.first_keys.items ≡ l.page;
   noted : IsTrue g.D.Disk.is_modelled → AreRead l.fn.cache (g.D.Disk.life l.fn.disk).seen
-      → AreNoted l.schema (g.K.RowKeys.key_of l.keys) (g.D.Disk.life l.fn.disk).seen l.at l.page (map (λ k. k.items) l.first_keys.items) (copied l.last) l.rows.listed;
+      → AreNoted l.schema (g.K.RowKeys.key_of l.keys) (g.D.Disk.life l.fn.disk).seen l.at l.page (map (λ k. k.items) l.first_keys.items) (copied l.last) l.rows.listed.value;
 }

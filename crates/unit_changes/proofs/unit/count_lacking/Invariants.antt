@@ -9,6 +9,6 @@ abbrev pub invariant-loop-i : goal.invariant-loop-i
 invariant-loop-i g l = record {
   store : g.V.TableView.store l.base ≡ g.V.TableView.store l.fn.base;
   small : l.count ≤ l.i;
-  count : IsTrue g.V.TableView.is_told → l.count + lacking (map table_of (drop l.i l.tables)) (g.V.TableView.store l.fn.base) ≡ lacking (map table_of l.tables) (g.V.TableView.store l.fn.base);
-  new : IsTrue g.V.TableView.is_told → AreNew (map table_of (drop l.i l.tables)) (g.V.TableView.store l.fn.base) → AreNew (map table_of l.tables) (g.V.TableView.store l.fn.base);
+  count : IsTrue g.V.TableView.is_faithful → l.count + lacking (map table_of (drop l.i l.tables)) (g.V.TableView.store l.fn.base) ≡ lacking (map table_of l.tables) (g.V.TableView.store l.fn.base);
+  new : IsTrue g.V.TableView.is_faithful → AreNew (map table_of (drop l.i l.tables)) (g.V.TableView.store l.fn.base) → AreNew (map table_of l.tables) (g.V.TableView.store l.fn.base);
 }

@@ -10,5 +10,5 @@ pub returns-in-Ok-clause-tears : goal.returns-in-Ok-clause-tears
 returns-in-Ok-clause-tears c =
     let m = c.args.self.now in
     let zeros = replicate m.size 0 in
-    subst (λ (s : List Step). Tears c.args.at (length c.args.bytes.now) (replayed zeros m.bytes.items m.history.steps (count_of m.faults)) (replayed zeros c.overwrite.new.file.items s (count_of m.faults))) (sym c.note_write.ensures)
-    (tears zeros m.bytes.items c.overwrite.new.file.items c.args.at c.args.bytes.now m.history.steps (count_of m.faults) m.read (c.overwrite.ensures ∙ sym (over_is m.bytes.items c.args.at c.args.bytes.now c.requires)))
+    subst (λ (s : List Step). Tears c.args.at (length c.args.bytes.now) (replayed zeros m.bytes.items m.history.steps.value (count_of m.faults)) (replayed zeros c.overwrite.new.file.items s (count_of m.faults))) (sym c.note_write.ensures)
+    (tears zeros m.bytes.items c.overwrite.new.file.items c.args.at c.args.bytes.now m.history.steps.value (count_of m.faults) m.read (c.overwrite.ensures ∙ sym (over_is m.bytes.items c.args.at c.args.bytes.now c.requires)))

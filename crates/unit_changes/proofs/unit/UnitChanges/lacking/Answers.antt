@@ -20,6 +20,6 @@ returns-clause-count g c =
     subst (λ (ts : List TableChanges). IsIndex c.args.self.now (map table_of ts)) (sym c.as_slice.ensures.value)
     (subst (λ (cs : List Change). IsIndex cs (map table_of c.self.inside.tables.items)) c.self.view_is c.self.invariant.index) in
     let good : list_all is_change c.args.self.now ≡ true = ap (list_all is_change) (sym c.self.view_is) ∙ c.self.invariant.good in
-    counted_result (IsTrue g.V.TableView.is_told) (AreNew (map table_of c.as_slice.result.now) s) (is_store s ≡ true) c.count_lacking.result (lacking (map table_of c.as_slice.result.now) s) (length s) (length (apply_all c.args.self.now s))
+    counted_result (IsTrue g.V.TableView.is_faithful) (AreNew (map table_of c.as_slice.result.now) s) (is_store s ≡ true) c.count_lacking.result (lacking (map table_of c.as_slice.result.now) s) (length s) (length (apply_all c.args.self.now s))
     c.count_lacking.ensures.count c.count_lacking.ensures.new
     (λ new isStore. counted laws c.stores_are_what_they_show.ensures.names c.args.self.now (map table_of c.as_slice.result.now) s good index new isStore)

@@ -6,7 +6,7 @@ use Rattle.core_model.specs.Step.{lost_xids}
 use Rattle.table_store.specs.TableStore.{store_in}
 use Rattle.rdb_core.specs.Steps.{left_units}
 use Rattle.rdb_core.proofs.Lost.{as_events}
-use Rattle.rdb_core.proofs.engine.Core.lose.Goals as goal
+use Rattle.rdb_core.proofs.engine.Core.lost.Goals as goal
 
 pub returns : goal.returns
 returns g c =
