@@ -1,6 +1,8 @@
 //! A journal, its room, and what is found in its region.
 
-use crate::journals::{Said, append, laid_record, lay, open, record_of, start};
+use crate::journals::{
+    Said, append, append_group, group_of, laid_record, lay, open, record_of, start,
+};
 use crate::told::{push, push_bytes, put, size};
 use drda_disk::{MemDisk, Region};
 use std::alloc::Global;
@@ -62,15 +64,14 @@ fn push_records(alloc: Global, records: &[Record], out: &mut Vec<u8>) -> Option<
     Some(())
 }
 
-// What an append, holding and releasing so many bytes, is told.
+// What an append is told, and what room is left.
 fn push_appended(
     alloc: Global,
-    journal: &mut Journal,
-    disk: &mut MemDisk,
-    said: Said<'_>,
+    journal: &Journal,
+    told: Result<(), AppendError>,
     out: &mut Vec<u8>,
 ) -> Option<()> {
-    match append(alloc, journal, disk, said).ok()? {
+    match told {
         Ok(()) => push(out, "laid")?,
         Err(AppendError::Full(full)) => push_full(alloc, full, out)?,
         Err(AppendError::DeviceFailed) => push(out, "the device failed")?,
@@ -199,7 +200,19 @@ impl Journals {
             hold: size(hold)?,
             release: size(release)?,
         };
-        push_appended(self.alloc, journal, disk, said, out)
+        let told = append(self.alloc, journal, disk, said).ok()?;
+        push_appended(self.alloc, journal, told, out)
+    }
+
+    fn append_group(&mut self, rest: &str, out: &mut Vec<u8>) -> Option<()> {
+        let (Some(disk), Some(journal)) = (&mut self.disk, &mut self.journal) else {
+            return None;
+        };
+        let (hold, rest) = rest.split_once(' ')?;
+        let (release, count) = rest.split_once(' ')?;
+        let group = group_of(self.alloc, size(count)?).ok()?;
+        let told = append_group(journal, disk, &group, size(hold)?, size(release)?);
+        push_appended(self.alloc, journal, told, out)
     }
 
     fn hold(&mut self, bytes: &str, out: &mut Vec<u8>) -> Option<()> {
@@ -284,12 +297,13 @@ impl Journals {
             "put" => self.put(rest, out),
             "lay" => self.lay(size(rest)?, true, out),
             "lay-none" => self.lay(size(rest)?, false, out),
+            "group" => self.append_group(rest, out),
             _ => self.append(verb, rest, out),
         }
     }
 
     /// Answers a line: `on` has the size of a fresh disk behind it, and then where the region of a journal is and how long. `journal` starts
-    /// it anew, opens it, appends, holds, lays, or puts bytes to the disk.
+    /// it anew, opens it, appends a record or a group of so many, holds, lays, or puts bytes to the disk.
     pub fn answer(&mut self, subject: &str, asked: &str, out: &mut Vec<u8>) -> Option<()> {
         let (verb, rest) = asked.split_once(' ').unwrap_or((asked, ""));
         match subject {

@@ -6,7 +6,9 @@ ghost use Rattle.unit_journal.specs.LaidRecord.{entry_in};
 
 use drda_disk::{Disk, DiskFault, Region};
 use std::alloc::{AllocError, Global};
-use unit_journal::{AppendError, Journal, Kind, LaidRecord, LayError, OpenError, Record};
+use unit_journal::{
+    AppendError, Journal, Kind, LaidGroup, LaidRecord, LayError, OpenError, Record,
+};
 
 fn may_be_a_journal<D: Disk>(disk: &D, region: Region) -> bool
     ensures some { IsTrue result → 0 < region.length }
@@ -98,4 +100,32 @@ pub fn append<D: Disk>(
     }
     let laid = laid_record(alloc, kind, body)?;
     Ok(journal.append(disk, &laid, hold, release))
+}
+
+/// The group of so many records, the first a commit of one byte and the others prepares of two.
+pub fn group_of(alloc: Global, count: usize) -> Result<LaidGroup, AllocError> {
+    let mut group = LaidGroup::of(laid_record(alloc, Kind::Commit, &[1])?);
+    let next = laid_record(alloc, Kind::Prepare, &[2, 3])?;
+    for _ in 1..count {
+        group.push(&next)?;
+    }
+    Ok(group)
+}
+
+/// What the append of a group answers.
+pub fn append_group<D: Disk>(
+    journal: &mut Journal,
+    disk: &mut D,
+    group: &LaidGroup,
+    hold: usize,
+    release: usize,
+) -> Result<(), AppendError> {
+    if journal.region().end() > disk.size()
+        || group.len() >= 1 << 32
+        || hold >= 1 << 32
+        || release > journal.held()
+    {
+        return Err(AppendError::DeviceFailed);
+    }
+    journal.append_group(disk, group, hold, release)
 }
