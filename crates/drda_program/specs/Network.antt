@@ -14,12 +14,14 @@ pub record NetworkCalls (N L S W : Type 0) : Type 1 where
   pub lets_in : N → L → Option S → N → Type 0
   -- a stream gets a limit, in seconds, for how long a read of it waits; or it gets none
   pub limits : N → S → ℕ → Option (Unit {0}) → N → Type 0
+  -- small segments of what is written on a stream are sent at once from then on; or they wait as before
+  pub hurries : N → S → Option (Unit {0}) → N → Type 0
   -- a stream gets a second handle, to be written on
   pub answers : N → S → Option W → N → Type 0
 
 -- nothing is known of them
 abbrev pub any_network : {N L S W : Type 0} → NetworkCalls N L S W
-any_network = record { binds = λ _ _ _ _. Unit {0}; has_port = λ _ _. Unit {0}; lets_in = λ _ _ _ _. Unit {0}; limits = λ _ _ _ _ _. Unit {0}; answers = λ _ _ _ _. Unit {0} }
+any_network = record { binds = λ _ _ _ _. Unit {0}; has_port = λ _ _. Unit {0}; lets_in = λ _ _ _ _. Unit {0}; limits = λ _ _ _ _ _. Unit {0}; hurries = λ _ _ _ _. Unit {0}; answers = λ _ _ _ _. Unit {0} }
 
 -- 127.0.0.1, and this port
 abbrev pub IsLocal : SocketAddr → ℕ → Type 0
@@ -32,10 +34,13 @@ module _ {N L S W : Type 0} (calls : NetworkCalls N L S W) where
   IsLimited net stream None net' = net' ≡ net
   IsLimited net stream (Some seconds) net' = calls.limits net stream seconds (Some tt) net'
 
-  -- a stream was let in, got its limit, and then a second handle
+  -- a stream was let in, got its limit, was asked to hurry, and then got a second handle
   pub record LetsIn (net : N) (listener : L) (idle : Option ℕ) (stream : S) (writer : W) (net' : N) : Type 0 where
     pub came : N
     pub let_in : calls.lets_in net listener (Some stream) came
     pub limited : N
     pub is_limited : IsLimited came stream idle limited
-    pub answered : calls.answers limited stream (Some writer) net'
+    pub hurried : Option (Unit {0})
+    pub asked : N
+    pub is_asked : calls.hurries limited stream hurried asked
+    pub answered : calls.answers asked stream (Some writer) net'

@@ -230,7 +230,7 @@ impl<N: Network> LetIn<'_, N> {
 }
 
 // The next stream that a listener lets in, with its limit and its second handle. A stream that can't have them is
-// closed, and none is given.
+// closed, and none is given; one that can't be hurried is served with its delays.
 fn let_in<N: Network>(
     net: &mut N,
     listener: &N::Listener,
@@ -242,6 +242,7 @@ fn let_in<N: Network>(
     if limit(net, &stream, idle).is_err() {
         return Ok(None);
     }
+    let _ = net.hurry(&stream);
     match net.writer(&stream) {
         Ok(writer) => Ok(Some((stream, writer))),
         Err(_) => Ok(None),

@@ -47,7 +47,11 @@ pub trait Network {
     fn limit(&mut self, stream: &Self::Stream, seconds: u32) -> io::Result<()>
         ensures { calls.limits self.old stream.now seconds (result_ok result) self.new };
 
-    /// A second handle of a stream; what is written on it is sent at once.
+    /// From now on small segments of what is written on the stream are sent at once, and none waits for more.
+    fn hurry(&mut self, stream: &Self::Stream) -> io::Result<()>
+        ensures { calls.hurries self.old stream.now (result_ok result) self.new };
+
+    /// A second handle of a stream, to be written on.
     fn writer(&mut self, stream: &Self::Stream) -> io::Result<Self::Writer>
         ensures { calls.answers self.old stream.now (result_ok result) self.new };
 
@@ -96,8 +100,11 @@ impl<'a, R: Net + Clock> Network for SystemNetwork<'a, R> {
         stream.set_read_timeout(Some(Duration::from_secs(u64::from(seconds))))
     }
 
+    fn hurry(&mut self, stream: &R::Stream) -> io::Result<()> {
+        stream.set_nodelay(true)
+    }
+
     fn writer(&mut self, stream: &R::Stream) -> io::Result<R::Stream> {
-        let _ = stream.set_nodelay(true);
         stream.try_clone()
     }
 
