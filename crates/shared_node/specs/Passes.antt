@@ -15,7 +15,7 @@ use Rattle.shared_node.specs.Books.{Told, calls_of}
 
 -- the calls that were made with it, as the book listed them
 abbrev pub calls_in : Pass → List AnsweredCall
-calls_in pass = pass.calls.listed.value
+calls_in pass = pass.calls.listed
 
 -- how a conversation is counted whose pass this is
 abbrev pub count_of : Pass → Count

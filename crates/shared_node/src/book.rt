@@ -32,7 +32,7 @@ impl<D: Disk> Model for Book<D> {
 
     ghost coded = { Prim.hlevel (codes, coded_predicate) };
 
-    ghost view = { λ b. record { core = b.core; opening = b.opening.value; calls = b.calls.listed.value; places = b.places.items; next = b.next } };
+    ghost view = { λ b. record { core = b.core; opening = b.opening.value; calls = b.calls.listed; places = b.places.items; next = b.next } };
 
-    ghost invariant = { λ b. IsKept D.is_modelled D.life (record { core = b.core; opening = b.opening.value; calls = b.calls.listed.value; places = b.places.items; next = b.next }) };
+    ghost invariant = { λ b. IsKept D.is_modelled D.life (record { core = b.core; opening = b.opening.value; calls = b.calls.listed; places = b.places.items; next = b.next }) };
 }

@@ -1,6 +1,7 @@
 //! The calls that were asked, which clauses alone read.
 
 ghost use Rattle.std.specs.Prelude.{◌≡◌, List, [], ◌∷◌, ◌++◌, if◌then◌else◌};
+ghost use Rattle.std.specs.Borrow.{ftrue};
 ghost use Rattle.std.specs.Coded.{codes};
 ghost use Rattle.core_calls.specs.Answer.{answer_of};
 ghost use Rattle.core_calls.specs.Call.{call_of};
@@ -9,47 +10,40 @@ ghost use Rattle.serializability.specs.Answered.{AnsweredCall};
 ghost use Rattle.shared_node.specs.Stored.{coded_predicate};
 
 use core_calls::{Answer, CoreCall};
-use drda_words::GhostValue;
-use std::marker::Model;
-
-/// Calls with what they were answered, as clauses see them.
-#[derive(Drop)]
-pub struct AnsweredCalls {}
-
-impl Model for AnsweredCalls {
-    ghost Value = { List AnsweredCall };
-
-    ghost coded = { Prim.hlevel (codes, coded_predicate) };
-
-    ghost view = { λ _. [] };
-}
+use std::marker::{Model, PhantomData, Send};
 
 /// The calls that were asked so far with what they were answered, in their order. It takes no memory.
 #[derive(Drop)]
 pub struct CallList {
-    pub listed: GhostValue<AnsweredCalls>,
+    marker: PhantomData<u8>,
+    pub ghost listed: { List AnsweredCall } by { Prim.hlevel (codes, coded_predicate) },
+}
+
+impl Model for CallList {
+    ghost also_owns = { λ _. ftrue };
 }
 
 impl CallList {
     /// No calls.
     pub fn none() -> CallList
-        ensures { result.listed.value ≡ [] }
+        ensures { result.listed ≡ [] }
     {
         CallList {
-            listed: GhostValue::of(&()),
+            marker: PhantomData,
         }
     }
 
     /// One call more.
     pub fn note(
         &mut self,
-        conversation: u64,
-        call: &CoreCall<'_, '_>,
-        answer: &Answer,
-        is_taken: bool,
+        _conversation: u64,
+        _call: &CoreCall<'_, '_>,
+        _answer: &Answer,
+        _is_taken: bool,
     )
-        ensures { self.new.listed.value ≡ self.old.listed.value ++ record { conversation = conversation; call = call_of call.now; mark = if is_taken then Taken else Kept; answer = answer_of answer.now } ∷ [] }
-    {
-        self.listed.set(&(conversation, call, answer, is_taken));
-    }
+        ensures { self.new.listed ≡ self.old.listed ++ record { conversation = _conversation; call = call_of _call.now; mark = if _is_taken then Taken else Kept; answer = answer_of _answer.now } ∷ [] }
+    {}
 }
+
+// It holds nothing, so it may go to another thread.
+unsafe impl Send for CallList {}

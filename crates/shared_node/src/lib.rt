@@ -20,7 +20,7 @@ mod turn;
 
 pub use acted::Acted;
 pub use book::Book;
-pub use calls::{AnsweredCalls, CallList};
+pub use calls::CallList;
 pub use count::Count;
 pub use desk::Desk;
 pub use gate::{Gate, OpenGate};

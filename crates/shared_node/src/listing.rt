@@ -23,13 +23,13 @@ pub(crate) fn list(
 )
     requires here { slice_get places.old.items pass.old.place ≡ Some (Some (count_of pass.old)) }
     requires small { pass.old.count + 1 < 2 ^ 64 }
-    ensures calls { calls.new.listed.value ≡ calls.old.listed.value ++ record { conversation = pass.old.conversation; call = call_of call.now; mark = if is_taken then Taken else Kept; answer = answer_of answer.now } ∷ [] }
+    ensures calls { calls.new.listed ≡ calls.old.listed ++ record { conversation = pass.old.conversation; call = call_of call.now; mark = if is_taken then Taken else Kept; answer = answer_of answer.now } ∷ [] }
     ensures shown { calls_in pass.new ≡ calls_in pass.old ++ record { conversation = pass.old.conversation; call = call_of call.now; mark = if is_taken then Taken else Kept; answer = answer_of answer.now } ∷ [] }
     ensures places { places.new.items ≡ slice_set places.old.items pass.old.place (Some (count_of pass.new)) }
     ensures count { pass.new.count ≡ pass.old.count + 1 }
     ensures conversation { pass.new.conversation ≡ pass.old.conversation }
     ensures place { pass.new.place ≡ pass.old.place }
-    ensures counted { (next : _) → AreCounted calls.old.listed.value places.old.items next → AreCounted calls.new.listed.value places.new.items next }
+    ensures counted { (next : _) → AreCounted calls.old.listed places.old.items next → AreCounted calls.new.listed places.new.items next }
 {
     calls.note(pass.conversation, call, answer, is_taken);
     pass.calls.note(pass.conversation, call, answer, is_taken);

@@ -12,4 +12,4 @@ returns-clause-counted c next counted =
     let places = c.args.places.now.items in
     let now : Count = record { conversation = pass.conversation; calls = pass.count + 1 } in
     subst (λ (ls : List AnsweredCall). AreCounted ls (slice_set places pass.place (Some now)) next) (sym c.note.ensures)
-    (one_more c.args.calls.now.listed.value places next counted pass.place (count_of pass) now _ c.requires.here refl refl refl)
+    (one_more c.args.calls.now.listed places next counted pass.place (count_of pass) now _ c.requires.here refl refl refl)
