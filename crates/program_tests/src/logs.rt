@@ -8,7 +8,7 @@ use std::net::SocketAddr;
 use std::sync::{Mutex, Wait};
 
 /// A log that keeps its lines, in which each time is 0. What is told of a time alone is left out: whether it comes
-/// depends on the machine.
+/// depends on the machine. So does which of two conversations tells first, so that the lines of the second stand last.
 #[derive(Drop)]
 pub struct Kept<'r, T> {
     rt: &'r T,
@@ -24,10 +24,24 @@ impl<'r, T: Wait> Kept<'r, T> {
         }
     }
 
-    /// The lines.
-    pub fn into_lines(self) -> String {
-        self.lines.into_inner()
+    /// The lines, those of the second conversation behind the others.
+    pub fn into_lines(self, alloc: Global) -> Option<String> {
+        let told = self.lines.into_inner();
+        let mut lines = String::new(alloc);
+        push_lines(&mut lines, &told, false)?;
+        push_lines(&mut lines, &told, true)?;
+        Some(lines)
     }
+}
+
+// Appends the lines of the second conversation, or the others.
+fn push_lines(lines: &mut String, told: &str, of_second: bool) -> Option<()> {
+    for line in told.lines() {
+        if line.starts_with("drdad: conversation 2") == of_second {
+            writeln!(lines, "{line}").ok()?;
+        }
+    }
+    Some(())
 }
 
 impl<T: Wait> Log for Kept<'_, T> {

@@ -5,42 +5,59 @@ use std::io::{self, ErrorKind, Read, Write};
 use std::net::{Ipv4Addr, SocketAddr, SocketAddrV4};
 
 /// Who calls. `Silent` has nothing to say, `Broken` can't be read, `Deaf` says bytes and can't be written
-/// to, `Alone` has no second handle, and `Talking` says bytes and hears all.
+/// to, `Alone` has no second handle, `Slow` can't be hurried, and `Talking` says bytes and hears all.
 #[derive(Clone, Copy, Debug, Drop, PartialEq, Eq)]
 pub enum Caller {
     Silent,
     Broken,
     Deaf,
     Alone,
+    Slow,
     Talking,
 }
 
 /// What becomes of who calls: the ports are taken, each is such a caller, the same once letting one in has failed so
-/// often, or none is let in.
+/// often, the first is such a caller and the others are such ones, or none is let in.
 #[derive(Clone, Copy, Drop)]
 pub enum Way {
     Taken,
     LetsIn(Caller),
     LetsInBehind(u64, Caller),
+    LetsInThen(Caller, Caller),
     Shut,
 }
 
 /// A network with one listener, of this machine alone, asked for the port 0 or 4711 and found at 4711. Each
-/// caller says the same.
+/// caller says the same, and has a second handle only once it was asked to hurry.
 #[derive(Drop)]
 pub struct Callers<'a> {
     pub way: Way,
     pub said: &'a [u8],
-    /// How often letting one in has failed.
+    /// How often letting one in has failed, and how many have come.
     pub failures: u64,
+    pub came: u64,
     /// To how many seconds the reads of the last one were limited, 0 where they were not.
     pub limit: u32,
+    /// The last one that came was asked to hurry.
+    pub is_hurried: bool,
 }
 
 #[derive(Drop)]
 pub struct Door {
-    caller: Option<Caller>,
+    first: Option<Caller>,
+    others: Option<Caller>,
     failures: u64,
+}
+
+impl Door {
+    // One behind which each is such a caller.
+    fn of(caller: Option<Caller>, failures: u64) -> Door {
+        Door {
+            first: caller,
+            others: caller,
+            failures,
+        }
+    }
 }
 
 #[derive(Drop)]
@@ -71,18 +88,14 @@ impl<'a> Network for Callers<'a> {
         }
         match self.way {
             Way::Taken => refused(),
-            Way::LetsIn(caller) => Ok(Door {
-                caller: Some(caller),
+            Way::LetsIn(caller) => Ok(Door::of(Some(caller), 0)),
+            Way::LetsInBehind(failures, caller) => Ok(Door::of(Some(caller), failures)),
+            Way::LetsInThen(first, others) => Ok(Door {
+                first: Some(first),
+                others: Some(others),
                 failures: 0,
             }),
-            Way::LetsInBehind(failures, caller) => Ok(Door {
-                caller: Some(caller),
-                failures,
-            }),
-            Way::Shut => Ok(Door {
-                caller: None,
-                failures: 0,
-            }),
+            Way::Shut => Ok(Door::of(None, 0)),
         }
     }
 
@@ -95,7 +108,14 @@ impl<'a> Network for Callers<'a> {
             self.failures += 1;
             return refused();
         }
-        match listener.caller {
+        self.is_hurried = false;
+        let caller = if self.came == 0 {
+            listener.first
+        } else {
+            listener.others
+        };
+        self.came = self.came.saturating_add(1);
+        match caller {
             Some(caller) => Ok(Call {
                 caller,
                 said: self.said,
@@ -116,8 +136,16 @@ impl<'a> Network for Callers<'a> {
         Ok(())
     }
 
+    fn hurry(&mut self, stream: &Call<'a>) -> io::Result<()> {
+        self.is_hurried = true;
+        if stream.caller == Caller::Slow {
+            return refused();
+        }
+        Ok(())
+    }
+
     fn writer(&mut self, stream: &Call<'a>) -> io::Result<Call<'a>> {
-        if stream.caller == Caller::Alone {
+        if stream.caller == Caller::Alone || !self.is_hurried {
             return refused();
         }
         Ok(Call {

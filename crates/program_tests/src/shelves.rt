@@ -13,7 +13,7 @@ const TWO_MIB: usize = 2_097_152;
 const CREATE: &str = "000A D051 0006 0004 200A 0044 D003 0006 003E 2414 00 00000034
     435245415445205441424C45205420284B20494E5445474552204E4F54204E554C4C2C205052494D415259204B455920284B2929 FF";
 
-/// Files by their names: `store` is a fresh store SHOP, `doubt` one with a unit in doubt, `zeros` none at
+/// Files by their names: `store` is a fresh store SHOP, `doubt` one with two units in doubt, `zeros` none at
 /// all, and `damaged` one whose journal begins with a record of an unknown kind. The one that can be made
 /// is `new`. The private texts `login`, `line` and `carriage` hold a login, `lines`, `blank` and `colon` none.
 #[derive(Drop)]
@@ -97,9 +97,9 @@ fn damaged(alloc: Global) -> Option<MemDisk> {
     Some(disk)
 }
 
-// A table, and a branch of the format 1 with the global part 47 and the branch part 42 that inserts a row
-// and is prepared.
-const DOUBTFUL: [&str; 10] = [
+// A table, and two branches that insert a row each and are prepared: one of the format 1 with the global part 47 and the
+// branch part 42, and one of the format 7 with the global part 4A and no branch part.
+const DOUBTFUL: [&str; 14] = [
     EXCSAT_ALONE,
     ACCSEC,
     SECCHK_ALONE,
@@ -111,6 +111,11 @@ const DOUBTFUL: [&str; 10] = [
     494E5345525420494E544F20542056414C55455320283129 FF",
     "0029 D001 0010 0023 1055 0005 1187 0B 0012 1801 00000001 00000001 00000001 4742 0008 1903 04000000",
     "0021 D001 0010 001B 1055 0005 1187 01 0012 1801 00000001 00000001 00000001 4742",
+    "0020 D001 0010 001A 1055 0005 1187 09 0011 1801 00000007 00000001 00000000 4A",
+    "000A D051 0006 0004 200A 0028 D003 0006 0022 2414 00 00000018
+    494E5345525420494E544F20542056414C55455320283229 FF",
+    "0028 D001 0010 0022 1055 0005 1187 0B 0011 1801 00000007 00000001 00000000 4A 0008 1903 04000000",
+    "0020 D001 0010 001A 1055 0005 1187 01 0011 1801 00000007 00000001 00000000 4A",
 ];
 
 fn in_doubt(alloc: Global) -> Option<MemDisk> {

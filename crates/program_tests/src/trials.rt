@@ -4,10 +4,14 @@ use crate::logs::{Kept, notices};
 use crate::networks::{Caller, Callers, Way};
 use crate::shelves::Shelf;
 use crate::streams::{Broken, Unflushed};
-use drda_program::{Ready, Silent, run_words};
+use crate::system::{Place, over_sockets};
+use drda_program::{Ready, Silent, SystemFiles, run_words};
 use std::alloc::Global;
+use std::fs::File;
 use std::io::{Read, Write};
 use std::marker::Sync;
+use std::net::Net;
+use std::rt::Files;
 use std::sync::Wait;
 use std::thread::Threads;
 use std::time::Clock;
@@ -36,6 +40,8 @@ struct Ended {
 #[derive(Drop)]
 pub struct Trials<'r, T> {
     rt: &'r T,
+    // What the paths of files of the system begin with.
+    front: &'r str,
     alloc: Global,
     written: Vec<u8>,
 }
@@ -55,7 +61,9 @@ fn callers_of<'a>(scene: &Scene<'a>) -> Callers<'a> {
         way: scene.way,
         said: scene.input,
         failures: 0,
+        came: 0,
         limit: 0,
+        is_hurried: false,
     }
 }
 
@@ -67,7 +75,7 @@ fn end_of<T: Threads + Wait + Clock + Sync, R: Read + Ready, W: Write>(
     scene: &Scene<'_>,
     reader: &mut R,
     out: &mut W,
-) -> Ended {
+) -> Option<Ended> {
     let mut files = Shelf::new(alloc, scene.calls);
     let mut net = callers_of(scene);
     let log = Kept::new(rt, alloc);
@@ -75,13 +83,13 @@ fn end_of<T: Threads + Wait + Clock + Sync, R: Read + Ready, W: Write>(
     let status = run_words(
         rt, alloc, words, &mut files, &mut net, &log, reader, out, &mut err,
     );
-    Ended {
+    Some(Ended {
         status,
         made: files.made,
         err,
-        log: log.into_lines(),
+        log: log.into_lines(alloc)?,
         limit: net.limit,
-    }
+    })
 }
 
 // A network's way by its name.
@@ -93,18 +101,21 @@ fn way_of(name: &str) -> Option<Way> {
         "broken" => Some(Way::LetsIn(Caller::Broken)),
         "deaf" => Some(Way::LetsIn(Caller::Deaf)),
         "alone" => Some(Way::LetsIn(Caller::Alone)),
+        "slow" => Some(Way::LetsIn(Caller::Slow)),
         "talking" => Some(Way::LetsIn(Caller::Talking)),
         "late" => Some(Way::LetsInBehind(99, Caller::Talking)),
+        "broken-then" => Some(Way::LetsInThen(Caller::Broken, Caller::Talking)),
         "too-late" => Some(Way::LetsInBehind(100, Caller::Talking)),
         _ => None,
     }
 }
 
-impl<'r, T: Threads + Wait + Clock + Sync> Trials<'r, T> {
-    /// None so far.
-    pub fn new(rt: &'r T, alloc: Global) -> Trials<'r, T> {
+impl<'r, T: Threads + Wait + Clock + Files<File = File> + Net + Sync> Trials<'r, T> {
+    /// None so far. The paths of files of the system begin so.
+    pub fn new(rt: &'r T, alloc: Global, front: &'r str) -> Trials<'r, T> {
         Trials {
             rt,
+            front,
             alloc,
             written: Vec::new(alloc),
         }
@@ -118,7 +129,9 @@ impl<'r, T: Threads + Wait + Clock + Sync> Trials<'r, T> {
 
     /// Tries each line: the streams, the network, behind how many calls devices fail, the input in
     /// hexadecimal, which a caller says too, and then the program's words. With `notices` for the streams it is
-    /// written what a log may be told. None where a line is none of these, and without memory.
+    /// written what a log may be told; with `files` words behind @ are files of the system, and their first one is
+    /// looked at; with `file` the input is written into one with the rights behind its name, or it is taken away where
+    /// they are 0; with `sockets` two sockets meet. None where a line is none of these, and without memory.
     pub fn follow(&mut self, text: &str) -> Option<()> {
         for line in text.split('\n') {
             self.note(line.as_bytes())?;
@@ -161,6 +174,9 @@ impl<'r, T: Threads + Wait + Clock + Sync> Trials<'r, T> {
             "mute-err" => self.without_errors(words, &scene),
             "unflushed" => self.without_flush(words, &scene),
             "notices" => self.tell_notices(),
+            "files" => self.on_files(words, &scene),
+            "file" => self.lay_file(words, &scene),
+            "sockets" => self.over_sockets(),
             _ => self.whole(words, &scene),
         }
     }
@@ -168,19 +184,19 @@ impl<'r, T: Threads + Wait + Clock + Sync> Trials<'r, T> {
     fn whole(&mut self, words: &[&str], scene: &Scene<'_>) -> Option<()> {
         let mut reader = scene.input;
         let mut out = Vec::new(self.alloc);
-        let ended = end_of(self.rt, self.alloc, words, scene, &mut reader, &mut out);
+        let ended = end_of(self.rt, self.alloc, words, scene, &mut reader, &mut out)?;
         self.tell(&ended, &out)
     }
 
     fn without_input(&mut self, words: &[&str], scene: &Scene<'_>) -> Option<()> {
         let mut out = Vec::new(self.alloc);
-        let ended = end_of(self.rt, self.alloc, words, scene, &mut Broken, &mut out);
+        let ended = end_of(self.rt, self.alloc, words, scene, &mut Broken, &mut out)?;
         self.tell(&ended, &out)
     }
 
     fn without_output(&mut self, words: &[&str], scene: &Scene<'_>) -> Option<()> {
         let mut reader = scene.input;
-        let ended = end_of(self.rt, self.alloc, words, scene, &mut reader, &mut Broken);
+        let ended = end_of(self.rt, self.alloc, words, scene, &mut reader, &mut Broken)?;
         self.tell(&ended, &[])
     }
 
@@ -189,7 +205,7 @@ impl<'r, T: Threads + Wait + Clock + Sync> Trials<'r, T> {
         let mut out = Unflushed {
             taken: Vec::new(self.alloc),
         };
-        let ended = end_of(self.rt, self.alloc, words, scene, &mut reader, &mut out);
+        let ended = end_of(self.rt, self.alloc, words, scene, &mut reader, &mut out)?;
         self.tell(&ended, &out.taken)
     }
 
@@ -218,6 +234,63 @@ impl<'r, T: Threads + Wait + Clock + Sync> Trials<'r, T> {
             limit: net.limit,
         };
         self.tell(&ended, &out)
+    }
+
+    fn place(&self) -> Place<'r, T> {
+        Place {
+            rt: self.rt,
+            alloc: self.alloc,
+            front: self.front,
+        }
+    }
+
+    // Over files of the system. What is said on standard error has their paths, and is left out.
+    fn on_files(&mut self, words: &[&str], scene: &Scene<'_>) -> Option<()> {
+        let place = self.place();
+        let named = place.words(words)?;
+        let mut files = SystemFiles::new(self.alloc, self.rt);
+        let mut net = callers_of(scene);
+        let mut reader = scene.input;
+        let mut out = Vec::new(self.alloc);
+        let mut err = Vec::new(self.alloc);
+        let status = run_words(
+            self.rt,
+            self.alloc,
+            named.as_slice(),
+            &mut files,
+            &mut net,
+            &Silent,
+            &mut reader,
+            &mut out,
+            &mut err,
+        );
+        let ended = Ended {
+            status,
+            made: usize::try_from(place.length(words)?).ok()?,
+            err: Vec::new(self.alloc),
+            log: String::new(self.alloc),
+            limit: net.limit,
+        };
+        self.tell(&ended, &out)
+    }
+
+    fn lay_file(&mut self, words: &[&str], scene: &Scene<'_>) -> Option<()> {
+        match words {
+            [name, rights] => self
+                .place()
+                .lay(name, rights.parse::<u32>().ok()?, scene.input),
+            _ => None,
+        }
+    }
+
+    fn over_sockets(&mut self) -> Option<()> {
+        let known = over_sockets(self.rt).ok()?;
+        let (local, peer, hurried) = (known.is_local, known.is_peer, known.is_hurried);
+        let (limited, heard) = (known.is_limited, known.is_heard);
+        let text = format!(in self.alloc;
+            "local {local}, peer {peer}, hurried {hurried}, limited {limited}, heard {heard}"
+        );
+        self.note(text.ok()?.as_bytes())
     }
 
     fn tell(&mut self, ended: &Ended, out: &[u8]) -> Option<()> {
