@@ -145,6 +145,12 @@ impl Asked {
         match verb {
             "insert" => tell_inserted(alloc, schema, rest, out),
             "claims" => tell_task(alloc, &Task::Claims { schema }, rest, out),
+            "fixes" => tell_task(alloc, &Task::Fixed { schema }, rest, out),
+            "selects" => tell_task(alloc, &Task::Selected { schema }, rest, out),
+            "counts" => {
+                let rows = list_of(alloc, schema, &self.rows)?;
+                tell_task(alloc, &Task::Counted { rows: &rows }, rest, out)
+            }
             "place" => tell_place(alloc, schema, rest, out),
             "row" => self.rows.push(row_of(alloc, schema, rest)?).ok(),
             "update" => tell_updated(alloc, &list_of(alloc, schema, &self.rows)?, rest, out),

@@ -1,12 +1,14 @@
 //! What statements make: their changes, or the fault that they are refused with.
 
+use crate::found::{tell_counted, tell_fixed, tell_places};
 use crate::told::{tell_made, tell_value};
 use core_calls::{SqlFault, StatementError};
 use row_values::{Schema, Value};
 use sql_changes::{Targets, create, delete, given_key, insert, updates};
 use sql_predicates::{Constant, table_name};
 use sql_text::{
-    Assignment, Columns, Command, Definition, KeyColumn, Literal, SqlError, Statement, parse,
+    Assignment, Columns, Command, Definition, KeyColumn, Literal, Predicate, SqlError, Statement,
+    parse,
 };
 use std::alloc::Global;
 use tables::{Change, RowList};
@@ -39,6 +41,18 @@ pub enum Task<'a> {
     Update {
         rows: &'a RowList,
         left: usize,
+    },
+    /// Which of these rows the WHERE of a DELETE matches.
+    Counted {
+        rows: &'a RowList,
+    },
+    /// The key that the WHERE of a DELETE fixes.
+    Fixed {
+        schema: &'a Schema,
+    },
+    /// The columns that a SELECT asks for.
+    Selected {
+        schema: &'a Schema,
     },
 }
 
@@ -143,6 +157,32 @@ fn tell_update(
     tell_made(alloc, &made, out)
 }
 
+fn tell_filter(
+    alloc: Global,
+    filter: Option<&Predicate<'_>>,
+    params: &[Value<'_>],
+    task: &Task<'_>,
+    out: &mut Vec<u8>,
+) -> Option<()> {
+    match task {
+        Task::Counted { rows } => tell_counted(alloc, filter, params, rows, out),
+        Task::Fixed { schema } => tell_fixed(alloc, filter, params, schema, out),
+        _ => None,
+    }
+}
+
+fn tell_columns(
+    alloc: Global,
+    columns: &Columns<'_>,
+    task: &Task<'_>,
+    out: &mut Vec<u8>,
+) -> Option<()> {
+    match task {
+        Task::Selected { schema } => tell_places(alloc, columns, schema, out),
+        _ => None,
+    }
+}
+
 fn tell_command(
     alloc: Global,
     command: &Command<'_>,
@@ -170,7 +210,8 @@ fn tell_command(
         Command::Update { assignments, .. } => {
             tell_update(alloc, assignments.as_slice(), params, task, out)
         }
-        _ => None,
+        Command::Delete { filter, .. } => tell_filter(alloc, filter.as_ref(), params, task, out),
+        Command::Select { columns, .. } => tell_columns(alloc, columns, task, out),
     }
 }
 

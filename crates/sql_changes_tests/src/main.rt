@@ -1,8 +1,9 @@
-//! Tests of sql_changes, and of what sql_predicates makes of literals and names. Each line of standard input is a statement over a schema
-//! and rows; its changes, or why it is refused, go to standard output, which is compared.
+//! Tests of sql_changes and sql_predicates. Each line of standard input is a statement over a schema and rows; its changes, which rows it
+//! matches, or why it is refused, go to standard output, which is compared.
 #![tactic(auto)]
 
 mod asked;
+mod found;
 mod made;
 mod told;
 

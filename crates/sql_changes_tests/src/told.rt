@@ -36,7 +36,8 @@ fn tell_change(alloc: Global, change: &Change, out: &mut Vec<u8>) -> Option<()> 
     }
 }
 
-fn tell_fault(alloc: Global, fault: &SqlFault, out: &mut Vec<u8>) -> Option<()> {
+/// Why something is refused.
+pub fn tell_fault(alloc: Global, fault: &SqlFault, out: &mut Vec<u8>) -> Option<()> {
     let code = fault.code();
     let state = str::from_utf8(fault.state()).ok()?;
     say(out, &format!(in alloc; "refused {code} {state}").ok()?)
