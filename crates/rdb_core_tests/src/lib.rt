@@ -2,11 +2,7 @@
 #![tactic(auto)]
 
 #[cfg(test)]
-mod answers;
-#[cfg(test)]
 mod doubts;
-#[cfg(test)]
-mod ends;
 #[cfg(test)]
 mod fixtures;
 #[cfg(test)]
