@@ -2,7 +2,9 @@
 
 use core_calls::Answer;
 use rdb_core::Core;
-use unit_records::NoRecords;
+use sql_text::{SqlError, Statement, parse};
+use std::alloc::Global;
+use unit_records::{NoRecords, Recorder};
 use xa_calls::{BadXid, Request, Verb, Xid};
 
 // The XID of format 7 whose global part is the number, without a branch part.
@@ -16,4 +18,16 @@ pub fn ask(core: &mut Core<NoRecords>, conversation: u64, verb: Verb, xid: Xid) 
         Answer::Xa(code) => Some(code.number()),
         _ => None,
     }
+}
+
+fn parsed<'a>(alloc: Global, text: &'a str) -> Result<Statement<'a>, SqlError> {
+    parse(alloc, text)
+}
+
+// What conversation 1 is answered that runs this. It alone holds a statement, since a function that does so is dear to prove.
+pub fn run<R: Recorder>(alloc: Global, core: &mut Core<R>, text: &str) -> Option<Answer> {
+    let statement = parsed(alloc, text).ok()?;
+    let answer = core.run(1, &statement, &[]);
+    drop(statement);
+    Some(answer)
 }
