@@ -11,8 +11,10 @@ mod opening;
 mod preparing;
 mod reading;
 mod restoring;
+mod together;
 
 pub use checkpointing::Checkpointed;
 pub use durable::DurableCore;
 pub use errors::{OpenError, Refused};
 pub use opening::open;
+pub use together::Together;

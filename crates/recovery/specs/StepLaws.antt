@@ -1,5 +1,5 @@
 -- Steps of the core, and what is durable of it.
-use Rattle.std.specs.Prelude.{◌≡◌, ◌≤◌, ℕ, Some, None}
+use Rattle.std.specs.Prelude.{◌≡◌, ◌≤◌, ℕ, List, true, Some, None}
 use Rattle.core_calls.specs.Call.{Call}
 use Rattle.core_model.specs.Step.{CoreState, step_state}
 use Rattle.unit_records.specs.Records.{UnitRecord}
@@ -8,6 +8,7 @@ use Rattle.recovery.specs.Durable.{Durable, next}
 use Rattle.recovery.specs.Laws.{held_for}
 use Rattle.recovery.specs.Sound.{IsSound}
 use Rattle.unit_records.specs.Due.{record_due}
+use Rattle.unit_records.specs.Together.{all_committed, are_apart, are_local, due_together}
 use Rattle.recovery.specs.Part.{durable_part, opened}
 use Rattle.recovery.specs.Kept.{IsKept}
 
@@ -34,3 +35,24 @@ pub record IsOpened (d : Durable) : Type 0 where
 
 abbrev pub OpeningsAreKept : Type 0
 OpeningsAreKept = (d : Durable) → IsSound d → IsOpened d
+
+-- ---- conversations that commit together
+
+-- conversations of which none is named twice, and none works in a global unit
+pub record MayGoTogether (s : CoreState) (conversations : List ℕ) : Type 0 where
+  pub apart : are_apart conversations ≡ true
+  pub local : are_local s.branches conversations ≡ true
+
+-- their commits keep a core
+abbrev pub CommitsKeep : Type 0
+CommitsKeep = (s : CoreState) (conversations : List ℕ) → IsKept s → MayGoTogether s conversations → IsKept (all_committed conversations s)
+
+-- where no record is due of them all, nothing durable changes
+abbrev pub SilentCommitsStay : Type 0
+SilentCommitsStay = (s : CoreState) (conversations : List ℕ) → IsKept s → MayGoTogether s conversations
+    → due_together conversations s ≡ None → durable_part (all_committed conversations s) ≡ durable_part s
+
+-- their one record has its place, and leads to what is durable behind them all
+abbrev pub CommitsLead : Type 0
+CommitsLead = (s : CoreState) (conversations : List ℕ) (r : UnitRecord) → IsKept s → MayGoTogether s conversations
+    → due_together conversations s ≡ Some r → next (durable_part s) r ≡ Some (durable_part (all_committed conversations s))

@@ -1,12 +1,13 @@
 //! Laws of the definitions. The functions do nothing: their contracts are the laws.
 
-ghost use Rattle.recovery.specs.StepLaws.{DecisionsAreOfDoubts, OpeningsAreKept, RecordsLead, SilentStepsStay, StepsKeep};
+ghost use Rattle.recovery.specs.StepLaws.{CommitsKeep, CommitsLead, DecisionsAreOfDoubts, OpeningsAreKept, RecordsLead, SilentCommitsStay, SilentStepsStay, StepsKeep};
 
 use crate::laws::{doubts_hold_their_decisions, places_depend_on_tables};
 use crate::places::changes_have_places;
 use core_model::laws::units_in_doubt_wait;
 use tables::laws::changes_are_local;
 use unit_locks::adding;
+use unit_records::laws::commits_go_together;
 use xa_manager::{actions_fit_states, works_while_active};
 
 /// What is durable of a core is what its records lead to: each step of a kept core makes one record due at
@@ -32,3 +33,14 @@ pub fn steps_are_recorded()
 pub fn openings_are_kept()
     ensures { OpeningsAreKept }
 {}
+
+/// Conversations that commit together have one record, which has its place among those before and leads to
+/// what is durable behind them all; without changes there is none, and nothing durable changes.
+pub fn commits_are_recorded()
+    ensures keep { CommitsKeep }
+    ensures silent { SilentCommitsStay }
+    ensures lead { CommitsLead }
+{
+    commits_go_together();
+    steps_are_recorded();
+}

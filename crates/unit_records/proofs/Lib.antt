@@ -2,3 +2,4 @@ pub mod Listing
 pub mod Parts
 pub mod Bodies
 pub mod Lengths
+pub mod Gathering

@@ -5,3 +5,4 @@ pub mod Laws
 pub mod Read
 pub mod RecordContents
 pub mod Due
+pub mod Together

@@ -2,6 +2,7 @@
 
 ghost use Rattle.unit_records.specs.Laws.{OneReading, PartsStandOnce, WrittenIsRead};
 ghost use Rattle.unit_records.specs.Room.{DecisionsAreShort, DecisionsFit, DecisionsNeedNoRoom};
+ghost use Rattle.unit_records.specs.Together.{CommitsGoTogether};
 
 use tables::laws::changes_have_their_bytes;
 
@@ -28,3 +29,8 @@ pub(crate) fn parts_stand_once()
     unit_locks::one_reading();
     xa_calls::one_reading();
 }
+
+/// Conversations that commit one after another make the changes of all of their local units.
+pub fn commits_go_together()
+    ensures { CommitsGoTogether }
+{}
