@@ -1,8 +1,9 @@
 // A plain server with a thread for each conversation: for each so many bytes that come it sends so many back, by one read and one
 // write where they come at once. In front of each write it takes the one lock that all conversations share, and gives it back; with
-// a file it writes a record under the lock as a journal does: write, sync, write of a byte, sync.
+// a file it writes a record under the lock as a journal does: write, sync, write of a byte, sync. In groups the lock is held for the
+// waiting alone: one conversation writes the records of all that wait, with the same four calls, while the next ones gather.
 // Arguments: how many bytes come, how many are sent back, how many conversations there will be, and, where a record is written,
-// the file's path, its bytes and those of a record. Prints `listening` and its port.
+// the file's path, its bytes and those of a record, and `groups` where they are written in groups. Prints `listening` and its port.
 #define _GNU_SOURCE
 #include <arpa/inet.h>
 #include <fcntl.h>
@@ -16,20 +17,49 @@
 enum { ROOM = 65536, MOST = 1024 };
 
 static pthread_mutex_t lock = PTHREAD_MUTEX_INITIALIZER;
+static pthread_cond_t written = PTHREAD_COND_INITIALIZER;
 static long come, sent, size, record;
-static int file = -1;
+static int file = -1, in_groups, leads;
+static long waiting, gathered, done;
 static off_t next;
 static char out[ROOM];
 
+// The records of so many conversations are written; 0 where a call of the device fails.
+static int write_records(long count) {
+    static char bytes[ROOM];
+    long length = count * record;
+    if (next + length + 1 > size) next = 0;
+    if (pwrite(file, bytes, length, next + 1) != length || fdatasync(file)) return 0;
+    if (pwrite(file, "\xA5", 1, next) != 1 || fdatasync(file)) return 0;
+    next += length;
+    return 1;
+}
+
+// One conversation's record is written with those of all that wait; the lock is held, but not while the device is waited for.
+static int write_in_group(void) {
+    long mine = gathered;
+    waiting++;
+    while (done <= mine) {
+        if (leads) {
+            pthread_cond_wait(&written, &lock);
+            continue;
+        }
+        long count = waiting, group = gathered++;
+        leads = 1, waiting = 0;
+        pthread_mutex_unlock(&lock);
+        int is_written = write_records(count);
+        pthread_mutex_lock(&lock);
+        if (!is_written) return 0;
+        leads = 0, done = group + 1;
+        pthread_cond_broadcast(&written);
+    }
+    return 1;
+}
+
 // What is done under the lock; 0 where a call of the device fails.
 static int work(void) {
-    static char bytes[ROOM];
     if (file < 0) return 1;
-    if (next + record + 1 > size) next = 0;
-    if (pwrite(file, bytes, record, next + 1) != record || fdatasync(file)) return 0;
-    if (pwrite(file, "\xA5", 1, next) != 1 || fdatasync(file)) return 0;
-    next += record;
-    return 1;
+    return in_groups ? write_in_group() : write_records(1);
 }
 
 static void *converse(void *given) {
@@ -71,7 +101,8 @@ int main(int argc, char **argv) {
     come = atol(argv[1]), sent = atol(argv[2]);
     long count = atol(argv[3]);
     if (argc > 6) size = atol(argv[5]), record = atol(argv[6]), make_file(argv[4]);
-    if (come < 1 || sent > ROOM || record >= ROOM || count > MOST) return 2;
+    in_groups = argc > 7 && !strcmp(argv[7], "groups");
+    if (come < 1 || sent > ROOM || record * (in_groups ? count : 1) >= ROOM || count > MOST) return 2;
     int listener = listening(), one = 1;
     for (long at = 0; at < count; at++) {
         int fd = accept(listener, 0, 0);
