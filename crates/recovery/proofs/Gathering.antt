@@ -7,7 +7,6 @@ use Rattle.row_values.proofs.ValueLaws.{both_true, first_true, second_true}
 use Rattle.tables.specs.Change.{Change}
 use Rattle.tables.specs.Tables.{Store}
 use Rattle.unit_locks.proofs.Tests.{left_false, right_false}
-use Rattle.unit_changes.proofs.Storing.{all_then}
 use Rattle.xa_manager.specs.Branch.{joined_xid}
 use Rattle.xa_manager.proofs.Rising.{rises}
 use Rattle.core_calls.specs.Call.{commit}
@@ -24,6 +23,7 @@ use Rattle.recovery.specs.StepLaws.{CommitsKeep, CommitsLead, SilentCommitsStay,
 use Rattle.recovery.proofs.DueRecords.{made, placed, some}
 use Rattle.recovery.proofs.Holding.{not_true}
 use Rattle.recovery.proofs.Keeping.{places_go_on}
+use Rattle.recovery.proofs.Placing.{all_then}
 use Rattle.recovery.proofs.Silent.{none_made, out_agree, same_part}
 
 -- numbers that differ, the other way round
