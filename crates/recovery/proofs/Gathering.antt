@@ -1,22 +1,21 @@
 -- Conversations that commit together: their one record has its place, and leads to what is durable behind them all.
 use Rattle.std.proofs.Common.{◌≡◌, ◌==◌, ℕ, true, false, not, List, [], ◌∷◌, ◌++◌, Option, Some, None, refl, sym, ◌∙◌, ap, subst}
-use Rattle.std.specs.Prelude.{◌&&◌, is_some}
+use Rattle.std.specs.Prelude.{is_some}
 use Rattle.std.specs.List.{list_any}
 use Rattle.std.proofs.lemmas.Bool.{eqb-false, ne_eqb}
 use Rattle.row_values.proofs.ValueLaws.{both_true, first_true, second_true}
 use Rattle.tables.specs.Change.{Change}
-use Rattle.tables.specs.Tables.{Store}
 use Rattle.unit_locks.proofs.Tests.{left_false, right_false}
 use Rattle.xa_manager.specs.Branch.{joined_xid}
 use Rattle.xa_manager.proofs.Rising.{rises}
 use Rattle.core_calls.specs.Call.{commit}
-use Rattle.core_model.specs.Units.{Held, Work, apply_all, local, unit_of, view, without}
+use Rattle.core_model.specs.Units.{Held, Work, apply_all, local, unit_of, without}
 use Rattle.core_model.specs.Events.{Commit, bare, bare_run}
 use Rattle.core_model.specs.Step.{CoreState, step_state, unless_joined}
 use Rattle.core_model.proofs.Owners.{unit_of_without}
-use Rattle.unit_records.specs.Records.{UnitRecord, committed}
+use Rattle.unit_records.specs.Records.{UnitRecord}
 use Rattle.unit_records.specs.Together.{all_changes, all_committed, are_apart, are_local}
-use Rattle.recovery.specs.Durable.{Durable, have_places, next}
+use Rattle.recovery.specs.Durable.{have_places, next}
 use Rattle.recovery.specs.Kept.{IsKept}
 use Rattle.recovery.specs.Part.{doubts_in, durable_part}
 use Rattle.recovery.specs.StepLaws.{CommitsKeep, CommitsLead, SilentCommitsStay, StepsKeep}
