@@ -1,6 +1,6 @@
 -- What conversations that commit together make of a core and of who records: it stays recorded, and what is told of them
 -- is one of `CommitTogether`.
-use Rattle.std.proofs.Common.{◌≡◌, inl, inr, ℕ, ◌≤◌, ◌++◌, Bool, true, false, List, [], ◌∷◌, Option, Some, None, Result, Ok, Err, refl, sym, ◌∙◌, ap, subst, append-nil, arith}
+use Rattle.std.proofs.Common.{◌≡◌, inl, inr, ℕ, ◌≤◌, ◌++◌, Bool, true, false, List, [], ◌∷◌, Option, Some, None, Result, Ok, Err, IfErr, OnErr, OnOk, refl, sym, ◌∙◌, ap, subst, append-nil, arith}
 use Rattle.std.specs.Prelude.{unwrap_or}
 use Rattle.drda_disk.specs.Disk.{Life}
 use Rattle.tables.specs.Change.{Change}
@@ -49,6 +49,10 @@ abbrev told_of : RecordError → Together
 told_of error.NoMemory = Alone
 told_of (error.Full need room) = Alone
 told_of error.DeviceFailed = DeviceFailed
+
+abbrev told_by : {X : Type 0} → Result X RecordError → Together
+told_by (Ok x) = Done
+told_by (Err fault) = told_of fault
 
 module _ {D : Type 0} (modelled : Bool) (life : D → Life) (name : List ℕ) (s : CoreState) (r : DiskRecorder D) (conversations : List ℕ) where
   -- what became of them
@@ -145,11 +149,16 @@ module _ {D : Type 0} (modelled : Bool) (life : D → Life) (name : List ℕ) (s
 
       -- ---- each answer of the core
 
-      pub done : (new : CoreState) (after : DiskRecorder D) → new ≡ all_committed conversations s → told.IsRecorded (Records modelled life) (due_together conversations s) r after → IsTold Done new after
+      done : (new : CoreState) (after : DiskRecorder D) → new ≡ all_committed conversations s → told.IsRecorded (Records modelled life) (due_together conversations s) r after → IsTold Done new after
       done new after is_new made = subst (λ (n : CoreState). IsTold Done n after) (sym is_new) (recorded_by (due_together conversations s) refl after made)
 
-      pub refused : (fault : RecordError) (new : CoreState) (after : DiskRecorder D) → new ≡ s → told.Refuses (Fails modelled life) (due_together conversations s) fault r after → IsTold (told_of fault) new after
+      refused : (fault : RecordError) (new : CoreState) (after : DiskRecorder D) → new ≡ s → told.Refuses (Fails modelled life) (due_together conversations s) fault r after → IsTold (told_of fault) new after
       refused fault new after same (inl out) =
           subst (λ (n : CoreState). IsTold (told_of fault) n after) (sym same)
           (subst (λ (f : RecordError). IsTold (told_of f) s after) (sym out.fault_is) (subst (λ (x : DiskRecorder D). IsTold Alone s x) (sym out.recorder) alone))
       refused fault new after same (inr made) = subst (λ (n : CoreState). IsTold (told_of fault) n after) (sym same) (refused_by made.record_is made.due_is fault after made.failed)
+
+      pub any_told : {X : Type 0} (result : Result X RecordError) (new : CoreState) (after : DiskRecorder D) → OnOk result (new ≡ all_committed conversations s) → OnOk result (told.IsRecorded (Records modelled life) (due_together conversations s) r after)
+          → OnErr result (new ≡ s) → IfErr result (λ fault. told.Refuses (Fails modelled life) (due_together conversations s) fault r after) → IsTold (told_by result) new after
+      any_told (Ok x) new after is_new made same out = done new after is_new made
+      any_told (Err fault) new after is_new made same out = refused fault new after same out
