@@ -21,7 +21,7 @@ use drda_commands::{Accepted, Given, Refusal, judge};
 use drda_names::push_padded;
 use dss_frames::{Format, Group, OpenedDss, close_dss, open_dss};
 use session_commands::{Answer, AtOnce, Settings, answered_at_once, refused};
-use sqlam_replies::ReplyKind;
+use sqlam_replies::{ReplyKind, resource_limit};
 use std::alloc::{AllocError, Global};
 
 /// What became of a command.
@@ -33,11 +33,12 @@ pub(crate) enum Exchanged {
     Short([u8; 16]),
 }
 
-// RSCLMTRM of severity ERROR, as a whole DSS; it takes no memory.
+// RSCLMTRM as a whole DSS. Takes no memory.
 fn no_memory(format: Format, correlator: u16) -> [u8; 16]
     ensures { result ≡ written format.byte correlator resource_limit.text }
 {
     let [high, low] = correlator.to_be_bytes();
+    let [m1, m2, m3, m4, m5, m6, m7, m8, m9, m10] = resource_limit();
     [
         0x00,
         0x10,
@@ -45,16 +46,16 @@ fn no_memory(format: Format, correlator: u16) -> [u8; 16]
         format.byte,
         high,
         low,
-        0x00,
-        0x0A,
-        0x12,
-        0x33,
-        0x00,
-        0x06,
-        0x11,
-        0x49,
-        0x00,
-        0x08,
+        m1,
+        m2,
+        m3,
+        m4,
+        m5,
+        m6,
+        m7,
+        m8,
+        m9,
+        m10,
     ]
 }
 

@@ -5,6 +5,7 @@ use crate::state::State;
 use command_kit::{Ask, Statements};
 use dss_frames::{Format, FrameFault, Segments, write_dss};
 use session_commands::{Session, Settings, fresh_session};
+use sqlam_replies::syntax_message;
 use std::alloc::{AllocError, Global};
 use std::marker::Model;
 
@@ -178,22 +179,6 @@ fn answer_fault(fault: FrameFault, out: &mut Vec<u8>)
     requires { vec_len out.old + 21 ≤ vec_capacity out.old }
     ensures { out.new.items ≡ out.old.items ++ fault_bytes fault }
 {
-    let message = [
-        0x00,
-        0x0F,
-        0x12,
-        0x4C,
-        0x00,
-        0x06,
-        0x11,
-        0x49,
-        0x00,
-        0x08,
-        0x00,
-        0x05,
-        0x11,
-        0x4A,
-        fault.code.synerrcd(),
-    ];
+    let message = syntax_message(fault.code.synerrcd());
     let _ = write_dss(out, Format { byte: 0x02 }, fault.correlator, &message);
 }

@@ -35,7 +35,7 @@ use Rattle.journal_recorder.specs.Recording.{disk_of, has_failed, journal_of, ma
 use Rattle.journal_recorder.specs.declared.recorder.DiskRecorder.{DiskRecorder}
 use Rattle.durable_core.specs.Recorded.{IsOnDisk, IsRecorded, core_on}
 use Rattle.durable_core.proofs.Heads.{ends_in}
-use Rattle.durable_core.proofs.Stepping.{durable_from}
+use Rattle.durable_core.proofs.Recording.{durable_from}
 
 -- ---- images
 

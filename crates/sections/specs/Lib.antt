@@ -2,7 +2,6 @@ pub mod Kept
 pub mod Cursors
 pub mod Blocks
 pub mod Units
-pub mod ByName
 pub mod Fetching
 pub mod Laws
 pub mod Room

@@ -7,6 +7,7 @@ mod cursor;
 mod fault;
 mod laws;
 mod lengths;
+mod name;
 mod named;
 mod section;
 mod sections;
@@ -22,5 +23,7 @@ pub use sections::Sections;
 // A crate can name the sections in a contract only if the types of their fields are exported.
 #[doc(hidden)]
 pub use cursor::Cursor;
+#[doc(hidden)]
+pub use name::Name;
 #[doc(hidden)]
 pub use section::{Preparation, Section};

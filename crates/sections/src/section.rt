@@ -6,6 +6,7 @@ ghost use Rattle.std.specs.String.{string_bytes};
 ghost use Rattle.sections.specs.Units.{section_ended};
 
 use crate::cursor::Cursor;
+use crate::name::Name;
 use std::alloc::{AllocError, Global};
 use std::marker::Model;
 use tables::RowList;
@@ -94,7 +95,7 @@ impl Section {
 /// A statement with the name of the section in which it is to be prepared.
 #[derive(Drop)]
 pub struct Preparation {
-    name: Vec<u8>,
+    name: Name,
     text: String,
     is_held: bool,
 }
@@ -105,7 +106,7 @@ impl Model for Preparation {
 
     ghost Value = { Preparation };
 
-    ghost view = { λ p. record { name = p.name.items; text = string_bytes p.text; is_held = p.is_held } };
+    ghost view = { λ p. record { name = p.name; text = string_bytes p.text; is_held = p.is_held } };
 }
 
 impl Preparation {
@@ -118,7 +119,7 @@ impl Preparation {
         ensures { IfOk result (λ p. p ≡ record { name = name.now; text = text.now; is_held = is_held }) }
     {
         Ok(Preparation {
-            name: name.to_vec(alloc)?,
+            name: Name::new(name.to_vec(alloc)?),
             text: String::from_str(alloc, text)?,
             is_held,
         })
@@ -131,8 +132,8 @@ impl Preparation {
     }
 
     // The name, and the section that is made where none of this name is there.
-    pub(crate) fn into_section(self) -> (Vec<u8>, Section)
-        ensures name { result.0.items ≡ self.name }
+    pub(crate) fn into_section(self) -> (Name, Section)
+        ensures name { result.0 ≡ self.name }
         ensures section { result.1 ≡ record { text = self.text; is_held = self.is_held; cursor = None } }
     {
         (self.name, Section::new(self.text, self.is_held))

@@ -8,6 +8,7 @@ ghost use Rattle.sections.specs.Units.{after_unit};
 
 use crate::cursor::{Block, Cursor};
 use crate::fault::{NotPrepared, OpenFault, QueryNotOpen};
+use crate::name::Name;
 use crate::named;
 use crate::section::{Preparation, Section};
 use indexmap::IndexMap;
@@ -20,7 +21,7 @@ use tables::RowList;
 #[derive(Drop)]
 pub struct Sections {
     alloc: Global,
-    sections: IndexMap<Vec<u8>, Section>,
+    sections: IndexMap<Name, Section>,
     reserved: Option<Preparation>,
     openings: u64,
 }
@@ -28,12 +29,11 @@ pub struct Sections {
 impl Model for Sections {
     ghost use Rattle.std.specs.Prelude.{◌<◌, IsSome};
     ghost use Rattle.indexmap.specs.IndexMap.{spare};
-    ghost use Rattle.sections.specs.ByName.{by_name};
     ghost use Rattle.sections.specs.Kept.{Sections};
 
     ghost Value = { Sections };
 
-    ghost view = { λ s. record { sections = by_name s.sections.entries; reserved = s.reserved; openings = s.openings } };
+    ghost view = { λ s. record { sections = s.sections.entries; reserved = s.reserved; openings = s.openings } };
 
     // There is room for the statement that waits.
     ghost invariant = { λ s. IsSome s.reserved → 0 < spare s.sections };

@@ -2,6 +2,7 @@
 //! SQLDARD, SYNCCRD, the description of an answer and its rows, and how many rows a block takes.
 #![tactic(auto)]
 
+mod in_place;
 mod lengths;
 mod message;
 mod names;
@@ -12,6 +13,7 @@ mod sqlca;
 mod sqlda;
 mod xa_answer;
 
+pub use in_place::{resource_limit, syntax_message};
 pub use lengths::{
     MAX_MESSAGE_LENGTH, MAX_SQLDARD_LENGTH, NULL_SQLCARD_LENGTH, SQLCARD_LENGTH, texts_have_lengths,
 };

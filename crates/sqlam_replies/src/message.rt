@@ -7,6 +7,7 @@ ghost use Rattle.ddm_objects.specs.declared.code_point.TheConstants.{LMTBLKPRC, 
 ghost use Rattle.std.specs.Int.{to_be_bytes, w16, w64};
 ghost use Rattle.sqlam_replies.specs.Parameters.{parameter_of};
 
+use crate::in_place::{resource_limit, syntax_message};
 use ddm_objects::{close, code_point, open, put};
 use std::alloc::AllocError;
 
@@ -232,15 +233,7 @@ pub fn reply_message(out: &mut Vec<u8>, message: ReplyMessage<'_>) -> Result<(),
 {
     let severity = message.severity();
     match message {
-        ReplyMessage::Syntax(code) => put_message(
-            out,
-            code_point::SYNTAXRM,
-            severity,
-            &[Parameter {
-                code: code_point::SYNERRCD,
-                value: &[code],
-            }],
-        ),
+        ReplyMessage::Syntax(code) => out.extend_from_slice(&syntax_message(code)),
         ReplyMessage::OutOfTurn => put_message(out, code_point::PRCCNVRM, severity, &[]),
         ReplyMessage::CommandNotSupported(code) => put_message(
             out,
@@ -278,7 +271,7 @@ pub fn reply_message(out: &mut Vec<u8>, message: ReplyMessage<'_>) -> Result<(),
             section,
         ),
         ReplyMessage::ManagerDependency => put_message(out, code_point::MGRDEPRM, severity, &[]),
-        ReplyMessage::ResourceLimit => put_message(out, code_point::RSCLMTRM, severity, &[]),
+        ReplyMessage::ResourceLimit => out.extend_from_slice(&resource_limit()),
         ReplyMessage::AgentFailed => put_message(out, code_point::AGNPRMRM, severity, &[]),
         ReplyMessage::UnitEnded(end) => put_message(
             out,

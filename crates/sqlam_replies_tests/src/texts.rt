@@ -3,8 +3,8 @@
 use crate::fixtures::{columns, one_column, rows};
 use row_values::Kind;
 use sqlam_replies::{
-    ReplyMessage, UnitEnd, are_described, null_sqlcard, qrydsc, qrydta, reply_message, sqlcard,
-    sqldard, synccrd, synccrd_with,
+    ReplyMessage, UnitEnd, are_described, null_sqlcard, qrydsc, qrydta, reply_message,
+    resource_limit, sqlcard, sqldard, synccrd, synccrd_with, syntax_message,
 };
 use std::alloc::Global;
 use std::test::Fail;
@@ -125,6 +125,21 @@ fn messages_are_written(rt: HostRuntime) -> Result<(), Fail> {
         reply_message(&mut out, message)?;
         assert_eq!(rt; (message.severity(), out.as_slice()), (severity, text));
     }
+    Ok(())
+}
+
+#[test]
+fn messages_are_made_in_place(rt: HostRuntime) -> Result<(), Fail> {
+    let syntax = syntax_message(0x16);
+    assert_eq!(rt;
+        syntax.as_slice(),
+        b"\x00\x0F\x12\x4C\x00\x06\x11\x49\x00\x08\x00\x05\x11\x4A\x16".as_slice()
+    );
+    let limit = resource_limit();
+    assert_eq!(rt;
+        limit.as_slice(),
+        b"\x00\x0A\x12\x33\x00\x06\x11\x49\x00\x08".as_slice()
+    );
     Ok(())
 }
 

@@ -4,4 +4,4 @@ use Rattle.conversation.proofs.exchange.no_memory.Goals as goal
 
 pub returns : goal.returns
 unfolding spelled
-returns c = rw c.to_be_bytes.ensures refl
+returns c = rw c.to_be_bytes.ensures (rw c.resource_limit.ensures refl)

@@ -1,6 +1,8 @@
-use Rattle.std.proofs.Common.{◌++◌, ◌∷◌, [], ℕ, Result, Ok, Err, OnOk, IsOk, ap, ◌∙◌}
-use Rattle.ddm_objects.specs.Writing.{spelled}
-use Rattle.dss_frames.specs.Writing.{written}
+use Rattle.std.proofs.Common.{◌≡◌, ◌≤◌, ℕ, ◌+◌, List, ◌++◌, Result, Ok, Err, OnOk, IsOk, sym, ap, subst, ◌∙◌, length, arith}
+use Rattle.std.specs.Prelude.{vec_len, vec_capacity}
+use Rattle.dss_frames.specs.Writing.{written, written_length}
+use Rattle.sqlam_replies.specs.declared.message.ReplyMessage.TheVariants.{Syntax}
+use Rattle.sqlam_replies.specs.Message.{message_of, message_text}
 use Rattle.conversation.proofs.front.answer_fault.Goals as goal
 
 it_is : {A E : Type 0} (P : Type 0) (r : Result A E) → IsOk r → OnOk r P → P
@@ -8,7 +10,8 @@ it_is P (Ok x) ok p = p
 it_is P (Err e) ok p = absurd cc
 
 pub returns : goal.returns
-unfolding spelled
 returns c =
-    it_is _ c.write_dss.result (c.write_dss.ensures.room c.requires) c.write_dss.ensures.ok
-    ∙ ap (λ (code : ℕ). c.args.out.now.items ++ written 2 c.args.fault.correlator (0x00 ∷ 0x0F ∷ 0x12 ∷ 0x4C ∷ 0x00 ∷ 0x06 ∷ 0x11 ∷ 0x49 ∷ 0x00 ∷ 0x08 ∷ 0x00 ∷ 0x05 ∷ 0x11 ∷ 0x4A ∷ code ∷ [])) c.synerrcd.ensures
+    let long : length c.syntax_message-message.result ≡ 15 = omega arith in
+    let room = subst (λ (n : ℕ). vec_len c.args.out.now + written_length n ≤ vec_capacity c.args.out.now) (sym long) c.requires in
+    it_is _ c.write_dss.result (c.write_dss.ensures.room room) c.write_dss.ensures.ok
+    ∙ ap (λ (text : List ℕ). c.args.out.now.items ++ written 2 c.args.fault.correlator text) (c.syntax_message-message.ensures ∙ ap (λ (code : ℕ). message_text (message_of (Syntax code))) c.synerrcd.ensures)

@@ -8,5 +8,5 @@ pub returns : goal.returns
 returns c =
     let key = c.into_section-name.result.0 in
     let section = c.into_section-name.result.1 in
-    added_by c.args.sections.now.entries c.insert.new.self.entries key section c.args.preparation.name _ c.into_section-name.ensures.name c.into_section-name.ensures.section c.requires.absent
-    (λ none. c.in-Ok.ensures.entries ∙ insert_entry-new (λ x y. bytes_eq x.items y.items) c.args.sections.now key section none)
+    added_by c.args.sections.now.entries c.insert.new.self.entries key c.args.preparation.name section _ c.into_section-name.ensures.name c.into_section-name.ensures.section c.requires.absent
+    (λ none. c.in-Ok.ensures.entries ∙ insert_entry-new bytes_eq c.args.sections.now key section none)

@@ -1,5 +1,4 @@
 use Rattle.std.proofs.Common.{◌∙◌, ap, List, ℕ}
-use Rattle.sections.specs.ByName.{by_name}
 use Rattle.sections.specs.Cursors.{changed_at}
 use Rattle.sections.specs.Kept.{Section}
 use Rattle.sections.proofs.Entries.{changed_by, there}
@@ -12,4 +11,4 @@ pub returns : goal.returns
 returns c =
     let change = λ (section : Section). record section { text = c.args.preparation.text; is_held = c.args.preparation.is_held } in
     changed_by c.name.result.now change c.args.sections.now.entries _ c.in-Some.section.now c.prepare_again.new.section c.in-Some.ensures.value c.prepare_again.ensures (c.get_mut.follows.holds c.prepare_again.new.section).0
-    ∙ ap (λ (name : List ℕ). changed_at name change (by_name c.args.sections.now.entries)) c.name.ensures
+    ∙ ap (λ (name : List ℕ). changed_at name change c.args.sections.now.entries) c.name.ensures

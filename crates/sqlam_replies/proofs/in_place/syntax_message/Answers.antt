@@ -1,0 +1,7 @@
+use Rattle.std.proofs.Common.{refl}
+use Rattle.ddm_objects.specs.Writing.{spelled}
+use Rattle.sqlam_replies.proofs.in_place.syntax_message.Goals as goal
+
+pub returns : goal.returns
+unfolding spelled
+returns c = refl
