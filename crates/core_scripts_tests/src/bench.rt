@@ -48,6 +48,25 @@ impl Bench {
         };
         push_text(out, &format!(in self.alloc; "{count} {verb}").ok()?)
     }
+
+    // What becomes of conversations that are to commit together.
+    fn together(&mut self, conversations: &[u64]) -> &'static str {
+        if !self.core.may_go_together(conversations) {
+            return "not together";
+        }
+        match self.core.commit_together(conversations) {
+            Ok(()) => "all done",
+            Err(_) => "refused",
+        }
+    }
+
+    fn push_together(&mut self, numbers: &str, out: &mut Vec<u8>) -> Option<()> {
+        let mut conversations = Vec::new(self.alloc);
+        for number in numbers.split_ascii_whitespace() {
+            conversations.push(number.parse::<u64>().ok()?).ok()?;
+        }
+        push_text(out, self.together(&conversations))
+    }
 }
 
 impl Calls for Bench {
@@ -76,12 +95,12 @@ impl Calls for Bench {
     }
 
     // `fresh` is a core without tables. `look` shows the rows of T, the units that have work, and the branches; `branches` those alone, and
-    // `changes` how many changes the first unit has, and their bytes. `tables`, `known` and `doubts` count tables and branches.
+    // `changes` how many changes the first unit has, and their bytes. `together` commits the conversations of these numbers, in this order. `tables`, `known` and `doubts` count tables and branches.
     fn do_other(
         &mut self,
         _scripts: &Scripts,
         verb: &str,
-        _rest: &str,
+        rest: &str,
         out: &mut Vec<u8>,
     ) -> Option<()> {
         match verb {
@@ -92,6 +111,7 @@ impl Calls for Bench {
             "look" => push_state(self.alloc, self.core.plain().ok()?, out),
             "branches" => push_branches(self.alloc, self.core.plain().ok()?.branches(), out),
             "changes" => push_changes(self.alloc, self.core.plain().ok()?.units(), out),
+            "together" => self.push_together(rest, out),
             _ => self.push_count(verb, out),
         }
     }

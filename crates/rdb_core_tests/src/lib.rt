@@ -7,3 +7,5 @@ mod doubts;
 mod fixtures;
 #[cfg(test)]
 mod refusals;
+#[cfg(test)]
+mod together;

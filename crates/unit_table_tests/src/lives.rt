@@ -97,3 +97,24 @@ fn copies_units_in_order(rt: HostRuntime) -> Result<(), Fail> {
     assert!(rt; shown.eq([(1, 3), (1, 2), (1, 1)]));
     Ok(())
 }
+
+// The changes of units are copied one behind another's; a unit without work has none.
+#[test]
+fn copies_changes_behind_others(rt: HostRuntime) -> Result<(), Fail> {
+    let schema = schema(rt.alloc())?;
+    let mut units = Units::new(rt.alloc());
+    let mut copies = Vec::new(rt.alloc());
+    for (owner, count) in [(Owner::Local(3), 1), (global(1)?, 2)] {
+        units.keep(
+            &owner,
+            Vec::new(rt.alloc()),
+            Some(&schema),
+            one_change(rt.alloc())?,
+        )?;
+        units.copy_changes(&owner, &mut copies)?;
+        units.copy_changes(&Owner::Local(7), &mut copies)?;
+        assert_eq!(rt; copies.len(), count);
+    }
+    assert_eq!(rt; units.changes(&Owner::Local(3)).len(), 1);
+    Ok(())
+}
