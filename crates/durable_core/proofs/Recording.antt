@@ -16,7 +16,7 @@ use Rattle.recovery.specs.Laws.{HeldForDoubts, held_for}
 use Rattle.core_model.specs.Step.{CoreState}
 use Rattle.recovery.specs.Part.{durable_part}
 use Rattle.recovery.specs.Kept.{IsKept}
-use Rattle.journal_recorder.specs.Recording.{Allows, IsLeftOpen, Records, disk_of, has_failed, journal_of, made_of}
+use Rattle.journal_recorder.specs.Recording.{IsLeftOpen, Records, disk_of, has_failed, journal_of, made_of}
 use Rattle.journal_recorder.specs.declared.recorder.DiskRecorder.{DiskRecorder}
 use Rattle.recovery.specs.Opens.{Holds}
 use Rattle.recovery.specs.ImageLaws.{RecordsStay}
@@ -58,14 +58,6 @@ module _ {D : Type 0} (modelled : Bool) (life : D → Life) (name : List ℕ) wh
       made.durable (core_on name s r) (region_of (journal_of r)) there.entries there.settled.durable there.holds
 
   module _ (laws : Laws life) (s : CoreState) (r : DiskRecorder D) (is : IsRecorded modelled life name s r) (going : has_failed r ≡ false) where
-    -- what a record asks for: what it releases is held for a unit in doubt
-    pub allowed : (said : UnitRecord) → released said ≤ held_for (durable_part s).doubts → Allows modelled life r said
-    allowed said of_doubts = record {
-      going = going;
-      inside = is.inside;
-      released_is_held = subst (λ (n : ℕ). released said ≤ n) (sym is.held) of_doubts;
-    }
-
     -- ---- no record: nothing durable changes
 
     no_fault : FaultsAfter (has_failed r) (life (disk_of r)).faults (life (disk_of r)).faults

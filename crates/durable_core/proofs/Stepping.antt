@@ -1,5 +1,5 @@
 -- What a call of the core makes of it and of who records: it stays recorded, and each answer is one of `Steps`.
-use Rattle.std.proofs.Common.{◌≡◌, inl, inr, ℕ, ◌+◌, ◌-◌, ◌^◌, min, Bool, true, false, List, ◌++◌, Option, Some, None, refl, sym, ◌∙◌, ap, subst, append-nil}
+use Rattle.std.proofs.Common.{◌≡◌, inl, inr, ℕ, ◌+◌, ◌-◌, ◌^◌, ◌≤◌, min, Bool, true, false, List, ◌++◌, Option, Some, None, refl, sym, ◌∙◌, ap, subst, append-nil}
 use Rattle.drda_disk.specs.Disk.{Life}
 use Rattle.unit_journal.specs.Journal.{room_of}
 use Rattle.unit_journal.specs.declared.journal.Journal.{Journal}
@@ -14,14 +14,13 @@ use Rattle.unit_records.specs.declared.record_error.RecordError.{RecordError}
 use Rattle.unit_records.specs.declared.record_error.RecordError.TheVariants as error
 use Rattle.recovery.specs.Part.{durable_part}
 use Rattle.recovery.specs.StepLaws.{DecisionsAreOfDoubts, RecordsLead, SilentStepsStay, StepsKeep}
-use Rattle.journal_recorder.specs.Recording.{Allows, Fails, IsLeftOpen, Records, disk_of, has_failed, journal_of, made_of}
+use Rattle.journal_recorder.specs.Recording.{Allows, Fails, IsLeftOpen, Records, has_failed, journal_of, made_of}
 use Rattle.journal_recorder.specs.declared.recorder.DiskRecorder.{DiskRecorder}
 use Rattle.recovery.specs.Journaled.{Journaled, shown_on}
 use Rattle.rdb_core.specs.Recorded as told
 use Rattle.rdb_core.specs.Steps as core
 use Rattle.durable_core.specs.Recorded.{IsRecorded, core_on}
 use Rattle.durable_core.specs.Steps.{IsClosed, MayWantMemory, RoomAfter, Steps, due_entries}
-use Rattle.durable_core.proofs.Recording as recording
 use Rattle.durable_core.proofs.Recording.{Laws, left_journaled, left_recorded, record_journaled, record_recorded, silent_journaled, silent_recorded, unchanged}
 
 -- the laws of steps
@@ -47,7 +46,11 @@ module _ {D : Type 0} (modelled : Bool) (life : D → Life) (name : List ℕ) wh
     module _ (going : has_failed r ≡ false) (conversation : ℕ) (k : Call) where
       -- what a record asks for
       pub allowed : (said : UnitRecord) → record_due s conversation k ≡ Some said → Allows modelled life r said
-      allowed said due = recording.allowed modelled life name all.laws s r is going said (all.of_doubts s conversation k said is.kept due)
+      allowed said due = record {
+        going = going;
+        inside = is.inside;
+        released_is_held = subst (λ (n : ℕ). released said ≤ n) (sym is.held) (all.of_doubts s conversation k said is.kept due);
+      }
 
       -- ---- no record
 

@@ -1,5 +1,5 @@
 use Rattle.std.proofs.Common.{rules, ◌≡◌, ◌∙◌, true, false, List, map, refl, ap, subst, string_bytes}
-use Rattle.unit_journal.specs.Record.{Entry, entries_of}
+use Rattle.unit_journal.specs.Record.{entries_of}
 use Rattle.unit_journal.specs.declared.record.Record.{Record}
 use Rattle.tables.specs.Tables.{Store as Tables}
 use Rattle.core_model.specs.Step.{CoreState}
