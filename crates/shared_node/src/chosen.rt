@@ -14,7 +14,7 @@ pub struct Chosen {
 }
 
 impl Chosen {
-    ghost use Rattle.std.specs.Prelude.{◌≡◌, true};
+    ghost use Rattle.std.specs.Prelude.{◌≡◌, Some, slice_get, true};
     ghost use Rattle.shared_node.specs.Gathered.{AreApart, AreMembers, conversations_of};
 
     /// None is chosen yet. Memory may be refused.
@@ -35,19 +35,27 @@ impl Chosen {
         self.members.clear();
         self.conversations.clear();
         for wish in wishes {
-            if is_known(places, wish) && !is_there(&self.members, wish.place) && !self.add(wish) {
+            if !self.consider(places, wish) {
                 return false;
             }
         }
         self.members.len() > 1
     }
 
-    // Chooses one. False where memory is refused.
-    fn add(&mut self, wish: &Wish) -> bool
-        ensures members { result ≡ true → self.new.members.items ≡ self.old.members.items ++ wish.now ∷ [] }
-        ensures conversations { result ≡ true → self.new.conversations.items ≡ self.old.conversations.items ++ wish.now.conversation ∷ [] }
+    // Chooses one wish more, where its conversation is counted as it says and its place is not chosen yet. False where
+    // memory is refused.
+    fn consider(&mut self, places: &[Option<Count>], wish: &Wish) -> bool
+        ensures members { result ≡ true → (wishes : _) (at : _) → slice_get wishes at ≡ Some wish.now → AreMembers places.now wishes self.old.members.items → AreMembers places.now wishes self.new.members.items }
+        ensures apart { result ≡ true → AreApart self.old.members.items → AreApart self.new.members.items }
+        ensures conversations { result ≡ true → self.old.conversations.items ≡ conversations_of self.old.members.items → self.new.conversations.items ≡ conversations_of self.new.members.items }
     {
-        self.members.push(*wish).is_ok() && self.conversations.push(wish.conversation).is_ok()
+        if !is_known(places, wish) || is_there(&self.members, wish.place) {
+            return true;
+        }
+        if self.members.push(*wish).is_err() {
+            return false;
+        }
+        self.conversations.push(wish.conversation).is_ok()
     }
 }
 

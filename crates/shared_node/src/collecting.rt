@@ -31,7 +31,7 @@ impl<D: Disk> Book<D> {
     }
 }
 
-ghost use Rattle.std.specs.Prelude.{◌≡◌, ◌×◌, ◌<◌, ◌+◌, ◌^◌, ◌++◌, ◌∷◌, [], IfSome, None, Some, length, slice_get, slice_set};
+ghost use Rattle.std.specs.Prelude.{◌≡◌, ◌<◌, ◌+◌, ◌^◌, ◌++◌, ◌∷◌, [], IfSome, None, Some, length, slice_get, slice_set};
 ghost use Rattle.core_calls.specs.Answer.{answer_of};
 ghost use Rattle.shared_node.specs.LeftAnswers.{AreLeft, commit_answer, commit_listed};
 ghost use Rattle.shared_node.specs.Passes.{calls_in};
