@@ -7,7 +7,7 @@ use Rattle.core_calls.specs.Answer.{Answer, no_memory}
 use Rattle.core_model.specs.Step.{CoreState, Kept, Taken}
 use Rattle.serializability.specs.Answered.{AnsweredCall, CallsLead, CallsLeadOn}
 use Rattle.serializability.specs.Belonging.{AnswersBelong, ExcusesBelongToNone, is_excuse}
-use Rattle.recovery.specs.Journaled.{Journaled, OnDisk, shown_on}
+use Rattle.recovery.specs.Journaled.{IsUnchanged, Journaled, OnDisk, shown_on}
 use Rattle.durable_core.specs.Together.{CommitTogether}
 use Rattle.durable_core.specs.declared.together.Together.TheVariants.{DeviceFailed, Done}
 use Rattle.shared_node.specs.declared.count.Count.{Count}
@@ -66,6 +66,19 @@ module _ {D : Type 0} (modelled : Bool) (life : D → Life) where
       are_left = still kept.are_left;
       as_many = kept.as_many;
     }
+
+  pub still : (old opening new : OnDisk D) (calls : List AnsweredCall) (places : List (Option Count)) (left : List (Option Left)) (next : ℕ)
+      → (Journaled modelled (shown_on life opening) (shown_on life old) → Journaled modelled (shown_on life old) (shown_on life new) → Journaled modelled (shown_on life opening) (shown_on life new))
+      → IsKept modelled life (book_of old opening calls places left next) → IsUnchanged (shown_on life old) (shown_on life new) → Journaled modelled (shown_on life old) (shown_on life new)
+      → IsKept modelled life (book_of new opening calls places left next)
+  still old opening new calls places left next both kept same journaled = record {
+    leads = subst (λ (s : CoreState). CallsLead opening.state calls s) (sym same.state) kept.leads;
+    journaled = both kept.journaled journaled;
+    counted = kept.counted;
+    sixty_four = kept.sixty_four;
+    are_left = kept.are_left;
+    as_many = kept.as_many;
+  }
 
   pub gathers_on : CallsLeadOn → (old opening new : OnDisk D) (calls more : List AnsweredCall) (places set : List (Option Count)) (left over : List (Option Left)) (next : ℕ) (members : List Wish) (f : Bool)
       → more ≡ calls ++ all_listed f members → length set ≡ length places → length over ≡ length left

@@ -39,6 +39,7 @@ ghost use Rattle.shared_node.specs.Passes.{calls_in};
 // Whether the device failed, where the answer to a pass's next call is left at its place.
 fn left_for(places: &[Option<Count>], left: &[Option<Left>], pass: &Pass) -> Option<bool>
     ensures some { IfSome result (λ f. (slice_get places.now pass.now.place ≡ Some (Some (record { conversation = pass.now.conversation; calls = pass.now.count + 1 }))) × (slice_get left.now pass.now.place ≡ Some (Some (record { conversation = pass.now.conversation; number = pass.now.count; has_failed = f })))) }
+    ensures small { IfSome result (λ _. pass.now.count + 1 < 2 ^ 64) }
     ensures none { result ≡ None → (f : _) → slice_get places.now pass.now.place ≡ Some (Some (record { conversation = pass.now.conversation; calls = pass.now.count + 1 })) → slice_get left.now pass.now.place ≡ Some (Some (record { conversation = pass.now.conversation; number = pass.now.count; has_failed = f })) → ⊥ }
 {
     let count = (*places.get(pass.place)?)?;

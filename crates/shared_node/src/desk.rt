@@ -10,7 +10,7 @@ use command_kit::Ask;
 use core_calls::{Answer, CoreCall};
 use drda_disk::Disk;
 use std::sync::Wait;
-use std::time::Clock;
+use std::time::{Clock, Instant};
 
 /// One conversation at the book, which is asked under the lock, call by call: its turn comes outside of the
 /// lock, the call and what it lists are one step inside of it. Commits that wait for the lock are made together by the
@@ -64,6 +64,19 @@ impl<'a, D: Disk, R: Wait + Clock, G: Gate> Desk<'a, D, R, G> {
     {
         self.pass
     }
+
+    // The conversation comes to wait for the lock. When it came, where the clock can be read.
+    fn come(&self, is_commit: bool) -> Option<Instant> {
+        let waiting = &self.shared.waiting;
+        if !is_commit {
+            waiting.come();
+            return time(self.rt);
+        }
+        waiting.wish(self.rt, self.pass.wish());
+        let came = time(self.rt);
+        waiting.let_others_go();
+        came
+    }
 }
 
 impl<'a, D: Disk, R: Wait + Clock, G: Gate> Ask for Desk<'a, D, R, G> {
@@ -74,18 +87,13 @@ impl<'a, D: Disk, R: Wait + Clock, G: Gate> Ask for Desk<'a, D, R, G> {
     fn ask(&mut self, call: &CoreCall<'_, '_>) -> Answer {
         self.gate.turn(self.pass.conversation(), self.asked);
         self.asked = self.asked.wrapping_add(1);
-        let came = time(self.rt);
-        let waiting = &self.shared.waiting;
         let is_commit = is_commit(call);
-        if is_commit {
-            waiting.wish(self.rt, self.pass.wish());
-        } else {
-            waiting.come();
-        }
+        let came = self.come(is_commit);
         let (acted, turn) = {
             let mut guard = self.shared.held.lock(self.rt);
             let held = &mut *guard;
             let begun = Begun::new(self.rt, came, &held.book);
+            let waiting = &self.shared.waiting;
             let acted = held.act(self.rt, waiting, &mut self.pass, call, is_commit);
             if matches!(*call, CoreCall::Lost) {
                 held.book.consider_checkpoint();

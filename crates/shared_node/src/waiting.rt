@@ -29,23 +29,23 @@ impl Waiting {
         })
     }
 
-    /// A conversation waits to commit, so that whoever commits meanwhile can do it for this one too. Then those that
-    /// wait with another call may go first, for a while, since their next call may be a commit.
+    /// A conversation waits for the lock to commit, so that whoever commits meanwhile does it for this one too. Where there is
+    /// no room for its wish, it commits alone.
     pub(crate) fn wish<R: Wait>(&self, rt: &R, wish: Wish) {
-        self.add(rt, wish);
+        let mut wishes = self.wishes.lock(rt);
+        if wishes.len() < PLACES {
+            let _ = wishes.push(wish);
+        }
+    }
+
+    /// Whoever is about to commit lets those go first, for a while, that wait for the lock with another call: the next call
+    /// of each may be a commit, which goes together with this one then. Nobody waits here who is alone.
+    pub(crate) fn let_others_go(&self) {
         for _ in 0..YIELDS {
             if self.asking.load(Ordering::SeqCst) == 0 {
                 return;
             }
             yield_now();
-        }
-    }
-
-    // One wish more, where there is room.
-    fn add<R: Wait>(&self, rt: &R, wish: Wish) {
-        let mut wishes = self.wishes.lock(rt);
-        if wishes.len() < PLACES {
-            let _ = wishes.push(wish);
         }
     }
 

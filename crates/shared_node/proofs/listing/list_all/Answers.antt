@@ -7,7 +7,7 @@ use Rattle.shared_node.specs.declared.wish.Wish.{Wish}
 use Rattle.shared_node.specs.LeftAnswers.{commit_listed}
 use Rattle.shared_node.specs.Gathered.{all_counted, all_left, all_listed, count_at}
 use Rattle.shared_node.proofs.Counting.{set_length}
-use Rattle.shared_node.proofs.Gathering.{known_still, nobody, rest_is}
+use Rattle.shared_node.proofs.Members.{known_still, nobody, rest_is}
 use Rattle.shared_node.proofs.listing.list_all.Goals as goal
 
 pub loop-member-preserved : goal.loop-member-preserved

@@ -1,5 +1,5 @@
 use Rattle.std.proofs.lemmas.Option.{slice_get-get_or}
-use Rattle.shared_node.proofs.Gathering.{nobody}
+use Rattle.shared_node.proofs.Members.{nobody}
 use Rattle.shared_node.proofs.chosen.Chosen.choose.Goals as goal
 
 pub loop-wish-preserved : goal.loop-wish-preserved

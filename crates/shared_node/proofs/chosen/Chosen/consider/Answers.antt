@@ -1,7 +1,7 @@
 use Rattle.std.proofs.Common.{◌≡◌, ◌∷◌, ◌++◌, [], ℕ, List, Some, slice_get, if◌then◌else◌, refl, sym, subst, ap, ◌∙◌}
 use Rattle.shared_node.specs.declared.wish.Wish.{Wish}
 use Rattle.shared_node.specs.Gathered.{AreApart, AreMembers}
-use Rattle.shared_node.proofs.Gathering.{one_apart_more, one_member_more}
+use Rattle.shared_node.proofs.Members.{one_apart_more, one_member_more}
 use Rattle.shared_node.proofs.chosen.Chosen.consider.Goals as goal
 
 pub returns-clause-members : goal.returns-clause-members
