@@ -11,16 +11,16 @@ which : (b : Bool) → (b ≡ true) ⊎ (b ≡ false)
 which true = inl refl
 which false = inr refl
 
-same_or_apart : (a b : ℕ) → (a ≡ b) ⊎ (a ≡ b → ⊥)
+pub same_or_apart : (a b : ℕ) → (a ≡ b) ⊎ (a ≡ b → ⊥)
 same_or_apart a b = ⊎_elim (λ so. inl (eqb-true a b so)) (λ no. inr (λ e. let both : true ≡ false = sym (eq-eqb a b e) ∙ no in absurd (cc both))) (which (a == b))
 
 module _ {Y : Type 0} where
-  get_set : (ys : List Y) (i : ℕ) (y z : Y) → slice_get ys i ≡ Some y → slice_get (slice_set ys i z) i ≡ Some z
+  pub get_set : (ys : List Y) (i : ℕ) (y z : Y) → slice_get ys i ≡ Some y → slice_get (slice_set ys i z) i ≡ Some z
   get_set [] i y z is = absurd (cc is)
   get_set (x ∷ ys) zero y z is = refl
   get_set (x ∷ ys) (suc i) y z is = get_set ys i y z is
 
-  get_other : (ys : List Y) (i j : ℕ) (z : Y) → (i ≡ j → ⊥) → slice_get (slice_set ys i z) j ≡ slice_get ys j
+  pub get_other : (ys : List Y) (i j : ℕ) (z : Y) → (i ≡ j → ⊥) → slice_get (slice_set ys i z) j ≡ slice_get ys j
   get_other [] i j z apart = refl
   get_other (x ∷ ys) zero zero z apart = absurd (apart refl)
   get_other (x ∷ ys) zero (suc j) z apart = refl

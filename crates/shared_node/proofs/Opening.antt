@@ -1,4 +1,5 @@
--- A book keeps what it keeps: where it is opened, where nothing is listed, and where a call is.
+-- A book keeps what it keeps: where it is opened, where nothing is listed, where a call is, and where commits are that were made
+-- together.
 use Rattle.std.proofs.Common.{◌≡◌, ℕ, Bool, true, false, if◌then◌else◌, List, [], ◌∷◌, ◌++◌, Option, None, length, replicate, slice_set, sym, ap, subst, ◌∙◌}
 use Rattle.drda_disk.specs.Disk.{Life}
 use Rattle.core_calls.specs.Call.{Call}
@@ -6,48 +7,90 @@ use Rattle.core_calls.specs.Answer.{Answer, no_memory}
 use Rattle.core_model.specs.Step.{CoreState, Kept, Taken}
 use Rattle.serializability.specs.Answered.{AnsweredCall, CallsLead, CallsLeadOn}
 use Rattle.serializability.specs.Belonging.{AnswersBelong, ExcusesBelongToNone, is_excuse}
-use Rattle.recovery.specs.Journaled.{Journaled, OnDisk, shown_on}
+use Rattle.recovery.specs.Journaled.{IsUnchanged, Journaled, OnDisk, shown_on}
+use Rattle.durable_core.specs.Together.{CommitTogether}
+use Rattle.durable_core.specs.declared.together.Together.TheVariants.{DeviceFailed, Done}
 use Rattle.shared_node.specs.declared.count.Count.{Count}
+use Rattle.shared_node.specs.declared.left.Left.{Left}
+use Rattle.shared_node.specs.declared.wish.Wish.{Wish}
+use Rattle.shared_node.specs.LeftAnswers.{AreLeft}
 use Rattle.shared_node.specs.Books.{AreCounted, IsKept, Told}
 use Rattle.shared_node.specs.Passes.{IsAnswered}
 use Rattle.shared_node.proofs.Counting.{length_replicate, none_yet, set_length}
+use Rattle.shared_node.specs.Gathered.{all_listed, conversations_of}
 use Rattle.shared_node.proofs.Leading.{finds_no_memory, leads_on}
+use Rattle.shared_node.proofs.Leaving.{none_left}
+use Rattle.shared_node.proofs.Together.{leads_together}
 
-abbrev book_of : {D : Type 0} → OnDisk D → OnDisk D → List AnsweredCall → List (Option Count) → ℕ → Told D
-book_of core opening calls places next = record { core = core; opening = opening; calls = calls; places = places; next = next }
+abbrev book_of : {D : Type 0} → OnDisk D → OnDisk D → List AnsweredCall → List (Option Count) → List (Option Left) → ℕ → Told D
+book_of core opening calls places left next = record { core = core; opening = opening; calls = calls; places = places; left = left; next = next }
 
 module _ {D : Type 0} (modelled : Bool) (life : D → Life) where
-  pub opens : CallsLeadOn → (core opening : OnDisk D) (calls : List AnsweredCall) (places : List (Option Count)) → opening ≡ core → calls ≡ [] → places ≡ replicate 64 None
-      → Journaled modelled (shown_on life core) (shown_on life core) → IsKept modelled life (book_of core opening calls places 1)
-  opens on core opening calls places same none free journaled = record {
+  pub opens : CallsLeadOn → (core opening : OnDisk D) (calls : List AnsweredCall) (places : List (Option Count)) (left : List (Option Left)) → opening ≡ core → calls ≡ [] → places ≡ replicate 64 None
+      → left ≡ replicate 64 None → Journaled modelled (shown_on life core) (shown_on life core) → IsKept modelled life (book_of core opening calls places left 1)
+  opens on core opening calls places left same none free nothing journaled = record {
     leads = subst (λ (o : OnDisk D). CallsLead o.state calls core.state) (sym same) (subst (λ (ls : List AnsweredCall). CallsLead core.state ls core.state) (sym none) (on.none core.state));
     journaled = subst (λ (o : OnDisk D). Journaled modelled (shown_on life o) (shown_on life core)) (sym same) journaled;
     counted = subst (λ (ls : List AnsweredCall). AreCounted ls places 1) (sym none) (subst (λ (ps : List (Option Count)). AreCounted [] ps 1) (sym free) none_yet);
     sixty_four = ap (λ (ps : List (Option Count)). length ps) free ∙ length_replicate {Y = Option Count} 64 None;
+    are_left = subst (λ (ls : List AnsweredCall). AreLeft ls left) (sym none) (subst (λ (ls : List (Option Left)). AreLeft [] ls) (sym nothing) (none_left 64));
+    as_many = ap (λ (ls : List (Option Left)). length ls) nothing ∙ length_replicate {Y = Option Left} 64 None;
   }
 
   module _ (belong : AnswersBelong) (excuses : ExcusesBelongToNone) where
-    pub stays : (old opening new : OnDisk D) (calls : List AnsweredCall) (places : List (Option Count)) (next n : ℕ) (k : Call) (a : Answer) → a ≡ no_memory
+    pub stays : (old opening new : OnDisk D) (calls : List AnsweredCall) (places : List (Option Count)) (left : List (Option Left)) (next n : ℕ) (k : Call) (a : Answer) → a ≡ no_memory
         → (Journaled modelled (shown_on life opening) (shown_on life old) → Journaled modelled (shown_on life old) (shown_on life new) → Journaled modelled (shown_on life opening) (shown_on life new))
-        → IsKept modelled life (book_of old opening calls places next) → IsAnswered life old n k a new → Journaled modelled (shown_on life old) (shown_on life new) → IsKept modelled life (book_of new opening calls places next)
-    stays old opening new calls places next n k a is both kept answered journaled =
+        → IsKept modelled life (book_of old opening calls places left next) → IsAnswered life old n k a new → Journaled modelled (shown_on life old) (shown_on life new) → IsKept modelled life (book_of new opening calls places left next)
+    stays old opening new calls places left next n k a is both kept answered journaled =
         let (rests, wanting) = finds_no_memory life belong excuses old new n k a is answered in
         record {
           leads = subst (λ (s : CoreState). CallsLead opening.state calls s) (sym rests.state) kept.leads;
           journaled = both kept.journaled journaled;
           counted = kept.counted;
           sixty_four = kept.sixty_four;
+          are_left = kept.are_left;
+          as_many = kept.as_many;
         }
 
-    pub goes_on : CallsLeadOn → (old opening new : OnDisk D) (calls more : List AnsweredCall) (places set : List (Option Count)) (next p : ℕ) (c : Option Count) (n : ℕ) (k : Call) (a : Answer) (t : Bool)
+    pub goes_on : CallsLeadOn → (old opening new : OnDisk D) (calls more : List AnsweredCall) (places set : List (Option Count)) (left : List (Option Left)) (next p : ℕ) (c : Option Count) (n : ℕ) (k : Call) (a : Answer) (t : Bool)
         → (t ≡ true → is_excuse a ≡ false) → (t ≡ false → is_excuse a ≡ true)
         → more ≡ calls ++ record { conversation = n; call = k; mark = if t then Taken else Kept; answer = a } ∷ [] → set ≡ slice_set places p c
-        → (AreCounted calls places next → AreCounted more set next)
+        → (AreCounted calls places next → AreCounted more set next) → (AreLeft calls left → AreLeft more left)
         → (Journaled modelled (shown_on life opening) (shown_on life old) → Journaled modelled (shown_on life old) (shown_on life new) → Journaled modelled (shown_on life opening) (shown_on life new))
-        → IsKept modelled life (book_of old opening calls places next) → IsAnswered life old n k a new → Journaled modelled (shown_on life old) (shown_on life new) → IsKept modelled life (book_of new opening more set next)
-    goes_on on old opening new calls more places set next p c n k a t done excused more_is set_is counted both kept answered journaled = record {
+        → IsKept modelled life (book_of old opening calls places left next) → IsAnswered life old n k a new → Journaled modelled (shown_on life old) (shown_on life new) → IsKept modelled life (book_of new opening more set left next)
+    goes_on on old opening new calls more places set left next p c n k a t done excused more_is set_is counted still both kept answered journaled = record {
       leads = subst (λ (ls : List AnsweredCall). CallsLead opening.state ls new.state) (sym more_is) (leads_on life belong excuses on opening.state calls old new n k a t done excused kept.leads answered);
       journaled = both kept.journaled journaled;
       counted = counted kept.counted;
       sixty_four = ap (λ (ps : List (Option Count)). length ps) set_is ∙ set_length places p c ∙ kept.sixty_four;
+      are_left = still kept.are_left;
+      as_many = kept.as_many;
     }
+
+  pub still : (old opening new : OnDisk D) (calls : List AnsweredCall) (places : List (Option Count)) (left : List (Option Left)) (next : ℕ)
+      → (Journaled modelled (shown_on life opening) (shown_on life old) → Journaled modelled (shown_on life old) (shown_on life new) → Journaled modelled (shown_on life opening) (shown_on life new))
+      → IsKept modelled life (book_of old opening calls places left next) → IsUnchanged (shown_on life old) (shown_on life new) → Journaled modelled (shown_on life old) (shown_on life new)
+      → IsKept modelled life (book_of new opening calls places left next)
+  still old opening new calls places left next both kept same journaled = record {
+    leads = subst (λ (s : CoreState). CallsLead opening.state calls s) (sym same.state) kept.leads;
+    journaled = both kept.journaled journaled;
+    counted = kept.counted;
+    sixty_four = kept.sixty_four;
+    are_left = kept.are_left;
+    as_many = kept.as_many;
+  }
+
+  pub gathers_on : CallsLeadOn → (old opening new : OnDisk D) (calls more : List AnsweredCall) (places set : List (Option Count)) (left over : List (Option Left)) (next : ℕ) (members : List Wish) (f : Bool)
+      → more ≡ calls ++ all_listed f members → length set ≡ length places → length over ≡ length left
+      → (AreCounted calls places next → AreCounted more set next) → (AreCounted calls places next → AreLeft calls left → AreLeft more over)
+      → (Journaled modelled (shown_on life opening) (shown_on life old) → Journaled modelled (shown_on life old) (shown_on life new) → Journaled modelled (shown_on life opening) (shown_on life new))
+      → IsKept modelled life (book_of old opening calls places left next) → CommitTogether (shown_on life old) (conversations_of members) (if f then DeviceFailed else Done) (shown_on life new)
+      → Journaled modelled (shown_on life old) (shown_on life new) → IsKept modelled life (book_of new opening more set over next)
+  gathers_on on old opening new calls more places set left over next members f more_is as_long as_many counted are_left both kept together journaled = record {
+    leads = subst (λ (ls : List AnsweredCall). CallsLead opening.state ls new.state) (sym more_is) (leads_together life on opening.state calls old new members f kept.leads together);
+    journaled = both kept.journaled journaled;
+    counted = counted kept.counted;
+    sixty_four = as_long ∙ kept.sixty_four;
+    are_left = are_left kept.counted kept.are_left;
+    as_many = as_many ∙ kept.as_many;
+  }

@@ -4,6 +4,8 @@ use Rattle.drda_disk.specs.Disk.{Life}
 use Rattle.serializability.specs.Answered.{AnsweredCall, CallsLead}
 use Rattle.recovery.specs.Journaled.{Journaled, OnDisk, shown_on}
 use Rattle.shared_node.specs.declared.count.Count.{Count}
+use Rattle.shared_node.specs.declared.left.Left.{Left}
+use Rattle.shared_node.specs.LeftAnswers.{AreLeft}
 
 -- as its callers see it
 pub record Told (D : Type 0) : Type 0 where
@@ -14,6 +16,8 @@ pub record Told (D : Type 0) : Type 0 where
   pub calls : List AnsweredCall
   -- the conversations that have leave, each at its place
   pub places : List (Option Count)
+  -- the answers that were left for them, each at its conversation's place
+  pub left : List (Option Left)
   -- the next conversation's number
   pub next : ℕ
 
@@ -30,16 +34,18 @@ pub record AreCounted (calls : List AnsweredCall) (places : List (Option Count))
   pub fresh : (conversation : ℕ) → next ≤ conversation → calls_of conversation calls ≡ 0
 
 -- The calls, with their answers, lead from the opening to the core as it is now; what the core left on its disk since then is
--- journaled.
+-- journaled; and each answer that was left is one of those calls'.
 pub record IsKept {D : Type 0} (modelled : Bool) (life : D → Life) (book : Told D) : Type 0 where
   pub leads : CallsLead book.opening.state book.calls book.core.state
   pub journaled : Journaled modelled (shown_on life book.opening) (shown_on life book.core)
   pub counted : AreCounted book.calls book.places book.next
   pub sixty_four : length book.places ≡ 64
+  pub are_left : AreLeft book.calls book.left
+  pub as_many : length book.left ≡ 64
 
--- a book that was just opened: no calls, and no conversation has leave
+-- a book that was just opened: no calls, no conversation has leave, and no answer is left
 abbrev pub newly_opened : {D : Type 0} → OnDisk D → Told D
-newly_opened core = record { core = core; opening = core; calls = []; places = replicate 64 None; next = 1 }
+newly_opened core = record { core = core; opening = core; calls = []; places = replicate 64 None; left = replicate 64 None; next = 1 }
 
 -- no conversation has leave
 abbrev pub IsIdle : {D : Type 0} → Told D → Type 0

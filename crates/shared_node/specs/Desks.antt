@@ -1,8 +1,10 @@
 -- What an ask of a desk makes of its pass.
 use Rattle.std.specs.Prelude.{◌≡◌, ◌⊎◌, ◌+◌, [], ◌∷◌, ◌++◌}
 use Rattle.core_calls.specs.Call.{Call}
-use Rattle.core_calls.specs.Answer.{Answer, closed, no_memory}
+use Rattle.core_calls.specs.Answer.{Answer, answer_of, closed, no_memory}
 use Rattle.core_model.specs.Step.{Mark}
+use Rattle.shared_node.specs.declared.acted.Acted.{Acted}
+use Rattle.shared_node.specs.declared.acted.Acted.TheVariants.{Answered, StrangerPass}
 use Rattle.shared_node.specs.declared.pass.Pass.{Pass}
 use Rattle.shared_node.specs.Passes.{calls_in}
 
@@ -21,3 +23,8 @@ pub record ShowsNothing (old : Pass) (answer : Answer) (new : Pass) : Type 0 whe
 
 abbrev pub DeskAsks : Pass → Call → Answer → Pass → Type 0
 DeskAsks old call answer new = Shows old call answer new ⊎ ShowsNothing old answer new
+
+-- where the pass is a stranger's nothing is done
+abbrev pub DeskActs : Pass → Call → Acted → Pass → Type 0
+DeskActs old call (Answered a) new = DeskAsks old call (answer_of a) new
+DeskActs old call StrangerPass new = new ≡ old

@@ -1,6 +1,8 @@
 pub mod Stored
+pub mod LeftAnswers
 pub mod Books
 pub mod Fillings
 pub mod Passes
+pub mod Gathered
 pub mod Locked
 pub mod Desks

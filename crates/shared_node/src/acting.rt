@@ -4,6 +4,7 @@ use crate::acted::Acted;
 use crate::asking::{ask, is_done};
 use crate::book::Book;
 use crate::calls::CallList;
+use crate::chosen::Chosen;
 use crate::count::Count;
 use crate::listing::list;
 use crate::numbering::{free_places, is_out_of_numbers, knows};
@@ -35,13 +36,21 @@ impl<D: Disk> Book<D> {
         let Ok(places) = free_places(alloc) else {
             return Err(core);
         };
+        let Ok(left) = free_places(alloc) else {
+            return Err(core);
+        };
+        let Ok(chosen) = Chosen::new(alloc) else {
+            return Err(core);
+        };
         Ok(Book {
             opening: Snapshot::of(&core),
             core,
             calls: CallList::none(),
             places,
+            left,
             next: 1,
             renewals: Renewals::none(),
+            chosen,
         })
     }
 

@@ -1,6 +1,7 @@
 //! One conversation's place at the book.
 
 use crate::acted::Acted;
+use crate::asking::is_commit;
 use crate::gate::Gate;
 use crate::pass::Pass;
 use crate::shared::Shared;
@@ -9,10 +10,11 @@ use command_kit::Ask;
 use core_calls::{Answer, CoreCall};
 use drda_disk::Disk;
 use std::sync::Wait;
-use std::time::Clock;
+use std::time::{Clock, Instant};
 
 /// One conversation at the book, which is asked under the lock, call by call: its turn comes outside of the
-/// lock, the call and what it lists are one step inside of it. Behind a loss a checkpoint is considered.
+/// lock, the call and what it lists are one step inside of it. Commits that wait for the lock are made together by the
+/// thread that gets it. Behind a loss a checkpoint is considered.
 #[derive(Drop)]
 pub struct Desk<'a, D: Disk, R: Wait + Clock, G: Gate> {
     rt: &'a R,
@@ -62,6 +64,19 @@ impl<'a, D: Disk, R: Wait + Clock, G: Gate> Desk<'a, D, R, G> {
     {
         self.pass
     }
+
+    // The conversation comes to wait for the lock. When it came, where the clock can be read.
+    fn come(&self, is_commit: bool) -> Option<Instant> {
+        let waiting = &self.shared.waiting;
+        if !is_commit {
+            waiting.come();
+            return time(self.rt);
+        }
+        waiting.wish(self.rt, self.pass.wish());
+        let came = time(self.rt);
+        waiting.let_others_go();
+        came
+    }
 }
 
 impl<'a, D: Disk, R: Wait + Clock, G: Gate> Ask for Desk<'a, D, R, G> {
@@ -72,16 +87,18 @@ impl<'a, D: Disk, R: Wait + Clock, G: Gate> Ask for Desk<'a, D, R, G> {
     fn ask(&mut self, call: &CoreCall<'_, '_>) -> Answer {
         self.gate.turn(self.pass.conversation(), self.asked);
         self.asked = self.asked.wrapping_add(1);
-        let came = time(self.rt);
+        let is_commit = is_commit(call);
+        let came = self.come(is_commit);
         let (acted, turn) = {
-            let mut guard = self.shared.book.lock(self.rt);
-            let book = &mut *guard;
-            let begun = Begun::new(self.rt, came, book);
-            let acted = book.act(&mut self.pass, call);
+            let mut guard = self.shared.held.lock(self.rt);
+            let held = &mut *guard;
+            let begun = Begun::new(self.rt, came, &held.book);
+            let waiting = &self.shared.waiting;
+            let acted = held.act(self.rt, waiting, &mut self.pass, call, is_commit);
             if matches!(*call, CoreCall::Lost) {
-                book.consider_checkpoint();
+                held.book.consider_checkpoint();
             }
-            (acted, begun.end(self.rt, book))
+            (acted, begun.end(self.rt, &held.book))
         };
         self.waited = self.waited.max(turn.waited);
         self.held = self.held.max(turn.held);

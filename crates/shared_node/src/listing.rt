@@ -1,15 +1,19 @@
 //! The fields of a book that are tied to one another, changed together.
 
-ghost use Rattle.std.specs.Prelude.{◌≡◌, ◌+◌, ◌<◌, ◌++◌, ◌∷◌, [], ◌^◌, if◌then◌else◌, None, Some, slice_get, slice_set};
+ghost use Rattle.std.specs.Prelude.{◌≡◌, ◌+◌, ◌<◌, ◌++◌, ◌∷◌, [], ◌^◌, if◌then◌else◌, None, Some, length, slice_get, slice_set};
 ghost use Rattle.core_calls.specs.Answer.{answer_of};
 ghost use Rattle.core_calls.specs.Call.{call_of};
 ghost use Rattle.core_model.specs.Step.{Kept, Taken};
 ghost use Rattle.shared_node.specs.Books.{AreCounted};
+ghost use Rattle.shared_node.specs.Gathered.{AreApart, AreMembers, all_counted, all_left, all_listed, count_at};
+ghost use Rattle.shared_node.specs.LeftAnswers.{AreLeft, commit_listed};
 ghost use Rattle.shared_node.specs.Passes.{calls_in, count_of};
 
 use crate::calls::CallList;
 use crate::count::Count;
+use crate::left::Left;
 use crate::pass::Pass;
+use crate::wish::Wish;
 use core_calls::{Answer, CoreCall};
 
 /// Lists a call, which is one more of its conversation and of its pass.
@@ -30,6 +34,7 @@ pub(crate) fn list(
     ensures conversation { pass.new.conversation ≡ pass.old.conversation }
     ensures place { pass.new.place ≡ pass.old.place }
     ensures counted { (next : _) → AreCounted calls.old.listed places.old.items next → AreCounted calls.new.listed places.new.items next }
+    ensures left { (left : _) → AreLeft calls.old.listed left → AreLeft calls.new.listed left }
 {
     calls.note(pass.conversation, call, answer, is_taken);
     pass.calls.note(pass.conversation, call, answer, is_taken);
@@ -37,5 +42,60 @@ pub(crate) fn list(
     places[pass.place] = Some(Count {
         conversation: pass.conversation,
         calls: pass.count,
+    });
+}
+
+/// Lists commits that were made together, one after another. Each is one more of its conversation, and its answer is left
+/// for it.
+pub(crate) fn list_all(
+    calls: &mut CallList,
+    places: &mut Vec<Option<Count>>,
+    left: &mut Vec<Option<Left>>,
+    members: &[Wish],
+    has_failed: bool,
+)
+    requires known { (at : _) (member : _) → slice_get members.now at ≡ Some member → slice_get places.old.items member.place ≡ Some (Some (count_at member)) }
+    requires numbered { (at : _) (member : _) → slice_get members.now at ≡ Some member → member.count + 2 < 2 ^ 64 }
+    requires apart { AreApart members.now }
+    requires as_many { length left.old.items ≡ length places.old.items }
+    ensures calls { calls.new.listed ≡ calls.old.listed ++ all_listed has_failed members.now }
+    ensures places { places.new.items ≡ all_counted members.now places.old.items }
+    ensures left { left.new.items ≡ all_left has_failed members.now left.old.items }
+    ensures counted { (next : _) → AreCounted calls.old.listed places.old.items next → AreCounted calls.new.listed places.new.items next }
+    ensures are_left { (next : _) → AreCounted calls.old.listed places.old.items next → AreLeft calls.old.listed left.old.items → AreLeft calls.new.listed left.new.items }
+    ensures places_stay { length places.new.items ≡ length places.old.items }
+    ensures left_stay { length left.new.items ≡ length left.old.items }
+{
+    for member in members {
+        list_commit(calls, places, left, member, has_failed);
+    }
+}
+
+// Lists one of them.
+fn list_commit(
+    calls: &mut CallList,
+    places: &mut Vec<Option<Count>>,
+    left: &mut Vec<Option<Left>>,
+    member: &Wish,
+    has_failed: bool,
+)
+    requires known { slice_get places.old.items member.now.place ≡ Some (Some (count_at member.now)) }
+    requires numbered { member.now.count + 1 < 2 ^ 64 }
+    requires as_many { length left.old.items ≡ length places.old.items }
+    ensures calls { calls.new.listed ≡ calls.old.listed ++ commit_listed member.now.conversation has_failed ∷ [] }
+    ensures places { places.new.items ≡ slice_set places.old.items member.now.place (Some (record { conversation = member.now.conversation; calls = member.now.count + 1 })) }
+    ensures left { left.new.items ≡ slice_set left.old.items member.now.place (Some (record { conversation = member.now.conversation; number = member.now.count; has_failed = has_failed })) }
+    ensures counted { (next : _) → AreCounted calls.old.listed places.old.items next → AreCounted calls.new.listed places.new.items next }
+    ensures are_left { (next : _) → AreCounted calls.old.listed places.old.items next → AreLeft calls.old.listed left.old.items → AreLeft calls.new.listed left.new.items }
+{
+    calls.note_commit(member.conversation, has_failed);
+    places[member.place] = Some(Count {
+        conversation: member.conversation,
+        calls: member.count + 1,
+    });
+    left[member.place] = Some(Left {
+        conversation: member.conversation,
+        number: member.count,
+        has_failed,
     });
 }

@@ -12,9 +12,9 @@ use std::alloc::{AllocError, Global};
 /// How many conversations have leave at a time.
 pub(crate) const PLACES: usize = 64;
 
-/// Places that are free.
+/// Places at which nothing stands.
 #[tactic(auto, using(crate::proofs::Counting::replicate_more))]
-pub(crate) fn free_places(alloc: Global) -> Result<Vec<Option<Count>>, AllocError>
+pub(crate) fn free_places<T: Copy>(alloc: Global) -> Result<Vec<Option<T>>, AllocError>
     ensures { IfOk result (λ places. places.items ≡ replicate 64 None) }
 {
     let mut places = Vec::new(alloc);

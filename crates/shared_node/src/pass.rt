@@ -1,6 +1,7 @@
 //! Leave for one conversation's calls.
 
 use crate::calls::CallList;
+use crate::wish::Wish;
 
 /// Leave for the calls of one conversation of a book. It counts those that were listed, and shows them to
 /// clauses, with their answers.
@@ -34,5 +35,16 @@ impl Pass {
         ensures { result ≡ self.now.count }
     {
         self.count
+    }
+
+    /// That its conversation waits to commit as its next call.
+    pub fn wish(&self) -> Wish
+        ensures { result ≡ record { conversation = self.now.conversation; place = self.now.place; count = self.now.count } }
+    {
+        Wish {
+            conversation: self.conversation,
+            place: self.place,
+            count: self.count,
+        }
     }
 }

@@ -1,8 +1,11 @@
 //! A book under a lock.
 
 use crate::book::Book;
+use crate::held::Held;
+use crate::numbering::PLACES;
 use crate::pass::Pass;
 use crate::turn::{Begun, Turn, time};
+use crate::waiting::Waiting;
 use drda_disk::Disk;
 use durable_core::DurableCore;
 use std::alloc::Global;
@@ -14,7 +17,8 @@ use std::time::Clock;
 /// what the call made of it, and that it was kept then.
 #[derive(Drop)]
 pub struct Shared<D: Disk> {
-    pub(crate) book: Mutex<Book<D>>,
+    pub(crate) held: Mutex<Held<D>>,
+    pub(crate) waiting: Waiting,
 }
 
 impl<D: Disk> Shared<D> {
@@ -26,9 +30,16 @@ impl<D: Disk> Shared<D> {
     pub fn new(alloc: Global, core: DurableCore<D>) -> Result<Shared<D>, DurableCore<D>>
         ensures { IfErr result (λ back. back ≡ core) }
     {
+        let Ok(waiting) = Waiting::new(alloc) else {
+            return Err(core);
+        };
+        let Ok(wishes) = Vec::with_capacity(alloc, PLACES) else {
+            return Err(core);
+        };
         let book = Book::open(alloc, core)?;
         Ok(Shared {
-            book: Mutex::new(book),
+            held: Mutex::new(Held { book, wishes }),
+            waiting,
         })
     }
 
@@ -36,7 +47,7 @@ impl<D: Disk> Shared<D> {
     pub fn admit<R: Wait>(&self, rt: &R) -> Option<Pass>
         ensures { IfSome result (λ pass. (pass.place < 64) × (pass.count ≡ 0) × (calls_in pass ≡ [])) }
     {
-        self.book.lock(rt).admit()
+        self.held.lock(rt).book.admit()
     }
 
     /// Writes a checkpoint where one is due, and tells what its turn at the lock was like.
@@ -44,8 +55,8 @@ impl<D: Disk> Shared<D> {
         ensures { UnderLock D.is_modelled D.life (Considers result) }
     {
         let came = time(rt);
-        let mut guard = self.book.lock(rt);
-        let book = &mut *guard;
+        let mut guard = self.held.lock(rt);
+        let book = &mut guard.book;
         book.is_kept();
         let begun = Begun::new(rt, came, book);
         book.consider_checkpoint();
@@ -58,8 +69,8 @@ impl<D: Disk> Shared<D> {
     pub fn retire<R: Wait>(&self, rt: &R, pass: Pass) -> bool
         ensures { UnderLock D.is_modelled D.life (Retires pass result) }
     {
-        let mut guard = self.book.lock(rt);
-        let book = &mut *guard;
+        let mut guard = self.held.lock(rt);
+        let book = &mut guard.book;
         book.is_kept();
         let is_taken = book.retire(pass);
         book.is_kept();
@@ -74,7 +85,7 @@ impl<D: Disk> Shared<D> {
         ensures listed { IfOk result (AreListed passes.items) }
         ensures stranger { IfErr result (λ book. AreJust passes.items book → ⊥) }
     {
-        let book = self.book.into_inner();
+        let book = self.held.into_inner().book;
         if book.is_just(&passes) {
             return Ok(book);
         }

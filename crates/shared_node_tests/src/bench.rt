@@ -100,10 +100,10 @@ impl<'r, R: Wait + Clock> Calls for Bench<'r, R> {
 
     fn xa(
         &mut self,
-        _conversation: u64,
-        _request: Result<Request, InvalidRequest>,
+        conversation: u64,
+        request: Result<Request, InvalidRequest>,
     ) -> Option<Answer> {
-        None
+        self.desks.ask_xa(conversation, Some(request))
     }
 
     // `fresh` is a core over a fresh store, `stops N` one whose device fails behind so many calls more, and `core` that of the book; `book` a new
@@ -127,6 +127,7 @@ impl<'r, R: Wait + Clock> Calls for Bench<'r, R> {
             "holds" | "writes" | "back" | "consider" | "close" => {
                 self.locks.tell(self.rt, verb, rest, out)
             }
+            "wish" | "gather" | "collect" => self.desks.tell_of_groups(verb, rest, out),
             _ => self.desks.tell(verb, rest, out),
         }
     }

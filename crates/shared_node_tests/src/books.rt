@@ -3,19 +3,20 @@
 use core_calls::{Answer, CoreCall};
 use drda_disk::{FuseDisk, MemDisk};
 use durable_core::DurableCore;
-use shared_node::{Acted, Book, Pass};
+use shared_node::{Acted, Book, Pass, Wish};
 use std::alloc::{AllocError, Global};
 use test_calls::push_text;
 
 /// A core over a disk in memory that may fail.
 pub type Core = DurableCore<FuseDisk<MemDisk>>;
 
-/// A book, and passes in the order in which they were given, from 1 on.
+/// A book, passes in the order in which they were given, from 1 on, and wishes to commit.
 #[derive(Drop)]
 pub struct Desks {
-    alloc: Global,
-    book: Option<Book<FuseDisk<MemDisk>>>,
-    passes: Vec<Option<Pass>>,
+    pub(crate) alloc: Global,
+    pub(crate) book: Option<Book<FuseDisk<MemDisk>>>,
+    pub(crate) passes: Vec<Option<Pass>>,
+    pub(crate) wishes: Vec<Wish>,
     strangers: u64,
 }
 
@@ -47,6 +48,7 @@ impl Desks {
             alloc,
             book: None,
             passes: Vec::new(alloc),
+            wishes: Vec::new(alloc),
             strangers: 0,
         }
     }
@@ -62,9 +64,10 @@ impl Desks {
         }
     }
 
-    /// There is no pass any more.
+    /// There is no pass any more, and no wish.
     pub fn forget(&mut self) {
         self.passes.clear();
+        self.wishes.clear();
     }
 
     /// What the book answers to a call with the pass of this number: to a stranger's, which is counted, as where it is closed.

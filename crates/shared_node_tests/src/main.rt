@@ -4,6 +4,7 @@
 
 mod bench;
 mod books;
+mod groups;
 mod locks;
 mod tallies;
 

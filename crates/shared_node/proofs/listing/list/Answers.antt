@@ -3,7 +3,9 @@ use Rattle.serializability.specs.Answered.{AnsweredCall}
 use Rattle.shared_node.specs.declared.count.Count.{Count}
 use Rattle.shared_node.specs.Books.{AreCounted}
 use Rattle.shared_node.specs.Passes.{count_of}
+use Rattle.shared_node.specs.LeftAnswers.{AreLeft}
 use Rattle.shared_node.proofs.Counting.{one_more}
+use Rattle.shared_node.proofs.Leaving.{left_still}
 use Rattle.shared_node.proofs.listing.list.Goals as goal
 
 pub returns-clause-counted : goal.returns-clause-counted
@@ -13,3 +15,6 @@ returns-clause-counted c next counted =
     let now : Count = record { conversation = pass.conversation; calls = pass.count + 1 } in
     subst (λ (ls : List AnsweredCall). AreCounted ls (slice_set places pass.place (Some now)) next) (sym c.note.ensures)
     (one_more c.args.calls.now.listed places next counted pass.place (count_of pass) now _ c.requires.here refl refl refl)
+
+pub returns-clause-left : goal.returns-clause-left
+returns-clause-left c left are = subst (λ (ls : List AnsweredCall). AreLeft ls left) (sym c.note.ensures) (left_still c.args.calls.now.listed _ left are)

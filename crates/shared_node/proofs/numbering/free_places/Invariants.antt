@@ -2,4 +2,4 @@ use Rattle.std.proofs.Common.{◌≡◌, None, replicate}
 use Rattle.shared_node.proofs.numbering.free_places.Given as goal
 
 abbrev pub invariant-loop : goal.invariant-loop
-invariant-loop l = l.places.items ≡ replicate l.counter None
+invariant-loop g l = l.places.items ≡ replicate l.counter None

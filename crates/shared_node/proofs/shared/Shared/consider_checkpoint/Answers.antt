@@ -3,7 +3,7 @@ use Rattle.shared_node.proofs.shared.Shared.consider_checkpoint.Goals as goal
 
 pub returns : goal.returns
 returns g c = record {
-  found = c.deref_mut-book.result.now;
+  found = c.deref_mut.result.now.book;
   left = c.consider_checkpoint.new.self;
   was_kept = c.is_kept.ensures;
   is_kept = c.is_kept-2.ensures;

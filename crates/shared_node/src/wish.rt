@@ -1,0 +1,9 @@
+//! Wishes to commit.
+
+/// That a conversation waits to commit as its next call: who it is, where it has leave, and how many calls it has made.
+#[derive(Clone, Copy)]
+pub struct Wish {
+    pub(crate) conversation: u64,
+    pub(crate) place: usize,
+    pub(crate) count: u64,
+}
