@@ -10,7 +10,7 @@ use command_kit::Ask;
 use core_calls::{Answer, CoreCall};
 use drda_disk::Disk;
 use std::sync::Wait;
-use std::time::{Clock, Instant};
+use std::time::Clock;
 
 /// One conversation at the book, which is asked under the lock, call by call: its turn comes outside of the
 /// lock, the call and what it lists are one step inside of it. Commits that wait for the lock are made together by the
@@ -65,17 +65,14 @@ impl<'a, D: Disk, R: Wait + Clock, G: Gate> Desk<'a, D, R, G> {
         self.pass
     }
 
-    // The conversation comes to wait for the lock. When it came, where the clock can be read.
-    fn come(&self, is_commit: bool) -> Option<Instant> {
+    // The conversation comes to the lock: whether it leads a group of commits.
+    fn come(&self, is_commit: bool) -> bool {
         let waiting = &self.shared.waiting;
-        if !is_commit {
-            waiting.come();
-            return time(self.rt);
+        if is_commit {
+            return waiting.wish(self.rt, self.pass.wish());
         }
-        waiting.wish(self.rt, self.pass.wish());
-        let came = time(self.rt);
-        waiting.let_others_go();
-        came
+        waiting.come();
+        false
     }
 }
 
@@ -88,7 +85,8 @@ impl<'a, D: Disk, R: Wait + Clock, G: Gate> Ask for Desk<'a, D, R, G> {
         self.gate.turn(self.pass.conversation(), self.asked);
         self.asked = self.asked.wrapping_add(1);
         let is_commit = is_commit(call);
-        let came = self.come(is_commit);
+        let came = time(self.rt);
+        let leads = self.come(is_commit);
         let (acted, turn) = {
             let mut guard = self.shared.held.lock(self.rt);
             let held = &mut *guard;
@@ -100,6 +98,9 @@ impl<'a, D: Disk, R: Wait + Clock, G: Gate> Ask for Desk<'a, D, R, G> {
             }
             (acted, begun.end(self.rt, &held.book))
         };
+        if leads {
+            self.shared.waiting.end(self.rt);
+        }
         self.waited = self.waited.max(turn.waited);
         self.held = self.held.max(turn.held);
         self.gate.after(self.pass.conversation(), &turn);
