@@ -39,7 +39,10 @@ pub(crate) fn ask<D: Disk>(
 }
 
 /// Conversations commit together, and the answer is whether the device failed at it. None where nothing was done.
-pub(crate) fn ask_together<D: Disk>(core: &mut DurableCore<D>, conversations: &[u64]) -> Option<bool>
+pub(crate) fn ask_together<D: Disk>(
+    core: &mut DurableCore<D>,
+    conversations: &[u64],
+) -> Option<bool>
     ensures some { IfSome result (λ has_failed. CommitTogether (shown_on D.life core.old) conversations.now (if has_failed then DeviceFailed else Done) (shown_on D.life core.new)) }
     ensures none { result ≡ None → IsUnchanged (shown_on D.life core.old) (shown_on D.life core.new) }
     ensures journaled { Journaled D.is_modelled (shown_on D.life core.old) (shown_on D.life core.new) }

@@ -44,7 +44,8 @@ fn left_for(places: &[Option<Count>], left: &[Option<Left>], pass: &Pass) -> Opt
 {
     let count = (*places.get(pass.place)?)?;
     let answer = (*left.get(pass.place)?)?;
-    let is_counted = count.conversation == pass.conversation && Some(count.calls) == pass.count.checked_add(1);
+    let is_counted = count.conversation == pass.conversation
+        && Some(count.calls) == pass.count.checked_add(1);
     let is_its = answer.conversation == pass.conversation && answer.number == pass.count;
     if is_counted && is_its {
         return Some(answer.has_failed);

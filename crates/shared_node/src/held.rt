@@ -23,7 +23,14 @@ impl<D: Disk> Held<D> {
 
     /// Does one call of a pass that is no commit, or a commit: that may have been made with others' meanwhile; else it is
     /// made with those of all who wait; else alone.
-    pub(crate) fn act<R: Wait>(&mut self, rt: &R, waiting: &Waiting, pass: &mut Pass, call: &CoreCall<'_, '_>, is_commit: bool) -> Acted
+    pub(crate) fn act<R: Wait>(
+        &mut self,
+        rt: &R,
+        waiting: &Waiting,
+        pass: &mut Pass,
+        call: &CoreCall<'_, '_>,
+        is_commit: bool,
+    ) -> Acted
         requires { is_commit ≡ true → call_of call.now ≡ commit }
         ensures { DeskActs pass.old (call_of call.now) result pass.new }
     {

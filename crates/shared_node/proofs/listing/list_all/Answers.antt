@@ -4,7 +4,6 @@ use Rattle.serializability.specs.Answered.{AnsweredCall}
 use Rattle.shared_node.specs.declared.count.Count.{Count}
 use Rattle.shared_node.specs.declared.left.Left.{Left}
 use Rattle.shared_node.specs.declared.wish.Wish.{Wish}
-use Rattle.shared_node.specs.LeftAnswers.{commit_listed}
 use Rattle.shared_node.specs.Gathered.{all_counted, all_left, all_listed, count_at}
 use Rattle.shared_node.proofs.Counting.{set_length}
 use Rattle.shared_node.proofs.Members.{known_still, nobody, rest_is}
@@ -23,9 +22,9 @@ loop-member-preserved c =
     let here : slice_get members i ≡ Some (get_or members i nobody) = slice_get-get_or members i nobody c.loop-member-test.true in
     record {
       known = subst (λ (ps : List (Option Count)). (k : ℕ) (v : Wish) → i + 1 ≤ k → slice_get members k ≡ Some v → slice_get ps v.place ≡ Some (Some (count_at v))) (sym done.places)
-        (known_still now.places.items members i (get_or members i nobody) _ c.requires.apart here kept.known);
+          (known_still now.places.items members i (get_or members i nobody) _ c.requires.apart here kept.known);
       calls = ap (λ (ls : List AnsweredCall). ls ++ all_listed f more) done.calls ∙ append_assoc now.calls.listed _ (all_listed f more)
-        ∙ ap (λ (ws : List Wish). now.calls.listed ++ all_listed f ws) (sym rest) ∙ kept.calls;
+          ∙ ap (λ (ws : List Wish). now.calls.listed ++ all_listed f ws) (sym rest) ∙ kept.calls;
       places = ap (λ (ps : List (Option Count)). all_counted more ps) done.places ∙ ap (λ (ws : List Wish). all_counted ws now.places.items) (sym rest) ∙ kept.places;
       left = ap (λ (ls : List (Option Left)). all_left f more ls) done.left ∙ ap (λ (ws : List Wish). all_left f ws now.left.items) (sym rest) ∙ kept.left;
       counted = λ next old. done.counted next (kept.counted next old);

@@ -25,9 +25,9 @@ invariant_of-self-2 g c =
     let members = c.deref-3.result.now in
     let f = c.in-Some.has_failed in
     let conversations : c.deref-2.result.now ≡ conversations_of members =
-      c.deref-2.ensures.value ∙ c.choose.ensures.conversations c.if-not-choose.false ∙ ap (λ (ws : List Wish). conversations_of ws) (sym c.deref-3.ensures.value) in
+    c.deref-2.ensures.value ∙ c.choose.ensures.conversations c.if-not-choose.false ∙ ap (λ (ws : List Wish). conversations_of ws) (sym c.deref-3.ensures.value) in
     let together =
-      subst (λ (ns : List ℕ). CommitTogether (shown_on g.D.Disk.life inside.core) ns (if f then DeviceFailed else Done) (shown_on g.D.Disk.life c.ask_together.new.core)) conversations c.in-Some.ensures.some in
+    subst (λ (ns : List ℕ). CommitTogether (shown_on g.D.Disk.life inside.core) ns (if f then DeviceFailed else Done) (shown_on g.D.Disk.life c.ask_together.new.core)) conversations c.in-Some.ensures.some in
     gathers_on g.D.Disk.is_modelled g.D.Disk.life c.answers_are_serial.ensures.lead_on inside.core inside.opening.value c.ask_together.new.core inside.calls.listed c.list_all.new.calls.listed inside.places.items c.list_all.new.places.items inside.left.items
     c.list_all.new.left.items inside.next members f c.list_all.ensures.calls c.list_all.ensures.places_stay c.list_all.ensures.left_stay (c.list_all.ensures.counted inside.next) (c.list_all.ensures.are_left inside.next)
     (c.calls_go_on.ensures.both g.D.Disk.is_modelled inside.opening.value inside.core c.ask_together.new.core) c.self.invariant together c.ask_together.ensures.journaled
@@ -40,14 +40,14 @@ returns-clause-gathers g c =
     let chosen = c.if-not-choose.false in
     let book : Told g.row.D.Denot = record { core = inside.core; opening = inside.opening.value; calls = inside.calls.listed; places = inside.places.items; left = inside.left.items; next = inside.next } in
     let new : Told g.row.D.Denot =
-      record { core = c.ask_together.new.core; opening = inside.opening.value; calls = c.list_all.new.calls.listed; places = c.list_all.new.places.items; left = c.list_all.new.left.items; next = inside.next } in
+    record { core = c.ask_together.new.core; opening = inside.opening.value; calls = c.list_all.new.calls.listed; places = c.list_all.new.places.items; left = c.list_all.new.left.items; next = inside.next } in
     let conversations : c.deref-2.result.now ≡ conversations_of members = c.deref-2.ensures.value ∙ c.choose.ensures.conversations chosen ∙ ap (λ (ws : List Wish). conversations_of ws) (sym c.deref-3.ensures.value) in
     inr
     (subst (λ (b : Told g.row.D.Denot). Gathers {D = g.row.D.Denot} g.D.Disk.life b c.args.wishes.now new) c.self.view_is
     (record {
       members = members;
       each = subst (λ (ws : List Wish). AreMembers inside.places.items c.args.wishes.now ws) (sym c.deref-3.ensures.value)
-        (subst (λ (ps : List (Option Count)). AreMembers ps c.args.wishes.now c.choose.new.self.members.items) c.deref.ensures.value (c.choose.ensures.members chosen));
+          (subst (λ (ps : List (Option Count)). AreMembers ps c.args.wishes.now c.choose.new.self.members.items) c.deref.ensures.value (c.choose.ensures.members chosen));
       apart = subst (λ (ws : List Wish). AreApart ws) (sym c.deref-3.ensures.value) (c.choose.ensures.apart chosen);
       has_failed = f;
       core = subst (λ (ns : List ℕ). CommitTogether (shown_on g.D.Disk.life inside.core) ns (if f then DeviceFailed else Done) (shown_on g.D.Disk.life c.ask_together.new.core)) conversations c.in-Some.ensures.some;
