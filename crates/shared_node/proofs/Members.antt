@@ -1,10 +1,10 @@
 -- Commits that are made together: who is chosen, how each is counted, and where they lead.
-use Rattle.std.proofs.Common.{◌≡◌, ◌⊎◌, ◌<◌, ◌≤◌, ◌+◌, ⊎_elim, ℕ, zero, suc, Bool, true, false, if◌then◌else◌, List, [], ◌∷◌, ◌++◌, map, Option, Some, None, drop, get_or, length, slice_get, slice_set, refl, sym, ap, subst, ◌∙◌, inl, inr, arith, add-one}
+use Rattle.std.proofs.Common.{◌≡◌, ◌⊎◌, ◌<◌, ◌≤◌, ◌+◌, ⊎_elim, ℕ, zero, suc, List, [], ◌∷◌, ◌++◌, Option, Some, drop, get_or, length, slice_get, slice_set, refl, sym, ap, subst, ◌∙◌, inl, inr, arith, add-one}
 use Rattle.std.proofs.Math.Seq.{drop-cons}
 use Rattle.shared_node.specs.declared.count.Count.{Count}
 use Rattle.shared_node.specs.declared.wish.Wish.{Wish}
 use Rattle.shared_node.specs.Gathered.{AreApart, AreMembers, IsMember, count_at}
-use Rattle.shared_node.proofs.Counting.{get_below, get_other}
+use Rattle.shared_node.proofs.Counting.{get_other}
 
 -- ---- who is chosen
 

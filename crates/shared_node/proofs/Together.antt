@@ -2,12 +2,10 @@
 use Rattle.std.proofs.Common.{◌≡◌, ℕ, Bool, true, false, if◌then◌else◌, List, [], ◌∷◌, ◌++◌, Option, Some, None, refl, sym, subst}
 use Rattle.std.specs.Prelude.{◌&&◌, is_some, not}
 use Rattle.drda_disk.specs.Disk.{Life}
-use Rattle.xa_manager.specs.declared.branch.Branch.{Branch}
 use Rattle.xa_manager.specs.Branch.{joined_xid}
 use Rattle.core_calls.specs.Call.{commit}
 use Rattle.core_calls.specs.Answer.{done, in_global}
 use Rattle.core_model.specs.Step.{CoreState, step_state, unless_joined}
-use Rattle.core_model.specs.Laws.{answered}
 use Rattle.unit_records.specs.Together.{all_committed, are_local}
 use Rattle.serializability.specs.Answered.{AnsweredCall, CallsLead, CallsLeadOn}
 use Rattle.recovery.specs.Journaled.{OnDisk, shown_on}

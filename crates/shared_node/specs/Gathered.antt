@@ -5,7 +5,6 @@ use Rattle.core_calls.specs.Answer.{Answer}
 use Rattle.serializability.specs.Answered.{AnsweredCall}
 use Rattle.recovery.specs.Journaled.{IsUnchanged, shown_on}
 use Rattle.durable_core.specs.Together.{CommitTogether}
-use Rattle.durable_core.specs.declared.together.Together.{Together}
 use Rattle.durable_core.specs.declared.together.Together.TheVariants.{DeviceFailed, Done}
 use Rattle.shared_node.specs.declared.count.Count.{Count}
 use Rattle.shared_node.specs.declared.left.Left.{Left}

@@ -4,7 +4,6 @@ use Rattle.serializability.specs.Answered.{AnsweredCall}
 use Rattle.shared_node.specs.declared.count.Count.{Count}
 use Rattle.shared_node.specs.declared.left.Left.{Left}
 use Rattle.shared_node.specs.declared.wish.Wish.{Wish}
-use Rattle.shared_node.specs.LeftAnswers.{commit_listed}
 use Rattle.shared_node.specs.Gathered.{all_counted, all_left, all_listed, count_at}
 use Rattle.shared_node.proofs.Counting.{set_length}
 use Rattle.shared_node.proofs.Members.{known_still, nobody, rest_is}
