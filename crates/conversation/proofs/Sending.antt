@@ -1,28 +1,23 @@
 -- Commands that are answered at once, and the judge's word.
-use Rattle.std.proofs.Common.{◌≡◌, ◌++◌, ℕ, ◌+◌, false, List, [], ◌∷◌, length, take, drop, Option, Some, None, Result, Ok, Err, OnOk, OnErr, refl, sym, ap, ◌∙◌, subst, inr, append_assoc, arith, length-append}
+use Rattle.std.proofs.Common.{◌≡◌, ◌++◌, ℕ, ◌+◌, List, [], ◌∷◌, length, take, drop, Option, Some, None, Result, Ok, Err, OnOk, refl, sym, ap, ◌∙◌, subst, append_assoc, arith, length-append}
 use Rattle.std.specs.Prelude.{vec_len}
 use Rattle.std.specs.Global.{Vec}
 use Rattle.std.proofs.lemmas.List.{drop_at, take-take, take_at}
 use Rattle.core_calls.specs.Call.{Call}
 use Rattle.core_calls.specs.Answer as core
-use Rattle.drda_words.specs.Excuse.{Answers}
-use Rattle.dss_frames.specs.Dss.{Dss}
 use Rattle.dss_frames.specs.Writing.{unset}
-use Rattle.drda_commands.specs.declared.judging.Accepted as rust_accepted
 use Rattle.drda_commands.specs.declared.refusal.Refusal.{Refusal}
 use Rattle.drda_commands.specs.Judge.{Accepted}
-use Rattle.drda_commands.specs.Views.{accepted_of}
 use Rattle.command_kit.specs.declared.statements.Statements.{Statements}
 use Rattle.conversation.specs.declared.chain.Link.{Link}
 use Rattle.session_commands.specs.declared.session.Session.{Session}
 use Rattle.session_commands.specs.Access.{Answer, access_done, refused}
 use Rattle.session_commands.specs.declared.answer.Answer as rust_answer
 use Rattle.session_commands.specs.Views.{IsAppended, answer_of}
-use Rattle.conversation.specs.Exchange.{Plan, at_once, at_once_or, link_of, plan, plan_for, sent, database_plan}
-use Rattle.conversation.specs.Done.{Exchanges}
+use Rattle.conversation.specs.Exchange.{Plan, at_once, at_once_or, plan, sent, database_plan}
 use Rattle.session_commands.specs.Settings.{Settings}
 use Rattle.conversation.specs.Standing.{Standing}
-use Rattle.conversation.specs.Views.{Appends, verdict_of}
+use Rattle.conversation.specs.Views.{Appends}
 
 -- ---- a text that was appended in a DSS that was opened for it
 
@@ -37,7 +32,7 @@ pub record IsSent {T E : Type 0} (r : Result T E) (link : Link) (due : Answer) (
   pub bytes_are : OnOk r (new ≡ old ++ (sent link due.session (due.reply ∷ [])).bytes)
 
 -- the DSS was closed behind an answer that is due
-pub sent_in_place : {T E : Type 0} (r : Result T E) (link : Link) (answer : rust_answer.Answer) (due : Answer) (at : ℕ) (session : Session) (old mid new : List ℕ)
+sent_in_place : {T E : Type 0} (r : Result T E) (link : Link) (answer : rust_answer.Answer) (due : Answer) (at : ℕ) (session : Session) (old mid new : List ℕ)
     → at ≡ length old → IsAppended answer (old ++ unset) mid due
     → OnOk r (session ≡ (sent link answer.session ((answer_of answer (drop (at + 6) mid)).reply ∷ [])).session)
     → OnOk r (new ≡ take at mid ++ (sent link answer.session ((answer_of answer (drop (at + 6) mid)).reply ∷ [])).bytes)
@@ -53,21 +48,21 @@ sent_in_place r link answer due at session old mid new place (is, made) goes byt
       bytes_are = subst (λ (f : List ℕ). OnOk r (new ≡ f ++ (sent link due.session (due.reply ∷ [])).bytes)) front (subst B same bytes);
     }
 
--- and it is taken away where there is no memory, behind an answer or in the middle of it
-pub taken_away : {T E : Type 0} (r : Result T E) (answer : rust_answer.Answer) (due : Answer) (at : ℕ) (old mid new : List ℕ)
-    → at ≡ length old → IsAppended answer (old ++ unset) mid due → OnErr r (new ≡ take at mid) → OnErr r (new ≡ old)
-taken_away (Ok x) answer due at old mid new place (is, made) cut = tt
-taken_away (Err e) answer due at old mid new place (is, made) cut = cut ∙ front_before old mid (unset ++ due.reply.text) at place (made ∙ append_assoc old unset due.reply.text)
+-- the same of a DSS that was opened behind what stood there
+pub sent_behind : {T E : Type 0} (r : Result T E) (link : Link) (answer : rust_answer.Answer) (due : Answer) (v w : Vec ℕ) (at : ℕ) (session : Session) (mid new : List ℕ)
+    → at ≡ vec_len v → w.items ≡ v.items ++ unset → IsAppended answer w.items mid due
+    → OnOk r (session ≡ (sent link answer.session ((answer_of answer (drop (at + 6) mid)).reply ∷ [])).session)
+    → OnOk r (new ≡ take at mid ++ (sent link answer.session ((answer_of answer (drop (at + 6) mid)).reply ∷ [])).bytes)
+    → IsSent r link due session v.items new
+sent_behind r link answer due v w at session mid new place opened made goes bytes =
+    sent_in_place r link answer due at session v.items mid new (omega (arith, place, v.ok.0)) (subst (λ (f : List ℕ). IsAppended answer f mid due) opened made) goes bytes
 
+-- and it is taken away where there is no memory
 pub taken_back : (v w : Vec ℕ) (at : ℕ) (next : List ℕ) → at ≡ vec_len v → w.items ≡ v.items ++ unset → take (vec_len w) next ≡ w.items → take at next ≡ v.items
 taken_back v w at next place opened kept =
     let long = ap length opened ∙ length-append v.items unset in
     let here : at ≡ length v.items = omega (arith, place, v.ok.0) in
     sym (take-take at (vec_len w) next (omega (arith, long, here, w.ok.0))) ∙ ap (take at) kept ∙ front_before v.items w.items unset at here opened
-
-pub verdict_is : (r : Result rust_accepted.Accepted Refusal) (v : Result Accepted Refusal) → Answers accepted_of Some r v → verdict_of r ≡ v
-verdict_is (Ok x) v h = sym h
-verdict_is (Err e) v h = sym h
 
 module _ {A : Type 0} (asks : A → Call → core.Answer → A → Type 0) where
   -- one reply was sent, and nothing was asked
@@ -114,14 +109,3 @@ module _ {A : Type 0} (asks : A → Call → core.Answer → A → Type 0) where
       let here : plan settings s.session s.statements v ≡ otherwise =
       ap (plan settings s.session s.statements) is ∙ ap (λ (f : Option Answer). at_once_or s.statements f otherwise) none in
       subst (λ (p : Plan). Appends asks p link s out s' out') (sym here) done
-
-  -- a plan that was followed is the exchange
-  pub turned : (settings : Settings) (s s' : Standing A) (command : List Dss) (request : Dss) (objects : List Dss) (link : Link) (p : Plan) (out out' : List ℕ)
-      → command ≡ request ∷ objects → link ≡ link_of request objects → s.session.is_broken ≡ false → p ≡ plan_for settings s.session s.statements request objects
-      → Appends asks p link s out s' out' → (bytes : List ℕ) × Exchanges asks settings s command bytes s' × (out' ≡ out ++ bytes)
-  turned settings s s' command request objects link p out out' is linked whole planned done =
-      let P : Plan → Type 0 = λ q. Appends asks q link s out s' out' in
-      let L : Link → Type 0 = λ l. Appends asks (plan_for settings s.session s.statements request objects) l s out s' out' in
-      let followed : Appends asks (plan_for settings s.session s.statements request objects) (link_of request objects) s out s' out' = subst L linked (subst P planned done) in
-      let C : List Dss → Type 0 = λ c. (bytes : List ℕ) × Exchanges asks settings s c bytes s' × (out' ≡ out ++ bytes) in
-      subst C (sym is) (followed.0, inr (record { not_broken = whole; followed = followed.1 }), followed.2)

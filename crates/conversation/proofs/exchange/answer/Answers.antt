@@ -1,4 +1,4 @@
-use Rattle.std.proofs.Common.{◌≡◌, ap, sym, ◌∙◌, Option, option_map}
+use Rattle.std.proofs.Common.{ap, sym, ◌∙◌, option_map}
 use Rattle.drda_commands.specs.Views.{accepted_of}
 use Rattle.session_commands.specs.declared.answer.AtOnce.{AtOnce}
 use Rattle.session_commands.specs.Access.{Answer, answered_at_once}

@@ -1,18 +1,12 @@
-use Rattle.std.proofs.Common.{◌≡◌, ℕ, List, ◌++◌, length, subst, ◌∙◌, arith}
-use Rattle.dss_frames.specs.Writing.{unset}
+use Rattle.std.proofs.Common.{◌∙◌}
 use Rattle.session_commands.specs.Access as answers
-use Rattle.session_commands.specs.Views.{IsAppended}
-use Rattle.conversation.proofs.Sending.{sent_in_place, taken_back}
+use Rattle.conversation.proofs.Sending.{sent_behind, taken_back}
 use Rattle.conversation.proofs.exchange.refuse.Goals as goal
 
 pub returns-in-Ok-clause-bytes : goal.returns-in-Ok-clause-bytes
 returns-in-Ok-clause-bytes c =
-    let due : answers.Answer = answers.refused c.args.settings.now c.args.state.now.session c.args.refusal in
-    let old : List ℕ = c.args.out.now.items in
-    let mid : List ℕ = c.refused.new.out.items in
-    let place : c.in_ok-dss.dss.at ≡ length old = omega (arith, c.in_ok-dss.ensures.opened, c.args.out.now.ok.0) in
-    let made : IsAppended c.in-Ok.answer (old ++ unset) mid due = subst (λ (f : List ℕ). IsAppended c.in-Ok.answer f mid due) c.in_ok-dss.ensures.ok c.in-Ok.ensures.ok in
-    (sent_in_place c.send_one.result c.args.link c.in-Ok.answer due c.in_ok-dss.dss.at c.send_one.new.state.session old mid c.send_one.new.out.items place made c.send_one.ensures.session c.send_one.ensures.bytes).bytes_are
+    (sent_behind c.send_one.result c.args.link c.in-Ok.answer (answers.refused c.args.settings.now c.args.state.now.session c.args.refusal) c.args.out.now c.open_dss.new.out c.in_ok-dss.dss.at c.send_one.new.state.session c.refused.new.out.items c.send_one.new.out.items
+    c.in_ok-dss.ensures.opened c.in_ok-dss.ensures.ok c.in-Ok.ensures.ok c.send_one.ensures.session c.send_one.ensures.bytes).bytes_are
 
 pub returns-in-Err-clause-err_out : goal.returns-in-Err-clause-err_out
 returns-in-Err-clause-err_out c =
