@@ -1,19 +1,20 @@
-//! A core that writes no records, and what is asked of it.
+//! A core that counts its records, and what is asked of it.
 
+use crate::room::Room;
 use crate::shown::{push_branches, push_changes, push_state};
 use core_calls::{Answer, CoreCall};
 use rdb_core::Core;
 use std::alloc::Global;
 use tables::TableView;
 use test_calls::{Calls, Scripts, push_text};
-use unit_records::NoRecords;
+use unit_records::RecordError;
 use xa_calls::{InvalidRequest, Request};
 
 /// A core.
 #[derive(Drop)]
 pub struct Bench {
     alloc: Global,
-    core: Core<NoRecords>,
+    core: Core<Room>,
 }
 
 impl Bench {
@@ -21,7 +22,7 @@ impl Bench {
     pub fn new(alloc: Global) -> Bench {
         Bench {
             alloc,
-            core: Core::start(alloc, NoRecords),
+            core: Core::start(alloc, Room::ample()),
         }
     }
 
@@ -44,6 +45,7 @@ impl Bench {
             "tables" => plain.into_tables().tables().ok()?,
             "known" => plain.branches().len(),
             "doubts" => self.count_in_doubt(),
+            "records" => self.core.recorder().records,
             _ => return None,
         };
         push_text(out, &format!(in self.alloc; "{count} {verb}").ok()?)
@@ -56,7 +58,8 @@ impl Bench {
         }
         match self.core.commit_together(conversations) {
             Ok(()) => "all done",
-            Err(_) => "refused",
+            Err(RecordError::Full { .. }) => "full",
+            Err(_) => "no memory",
         }
     }
 
@@ -95,7 +98,8 @@ impl Calls for Bench {
     }
 
     // `fresh` is a core without tables. `look` shows the rows of T, the units that have work, and the branches; `branches` those alone, and
-    // `changes` how many changes the first unit has, and their bytes. `together` commits the conversations of these numbers, in this order. `tables`, `known` and `doubts` count tables and branches.
+    // `changes` how many changes the first unit has, and their bytes. `together` commits the conversations of these numbers, in this order;
+    // behind `room` a commit has so many changes at most. `tables`, `known`, `doubts` and `records` count tables, branches and records.
     fn do_other(
         &mut self,
         _scripts: &Scripts,
@@ -105,13 +109,17 @@ impl Calls for Bench {
     ) -> Option<()> {
         match verb {
             "fresh" => {
-                self.core = Core::start(self.alloc, NoRecords);
+                self.core = Core::start(self.alloc, Room::ample());
                 push_text(out, "no table")
             }
             "look" => push_state(self.alloc, self.core.plain().ok()?, out),
             "branches" => push_branches(self.alloc, self.core.plain().ok()?.branches(), out),
             "changes" => push_changes(self.alloc, self.core.plain().ok()?.units(), out),
             "together" => self.push_together(rest, out),
+            "room" => {
+                self.core.recorder.changes = rest.parse::<usize>().ok()?;
+                push_text(out, "so many")
+            }
             _ => self.push_count(verb, out),
         }
     }

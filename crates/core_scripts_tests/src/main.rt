@@ -4,6 +4,7 @@
 #![tactic(auto)]
 
 mod bench;
+mod room;
 mod shown;
 
 use crate::bench::Bench;

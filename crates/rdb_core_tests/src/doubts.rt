@@ -22,7 +22,7 @@ fn tells_changes_and_claims(rt: HostRuntime) -> Result<(), Fail> {
     let mut core = Core::start(rt.alloc(), NoRecords);
     assert_eq!(rt; ask(&mut core, 1, Verb::Start, xid), Some(0));
     for (text, rows) in [(CREATE, 0), ("INSERT INTO T VALUES (1)", 1)] {
-        let answer = run(rt.alloc(), &mut core, 1, text);
+        let answer = run(rt.alloc(), &mut core, text);
         assert!(rt; matches!(answer, Some(Answer::Count(changed)) if changed == rows));
     }
     for verb in [Verb::End(Ending::Kept), Verb::Prepare] {

@@ -24,15 +24,10 @@ fn parsed<'a>(alloc: Global, text: &'a str) -> Result<Statement<'a>, SqlError> {
     parse(alloc, text)
 }
 
-// What a conversation is answered that runs this. It alone holds a statement, since a function that does so is dear to prove.
-pub fn run<R: Recorder>(
-    alloc: Global,
-    core: &mut Core<R>,
-    conversation: u64,
-    text: &str,
-) -> Option<Answer> {
+// What conversation 1 is answered that runs this. It alone holds a statement, since a function that does so is dear to prove.
+pub fn run<R: Recorder>(alloc: Global, core: &mut Core<R>, text: &str) -> Option<Answer> {
     let statement = parsed(alloc, text).ok()?;
-    let answer = core.run(conversation, &statement, &[]);
+    let answer = core.run(1, &statement, &[]);
     drop(statement);
     Some(answer)
 }

@@ -7,5 +7,3 @@ mod doubts;
 mod fixtures;
 #[cfg(test)]
 mod refusals;
-#[cfg(test)]
-mod together;

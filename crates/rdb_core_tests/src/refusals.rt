@@ -36,16 +36,15 @@ fn keeps_the_unit_where_its_record_is_refused(rt: HostRuntime) -> Result<(), Fai
     let created = run(
         rt.alloc(),
         &mut core,
-        1,
         "CREATE TABLE T (K INTEGER NOT NULL, PRIMARY KEY (K))",
     );
     assert!(rt; matches!(created, Some(Answer::Count(0))));
     assert!(rt; matches!(core.commit(1), Answer::Done));
     for _ in 0..2 {
-        let inserted = run(rt.alloc(), &mut core, 1, "INSERT INTO T VALUES (1)");
+        let inserted = run(rt.alloc(), &mut core, "INSERT INTO T VALUES (1)");
         assert!(rt; matches!(inserted, Some(Answer::Count(1))));
         assert!(rt; matches!(core.commit(1), Answer::Full { need: 9, room: 8 }));
-        let again = run(rt.alloc(), &mut core, 1, "INSERT INTO T VALUES (1)");
+        let again = run(rt.alloc(), &mut core, "INSERT INTO T VALUES (1)");
         assert!(rt; matches!(again, Some(Answer::Refused(_))));
         assert!(rt; matches!(core.roll_back(1), Answer::Done));
     }

@@ -1,0 +1,45 @@
+//! Who records what becomes of units here.
+
+use unit_records::{RecordContents, RecordError, Recorder};
+
+/// Refuses commits of more changes than there is room for, and counts the records that it makes.
+#[derive(Drop)]
+pub struct Room {
+    /// How many changes a commit may have.
+    pub changes: usize,
+    /// How many records there are.
+    pub records: usize,
+}
+
+impl Room {
+    /// For commits of any number of changes.
+    pub fn ample() -> Room {
+        Room {
+            changes: usize::MAX,
+            records: 0,
+        }
+    }
+}
+
+impl Recorder for Room {
+    ghost allows = { λ _ _. Unit {0} };
+
+    ghost records = { λ _ _ _. Unit {0} };
+
+    ghost fails = { λ _ _ _ _. Unit {0} };
+
+    fn record(&mut self, saying: RecordContents<'_>) -> Result<(), RecordError> {
+        match saying {
+            RecordContents::Commit { changes } if changes.len() > self.changes => {
+                Err(RecordError::Full {
+                    need: changes.len() as u64,
+                    room: self.changes as u64,
+                })
+            }
+            _ => {
+                self.records = self.records.wrapping_add(1);
+                Ok(())
+            }
+        }
+    }
+}
