@@ -1,5 +1,5 @@
 -- What is read of a store's head and of its journal.
-use Rattle.std.proofs.Common.{◌≡◌, ℕ, ◌+◌, ◌*◌, ◌≤◌, IsTrue, List, length, Result, Ok, Err, ◌∙◌, ap, subst, arith}
+use Rattle.std.proofs.Common.{◌≡◌, ℕ, ◌+◌, ◌≤◌, IsTrue, List, length, Result, Ok, Err, ◌∙◌, ap, subst, arith}
 use Rattle.half_store.specs.Active.{active_of}
 use Rattle.half_store.specs.Layout.{half_len, is_store_size, offset_of}
 use Rattle.half_store.specs.Opened.{IsBehindPages, Tells}

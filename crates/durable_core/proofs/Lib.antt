@@ -1,4 +1,6 @@
+pub mod Recording
 pub mod Stepping
+pub mod Gathering
 pub mod Doubted
 pub mod Heads
 pub mod Opened

@@ -3,7 +3,7 @@ use Rattle.std.proofs.Common.{◌≡◌, ℕ, List, [], ◌∷◌, ◌++◌, map
 use Rattle.std.proofs.lemmas.List.{map-append}
 use Rattle.xa_manager.specs.Branch.{in_doubt_xids}
 use Rattle.core_model.specs.Step.{CoreState}
-use Rattle.core_model.specs.Units.{Work, global, unit_of}
+use Rattle.core_model.specs.Units.{global, unit_of}
 use Rattle.unit_journal.specs.Record.{Entry, entries_of, entry_of as entry_in}
 use Rattle.unit_journal.specs.declared.record.Record.{Record}
 use Rattle.unit_records.specs.Records.{entry_of, prepared}

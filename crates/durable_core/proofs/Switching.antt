@@ -1,7 +1,7 @@
 -- What a checkpoint leaves: at each moment the same tables and units in doubt.
-use Rattle.std.proofs.Common.{◌≡◌, ◌⊎◌, inl, inr, ⊎_elim, ℕ, ◌+◌, ◌-◌, ◌*◌, ◌≤◌, Bool, true, false, IsTrue, List, [], ◌∷◌, length, map, Some, Ok, refl, sym, ◌∙◌, ap, subst, arith, append-nil}
+use Rattle.std.proofs.Common.{◌≡◌, ◌⊎◌, inl, inr, ℕ, ◌+◌, ◌-◌, ◌≤◌, Bool, true, false, IsTrue, List, [], length, map, refl, sym, ◌∙◌, ap, subst, arith, append-nil}
 use Rattle.std.proofs.lemmas.Bool.{false≢true}
-use Rattle.drda_disk.specs.Disk.{LeavesOnly, Life, Now}
+use Rattle.drda_disk.specs.Disk.{LeavesOnly, Life}
 use Rattle.drda_disk.specs.Region.{end_of}
 use Rattle.drda_disk.specs.declared.region.Region.{Region}
 use Rattle.drda_disk.proofs.Moments.{Stays-refl, weaker}
@@ -10,15 +10,15 @@ use Rattle.half_store.specs.Layout.{half_len, other_than}
 use Rattle.half_store.specs.declared.layout.Half.{Half}
 use Rattle.half_store.specs.declared.layout.Half.TheVariants.{First, Second}
 use Rattle.tables.specs.Tables.{Store as Tables}
-use Rattle.unit_journal.specs.Journal.{IsSettled, held_of, next_of, region_of}
+use Rattle.unit_journal.specs.Journal.{IsSettled, region_of}
 use Rattle.unit_journal.specs.declared.journal.Journal.{Journal}
-use Rattle.unit_journal.specs.Record.{Entry, laid}
+use Rattle.unit_journal.specs.Record.{Entry}
 use Rattle.unit_journal.specs.Stands.{StandsFrom}
 use Rattle.unit_records.specs.Records.{entry_of}
 use Rattle.store_check.specs.Checkpoint.{CheckpointsAreStores, half_pages}
 use Rattle.checkpoints.specs.Holds as image
 use Rattle.checkpoints.specs.Holds.{half_end, journal_at}
-use Rattle.checkpoints.specs.Moment.{GoesOn, IsNew, IsOld, Moment, MomentsHold, Rests}
+use Rattle.checkpoints.specs.Moment.{IsNew, IsOld, Moment, MomentsHold, Rests}
 use Rattle.recovery.specs.Durable.{Durable, at_checkpoint}
 use Rattle.recovery.specs.Journal.{AreGood, Leads}
 use Rattle.recovery.specs.Laws.{held_for}
@@ -35,7 +35,7 @@ use Rattle.journal_recorder.specs.Recording.{disk_of, has_failed, journal_of, ma
 use Rattle.journal_recorder.specs.declared.recorder.DiskRecorder.{DiskRecorder}
 use Rattle.durable_core.specs.Recorded.{IsOnDisk, IsRecorded, core_on}
 use Rattle.durable_core.proofs.Heads.{ends_in}
-use Rattle.durable_core.proofs.Stepping.{durable_from}
+use Rattle.durable_core.proofs.Recording.{durable_from}
 
 -- ---- images
 

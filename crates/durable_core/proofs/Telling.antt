@@ -1,5 +1,5 @@
 -- What is told of a store that is not opened.
-use Rattle.std.proofs.Common.{◌≡◌, inl, inr, ℕ, ◌+◌, ◌-◌, ◌*◌, ◌^◌, ◌<◌, List, [], ◌∷◌, ◌++◌, length, Result, Ok, Err, sym, ◌∙◌, ap, subst, arith}
+use Rattle.std.proofs.Common.{◌≡◌, inl, inr, ℕ, ◌+◌, ◌<◌, List, [], ◌∷◌, ◌++◌, length, Result, Ok, Err, sym, ◌∙◌, ap, subst, arith}
 use Rattle.std.specs.List.{AllByRecursion}
 use Rattle.std.proofs.lemmas.List.{map-append}
 use Rattle.drda_disk.specs.declared.region.Region.{Region}
@@ -18,7 +18,7 @@ use Rattle.unit_journal.proofs.Spelling.{length-laid-cons}
 use Rattle.recovery.specs.Durable.{Doubts, Durable, at_checkpoint}
 use Rattle.recovery.specs.Journal.{Leads, StopsAt}
 use Rattle.recovery.specs.Laws.{held_for}
-use Rattle.durable_core.specs.Damage.{HasBadPage, HasJournal, HasNoRoom, IsDamagedAt, IsMisplaced, PreparesOne}
+use Rattle.durable_core.specs.Damage.{HasJournal, HasNoRoom, IsDamagedAt, IsMisplaced, PreparesOne}
 use Rattle.durable_core.specs.Prepares.{NonePrepares, TellsLast}
 use Rattle.durable_core.specs.Reads.{IsHead, TellsDamage, TellsStore}
 use Rattle.durable_core.specs.declared.errors.OpenError.{OpenError}

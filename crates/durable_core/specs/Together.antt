@@ -1,5 +1,5 @@
 -- What conversations that commit together make of a core whose units are recorded on a disk.
-use Rattle.std.specs.Prelude.{◌≡◌, ℕ, ◌+◌, true, false, List, [], ◌∷◌, ◌++◌, Option, Some, None}
+use Rattle.std.specs.Prelude.{◌≡◌, ℕ, ◌+◌, true, false, List, [], ◌∷◌, ◌++◌, Some}
 use Rattle.unit_records.specs.Records.{UnitRecord, entry_of}
 use Rattle.unit_records.specs.Together.{all_committed, are_apart, are_local, due_together}
 use Rattle.recovery.specs.Journaled.{IsUnchanged, Shown}

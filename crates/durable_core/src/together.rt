@@ -45,8 +45,9 @@ impl<D: Disk> DurableCore<D> {
         }
         match self.core.commit_together(conversations) {
             Ok(()) => Together::Done,
+            Err(RecordError::NoMemory) => Together::Alone,
+            Err(RecordError::Full { .. }) => Together::Alone,
             Err(RecordError::DeviceFailed) => Together::DeviceFailed,
-            Err(_) => Together::Alone,
         }
     }
 }

@@ -2,7 +2,7 @@
 
 use core_calls::{Answer, CoreCall};
 use drda_disk::{FuseDisk, MemDisk};
-use durable_core::{Checkpointed, DurableCore};
+use durable_core::{Checkpointed, DurableCore, Together};
 use half_store::format;
 use sql_text::{SqlError, Statement, parse};
 use std::alloc::{AllocError, Global};
@@ -36,6 +36,15 @@ fn said_checkpoint(alloc: Global, told: Checkpointed) -> Result<String, AllocErr
     }
 }
 
+fn said_together(told: Together) -> &'static str {
+    match told {
+        Together::Done => "done",
+        Together::Alone => "alone",
+        Together::DeviceFailed => "the device failed",
+        Together::Closed => "closed",
+    }
+}
+
 // What is asked without a text.
 #[derive(Drop)]
 enum Plain {
@@ -64,6 +73,19 @@ fn ask_plain(alloc: Global, core: &mut Core, conversation: u64, plain: Plain) ->
     Some(core.step(conversation, &call))
 }
 
+impl Opened {
+    fn push_together(&mut self, numbers: &str, out: &mut Vec<u8>) -> Option<()> {
+        let mut conversations = Vec::new(self.alloc);
+        for number in numbers.split_ascii_whitespace() {
+            conversations.push(number.parse::<u64>().ok()?).ok()?;
+        }
+        push_text(
+            out,
+            said_together(self.core.commit_together(&conversations)),
+        )
+    }
+}
+
 impl Calls for Opened {
     fn step(&mut self, conversation: u64, call: &CoreCall<'_, '_>) -> Option<Answer> {
         Some(self.core.step(conversation, call))
@@ -89,15 +111,17 @@ impl Calls for Opened {
         ask_plain(self.alloc, &mut self.core, conversation, Plain::Xa(request))
     }
 
-    // `checkpoint` makes one, and `room` tells the store's name and the room of its journal.
+    // `together` commits the conversations of these numbers together, `checkpoint` makes a checkpoint, and `room` tells the store's name and the
+    // room of its journal.
     fn do_other(
         &mut self,
         _scripts: &Scripts,
         verb: &str,
-        _rest: &str,
+        rest: &str,
         out: &mut Vec<u8>,
     ) -> Option<()> {
         match verb {
+            "together" => self.push_together(rest, out),
             "checkpoint" => {
                 let told = self.core.checkpoint();
                 push_text(out, &said_checkpoint(self.alloc, told).ok()?)

@@ -101,8 +101,12 @@ fn roll_back_decided<R: Recorder>(
     Ok(())
 }
 
-// Makes room for changes; out of memory, no room is held. The tables stay.
-fn make_room(store: &mut TableStore, alloc: Global, changes: &[Change]) -> Result<(), AllocError>
+/// Makes room for changes; out of memory, no room is held. The tables stay.
+pub(crate) fn make_room(
+    store: &mut TableStore,
+    alloc: Global,
+    changes: &[Change],
+) -> Result<(), AllocError>
     ensures tables { store_in store.new ≡ store_in store.old }
     ensures room { OnOk result (IsReserved (map change_of changes.now) store.new) }
 {

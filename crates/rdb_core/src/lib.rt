@@ -13,6 +13,7 @@ mod question;
 mod refusing;
 mod reply;
 mod step;
+mod together;
 
 pub use engine::Core;
 pub use in_doubt::InDoubt;

@@ -1,10 +1,9 @@
 -- Units in doubt in the order of their XIDs.
-use Rattle.std.proofs.Common.{◌≡◌, ◌≢◌, ℕ, ◌+◌, suc, List, [], ◌∷◌, Bool, true, false, true≢false, cond, refl, sym, ap, ◌∙◌, arith, get_or, map, Option, Some, None, option_map, Equal}
+use Rattle.std.proofs.Common.{◌≡◌, ◌≢◌, ℕ, ◌+◌, suc, List, [], ◌∷◌, Bool, true, false, true≢false, cond, refl, sym, ap, ◌∙◌, arith, get_or, Some, None, option_map, Equal}
 use Rattle.std.specs.Prelude.{bytes_eq, is_some, not, position}
-use Rattle.std.specs.List.{insert, list_any, position_or_len, prefix_len, remove, slice_get}
+use Rattle.std.specs.List.{insert, list_any, position_or_len, prefix_len, remove}
 use Rattle.std.specs.Ordering.{is_gt, nat_cmp}
 use Rattle.std.specs.Cmp.Lexicographic.{slice_cmp}
-use Rattle.std.specs.Map.{lookup, remove_entry}
 use Rattle.tables.proofs.Changes.{names_apart}
 use Rattle.tables.proofs.Finding.{itself}
 use Rattle.tables.proofs.Places.{any_found, first_place, found_nowhere, found_there, item_there, lookup_found, none_passes, put_new}

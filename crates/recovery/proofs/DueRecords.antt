@@ -36,7 +36,7 @@ use Rattle.recovery.proofs.Deciding.{doubted, not_doubted, pairs_decided, pairs_
 use Rattle.recovery.proofs.Doubts.{unit_in, xids_count}
 use Rattle.recovery.proofs.Silent.{out_agree, out_before, out_without, part_committed, rise_without, same_part, same_without}
 
-abbrev some : Durable → Option Durable
+abbrev pub some : Durable → Option Durable
 some d = Some d
 
 none_due : {X : Type 0} (r : UnitRecord) (o : Option UnitRecord) → o ≡ None → o ≡ Some r → X
@@ -47,11 +47,11 @@ the_record q r o e h = ap (λ (p : Option UnitRecord). unwrap_or p r) (sym e ∙
 
 -- ---- commits
 
-made : (xs : List Change) (r : UnitRecord) → commit_due xs ≡ Some r → committed xs ≡ r
+pub made : (xs : List Change) (r : UnitRecord) → commit_due xs ≡ Some r → committed xs ≡ r
 made [] r h = none_due r None refl h
 made (x ∷ xs) r h = ap (λ (o : Option UnitRecord). unwrap_or o r) h
 
-placed : (d : Durable) (xs : List Change) → have_places xs d.store ≡ true → next d (committed xs) ≡ Some (record { store = apply_all xs d.store; doubts = d.doubts })
+pub placed : (d : Durable) (xs : List Change) → have_places xs d.store ≡ true → next d (committed xs) ≡ Some (record { store = apply_all xs d.store; doubts = d.doubts })
 placed d xs h = ap (λ t. if t then some (record { store = apply_all xs d.store; doubts = d.doubts }) else None) h
 
 commit_leads : (s : CoreState) (cs : List Branch) (o : Owner) (r : UnitRecord) → Rises cs → in_doubt_xids cs ≡ in_doubt_xids s.branches → is_in_doubt_in cs o ≡ false → is_in_doubt_in s.branches o ≡ false → IsKept s

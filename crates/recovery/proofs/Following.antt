@@ -1,5 +1,5 @@
 -- Records one after another.
-use Rattle.std.proofs.Common.{◌≡◌, ℕ, zero, suc, List, [], ◌∷◌, ◌++◌, take, Option, Some, None, refl, sym, ap, ◌∙◌}
+use Rattle.std.proofs.Common.{◌≡◌, ℕ, zero, suc, List, [], ◌∷◌, ◌++◌, take, Option, Some, None, refl, ◌∙◌}
 use Rattle.std.specs.Option.{option_and_then}
 use Rattle.unit_records.specs.Records.{UnitRecord}
 use Rattle.recovery.specs.Durable.{Durable, next, replayed_from}

@@ -1,18 +1,16 @@
 -- What the units in doubt hold back.
-use Rattle.std.proofs.Common.{◌≡◌, ◌≢◌, ℕ, ◌+◌, List, [], ◌∷◌, length, Bool, true, false, ◌&&◌, true≢false, cond, if◌then◌else◌, refl, sym, ap, ◌∙◌, arith, Option, Some, None, option_map, Ordering, Less, Equal, Greater}
+use Rattle.std.proofs.Common.{◌≡◌, ◌≢◌, ℕ, ◌+◌, List, [], ◌∷◌, length, Bool, true, false, ◌&&◌, true≢false, cond, if◌then◌else◌, refl, sym, ap, ◌∙◌, arith, Option, Some, None, Ordering, Less, Equal, Greater}
 use Rattle.std.specs.Prelude.{bytes_eq, is_some, not, nat_lt}
 use Rattle.std.specs.Ordering.{match_ordering, nat_cmp}
 use Rattle.std.specs.Cmp.Lexicographic.{slice_cmp}
-use Rattle.std.specs.Map.{lookup, remove_entry}
-use Rattle.std.specs.BTreeMap.{insert_entry}
 use Rattle.row_values.proofs.ValueLaws.{first_true, mapped, second_true}
 use Rattle.tables.proofs.Changes.{names_apart}
 use Rattle.tables.proofs.Finding.{itself, same_bytes}
 use Rattle.unit_locks.specs.Claims.{all_added}
 use Rattle.core_model.specs.Units.{Work}
-use Rattle.unit_records.specs.Records.{UnitRecord, committed, decided, prepared}
+use Rattle.unit_records.specs.Records.{committed, decided, prepared}
 use Rattle.unit_records.specs.Room.{decision_taken}
-use Rattle.recovery.specs.Durable.{Doubts, Durable, decide, doubt_of, have_places, is_claimed, is_free, next, with_doubt, without_doubt}
+use Rattle.recovery.specs.Durable.{Doubts, Durable, decide, doubt_of, have_places, is_claimed, is_free, with_doubt, without_doubt}
 use Rattle.recovery.specs.Laws.{HeldForDoubts, held_for}
 
 -- ---- a unit more

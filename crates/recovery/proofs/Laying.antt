@@ -1,5 +1,5 @@
 -- The prepares of units in doubt lead from a checkpoint to a state with just these.
-use Rattle.std.proofs.Common.{◌≡◌, ℕ, ◌+◌, ◌<◌, ◌≤◌, List, [], ◌∷◌, ◌++◌, length, Bool, true, false, ◌&&◌, cond, if◌then◌else◌, refl, sym, ap, subst, ◌∙◌, arith, map, Option, Some, None, Ordering, Less, Equal, Greater, append-nil}
+use Rattle.std.proofs.Common.{◌≡◌, ℕ, ◌+◌, ◌<◌, ◌≤◌, List, [], ◌∷◌, ◌++◌, length, Bool, true, false, ◌&&◌, cond, if◌then◌else◌, refl, sym, ap, subst, ◌∙◌, arith, Some, None, Ordering, Less, Greater, append-nil}
 use Rattle.std.specs.Prelude.{bytes_eq, is_some, not, nat_lt}
 use Rattle.std.specs.List.{AllByRecursion, list_all}
 use Rattle.std.specs.Option.{option_and_then}
@@ -15,7 +15,7 @@ use Rattle.tables.proofs.Keeping.{less_is}
 use Rattle.tables.specs.Tables.{Store}
 use Rattle.core_model.specs.Units.{Work}
 use Rattle.unit_locks.specs.Claims.{all_added}
-use Rattle.unit_records.specs.Records.{IsGood, UnitRecord, prepared}
+use Rattle.unit_records.specs.Records.{prepared}
 use Rattle.recovery.specs.Durable.{Doubts, Durable, at_checkpoint, doubt_of, have_places, is_claimed, is_free, next, replayed_from, with_doubt}
 use Rattle.recovery.specs.Journal.{AreGood, WrittenLead}
 use Rattle.recovery.specs.Laying.{DoubtsAreLaid, are_placed, prepares_of}

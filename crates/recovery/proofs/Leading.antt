@@ -1,15 +1,14 @@
 -- Entries lead to one state, or stop at one place.
-use Rattle.std.proofs.Common.{◌≡◌, ℕ, ◌<◌, ◌≤◌, List, [], ◌∷◌, ◌++◌, length, map, refl, sym, ap, subst, ◌∙◌, arith, Option, Some, None, Result, Ok, Err}
-use Rattle.std.specs.List.{AllByRecursion}
+use Rattle.std.proofs.Common.{◌≡◌, ℕ, ◌<◌, List, [], ◌∷◌, ◌++◌, length, map, refl, sym, ap, subst, ◌∙◌, arith, Option, Some, None, Result, Ok, Err}
 use Rattle.std.specs.Option.{option_and_then}
 use Rattle.unit_journal.specs.Record.{Entry, entries_of, entry_of}
 use Rattle.unit_journal.specs.declared.kind.Kind.{Kind}
 use Rattle.unit_journal.specs.declared.record.Record.{Record}
 use Rattle.tables.specs.Tables.{Store}
 use Rattle.unit_records.specs.Laws.{OneReading}
-use Rattle.unit_records.specs.Records.{IsGood, IsRecord, UnitRecord, entry_of as written, kind_of, record_bytes}
+use Rattle.unit_records.specs.Records.{IsGood, IsRecord, UnitRecord, entry_of as written, kind_of}
 use Rattle.recovery.specs.Durable.{Durable, at_checkpoint, next, replayed_from}
-use Rattle.recovery.specs.Journal.{AreGood, Finds, HasNoPlace, Leads, LeadingWereWritten, LeadsOn, NoStop, OneState, Replays, StopsAt, WrittenLead}
+use Rattle.recovery.specs.Journal.{Finds, HasNoPlace, Leads, LeadingWereWritten, LeadsOn, NoStop, OneState, Replays, StopsAt, WrittenLead}
 use Rattle.recovery.specs.Replay.{durable_of}
 use Rattle.recovery.specs.declared.steps.Replay.{Replay}
 use Rattle.recovery.specs.declared.journal.ReplayError.{ReplayError}

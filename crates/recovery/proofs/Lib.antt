@@ -26,6 +26,7 @@ pub mod Doubts
 pub mod Deciding
 pub mod Silent
 pub mod DueRecords
+pub mod Gathering
 pub mod Opening
 pub mod Beginning
 pub mod Outside

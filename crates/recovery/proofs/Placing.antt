@@ -1,5 +1,5 @@
 -- Changes have their places one behind another.
-use Rattle.std.proofs.Common.{◌≡◌, ℕ, List, [], ◌∷◌, ◌++◌, Bool, true, false, ◌&&◌, refl, sym, ap, ◌∙◌, append_assoc}
+use Rattle.std.proofs.Common.{◌≡◌, List, [], ◌∷◌, ◌++◌, Bool, true, false, ◌&&◌, refl, sym, ap, ◌∙◌, append_assoc}
 use Rattle.row_values.specs.declared.row.ReadError.{ReadError}
 use Rattle.row_values.specs.declared.row.ReadError.TheVariants.{Damaged, NoMemory}
 use Rattle.tables.specs.Change.{Change}
@@ -8,9 +8,10 @@ use Rattle.core_model.specs.Units.{apply_all}
 use Rattle.recovery.specs.Durable.{has_place, have_places}
 use Rattle.recovery.specs.Replay.{Fails}
 
-one_behind : (xs : List Change) (x : Change) (s : Store) → apply_all (xs ++ x ∷ []) s ≡ apply x (apply_all xs s)
-one_behind [] x s = refl
-one_behind (y ∷ xs) x s = one_behind xs x (apply y s)
+-- changes are made one behind another
+pub all_then : (xs ys : List Change) (s : Store) → apply_all (xs ++ ys) s ≡ apply_all ys (apply_all xs s)
+all_then [] ys s = refl
+all_then (x ∷ xs) ys s = all_then xs ys (apply x s)
 
 -- the next change of those that are left
 module _ (unit left rest : List Change) (x : Change) (s now : Store) (is : left ≡ x ∷ rest) (same : now ≡ s) where
@@ -20,7 +21,7 @@ module _ (unit left rest : List Change) (x : Change) (s now : Store) (is : left 
   pub placed_more : (more : List Change) (all : Bool) → more ≡ unit ++ x ∷ [] → has_place x (apply_all unit now) ≡ true → have_places left (apply_all unit s) ≡ all → have_places rest (apply_all more s) ≡ all
   placed_more more all one placed whole =
       let here : has_place x (apply_all unit s) ≡ true = sym (ap (λ (t : Store). has_place x (apply_all unit t)) same) ∙ placed in
-      ap (λ (u : List Change). have_places rest (apply_all u s)) one ∙ ap (have_places rest) (one_behind unit x s)
+      ap (λ (u : List Change). have_places rest (apply_all u s)) one ∙ ap (have_places rest) (all_then unit (x ∷ []) s)
       ∙ sym (ap (λ (b : Bool). b && have_places rest (apply x (apply_all unit s))) here) ∙ sym (ap (λ (l : List Change). have_places l (apply_all unit s)) is) ∙ whole
 
   pub not_placed : (error : ReadError) (all : Bool) → Fails error (has_place x (apply_all unit now)) → have_places left (apply_all unit s) ≡ all → Fails error all

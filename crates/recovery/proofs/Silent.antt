@@ -88,7 +88,7 @@ asked_stays active s c q kept =
 
 -- ---- the ends of a local unit
 
-none_made : (xs : List Change) → commit_due xs ≡ None → xs ≡ []
+pub none_made : (xs : List Change) → commit_due xs ≡ None → xs ≡ []
 none_made [] h = refl
 none_made (x ∷ xs) h = absurd cc
 

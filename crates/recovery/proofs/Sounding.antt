@@ -1,10 +1,10 @@
 -- Each record keeps a state sound.
-use Rattle.std.proofs.Common.{◌≡◌, ◌≢◌, ℕ, ◌+◌, ◌<◌, ◌≤◌, List, [], ◌∷◌, length, Bool, true, false, ◌&&◌, cond, if◌then◌else◌, refl, sym, ap, subst, ◌∙◌, arith, map, Option, Some, None, option_map, Ordering, Less, Equal, Greater}
+use Rattle.std.proofs.Common.{◌≡◌, ◌≢◌, ℕ, ◌+◌, ◌<◌, ◌≤◌, List, [], ◌∷◌, length, Bool, true, false, ◌&&◌, cond, refl, subst, arith, Option, Some, Ordering, Less, Equal, Greater}
 use Rattle.std.specs.Prelude.{bytes_eq, is_some, not, nat_lt}
 use Rattle.std.specs.List.{AllByRecursion, list_all}
 use Rattle.std.specs.Ordering.{is_lt, match_ordering, nat_cmp}
 use Rattle.std.specs.Cmp.Lexicographic.{nat_list_cmp_total, slice_cmp}
-use Rattle.std.specs.Map.{keys_of, lookup}
+use Rattle.std.specs.Map.{keys_of}
 use Rattle.std.proofs.lemmas.Bool.Decides.{nat_tests}
 use Rattle.drda_words.specs.Order.{rises}
 use Rattle.row_values.proofs.ValueLaws.{both_true, first_true, mapped, second_true}
@@ -18,8 +18,8 @@ use Rattle.core_model.specs.Units.{Work, apply_all}
 use Rattle.unit_journal.specs.Record.{Entry}
 use Rattle.xa_manager.specs.declared.due.Decision.{Decision}
 use Rattle.xa_manager.specs.declared.due.Decision.TheVariants as decision
-use Rattle.unit_records.specs.Records.{IsChange, IsGood, UnitRecord, committed, decided, prepared}
-use Rattle.recovery.specs.Durable.{Doubts, Durable, at_checkpoint, decide, doubt_of, have_places, is_claimed, is_free, next, with_doubt, without_doubt}
+use Rattle.unit_records.specs.Records.{IsChange, committed, decided, prepared}
+use Rattle.recovery.specs.Durable.{Doubts, Durable, at_checkpoint, decide, doubt_of, have_places, is_claimed, is_free, with_doubt, without_doubt}
 use Rattle.recovery.specs.Sound.{IsGoodDoubt, IsSound, LeadsAreSound, StatesStaySound}
 use Rattle.recovery.specs.Journal.{Leads}
 use Rattle.recovery.proofs.Claiming.{claimed_once, good_once, same_once}

@@ -1,5 +1,5 @@
 -- What the records of a journal lead to, by their bytes.
-use Rattle.std.specs.Prelude.{◌≡◌, ℕ, List, [], ◌∷◌, ◌++◌, map, Option, Some, None, Result, Ok, Err}
+use Rattle.std.specs.Prelude.{◌≡◌, ℕ, List, [], ◌∷◌, ◌++◌, map, Some, None, Result, Ok, Err}
 use Rattle.std.specs.List.{AllByRecursion}
 use Rattle.tables.specs.Tables.{Store}
 use Rattle.row_values.specs.declared.row.ReadError.{ReadError}

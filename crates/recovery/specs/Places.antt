@@ -1,8 +1,8 @@
 -- When changes that have their places keep them.
-use Rattle.std.specs.Prelude.{◌≡◌, ℕ, Bool, true, false, List, [], ◌∷◌, ◌++◌, Some, ◌&&◌}
+use Rattle.std.specs.Prelude.{◌≡◌, ℕ, true, List, [], ◌∷◌, ◌++◌, Some, ◌&&◌}
 use Rattle.std.specs.Map.{keys_of}
 use Rattle.row_values.specs.Schema.{Schema}
-use Rattle.tables.specs.Change.{Change, create, put, remove}
+use Rattle.tables.specs.Change.{Change}
 use Rattle.tables.specs.Tables.{Store, apply, schema_of}
 use Rattle.core_model.specs.Units.{apply_all}
 pub use Rattle.recovery.specs.Durable.{creates_none, have_places}

@@ -5,8 +5,7 @@ use Rattle.row_values.specs.declared.row.ReadError.TheVariants.{Damaged, NoMemor
 use Rattle.table_store.specs.TableStore.{store_in}
 use Rattle.unit_locks.specs.Claims.{all_added}
 use Rattle.core_model.specs.Units.{Work}
-use Rattle.unit_records.specs.Records.{UnitRecord}
-use Rattle.recovery.specs.Durable.{Doubts, Durable, next}
+use Rattle.recovery.specs.Durable.{Doubts, Durable}
 use Rattle.recovery.specs.declared.prepared.PreparedUnit.{PreparedUnit}
 use Rattle.recovery.specs.declared.steps.Replay.{Replay}
 

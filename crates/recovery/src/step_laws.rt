@@ -7,7 +7,6 @@ use crate::places::changes_have_places;
 use core_model::laws::units_in_doubt_wait;
 use tables::laws::changes_are_local;
 use unit_locks::adding;
-use unit_records::laws::commits_go_together;
 use xa_manager::{actions_fit_states, works_while_active};
 
 /// What is durable of a core is what its records lead to: each step of a kept core makes one record due at
@@ -41,6 +40,5 @@ pub fn commits_are_recorded()
     ensures silent { SilentCommitsStay }
     ensures lead { CommitsLead }
 {
-    commits_go_together();
     steps_are_recorded();
 }

@@ -1,5 +1,5 @@
 -- Bodies are one record at most.
-use Rattle.std.proofs.Common.{◌==◌, true, false, eqb-true, ◌≡◌, ◌≢◌, ℕ, ◌<◌, List, [], ◌∷◌, ◌++◌, length, refl, sym, ap, subst, ◌∙◌, arith, append_assoc, append-nil, Result, Ok, Err}
+use Rattle.std.proofs.Common.{◌==◌, true, false, eqb-true, ◌≡◌, ◌≢◌, ℕ, List, [], ◌∷◌, ◌++◌, length, refl, sym, ap, subst, ◌∙◌, arith, append-nil, Result, Ok, Err}
 use Rattle.std.proofs.lemmas.Bool.Decides.{nat_tests}
 use Rattle.row_values.specs.declared.row.ReadError.{ReadError}
 use Rattle.row_values.specs.declared.row.ReadError.TheVariants.{Damaged, NoMemory}
@@ -11,7 +11,7 @@ use Rattle.xa_manager.specs.declared.due.Decision.TheVariants as decision
 use Rattle.unit_journal.specs.declared.kind.Kind.{Kind}
 use Rattle.unit_journal.specs.declared.kind.Kind.TheVariants.{Commit, Prepare, Decide}
 use Rattle.unit_records.specs.Fronts.{AreListed, Misses, listed}
-use Rattle.unit_records.specs.Records.{IsChange, IsRecord, UnitRecord, committed, decided, kind_of, decision_byte, prepared, record_bytes}
+use Rattle.unit_records.specs.Records.{IsChange, IsRecord, UnitRecord, committed, decided, decision_byte, prepared}
 use Rattle.unit_records.specs.Laws.{OneReading, PartsStandOnce}
 use Rattle.unit_records.specs.Read.{Gives, IsNone, ReadsRecord, record_of}
 use Rattle.unit_records.specs.declared.record.UnitRecord.{UnitRecord as CodeRecord}

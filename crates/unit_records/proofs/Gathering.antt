@@ -6,11 +6,10 @@ use Rattle.std.specs.List.{list_any}
 use Rattle.drda_words.proofs.Precedes.{same_bytes}
 use Rattle.tables.specs.Change.{Change}
 use Rattle.tables.specs.Tables.{Store, apply}
-use Rattle.xa_manager.specs.declared.branch.Branch.{Branch}
 use Rattle.xa_manager.specs.Branch.{joined_xid}
 use Rattle.core_calls.specs.Call.{commit}
 use Rattle.core_model.specs.Units.{Held, Owner, Work, apply_all, global, local, same_owner, unit_of, without}
-use Rattle.core_model.specs.Events.{Base, Commit, Event, bare, bare_run}
+use Rattle.core_model.specs.Events.{Commit, bare, bare_run}
 use Rattle.core_model.specs.Step.{CoreState, step_state, unless_joined}
 use Rattle.unit_records.specs.Together.{CommitsGoTogether, all_changes, all_committed, all_ended, are_apart, are_local}
 
@@ -86,6 +85,6 @@ commits_go_together (c ∷ more) s apart here =
     ap (λ (t : CoreState). all_committed more t) one
     ∙ commits_go_together more (record { base = bare s.base (Commit (local c)); branches = s.branches }) aparts.1 locals.1
     ∙ ap (λ (cs : List Change). record { base = record { store = apply_all cs changed; units = units }; branches = s.branches })
-        (changes_stay c more s.base.units (is_not (list_any (λ other. c == other) more) aparts.0))
+    (changes_stay c more s.base.units (is_not (list_any (λ other. c == other) more) aparts.0))
     ∙ ap (λ (st : Store). record { base = record { store = st; units = units }; branches = s.branches })
-        (sym (all_then (unit_of (local c) s.base.units).changes (all_changes more s.base.units) s.base.store))
+    (sym (all_then (unit_of (local c) s.base.units).changes (all_changes more s.base.units) s.base.store))

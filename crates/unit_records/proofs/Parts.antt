@@ -1,11 +1,11 @@
 -- The parts of bodies: XIDs, claims, changes.
-use Rattle.std.proofs.Common.{◌+◌, ◌≡◌, ◌≢◌, ℕ, ◌<◌, ◌≤◌, List, [], ◌∷◌, ◌++◌, length, take, drop, refl, sym, ap, subst, ◌∙◌, arith, append_assoc, length-append, append-nil, Result, Ok, Err, Option, Some, None, true}
+use Rattle.std.proofs.Common.{◌+◌, ◌≡◌, ℕ, ◌≤◌, List, [], ◌∷◌, ◌++◌, length, drop, sym, ap, subst, ◌∙◌, arith, length-append, Result, Ok, Err, Option, Some, None}
 use Rattle.std.proofs.Math.Seq.{drop-append_seam}
 use Rattle.drda_words.specs.Bytes.{AreBytes}
 use Rattle.row_values.specs.Bytes.{Reads as ReadsValue}
 use Rattle.row_values.specs.declared.row.ReadError.{ReadError}
 use Rattle.row_values.specs.declared.row.ReadError.TheVariants.{Damaged, NoMemory}
-use Rattle.tables.specs.Change.{Change, change_at, change_bytes, is_change}
+use Rattle.tables.specs.Change.{Change, change_at, change_bytes}
 use Rattle.tables.specs.Laws.{ChangeReadWasWritten, ChangeWrittenIsRead}
 use Rattle.xa_calls.specs.Xid.{AreParts, IsXid, Parts, wire, xid_in}
 use Rattle.unit_records.specs.Fronts.{OneFront, TakesFront}

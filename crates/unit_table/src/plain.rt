@@ -1,6 +1,6 @@
 //! The units, copied as plain lists.
 
-ghost use Rattle.std.specs.Prelude.{◌≡◌, IfOk, map};
+ghost use Rattle.std.specs.Prelude.{◌≡◌, ◌++◌, IfOk, OnOk, map};
 ghost use Rattle.tables.specs.ChangeView.{change_of};
 ghost use Rattle.unit_table.specs.Plain.{held_of};
 ghost use Rattle.unit_table.specs.Table.{held, held_by};
@@ -54,10 +54,22 @@ fn copied_changes(alloc: Global, changes: &[Change]) -> Result<Vec<Change>, Allo
     ensures { IfOk result (λ copies. map change_of copies.items ≡ map change_of changes.now) }
 {
     let mut copies = Vec::new(alloc);
+    add_copies(alloc, changes, &mut copies)?;
+    Ok(copies)
+}
+
+/// Adds copies of changes at the end, in their order; out of memory some of them.
+pub(crate) fn add_copies(
+    alloc: Global,
+    changes: &[Change],
+    copies: &mut Vec<Change>,
+) -> Result<(), AllocError>
+    ensures { OnOk result (map change_of copies.new.items ≡ map change_of copies.old.items ++ map change_of changes.now) }
+{
     for i in 0..changes.len() {
         copies.push(copied_change(alloc, &changes[i])?)?;
     }
-    Ok(copies)
+    Ok(())
 }
 
 fn copied_change(alloc: Global, change: &Change) -> Result<Change, AllocError>

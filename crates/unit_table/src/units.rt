@@ -1,6 +1,6 @@
 //! The units of work.
 
-ghost use Rattle.std.specs.Prelude.{◌≡◌, IfOk, OnErr, OnOk, [], false, map, option_map, unwrap_or};
+ghost use Rattle.std.specs.Prelude.{◌≡◌, ◌++◌, IfOk, OnErr, OnOk, [], false, map, option_map, unwrap_or};
 ghost use Rattle.tables.specs.ChangeView.{change_of};
 ghost use Rattle.unit_locks.specs.Claims.{all_added, claims_of};
 ghost use Rattle.core_model.specs.Laws.{AreListed};
@@ -15,7 +15,7 @@ use crate::entry::Entry;
 use crate::keep_error::KeepError;
 use crate::owner::Owner;
 use crate::place::place;
-use crate::plain::{PlainUnit, copied_units};
+use crate::plain::{PlainUnit, add_copies, copied_units};
 use crate::row;
 use row_values::Schema;
 use std::alloc::{AllocError, Global};
@@ -67,6 +67,14 @@ impl Units {
             Ok(at) => self.entries[at].changes.as_slice(),
             Err(_) => &[],
         }
+    }
+
+    /// Adds copies of the changes of an owner's unit at the end, in their order: none where it has no work.
+    /// Memory may be refused; what was added until then is of no use.
+    pub fn copy_changes(&self, owner: &Owner, copies: &mut Vec<Change>) -> Result<(), AllocError>
+        ensures { OnOk result (map change_of copies.new.items ≡ map change_of copies.old.items ++ (unit_of (plain_owner owner.now) self.now).changes) }
+    {
+        add_copies(self.alloc, self.changes(owner), copies)
     }
 
     /// The claims of an owner's unit, in the order in which it first made them.

@@ -1,4 +1,4 @@
-use Rattle.std.proofs.Common.{◌≡◌, List, ℕ, sym, ap, ◌∙◌, ◌++◌, append-nil}
+use Rattle.std.proofs.Common.{List, ℕ, sym, ap, ◌∙◌, ◌++◌, append-nil}
 use Rattle.unit_journal.specs.Record.{entries_of}
 use Rattle.rdb_core.specs.State.{state_of}
 use Rattle.durable_core.proofs.Prepares.{all_prepares, prepares_by}

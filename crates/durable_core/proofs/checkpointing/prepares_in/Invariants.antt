@@ -1,8 +1,6 @@
 -- The records so far, and those of the XIDs that are left, are the prepares of all units in doubt.
-use Rattle.std.proofs.Common.{◌≡◌, ◌++◌, ℕ, List, length, map}
-use Rattle.core_model.specs.Units.{global, unit_of}
+use Rattle.std.proofs.Common.{◌≡◌, ◌++◌, length}
 use Rattle.unit_journal.specs.Record.{entries_of}
-use Rattle.unit_records.specs.Records.{entry_of, prepared}
 use Rattle.rdb_core.specs.InDoubt.{xids_left}
 use Rattle.rdb_core.specs.State.{state_of}
 use Rattle.xa_manager.specs.Branch.{in_doubt_xids}

@@ -1,4 +1,4 @@
-use Rattle.std.proofs.Common.{rules, IsTrue, List, ℕ, length, subst}
+use Rattle.std.proofs.Common.{IsTrue, List, ℕ, length, subst}
 use Rattle.half_store.specs.Layout.{is_store_size}
 use Rattle.durable_core.proofs.Heads.{inside_ok, pages_ok}
 use Rattle.durable_core.proofs.head.read_head.Goals as goal

@@ -1,4 +1,4 @@
-use Rattle.std.proofs.Common.{map, rules, ◌++◌}
+use Rattle.std.proofs.Common.{map}
 use Rattle.std.proofs.lemmas.Result.{err_from_is_err_and}
 use Rattle.tables.proofs.PlainTables.{on_err}
 use Rattle.tables.specs.ChangeView.{change_of}

@@ -1,5 +1,5 @@
 use Rattle.std.proofs.Common.{rules, ◌≡◌, ◌∙◌, true, false, List, map, refl, ap, subst, string_bytes}
-use Rattle.unit_journal.specs.Record.{Entry, entries_of}
+use Rattle.unit_journal.specs.Record.{entries_of}
 use Rattle.unit_journal.specs.declared.record.Record.{Record}
 use Rattle.tables.specs.Tables.{Store as Tables}
 use Rattle.core_model.specs.Step.{CoreState}
@@ -12,7 +12,7 @@ use Rattle.unit_records.specs.Records.{entry_of}
 use Rattle.recovery.specs.Journaled.{Journaled, OnDisk, shown_on}
 use Rattle.recovery.specs.Part.{durable_part}
 use Rattle.durable_core.specs.Recorded.{core_on}
-use Rattle.durable_core.proofs.Stepping.{stays_failed}
+use Rattle.durable_core.proofs.Recording.{stays_failed}
 use Rattle.durable_core.proofs.Switching.{Laws, kept_journaled, kept_so, open_journaled, switched_journaled, switched_so, untouched_journaled}
 use Rattle.durable_core.proofs.durable.DurableCore.checkpoint.Goals as goal
 

@@ -1,7 +1,7 @@
 use Rattle.std.proofs.Common.{◌≡◌, IsTrue, false, string_bytes, subst}
 use Rattle.rdb_core.specs.State.{recorder_of, state_of}
 use Rattle.recovery.specs.Journaled.{IsDurable, OnDisk, shown_on}
-use Rattle.durable_core.proofs.Stepping.{durable_from}
+use Rattle.durable_core.proofs.Recording.{durable_from}
 use Rattle.durable_core.proofs.durable.DurableCore.is_durable.Goals as goal
 
 pub returns : goal.returns

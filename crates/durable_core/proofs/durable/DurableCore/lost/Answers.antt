@@ -5,14 +5,21 @@ use Rattle.rdb_core.specs.State.{recorder_of, state_of}
 use Rattle.journal_recorder.specs.Recording.{has_failed}
 use Rattle.recovery.specs.Journaled.{Journaled, OnDisk, shown_on}
 use Rattle.durable_core.specs.Recorded.{core_on}
-use Rattle.durable_core.proofs.Stepping.{stays_failed, taken_step}
+use Rattle.durable_core.proofs.Recording.{stays_failed}
+use Rattle.durable_core.proofs.Stepping.{taken_step}
 use Rattle.durable_core.proofs.durable.DurableCore.lost.Goals as goal
 
 pub invariant_of-self : goal.invariant_of-self
 invariant_of-self g c =
     let going : has_failed (recorder_of c.self.inside.core) ≡ false = search rules in
     (taken_step g.D.Disk.is_modelled g.D.Disk.life (string_bytes c.self.inside.name)
-    (record { steps_keep = c.steps_are_recorded.ensures.keep; silent_stay = c.steps_are_recorded.ensures.silent; records_lead = c.steps_are_recorded.ensures.lead; are_of_doubts = c.steps_are_recorded.ensures.decisions; held_for_doubts = c.doubts_hold_their_decisions.ensures; records_stay = c.records_stay.ensures; calls_made = c.calls_make_records.ensures })
+    (record {
+      keep = c.steps_are_recorded.ensures.keep;
+      silent = c.steps_are_recorded.ensures.silent;
+      lead = c.steps_are_recorded.ensures.lead;
+      of_doubts = c.steps_are_recorded.ensures.decisions;
+      laws = record { held_for_doubts = c.doubts_hold_their_decisions.ensures; records_stay = c.records_stay.ensures; calls_made = c.calls_make_records.ensures };
+    })
     (state_of c.self.inside.core) (recorder_of c.self.inside.core) c.self.invariant going c.args.conversation lost (answer_of c.lost.result) (state_of c.lost.new.self) (recorder_of c.lost.new.self) c.lost.ensures).recorded
 
 pub returns-clause-journaled : goal.returns-clause-journaled
@@ -20,7 +27,13 @@ returns-clause-journaled g c =
     let going : has_failed (recorder_of c.self.inside.core) ≡ false = search rules in
     subst (λ (old : OnDisk g.row.D.Denot). Journaled g.D.Disk.is_modelled (shown_on g.D.Disk.life old) (shown_on g.D.Disk.life (core_on (string_bytes c.self.inside.name) (state_of c.lost.new.self) (recorder_of c.lost.new.self)))) c.self.view_is
     (taken_step g.D.Disk.is_modelled g.D.Disk.life (string_bytes c.self.inside.name)
-    (record { steps_keep = c.steps_are_recorded.ensures.keep; silent_stay = c.steps_are_recorded.ensures.silent; records_lead = c.steps_are_recorded.ensures.lead; are_of_doubts = c.steps_are_recorded.ensures.decisions; held_for_doubts = c.doubts_hold_their_decisions.ensures; records_stay = c.records_stay.ensures; calls_made = c.calls_make_records.ensures })
+    (record {
+      keep = c.steps_are_recorded.ensures.keep;
+      silent = c.steps_are_recorded.ensures.silent;
+      lead = c.steps_are_recorded.ensures.lead;
+      of_doubts = c.steps_are_recorded.ensures.decisions;
+      laws = record { held_for_doubts = c.doubts_hold_their_decisions.ensures; records_stay = c.records_stay.ensures; calls_made = c.calls_make_records.ensures };
+    })
     (state_of c.self.inside.core) (recorder_of c.self.inside.core) c.self.invariant going c.args.conversation lost (answer_of c.lost.result) (state_of c.lost.new.self) (recorder_of c.lost.new.self) c.lost.ensures).journaled
 
 pub returns-then-is_failed-clause-journaled : goal.returns-then-is_failed-clause-journaled

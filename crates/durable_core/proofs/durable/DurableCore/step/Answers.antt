@@ -6,7 +6,8 @@ use Rattle.journal_recorder.specs.Recording.{has_failed}
 use Rattle.recovery.specs.Journaled.{Journaled, OnDisk, shown_on}
 use Rattle.durable_core.specs.Recorded.{core_on}
 use Rattle.durable_core.specs.Steps.{Steps}
-use Rattle.durable_core.proofs.Stepping.{allowed, any_step, stays_failed}
+use Rattle.durable_core.proofs.Recording.{stays_failed}
+use Rattle.durable_core.proofs.Stepping.{allowed, any_step}
 use Rattle.durable_core.proofs.durable.DurableCore.step.Goals as goal
 
 pub step-requires : goal.step-requires
@@ -14,7 +15,13 @@ step-requires g c =
     let going : has_failed (recorder_of c.self.inside.core) ≡ false = search rules in
     record {
       allowed = allowed g.D.Disk.is_modelled g.D.Disk.life (string_bytes c.self.inside.name)
-          (record { steps_keep = c.steps_are_recorded.ensures.keep; silent_stay = c.steps_are_recorded.ensures.silent; records_lead = c.steps_are_recorded.ensures.lead; are_of_doubts = c.steps_are_recorded.ensures.decisions; held_for_doubts = c.doubts_hold_their_decisions.ensures; records_stay = c.records_stay.ensures; calls_made = c.calls_make_records.ensures })
+          (record {
+            keep = c.steps_are_recorded.ensures.keep;
+            silent = c.steps_are_recorded.ensures.silent;
+            lead = c.steps_are_recorded.ensures.lead;
+            of_doubts = c.steps_are_recorded.ensures.decisions;
+            laws = record { held_for_doubts = c.doubts_hold_their_decisions.ensures; records_stay = c.records_stay.ensures; calls_made = c.calls_make_records.ensures };
+          })
           (state_of c.self.inside.core) (recorder_of c.self.inside.core) c.self.invariant going c.args.conversation (call_of c.args.call.now);
     }
 
@@ -22,7 +29,13 @@ pub invariant_of-self : goal.invariant_of-self
 invariant_of-self g c =
     let going : has_failed (recorder_of c.self.inside.core) ≡ false = search rules in
     (any_step g.D.Disk.is_modelled g.D.Disk.life (string_bytes c.self.inside.name)
-    (record { steps_keep = c.steps_are_recorded.ensures.keep; silent_stay = c.steps_are_recorded.ensures.silent; records_lead = c.steps_are_recorded.ensures.lead; are_of_doubts = c.steps_are_recorded.ensures.decisions; held_for_doubts = c.doubts_hold_their_decisions.ensures; records_stay = c.records_stay.ensures; calls_made = c.calls_make_records.ensures })
+    (record {
+      keep = c.steps_are_recorded.ensures.keep;
+      silent = c.steps_are_recorded.ensures.silent;
+      lead = c.steps_are_recorded.ensures.lead;
+      of_doubts = c.steps_are_recorded.ensures.decisions;
+      laws = record { held_for_doubts = c.doubts_hold_their_decisions.ensures; records_stay = c.records_stay.ensures; calls_made = c.calls_make_records.ensures };
+    })
     (state_of c.self.inside.core) (recorder_of c.self.inside.core) c.self.invariant going c.args.conversation (call_of c.args.call.now) (answer_of c.step.result) (state_of c.step.new.self) (recorder_of c.step.new.self) c.step.ensures.sure c.step.ensures.step).recorded
 
 pub returns-clause-step : goal.returns-clause-step
@@ -30,7 +43,13 @@ returns-clause-step g c =
     let going : has_failed (recorder_of c.self.inside.core) ≡ false = search rules in
     subst (λ (old : OnDisk g.row.D.Denot). Steps (shown_on g.D.Disk.life old) c.args.conversation (call_of c.args.call.now) (answer_of c.step.result) (shown_on g.D.Disk.life (core_on (string_bytes c.self.inside.name) (state_of c.step.new.self) (recorder_of c.step.new.self)))) c.self.view_is
     (any_step g.D.Disk.is_modelled g.D.Disk.life (string_bytes c.self.inside.name)
-    (record { steps_keep = c.steps_are_recorded.ensures.keep; silent_stay = c.steps_are_recorded.ensures.silent; records_lead = c.steps_are_recorded.ensures.lead; are_of_doubts = c.steps_are_recorded.ensures.decisions; held_for_doubts = c.doubts_hold_their_decisions.ensures; records_stay = c.records_stay.ensures; calls_made = c.calls_make_records.ensures })
+    (record {
+      keep = c.steps_are_recorded.ensures.keep;
+      silent = c.steps_are_recorded.ensures.silent;
+      lead = c.steps_are_recorded.ensures.lead;
+      of_doubts = c.steps_are_recorded.ensures.decisions;
+      laws = record { held_for_doubts = c.doubts_hold_their_decisions.ensures; records_stay = c.records_stay.ensures; calls_made = c.calls_make_records.ensures };
+    })
     (state_of c.self.inside.core) (recorder_of c.self.inside.core) c.self.invariant going c.args.conversation (call_of c.args.call.now) (answer_of c.step.result) (state_of c.step.new.self) (recorder_of c.step.new.self) c.step.ensures.sure c.step.ensures.step).steps
 
 pub returns-clause-journaled : goal.returns-clause-journaled
@@ -38,7 +57,13 @@ returns-clause-journaled g c =
     let going : has_failed (recorder_of c.self.inside.core) ≡ false = search rules in
     subst (λ (old : OnDisk g.row.D.Denot). Journaled g.D.Disk.is_modelled (shown_on g.D.Disk.life old) (shown_on g.D.Disk.life (core_on (string_bytes c.self.inside.name) (state_of c.step.new.self) (recorder_of c.step.new.self)))) c.self.view_is
     (any_step g.D.Disk.is_modelled g.D.Disk.life (string_bytes c.self.inside.name)
-    (record { steps_keep = c.steps_are_recorded.ensures.keep; silent_stay = c.steps_are_recorded.ensures.silent; records_lead = c.steps_are_recorded.ensures.lead; are_of_doubts = c.steps_are_recorded.ensures.decisions; held_for_doubts = c.doubts_hold_their_decisions.ensures; records_stay = c.records_stay.ensures; calls_made = c.calls_make_records.ensures })
+    (record {
+      keep = c.steps_are_recorded.ensures.keep;
+      silent = c.steps_are_recorded.ensures.silent;
+      lead = c.steps_are_recorded.ensures.lead;
+      of_doubts = c.steps_are_recorded.ensures.decisions;
+      laws = record { held_for_doubts = c.doubts_hold_their_decisions.ensures; records_stay = c.records_stay.ensures; calls_made = c.calls_make_records.ensures };
+    })
     (state_of c.self.inside.core) (recorder_of c.self.inside.core) c.self.invariant going c.args.conversation (call_of c.args.call.now) (answer_of c.step.result) (state_of c.step.new.self) (recorder_of c.step.new.self) c.step.ensures.sure c.step.ensures.step).journaled
 
 pub returns-then-is_failed-clause-journaled : goal.returns-then-is_failed-clause-journaled

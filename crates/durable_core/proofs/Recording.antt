@@ -1,0 +1,176 @@
+-- What becomes of a core and of who records where a record is made, is refused, or none is due: it stays recorded.
+use Rattle.std.proofs.Common.{◌≡◌, ℕ, ◌+◌, ◌-◌, ◌≤◌, Bool, true, false, IsTrue, List, [], ◌∷◌, ◌++◌, length, Some, refl, sym, ◌∙◌, ap, subst, arith, append-nil}
+use Rattle.std.proofs.lemmas.Bool.{false≢true}
+use Rattle.drda_disk.specs.Disk.{Life}
+use Rattle.drda_disk.specs.Region.{end_of}
+use Rattle.drda_disk.specs.declared.region.Region.{Region}
+use Rattle.drda_disk.proofs.Moments.{Stays-refl}
+use Rattle.unit_journal.specs.Journal.{held_of, region_of, room_of}
+use Rattle.unit_journal.specs.declared.journal.Journal.{Journal}
+use Rattle.unit_journal.specs.Record.{laid}
+use Rattle.unit_journal.specs.Stands.{Stands}
+use Rattle.unit_records.specs.Records.{UnitRecord, entry_of}
+use Rattle.unit_records.specs.Room.{held, released, taken}
+use Rattle.recovery.specs.Durable.{Durable, next}
+use Rattle.recovery.specs.Laws.{HeldForDoubts, held_for}
+use Rattle.core_model.specs.Step.{CoreState}
+use Rattle.recovery.specs.Part.{durable_part}
+use Rattle.recovery.specs.Kept.{IsKept}
+use Rattle.journal_recorder.specs.Recording.{IsLeftOpen, Records, disk_of, has_failed, journal_of, made_of}
+use Rattle.journal_recorder.specs.declared.recorder.DiskRecorder.{DiskRecorder}
+use Rattle.recovery.specs.Opens.{Holds}
+use Rattle.recovery.specs.ImageLaws.{RecordsStay}
+use Rattle.recovery.specs.Journaled.{FaultsAfter, IsDurable, IsUnchanged, IsUntouched, Journaled, Made, OnDisk, OneCallIsMade, shown_on}
+use Rattle.durable_core.specs.Recorded.{IsOnDisk, IsRecorded, core_on}
+
+-- the laws that it rests on
+pub record Laws {D : Type 0} (life : D → Life) : Type 0 where
+  pub held_for_doubts : HeldForDoubts
+  pub records_stay : RecordsStay
+  pub calls_made : OneCallIsMade life
+
+-- a record that finds room fits behind the others, with the bytes that are held then
+fits : (at len l need hold free before after room : ℕ) → room ≡ at + len - (at + l) - 1 - before → l + 1 + before ≤ len → need + hold ≤ room + free → after + free ≡ before + hold → l + need + 1 + after ≤ len
+fits at len l need hold free before after room is inside less same = omega (arith, is, inside, less, same)
+
+-- a core that has failed does nothing
+pub stays_failed : {D : Type 0} (modelled : Bool) (life : D → Life) → OneCallIsMade life → (s : OnDisk D) → s.is_failed ≡ true → Journaled modelled (shown_on life s) (shown_on life s)
+stays_failed modelled life made s failed = record {
+  name = refl;
+  more = [];
+  made = sym (append-nil s.made);
+  faults = λ going. absurd (false≢true (sym going ∙ failed));
+  failed = λ before. made.failed s s before refl;
+  records = λ modelled_disk going. absurd (false≢true (sym going ∙ failed));
+}
+
+module _ {D : Type 0} (modelled : Bool) (life : D → Life) (name : List ℕ) where
+  untouched : (r : DiskRecorder D) → IsUntouched (life (disk_of r)) (life (disk_of r))
+  untouched r = record { stays = Stays-refl (life (disk_of r)); moment = refl; faults = refl }
+
+  pub unchanged : (s : CoreState) (r : DiskRecorder D) → IsUnchanged (shown_on life (core_on name s r)) (shown_on life (core_on name s r))
+  unchanged s r = record { name = refl; state = refl; disk = untouched r; room = refl; is_failed = refl; made = refl }
+
+  -- the core is durable until the device fails
+  pub durable_from : OneCallIsMade life → (s : CoreState) (r : DiskRecorder D) → IsRecorded modelled life name s r → IsTrue modelled → has_failed r ≡ false → IsDurable (shown_on life (core_on name s r))
+  durable_from made s r is modelled_disk going =
+      let there = is.on_disk modelled_disk going in
+      made.durable (core_on name s r) (region_of (journal_of r)) there.entries there.settled.durable there.holds
+
+  module _ (laws : Laws life) (s : CoreState) (r : DiskRecorder D) (is : IsRecorded modelled life name s r) (going : has_failed r ≡ false) where
+    -- ---- no record: nothing durable changes
+
+    no_fault : FaultsAfter (has_failed r) (life (disk_of r)).faults (life (disk_of r)).faults
+    no_fault = subst (λ (f : Bool). FaultsAfter f (life (disk_of r)).faults (life (disk_of r)).faults) (sym going) (omega arith)
+
+    module _ (new : CoreState) (same : durable_part new ≡ durable_part s) where
+      pub silent_journaled : Journaled modelled (shown_on life (core_on name s r)) (shown_on life (core_on name new r))
+      silent_journaled = record {
+        name = refl;
+        more = [];
+        made = sym (append-nil (made_of r));
+        faults = λ still. no_fault;
+        failed = λ is_failed. absurd (false≢true (sym going ∙ is_failed));
+        records = λ modelled_disk still. ([], laws.calls_made.silent (core_on name s r) (core_on name new r) (durable_from laws.calls_made s r is modelled_disk going) (Stays-refl (life (disk_of r))) same refl);
+      }
+
+      pub silent_recorded : IsKept new → IsRecorded modelled life name new r
+      silent_recorded kept = record {
+        kept = kept;
+        held = is.held ∙ ap (λ (d : Durable). held_for d.doubts) (sym same);
+        inside = is.inside;
+        on_disk = λ modelled_disk still.
+            let there = is.on_disk modelled_disk still in
+            record {
+              entries = there.entries;
+              settled = there.settled;
+              holds = subst (λ (d : Durable). Holds name (region_of (journal_of r)) there.entries d (life (disk_of r)).seen) (sym same) there.holds;
+            };
+      }
+
+    -- ---- a record that leads to what is durable of the new state
+
+    module _ (new : CoreState) (said : UnitRecord) (leads : next (durable_part s) said ≡ Some (durable_part new)) where
+      holds_for : held_for (durable_part new).doubts + released said ≡ held_for (durable_part s).doubts + held said
+      holds_for = laws.held_for_doubts (durable_part s) (durable_part new) said leads
+
+      fit : (there : IsOnDisk modelled life name s r) → taken said + held said ≤ room_of (journal_of r) + released said
+          → length (laid there.entries) + taken said + 1 + held_for (durable_part new).doubts ≤ (region_of (journal_of r)).length
+      fit there less = fits (region_of (journal_of r)).at (region_of (journal_of r)).length (length (laid there.entries)) (taken said) (held said) (released said) (held_of (journal_of r)) (held_for (durable_part new).doubts) (room_of (journal_of r))
+          (ap (λ (n : ℕ). end_of (region_of (journal_of r)) - n - 1 - held_of (journal_of r)) there.settled.next)
+          (subst (λ (n : ℕ). length (laid there.entries) + 1 + n ≤ (region_of (journal_of r)).length) (sym is.held) there.holds.room)
+          less (holds_for ∙ ap (λ (n : ℕ). n + held said) (sym is.held))
+
+      module _ (after : DiskRecorder D) (made : Records modelled life r said after) where
+        less : taken said + held said ≤ room_of (journal_of r) + released said
+        less = omega (arith, made.room)
+
+        record_on_disk : IsTrue modelled → IsOnDisk modelled life name new after
+        record_on_disk modelled_disk =
+            let there = is.on_disk modelled_disk going in
+            let settled = made.settled there.entries there.settled in
+            let here = subst (λ (g : Region). Stands g (there.entries ++ entry_of said ∷ []) (life (disk_of after)).seen) made.region settled.stands in
+            record {
+              entries = there.entries ++ entry_of said ∷ [];
+              settled = settled;
+              holds = subst (λ (g : Region). Holds name g (there.entries ++ entry_of said ∷ []) (durable_part new) (life (disk_of after)).seen) (sym made.region)
+                  (laws.records_stay name (region_of (journal_of r)) there.entries (durable_part s) (durable_part new) said (life (disk_of r)).seen (life (disk_of after)).seen
+                  there.holds made.good leads (fit there less) made.others here);
+            }
+
+        durable_after : IsTrue modelled → IsDurable (shown_on life (core_on name new after))
+        durable_after modelled_disk =
+            let here = record_on_disk modelled_disk in
+            laws.calls_made.durable (core_on name new after) (region_of (journal_of after)) here.entries here.settled.durable here.holds
+
+        record_made : IsTrue modelled → Made (said ∷ []) (shown_on life (core_on name s r)) (shown_on life (core_on name new after))
+        record_made modelled_disk =
+            let there = is.on_disk modelled_disk going in
+            laws.calls_made.recorded (core_on name s r) (core_on name new after) (region_of (journal_of r)) there.entries said
+            (durable_part new) there.holds made.good leads (fit there less) (made.moments there.entries there.settled) refl (λ more. refl) (λ more. durable_after modelled_disk) made.made
+
+        pub record_journaled : Journaled modelled (shown_on life (core_on name s r)) (shown_on life (core_on name new after))
+        record_journaled = record {
+          name = refl;
+          more = entry_of said ∷ [];
+          made = made.made;
+          faults = λ still. subst (λ (f : Bool). FaultsAfter f (life (disk_of r)).faults (life (disk_of after)).faults) (sym made.going) (omega (arith, made.faults));
+          failed = λ is_failed. absurd (false≢true (sym going ∙ is_failed));
+          records = λ modelled_disk still. (said ∷ [], record_made modelled_disk);
+        }
+
+        pub record_recorded : IsKept new → IsRecorded modelled life name new after
+        record_recorded kept = record {
+          kept = kept;
+          held = omega (arith, made.held, holds_for, is.held);
+          inside = subst (λ (g : Region). end_of g ≤ length (life (disk_of after)).seen) (sym made.region) (subst (λ (n : ℕ). end_of (region_of (journal_of r)) ≤ n) (sym made.others.size) is.inside);
+          on_disk = λ modelled_disk still. record_on_disk modelled_disk;
+        }
+
+      -- ---- the device failed: the core is as it was
+
+      module _ (after : DiskRecorder D) (left : IsLeftOpen modelled life r said after) where
+        left_made : IsTrue modelled → Made (said ∷ []) (shown_on life (core_on name s r)) (shown_on life (core_on name s after))
+        left_made modelled_disk =
+            let there = is.on_disk modelled_disk going in
+            laws.calls_made.recorded (core_on name s r) (core_on name s after) (region_of (journal_of r)) there.entries said
+            (durable_part new) there.holds left.good leads (fit there left.fits) (left.moments there.entries there.settled) refl
+            (λ more. absurd (false≢true (sym more ∙ left.failed))) (λ more. absurd (false≢true (sym more ∙ left.failed))) left.made
+
+        pub left_journaled : Journaled modelled (shown_on life (core_on name s r)) (shown_on life (core_on name s after))
+        left_journaled = record {
+          name = refl;
+          more = entry_of said ∷ [];
+          made = left.made;
+          faults = λ still. subst (λ (f : Bool). FaultsAfter f (life (disk_of r)).faults (life (disk_of after)).faults) (sym left.failed) left.faults;
+          failed = λ is_failed. absurd (false≢true (sym going ∙ is_failed));
+          records = λ modelled_disk still. (said ∷ [], left_made modelled_disk);
+        }
+
+        pub left_recorded : IsRecorded modelled life name s after
+        left_recorded = record {
+          kept = is.kept;
+          held = ap (λ (j : Journal). held_of j) left.journal ∙ is.held;
+          inside = subst (λ (j : Journal). end_of (region_of j) ≤ length (life (disk_of after)).seen) (sym left.journal) (subst (λ (n : ℕ). end_of (region_of (journal_of r)) ≤ n) (sym left.others.size) is.inside);
+          on_disk = λ modelled_disk still. absurd (false≢true (sym still ∙ left.failed));
+        }
