@@ -71,3 +71,12 @@ pub(crate) fn is_commit(call: &CoreCall<'_, '_>) -> bool
 {
     matches!(*call, CoreCall::Commit)
 }
+
+/// Whether a statement was run that may have changed rows, and no commit and no rollback came behind it.
+pub(crate) fn has_run_behind(has_run: bool, call: &CoreCall<'_, '_>) -> bool {
+    match call {
+        CoreCall::Run { .. } => true,
+        CoreCall::Commit | CoreCall::RollBack => false,
+        _ => has_run,
+    }
+}

@@ -1,7 +1,7 @@
 //! One conversation's place at the book.
 
 use crate::acted::Acted;
-use crate::asking::is_commit;
+use crate::asking::{has_run_behind, is_commit};
 use crate::gate::Gate;
 use crate::pass::Pass;
 use crate::shared::Shared;
@@ -14,7 +14,8 @@ use std::time::{Clock, Instant};
 
 /// One conversation at the book, which is asked under the lock, call by call: its turn comes outside of the
 /// lock, the call and what it lists are one step inside of it. Commits that wait for the lock are made together by the
-/// thread that gets it. Behind a loss a checkpoint is considered.
+/// thread that gets it, but for those behind no statement that may have changed rows, since these make no device call.
+/// Behind a loss a checkpoint is considered.
 #[derive(Drop)]
 pub struct Desk<'a, D: Disk, R: Wait + Clock, G: Gate> {
     rt: &'a R,
@@ -22,6 +23,7 @@ pub struct Desk<'a, D: Disk, R: Wait + Clock, G: Gate> {
     gate: &'a G,
     pass: Pass,
     asked: u64,
+    has_run: bool,
     waited: u64,
     held: u64,
 }
@@ -39,6 +41,7 @@ impl<'a, D: Disk, R: Wait + Clock, G: Gate> Desk<'a, D, R, G> {
             gate,
             pass,
             asked: 0,
+            has_run: false,
             waited: 0,
             held: 0,
         }
@@ -66,9 +69,9 @@ impl<'a, D: Disk, R: Wait + Clock, G: Gate> Desk<'a, D, R, G> {
     }
 
     // The conversation comes to wait for the lock. When it came, where the clock can be read.
-    fn come(&self, is_commit: bool) -> Option<Instant> {
+    fn come(&self, is_gathered: bool) -> Option<Instant> {
         let waiting = &self.shared.waiting;
-        if !is_commit {
+        if !is_gathered {
             waiting.come();
             return time(self.rt);
         }
@@ -87,14 +90,15 @@ impl<'a, D: Disk, R: Wait + Clock, G: Gate> Ask for Desk<'a, D, R, G> {
     fn ask(&mut self, call: &CoreCall<'_, '_>) -> Answer {
         self.gate.turn(self.pass.conversation(), self.asked);
         self.asked = self.asked.wrapping_add(1);
-        let is_commit = is_commit(call);
-        let came = self.come(is_commit);
+        let is_gathered = self.has_run && is_commit(call);
+        self.has_run = has_run_behind(self.has_run, call);
+        let came = self.come(is_gathered);
         let (acted, turn) = {
             let mut guard = self.shared.held.lock(self.rt);
             let held = &mut *guard;
             let begun = Begun::new(self.rt, came, &held.book);
             let waiting = &self.shared.waiting;
-            let acted = held.act(self.rt, waiting, &mut self.pass, call, is_commit);
+            let acted = held.act(self.rt, waiting, &mut self.pass, call, is_gathered);
             if matches!(*call, CoreCall::Lost) {
                 held.book.consider_checkpoint();
             }

@@ -21,20 +21,20 @@ impl<D: Disk> Held<D> {
     ghost use Rattle.core_calls.specs.Call.{call_of, commit};
     ghost use Rattle.shared_node.specs.Desks.{DeskActs};
 
-    /// Does one call of a pass that is no commit, or a commit: that may have been made with others' meanwhile; else it is
-    /// made with those of all who wait; else alone.
+    /// Does one call of a pass. A commit that is gathered may have been made with others' meanwhile; else it is made with
+    /// those of all who wait; else alone.
     pub(crate) fn act<R: Wait>(
         &mut self,
         rt: &R,
         waiting: &Waiting,
         pass: &mut Pass,
         call: &CoreCall<'_, '_>,
-        is_commit: bool,
+        is_gathered: bool,
     ) -> Acted
-        requires { is_commit ≡ true → call_of call.now ≡ commit }
+        requires { is_gathered ≡ true → call_of call.now ≡ commit }
         ensures { DeskActs pass.old (call_of call.now) result pass.new }
     {
-        if !is_commit {
+        if !is_gathered {
             waiting.go();
             return self.book.act(pass, call);
         }
