@@ -3,7 +3,7 @@ use Rattle.std.proofs.Common.{◌≡◌, ◌⊎◌, ◌<◌, ◌≤◌, ◌+◌,
 use Rattle.std.proofs.Math.Seq.{drop-cons}
 use Rattle.shared_node.specs.declared.count.Count.{Count}
 use Rattle.shared_node.specs.declared.wish.Wish.{Wish}
-use Rattle.shared_node.specs.Gathered.{AreApart, AreMembers, IsMember, conversations_of, count_at}
+use Rattle.shared_node.specs.Gathered.{AreApart, AreMembers, IsMember, count_at}
 use Rattle.shared_node.proofs.Counting.{get_other}
 
 -- ---- who is chosen
@@ -32,9 +32,6 @@ one_apart_more members w apart never here there u v one two same =
     (λ too. last.0 ∙ sym too.0)
     (at_end members w v there two))
     (at_end members w u here one)
-
-pub same_conversations : (asked kept : List ℕ) (members chosen : List Wish) → asked ≡ kept → kept ≡ conversations_of chosen → members ≡ chosen → asked ≡ conversations_of members
-same_conversations asked kept members chosen is of same = is ∙ of ∙ ap (λ (ws : List Wish). conversations_of ws) (sym same)
 
 -- ---- how they are counted
 

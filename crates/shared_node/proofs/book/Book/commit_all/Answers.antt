@@ -1,4 +1,4 @@
-use Rattle.std.proofs.Common.{◌≡◌, ℕ, List, Option, Some, if◌then◌else◌, refl, slice_get, sym, subst, inr}
+use Rattle.std.proofs.Common.{◌≡◌, ℕ, List, Option, Some, if◌then◌else◌, refl, slice_get, sym, ap, subst, ◌∙◌, inr}
 use Rattle.recovery.specs.Journaled.{shown_on}
 use Rattle.durable_core.specs.Together.{CommitTogether}
 use Rattle.durable_core.specs.declared.together.Together.TheVariants.{DeviceFailed, Done}
@@ -6,7 +6,6 @@ use Rattle.shared_node.specs.declared.count.Count.{Count}
 use Rattle.shared_node.specs.declared.wish.Wish.{Wish}
 use Rattle.shared_node.specs.Books.{Told}
 use Rattle.shared_node.specs.Gathered.{AreApart, AreMembers, Gathers, conversations_of}
-use Rattle.shared_node.proofs.Members.{same_conversations}
 use Rattle.shared_node.proofs.Opening.{gathers_on, still}
 use Rattle.shared_node.proofs.book.Book.commit_all.Goals as goal
 
@@ -25,7 +24,8 @@ invariant_of-self-2 g c =
     let inside = c.self.inside in
     let members = c.deref-3.result.now in
     let f = c.in-Some.has_failed in
-    let conversations : c.deref-2.result.now ≡ conversations_of members = same_conversations c.deref-2.result.now _ members _ c.deref-2.ensures.value (c.choose.ensures.conversations c.if-not-choose.false) c.deref-3.ensures.value in
+    let conversations : c.deref-2.result.now ≡ conversations_of members =
+    c.deref-2.ensures.value ∙ c.choose.ensures.conversations c.if-not-choose.false ∙ ap (λ (ws : List Wish). conversations_of ws) (sym c.deref-3.ensures.value) in
     let together =
     subst (λ (ns : List ℕ). CommitTogether (shown_on g.D.Disk.life inside.core) ns (if f then DeviceFailed else Done) (shown_on g.D.Disk.life c.ask_together.new.core)) conversations c.in-Some.ensures.some in
     gathers_on g.D.Disk.is_modelled g.D.Disk.life c.answers_are_serial.ensures.lead_on inside.core inside.opening.value c.ask_together.new.core inside.calls.listed c.list_all.new.calls.listed inside.places.items c.list_all.new.places.items inside.left.items
@@ -41,7 +41,7 @@ returns-clause-gathers g c =
     let book : Told g.row.D.Denot = record { core = inside.core; opening = inside.opening.value; calls = inside.calls.listed; places = inside.places.items; left = inside.left.items; next = inside.next } in
     let new : Told g.row.D.Denot =
     record { core = c.ask_together.new.core; opening = inside.opening.value; calls = c.list_all.new.calls.listed; places = c.list_all.new.places.items; left = c.list_all.new.left.items; next = inside.next } in
-    let conversations : c.deref-2.result.now ≡ conversations_of members = same_conversations c.deref-2.result.now _ members _ c.deref-2.ensures.value (c.choose.ensures.conversations chosen) c.deref-3.ensures.value in
+    let conversations : c.deref-2.result.now ≡ conversations_of members = c.deref-2.ensures.value ∙ c.choose.ensures.conversations chosen ∙ ap (λ (ws : List Wish). conversations_of ws) (sym c.deref-3.ensures.value) in
     inr
     (subst (λ (b : Told g.row.D.Denot). Gathers {D = g.row.D.Denot} g.D.Disk.life b c.args.wishes.now new) c.self.view_is
     (record {
