@@ -10,12 +10,12 @@ use command_kit::Ask;
 use core_calls::{Answer, CoreCall};
 use drda_disk::Disk;
 use std::sync::Wait;
-use std::time::{Clock, Instant};
+use std::time::Clock;
 
 /// One conversation at the book, which is asked under the lock, call by call: its turn comes outside of the
-/// lock, the call and what it lists are one step inside of it. Commits that wait for the lock are made together by the
-/// thread that gets it, but for those behind no statement that may have changed rows, since these make no device call.
-/// Behind a loss a checkpoint is considered.
+/// lock, the call and what it lists are one step inside of it. Commits that wait are made together by the first
+/// of them, but for those behind no statement that may have changed rows, since these make no device call. Behind a loss
+/// a checkpoint is considered.
 #[derive(Drop)]
 pub struct Desk<'a, D: Disk, R: Wait + Clock, G: Gate> {
     rt: &'a R,
@@ -68,17 +68,14 @@ impl<'a, D: Disk, R: Wait + Clock, G: Gate> Desk<'a, D, R, G> {
         self.pass
     }
 
-    // The conversation comes to wait for the lock. When it came, where the clock can be read.
-    fn come(&self, is_gathered: bool) -> Option<Instant> {
+    // The conversation comes to the lock: whether it leads a group of commits.
+    fn come(&self, is_gathered: bool) -> bool {
         let waiting = &self.shared.waiting;
-        if !is_gathered {
-            waiting.come();
-            return time(self.rt);
+        if is_gathered {
+            return waiting.wish(self.rt, self.pass.wish());
         }
-        waiting.wish(self.rt, self.pass.wish());
-        let came = time(self.rt);
-        waiting.let_others_go();
-        came
+        waiting.come();
+        false
     }
 }
 
@@ -92,7 +89,8 @@ impl<'a, D: Disk, R: Wait + Clock, G: Gate> Ask for Desk<'a, D, R, G> {
         self.asked = self.asked.wrapping_add(1);
         let is_gathered = self.has_run && is_commit(call);
         self.has_run = has_run_behind(self.has_run, call);
-        let came = self.come(is_gathered);
+        let came = time(self.rt);
+        let leads = self.come(is_gathered);
         let (acted, turn) = {
             let mut guard = self.shared.held.lock(self.rt);
             let held = &mut *guard;
@@ -104,6 +102,9 @@ impl<'a, D: Disk, R: Wait + Clock, G: Gate> Ask for Desk<'a, D, R, G> {
             }
             (acted, begun.end(self.rt, &held.book))
         };
+        if leads {
+            self.shared.waiting.end(self.rt);
+        }
         self.waited = self.waited.max(turn.waited);
         self.held = self.held.max(turn.held);
         self.gate.after(self.pass.conversation(), &turn);

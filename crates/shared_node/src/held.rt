@@ -35,7 +35,7 @@ impl<D: Disk> Held<D> {
         ensures { DeskActs pass.old (call_of call.now) result pass.new }
     {
         if !is_gathered {
-            waiting.go();
+            waiting.go(rt);
             return self.book.act(pass, call);
         }
         if let Some(answer) = self.book.collect(pass) {

@@ -1,22 +1,33 @@
-//! Who waits for the lock.
+//! Who waits to commit.
 
 use crate::numbering::PLACES;
 use crate::wish::Wish;
 use std::alloc::{AllocError, Global};
 use std::mem::swap;
 use std::sync::atomic::{AtomicU64, Ordering};
-use std::sync::{Mutex, Wait};
-use std::thread::yield_now;
+use std::sync::{Condvar, Mutex, Wait};
 
-/// How often a commit lets others go first.
-const YIELDS: u64 = 64;
+// The wishes that wait, and the groups in which they are fulfilled: which one gathers now, and how many were made.
+#[derive(Drop)]
+struct Line {
+    wishes: Vec<Wish>,
+    gathers: u64,
+    made: u64,
+    is_led: bool,
+}
 
-/// Who waits for the lock: the conversations that wish to commit, and how many others there are. No contract says
-/// anything of it; a wish that is not here is one that its own conversation fulfils.
+/// Who waits to commit, beside the lock, which is never waited for while the line is held. The first of a group leads: it
+/// commits for all of them, while the next group gathers. Before, it lets those calls go that came to the lock before it,
+/// since who made them may commit next. No contract says anything of it; a wish that nobody fulfils is one that its own
+/// conversation does.
 #[derive(Drop)]
 pub(crate) struct Waiting {
-    wishes: Mutex<Vec<Wish>>,
-    asking: AtomicU64,
+    line: Mutex<Line>,
+    is_made: Condvar,
+    have_gone: Condvar,
+    came: AtomicU64,
+    gone: AtomicU64,
+    awaited: AtomicU64,
 }
 
 impl Waiting {
@@ -24,44 +35,83 @@ impl Waiting {
     pub(crate) fn new(alloc: Global) -> Result<Waiting, AllocError> {
         let wishes = Vec::with_capacity(alloc, PLACES)?;
         Ok(Waiting {
-            wishes: Mutex::new(wishes),
-            asking: AtomicU64::new(0),
+            line: Mutex::new(Line {
+                wishes,
+                gathers: 1,
+                made: 0,
+                is_led: false,
+            }),
+            is_made: Condvar::new(),
+            have_gone: Condvar::new(),
+            came: AtomicU64::new(0),
+            gone: AtomicU64::new(0),
+            awaited: AtomicU64::new(0),
         })
     }
 
-    /// A conversation waits for the lock to commit, so that whoever commits meanwhile does it for this one too. Where there is
-    /// no room for its wish, it commits alone.
-    pub(crate) fn wish<R: Wait>(&self, rt: &R, wish: Wish) {
-        let mut wishes = self.wishes.lock(rt);
-        if wishes.len() < PLACES {
-            let _ = wishes.push(wish);
+    /// A conversation waits to commit. Returns true where it leads a group, which it then ends; false where its group
+    /// was made.
+    pub(crate) fn wish<R: Wait>(&self, rt: &R, wish: Wish) -> bool {
+        let mut line = self.line.lock(rt);
+        let group = line.gathers;
+        if line.wishes.len() < PLACES {
+            let _ = line.wishes.push(wish);
+        }
+        let mut line = self
+            .is_made
+            .wait_while(rt, line, |line| line.is_led && line.made < group);
+        if line.made >= group {
+            return false;
+        }
+        line.is_led = true;
+        drop(line);
+        self.let_go(rt);
+        true
+    }
+
+    // Those calls that have come to the lock so far get it first.
+    fn let_go<R: Wait>(&self, rt: &R) {
+        let came = self.came.load(Ordering::SeqCst);
+        self.awaited.store(came, Ordering::SeqCst);
+        if self.gone.load(Ordering::SeqCst) < came {
+            let gone = &self.gone;
+            let line = self.line.lock(rt);
+            let _line = self
+                .have_gone
+                .wait_while(rt, line, |_| gone.load(Ordering::SeqCst) < came);
         }
     }
 
-    /// Whoever is about to commit lets those go first, for a while, that wait for the lock with another call: the next call
-    /// of each may be a commit, which goes together with this one then. Nobody waits here who is alone.
-    pub(crate) fn let_others_go(&self) {
-        for _ in 0..YIELDS {
-            if self.asking.load(Ordering::SeqCst) == 0 {
-                return;
-            }
-            yield_now();
-        }
-    }
-
-    /// Takes all wishes, in exchange for an empty list.
+    /// Takes all wishes, in exchange for an empty list; the next group gathers.
     pub(crate) fn take<R: Wait>(&self, rt: &R, empty: &mut Vec<Wish>) {
-        let mut wishes = self.wishes.lock(rt);
-        swap(&mut *wishes, empty);
+        let mut guard = self.line.lock(rt);
+        let line = &mut *guard;
+        swap(&mut line.wishes, empty);
+        line.gathers = line.gathers.wrapping_add(1);
     }
 
-    /// A conversation waits for the lock with another call.
+    /// The group whose wishes were taken last is made.
+    pub(crate) fn end<R: Wait>(&self, rt: &R) {
+        let mut guard = self.line.lock(rt);
+        let line = &mut *guard;
+        line.made = line.gathers.wrapping_sub(1);
+        line.is_led = false;
+        drop(guard);
+        self.is_made.notify_all();
+    }
+
+    /// A call that is no commit comes to the lock.
     pub(crate) fn come(&self) {
-        self.asking.fetch_add(1, Ordering::SeqCst);
+        self.came.fetch_add(1, Ordering::SeqCst);
     }
 
     /// It has the lock.
-    pub(crate) fn go(&self) {
-        self.asking.fetch_sub(1, Ordering::SeqCst);
+    pub(crate) fn go<R: Wait>(&self, rt: &R) {
+        let gone = self.gone.fetch_add(1, Ordering::SeqCst).wrapping_add(1);
+        if gone == self.awaited.load(Ordering::SeqCst) {
+            let line = self.line.lock(rt);
+            drop(line);
+            self.have_gone.notify_one();
+        }
     }
 }
