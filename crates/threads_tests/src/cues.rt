@@ -2,7 +2,7 @@
 
 use crate::stages::{Act, Cue, Point};
 
-// `call N`, `read N`, `write N`, `clock N` or `closed`, and what stands behind it.
+// `call N`, `read N`, `write N` or `closed`, and what stands behind it.
 fn point_of(text: &str) -> Option<(Point, &str)> {
     if let Some(rest) = text.strip_prefix("closed ") {
         return Some((Point::Closed, rest));
@@ -14,7 +14,6 @@ fn point_of(text: &str) -> Option<(Point, &str)> {
         "call" => Point::Call(number),
         "read" => Point::Read(number),
         "write" => Point::Write(number),
-        "clock" => Point::Clock(number),
         _ => return None,
     };
     Some((point, rest))

@@ -7,7 +7,6 @@ mod plays;
 mod rows;
 mod stages;
 mod talks;
-mod watches;
 
 use crate::rows::Rows;
 use std::io::{self, Write};

@@ -2,7 +2,6 @@
 
 use crate::stages::{Cue, LIMIT, Stage};
 use crate::talks::{Checker, Talk, Tape};
-use crate::watches::Watch;
 use conversation::Settings;
 use drda_disk::MemDisk;
 use drda_program::{Silent, Streams, serve_streams};
@@ -120,8 +119,7 @@ fn serve<R: Threads + Wait + Clock + Sync>(
         Err(_) => return None,
     };
     let settings = Settings::new(alloc, "ana", "pw", "SHOP").ok()?;
-    let watch = Watch::new(rt, stage);
-    serve_streams(&watch, alloc, &shared, &settings, stage, &Silent, callers).ok()?;
+    serve_streams(rt, alloc, &shared, &settings, stage, &Silent, callers).ok()?;
     match shared.close(Vec::new(alloc)) {
         Ok(book) => Some((book, true)),
         Err(book) => Some((book, false)),

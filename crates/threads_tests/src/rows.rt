@@ -76,8 +76,7 @@ impl<'r, R: Threads + Wait + Clock + Sync> Rows<'r, R> {
     }
 
     // `name` gives bytes a name, and `fresh` is a core over a fresh store. `talks` lays conversations, `cue` a cue, and `order` those of calls that
-    // are made one after the other. `serve` serves the conversations, and `crowd` such of which the last one comes until it is heard. `room` tells how
-    // many bytes are left for records.
+    // are made one after the other. `serve` serves the conversations, and `crowd` such of which the last one comes until it is heard.
     fn answer(&mut self, verb: &str, rest: &str) -> Option<()> {
         match verb {
             "name" => self.lay_name(rest),
@@ -89,7 +88,6 @@ impl<'r, R: Threads + Wait + Clock + Sync> Rows<'r, R> {
             "cue" => self.cues.push(cue_of(rest)?).ok(),
             "order" => push_order(&mut self.cues, rest),
             "serve" | "crowd" => self.serve(verb == "crowd"),
-            "room" => self.tell_room(),
             _ => None,
         }
     }
@@ -112,14 +110,6 @@ impl<'r, R: Threads + Wait + Clock + Sync> Rows<'r, R> {
             self.talks.push(Talk::new(pieces, replies)).ok()?;
         }
         Some(())
-    }
-
-    fn tell_room(&mut self) -> Option<()> {
-        let Some(core) = &self.core else {
-            return None;
-        };
-        let told = format!(in self.alloc; "  room: {}\n", core.room()).ok()?;
-        push_text(&mut self.written, &told)
     }
 
     // Serves the conversations over the core, and tells what became of them. Then there are none.

@@ -7,15 +7,13 @@ use std::thread::yield_now;
 /// How often is looked at most, until what is waited for has come.
 pub const LIMIT: u64 = 10_000_000;
 
-/// Where a conversation is: before a call, a read or a write of its own, counted from 0, or where its stream was closed; or,
-/// where it is numbered 0, that the clock is read, by whichever, counted from 0 too.
+/// Where a conversation is: before a call, a read or a write of its own, counted from 0, or where its stream was closed.
 #[derive(Clone, Copy, PartialEq, Eq)]
 pub enum Point {
     Call(u64),
     Read(u64),
     Write(u64),
     Closed,
-    Clock(u64),
 }
 
 /// What is done at a point.
