@@ -19,8 +19,8 @@ pub record HaveCommitted (old : Shown) (conversations : List ℕ) (new : Shown) 
   pub still : new.is_failed ≡ false
   pub made : new.made ≡ old.made ++ due_entries (due_together conversations old.state)
 
--- nothing was done: each may commit alone
-pub record MayCommitAlone (old new : Shown) : Type 0 where
+-- nothing was done: each may go alone
+pub record MayGoAlone (old new : Shown) : Type 0 where
   pub going : old.is_failed ≡ false
   pub same : IsUnchanged old new
 
@@ -43,6 +43,6 @@ pub record AreClosed (old new : Shown) : Type 0 where
 
 abbrev pub CommitTogether : Shown → List ℕ → Together → Shown → Type 0
 CommitTogether old conversations Done new = HaveCommitted old conversations new
-CommitTogether old conversations Alone new = MayCommitAlone old new
+CommitTogether old conversations Alone new = MayGoAlone old new
 CommitTogether old conversations DeviceFailed new = FailTogether old conversations new
 CommitTogether old conversations Closed new = AreClosed old new

@@ -1,25 +1,29 @@
-//! Conversations that commit together.
+//! Conversations that commit together, and branches that are prepared or decided together.
 
-ghost use Rattle.recovery.specs.Journaled.{Journaled, shown_on};
+ghost use Rattle.std.specs.Prelude.{length};
+ghost use Rattle.recovery.specs.Journaled.{Journaled, JournaledBy, shown_on};
+ghost use Rattle.durable_core.specs.Through.{GoThrough};
 ghost use Rattle.durable_core.specs.Together.{CommitTogether};
 
 use crate::durable::DurableCore;
 use drda_disk::Disk;
-use recovery::images::{calls_make_records, records_stay};
-use recovery::laws::doubts_hold_their_decisions;
-use recovery::step_laws::commits_are_recorded;
-use unit_records::RecordError;
+use recovery::images::{
+    calls_make_groups, calls_make_records, groups_go_on, groups_stay, records_stay,
+};
+use recovery::laws::{decisions_of_all_are_held, doubts_hold_their_decisions};
+use recovery::step_laws::{commits_are_recorded, phases_are_recorded};
+use unit_records::{BranchCall, GroupError, Phase, RecordError};
 
-/// What became of conversations that were to commit together.
+/// What became of calls that were to be made together.
 #[derive(Clone, Copy, Debug, PartialEq, Eq)]
 pub enum Together {
-    /// Each has committed.
+    /// Each was made.
     Done,
-    /// Nothing was done, and each may commit alone: a conversation is named twice or works in a global
-    /// unit, or there is no memory or no room for all of them.
+    /// Nothing was done, and each may be made alone: they do not go together, or there is no memory or no room
+    /// for all of them.
     Alone,
-    /// The device failed. None has committed; whether their record is there shows when the store is
-    /// opened again.
+    /// The device failed. None was made; whether what was to be recorded is there, all or none, shows when
+    /// the store is opened again.
     DeviceFailed,
     /// The device had failed before. Nothing was done.
     Closed,
@@ -48,6 +52,33 @@ impl<D: Disk> DurableCore<D> {
             Err(RecordError::NoMemory) => Together::Alone,
             Err(RecordError::Full { .. }) => Together::Alone,
             Err(RecordError::DeviceFailed) => Together::DeviceFailed,
+        }
+    }
+
+    /// These branches go through a phase of two-phase commit, one after another in this order: each is
+    /// prepared, or each is decided so. Each has a record, and all are made by as many device calls as one: a crash
+    /// at any moment leaves a disk that opens to the tables and the units in doubt from before them all or from
+    /// after them all.
+    pub fn go_through(&mut self, phase: Phase, calls: &[BranchCall]) -> Together
+        ensures goes { GoThrough (shown_on D.life self.old) phase calls.now result (shown_on D.life self.new) }
+        ensures journaled { JournaledBy (length calls.now) D.is_modelled (shown_on D.life self.old) (shown_on D.life self.new) }
+    {
+        phases_are_recorded();
+        decisions_of_all_are_held();
+        groups_stay();
+        calls_make_records::<D>();
+        calls_make_groups::<D>();
+        groups_go_on::<D>();
+        if self.core.recorder().is_failed() {
+            return Together::Closed;
+        }
+        if !self.core.may_go_through(phase, calls) {
+            return Together::Alone;
+        }
+        match self.core.go_through(phase, calls) {
+            Ok(()) => Together::Done,
+            Err(GroupError::Refused) => Together::Alone,
+            Err(GroupError::DeviceFailed) => Together::DeviceFailed,
         }
     }
 }

@@ -1,13 +1,14 @@
 -- What becomes of a disk and its journal where a unit is recorded.
-use Rattle.std.specs.Prelude.{◌≡◌, ℕ, ◌+◌, ◌-◌, ◌^◌, ◌<◌, ◌≤◌, Bool, true, false, List, [], ◌∷◌, ◌++◌, length, min}
+use Rattle.std.specs.Prelude.{◌≡◌, ℕ, ◌+◌, ◌-◌, ◌^◌, ◌<◌, ◌≤◌, Bool, true, false, List, [], ◌∷◌, ◌++◌, length, map, min}
+use Rattle.std.specs.List.{AllByRecursion}
 use Rattle.drda_disk.specs.Disk.{LeavesOnly, Life}
 use Rattle.drda_disk.specs.Region.{SameOutside, end_of}
 use Rattle.unit_journal.specs.declared.journal.Journal.{Journal}
 use Rattle.unit_journal.specs.Journal.{IsSettled, held_of, region_of, room_of}
 use Rattle.unit_journal.specs.Record.{Entry}
-use Rattle.unit_journal.specs.Stands.{IsBeforeOrAfter}
+use Rattle.unit_journal.specs.Stands.{IsBeforeOrAfter, IsBeforeOrAfterAll}
 use Rattle.unit_records.specs.Records.{IsGood, UnitRecord, entry_of}
-use Rattle.unit_records.specs.Room.{held, released, taken}
+use Rattle.unit_records.specs.Room.{held, held_by, released, released_by, taken, taken_by}
 use Rattle.unit_records.specs.declared.record_error.RecordError.{RecordError}
 use Rattle.unit_records.specs.declared.record_error.RecordError.TheVariants.{DeviceFailed, Full, NoMemory}
 use Rattle.journal_recorder.specs.declared.recorder.DiskRecorder.{DiskRecorder}
@@ -74,3 +75,39 @@ module _ {D : Type 0} (modelled : Bool) (life : D → Life) where
   Fails old said NoMemory new = new ≡ old
   Fails old said (Full need room) new = (new ≡ old) × HasNoRoom old said need room
   Fails old said DeviceFailed new = IsLeftOpen old said new
+
+  -- ---- records that are made together
+
+  -- it can record, and all that is released together is held
+  pub record AllowsAll (r : DiskRecorder D) (records : List UnitRecord) : Type 0 where
+    pub going : has_failed r ≡ false
+    pub inside : end_of (region_of (journal_of r)) ≤ length (life_of r).seen
+    pub released_is_held : released_by records ≤ held_of (journal_of r)
+
+  -- a crash at any moment leaves the records from before, with all of these or without
+  abbrev pub LeavesAllMore : DiskRecorder D → List UnitRecord → DiskRecorder D → Type 0
+  LeavesAllMore old records new = (es : List Entry) → IsSettled modelled (life_of old) (journal_of old) es
+      → LeavesOnly (life_of old) (life_of new) (IsBeforeOrAfterAll (region_of (journal_of old)) (life_of old).seen es (map entry_of records))
+
+  pub record RecordsAll (old : DiskRecorder D) (records : List UnitRecord) (new : DiskRecorder D) : Type 0 where
+    pub good : AllByRecursion IsGood records
+    pub settled : (es : List Entry) → IsSettled modelled (life_of old) (journal_of old) es → IsSettled modelled (life_of new) (journal_of new) (es ++ map entry_of records)
+    pub moments : LeavesAllMore old records new
+    pub others : SameOutside (region_of (journal_of old)) (life_of old).seen (life_of new).seen
+    pub region : region_of (journal_of new) ≡ region_of (journal_of old)
+    pub room : room_of (journal_of new) + (taken_by records + held_by records) ≡ room_of (journal_of old) + released_by records
+    pub held : held_of (journal_of new) + released_by records ≡ held_of (journal_of old) + held_by records
+    pub faults : (life_of new).faults ≡ (life_of old).faults
+    pub going : has_failed new ≡ false
+    pub made : made_of new ≡ made_of old ++ map entry_of records
+
+  -- whether the records are there, all or none, shows when the store is opened again
+  pub record AreLeftOpen (old : DiskRecorder D) (records : List UnitRecord) (new : DiskRecorder D) : Type 0 where
+    pub good : AllByRecursion IsGood records
+    pub fits : taken_by records + held_by records ≤ room_of (journal_of old) + released_by records
+    pub moments : LeavesAllMore old records new
+    pub others : SameOutside (region_of (journal_of old)) (life_of old).seen (life_of new).seen
+    pub journal : journal_of new ≡ journal_of old
+    pub faults : (life_of new).faults ≡ (life_of old).faults + 1
+    pub failed : has_failed new ≡ true
+    pub made : made_of new ≡ made_of old ++ map entry_of records

@@ -166,7 +166,7 @@ impl<D: Disk> DiskRecorder<D> {
 }
 
 impl<D: Disk> Recorder for DiskRecorder<D> {
-    ghost use Rattle.journal_recorder.specs.Recording.{Allows, Fails, Records};
+    ghost use Rattle.journal_recorder.specs.Recording.{Allows, AllowsAll, AreLeftOpen, Fails, Records, RecordsAll};
 
     ghost allows = { λ old said. Allows D.is_modelled D.life old said };
 
@@ -184,5 +184,19 @@ impl<D: Disk> Recorder for DiskRecorder<D> {
             } => self.prepare(xid, changes, claims),
             RecordContents::Decide { xid, decision } => self.decide(xid, decision),
         }
+    }
+
+    ghost allows_all = { λ old records. AllowsAll D.is_modelled D.life old records };
+
+    ghost records_all = { λ old records new. RecordsAll D.is_modelled D.life old records new };
+
+    ghost fails_all = { λ old records new. AreLeftOpen D.is_modelled D.life old records new };
+
+    fn record_all(&mut self, sayings: &[RecordContents<'_>]) -> Result<(), GroupError> {
+        let laid = match lay_all(self.alloc, sayings, self.small_room()) {
+            Ok(laid) => laid,
+            Err(AllocError) => return Err(GroupError::Refused),
+        };
+        self.append_all(&laid)
     }
 }

@@ -13,6 +13,7 @@ mod question;
 mod refusing;
 mod reply;
 mod step;
+mod through;
 mod together;
 
 pub use engine::Core;

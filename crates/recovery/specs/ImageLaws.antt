@@ -1,14 +1,15 @@
 -- What images open to: one state at most, and what records and calls make of it.
-use Rattle.std.specs.Prelude.{◌≡◌, ◌⊎◌, ℕ, ◌+◌, ◌≤◌, List, [], ◌∷◌, ◌++◌, length, Some, Ok}
+use Rattle.std.specs.Prelude.{◌≡◌, ◌⊎◌, ℕ, ◌+◌, ◌≤◌, List, [], ◌∷◌, ◌++◌, length, map, Some, Ok}
+use Rattle.std.specs.List.{AllByRecursion}
 use Rattle.drda_disk.specs.Region.{SameOutside}
 use Rattle.drda_disk.specs.declared.region.Region.{Region}
 use Rattle.half_store.specs.Active.{Store, active_of}
 use Rattle.half_store.specs.Fresh.{IsFresh}
 use Rattle.unit_journal.specs.Record.{Entry, laid}
-use Rattle.unit_journal.specs.Stands.{IsBeforeOrAfter, Stands}
+use Rattle.unit_journal.specs.Stands.{IsBeforeOrAfter, IsBeforeOrAfterAll, Stands}
 use Rattle.unit_records.specs.Records.{IsGood, UnitRecord, entry_of}
-use Rattle.unit_records.specs.Room.{taken}
-use Rattle.recovery.specs.Durable.{Durable, fresh, next}
+use Rattle.unit_records.specs.Room.{taken, taken_by}
+use Rattle.recovery.specs.Durable.{Durable, fresh, next, replayed_from}
 use Rattle.recovery.specs.Laws.{held_for}
 use Rattle.recovery.specs.Opens.{Holds, IsJournal, OpensTo}
 
@@ -44,6 +45,23 @@ RecordsStay =
     → length (laid es) + taken r + 1 + held_for e.doubts ≤ region.length
     → SameOutside region seen image → Stands region (es ++ entry_of r ∷ []) image
     → Holds name region (es ++ entry_of r ∷ []) e image
+
+-- the same of records that are added together, which have their places one behind another
+abbrev pub GroupsOpen : Type 0
+GroupsOpen =
+    (name : List ℕ) (region : Region) (es : List Entry) (d e : Durable) (rs : List UnitRecord) (seen image : List ℕ)
+    → Holds name region es d seen → AllByRecursion IsGood rs → replayed_from d rs ≡ Some e
+    → length (laid es) + taken_by rs + 1 + held_for e.doubts ≤ region.length
+    → IsBeforeOrAfterAll region seen es (map entry_of rs) image
+    → Holds name region es d image ⊎ Holds name region (es ++ map entry_of rs) e image
+
+abbrev pub GroupsStay : Type 0
+GroupsStay =
+    (name : List ℕ) (region : Region) (es : List Entry) (d e : Durable) (rs : List UnitRecord) (seen image : List ℕ)
+    → Holds name region es d seen → AllByRecursion IsGood rs → replayed_from d rs ≡ Some e
+    → length (laid es) + taken_by rs + 1 + held_for e.doubts ≤ region.length
+    → SameOutside region seen image → Stands region (es ++ map entry_of rs) image
+    → Holds name region (es ++ map entry_of rs) e image
 
 -- a store that was just made has no tables, and no records
 abbrev pub FreshStoresOpen : Type 0

@@ -5,9 +5,9 @@ use Rattle.std.specs.List.{AllByRecursion}
 use Rattle.drda_disk.specs.Disk.{LeavesOnly, Life, Now, Only, Stays}
 use Rattle.drda_disk.specs.declared.region.Region.{Region}
 use Rattle.unit_journal.specs.Record.{Entry, laid}
-use Rattle.unit_journal.specs.Stands.{IsBeforeOrAfter}
+use Rattle.unit_journal.specs.Stands.{IsBeforeOrAfter, IsBeforeOrAfterAll}
 use Rattle.unit_records.specs.Records.{IsGood, UnitRecord, entry_of}
-use Rattle.unit_records.specs.Room.{taken}
+use Rattle.unit_records.specs.Room.{taken, taken_by}
 use Rattle.recovery.specs.Durable.{Durable, next, replayed_from}
 use Rattle.recovery.specs.Laws.{held_for}
 use Rattle.core_model.specs.Step.{CoreState}
@@ -33,11 +33,15 @@ pub record OpensAfterSome (name : List ℕ) (d : Durable) (records : List UnitRe
   pub leads : replayed_from d (take count records) ≡ Some state
   pub opens : OpensTo name state image
 
+-- to what all of them lead to, but perhaps not the last few
+pub record OpensAfterAllBut (few : ℕ) (name : List ℕ) (d : Durable) (records : List UnitRecord) (image : List ℕ) : Type 0 where
+  pub after : OpensAfterSome name d records image
+  pub all : length records ≤ after.count + few
+
 -- Once the calls have returned an image opens to what all of their records lead to; where the device failed, perhaps
 -- to what all but the last lead to.
-pub record OpensAfterAll (name : List ℕ) (d : Durable) (records : List UnitRecord) (is_failed : Bool) (image : List ℕ) : Type 0 where
-  pub after : OpensAfterSome name d records image
-  pub all : length records ≤ after.count + (if is_failed then 1 else 0)
+abbrev pub OpensAfterAll : List ℕ → Durable → List UnitRecord → Bool → List ℕ → Type 0
+OpensAfterAll name d records is_failed image = OpensAfterAllBut (if is_failed then 1 else 0) name d records image
 
 -- while the device has not failed, what is read is the one image that a crash leaves, and it opens to what is durable of the core
 pub record IsDurable (s : Shown) : Type 0 where
@@ -49,16 +53,20 @@ pub record IsDurable (s : Shown) : Type 0 where
 abbrev pub FaultsAfter : Bool → ℕ → ℕ → Type 0
 FaultsAfter is_failed old new = new ≡ old + (if is_failed then 1 else 0)
 
--- These records were due of the calls. A crash at any moment leaves an image that opens to what the first of them lead
--- to; a crash now, to what all of them lead to, but perhaps not the last where the device failed: so what was answered
--- stays, though the device fails later in the same calls. What is durable of the core is what all of them lead to, unless
--- the device failed.
-pub record Made (records : List UnitRecord) (old new : Shown) : Type 0 where
+-- These records were due of the calls, each of which made `most` at most. A crash at any moment leaves an image that opens
+-- to what the first of them lead to; a crash now, to what all of them lead to, but perhaps not those of the last call where
+-- the device failed: so what was answered stays, though the device fails later in the same calls. What is durable of the
+-- core is what all of them lead to, unless the device failed.
+pub record MadeBy (most : ℕ) (records : List UnitRecord) (old new : Shown) : Type 0 where
   pub moments : LeavesOnly old.disk new.disk (OpensAfterSome old.name (durable_part old.state) records)
-  pub left : (image : List ℕ) → Now new.disk image → OpensAfterAll old.name (durable_part old.state) records new.is_failed image
+  pub left : (image : List ℕ) → Now new.disk image → OpensAfterAllBut (if new.is_failed then most else 0) old.name (durable_part old.state) records image
   pub state : new.is_failed ≡ false → replayed_from (durable_part old.state) records ≡ Some (durable_part new.state)
   pub good : AllByRecursion IsGood records
   pub made : new.made ≡ old.made ++ map entry_of records
+
+-- each call made one record at most
+abbrev pub Made : List UnitRecord → Shown → Shown → Type 0
+Made records old new = MadeBy 1 records old new
 
 -- no device call was made
 pub record IsUntouched (old new : Life) : Type 0 where
@@ -84,14 +92,18 @@ pub record StaysFailed (old new : Shown) : Type 0 where
   pub made : new.made ≡ old.made
 
 -- Of any disk: records that were made stay so, each fault is one of a core that fails then, and a core that has failed
--- calls no device. Of a disk that gives back what was written, a core that had not failed made these records.
-pub record Journaled (modelled : Bool) (old new : Shown) : Type 0 where
+-- calls no device. Of a disk that gives back what was written, a core that had not failed made these records, `most` at
+-- most in each call.
+pub record JournaledBy (most : ℕ) (modelled : Bool) (old new : Shown) : Type 0 where
   pub name : new.name ≡ old.name
   pub more : List Entry
   pub made : new.made ≡ old.made ++ more
   pub faults : old.is_failed ≡ false → FaultsAfter new.is_failed old.disk.faults new.disk.faults
   pub failed : old.is_failed ≡ true → StaysFailed old new
-  pub records : IsTrue modelled → old.is_failed ≡ false → (records : List UnitRecord) × Made records old new
+  pub records : IsTrue modelled → old.is_failed ≡ false → (records : List UnitRecord) × MadeBy most records old new
+
+abbrev pub Journaled : Bool → Shown → Shown → Type 0
+Journaled modelled old new = JournaledBy 1 modelled old new
 
 -- ---- laws, of cores over a disk of any type
 
@@ -111,6 +123,23 @@ module _ {D : Type 0} (life : D → Life) where
   pub record CallsGoOn : Type 0 where
     pub none : (modelled : Bool) (s : OnDisk D) → (IsTrue modelled → s.is_failed ≡ false → IsDurable (shown_on s)) → Journaled modelled (shown_on s) (shown_on s)
     pub both : (modelled : Bool) (a b c : OnDisk D) → Journaled modelled (shown_on a) (shown_on b) → Journaled modelled (shown_on b) (shown_on c) → Journaled modelled (shown_on a) (shown_on c)
+
+  -- so do calls that make more records, and these are no other than calls that might make yet more
+  pub record GroupsGoOn : Type 0 where
+    pub none : (most : ℕ) (modelled : Bool) (s : OnDisk D) → (IsTrue modelled → s.is_failed ≡ false → IsDurable (shown_on s)) → JournaledBy most modelled (shown_on s) (shown_on s)
+    pub both : (most : ℕ) (modelled : Bool) (a b c : OnDisk D) → JournaledBy most modelled (shown_on a) (shown_on b) → JournaledBy most modelled (shown_on b) (shown_on c) → JournaledBy most modelled (shown_on a) (shown_on c)
+    pub wider : (fewer most : ℕ) (modelled : Bool) (a b : OnDisk D) → fewer ≤ most → JournaledBy fewer modelled (shown_on a) (shown_on b) → JournaledBy most modelled (shown_on a) (shown_on b)
+
+  -- a call that makes a group of records, all or none, or fails as it makes them
+  abbrev pub OneGroupIsMade : Type 0
+  OneGroupIsMade =
+      (old new : OnDisk D) (region : Region) (es : List Entry) (rs : List UnitRecord) (e : Durable)
+      → Holds old.name region es (durable_part old.state) (life old.disk).seen → AllByRecursion IsGood rs → replayed_from (durable_part old.state) rs ≡ Some e
+      → length (laid es) + taken_by rs + 1 + held_for e.doubts ≤ region.length
+      → LeavesOnly (life old.disk) (life new.disk) (IsBeforeOrAfterAll region (life old.disk).seen es (map entry_of rs))
+      → new.name ≡ old.name → (new.is_failed ≡ false → durable_part new.state ≡ e) → (new.is_failed ≡ false → IsDurable (shown_on new))
+      → new.made ≡ old.made ++ map entry_of rs
+      → MadeBy (length rs) rs (shown_on old) (shown_on new)
 
   -- What is read holds what is durable of a core.
   pub record OneCallIsMade : Type 0 where

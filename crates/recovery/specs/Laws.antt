@@ -2,7 +2,7 @@
 use Rattle.std.specs.Prelude.{◌≡◌, ℕ, ◌+◌, List, [], ◌∷◌, ◌++◌, take, Some}
 use Rattle.std.specs.Option.{option_and_then}
 use Rattle.unit_records.specs.Records.{UnitRecord}
-use Rattle.unit_records.specs.Room.{decision_taken, held, released}
+use Rattle.unit_records.specs.Room.{decision_taken, held, held_by, released, released_by}
 use Rattle.recovery.specs.Durable.{Doubts, Durable, next, replayed_from}
 
 -- the records of two lists, one behind the other
@@ -27,3 +27,7 @@ held_for (e ∷ es) = decision_taken e.0 + held_for es
 -- a record with a place holds its bytes back, and releases those that were held for it
 abbrev pub HeldForDoubts : Type 0
 HeldForDoubts = (d e : Durable) (r : UnitRecord) → next d r ≡ Some e → held_for e.doubts + released r ≡ held_for d.doubts + held r
+
+-- so do records one behind another
+abbrev pub HeldForAll : Type 0
+HeldForAll = (d e : Durable) (rs : List UnitRecord) → replayed_from d rs ≡ Some e → held_for e.doubts + released_by rs ≡ held_for d.doubts + held_by rs

@@ -3,11 +3,14 @@ use Rattle.std.specs.Prelude.{◌≡◌, ◌≤◌, ℕ, List, true, Some, None}
 use Rattle.core_calls.specs.Call.{Call}
 use Rattle.core_model.specs.Step.{CoreState, step_state}
 use Rattle.unit_records.specs.Records.{UnitRecord}
-use Rattle.unit_records.specs.Room.{released}
-use Rattle.recovery.specs.Durable.{Durable, next}
+use Rattle.unit_records.specs.Room.{released, released_by}
+use Rattle.recovery.specs.Durable.{Durable, next, replayed_from}
 use Rattle.recovery.specs.Laws.{held_for}
 use Rattle.recovery.specs.Sound.{IsSound}
 use Rattle.unit_records.specs.Due.{record_due}
+use Rattle.unit_records.specs.Phases.{all_through, may_go_through, records_in}
+use Rattle.unit_records.specs.declared.phase.BranchCall.{BranchCall}
+use Rattle.unit_records.specs.declared.phase.Phase.{Phase}
 use Rattle.unit_records.specs.Together.{all_committed, are_apart, are_local, due_together}
 use Rattle.recovery.specs.Part.{durable_part, opened}
 use Rattle.recovery.specs.Kept.{IsKept}
@@ -56,3 +59,19 @@ SilentCommitsStay = (s : CoreState) (conversations : List ℕ) → IsKept s → 
 abbrev pub CommitsLead : Type 0
 CommitsLead = (s : CoreState) (conversations : List ℕ) (r : UnitRecord) → IsKept s → MayGoTogether s conversations
     → due_together conversations s ≡ Some r → next (durable_part s) r ≡ Some (durable_part (all_committed conversations s))
+
+-- ---- branches that go through a phase together
+
+-- their calls keep a core
+abbrev pub BranchesKeep : Type 0
+BranchesKeep = (s : CoreState) (phase : Phase) (cs : List BranchCall) → IsKept s → may_go_through phase s cs ≡ true → IsKept (all_through phase cs s)
+
+-- their records have their places, one behind another, and lead to what is durable behind them all
+abbrev pub BranchesLead : Type 0
+BranchesLead = (s : CoreState) (phase : Phase) (cs : List BranchCall) → IsKept s → may_go_through phase s cs ≡ true
+    → replayed_from (durable_part s) (records_in phase s.base.units cs) ≡ Some (durable_part (all_through phase cs s))
+
+-- what they release was held for units in doubt
+abbrev pub PhasesAreOfDoubts : Type 0
+PhasesAreOfDoubts = (s : CoreState) (phase : Phase) (cs : List BranchCall) → IsKept s → may_go_through phase s cs ≡ true
+    → released_by (records_in phase s.base.units cs) ≤ held_for (durable_part s).doubts

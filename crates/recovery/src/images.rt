@@ -1,7 +1,7 @@
 //! Laws of the definitions. The functions do nothing: their contracts are the laws.
 
-ghost use Rattle.recovery.specs.Journaled.{AnsweredStays, CallsGoOn, OneCallIsMade};
-ghost use Rattle.recovery.specs.ImageLaws.{FreshStoresOpen, OpensThere, OpensToOne, RecordsOpen, RecordsStay};
+ghost use Rattle.recovery.specs.Journaled.{AnsweredStays, CallsGoOn, GroupsGoOn, OneCallIsMade, OneGroupIsMade};
+ghost use Rattle.recovery.specs.ImageLaws.{FreshStoresOpen, GroupsOpen, GroupsStay, OpensThere, OpensToOne, RecordsOpen, RecordsStay};
 
 use crate::laws::{records_follow_one_another, records_lead_one_way};
 use drda_disk::Disk;
@@ -39,6 +39,25 @@ pub fn records_stay()
     records_have_one_reading();
 }
 
+/// Where records are added together, images from before them or after them open to the state before them
+/// or behind them.
+pub fn groups_open()
+    ensures { GroupsOpen }
+{
+    checkpoints_are_known();
+    records_have_one_reading();
+    records_lead_one_way();
+}
+
+/// Where records were added together, an image in which they stand opens to the state behind them.
+pub fn groups_stay()
+    ensures { GroupsStay }
+{
+    checkpoints_are_known();
+    records_have_one_reading();
+    records_lead_one_way();
+}
+
 /// A store that was just made opens without tables and without units in doubt, and its journal has no
 /// records.
 pub fn fresh_stores_open()
@@ -67,3 +86,19 @@ pub fn calls_make_records<D: Disk>()
 pub fn answered_units_stay<D: Disk>()
     ensures { AnsweredStays D.life }
 {}
+
+/// Calls that make several records at once, all or none, leave on the disk, one call after another, at any
+/// moment the state after the first of all their records; a call that makes fewer is one that makes at most
+/// more.
+pub fn groups_go_on<D: Disk>()
+    ensures { GroupsGoOn D.life }
+{
+    records_follow_one_another();
+}
+
+/// What a call makes of a core and its disk that makes a group of records.
+pub fn calls_make_groups<D: Disk>()
+    ensures { OneGroupIsMade D.life }
+{
+    groups_open();
+}

@@ -1,6 +1,6 @@
 //! Laws of the states that records stand for. The functions do nothing: their contracts are the laws.
 
-ghost use Rattle.recovery.specs.Laws.{FrontsStand, GoesOn, HeldForDoubts, OneMore};
+ghost use Rattle.recovery.specs.Laws.{FrontsStand, GoesOn, HeldForAll, HeldForDoubts, OneMore};
 ghost use Rattle.recovery.specs.Journal.{LeadingWereWritten, NoStop, OneState, WrittenLead};
 ghost use Rattle.recovery.specs.Laying.{DoubtsAreLaid};
 ghost use Rattle.recovery.specs.Places.{ChangesKeepTables, PlacesGoOn, RowsKeepPlaces, TablesGivePlaces};
@@ -32,6 +32,13 @@ pub fn records_lead_one_way()
 pub fn doubts_hold_their_decisions()
     ensures { HeldForDoubts }
 {}
+
+/// So it is where several records are made one behind another.
+pub fn decisions_of_all_are_held()
+    ensures { HeldForAll }
+{
+    doubts_hold_their_decisions();
+}
 
 /// When changes that have their places keep them: changes of rows wherever the tables are kept, and all
 /// changes where no table is created besides. A change creates a table or leaves all of them.

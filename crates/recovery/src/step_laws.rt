@@ -1,12 +1,15 @@
 //! Laws of the definitions. The functions do nothing: their contracts are the laws.
 
-ghost use Rattle.recovery.specs.StepLaws.{CommitsKeep, CommitsLead, DecisionsAreOfDoubts, OpeningsAreKept, RecordsLead, SilentCommitsStay, SilentStepsStay, StepsKeep};
+ghost use Rattle.recovery.specs.StepLaws.{BranchesKeep, BranchesLead, CommitsKeep, CommitsLead, DecisionsAreOfDoubts, OpeningsAreKept, PhasesAreOfDoubts, RecordsLead, SilentCommitsStay, SilentStepsStay, StepsKeep};
 
-use crate::laws::{doubts_hold_their_decisions, places_depend_on_tables};
+use crate::laws::{
+    decisions_of_all_are_held, doubts_hold_their_decisions, places_depend_on_tables,
+};
 use crate::places::changes_have_places;
 use core_model::laws::units_in_doubt_wait;
 use tables::laws::changes_are_local;
 use unit_locks::adding;
+use unit_records::laws::branches_go_through;
 use xa_manager::{actions_fit_states, works_while_active};
 
 /// What is durable of a core is what its records lead to: each step of a kept core makes one record due at
@@ -40,5 +43,18 @@ pub fn commits_are_recorded()
     ensures silent { SilentCommitsStay }
     ensures lead { CommitsLead }
 {
+    steps_are_recorded();
+}
+
+/// Branches that are prepared together, or decided together, have a record each. The records have their
+/// places one behind another, and lead to what is durable behind all of these calls; what they release was
+/// held for units in doubt.
+pub fn phases_are_recorded()
+    ensures keep { BranchesKeep }
+    ensures lead { BranchesLead }
+    ensures decisions { PhasesAreOfDoubts }
+{
+    branches_go_through();
+    decisions_of_all_are_held();
     steps_are_recorded();
 }

@@ -6,3 +6,4 @@ pub mod Read
 pub mod RecordContents
 pub mod Due
 pub mod Together
+pub mod Phases

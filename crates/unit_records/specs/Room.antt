@@ -1,5 +1,5 @@
 -- How many bytes of a journal records take, hold back and release.
-use Rattle.std.specs.Prelude.{◌≡◌, ℕ, ◌+◌, List, length}
+use Rattle.std.specs.Prelude.{◌≡◌, ℕ, ◌+◌, List, [], ◌∷◌, length}
 use Rattle.tables.specs.Change.{Change}
 use Rattle.unit_locks.specs.Claim.{Claim}
 use Rattle.xa_calls.specs.Xid.{Parts, wire}
@@ -25,6 +25,19 @@ abbrev pub released : UnitRecord → ℕ
 released (committed changes) = 0
 released (prepared xid changes claims) = 0
 released (decided xid o) = decision_taken xid
+
+-- of records one behind another
+abbrev pub taken_by : List UnitRecord → ℕ
+taken_by [] = 0
+taken_by (r ∷ rs) = taken r + taken_by rs
+
+abbrev pub held_by : List UnitRecord → ℕ
+held_by [] = 0
+held_by (r ∷ rs) = held r + held_by rs
+
+abbrev pub released_by : List UnitRecord → ℕ
+released_by [] = 0
+released_by (r ∷ rs) = released r + released_by rs
 
 -- ---- laws
 

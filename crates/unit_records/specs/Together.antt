@@ -9,6 +9,8 @@ use Rattle.core_model.specs.Units.{Held, apply_all, local, unit_of, without}
 use Rattle.core_model.specs.Step.{CoreState, step_state}
 use Rattle.unit_records.specs.Records.{UnitRecord}
 use Rattle.unit_records.specs.Due.{commit_due}
+use Rattle.unit_records.specs.declared.group_error.GroupError.{GroupError}
+use Rattle.unit_records.specs.declared.group_error.GroupError.TheVariants.{DeviceFailed, Refused}
 
 -- these conversations commit, one after another
 abbrev pub all_committed : List ℕ → CoreState → CoreState
@@ -48,3 +50,10 @@ CommitsGoTogether =
       base = record { store = apply_all (all_changes conversations s.base.units) s.base.store; units = all_ended conversations s.base.units };
       branches = s.branches;
     }
+
+-- ---- records that are made together
+
+-- they are refused, and nothing has changed; or the device fails at them
+abbrev pub FailsTogether : {R : Type 0} → (R → List UnitRecord → R → Type 0) → List UnitRecord → GroupError → R → R → Type 0
+FailsTogether fails records Refused before after = after ≡ before
+FailsTogether fails records DeviceFailed before after = fails before records after

@@ -3,9 +3,11 @@
 #![tactic(auto)]
 
 mod fronts;
+mod group_error;
 pub mod laws;
 mod length;
 mod memory;
+mod phase;
 mod read;
 mod record;
 mod record_contents;
@@ -13,8 +15,10 @@ mod record_error;
 mod recorder;
 mod write;
 
+pub use group_error::GroupError;
 pub use length::{commit_length, decide_length, held_for_decision, prepare_length};
 pub use memory::NoRecords;
+pub use phase::{BranchCall, Phase};
 pub use record::UnitRecord;
 pub use record_contents::RecordContents;
 pub use record_error::RecordError;

@@ -1,16 +1,19 @@
 //! Who records.
 
-ghost use Rattle.std.specs.Prelude.{IfErr, OnOk};
+ghost use Rattle.std.specs.Prelude.{IfErr, List, OnOk, map};
 ghost use Rattle.unit_records.specs.Records.{UnitRecord};
 ghost use Rattle.unit_records.specs.RecordContents.{said_by};
+ghost use Rattle.unit_records.specs.Together.{FailsTogether};
 ghost use Rattle.unit_records.specs.declared.record_error.RecordError.{RecordError as Error};
 
+use crate::group_error::GroupError;
 use crate::record_contents::RecordContents;
 use crate::record_error::RecordError;
 
 /// Who records what becomes of units, one record after another. Contracts know it by what a record may
 /// make of it: `allows` says of which records it may be asked, `records` what it is once such a record
-/// is made, and `fails` what it is where that is refused.
+/// is made, and `fails` what it is where that is refused. `allows_all`, `records_all` and `fails_all` say
+/// the same of records that are made together; `fails_all` of the device alone.
 pub trait Recorder {
     ghost allows: { Self → UnitRecord → Type 0 };
 
@@ -23,4 +26,16 @@ pub trait Recorder {
         requires allowed { allows self.old (said_by saying) }
         ensures ok { OnOk result (records self.old (said_by saying.entry) self.new) }
         ensures err { IfErr result (λ error. fails self.old (said_by saying.entry) error self.new) };
+
+    ghost allows_all: { Self → List UnitRecord → Type 0 };
+
+    ghost records_all: { Self → List UnitRecord → Self → Type 0 };
+
+    ghost fails_all: { Self → List UnitRecord → Self → Type 0 };
+
+    /// Records these, one behind another: all of them, or none.
+    fn record_all(&mut self, sayings: &[RecordContents<'_>]) -> Result<(), GroupError>
+        requires allowed { allows_all self.old (map said_by sayings.now) }
+        ensures ok { OnOk result (records_all self.old (map said_by sayings.now) self.new) }
+        ensures err { IfErr result (λ error. FailsTogether fails_all (map said_by sayings.now) error self.old self.new) };
 }

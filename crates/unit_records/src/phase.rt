@@ -1,0 +1,50 @@
+//! Branches that go through a phase of two-phase commit together.
+
+ghost use Rattle.std.specs.Prelude.{◌≡◌};
+ghost use Rattle.unit_records.specs.Phases.{phase_of, verb_of};
+
+use xa_calls::{Verb, Xid};
+use xa_manager::Decision;
+
+/// A phase of two-phase commit (C193 section 2.3).
+#[derive(Clone, Copy, Debug, PartialEq, Eq)]
+pub enum Phase {
+    /// The first: branches are prepared.
+    Prepare,
+    /// The second: branches in doubt are decided, all of them so.
+    Decide(Decision),
+}
+
+impl Phase {
+    /// What is asked of each branch.
+    pub fn verb(self) -> Verb
+        ensures { result ≡ verb_of self }
+    {
+        match self {
+            Phase::Prepare => Verb::Prepare,
+            Phase::Decide(Decision::Commit) => Verb::Commit,
+            Phase::Decide(Decision::RollBack) => Verb::RollBack,
+        }
+    }
+
+    /// The phase in which a branch goes of which this is asked, if there is one.
+    pub fn of(verb: Verb) -> Option<Phase>
+        ensures { result ≡ phase_of verb }
+    {
+        match verb {
+            Verb::Prepare => Some(Phase::Prepare),
+            Verb::Commit => Some(Phase::Decide(Decision::Commit)),
+            Verb::RollBack => Some(Phase::Decide(Decision::RollBack)),
+            Verb::Start | Verb::Join | Verb::End(_) | Verb::CommitOnePhase | Verb::Forget => None,
+        }
+    }
+}
+
+/// That a conversation asks for a phase of a branch.
+#[derive(Clone, Copy, Debug)]
+pub struct BranchCall {
+    /// The conversation that asks.
+    pub conversation: u64,
+    /// The branch's XID.
+    pub xid: Xid,
+}
