@@ -1,6 +1,6 @@
 -- Branches that go through a phase of two-phase commit together: each is prepared, or each is decided, and so. Each has a
 -- record of its own.
-use Rattle.std.specs.Prelude.{◌≡◌, ◌×◌, ℕ, ◌+◌, ◌&&◌, ◌++◌, nat_le, Bool, true, false, not, List, [], ◌∷◌, length, map, bytes_eq, Option, Some, None}
+use Rattle.std.specs.Prelude.{◌≡◌, ℕ, ◌+◌, ◌&&◌, ◌++◌, nat_le, Bool, true, false, not, List, [], ◌∷◌, length, map, bytes_eq, Option, Some, None}
 use Rattle.std.specs.List.{list_any}
 use Rattle.drda_words.specs.Order.{IsRising}
 use Rattle.tables.specs.Change.{Change}
