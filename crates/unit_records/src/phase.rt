@@ -1,6 +1,6 @@
 //! Branches that go through a phase of two-phase commit together.
 
-ghost use Rattle.std.specs.Prelude.{◌≡◌};
+ghost use Rattle.std.specs.Prelude.{◌≡◌, IfSome};
 ghost use Rattle.unit_records.specs.Phases.{phase_of, verb_of};
 
 use xa_calls::{Verb, Xid};
@@ -29,7 +29,8 @@ impl Phase {
 
     /// The phase in which a branch goes of which this is asked, if there is one.
     pub fn of(verb: Verb) -> Option<Phase>
-        ensures { result ≡ phase_of verb }
+        ensures phase { result ≡ phase_of verb }
+        ensures verb { IfSome result (λ phase. verb_of phase ≡ verb) }
     {
         match verb {
             Verb::Prepare => Some(Phase::Prepare),
