@@ -1,6 +1,6 @@
 -- What branches that go through a phase of two-phase commit together make of a core whose units are recorded on a disk.
 use Rattle.std.specs.Prelude.{◌≡◌, ℕ, ◌+◌, true, false, List, ◌++◌, map}
-use Rattle.unit_records.specs.Phases.{all_through, may_go_through, records_in}
+use Rattle.unit_records.specs.Phases.{AreTaken, all_through, may_go_through, records_in}
 use Rattle.unit_records.specs.Records.{UnitRecord, entry_of}
 use Rattle.unit_records.specs.Room.{held_by, released_by, taken_by}
 use Rattle.unit_records.specs.declared.phase.BranchCall.{BranchCall}
@@ -14,10 +14,12 @@ use Rattle.durable_core.specs.declared.together.Together.TheVariants.{Alone, Clo
 abbrev pub records_of : Shown → Phase → List BranchCall → List UnitRecord
 records_of old phase cs = records_in phase old.state.base.units cs
 
--- each has gone through the phase, one after another, and their records were made together
+-- Each has gone through the phase, one after another: its call is answered XA_OK in its turn. Their records were made
+-- together.
 pub record HaveGone (old : Shown) (phase : Phase) (cs : List BranchCall) (new : Shown) : Type 0 where
   pub going : old.is_failed ≡ false
   pub may : may_go_through phase old.state cs ≡ true
+  pub taken : AreTaken phase old.state.base.units cs old.state
   pub name : new.name ≡ old.name
   pub state : new.state ≡ all_through phase cs old.state
   pub room : new.room + (taken_by (records_of old phase cs) + held_by (records_of old phase cs)) ≡ old.room + released_by (records_of old phase cs)

@@ -3,6 +3,7 @@
 ghost use Rattle.std.specs.Prelude.{◌≡◌, IfOk, IsTrue, false, string_bytes};
 ghost use Rattle.core_calls.specs.Answer.{answer_of};
 ghost use Rattle.core_calls.specs.Call.{call_of};
+ghost use Rattle.unit_records.specs.Phases.{is_ready};
 ghost use Rattle.xa_manager.specs.Branch.{in_doubt_xids};
 ghost use Rattle.rdb_core.specs.InDoubt.{xids_left};
 ghost use Rattle.recovery.specs.Journaled.{IsDurable, Journaled, shown_on};
@@ -17,6 +18,8 @@ use recovery::laws::doubts_hold_their_decisions;
 use recovery::step_laws::steps_are_recorded;
 use std::alloc::AllocError;
 use std::marker::Model;
+use unit_records::Phase;
+use xa_calls::Xid;
 
 /// The committed tables, the units of work and the XA branches of a store on a disk. Each call is a
 /// step of the state; what a step commits, prepares or decides is a record in the store's journal first.
@@ -102,6 +105,14 @@ impl<D: Disk> DurableCore<D> {
         ensures { result ≡ self.now.is_failed }
     {
         self.core.recorder().is_failed()
+    }
+
+    /// Whether a branch stands so that a call for this phase of two-phase commit is answered XA_OK and has a
+    /// record. Takes no memory.
+    pub fn is_ready(&self, phase: Phase, xid: &Xid) -> bool
+        ensures { result ≡ is_ready phase self.now.state xid.now }
+    {
+        self.core.is_ready(phase, xid)
     }
 
     /// The XIDs in doubt, by rising bytes. Takes no memory.

@@ -12,6 +12,7 @@ use recovery::images::{
 };
 use recovery::laws::{decisions_of_all_are_held, doubts_hold_their_decisions};
 use recovery::step_laws::{commits_are_recorded, phases_are_recorded};
+use unit_records::laws::branches_go_through;
 use unit_records::{BranchCall, GroupError, Phase, RecordError};
 
 /// What became of calls that were to be made together.
@@ -63,6 +64,7 @@ impl<D: Disk> DurableCore<D> {
         ensures goes { GoThrough (shown_on D.life self.old) phase calls.now result (shown_on D.life self.new) }
         ensures journaled { JournaledBy (length calls.now) D.is_modelled (shown_on D.life self.old) (shown_on D.life self.new) }
     {
+        branches_go_through();
         phases_are_recorded();
         decisions_of_all_are_held();
         groups_stay();

@@ -4,7 +4,9 @@ use Rattle.std.proofs.lemmas.List.Elements.{filter-append}
 use Rattle.serializability.specs.Answered.{AnsweredCall}
 use Rattle.shared_node.specs.declared.count.Count.{Count}
 use Rattle.shared_node.specs.declared.left.Left.{Left}
-use Rattle.shared_node.specs.LeftAnswers.{AreLeft, IsLeft, calls_by, commit_listed}
+use Rattle.shared_node.specs.LeftAnswers.{AreLeft, IsLeft, calls_by}
+use Rattle.shared_node.specs.Wishes.{listed_wish}
+use Rattle.shared_node.specs.declared.wish.Wished.{Wished}
 use Rattle.shared_node.specs.Books.{AreCounted, calls_of}
 use Rattle.shared_node.proofs.Counting.{get_other, get_replicate, same_or_apart}
 
@@ -42,24 +44,24 @@ by_its n calls l is = filter-append (λ (x : AnsweredCall). x.conversation == n)
 
 is_left_still : (calls more : List AnsweredCall) (l : Left) → IsLeft calls l → IsLeft (calls ++ more) l
 is_left_still calls more l is =
-    subst (λ (ls : List AnsweredCall). slice_get ls l.number ≡ Some (commit_listed l.conversation l.has_failed)) (sym (filter-append (λ (x : AnsweredCall). x.conversation == l.conversation) calls more))
-    (get_in_front (calls_by l.conversation calls) (calls_by l.conversation more) l.number (commit_listed l.conversation l.has_failed) is)
+    subst (λ (ls : List AnsweredCall). slice_get ls l.number ≡ Some (listed_wish l.conversation l.wished l.has_failed)) (sym (filter-append (λ (x : AnsweredCall). x.conversation == l.conversation) calls more))
+    (get_in_front (calls_by l.conversation calls) (calls_by l.conversation more) l.number (listed_wish l.conversation l.wished l.has_failed) is)
 
 pub left_still : (calls more : List AnsweredCall) (left : List (Option Left)) → AreLeft calls left → AreLeft (calls ++ more) left
 left_still calls more left are place l stands = is_left_still calls more l (are place l stands)
 
 -- the answer to the last call of a conversation is left
 module _ (calls : List AnsweredCall) (places : List (Option Count)) (next : ℕ) (counted : AreCounted calls places next) (left : List (Option Left)) (are : AreLeft calls left)
-    (p : ℕ) (c : Count) (here : slice_get places p ≡ Some (Some c)) (f : Bool) where
+    (p : ℕ) (c : Count) (here : slice_get places p ≡ Some (Some c)) (w : Wished) (f : Bool) where
   abbrev more : List AnsweredCall
-  more = calls ++ commit_listed c.conversation f ∷ []
+  more = calls ++ listed_wish c.conversation w f ∷ []
 
   abbrev now : Left
-  now = record { conversation = c.conversation; number = c.calls; has_failed = f }
+  now = record { conversation = c.conversation; number = c.calls; wished = w; has_failed = f }
 
   is_its_last : IsLeft more now
   is_its_last =
-      let l = commit_listed c.conversation f in
+      let l = listed_wish c.conversation w f in
       let number : length (calls_by c.conversation calls) ≡ c.calls = length_by c.conversation calls ∙ sym (counted.counted p c here) in
       subst (λ (ls : List AnsweredCall). slice_get ls c.calls ≡ Some l) (sym (by_its c.conversation calls l refl))
       (subst (λ (n : ℕ). slice_get (calls_by c.conversation calls ++ l ∷ []) n ≡ Some l) number (get_behind (calls_by c.conversation calls) [] l))
@@ -71,7 +73,7 @@ module _ (calls : List AnsweredCall) (places : List (Option Count)) (next : ℕ)
       let is : Some now ≡ Some l = set_stands left p (Some now) (Some l) (subst (λ (n : ℕ). slice_get (slice_set left p (Some now)) n ≡ Some (Some l)) (sym so) stands) in
       let same : now ≡ l = cc is in
       subst (λ (x : Left). IsLeft more x) same is_its_last)
-      (λ apart. is_left_still calls (commit_listed c.conversation f ∷ []) l (are place l (sym (get_other left p place (Some now) apart) ∙ stands)))
+      (λ apart. is_left_still calls (listed_wish c.conversation w f ∷ []) l (are place l (sym (get_other left p place (Some now) apart) ∙ stands)))
       (same_or_apart p place)
 
 -- an answer is left no longer

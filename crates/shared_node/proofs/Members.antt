@@ -3,6 +3,7 @@ use Rattle.std.proofs.Common.{◌≡◌, ◌⊎◌, ◌<◌, ◌≤◌, ◌+◌,
 use Rattle.std.proofs.Math.Seq.{drop-cons}
 use Rattle.shared_node.specs.declared.count.Count.{Count}
 use Rattle.shared_node.specs.declared.wish.Wish.{Wish}
+use Rattle.shared_node.specs.declared.wish.Wished.TheVariants.{Commit}
 use Rattle.shared_node.specs.Gathered.{AreApart, AreMembers, IsMember, count_at}
 use Rattle.shared_node.proofs.Counting.{get_other}
 
@@ -36,7 +37,7 @@ one_apart_more members w apart never here there u v one two same =
 -- ---- how they are counted
 
 abbrev pub nobody : Wish
-nobody = record { conversation = 0; place = 0; count = 0 }
+nobody = record { conversation = 0; place = 0; count = 0; wished = Commit }
 
 -- those that are left begin with the one that stands there
 pub rest_is : (members : List Wish) (i : ℕ) → i < length members → drop i members ≡ get_or members i nobody ∷ drop (i + 1) members

@@ -7,9 +7,8 @@ use Rattle.core_calls.specs.Answer.{Answer, no_memory}
 use Rattle.core_model.specs.Step.{CoreState, Kept, Taken}
 use Rattle.serializability.specs.Answered.{AnsweredCall, CallsLead, CallsLeadOn}
 use Rattle.serializability.specs.Belonging.{AnswersBelong, ExcusesBelongToNone, is_excuse}
-use Rattle.recovery.specs.Journaled.{IsUnchanged, Journaled, OnDisk, shown_on}
-use Rattle.durable_core.specs.Together.{CommitTogether}
-use Rattle.durable_core.specs.declared.together.Together.TheVariants.{DeviceFailed, Done}
+use Rattle.recovery.specs.Journaled.{IsUnchanged, Journaled, JournaledBy, OnDisk, shown_on}
+use Rattle.unit_records.specs.declared.phase.Phase.{Phase}
 use Rattle.shared_node.specs.declared.count.Count.{Count}
 use Rattle.shared_node.specs.declared.left.Left.{Left}
 use Rattle.shared_node.specs.declared.wish.Wish.{Wish}
@@ -17,7 +16,7 @@ use Rattle.shared_node.specs.LeftAnswers.{AreLeft}
 use Rattle.shared_node.specs.Books.{AreCounted, IsKept, Told}
 use Rattle.shared_node.specs.Passes.{IsAnswered}
 use Rattle.shared_node.proofs.Counting.{length_replicate, none_yet, set_length}
-use Rattle.shared_node.specs.Gathered.{all_listed, conversations_of}
+use Rattle.shared_node.specs.Gathered.{AreAlike, MakesTogether, all_listed}
 use Rattle.shared_node.proofs.Leading.{finds_no_memory, leads_on}
 use Rattle.shared_node.proofs.Leaving.{none_left}
 use Rattle.shared_node.proofs.Together.{leads_together}
@@ -27,10 +26,10 @@ book_of core opening calls places left next = record { core = core; opening = op
 
 module _ {D : Type 0} (modelled : Bool) (life : D → Life) where
   pub opens : CallsLeadOn → (core opening : OnDisk D) (calls : List AnsweredCall) (places : List (Option Count)) (left : List (Option Left)) → opening ≡ core → calls ≡ [] → places ≡ replicate 64 None
-      → left ≡ replicate 64 None → Journaled modelled (shown_on life core) (shown_on life core) → IsKept modelled life (book_of core opening calls places left 1)
+      → left ≡ replicate 64 None → JournaledBy 64 modelled (shown_on life core) (shown_on life core) → IsKept modelled life (book_of core opening calls places left 1)
   opens on core opening calls places left same none free nothing journaled = record {
     leads = subst (λ (o : OnDisk D). CallsLead o.state calls core.state) (sym same) (subst (λ (ls : List AnsweredCall). CallsLead core.state ls core.state) (sym none) (on.none core.state));
-    journaled = subst (λ (o : OnDisk D). Journaled modelled (shown_on life o) (shown_on life core)) (sym same) journaled;
+    journaled = subst (λ (o : OnDisk D). JournaledBy 64 modelled (shown_on life o) (shown_on life core)) (sym same) journaled;
     counted = subst (λ (ls : List AnsweredCall). AreCounted ls places 1) (sym none) (subst (λ (ps : List (Option Count)). AreCounted [] ps 1) (sym free) none_yet);
     sixty_four = ap (λ (ps : List (Option Count)). length ps) free ∙ length_replicate {Y = Option Count} 64 None;
     are_left = subst (λ (ls : List AnsweredCall). AreLeft ls left) (sym none) (subst (λ (ls : List (Option Left)). AreLeft [] ls) (sym nothing) (none_left 64));
@@ -39,8 +38,8 @@ module _ {D : Type 0} (modelled : Bool) (life : D → Life) where
 
   module _ (belong : AnswersBelong) (excuses : ExcusesBelongToNone) where
     pub stays : (old opening new : OnDisk D) (calls : List AnsweredCall) (places : List (Option Count)) (left : List (Option Left)) (next n : ℕ) (k : Call) (a : Answer) → a ≡ no_memory
-        → (Journaled modelled (shown_on life opening) (shown_on life old) → Journaled modelled (shown_on life old) (shown_on life new) → Journaled modelled (shown_on life opening) (shown_on life new))
-        → IsKept modelled life (book_of old opening calls places left next) → IsAnswered life old n k a new → Journaled modelled (shown_on life old) (shown_on life new) → IsKept modelled life (book_of new opening calls places left next)
+        → (JournaledBy 64 modelled (shown_on life opening) (shown_on life old) → JournaledBy 64 modelled (shown_on life old) (shown_on life new) → JournaledBy 64 modelled (shown_on life opening) (shown_on life new))
+        → IsKept modelled life (book_of old opening calls places left next) → IsAnswered life old n k a new → JournaledBy 64 modelled (shown_on life old) (shown_on life new) → IsKept modelled life (book_of new opening calls places left next)
     stays old opening new calls places left next n k a is both kept answered journaled =
         let (rests, wanting) = finds_no_memory life belong excuses old new n k a is answered in
         record {
@@ -56,8 +55,8 @@ module _ {D : Type 0} (modelled : Bool) (life : D → Life) where
         → (t ≡ true → is_excuse a ≡ false) → (t ≡ false → is_excuse a ≡ true)
         → more ≡ calls ++ record { conversation = n; call = k; mark = if t then Taken else Kept; answer = a } ∷ [] → set ≡ slice_set places p c
         → (AreCounted calls places next → AreCounted more set next) → (AreLeft calls left → AreLeft more left)
-        → (Journaled modelled (shown_on life opening) (shown_on life old) → Journaled modelled (shown_on life old) (shown_on life new) → Journaled modelled (shown_on life opening) (shown_on life new))
-        → IsKept modelled life (book_of old opening calls places left next) → IsAnswered life old n k a new → Journaled modelled (shown_on life old) (shown_on life new) → IsKept modelled life (book_of new opening more set left next)
+        → (JournaledBy 64 modelled (shown_on life opening) (shown_on life old) → JournaledBy 64 modelled (shown_on life old) (shown_on life new) → JournaledBy 64 modelled (shown_on life opening) (shown_on life new))
+        → IsKept modelled life (book_of old opening calls places left next) → IsAnswered life old n k a new → JournaledBy 64 modelled (shown_on life old) (shown_on life new) → IsKept modelled life (book_of new opening more set left next)
     goes_on on old opening new calls more places set left next p c n k a t done excused more_is set_is counted still both kept answered journaled = record {
       leads = subst (λ (ls : List AnsweredCall). CallsLead opening.state ls new.state) (sym more_is) (leads_on life belong excuses on opening.state calls old new n k a t done excused kept.leads answered);
       journaled = both kept.journaled journaled;
@@ -68,8 +67,8 @@ module _ {D : Type 0} (modelled : Bool) (life : D → Life) where
     }
 
   pub still : (old opening new : OnDisk D) (calls : List AnsweredCall) (places : List (Option Count)) (left : List (Option Left)) (next : ℕ)
-      → (Journaled modelled (shown_on life opening) (shown_on life old) → Journaled modelled (shown_on life old) (shown_on life new) → Journaled modelled (shown_on life opening) (shown_on life new))
-      → IsKept modelled life (book_of old opening calls places left next) → IsUnchanged (shown_on life old) (shown_on life new) → Journaled modelled (shown_on life old) (shown_on life new)
+      → (JournaledBy 64 modelled (shown_on life opening) (shown_on life old) → JournaledBy 64 modelled (shown_on life old) (shown_on life new) → JournaledBy 64 modelled (shown_on life opening) (shown_on life new))
+      → IsKept modelled life (book_of old opening calls places left next) → IsUnchanged (shown_on life old) (shown_on life new) → JournaledBy 64 modelled (shown_on life old) (shown_on life new)
       → IsKept modelled life (book_of new opening calls places left next)
   still old opening new calls places left next both kept same journaled = record {
     leads = subst (λ (s : CoreState). CallsLead opening.state calls s) (sym same.state) kept.leads;
@@ -80,14 +79,14 @@ module _ {D : Type 0} (modelled : Bool) (life : D → Life) where
     as_many = kept.as_many;
   }
 
-  pub gathers_on : CallsLeadOn → (old opening new : OnDisk D) (calls more : List AnsweredCall) (places set : List (Option Count)) (left over : List (Option Left)) (next : ℕ) (members : List Wish) (f : Bool)
-      → more ≡ calls ++ all_listed f members → length set ≡ length places → length over ≡ length left
+  pub gathers_on : CallsLeadOn → (old opening new : OnDisk D) (calls more : List AnsweredCall) (places set : List (Option Count)) (left over : List (Option Left)) (next : ℕ) (phase : Option Phase) (members : List Wish) (f : Bool)
+      → AreAlike phase members → more ≡ calls ++ all_listed f members → length set ≡ length places → length over ≡ length left
       → (AreCounted calls places next → AreCounted more set next) → (AreCounted calls places next → AreLeft calls left → AreLeft more over)
-      → (Journaled modelled (shown_on life opening) (shown_on life old) → Journaled modelled (shown_on life old) (shown_on life new) → Journaled modelled (shown_on life opening) (shown_on life new))
-      → IsKept modelled life (book_of old opening calls places left next) → CommitTogether (shown_on life old) (conversations_of members) (if f then DeviceFailed else Done) (shown_on life new)
-      → Journaled modelled (shown_on life old) (shown_on life new) → IsKept modelled life (book_of new opening more set over next)
-  gathers_on on old opening new calls more places set left over next members f more_is as_long as_many counted are_left both kept together journaled = record {
-    leads = subst (λ (ls : List AnsweredCall). CallsLead opening.state ls new.state) (sym more_is) (leads_together life on opening.state calls old new members f kept.leads together);
+      → (JournaledBy 64 modelled (shown_on life opening) (shown_on life old) → JournaledBy 64 modelled (shown_on life old) (shown_on life new) → JournaledBy 64 modelled (shown_on life opening) (shown_on life new))
+      → IsKept modelled life (book_of old opening calls places left next) → MakesTogether life old phase members f new
+      → JournaledBy 64 modelled (shown_on life old) (shown_on life new) → IsKept modelled life (book_of new opening more set over next)
+  gathers_on on old opening new calls more places set left over next phase members f alike more_is as_long as_many counted are_left both kept together journaled = record {
+    leads = subst (λ (ls : List AnsweredCall). CallsLead opening.state ls new.state) (sym more_is) (leads_together life on opening.state calls old new phase members f alike kept.leads together);
     journaled = both kept.journaled journaled;
     counted = counted kept.counted;
     sixty_four = as_long ∙ kept.sixty_four;

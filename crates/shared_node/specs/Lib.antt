@@ -1,4 +1,5 @@
 pub mod Stored
+pub mod Wishes
 pub mod LeftAnswers
 pub mod Books
 pub mod Fillings

@@ -13,7 +13,7 @@ use std::snapshot::Snapshot;
 /// A core with the history of what it was asked: the calls since the book was opened, in order, each with
 /// the conversation that asked and what it was answered. Each answer is what the plain tables answer there;
 /// of that the history takes no memory, since clauses alone read it. Up to 64 conversations have leave at a
-/// time, and the book counts the calls of each. Where commits were made together, the answers are left for those
+/// time, and the book counts the calls of each. Where calls were made together, the answers are left for those
 /// whose thread did not make them.
 #[derive(Drop)]
 pub struct Book<D: Disk> {

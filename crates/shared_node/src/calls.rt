@@ -7,7 +7,6 @@ ghost use Rattle.core_calls.specs.Answer.{answer_of};
 ghost use Rattle.core_calls.specs.Call.{call_of};
 ghost use Rattle.core_model.specs.Step.{Kept, Taken};
 ghost use Rattle.serializability.specs.Answered.{AnsweredCall};
-ghost use Rattle.shared_node.specs.LeftAnswers.{commit_listed};
 ghost use Rattle.shared_node.specs.Stored.{coded_predicate};
 
 use core_calls::{Answer, CoreCall};
@@ -43,11 +42,6 @@ impl CallList {
         _is_taken: bool,
     )
         ensures { self.new.listed ≡ self.old.listed ++ record { conversation = _conversation; call = call_of _call.now; mark = if _is_taken then Taken else Kept; answer = answer_of _answer.now } ∷ [] }
-    {}
-
-    /// One commit more, that was made together with others.
-    pub fn note_commit(&mut self, _conversation: u64, _has_failed: bool)
-        ensures { self.new.listed ≡ self.old.listed ++ commit_listed _conversation _has_failed ∷ [] }
     {}
 }
 

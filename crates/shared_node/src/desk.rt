@@ -1,11 +1,12 @@
 //! One conversation's place at the book.
 
 use crate::acted::Acted;
-use crate::asking::{has_run_behind, is_commit};
+use crate::asking::{has_run_behind, wished_by};
 use crate::gate::Gate;
 use crate::pass::Pass;
 use crate::shared::Shared;
 use crate::turn::{Begun, time};
+use crate::wish::Wished;
 use command_kit::Ask;
 use core_calls::{Answer, CoreCall};
 use drda_disk::Disk;
@@ -13,9 +14,9 @@ use std::sync::Wait;
 use std::time::Clock;
 
 /// One conversation at the book, which is asked under the lock, call by call: its turn comes outside of the
-/// lock, the call and what it lists are one step inside of it. Commits that wait are made together by the first
-/// of them, but for those behind no statement that may have changed rows, since these make no device call. Behind a loss
-/// a checkpoint is considered.
+/// lock, the call and what it lists are one step inside of it. Commits that wait, and phases of two-phase commit, are made
+/// together by the first of them, but for commits behind no statement that may have changed rows, since these make no device
+/// call. Behind a loss a checkpoint is considered.
 #[derive(Drop)]
 pub struct Desk<'a, D: Disk, R: Wait + Clock, G: Gate> {
     rt: &'a R,
@@ -68,14 +69,16 @@ impl<'a, D: Disk, R: Wait + Clock, G: Gate> Desk<'a, D, R, G> {
         self.pass
     }
 
-    // The conversation comes to the lock: whether it leads a group of commits.
-    fn come(&self, is_gathered: bool) -> bool {
+    // The conversation comes to the lock: whether it leads a group.
+    fn come(&self, wished: Option<Wished>) -> bool {
         let waiting = &self.shared.waiting;
-        if is_gathered {
-            return waiting.wish(self.rt, self.pass.wish());
+        match wished {
+            Some(wished) => waiting.wish(self.rt, self.pass.wish(wished)),
+            None => {
+                waiting.come();
+                false
+            }
         }
-        waiting.come();
-        false
     }
 }
 
@@ -87,16 +90,16 @@ impl<'a, D: Disk, R: Wait + Clock, G: Gate> Ask for Desk<'a, D, R, G> {
     fn ask(&mut self, call: &CoreCall<'_, '_>) -> Answer {
         self.gate.turn(self.pass.conversation(), self.asked);
         self.asked = self.asked.wrapping_add(1);
-        let is_gathered = self.has_run && is_commit(call);
+        let wished = wished_by(self.has_run, call);
         self.has_run = has_run_behind(self.has_run, call);
         let came = time(self.rt);
-        let leads = self.come(is_gathered);
+        let leads = self.come(wished);
         let (acted, turn) = {
             let mut guard = self.shared.held.lock(self.rt);
             let held = &mut *guard;
             let begun = Begun::new(self.rt, came, &held.book);
             let waiting = &self.shared.waiting;
-            let acted = held.act(self.rt, waiting, &mut self.pass, call, is_gathered);
+            let acted = held.act(self.rt, waiting, &mut self.pass, call, wished);
             if matches!(*call, CoreCall::Lost) {
                 held.book.consider_checkpoint();
             }

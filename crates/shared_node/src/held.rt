@@ -4,10 +4,12 @@ use crate::acted::Acted;
 use crate::book::Book;
 use crate::pass::Pass;
 use crate::waiting::Waiting;
-use crate::wish::Wish;
+use crate::wish::{Wish, Wished};
 use core_calls::CoreCall;
 use drda_disk::Disk;
 use std::sync::Wait;
+use unit_records::Phase;
+use xa_manager::Decision;
 
 /// What lies under the lock: the book, and a list for the wishes that are being fulfilled, which is used again.
 #[derive(Drop)]
@@ -16,12 +18,21 @@ pub(crate) struct Held<D: Disk> {
     pub(crate) wishes: Vec<Wish>,
 }
 
-impl<D: Disk> Held<D> {
-    ghost use Rattle.std.specs.Prelude.{◌≡◌, true};
-    ghost use Rattle.core_calls.specs.Call.{call_of, commit};
-    ghost use Rattle.shared_node.specs.Desks.{DeskActs};
+// What is made together, one kind behind the other: commits, and each phase of two-phase commit.
+const KINDS: [Option<Phase>; 4] = [
+    None,
+    Some(Phase::Prepare),
+    Some(Phase::Decide(Decision::Commit)),
+    Some(Phase::Decide(Decision::RollBack)),
+];
 
-    /// Does one call of a pass. A commit that is gathered may have been made with others' meanwhile; else it is made with
+impl<D: Disk> Held<D> {
+    ghost use Rattle.std.specs.Prelude.{◌≡◌, Some};
+    ghost use Rattle.core_calls.specs.Call.{call_of};
+    ghost use Rattle.shared_node.specs.Desks.{DeskActs};
+    ghost use Rattle.shared_node.specs.Wishes.{call_wished};
+
+    /// Does one call of a pass. What was wished for may have been made with others' calls meanwhile; else it is made with
     /// those of all who wait; else alone.
     pub(crate) fn act<R: Wait>(
         &mut self,
@@ -29,29 +40,31 @@ impl<D: Disk> Held<D> {
         waiting: &Waiting,
         pass: &mut Pass,
         call: &CoreCall<'_, '_>,
-        is_gathered: bool,
+        wished: Option<Wished>,
     ) -> Acted
-        requires { is_gathered ≡ true → call_of call.now ≡ commit }
+        requires { (w : _) → wished ≡ Some w → call_of call.now ≡ call_wished w }
         ensures { DeskActs pass.old (call_of call.now) result pass.new }
     {
-        if !is_gathered {
+        let Some(wished) = wished else {
             waiting.go(rt);
             return self.book.act(pass, call);
-        }
-        if let Some(answer) = self.book.collect(pass) {
+        };
+        if let Some(answer) = self.book.collect(pass, &wished) {
             return Acted::Answered(answer);
         }
         self.fulfil(rt, waiting);
-        if let Some(answer) = self.book.collect(pass) {
+        if let Some(answer) = self.book.collect(pass, &wished) {
             return Acted::Answered(answer);
         }
         self.book.act(pass, call)
     }
 
-    // Commits together for all who wish to.
+    // Makes together what is wished for, for all who wait.
     fn fulfil<R: Wait>(&mut self, rt: &R, waiting: &Waiting) {
         waiting.take(rt, &mut self.wishes);
-        self.book.commit_all(&self.wishes);
+        for kind in KINDS {
+            self.book.make_together(kind, &self.wishes);
+        }
         self.wishes.clear();
     }
 }

@@ -35,4 +35,4 @@ pub use left::Left;
 pub use pass::Pass;
 pub use shared::Shared;
 pub use turn::Turn;
-pub use wish::Wish;
+pub use wish::{Wish, Wished};

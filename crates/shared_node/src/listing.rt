@@ -6,15 +6,17 @@ ghost use Rattle.core_calls.specs.Call.{call_of};
 ghost use Rattle.core_model.specs.Step.{Kept, Taken};
 ghost use Rattle.shared_node.specs.Books.{AreCounted};
 ghost use Rattle.shared_node.specs.Gathered.{AreApart, AreMembers, all_counted, all_left, all_listed, count_at};
-ghost use Rattle.shared_node.specs.LeftAnswers.{AreLeft, commit_listed};
+ghost use Rattle.shared_node.specs.LeftAnswers.{AreLeft};
+ghost use Rattle.shared_node.specs.Wishes.{answer_wished, call_wished, listed_wish};
 ghost use Rattle.shared_node.specs.Passes.{calls_in, count_of};
 
 use crate::calls::CallList;
 use crate::count::Count;
 use crate::left::Left;
 use crate::pass::Pass;
-use crate::wish::Wish;
+use crate::wish::{Wish, Wished};
 use core_calls::{Answer, CoreCall};
+use xa_calls::Request;
 
 /// Lists a call, which is one more of its conversation and of its pass.
 pub(crate) fn list(
@@ -45,7 +47,7 @@ pub(crate) fn list(
     });
 }
 
-/// Lists commits that were made together, one after another. Each is one more of its conversation, and its answer is left
+/// Lists calls that were made together, one after another. Each is one more of its conversation, and its answer is left
 /// for it.
 pub(crate) fn list_all(
     calls: &mut CallList,
@@ -67,12 +69,12 @@ pub(crate) fn list_all(
     ensures left_stay { length left.new.items ≡ length left.old.items }
 {
     for member in members {
-        list_commit(calls, places, left, member, has_failed);
+        list_one(calls, places, left, member, has_failed);
     }
 }
 
 // Lists one of them.
-fn list_commit(
+fn list_one(
     calls: &mut CallList,
     places: &mut Vec<Option<Count>>,
     left: &mut Vec<Option<Left>>,
@@ -82,13 +84,13 @@ fn list_commit(
     requires known { slice_get places.old.items member.now.place ≡ Some (Some (count_at member.now)) }
     requires numbered { member.now.count + 1 < 2 ^ 64 }
     requires as_many { length left.old.items ≡ length places.old.items }
-    ensures calls { calls.new.listed ≡ calls.old.listed ++ commit_listed member.now.conversation has_failed ∷ [] }
+    ensures calls { calls.new.listed ≡ calls.old.listed ++ listed_wish member.now.conversation member.now.wished has_failed ∷ [] }
     ensures places { places.new.items ≡ slice_set places.old.items member.now.place (Some (record { conversation = member.now.conversation; calls = member.now.count + 1 })) }
-    ensures left { left.new.items ≡ slice_set left.old.items member.now.place (Some (record { conversation = member.now.conversation; number = member.now.count; has_failed = has_failed })) }
+    ensures left { left.new.items ≡ slice_set left.old.items member.now.place (Some (record { conversation = member.now.conversation; number = member.now.count; wished = member.now.wished; has_failed = has_failed })) }
     ensures counted { (next : _) → AreCounted calls.old.listed places.old.items next → AreCounted calls.new.listed places.new.items next }
     ensures are_left { (next : _) → AreCounted calls.old.listed places.old.items next → AreLeft calls.old.listed left.old.items → AreLeft calls.new.listed left.new.items }
 {
-    calls.note_commit(member.conversation, has_failed);
+    note_wish(calls, member.conversation, &member.wished, has_failed);
     places[member.place] = Some(Count {
         conversation: member.conversation,
         calls: member.count + 1,
@@ -96,6 +98,31 @@ fn list_commit(
     left[member.place] = Some(Left {
         conversation: member.conversation,
         number: member.count,
+        wished: member.wished,
         has_failed,
     });
+}
+
+/// Notes a call that was wished for and made together with others.
+pub(crate) fn note_wish(calls: &mut CallList, conversation: u64, wished: &Wished, has_failed: bool)
+    ensures { calls.new.listed ≡ calls.old.listed ++ listed_wish conversation wished.now has_failed ∷ [] }
+{
+    let answer = answer_left(wished, has_failed);
+    match wished {
+        Wished::Commit => calls.note(conversation, &CoreCall::Commit, &answer, !has_failed),
+        Wished::Through(phase, xid) => {
+            let call = CoreCall::Xa(Ok(Request::Branch(phase.verb(), *xid)));
+            calls.note(conversation, &call, &answer, !has_failed);
+        }
+    }
+}
+
+/// What such a call is answered.
+pub(crate) fn answer_left(wished: &Wished, has_failed: bool) -> Answer
+    ensures { answer_of result ≡ answer_wished wished.now has_failed }
+{
+    if has_failed {
+        return Answer::DeviceFailed;
+    }
+    wished.done()
 }

@@ -1,7 +1,7 @@
 //! Leave for one conversation's calls.
 
 use crate::calls::CallList;
-use crate::wish::Wish;
+use crate::wish::{Wish, Wished};
 
 /// Leave for the calls of one conversation of a book. It counts those that were listed, and shows them to
 /// clauses, with their answers.
@@ -37,14 +37,15 @@ impl Pass {
         self.count
     }
 
-    /// That its conversation waits to commit as its next call.
-    pub fn wish(&self) -> Wish
-        ensures { result ≡ record { conversation = self.now.conversation; place = self.now.place; count = self.now.count } }
+    /// That its conversation waits to ask this as its next call.
+    pub fn wish(&self, wished: Wished) -> Wish
+        ensures { result ≡ record { conversation = self.now.conversation; place = self.now.place; count = self.now.count; wished = wished } }
     {
         Wish {
             conversation: self.conversation,
             place: self.place,
             count: self.count,
+            wished,
         }
     }
 }

@@ -1,4 +1,4 @@
-//! Who waits to commit.
+//! Who waits to be served together.
 
 use crate::numbering::PLACES;
 use crate::wish::Wish;
@@ -16,8 +16,8 @@ struct Line {
     is_led: bool,
 }
 
-/// Who waits to commit, beside the lock, which is never waited for while the line is held. The first of a group leads: it
-/// commits for all of them, while the next group gathers. Before, it lets those calls go that came to the lock before it,
+/// Who waits to commit, to prepare or to decide a branch, beside the lock, which is never waited for while the line is held.
+/// The first of a group leads: it makes the calls of all of them, while the next group gathers. Before, it lets those calls go that came to the lock before it,
 /// since who made them may commit next. No contract says anything of it; a wish that nobody fulfils is one that its own
 /// conversation does.
 #[derive(Drop)]
@@ -49,7 +49,7 @@ impl Waiting {
         })
     }
 
-    /// A conversation waits to commit. Returns true where it leads a group, which it then ends; false where its group
+    /// A conversation has a wish. Returns true where it leads a group, which it then ends; false where its group
     /// was made.
     pub(crate) fn wish<R: Wait>(&self, rt: &R, wish: Wish) -> bool {
         let mut line = self.line.lock(rt);
@@ -100,7 +100,7 @@ impl Waiting {
         self.is_made.notify_all();
     }
 
-    /// A call that is no commit comes to the lock.
+    /// A call that nobody wished for comes to the lock.
     pub(crate) fn come(&self) {
         self.came.fetch_add(1, Ordering::SeqCst);
     }

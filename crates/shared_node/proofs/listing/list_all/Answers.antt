@@ -17,7 +17,7 @@ loop-member-preserved c =
     let more = drop (i + 1) members in
     let now = c.loop-member in
     let kept = c.loop-member.invariant in
-    let done = c.list_commit.ensures in
+    let done = c.list_one.ensures in
     let rest : drop i members ≡ get_or members i nobody ∷ more = rest_is members i c.loop-member-test.true in
     let here : slice_get members i ≡ Some (get_or members i nobody) = slice_get-get_or members i nobody c.loop-member-test.true in
     record {

@@ -16,10 +16,10 @@ returns-clause-some g c =
     let f = c.in_ok-has_failed.has_failed in
     let book : Told g.row.D.Denot = record { core = inside.core; opening = inside.opening.value; calls = inside.calls.listed; places = inside.places.items; left = inside.left.items; next = inside.next } in
     let now : Count = record { conversation = pass.conversation; calls = pass.count + 1 } in
-    let its : Left = record { conversation = pass.conversation; number = pass.count; has_failed = f } in
+    let its : Left = record { conversation = pass.conversation; number = pass.count; wished = c.args.wished.now; has_failed = f } in
     let counted : slice_get inside.places.items pass.place ≡ Some (Some now) = subst (λ (ps : List (Option Count)). slice_get ps pass.place ≡ Some (Some now)) c.deref.ensures.value c.in_ok-has_failed.ensures.some.0 in
     let left : slice_get inside.left.items pass.place ≡ Some (Some its) = subst (λ (ls : List (Option Left)). slice_get ls pass.place ≡ Some (Some its)) c.deref-2.ensures.value c.in_ok-has_failed.ensures.some.1 in
-    subst (λ (b : Told g.row.D.Denot). Collects {D = g.row.D.Denot} b pass (answer_of c.answer_left.result) (record book { left = c.take_away.new.left.items }) c.show.new.pass) c.self.view_is
+    subst (λ (b : Told g.row.D.Denot). Collects {D = g.row.D.Denot} b pass c.args.wished.now (answer_of c.answer_left.result) (record book { left = c.take_away.new.left.items }) c.show.new.pass) c.self.view_is
     (record {
       has_failed = f;
       waiting = record { counted = counted; left = left };

@@ -12,5 +12,6 @@ loop-wish-preserved c =
     record {
       members = all.members chosen wishes i (slice_get-get_or wishes i nobody c.loop-wish-test.true) kept.members;
       apart = all.apart chosen kept.apart;
-      conversations = all.conversations chosen kept.conversations;
+      alike = all.alike chosen kept.alike;
+      few = all.few chosen kept.few;
     }

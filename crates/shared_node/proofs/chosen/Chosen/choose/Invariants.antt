@@ -1,10 +1,11 @@
-use Rattle.std.proofs.Common.{◌≡◌}
-use Rattle.shared_node.specs.Gathered.{AreApart, AreMembers, conversations_of}
+use Rattle.std.proofs.Common.{◌≤◌, length}
+use Rattle.shared_node.specs.Gathered.{AreAlike, AreApart, AreMembers}
 use Rattle.shared_node.proofs.chosen.Chosen.choose.Given as goal
 
 abbrev pub invariant-loop-wish : goal.invariant-loop-wish
 invariant-loop-wish l = record {
   members : AreMembers l.places l.wishes l.self.members.items;
   apart : AreApart l.self.members.items;
-  conversations : l.self.conversations.items ≡ conversations_of l.self.members.items;
+  alike : AreAlike l.phase l.self.members.items;
+  few : length l.self.members.items ≤ 64;
 }
