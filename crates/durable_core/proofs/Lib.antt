@@ -11,3 +11,4 @@ pub mod Prepared
 pub mod Telling
 pub mod Switching
 pub mod Prepares
+pub mod Phasing

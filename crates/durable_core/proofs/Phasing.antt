@@ -1,0 +1,178 @@
+-- Branches that go through a phase together leave a core that is recorded, and what is made of its disk is journaled.
+use Rattle.std.proofs.Common.{◌≡◌, ℕ, ◌+◌, ◌-◌, ◌≤◌, Bool, true, false, IsTrue, List, [], ◌∷◌, ◌++◌, length, map, Some, Result, Ok, Err, IfErr, OnErr, OnOk, refl, sym, ◌∙◌, ap, subst, arith, append-nil}
+use Rattle.std.proofs.lemmas.Bool.{false≢true}
+use Rattle.std.proofs.lemmas.List.{length-map}
+use Rattle.drda_disk.specs.Disk.{Life}
+use Rattle.drda_disk.specs.Region.{end_of}
+use Rattle.drda_disk.specs.declared.region.Region.{Region}
+use Rattle.unit_journal.specs.Journal.{held_of, region_of, room_of}
+use Rattle.unit_journal.specs.declared.journal.Journal.{Journal}
+use Rattle.unit_journal.specs.Record.{laid}
+use Rattle.unit_journal.specs.Stands.{Stands}
+use Rattle.unit_records.specs.Records.{UnitRecord, entry_of}
+use Rattle.unit_records.specs.Room.{held_by, released_by, taken_by}
+use Rattle.unit_records.specs.Phases.{all_through, may_go_through, record_in, records_in}
+use Rattle.unit_records.specs.Together.{FailsTogether}
+use Rattle.unit_records.specs.declared.group_error.GroupError.{GroupError}
+use Rattle.unit_records.specs.declared.group_error.GroupError.TheVariants.{DeviceFailed, Refused}
+use Rattle.unit_records.specs.declared.phase.BranchCall.{BranchCall}
+use Rattle.unit_records.specs.declared.phase.Phase.{Phase}
+use Rattle.recovery.specs.Durable.{replayed_from}
+use Rattle.recovery.specs.Laws.{HeldForAll, held_for}
+use Rattle.recovery.specs.StepLaws.{BranchesKeep, BranchesLead}
+use Rattle.core_model.specs.Step.{CoreState}
+use Rattle.recovery.specs.Part.{durable_part}
+use Rattle.recovery.specs.Opens.{Holds}
+use Rattle.recovery.specs.ImageLaws.{GroupsStay}
+use Rattle.recovery.specs.Journaled.{FaultsAfter, GroupsGoOn, IsDurable, JournaledBy, MadeBy, OnDisk, OneCallIsMade, OneGroupIsMade, shown_on}
+use Rattle.journal_recorder.specs.Recording.{AreLeftOpen, RecordsAll, disk_of, has_failed, journal_of, made_of}
+use Rattle.journal_recorder.specs.declared.recorder.DiskRecorder.{DiskRecorder}
+use Rattle.durable_core.specs.Recorded.{IsOnDisk, IsRecorded, core_on}
+use Rattle.durable_core.proofs.Recording.{durable_from}
+
+-- the laws that it rests on
+pub record PhaseLaws {D : Type 0} (life : D → Life) : Type 0 where
+  pub keep : BranchesKeep
+  pub lead : BranchesLead
+  pub held : HeldForAll
+  pub stay : GroupsStay
+  pub calls : OneCallIsMade life
+  pub groups : OneGroupIsMade life
+  pub go_on : GroupsGoOn life
+
+-- records that find room fit behind the others, with the bytes that are held then
+fits : (at len l need hold free before after room : ℕ) → room ≡ at + len - (at + l) - 1 - before → l + 1 + before ≤ len → need + hold ≤ room + free → after + free ≡ before + hold → l + need + 1 + after ≤ len
+fits at len l need hold free before after room is inside less same = omega (arith, is, inside, less, same)
+
+-- a core that has failed does nothing
+pub phase_closed : {D : Type 0} (modelled : Bool) (life : D → Life) → OneCallIsMade life → (most : ℕ) (s : OnDisk D) → s.is_failed ≡ true → JournaledBy most modelled (shown_on life s) (shown_on life s)
+phase_closed modelled life made most s failed = record {
+  name = refl;
+  more = [];
+  made = sym (append-nil s.made);
+  faults = λ going. absurd (false≢true (sym going ∙ failed));
+  failed = λ before. made.failed s s before refl;
+  records = λ modelled_disk going. absurd (false≢true (sym going ∙ failed));
+}
+
+module _ {D : Type 0} (modelled : Bool) (life : D → Life) (name : List ℕ) (all : PhaseLaws life) (s : CoreState) (r : DiskRecorder D) (is : IsRecorded modelled life name s r) (going : has_failed r ≡ false) where
+  pub record IsLeft (most : ℕ) (new : CoreState) (after : DiskRecorder D) : Type 0 where
+    pub recorded : IsRecorded modelled life name new after
+    pub journaled : JournaledBy most modelled (shown_on life (core_on name s r)) (shown_on life (core_on name new after))
+
+  -- nothing was done
+  pub same_left : (most : ℕ) → IsLeft most s r
+  same_left most = record { recorded = is; journaled = all.go_on.none most modelled (core_on name s r) (λ modelled_disk still. durable_from modelled life name all.calls s r is modelled_disk still) }
+
+  module _ (phase : Phase) (cs : List BranchCall) (may : may_go_through phase s cs ≡ true) where
+    abbrev behind : CoreState
+    behind = all_through phase cs s
+
+    abbrev said : List UnitRecord
+    said = records_in phase s.base.units cs
+
+    leads : replayed_from (durable_part s) said ≡ Some (durable_part behind)
+    leads = all.lead s phase cs is.kept may
+
+    as_many : length said ≡ length cs
+    as_many = length-map (λ (c : BranchCall). record_in phase s.base.units c.xid) cs
+
+    holds_for : held_for (durable_part behind).doubts + released_by said ≡ held_for (durable_part s).doubts + held_by said
+    holds_for = all.held (durable_part s) (durable_part behind) said leads
+
+    fit : (there : IsOnDisk modelled life name s r) → taken_by said + held_by said ≤ room_of (journal_of r) + released_by said
+        → length (laid there.entries) + taken_by said + 1 + held_for (durable_part behind).doubts ≤ (region_of (journal_of r)).length
+    fit there less = fits (region_of (journal_of r)).at (region_of (journal_of r)).length (length (laid there.entries)) (taken_by said) (held_by said) (released_by said) (held_of (journal_of r)) (held_for (durable_part behind).doubts) (room_of (journal_of r))
+        (ap (λ (n : ℕ). end_of (region_of (journal_of r)) - n - 1 - held_of (journal_of r)) there.settled.next)
+        (subst (λ (n : ℕ). length (laid there.entries) + 1 + n ≤ (region_of (journal_of r)).length) (sym is.held) there.holds.room)
+        less (holds_for ∙ ap (λ (n : ℕ). n + held_by said) (sym is.held))
+
+    made_for : (new : CoreState) (after : DiskRecorder D) → MadeBy (length said) said (shown_on life (core_on name s r)) (shown_on life (core_on name new after))
+        → MadeBy (length cs) said (shown_on life (core_on name s r)) (shown_on life (core_on name new after))
+    made_for new after made = subst (λ (n : ℕ). MadeBy n said (shown_on life (core_on name s r)) (shown_on life (core_on name new after))) as_many made
+
+    -- ---- the records are made
+
+    module _ (after : DiskRecorder D) (made : RecordsAll modelled life r said after) where
+      less : taken_by said + held_by said ≤ room_of (journal_of r) + released_by said
+      less = omega (arith, made.room)
+
+      on_disk : IsTrue modelled → IsOnDisk modelled life name behind after
+      on_disk modelled_disk =
+          let there = is.on_disk modelled_disk going in
+          let settled = made.settled there.entries there.settled in
+          let here = subst (λ (g : Region). Stands g (there.entries ++ map entry_of said) (life (disk_of after)).seen) made.region settled.stands in
+          record {
+            entries = there.entries ++ map entry_of said;
+            settled = settled;
+            holds = subst (λ (g : Region). Holds name g (there.entries ++ map entry_of said) (durable_part behind) (life (disk_of after)).seen) (sym made.region)
+                (all.stay name (region_of (journal_of r)) there.entries (durable_part s) (durable_part behind) said (life (disk_of r)).seen (life (disk_of after)).seen
+                there.holds made.good leads (fit there less) made.others here);
+          }
+
+      durable_after : IsTrue modelled → IsDurable (shown_on life (core_on name behind after))
+      durable_after modelled_disk =
+          let here = on_disk modelled_disk in
+          all.calls.durable (core_on name behind after) (region_of (journal_of after)) here.entries here.settled.durable here.holds
+
+      all_made : IsTrue modelled → MadeBy (length said) said (shown_on life (core_on name s r)) (shown_on life (core_on name behind after))
+      all_made modelled_disk =
+          let there = is.on_disk modelled_disk going in
+          all.groups (core_on name s r) (core_on name behind after) (region_of (journal_of r)) there.entries said
+          (durable_part behind) there.holds made.good leads (fit there less) (made.moments there.entries there.settled) refl (λ more. refl) (λ more. durable_after modelled_disk) made.made
+
+      pub done_left : IsLeft (length cs) behind after
+      done_left = record {
+        recorded = record {
+          kept = all.keep s phase cs is.kept may;
+          held = omega (arith, made.held, holds_for, is.held);
+          inside = subst (λ (g : Region). end_of g ≤ length (life (disk_of after)).seen) (sym made.region) (subst (λ (n : ℕ). end_of (region_of (journal_of r)) ≤ n) (sym made.others.size) is.inside);
+          on_disk = λ modelled_disk still. on_disk modelled_disk;
+        };
+        journaled = record {
+          name = refl;
+          more = map entry_of said;
+          made = made.made;
+          faults = λ still. subst (λ (f : Bool). FaultsAfter f (life (disk_of r)).faults (life (disk_of after)).faults) (sym made.going) (omega (arith, made.faults));
+          failed = λ is_failed. absurd (false≢true (sym going ∙ is_failed));
+          records = λ modelled_disk still. (said, made_for behind after (all_made modelled_disk));
+        };
+      }
+
+    -- ---- the device failed: the core is as it was
+
+    module _ (after : DiskRecorder D) (left : AreLeftOpen modelled life r said after) where
+      left_made : IsTrue modelled → MadeBy (length said) said (shown_on life (core_on name s r)) (shown_on life (core_on name s after))
+      left_made modelled_disk =
+          let there = is.on_disk modelled_disk going in
+          all.groups (core_on name s r) (core_on name s after) (region_of (journal_of r)) there.entries said
+          (durable_part behind) there.holds left.good leads (fit there left.fits) (left.moments there.entries there.settled) refl
+          (λ more. absurd (false≢true (sym more ∙ left.failed))) (λ more. absurd (false≢true (sym more ∙ left.failed))) left.made
+
+      pub open_left : IsLeft (length cs) s after
+      open_left = record {
+        recorded = record {
+          kept = is.kept;
+          held = ap (λ (j : Journal). held_of j) left.journal ∙ is.held;
+          inside = subst (λ (j : Journal). end_of (region_of j) ≤ length (life (disk_of after)).seen) (sym left.journal) (subst (λ (n : ℕ). end_of (region_of (journal_of r)) ≤ n) (sym left.others.size) is.inside);
+          on_disk = λ modelled_disk still. absurd (false≢true (sym still ∙ left.failed));
+        };
+        journaled = record {
+          name = refl;
+          more = map entry_of said;
+          made = left.made;
+          faults = λ still. subst (λ (f : Bool). FaultsAfter f (life (disk_of r)).faults (life (disk_of after)).faults) (sym left.failed) left.faults;
+          failed = λ is_failed. absurd (false≢true (sym going ∙ is_failed));
+          records = λ modelled_disk still. (said, made_for s after (left_made modelled_disk));
+        };
+      }
+
+    kept_by : (fault : GroupError) (after : DiskRecorder D) → FailsTogether (AreLeftOpen modelled life) said fault r after → IsLeft (length cs) s after
+    kept_by Refused after same = subst (λ (x : DiskRecorder D). IsLeft (length cs) s x) (sym same) (same_left (length cs))
+    kept_by DeviceFailed after left = open_left after left
+
+    -- whatever the core answers
+    pub left_by : {X : Type 0} (result : Result X GroupError) (new : CoreState) (after : DiskRecorder D) → OnOk result (new ≡ behind) → OnOk result (RecordsAll modelled life r said after)
+        → OnErr result (new ≡ s) → IfErr result (λ fault. FailsTogether (AreLeftOpen modelled life) said fault r after) → IsLeft (length cs) new after
+    left_by (Ok x) new after is_new made same refused = subst (λ (n : CoreState). IsLeft (length cs) n after) (sym is_new) (done_left after made)
+    left_by (Err fault) new after is_new made same refused = subst (λ (n : CoreState). IsLeft (length cs) n after) (sym same) (kept_by fault after refused)
