@@ -1,11 +1,37 @@
-//! Commits that are made together, and what is collected of them.
+//! Calls that are made together, and what is collected of them.
 
 use crate::books::{Desks, place_of};
 use core_calls::{Answer, CoreCall};
+use shared_node::Wished;
 use sql_text::{SqlError, Statement, parse};
 use std::alloc::Global;
-use test_calls::{push_answer, push_text};
+use test_calls::{push_answer, push_text, request_of};
+use unit_records::Phase;
 use xa_calls::{InvalidRequest, Request};
+use xa_manager::Decision;
+
+// What is made together, one kind behind the other: commits, and each phase of two-phase commit.
+const KINDS: [Option<Phase>; 4] = [
+    None,
+    Some(Phase::Prepare),
+    Some(Phase::Decide(Decision::Commit)),
+    Some(Phase::Decide(Decision::RollBack)),
+];
+
+// Whose wish it is, and what for: to commit, where no more is said, or what an XA call asks of a branch.
+fn wish_in(alloc: Global, rest: &str) -> Option<(u64, Wished)> {
+    let Some((number, words)) = rest.split_once(' ') else {
+        return Some((rest.parse::<u64>().ok()?, Wished::Commit));
+    };
+    let (verb, xid) = words.split_once(' ')?;
+    match request_of(alloc, verb, xid)? {
+        Ok(Request::Branch(verb, xid)) => Some((
+            number.parse::<u64>().ok()?,
+            Wished::Through(Phase::of(verb)?, xid),
+        )),
+        _ => None,
+    }
+}
 
 fn parsed<'a>(alloc: Global, text: &'a str) -> Result<Statement<'a>, SqlError> {
     parse(alloc, text)
@@ -30,55 +56,56 @@ impl Desks {
         self.ask(number, &call)
     }
 
-    // The conversation of the pass of this number wishes to commit.
-    fn wish(&mut self, number: u64) -> Option<()> {
+    // The conversation of the pass of this number has a wish.
+    fn wish(&mut self, number: u64, wished: Wished) -> Option<()> {
         let Some(Some(pass)) = self.passes.get(place_of(number)?) else {
             return None;
         };
-        self.wishes.push(pass.wish()).ok()
+        self.wishes.push(pass.wish(wished)).ok()
     }
 
-    // Those that wished to commit do so together, where that is possible. Then there are no wishes.
+    // What was wished for is made together, where that is possible. Then there are no wishes.
     fn gather(&mut self) -> Option<()> {
         let Some(book) = &mut self.book else {
             return None;
         };
-        book.commit_all(&self.wishes);
+        for kind in KINDS {
+            book.make_together(kind, &self.wishes);
+        }
         self.wishes.clear();
         Some(())
     }
 
     // What is left for the pass of this number.
-    fn collect(&mut self, number: u64) -> Option<Option<Answer>> {
+    fn collect(&mut self, number: u64, wished: Wished) -> Option<Option<Answer>> {
         let Some(Some(pass)) = self.passes.get_mut(place_of(number)?) else {
             return None;
         };
         let Some(book) = &mut self.book else {
             return None;
         };
-        Some(book.collect(pass))
+        Some(book.collect(pass, &wished))
     }
 
-    fn say_collected(&mut self, number: u64, out: &mut Vec<u8>) -> Option<()> {
-        match self.collect(number)? {
+    fn say_collected(&mut self, number: u64, wished: Wished, out: &mut Vec<u8>) -> Option<()> {
+        match self.collect(number, wished)? {
             Some(answer) => push_answer(self.alloc, out, &answer),
             None => push_text(out, "nothing"),
         }
     }
 
-    /// `wish N` is the wish of a pass to commit, `gather` lets those that wished to commit do so together, and `collect N` gives what is left
-    /// for a pass.
+    /// `wish N` is the wish of a pass to commit, and `wish N VERB XID` for a phase of a branch; `gather` makes together what was wished for,
+    /// and `collect N`, or `collect N VERB XID`, gives what is left for a pass.
     pub fn tell_of_groups(&mut self, verb: &str, rest: &str, out: &mut Vec<u8>) -> Option<()> {
-        match verb {
-            "wish" => {
-                self.wish(rest.parse::<u64>().ok()?)?;
-                push_text(out, "wished")
-            }
-            "gather" => {
-                self.gather()?;
-                push_text(out, "gathered")
-            }
-            _ => self.say_collected(rest.parse::<u64>().ok()?, out),
+        if verb == "gather" {
+            self.gather()?;
+            return push_text(out, "gathered");
         }
+        let (number, wished) = wish_in(self.alloc, rest)?;
+        if verb == "wish" {
+            self.wish(number, wished)?;
+            return push_text(out, "wished");
+        }
+        self.say_collected(number, wished, out)
     }
 }

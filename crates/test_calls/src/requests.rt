@@ -46,7 +46,7 @@ fn xid_data(alloc: Global, word: &str) -> Option<Vec<u8>> {
 }
 
 /// What a SYNCCTL asks for that spells this, with these XID data; with none where there is no word.
-pub(crate) fn request_of(
+pub fn request_of(
     alloc: Global,
     verb: &str,
     word: &str,

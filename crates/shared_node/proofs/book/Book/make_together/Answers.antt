@@ -10,4 +10,4 @@ pub invariant_of-self-in_default : goal.invariant_of-self-in_default
 invariant_of-self-in_default g c =
     let inside = c.self.inside in
     still g.D.Disk.is_modelled g.D.Disk.life inside.core inside.opening.value c.ask_together.new.core inside.calls.listed inside.places.items inside.left.items inside.next
-    (c.groups_go_on.ensures.both 64 g.D.Disk.is_modelled inside.opening.value inside.core c.ask_together.new.core) c.self.invariant (c.ask_together.ensures.none c.in_default.is) c.ask_together.ensures.journaled
+    c.groups_go_on.ensures c.self.invariant (c.ask_together.ensures.none c.in_default.is) c.ask_together.ensures.journaled
