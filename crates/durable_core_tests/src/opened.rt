@@ -6,8 +6,10 @@ use durable_core::{Checkpointed, DurableCore, Together};
 use half_store::format;
 use sql_text::{SqlError, Statement, parse};
 use std::alloc::{AllocError, Global};
-use test_calls::{Calls, Scripts, push_text};
+use test_calls::{Calls, Scripts, push_text, request_of};
+use unit_records::{BranchCall, Phase};
 use xa_calls::{InvalidRequest, Request};
+use xa_manager::Decision;
 
 /// A core over a disk in memory that may fail.
 pub type Core = DurableCore<FuseDisk<MemDisk>>;
@@ -42,6 +44,25 @@ fn said_together(told: Together) -> &'static str {
         Together::Alone => "alone",
         Together::DeviceFailed => "the device failed",
         Together::Closed => "closed",
+    }
+}
+
+// The phase of two-phase commit that a word names.
+fn phase_named(word: &str) -> Option<Phase> {
+    match word {
+        "prepare" => Some(Phase::Prepare),
+        "commit" => Some(Phase::Decide(Decision::Commit)),
+        "rollback" => Some(Phase::Decide(Decision::RollBack)),
+        _ => None,
+    }
+}
+
+// A conversation asks for the branch of its own number, which is spelled behind =.
+fn branch_call(alloc: Global, word: &str) -> Option<BranchCall> {
+    let conversation = word.strip_prefix('=')?.parse::<u64>().ok()?;
+    match request_of(alloc, "prepare", word)? {
+        Ok(Request::Branch(_, xid)) => Some(BranchCall { conversation, xid }),
+        _ => None,
     }
 }
 
@@ -86,6 +107,18 @@ impl Opened {
     }
 }
 
+impl Opened {
+    fn push_through(&mut self, rest: &str, out: &mut Vec<u8>) -> Option<()> {
+        let (phase, words) = rest.split_once(' ')?;
+        let phase = phase_named(phase)?;
+        let mut calls = Vec::new(self.alloc);
+        for word in words.split_ascii_whitespace() {
+            calls.push(branch_call(self.alloc, word)?).ok()?;
+        }
+        push_text(out, said_together(self.core.go_through(phase, &calls)))
+    }
+}
+
 impl Calls for Opened {
     fn step(&mut self, conversation: u64, call: &CoreCall<'_, '_>) -> Option<Answer> {
         Some(self.core.step(conversation, call))
@@ -111,7 +144,8 @@ impl Calls for Opened {
         ask_plain(self.alloc, &mut self.core, conversation, Plain::Xa(request))
     }
 
-    // `together` commits the conversations of these numbers together, `checkpoint` makes a checkpoint, and `room` tells the store's name and the
+    // `together` commits the conversations of these numbers together, `through PHASE =N ..` prepares or decides the branches of these numbers, each
+    // asked for by the conversation of its number, `checkpoint` makes a checkpoint, and `room` tells the store's name and the
     // room of its journal.
     fn do_other(
         &mut self,
@@ -122,6 +156,7 @@ impl Calls for Opened {
     ) -> Option<()> {
         match verb {
             "together" => self.push_together(rest, out),
+            "through" => self.push_through(rest, out),
             "checkpoint" => {
                 let told = self.core.checkpoint();
                 push_text(out, &said_checkpoint(self.alloc, told).ok()?)
