@@ -3,3 +3,4 @@ pub mod Parts
 pub mod Bodies
 pub mod Lengths
 pub mod Gathering
+pub mod Turns

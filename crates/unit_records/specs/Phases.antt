@@ -13,7 +13,6 @@ use Rattle.xa_manager.specs.declared.branch.BranchState.{BranchState}
 use Rattle.xa_manager.specs.declared.branch.BranchState.TheVariants.{Active, Idle, Prepared, RollbackOnly}
 use Rattle.xa_manager.specs.declared.due.Action.{Action}
 use Rattle.xa_manager.specs.declared.due.Action.TheVariants as action
-use Rattle.xa_manager.specs.declared.due.Decision.{Decision}
 use Rattle.xa_manager.specs.declared.due.Decision.TheVariants as decision
 use Rattle.xa_manager.specs.Branch.{in_doubt_count, state_of}
 use Rattle.xa_manager.specs.Due.{after, done, due_of}

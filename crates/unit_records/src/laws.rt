@@ -1,6 +1,7 @@
-//! Laws of the bytes of records. The functions do nothing: their contracts are the laws.
+//! Laws of records: of their bytes, and of steps that are taken together. The functions do nothing: their contracts are the laws.
 
 ghost use Rattle.unit_records.specs.Laws.{OneReading, PartsStandOnce, WrittenIsRead};
+ghost use Rattle.unit_records.specs.Phases.{BranchesGoThrough};
 ghost use Rattle.unit_records.specs.Room.{DecisionsAreShort, DecisionsFit, DecisionsNeedNoRoom};
 ghost use Rattle.unit_records.specs.Together.{CommitsGoTogether};
 
@@ -33,4 +34,10 @@ pub(crate) fn parts_stand_once()
 /// Conversations that commit one after another make the changes of all of their local units.
 pub fn commits_go_together()
     ensures { CommitsGoTogether }
+{}
+
+/// Branches that go through a phase together, each asked for once: each call is answered XA_OK and makes its record due,
+/// and they come to the changes of all of them.
+pub fn branches_go_through()
+    ensures { BranchesGoThrough }
 {}
