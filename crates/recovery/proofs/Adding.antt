@@ -1,5 +1,5 @@
 -- Records more.
-use Rattle.std.proofs.Common.{◌≡◌, ◌⊎◌, inl, inr, ℕ, ◌+◌, ◌≤◌, List, [], ◌∷◌, ◌++◌, length, map, Some, refl, sym, ◌∙◌, subst, arith}
+use Rattle.std.proofs.Common.{◌≡◌, ◌⊎◌, inl, inr, ℕ, ◌+◌, ◌≤◌, List, [], ◌∷◌, ◌++◌, length, map, refl, sym, ◌∙◌, subst, arith}
 use Rattle.drda_disk.specs.Region.{SameOutside}
 use Rattle.drda_disk.specs.declared.region.Region.{Region}
 use Rattle.unit_journal.specs.Record.{Entry, laid}

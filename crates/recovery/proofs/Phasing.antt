@@ -1,18 +1,18 @@
 -- Branches that go through a phase together: their records have their places one behind another, and lead to what is
 -- durable behind them all.
-use Rattle.std.proofs.Common.{◌≡◌, ℕ, ◌+◌, ◌≤◌, List, [], ◌∷◌, Some, true, refl, ◌∙◌, ap, arith}
+use Rattle.std.proofs.Common.{◌≡◌, List, [], ◌∷◌, Some, refl, ◌∙◌, ap, arith}
 use Rattle.std.specs.Option.{option_and_then}
 use Rattle.xa_manager.specs.declared.due.Decision.{Decision}
 use Rattle.core_model.specs.Units.{Held}
 use Rattle.core_model.specs.Step.{CoreState, step_state}
-use Rattle.unit_records.specs.Phases.{AreTaken, BranchesGoThrough, all_through, call_for, may_go_through, record_in, records_in}
+use Rattle.unit_records.specs.Phases.{AreTaken, BranchesGoThrough, all_through, call_for, record_in, records_in}
 use Rattle.unit_records.specs.Room.{held_by, released_by}
 use Rattle.unit_records.specs.declared.phase.BranchCall.{BranchCall}
 use Rattle.unit_records.specs.declared.phase.Phase.{Phase}
 use Rattle.unit_records.specs.declared.phase.Phase.TheVariants.{Decide, Prepare}
 use Rattle.recovery.specs.Durable.{Durable, replayed_from}
 use Rattle.recovery.specs.Kept.{IsKept}
-use Rattle.recovery.specs.Laws.{HeldForAll, held_for}
+use Rattle.recovery.specs.Laws.{HeldForAll}
 use Rattle.recovery.specs.Part.{durable_part}
 use Rattle.recovery.specs.StepLaws.{BranchesKeep, BranchesLead, PhasesAreOfDoubts, RecordsLead, StepsKeep}
 
@@ -40,11 +40,11 @@ module _ (keep : StepsKeep) where
 
 prepares_release_none : (units : List Held) (cs : List BranchCall) → released_by (records_in Prepare units cs) ≡ 0
 prepares_release_none units [] = refl
-prepares_release_none units (c ∷ cs) = prepares_release_none units cs
+prepares_release_none units (c ∷ cs) = let rest = prepares_release_none units cs in omega (arith, rest)
 
 decisions_hold_none : (d : Decision) (units : List Held) (cs : List BranchCall) → held_by (records_in (Decide d) units cs) ≡ 0
 decisions_hold_none d units [] = refl
-decisions_hold_none d units (c ∷ cs) = decisions_hold_none d units cs
+decisions_hold_none d units (c ∷ cs) = let rest = decisions_hold_none d units cs in omega (arith, rest)
 
 pub phases_are_of_doubts : HeldForAll → BranchesLead → PhasesAreOfDoubts
 phases_are_of_doubts held lead s Prepare cs kept may = let none = prepares_release_none s.base.units cs in omega (arith, none)
