@@ -1,5 +1,5 @@
 -- Records one after another.
-use Rattle.std.proofs.Common.{◌≡◌, ℕ, zero, suc, List, [], ◌∷◌, ◌++◌, take, Option, Some, None, refl, ◌∙◌}
+use Rattle.std.proofs.Common.{◌≡◌, ℕ, zero, suc, List, [], ◌∷◌, ◌++◌, take, Option, Some, None, refl, ap, ◌∙◌}
 use Rattle.std.specs.Option.{option_and_then}
 use Rattle.unit_records.specs.Records.{UnitRecord}
 use Rattle.recovery.specs.Durable.{Durable, next, replayed_from}
@@ -21,6 +21,10 @@ last (Some e) r = one (next e r)
     one : (o : Option Durable) → option_and_then (λ (e : Durable). Some e) o ≡ o
     one None = refl
     one (Some f) = refl
+
+-- a record alone
+pub one_step : (d e : Durable) (r : UnitRecord) → next d r ≡ Some e → replayed_from d (r ∷ []) ≡ Some e
+one_step d e r step = ap (option_and_then (λ (f : Durable). replayed_from f [])) step
 
 pub one_more : OneMore
 one_more d rs r = goes_on d rs (r ∷ []) ∙ last (replayed_from d rs) r

@@ -1,5 +1,5 @@
 -- Calls one after another.
-use Rattle.std.proofs.Common.{◌≡◌, ℕ, ◌+◌, min, if◌then◌else◌, Bool, true, false, IsTrue, List, [], ◌∷◌, ◌++◌, length, length-append, take, drop, Some, refl, sym, ◌∙◌, ap, subst, arith, take-add, map, append_assoc, append-nil}
+use Rattle.std.proofs.Common.{◌≡◌, ℕ, ◌+◌, ◌≤◌, min, if◌then◌else◌, Bool, true, false, IsTrue, List, [], ◌∷◌, ◌++◌, length, length-append, take, drop, Some, refl, sym, ◌∙◌, ap, subst, arith, take-add, map, append_assoc, append-nil}
 use Rattle.std.specs.List.{AllByRecursion}
 use Rattle.std.specs.Option.{option_and_then}
 use Rattle.std.proofs.lemmas.Bool.{false≢true}
@@ -12,7 +12,7 @@ use Rattle.recovery.specs.Durable.{Durable, replayed_from}
 use Rattle.recovery.specs.Laws.{GoesOn}
 use Rattle.recovery.specs.Part.{durable_part}
 use Rattle.recovery.specs.Opens.{OpensTo}
-use Rattle.recovery.specs.Journaled.{CallsGoOn, IsDurable, FaultsAfter, IsUnchanged, IsUntouched, Journaled, Made, OpensAfterAll, OpensAfterSome, Shown, StaysFailed, shown_on}
+use Rattle.recovery.specs.Journaled.{CallsGoOn, GroupsGoOn, IsDurable, FaultsAfter, IsUnchanged, IsUntouched, JournaledBy, MadeBy, OpensAfterAllBut, OpensAfterSome, Shown, StaysFailed, shown_on}
 
 -- ---- fronts of two lists
 
@@ -49,8 +49,8 @@ module _ (goes_on : GoesOn) where
     opens = subst (λ (n : List ℕ). OpensTo n o.state c) same o.opens;
   }
 
-  all_both : (name other : List ℕ) (d e : Durable) (rs ss : List UnitRecord) (failed : Bool) (c : List ℕ) → other ≡ name → replayed_from d rs ≡ Some e → OpensAfterAll other e ss failed c → OpensAfterAll name d (rs ++ ss) failed c
-  all_both name other d e rs ss failed c same led o =
+  all_both : (few : ℕ) (name other : List ℕ) (d e : Durable) (rs ss : List UnitRecord) (c : List ℕ) → other ≡ name → replayed_from d rs ≡ Some e → OpensAfterAllBut few other e ss c → OpensAfterAllBut few name d (rs ++ ss) c
+  all_both few name other d e rs ss c same led o =
       let more = o.all in
       let count : (opens_both name other d e rs ss c same led o.after).count ≡ length rs + o.after.count = refl in
       record { after = opens_both name other d e rs ss c same led o.after; all = omega (arith, more, count, length-append rs ss) }
@@ -61,13 +61,13 @@ module _ (goes_on : GoesOn) where
   faults_both : (a b c : ℕ) (failed : Bool) → FaultsAfter false a b → FaultsAfter failed b c → FaultsAfter failed a c
   faults_both a b c failed first second = omega (arith, first, second)
 
-  made_both : (a b c : Shown) (rs ss : List UnitRecord) → b.is_failed ≡ false → b.name ≡ a.name → Made rs a b → Made ss b c → Made (rs ++ ss) a c
-  made_both a b c rs ss going name first second =
+  made_both : (most : ℕ) (a b c : Shown) (rs ss : List UnitRecord) → b.is_failed ≡ false → b.name ≡ a.name → MadeBy most rs a b → MadeBy most ss b c → MadeBy most (rs ++ ss) a c
+  made_both most a b c rs ss going name first second =
       let led : replayed_from (durable_part a.state) rs ≡ Some (durable_part b.state) = first.state going in
       record {
         moments = and_then a.disk b.disk c.disk _ _ _ first.moments second.moments (λ i. opens_first a.name (durable_part a.state) rs ss i)
             (λ i. opens_both a.name b.name (durable_part a.state) (durable_part b.state) rs ss i name led);
-        left = λ i now. all_both a.name b.name (durable_part a.state) (durable_part b.state) rs ss c.is_failed i name led (second.left i now);
+        left = λ i now. all_both (if c.is_failed then most else 0) a.name b.name (durable_part a.state) (durable_part b.state) rs ss i name led (second.left i now);
         state = λ still. led_on (durable_part a.state) (durable_part b.state) rs ss led ∙ second.state still;
         good = good_both rs ss first.good second.good;
         made = noted_both a.made b.made c.made rs ss first.made second.made;
@@ -84,10 +84,10 @@ unchanged s = record { name = refl; state = refl; disk = untouched s.disk; room 
 untouched_both : (a b c : Life) → IsUntouched a b → IsUntouched b c → IsUntouched a c
 untouched_both a b c first second = record { stays = Stays-trans a b c first.stays second.stays; moment = second.moment ∙ first.moment; faults = second.faults ∙ first.faults }
 
-made_failed : (a b c : Shown) (rs : List UnitRecord) → b.is_failed ≡ true → Made rs a b → StaysFailed b c → Made rs a c
-made_failed a b c rs failed first stays = record {
+made_failed : (most : ℕ) (a b c : Shown) (rs : List UnitRecord) → b.is_failed ≡ true → MadeBy most rs a b → StaysFailed b c → MadeBy most rs a c
+made_failed most a b c rs failed first stays = record {
   moments = and_stays a.disk b.disk c.disk (OpensAfterSome a.name (durable_part a.state) rs) first.moments stays.disk.stays;
-  left = λ i now. subst (λ (f : Bool). OpensAfterAll a.name (durable_part a.state) rs f i) (failed ∙ sym stays.failed) (first.left i (stays.disk.stays.no_more i now));
+  left = λ i now. subst (λ (f : Bool). OpensAfterAllBut (if f then most else 0) a.name (durable_part a.state) rs i) (failed ∙ sym stays.failed) (first.left i (stays.disk.stays.no_more i now));
   state = λ still. absurd (false≢true (sym still ∙ stays.failed));
   good = first.good;
   made = stays.made ∙ first.made;
@@ -96,8 +96,8 @@ made_failed a b c rs failed first stays = record {
 failed_both : (a b c : Shown) → StaysFailed a b → StaysFailed b c → StaysFailed a c
 failed_both a b c first second = record { failed = second.failed; name = second.name ∙ first.name; state = second.state ∙ first.state; disk = untouched_both a.disk b.disk c.disk first.disk second.disk; made = second.made ∙ first.made }
 
-made_none : (s : Shown) → IsDurable s → Made [] s s
-made_none s durable =
+made_none : (most : ℕ) (s : Shown) → IsDurable s → MadeBy most [] s s
+made_none most s durable =
     let here : (c : List ℕ) → Now s.disk c → OpensAfterSome s.name (durable_part s.state) [] c
     = λ c now. record { count = 0; state = durable_part s.state; leads = refl; opens = subst (λ (l : List ℕ). OpensTo s.name (durable_part s.state) l) (sym (durable.only c now)) durable.opens } in
     record {
@@ -108,23 +108,48 @@ made_none s durable =
       made = sym (append-nil s.made);
     }
 
+-- ---- calls that make no more than others might
+
+few_of_more : (fewer most : ℕ) (failed : Bool) (size count : ℕ) → fewer ≤ most → size ≤ count + (if failed then fewer else 0) → size ≤ count + (if failed then most else 0)
+few_of_more fewer most true size count few all = omega (arith, few, all)
+few_of_more fewer most false size count few all = all
+
+made_wider : (fewer most : ℕ) (a b : Shown) (rs : List UnitRecord) → fewer ≤ most → MadeBy fewer rs a b → MadeBy most rs a b
+made_wider fewer most a b rs few made = record {
+  moments = made.moments;
+  left = λ i now. let o = made.left i now in record { after = o.after; all = few_of_more fewer most b.is_failed (length rs) o.after.count few o.all };
+  state = made.state;
+  good = made.good;
+  made = made.made;
+}
+
+goes_wider : (fewer most : ℕ) (modelled : Bool) (a b : Shown) → fewer ≤ most → JournaledBy fewer modelled a b → JournaledBy most modelled a b
+goes_wider fewer most modelled a b few goes = record {
+  name = goes.name;
+  more = goes.more;
+  made = goes.made;
+  faults = goes.faults;
+  failed = goes.failed;
+  records = λ honest going. let o = goes.records honest going in (o.0, made_wider fewer most a b o.0 few o.1);
+}
+
 -- ---- calls
 
-pub goes_none : (modelled : Bool) (s : Shown) → (IsTrue modelled → s.is_failed ≡ false → IsDurable s) → Journaled modelled s s
-goes_none modelled s durable = record {
+pub goes_none : (most : ℕ) (modelled : Bool) (s : Shown) → (IsTrue modelled → s.is_failed ≡ false → IsDurable s) → JournaledBy most modelled s s
+goes_none most modelled s durable = record {
   name = refl;
   more = [];
   made = sym (append-nil s.made);
   faults = λ going. subst (λ (f : Bool). FaultsAfter f s.disk.faults s.disk.faults) (sym going) (omega arith);
   failed = λ failed. record { failed = failed; name = refl; state = refl; disk = untouched s.disk; made = refl };
-  records = λ honest going. ([], made_none s (durable honest going));
+  records = λ honest going. ([], made_none most s (durable honest going));
 }
 
 module _ (goes_on : GoesOn) where
-  module _ (modelled : Bool) (a b c : Shown) (first : Journaled modelled a b) (second : Journaled modelled b c) where
-    records_both : (failed : Bool) → b.is_failed ≡ failed → IsTrue modelled → ((rs : List UnitRecord) × Made rs a b) → (rs : List UnitRecord) × Made rs a c
-    records_both true is honest (rs, made) = (rs, made_failed a b c rs is made (second.failed is))
-    records_both false is honest (rs, made) = let more = second.records honest is in (rs ++ more.0, made_both goes_on a b c rs more.0 is first.name made more.1)
+  module _ (most : ℕ) (modelled : Bool) (a b c : Shown) (first : JournaledBy most modelled a b) (second : JournaledBy most modelled b c) where
+    records_both : (failed : Bool) → b.is_failed ≡ failed → IsTrue modelled → ((rs : List UnitRecord) × MadeBy most rs a b) → (rs : List UnitRecord) × MadeBy most rs a c
+    records_both true is honest (rs, made) = (rs, made_failed most a b c rs is made (second.failed is))
+    records_both false is honest (rs, made) = let more = second.records honest is in (rs ++ more.0, made_both goes_on most a b c rs more.0 is first.name made more.1)
 
     faults_of_both : (failed : Bool) → b.is_failed ≡ failed → a.is_failed ≡ false → FaultsAfter c.is_failed a.disk.faults c.disk.faults
     faults_of_both true is going =
@@ -133,7 +158,7 @@ module _ (goes_on : GoesOn) where
     faults_of_both false is going =
         faults_both goes_on a.disk.faults b.disk.faults c.disk.faults c.is_failed (subst (λ (f : Bool). FaultsAfter f a.disk.faults b.disk.faults) is (first.faults going)) (second.faults is)
 
-    pub goes_both : Journaled modelled a c
+    pub goes_both : JournaledBy most modelled a c
     goes_both = record {
       name = second.name ∙ first.name;
       more = first.more ++ second.more;
@@ -143,5 +168,12 @@ module _ (goes_on : GoesOn) where
       records = λ honest going. records_both b.is_failed refl honest (first.records honest going);
     }
 
+  pub groups_go_on : {D : Type 0} (life : D → Life) → GroupsGoOn life
+  groups_go_on life = record {
+    none = λ most modelled s. goes_none most modelled (shown_on life s);
+    both = λ most modelled a b c. goes_both most modelled (shown_on life a) (shown_on life b) (shown_on life c);
+    wider = λ fewer most modelled a b. goes_wider fewer most modelled (shown_on life a) (shown_on life b);
+  }
+
   pub calls_go_on : {D : Type 0} (life : D → Life) → CallsGoOn life
-  calls_go_on life = record { none = λ modelled s. goes_none modelled (shown_on life s); both = λ modelled a b c. goes_both modelled (shown_on life a) (shown_on life b) (shown_on life c) }
+  calls_go_on life = let groups = groups_go_on life in record { none = groups.none 1; both = groups.both 1 }

@@ -1,6 +1,7 @@
 -- What the units in doubt hold back.
 use Rattle.std.proofs.Common.{◌≡◌, ◌≢◌, ℕ, ◌+◌, List, [], ◌∷◌, length, Bool, true, false, ◌&&◌, true≢false, cond, if◌then◌else◌, refl, sym, ap, ◌∙◌, arith, Option, Some, None, Ordering, Less, Equal, Greater}
 use Rattle.std.specs.Prelude.{bytes_eq, is_some, not, nat_lt}
+use Rattle.std.specs.Option.{option_and_then}
 use Rattle.std.specs.Ordering.{match_ordering, nat_cmp}
 use Rattle.std.specs.Cmp.Lexicographic.{slice_cmp}
 use Rattle.row_values.proofs.ValueLaws.{first_true, mapped, second_true}
@@ -8,10 +9,10 @@ use Rattle.tables.proofs.Changes.{names_apart}
 use Rattle.tables.proofs.Finding.{itself, same_bytes}
 use Rattle.unit_locks.specs.Claims.{all_added}
 use Rattle.core_model.specs.Units.{Work}
-use Rattle.unit_records.specs.Records.{committed, decided, prepared}
-use Rattle.unit_records.specs.Room.{decision_taken}
-use Rattle.recovery.specs.Durable.{Doubts, Durable, decide, doubt_of, have_places, is_claimed, is_free, with_doubt, without_doubt}
-use Rattle.recovery.specs.Laws.{HeldForDoubts, held_for}
+use Rattle.unit_records.specs.Records.{UnitRecord, committed, decided, prepared}
+use Rattle.unit_records.specs.Room.{decision_taken, held_by, released_by}
+use Rattle.recovery.specs.Durable.{Doubts, Durable, decide, doubt_of, have_places, is_claimed, is_free, next, replayed_from, with_doubt, without_doubt}
+use Rattle.recovery.specs.Laws.{HeldForAll, HeldForDoubts, held_for}
 
 -- ---- a unit more
 
@@ -71,3 +72,15 @@ held_for_doubts d e (decided xid o) h =
     let sum = one_released d.doubts xid found.0 found.1 in
     let same = ap (λ (x : Durable). held_for x.doubts) found.2 in
     omega (arith, sum, same)
+
+-- ---- records one behind another
+
+module _ (held : HeldForDoubts) where
+  held_on : (d e : Durable) (r : UnitRecord) (rs : List UnitRecord) (o : Option Durable) → next d r ≡ o → option_and_then (λ (f : Durable). replayed_from f rs) o ≡ Some e
+      → ((f : Durable) → replayed_from f rs ≡ Some e → held_for e.doubts + released_by rs ≡ held_for f.doubts + held_by rs) → held_for e.doubts + released_by (r ∷ rs) ≡ held_for d.doubts + held_by (r ∷ rs)
+  held_on d e r rs None step whole on = absurd cc
+  held_on d e r rs (Some f) step whole on = let first = held d f r step in let rest = on f whole in omega (arith, first, rest)
+
+  pub held_for_all : HeldForAll
+  held_for_all d e [] whole = let same : e ≡ d = cc in ap (λ (x : Durable). held_for x.doubts + 0) same
+  held_for_all d e (r ∷ rs) whole = held_on d e r rs (next d r) refl whole (λ f. held_for_all f e rs)

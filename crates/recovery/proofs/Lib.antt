@@ -27,6 +27,7 @@ pub mod Deciding
 pub mod Silent
 pub mod DueRecords
 pub mod Gathering
+pub mod Phasing
 pub mod Opening
 pub mod Beginning
 pub mod Outside

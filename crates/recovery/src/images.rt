@@ -7,7 +7,6 @@ use crate::laws::{records_follow_one_another, records_lead_one_way};
 use drda_disk::Disk;
 use store_check::checkpoints_are_known;
 use unit_journal::a_region_has_one_reading;
-use unit_records::laws::records_have_one_reading;
 
 /// An image opens to one state at most.
 pub fn images_open_to_one_state()
@@ -27,16 +26,14 @@ pub fn images_open_there()
 pub fn records_open()
     ensures { RecordsOpen }
 {
-    checkpoints_are_known();
-    records_have_one_reading();
+    groups_open();
 }
 
 /// Where a record was added, an image in which it stands opens to the state behind it.
 pub fn records_stay()
     ensures { RecordsStay }
 {
-    checkpoints_are_known();
-    records_have_one_reading();
+    groups_stay();
 }
 
 /// Where records are added together, images from before them or after them open to the state before them
@@ -45,7 +42,6 @@ pub fn groups_open()
     ensures { GroupsOpen }
 {
     checkpoints_are_known();
-    records_have_one_reading();
     records_lead_one_way();
 }
 
@@ -54,7 +50,6 @@ pub fn groups_stay()
     ensures { GroupsStay }
 {
     checkpoints_are_known();
-    records_have_one_reading();
     records_lead_one_way();
 }
 
@@ -78,7 +73,7 @@ pub fn calls_go_on<D: Disk>()
 pub fn calls_make_records<D: Disk>()
     ensures { OneCallIsMade D.life }
 {
-    records_open();
+    groups_open();
 }
 
 /// What calls have answered is in each image that a crash leaves from then on, though the device failed
