@@ -1,3 +1,4 @@
 pub mod Lost
 pub mod Questions
 pub mod Back
+pub mod Phases

@@ -1,6 +1,6 @@
 //! Branches that go through a phase of two-phase commit together.
 
-ghost use Rattle.std.specs.Prelude.{◌≡◌, IfErr, IfOk, OnErr, OnOk, bytes_eq, map, true};
+ghost use Rattle.std.specs.Prelude.{◌≡◌, IfErr, IfOk, OnErr, OnOk, bytes_eq, false, map, true};
 ghost use Rattle.std.specs.List.{list_any};
 ghost use Rattle.tables.specs.ChangeView.{change_of};
 ghost use Rattle.table_store.specs.TableStore.{IsReserved, store_in};
@@ -74,7 +74,14 @@ impl<R: Recorder> Core<R> {
     fn are_ready(&self, phase: Phase, calls: &[BranchCall]) -> bool
         ensures { result ≡ are_ready phase (state_of self.now) calls.now }
     {
-        calls.iter().all(|call| self.is_ready(phase, &call.xid))
+        let mut left = calls;
+        while let [first, rest @ ..] = left {
+            if !self.is_ready(phase, &first.xid) {
+                return false;
+            }
+            left = rest;
+        }
+        true
     }
 
     // Whether a branch stands for the phase.
@@ -117,7 +124,7 @@ fn are_few(branches: &XaTable, phase: Phase, calls: &[BranchCall]) -> bool
     ensures { result ≡ are_few phase branches.now calls.now }
 {
     match phase {
-        Phase::Prepare => in_doubt_count(branches) + calls.len() <= MAX_IN_DOUBT,
+        Phase::Prepare => in_doubt_count(branches).saturating_add(calls.len()) <= MAX_IN_DOUBT,
         Phase::Decide(_) => true,
     }
 }
@@ -131,14 +138,24 @@ fn copied_changes(
 ) -> Result<Vec<Change>, AllocError>
     ensures { IfOk result (λ changes. map change_of changes.items ≡ changes_in phase units.now calls.now) }
 {
-    let mut changes = Vec::new(alloc);
     match phase {
-        Phase::Prepare | Phase::Decide(Decision::RollBack) => {}
-        Phase::Decide(Decision::Commit) => {
-            for call in calls {
-                units.copy_changes(&Owner::Global(call.xid), &mut changes)?;
-            }
-        }
+        Phase::Prepare => Ok(Vec::new(alloc)),
+        Phase::Decide(Decision::RollBack) => Ok(Vec::new(alloc)),
+        Phase::Decide(Decision::Commit) => committed_changes(units, alloc, calls),
+    }
+}
+
+// Copies of the changes of these branches' units, one unit's behind another's.
+fn committed_changes(
+    units: &Units,
+    alloc: Global,
+    calls: &[BranchCall],
+) -> Result<Vec<Change>, AllocError>
+    ensures { IfOk result (λ changes. map change_of changes.items ≡ changes_in (Phase.Decide Decision.Commit) units.now calls.now) }
+{
+    let mut changes = Vec::new(alloc);
+    for call in calls {
+        units.copy_changes(&Owner::Global(call.xid), &mut changes)?;
     }
     Ok(changes)
 }
@@ -274,5 +291,8 @@ fn settle(branches: &mut XaTable, phase: Phase, call: &BranchCall)
         has_changes: true,
     };
     let due = branches.due(call.conversation, phase.verb(), &call.xid, work);
-    let _settled = branches.settle(call.conversation, &call.xid, due);
+    match branches.settle(call.conversation, &call.xid, due) {
+        Ok(()) => {}
+        Err(AllocError) => unreachable!(),
+    }
 }
