@@ -84,8 +84,8 @@ impl<R: Recorder> Core<R> {
         true
     }
 
-    // Whether a branch stands for the phase.
-    fn is_ready(&self, phase: Phase, xid: &Xid) -> bool
+    /// Whether a branch stands for the phase: a call for it is answered XA_OK and has a record. Takes no memory.
+    pub fn is_ready(&self, phase: Phase, xid: &Xid) -> bool
         ensures { result ≡ is_ready phase (state_of self.now) xid.now }
     {
         match (phase, self.branches.state(xid)) {
