@@ -75,7 +75,7 @@ module _ {D : Type 0} (modelled : Bool) (life : D → Life) (name : List ℕ) (a
     leads = all.lead s phase cs is.kept may
 
     as_many : length said ≡ length cs
-    as_many = length-map (λ (c : BranchCall). record_in phase s.base.units c.xid) cs
+    as_many = length-map cs (λ (c : BranchCall). record_in phase s.base.units c.xid)
 
     holds_for : held_for (durable_part behind).doubts + released_by said ≡ held_for (durable_part s).doubts + held_by said
     holds_for = all.held (durable_part s) (durable_part behind) said leads

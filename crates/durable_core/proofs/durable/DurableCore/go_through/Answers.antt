@@ -6,3 +6,54 @@ use Rattle.recovery.specs.Journaled.{JournaledBy, OnDisk, shown_on}
 use Rattle.durable_core.specs.Recorded.{core_on}
 use Rattle.durable_core.proofs.Phasing.{left_by, same_left}
 use Rattle.durable_core.proofs.durable.DurableCore.go_through.Goals as goal
+
+pub returns-then-not-may_go_through-clause-journaled : goal.returns-then-not-may_go_through-clause-journaled
+returns-then-not-may_go_through-clause-journaled g c =
+    let going : has_failed (recorder_of c.self.inside.core) ≡ false = search rules in
+    subst (λ (s : OnDisk g.row.D.Denot). JournaledBy (length c.args.calls.now) g.D.Disk.is_modelled (shown_on g.D.Disk.life s) (shown_on g.D.Disk.life s)) c.self.view_is
+    (same_left g.D.Disk.is_modelled g.D.Disk.life (string_bytes c.self.inside.name)
+    (record {
+      keep = c.phases_are_recorded.ensures.keep;
+      lead = c.phases_are_recorded.ensures.lead;
+      held = c.decisions_of_all_are_held.ensures;
+      stay = c.groups_stay.ensures;
+      calls = c.calls_make_records.ensures;
+      groups = c.calls_make_groups.ensures;
+      go_on = c.groups_go_on.ensures;
+    })
+    (state_of c.self.inside.core) (recorder_of c.self.inside.core) c.self.invariant going (length c.args.calls.now)).journaled
+
+pub invariant_of-self : goal.invariant_of-self
+invariant_of-self g c =
+    let going : has_failed (recorder_of c.self.inside.core) ≡ false = search rules in
+    let may : may_go_through c.args.phase (state_of c.self.inside.core) c.args.calls.now ≡ true = search rules in
+    (left_by g.D.Disk.is_modelled g.D.Disk.life (string_bytes c.self.inside.name)
+    (record {
+      keep = c.phases_are_recorded.ensures.keep;
+      lead = c.phases_are_recorded.ensures.lead;
+      held = c.decisions_of_all_are_held.ensures;
+      stay = c.groups_stay.ensures;
+      calls = c.calls_make_records.ensures;
+      groups = c.calls_make_groups.ensures;
+      go_on = c.groups_go_on.ensures;
+    })
+    (state_of c.self.inside.core) (recorder_of c.self.inside.core) c.self.invariant going c.args.phase c.args.calls.now may c.go_through.result (state_of c.go_through.new.self) (recorder_of c.go_through.new.self)
+    c.go_through.ensures.done c.go_through.ensures.recorded c.go_through.ensures.kept c.go_through.ensures.refused).recorded
+
+pub returns-clause-journaled : goal.returns-clause-journaled
+returns-clause-journaled g c =
+    let going : has_failed (recorder_of c.self.inside.core) ≡ false = search rules in
+    let may : may_go_through c.args.phase (state_of c.self.inside.core) c.args.calls.now ≡ true = search rules in
+    subst (λ (old : OnDisk g.row.D.Denot). JournaledBy (length c.args.calls.now) g.D.Disk.is_modelled (shown_on g.D.Disk.life old) (shown_on g.D.Disk.life (core_on (string_bytes c.self.inside.name) (state_of c.go_through.new.self) (recorder_of c.go_through.new.self)))) c.self.view_is
+    (left_by g.D.Disk.is_modelled g.D.Disk.life (string_bytes c.self.inside.name)
+    (record {
+      keep = c.phases_are_recorded.ensures.keep;
+      lead = c.phases_are_recorded.ensures.lead;
+      held = c.decisions_of_all_are_held.ensures;
+      stay = c.groups_stay.ensures;
+      calls = c.calls_make_records.ensures;
+      groups = c.calls_make_groups.ensures;
+      go_on = c.groups_go_on.ensures;
+    })
+    (state_of c.self.inside.core) (recorder_of c.self.inside.core) c.self.invariant going c.args.phase c.args.calls.now may c.go_through.result (state_of c.go_through.new.self) (recorder_of c.go_through.new.self)
+    c.go_through.ensures.done c.go_through.ensures.recorded c.go_through.ensures.kept c.go_through.ensures.refused).journaled
