@@ -1,6 +1,6 @@
 -- A book keeps what it keeps: where it is opened, where nothing is listed, where a call is, and where commits are that were made
 -- together.
-use Rattle.std.proofs.Common.{◌≡◌, ℕ, Bool, true, false, if◌then◌else◌, List, [], ◌∷◌, ◌++◌, Option, None, length, replicate, slice_set, sym, ap, subst, ◌∙◌}
+use Rattle.std.proofs.Common.{◌≡◌, ℕ, Bool, true, false, arith, if◌then◌else◌, List, [], ◌∷◌, ◌++◌, Option, None, length, replicate, slice_set, sym, ap, subst, ◌∙◌}
 use Rattle.drda_disk.specs.Disk.{Life}
 use Rattle.core_calls.specs.Call.{Call}
 use Rattle.core_calls.specs.Answer.{Answer, no_memory}

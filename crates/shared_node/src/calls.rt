@@ -8,7 +8,9 @@ ghost use Rattle.core_calls.specs.Call.{call_of};
 ghost use Rattle.core_model.specs.Step.{Kept, Taken};
 ghost use Rattle.serializability.specs.Answered.{AnsweredCall};
 ghost use Rattle.shared_node.specs.Stored.{coded_predicate};
+ghost use Rattle.shared_node.specs.Wishes.{listed_wish};
 
+use crate::wish::Wished;
 use core_calls::{Answer, CoreCall};
 use std::marker::{Model, PhantomData, Send};
 
@@ -42,6 +44,11 @@ impl CallList {
         _is_taken: bool,
     )
         ensures { self.new.listed ≡ self.old.listed ++ record { conversation = _conversation; call = call_of _call.now; mark = if _is_taken then Taken else Kept; answer = answer_of _answer.now } ∷ [] }
+    {}
+
+    /// One call more, that was wished for and made together with others.
+    pub(crate) fn note_wish(&mut self, _conversation: u64, _wished: &Wished, _has_failed: bool)
+        ensures { self.new.listed ≡ self.old.listed ++ listed_wish _conversation _wished.now _has_failed ∷ [] }
     {}
 }
 

@@ -70,7 +70,10 @@ impl Chosen {
         {
             return true;
         }
-        self.members.push(*wish).is_ok()
+        if self.members.push(*wish).is_err() {
+            return false;
+        }
+        true
     }
 }
 

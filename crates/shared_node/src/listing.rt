@@ -7,7 +7,7 @@ ghost use Rattle.core_model.specs.Step.{Kept, Taken};
 ghost use Rattle.shared_node.specs.Books.{AreCounted};
 ghost use Rattle.shared_node.specs.Gathered.{AreApart, AreMembers, all_counted, all_left, all_listed, count_at};
 ghost use Rattle.shared_node.specs.LeftAnswers.{AreLeft};
-ghost use Rattle.shared_node.specs.Wishes.{answer_wished, call_wished, listed_wish};
+ghost use Rattle.shared_node.specs.Wishes.{answer_wished, listed_wish};
 ghost use Rattle.shared_node.specs.Passes.{calls_in, count_of};
 
 use crate::calls::CallList;
@@ -16,7 +16,6 @@ use crate::left::Left;
 use crate::pass::Pass;
 use crate::wish::{Wish, Wished};
 use core_calls::{Answer, CoreCall};
-use xa_calls::Request;
 
 /// Lists a call, which is one more of its conversation and of its pass.
 pub(crate) fn list(
@@ -90,7 +89,7 @@ fn list_one(
     ensures counted { (next : _) → AreCounted calls.old.listed places.old.items next → AreCounted calls.new.listed places.new.items next }
     ensures are_left { (next : _) → AreCounted calls.old.listed places.old.items next → AreLeft calls.old.listed left.old.items → AreLeft calls.new.listed left.new.items }
 {
-    note_wish(calls, member.conversation, &member.wished, has_failed);
+    calls.note_wish(member.conversation, &member.wished, has_failed);
     places[member.place] = Some(Count {
         conversation: member.conversation,
         calls: member.count + 1,
@@ -103,21 +102,7 @@ fn list_one(
     });
 }
 
-/// Notes a call that was wished for and made together with others.
-pub(crate) fn note_wish(calls: &mut CallList, conversation: u64, wished: &Wished, has_failed: bool)
-    ensures { calls.new.listed ≡ calls.old.listed ++ listed_wish conversation wished.now has_failed ∷ [] }
-{
-    let answer = answer_left(wished, has_failed);
-    match wished {
-        Wished::Commit => calls.note(conversation, &CoreCall::Commit, &answer, !has_failed),
-        Wished::Through(phase, xid) => {
-            let call = CoreCall::Xa(Ok(Request::Branch(phase.verb(), *xid)));
-            calls.note(conversation, &call, &answer, !has_failed);
-        }
-    }
-}
-
-/// What such a call is answered.
+/// What a call is answered that was wished for and made together with others.
 pub(crate) fn answer_left(wished: &Wished, has_failed: bool) -> Answer
     ensures { answer_of result ≡ answer_wished wished.now has_failed }
 {

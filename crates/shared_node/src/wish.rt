@@ -1,6 +1,6 @@
 //! Wishes that are fulfilled together.
 
-ghost use Rattle.std.specs.Prelude.{◌≡◌, true};
+ghost use Rattle.std.specs.Prelude.{◌≡◌, ◌↔◌, IsTrue};
 ghost use Rattle.shared_node.specs.Wishes.{call_wished, done_wished, phase_wished};
 ghost use Rattle.core_calls.specs.Answer.{answer_of};
 
@@ -40,7 +40,7 @@ impl Wished {
 
     /// Whether both ask the same.
     pub(crate) fn is_same(&self, other: &Wished) -> bool
-        ensures { result ≡ true → self.now ≡ other.now }
+        ensures { IsTrue result ↔ (self.now ≡ other.now) }
     {
         match (self, other) {
             (Wished::Commit, Wished::Commit) => true,

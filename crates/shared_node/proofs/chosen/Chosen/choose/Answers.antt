@@ -3,7 +3,7 @@ use Rattle.shared_node.proofs.Members.{nobody}
 use Rattle.shared_node.proofs.chosen.Chosen.choose.Goals as goal
 
 pub loop-wish-preserved : goal.loop-wish-preserved
-loop-wish-preserved c =
+loop-wish-preserved g c =
     let wishes = c.args.wishes.now in
     let i = c.loop-wish.wish-index in
     let kept = c.loop-wish.invariant in

@@ -3,7 +3,7 @@ use Rattle.shared_node.specs.Gathered.{AreAlike, AreApart, AreMembers}
 use Rattle.shared_node.proofs.chosen.Chosen.choose.Given as goal
 
 abbrev pub invariant-loop-wish : goal.invariant-loop-wish
-invariant-loop-wish l = record {
+invariant-loop-wish g l = record {
   members : AreMembers l.places l.wishes l.self.members.items;
   apart : AreApart l.self.members.items;
   alike : AreAlike l.phase l.self.members.items;
