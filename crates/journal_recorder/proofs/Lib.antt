@@ -1,2 +1,3 @@
 mod Entries
 pub mod Switching
+pub mod Together

@@ -1,8 +1,9 @@
 -- The records that are handed to a journal.
-use Rattle.std.specs.Prelude.{◌≡◌, ℕ, ◌+◌, ◌-◌, ◌^◌, ◌<◌, ◌≤◌, min}
+use Rattle.std.specs.Prelude.{◌≡◌, ℕ, ◌+◌, ◌-◌, ◌^◌, ◌<◌, ◌≤◌, List, map, min}
+use Rattle.std.specs.List.{AllByRecursion}
 use Rattle.unit_journal.specs.Record.{Entry}
 use Rattle.unit_records.specs.Records.{IsGood, UnitRecord, entry_of}
-use Rattle.unit_records.specs.Room.{held, released, taken}
+use Rattle.unit_records.specs.Room.{held, held_by, released, released_by, taken}
 use Rattle.unit_records.specs.declared.record_error.RecordError.{RecordError}
 use Rattle.unit_records.specs.declared.record_error.RecordError.TheVariants.{DeviceFailed, Full, NoMemory}
 
@@ -30,3 +31,12 @@ abbrev pub Refuses : UnitRecord → ℕ → RecordError → Type 0
 Refuses said left NoMemory = Unit {0}
 Refuses said left (Full need room) = LacksRoom said left need room
 Refuses said left DeviceFailed = ⊥
+
+-- ---- records that are made together
+
+-- these entries and these numbers of bytes held and released are those of the records
+pub record AreLaid (records : List UnitRecord) (es : List Entry) (hold release : ℕ) : Type 0 where
+  pub good : AllByRecursion IsGood records
+  pub entries : es ≡ map entry_of records
+  pub holds : hold ≡ held_by records
+  pub releases : release ≡ released_by records

@@ -3,6 +3,7 @@
 
 mod checkpointing;
 mod laying;
+mod laying_all;
 mod made;
 mod recorder;
 

@@ -5,7 +5,7 @@ ghost use Rattle.unit_journal.specs.Record.{Entry};
 
 use drda_words::GhostValue;
 use std::marker::Model;
-use unit_journal::Kind;
+use unit_journal::{Kind, LaidGroup};
 
 /// A list of records, as clauses see it.
 #[derive(Drop)]
@@ -39,5 +39,12 @@ impl MadeRecords {
         ensures { self.new.entries.value ≡ self.old.entries.value ++ record { kind = kind; body = body.now } ∷ [] }
     {
         self.entries.set(&(kind, body));
+    }
+
+    /// All records of a group more.
+    pub(crate) fn note_all(&mut self, group: &LaidGroup)
+        ensures { self.new.entries.value ≡ self.old.entries.value ++ group.now }
+    {
+        self.entries.set(group);
     }
 }

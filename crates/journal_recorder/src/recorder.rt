@@ -1,26 +1,30 @@
 //! Who records in a journal.
 
-ghost use Rattle.std.specs.Prelude.{◌≡◌, ◌+◌, ◌<◌, ◌≤◌, ◌^◌, false, [], IfErr, OnOk, length, map};
+ghost use Rattle.std.specs.Prelude.{◌≡◌, ◌+◌, ◌<◌, ◌≤◌, ◌^◌, false, List, [], IfErr, OnOk, length, map};
 ghost use Rattle.drda_disk.specs.Region.{end_of};
 ghost use Rattle.tables.specs.ChangeView.{change_of};
 ghost use Rattle.unit_journal.specs.Journal.{held_of, region_of, room_of};
 ghost use Rattle.unit_journal.specs.LaidRecord.{entry_in};
+ghost use Rattle.unit_journal.specs.Record.{laid as spelled};
 ghost use Rattle.unit_records.specs.Records.{UnitRecord, committed, decided, prepared};
+ghost use Rattle.unit_records.specs.Together.{FailsTogether};
 
 use crate::laying::{lay_commit, lay_decide, lay_prepare};
+use crate::laying_all::{LaidTogether, lay_all};
 use crate::made::MadeRecords;
 use drda_disk::{Disk, Region};
 use std::alloc::Global;
 use tables::Change;
 use unit_journal::{AppendError, Journal, LaidRecord};
 use unit_locks::Claim;
-use unit_records::{RecordContents, RecordError, Recorder, held_for_decision};
+use unit_records::{GroupError, RecordContents, RecordError, Recorder, held_for_decision};
 use xa_calls::Xid;
 use xa_manager::Decision;
 
-/// Records in the journal of a disk, each record by four device calls: write, sync, gate, sync. A
-/// prepare holds the bytes of its decision back, so that a decision always has room. Once the device
-/// has failed nothing is recorded any more, and no device call is made.
+/// Records in the journal of a disk, each record by four device calls: write, sync, gate, sync. Records
+/// that are made together take as many for all of them. A prepare holds the bytes of its decision back,
+/// so that a decision always has room. Once the device has failed nothing is recorded any more, and no
+/// device call is made.
 #[derive(Drop)]
 pub struct DiskRecorder<D> {
     pub(crate) alloc: Global,
@@ -31,8 +35,8 @@ pub struct DiskRecorder<D> {
 }
 
 impl<D: Disk> DiskRecorder<D> {
-    ghost use Rattle.journal_recorder.specs.Laying.{Says};
-    ghost use Rattle.journal_recorder.specs.Recording.{Allows, Fails, Records, disk_of, has_failed, journal_of, made_of};
+    ghost use Rattle.journal_recorder.specs.Laying.{AreLaid, Says};
+    ghost use Rattle.journal_recorder.specs.Recording.{Allows, AreLeftOpen, Fails, Records, RecordsAll, disk_of, has_failed, journal_of, made_of};
 
     /// Records in this journal of this disk, whose device has not failed.
     pub fn new(alloc: Global, disk: D, journal: Journal) -> DiskRecorder<D>
@@ -163,6 +167,32 @@ impl<D: Disk> DiskRecorder<D> {
             }
         }
     }
+
+    // Adds records at once, all of them or none; a failure of the device is remembered.
+    fn append_all(&mut self, laid: &LaidTogether) -> Result<(), GroupError>
+        requires going { has_failed self.old ≡ false }
+        requires inside { end_of (region_of (journal_of self.old)) ≤ length (D.life (disk_of self.old)).seen }
+        requires counted { length (spelled laid.now.group) + laid.now.hold < 2 ^ 64 }
+        requires released { laid.now.release ≤ held_of (journal_of self.old) }
+        ensures ok { (records : List UnitRecord) → AreLaid records laid.now.group laid.now.hold laid.now.release → OnOk result (RecordsAll D.is_modelled D.life self.old records self.new) }
+        ensures err { (records : List UnitRecord) → AreLaid records laid.now.group laid.now.hold laid.now.release → IfErr result (λ error. FailsTogether (AreLeftOpen D.is_modelled D.life) records error self.old self.new) }
+    {
+        match self
+            .journal
+            .append_group(&mut self.disk, &laid.group, laid.hold, laid.release)
+        {
+            Ok(()) => {
+                self.made.note_all(&laid.group);
+                Ok(())
+            }
+            Err(AppendError::Full(_)) => Err(GroupError::Refused),
+            Err(AppendError::DeviceFailed) => {
+                self.is_failed = true;
+                self.made.note_all(&laid.group);
+                Err(GroupError::DeviceFailed)
+            }
+        }
+    }
 }
 
 impl<D: Disk> Recorder for DiskRecorder<D> {
@@ -193,10 +223,9 @@ impl<D: Disk> Recorder for DiskRecorder<D> {
     ghost fails_all = { λ old records new. AreLeftOpen D.is_modelled D.life old records new };
 
     fn record_all(&mut self, sayings: &[RecordContents<'_>]) -> Result<(), GroupError> {
-        let laid = match lay_all(self.alloc, sayings, self.small_room()) {
-            Ok(laid) => laid,
-            Err(AllocError) => return Err(GroupError::Refused),
-        };
-        self.append_all(&laid)
+        match lay_all(self.alloc, sayings, self.small_room()) {
+            Some(laid) => self.append_all(&laid),
+            None => Err(GroupError::Refused),
+        }
     }
 }
