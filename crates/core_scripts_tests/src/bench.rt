@@ -1,5 +1,6 @@
 //! A core that counts its records, and what is asked of it.
 
+use crate::phases::{branch_call, phase_of};
 use crate::room::Room;
 use crate::shown::{push_branches, push_changes, push_state};
 use core_calls::{Answer, CoreCall};
@@ -7,7 +8,7 @@ use rdb_core::Core;
 use std::alloc::Global;
 use tables::TableView;
 use test_calls::{Calls, Scripts, push_text};
-use unit_records::RecordError;
+use unit_records::{BranchCall, GroupError, Phase, RecordError};
 use xa_calls::{InvalidRequest, Request};
 
 /// A core.
@@ -70,6 +71,27 @@ impl Bench {
         }
         push_text(out, self.together(&conversations))
     }
+
+    // What becomes of branches that are to go through a phase together.
+    fn through(&mut self, phase: Phase, calls: &[BranchCall]) -> &'static str {
+        if !self.core.may_go_through(phase, calls) {
+            return "not together";
+        }
+        match self.core.go_through(phase, calls) {
+            Ok(()) => "all done",
+            Err(GroupError::Refused) => "refused",
+            Err(GroupError::DeviceFailed) => "device failed",
+        }
+    }
+
+    fn push_through(&mut self, asked: &str, out: &mut Vec<u8>) -> Option<()> {
+        let (name, words) = asked.split_once(' ').unwrap_or((asked, ""));
+        let mut calls = Vec::new(self.alloc);
+        for word in words.split_ascii_whitespace() {
+            calls.push(branch_call(word)?).ok()?;
+        }
+        push_text(out, self.through(phase_of(name)?, &calls))
+    }
 }
 
 impl Calls for Bench {
@@ -99,7 +121,8 @@ impl Calls for Bench {
 
     // `fresh` is a core without tables. `look` shows the rows of T, the units that have work, and the branches; `branches` those alone, and
     // `changes` how many changes the first unit has, and their bytes. `together` commits the conversations of these numbers, in this order;
-    // behind `room` a commit has so many changes at most. `tables`, `known`, `doubts` and `records` count tables, branches and records.
+    // behind `room` a commit has so many changes at most. `through` takes branches through the phase that it names first, each as C=N: the
+    // conversation C asks for the branch =N. `tables`, `known`, `doubts` and `records` count tables, branches and records.
     fn do_other(
         &mut self,
         _scripts: &Scripts,
@@ -116,6 +139,7 @@ impl Calls for Bench {
             "branches" => push_branches(self.alloc, self.core.plain().ok()?.branches(), out),
             "changes" => push_changes(self.alloc, self.core.plain().ok()?.units(), out),
             "together" => self.push_together(rest, out),
+            "through" => self.push_through(rest, out),
             "room" => {
                 self.core.recorder.changes = rest.parse::<usize>().ok()?;
                 push_text(out, "so many")

@@ -4,6 +4,7 @@
 #![tactic(auto)]
 
 mod bench;
+mod phases;
 mod room;
 mod shown;
 

@@ -1,6 +1,6 @@
 //! Who records what becomes of units here.
 
-use unit_records::{RecordContents, RecordError, Recorder};
+use unit_records::{GroupError, RecordContents, RecordError, Recorder};
 
 /// Refuses commits of more changes than there is room for, and counts the records that it makes.
 #[derive(Drop)]
@@ -41,5 +41,37 @@ impl Recorder for Room {
                 Ok(())
             }
         }
+    }
+
+    ghost allows_all = { λ _ _. Unit {0} };
+
+    ghost records_all = { λ _ _ _. Unit {0} };
+
+    ghost fails_all = { λ _ _ _. Unit {0} };
+
+    fn record_all(&mut self, sayings: &[RecordContents<'_>]) -> Result<(), GroupError> {
+        if !have_room(sayings, self.changes) {
+            return Err(GroupError::Refused);
+        }
+        self.records = self.records.wrapping_add(sayings.len());
+        Ok(())
+    }
+}
+
+// Whether each of them is made where a commit may have so many changes.
+fn have_room(sayings: &[RecordContents<'_>], most: usize) -> bool {
+    for saying in sayings {
+        if !has_room(*saying, most) {
+            return false;
+        }
+    }
+    true
+}
+
+// Whether this one is.
+fn has_room(saying: RecordContents<'_>, most: usize) -> bool {
+    match saying {
+        RecordContents::Commit { changes } => changes.len() <= most,
+        _ => true,
     }
 }

@@ -16,26 +16,32 @@ use unit_records::{
     ReadError, RecordContents, RecordError, Recorder, UnitRecord, held_for_decision,
 };
 
-/// The bytes of each kind of record: a row is taken out of a table; a branch with two bytes of a
-/// global part and one of a branch part claims all of a table and takes a row out; it is decided.
-const BODIES: [(Kind, &'static [u8]); 3] = [
-    (Kind::Commit, &[0, 0, 0, 1, 3, 1, b'T', 0, 0]),
-    (
-        Kind::Prepare,
-        &[
-            0, 0, 0, 7, 0, 0, 0, 2, 0, 0, 0, 1, b'g', b'h', b'b', 0, 0, 0, 1, 0, 1, b'T', 0, 0, 0,
-            0, 1, 3, 1, b'T', 0, 0,
-        ],
-    ),
-    (
-        Kind::Decide,
-        &[0, 0, 0, 7, 0, 0, 0, 2, 0, 0, 0, 1, b'g', b'h', b'b', 1],
-    ),
-];
+/// A commit: a row is taken out of a table.
+pub(crate) const COMMIT: (Kind, &'static [u8]) = (Kind::Commit, &[0, 0, 0, 1, 3, 1, b'T', 0, 0]);
+
+/// A branch with two bytes of a global part and one of a branch part claims all of a table and takes a
+/// row out.
+pub(crate) const PREPARE: (Kind, &'static [u8]) = (
+    Kind::Prepare,
+    &[
+        0, 0, 0, 7, 0, 0, 0, 2, 0, 0, 0, 1, b'g', b'h', b'b', 0, 0, 0, 1, 0, 1, b'T', 0, 0, 0, 0,
+        1, 3, 1, b'T', 0, 0,
+    ],
+);
+
+/// It is decided.
+pub(crate) const DECIDE: (Kind, &'static [u8]) = (
+    Kind::Decide,
+    &[0, 0, 0, 7, 0, 0, 0, 2, 0, 0, 0, 1, b'g', b'h', b'b', 1],
+);
+
+/// One record of each kind.
+const BODIES: [(Kind, &'static [u8]); 3] = [COMMIT, PREPARE, DECIDE];
 
 // What a record releases.
-fn released_by(saying: RecordContents<'_>) -> usize
-    ensures { result ≡ released (said_by saying.entry) }
+pub(crate) fn released_by(saying: RecordContents<'_>) -> usize
+    ensures value { result ≡ released (said_by saying.entry) }
+    ensures short { result ≤ 147 }
 {
     match saying {
         RecordContents::Commit { .. } => 0,
@@ -45,7 +51,7 @@ fn released_by(saying: RecordContents<'_>) -> usize
 }
 
 // Whether a record that releases so much may be asked for.
-fn may_record<D: Disk>(recorder: &DiskRecorder<D>, release: usize) -> bool
+pub(crate) fn may_record<D: Disk>(recorder: &DiskRecorder<D>, release: usize) -> bool
     ensures going { IsTrue result → has_failed recorder.now ≡ false }
     ensures inside { IsTrue result → end_of (region_of (journal_of recorder.now)) ≤ length (D.life (disk_of recorder.now)).seen }
     ensures released { IsTrue result → release ≤ held_of (journal_of recorder.now) }
@@ -56,7 +62,7 @@ fn may_record<D: Disk>(recorder: &DiskRecorder<D>, release: usize) -> bool
 }
 
 // Records it; a record that may not be asked for shows as want of memory.
-fn record<D: Disk>(
+pub(crate) fn record<D: Disk>(
     recorder: &mut DiskRecorder<D>,
     saying: RecordContents<'_>,
 ) -> Result<(), RecordError> {
@@ -66,7 +72,7 @@ fn record<D: Disk>(
     recorder.record(saying)
 }
 
-fn saying_of(read: &UnitRecord) -> RecordContents<'_> {
+pub(crate) fn saying_of(read: &UnitRecord) -> RecordContents<'_> {
     match read {
         UnitRecord::Commit { changes } => RecordContents::Commit { changes },
         UnitRecord::Prepare {
@@ -111,12 +117,12 @@ fn may_be_a_journal<D: Disk>(disk: &D, region: Region) -> bool
 }
 
 // A recorder with an empty journal in the region, over a fuse of so many calls.
-fn recorder_over(
+pub(crate) fn recorder_over(
     alloc: Global,
     region: Region,
     calls: u64,
 ) -> Result<DiskRecorder<FuseDisk<MemDisk>>, Fail> {
-    let mut disk = MemDisk::new(alloc, 128)?;
+    let mut disk = MemDisk::new(alloc, 192)?;
     if !may_be_a_journal(&disk, region) {
         return Err(DiskFault.into());
     }
@@ -124,22 +130,28 @@ fn recorder_over(
     Ok(DiskRecorder::new(alloc, FuseDisk::new(disk, calls, false), journal))
 }
 
-// Whether these are the first so many of the records.
-fn are_first(records: &[Record], made: u64) -> bool {
+// Whether these are the first so many of the bodies.
+fn are_first(records: &[Record], made: u64, bodies: &[(Kind, &'static [u8])]) -> bool {
     let mut same = records.len() as u64 == made;
-    for (record, (kind, body)) in records.iter().zip(&BODIES) {
+    for (record, (kind, body)) in records.iter().zip(bodies) {
         same = same && record.kind == *kind && record.body.as_slice() == *body;
     }
     same
 }
 
-// Whether the journal on the disk has the first so many of the records.
-fn has_first(alloc: Global, mut disk: MemDisk, region: Region, made: u64) -> Result<bool, Fail> {
+// Whether the journal on the disk has the first so many of these bodies.
+pub(crate) fn has_first(
+    alloc: Global,
+    mut disk: MemDisk,
+    region: Region,
+    made: u64,
+    bodies: &[(Kind, &'static [u8])],
+) -> Result<bool, Fail> {
     if !may_be_a_journal(&disk, region) {
         return Ok(false);
     }
     let (_, records) = Journal::open(alloc, &mut disk, region)?;
-    Ok(are_first(&records, made))
+    Ok(are_first(&records, made, bodies))
 }
 
 /// The length of a region, how many of the three records it has, what becomes of the next, and the room
@@ -161,7 +173,10 @@ fn a_record_needs_its_bytes_and_what_it_holds(rt: HostRuntime) -> Result<(), Fai
         assert_eq!(rt; told, (made, answer), "{length}");
         assert_eq!(rt; (recorder.room(), recorder.is_failed()), (room, false));
         let disk = recorder.into_disk().into_inner();
-        assert!(rt; has_first(rt.alloc(), disk, region, made)?, "{length}");
+        assert!(rt;
+            has_first(rt.alloc(), disk, region, made, &BODIES)?,
+            "{length}"
+        );
     }
     Ok(())
 }

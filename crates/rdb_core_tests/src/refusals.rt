@@ -4,7 +4,7 @@ use crate::fixtures::run;
 use core_calls::Answer;
 use rdb_core::Core;
 use std::test::Fail;
-use unit_records::{RecordContents, RecordError, Recorder};
+use unit_records::{GroupError, RecordContents, RecordError, Recorder};
 
 // Makes so many records, and refuses those that follow.
 #[derive(Drop)]
@@ -24,6 +24,20 @@ impl Recorder for Few {
             return Err(RecordError::Full { need: 9, room: 8 });
         }
         self.left -= 1;
+        Ok(())
+    }
+
+    ghost allows_all = { λ _ _. Unit {0} };
+
+    ghost records_all = { λ _ _ _. Unit {0} };
+
+    ghost fails_all = { λ _ _ _. Unit {0} };
+
+    fn record_all(&mut self, sayings: &[RecordContents<'_>]) -> Result<(), GroupError> {
+        if sayings.len() > self.left as usize {
+            return Err(GroupError::Refused);
+        }
+        self.left -= sayings.len() as u32;
         Ok(())
     }
 }
