@@ -1,9 +1,9 @@
 -- Commits that are made together: who is chosen, how each is counted, and where they lead.
 use Rattle.std.proofs.Common.{◌≡◌, ◌⊎◌, ◌<◌, ◌≤◌, ◌+◌, ⊎_elim, ℕ, zero, suc, List, [], ◌∷◌, ◌++◌, Option, Some, drop, get_or, length, slice_get, slice_set, refl, sym, ap, subst, ◌∙◌, inl, inr, arith, add-one}
+use Rattle.std.proofs.lemmas.Option.{get_or_from_slice_get, slice_get_within}
 use Rattle.std.proofs.Math.Seq.{drop-cons}
 use Rattle.shared_node.specs.declared.count.Count.{Count}
 use Rattle.shared_node.specs.declared.wish.Wish.{Wish}
-use Rattle.shared_node.specs.declared.wish.Wished.TheVariants.{Commit}
 use Rattle.shared_node.specs.Gathered.{AreApart, AreMembers, IsMember, count_at}
 use Rattle.shared_node.proofs.Counting.{get_other}
 
@@ -36,12 +36,12 @@ one_apart_more members w apart never here there u v one two same =
 
 -- ---- how they are counted
 
-abbrev pub nobody : Wish
-nobody = record { conversation = 0; place = 0; count = 0; wished = Commit }
+rest_by : (members : List Wish) (i : ℕ) (d : Wish) → i < length members → drop i members ≡ get_or members i d ∷ drop (i + 1) members
+rest_by members i d below = rw (add-one, drop-cons members i d)
 
 -- those that are left begin with the one that stands there
-pub rest_is : (members : List Wish) (i : ℕ) → i < length members → drop i members ≡ get_or members i nobody ∷ drop (i + 1) members
-rest_is members i below = rw (add-one, drop-cons members i nobody)
+pub rest_is : (members : List Wish) (i : ℕ) (w : Wish) → slice_get members i ≡ Some w → drop i members ≡ w ∷ drop (i + 1) members
+rest_is members i w stands = rest_by members i w (slice_get_within members i w stands) ∙ ap (λ (v : Wish). v ∷ drop (i + 1) members) (get_or_from_slice_get members i w w stands)
 
 -- those behind the one that was just counted are counted as before
 pub known_still : (places : List (Option Count)) (members : List Wish) (at : ℕ) (w : Wish) (now : Option Count) → AreApart members → slice_get members at ≡ Some w

@@ -48,7 +48,7 @@ impl Chosen {
     {
         self.members.clear();
         for wish in wishes {
-            if may_go(core, phase, wish) && !self.consider(phase, places, wish) {
+            if !self.consider(core, phase, places, wish) {
                 return false;
             }
         }
@@ -56,8 +56,14 @@ impl Chosen {
     }
 
     // Chooses one wish more, where it is of this phase, its conversation is counted as it says, its place is not chosen yet, and
-    // there are not 64. False where memory is refused.
-    fn consider(&mut self, phase: Option<Phase>, places: &[Option<Count>], wish: &Wish) -> bool
+    // there are not 64; and of a branch where the core would let it go. False where memory is refused.
+    fn consider<D: Disk>(
+        &mut self,
+        core: &DurableCore<D>,
+        phase: Option<Phase>,
+        places: &[Option<Count>],
+        wish: &Wish,
+    ) -> bool
         ensures members { result ≡ true → (wishes : _) (at : _) → slice_get wishes at ≡ Some wish.now → AreMembers places.now wishes self.old.members.items → AreMembers places.now wishes self.new.members.items }
         ensures apart { result ≡ true → AreApart self.old.members.items → AreApart self.new.members.items }
         ensures alike { result ≡ true → AreAlike phase self.old.members.items → AreAlike phase self.new.members.items }
@@ -67,6 +73,7 @@ impl Chosen {
             || self.members.len() >= PLACES
             || !is_known(places, wish)
             || is_there(&self.members, wish.place)
+            || !may_go(core, phase, wish)
         {
             return true;
         }

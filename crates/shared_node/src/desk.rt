@@ -70,10 +70,10 @@ impl<'a, D: Disk, R: Wait + Clock, G: Gate> Desk<'a, D, R, G> {
     }
 
     // The conversation comes to the lock: whether it leads a group.
-    fn come(&self, wished: Option<Wished>) -> bool {
+    fn come(&self, wished: &Option<Wished>) -> bool {
         let waiting = &self.shared.waiting;
         match wished {
-            Some(wished) => waiting.wish(self.rt, self.pass.wish(wished)),
+            Some(wished) => waiting.wish(self.rt, self.pass.wish(*wished)),
             None => {
                 waiting.come();
                 false
@@ -93,13 +93,13 @@ impl<'a, D: Disk, R: Wait + Clock, G: Gate> Ask for Desk<'a, D, R, G> {
         let wished = wished_by(self.has_run, call);
         self.has_run = has_run_behind(self.has_run, call);
         let came = time(self.rt);
-        let leads = self.come(wished);
+        let leads = self.come(&wished);
         let (acted, turn) = {
             let mut guard = self.shared.held.lock(self.rt);
             let held = &mut *guard;
             let begun = Begun::new(self.rt, came, &held.book);
             let waiting = &self.shared.waiting;
-            let acted = held.act(self.rt, waiting, &mut self.pass, call, wished);
+            let acted = held.act(self.rt, waiting, &mut self.pass, call, &wished);
             if matches!(*call, CoreCall::Lost) {
                 held.book.consider_checkpoint();
             }

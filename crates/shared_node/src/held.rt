@@ -40,20 +40,20 @@ impl<D: Disk> Held<D> {
         waiting: &Waiting,
         pass: &mut Pass,
         call: &CoreCall<'_, '_>,
-        wished: Option<Wished>,
+        wished: &Option<Wished>,
     ) -> Acted
-        requires { (w : _) → wished ≡ Some w → call_of call.now ≡ call_wished w }
+        requires { (w : _) → wished.now ≡ Some w → call_of call.now ≡ call_wished w }
         ensures { DeskActs pass.old (call_of call.now) result pass.new }
     {
         let Some(wished) = wished else {
             waiting.go(rt);
             return self.book.act(pass, call);
         };
-        if let Some(answer) = self.book.collect(pass, &wished) {
+        if let Some(answer) = self.book.collect(pass, wished) {
             return Acted::Answered(answer);
         }
         self.fulfil(rt, waiting);
-        if let Some(answer) = self.book.collect(pass, &wished) {
+        if let Some(answer) = self.book.collect(pass, wished) {
             return Acted::Answered(answer);
         }
         self.book.act(pass, call)

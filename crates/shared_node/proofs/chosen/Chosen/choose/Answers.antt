@@ -1,5 +1,5 @@
-use Rattle.std.proofs.lemmas.Option.{slice_get-get_or}
-use Rattle.shared_node.proofs.Members.{nobody}
+use Rattle.std.proofs.Common.{length, refl}
+use Rattle.std.proofs.lemmas.Option.{slice_get_read}
 use Rattle.shared_node.proofs.chosen.Chosen.choose.Goals as goal
 
 pub loop-wish-preserved : goal.loop-wish-preserved
@@ -10,7 +10,7 @@ loop-wish-preserved g c =
     let all = c.consider.ensures in
     let chosen = c.if-not-consider.false in
     record {
-      members = all.members chosen wishes i (slice_get-get_or wishes i nobody c.loop-wish-test.true) kept.members;
+      members = all.members chosen wishes i (slice_get_read wishes (length wishes) i c.wish-item.result refl c.loop-wish-test.true c.wish-item.is) kept.members;
       apart = all.apart chosen kept.apart;
       alike = all.alike chosen kept.alike;
       few = all.few chosen kept.few;

@@ -5,7 +5,7 @@ use Rattle.shared_node.proofs.Members.{one_apart_more, one_member_more}
 use Rattle.shared_node.proofs.chosen.Chosen.consider.Goals as goal
 
 pub returns-clause-members : goal.returns-clause-members
-returns-clause-members c ok wishes at asked are =
+returns-clause-members g c ok wishes at asked are =
     let places = c.args.places.now in
     let old = c.args.self.now.members.items in
     let w = c.args.wish.now in
@@ -14,7 +14,7 @@ returns-clause-members c ok wishes at asked are =
     (one_member_more places wishes old w are (record { asked = (at, asked); known = c.if-not-is_known.ensures.known refl; numbered = c.if-not-is_known.ensures.numbered refl }))
 
 pub returns-clause-apart : goal.returns-clause-apart
-returns-clause-apart c ok apart =
+returns-clause-apart g c ok apart =
     let old = c.args.self.now.members.items in
     let w = c.args.wish.now in
     let pushed : c.push.new.self.items ≡ old ++ w ∷ [] = c.push.ensures.items ∙ ap (λ b. if b then old ++ w ∷ [] else old) c.if-is_err.ensures.negation in
