@@ -97,8 +97,11 @@ impl<'a, D: Disk, R: Wait + Clock, G: Gate> Ask for Desk<'a, D, R, G> {
         let (acted, turn) = {
             let mut guard = self.shared.held.lock(self.rt);
             let held = &mut *guard;
-            let begun = Begun::new(self.rt, came, &held.book);
             let waiting = &self.shared.waiting;
+            if !leads {
+                waiting.go(self.rt);
+            }
+            let begun = Begun::new(self.rt, came, &held.book);
             let acted = held.act(self.rt, waiting, &mut self.pass, call, &wished);
             if matches!(*call, CoreCall::Lost) {
                 held.book.consider_checkpoint();

@@ -46,7 +46,6 @@ impl<D: Disk> Held<D> {
         ensures { DeskActs pass.old (call_of call.now) result pass.new }
     {
         let Some(wished) = wished else {
-            waiting.go(rt);
             return self.book.act(pass, call);
         };
         if let Some(answer) = self.book.collect(pass, wished) {

@@ -7,13 +7,16 @@ use std::mem::swap;
 use std::sync::atomic::{AtomicU64, Ordering};
 use std::sync::{Condvar, Mutex, Wait};
 
-// The wishes that wait, and the groups in which they are fulfilled: which one gathers now, and how many were made.
+// The wishes that wait, and the groups in which they are fulfilled: which one gathers now, and how many were made. Of those
+// who sleep, how many are of the group that gathers, and how many of the one that is being made.
 #[derive(Drop)]
 struct Line {
     wishes: Vec<Wish>,
     gathers: u64,
     made: u64,
     is_led: bool,
+    sleep: u64,
+    leave: u64,
 }
 
 /// Who waits to commit, to prepare or to decide a branch, beside the lock, which is never waited for while the line is held.
@@ -40,6 +43,8 @@ impl Waiting {
                 gathers: 1,
                 made: 0,
                 is_led: false,
+                sleep: 0,
+                leave: 0,
             }),
             is_made: Condvar::new(),
             have_gone: Condvar::new(),
@@ -57,6 +62,7 @@ impl Waiting {
         if line.wishes.len() < PLACES {
             let _ = line.wishes.push(wish);
         }
+        line.sleep = line.sleep.wrapping_add(1);
         let mut line = self
             .is_made
             .wait_while(rt, line, |line| line.is_led && line.made < group);
@@ -64,6 +70,11 @@ impl Waiting {
             return false;
         }
         line.is_led = true;
+        if group == line.gathers {
+            line.sleep = line.sleep.wrapping_sub(1);
+        } else {
+            line.leave = line.leave.wrapping_sub(1);
+        }
         drop(line);
         self.let_go(rt);
         true
@@ -88,12 +99,17 @@ impl Waiting {
         let line = &mut *guard;
         swap(&mut line.wishes, empty);
         line.gathers = line.gathers.wrapping_add(1);
+        line.leave = line.leave.wrapping_add(line.sleep);
+        line.sleep = 0;
     }
 
-    /// The group whose wishes were taken last is made.
+    /// The group whose wishes were taken last is made. All who slept for it come to the lock now, to collect, and the next
+    /// leader lets them go first.
     pub(crate) fn end<R: Wait>(&self, rt: &R) {
         let mut guard = self.line.lock(rt);
         let line = &mut *guard;
+        self.came.fetch_add(line.leave, Ordering::SeqCst);
+        line.leave = 0;
         line.made = line.gathers.wrapping_sub(1);
         line.is_led = false;
         drop(guard);
@@ -105,7 +121,7 @@ impl Waiting {
         self.came.fetch_add(1, Ordering::SeqCst);
     }
 
-    /// It has the lock.
+    /// A call has the lock that came to it, or slept for its group.
     pub(crate) fn go<R: Wait>(&self, rt: &R) {
         let gone = self.gone.fetch_add(1, Ordering::SeqCst).wrapping_add(1);
         if gone == self.awaited.load(Ordering::SeqCst) {
