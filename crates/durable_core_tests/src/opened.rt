@@ -6,7 +6,7 @@ use durable_core::{Checkpointed, DurableCore, Together};
 use half_store::format;
 use sql_text::{SqlError, Statement, parse};
 use std::alloc::{AllocError, Global};
-use test_calls::{Calls, Scripts, push_text, request_of};
+use test_calls::{Calls, Scripts, push_text, xid_of};
 use unit_records::{BranchCall, Phase};
 use xa_calls::{InvalidRequest, Request};
 use xa_manager::Decision;
@@ -59,11 +59,10 @@ fn phase_named(word: &str) -> Option<Phase> {
 
 // A conversation asks for the branch of its own number, which is spelled behind =.
 fn branch_call(alloc: Global, word: &str) -> Option<BranchCall> {
-    let conversation = word.strip_prefix('=')?.parse::<u64>().ok()?;
-    match request_of(alloc, "prepare", word)? {
-        Ok(Request::Branch(_, xid)) => Some(BranchCall { conversation, xid }),
-        _ => None,
-    }
+    Some(BranchCall {
+        conversation: word.strip_prefix('=')?.parse::<u64>().ok()?,
+        xid: xid_of(alloc, word)?,
+    })
 }
 
 // What is asked without a text.

@@ -5,7 +5,7 @@ use core_calls::{Answer, CoreCall};
 use shared_node::Wished;
 use sql_text::{SqlError, Statement, parse};
 use std::alloc::Global;
-use test_calls::{push_answer, push_text, request_of};
+use test_calls::{push_answer, push_text, xid_of};
 use unit_records::Phase;
 use xa_calls::{InvalidRequest, Request};
 use xa_manager::Decision;
@@ -18,19 +18,24 @@ const KINDS: [Option<Phase>; 4] = [
     Some(Phase::Decide(Decision::RollBack)),
 ];
 
-// Whose wish it is, and what for: to commit, where no more is said, or what an XA call asks of a branch.
+// The phase of two-phase commit that a word names.
+fn phase_named(word: &str) -> Option<Phase> {
+    match word {
+        "prepare" => Some(Phase::Prepare),
+        "commit" => Some(Phase::Decide(Decision::Commit)),
+        "rollback" => Some(Phase::Decide(Decision::RollBack)),
+        _ => None,
+    }
+}
+
+// Whose wish it is, and what for: to commit, where no more is said, or a phase of a branch.
 fn wish_in(alloc: Global, rest: &str) -> Option<(u64, Wished)> {
     let Some((number, words)) = rest.split_once(' ') else {
         return Some((rest.parse::<u64>().ok()?, Wished::Commit));
     };
-    let (verb, xid) = words.split_once(' ')?;
-    match request_of(alloc, verb, xid)? {
-        Ok(Request::Branch(verb, xid)) => Some((
-            number.parse::<u64>().ok()?,
-            Wished::Through(Phase::of(verb)?, xid),
-        )),
-        _ => None,
-    }
+    let (verb, word) = words.split_once(' ')?;
+    let wished = Wished::Through(phase_named(verb)?, xid_of(alloc, word)?);
+    Some((number.parse::<u64>().ok()?, wished))
 }
 
 fn parsed<'a>(alloc: Global, text: &'a str) -> Result<Statement<'a>, SqlError> {

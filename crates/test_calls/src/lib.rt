@@ -9,5 +9,5 @@ mod tally;
 
 pub use answers::{push_answer, push_bytes, push_row, push_text};
 pub use calls::Calls;
-pub use requests::request_of;
+pub use requests::xid_of;
 pub use scripts::Scripts;

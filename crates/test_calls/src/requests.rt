@@ -2,7 +2,7 @@
 
 use std::alloc::Global;
 use test_bytes::bytes_of;
-use xa_calls::{InvalidRequest, Request};
+use xa_calls::{InvalidRequest, Request, Xid};
 
 // SYNCTYPE and XAFLAGS.
 type Spelled = (u8, Option<[u8; 4]>);
@@ -45,8 +45,13 @@ fn xid_data(alloc: Global, word: &str) -> Option<Vec<u8>> {
     }
 }
 
+/// The XID that a word spells, by the digits of its bytes, or by its number behind =.
+pub fn xid_of(alloc: Global, word: &str) -> Option<Xid> {
+    Xid::read(&xid_data(alloc, word)?).ok()
+}
+
 /// What a SYNCCTL asks for that spells this, with these XID data; with none where there is no word.
-pub fn request_of(
+pub(crate) fn request_of(
     alloc: Global,
     verb: &str,
     word: &str,
