@@ -1,64 +1,71 @@
-//! Owners, claims and changes for the tests.
+//! Owners, claims and changes as a line spells them.
 
-use row_values::{Column, Kind, Schema};
-use std::alloc::{AllocError, Global};
+use row_values::Schema;
+use std::alloc::Global;
 use std::sync::Arc;
-use std::test::Fail;
 use tables::Change;
-use unit_changes::UnitChanges;
+use test_rows::schema_of;
 use unit_locks::{Access, Claim};
 use unit_table::Owner;
 use xa_calls::Xid;
 
+/// The conversation of a number; behind b a branch by the number that its XID has as its global part.
+pub fn owner_of(word: &str) -> Option<Owner> {
+    let Some(number) = word.strip_prefix('b') else {
+        return Some(Owner::Local(word.parse::<u64>().ok()?));
+    };
+    let number = number.parse::<u8>().ok()?;
+    Some(Owner::Global(Xid::read(&[0, 0, 0, 7, 0, 0, 0, 1, 0, 0, 0, 0, number]).ok()?))
+}
+
+// Whether keys are read or written, from one on and before another, as write:5..6; all else is no key.
+fn keys_of(word: &str) -> Option<(Access, u32, u32)> {
+    let Some((access, keys)) = word.split_once(':') else {
+        return Some((Access::Read, 0, 0));
+    };
+    let (first, behind) = keys.split_once("..")?;
+    let access = if access == "write" {
+        Access::Write
+    } else {
+        Access::Read
+    };
+    Some((
+        access,
+        first.parse::<u32>().ok()?,
+        behind.parse::<u32>().ok()?,
+    ))
+}
+
+fn push_claim(alloc: Global, claims: &mut Vec<Claim>, access: Access, key: u32) -> Option<()> {
+    let claim = Claim::new(alloc, access, b"T", Some(&key.to_be_bytes())).ok()?;
+    claims.push(claim).ok()
+}
+
+/// Claims to read or write keys of a table T, which a word spells.
+pub fn claims_of(alloc: Global, word: &str) -> Option<Vec<Claim>> {
+    let (access, first, behind) = keys_of(word)?;
+    let mut claims = Vec::new(alloc);
+    for key in first..behind {
+        push_claim(alloc, &mut claims, access, key)?;
+    }
+    Some(claims)
+}
+
 // The bytes of a change that puts a row of one byte into a table T.
 const PUT: &[u8] = &[2, 1, b'T', 0, 1, 9];
 
-// A branch's unit, by the number that its XID has as its global part.
-pub fn global(number: u8) -> Result<Owner, Fail> {
-    Ok(Owner::Global(Xid::read(&[0, 0, 0, 7, 0, 0, 0, 1, 0, 0, 0, 0, number])?))
-}
-
-// One claim of a key of a table T.
-pub fn one_claim(alloc: Global, access: Access, key: u32) -> Result<Vec<Claim>, AllocError> {
-    let mut claims = Vec::new(alloc);
-    claims.push(Claim::new(alloc, access, b"T", Some(&key.to_be_bytes()))?)?;
-    Ok(claims)
-}
-
-// Claims to read so many keys of a table T.
-pub fn many_claims(alloc: Global, count: u32) -> Result<Vec<Claim>, AllocError> {
-    let mut claims = Vec::new(alloc);
-    for key in 0..count {
-        claims.push(Claim::new(alloc, Access::Read, b"T", Some(&key.to_be_bytes()))?)?;
+/// One change, behind `put` or `bare`; all else is none.
+pub fn changes_of(alloc: Global, word: &str) -> Option<Vec<Change>> {
+    if word != "put" && word != "bare" {
+        return Some(Vec::new(alloc));
     }
-    Ok(claims)
-}
-
-// The schema `K INTEGER NOT NULL`, with `K` as the key.
-pub fn schema(alloc: Global) -> Result<Arc<Schema, Global>, Fail> {
-    let mut columns = Vec::new(alloc);
-    columns.push(Column {
-        name: String::from_str(alloc, "K")?,
-        kind: Kind::Integer,
-        is_nullable: false,
-        length: 0,
-    })?;
-    let key: [u8; 1] = [0];
-    Ok(Arc::new(alloc, Schema::new(columns, key.to_vec(alloc)?)?)?)
-}
-
-// One change.
-pub fn one_change(alloc: Global) -> Result<Vec<Change>, Fail> {
+    let (change, _) = Change::read(alloc, PUT).ok()?;
     let mut changes = Vec::new(alloc);
-    let (change, _) = Change::read(alloc, PUT)?;
-    changes.push(change)?;
-    Ok(changes)
+    changes.push(change).ok()?;
+    Some(changes)
 }
 
-// The changes of a unit that has changed one row.
-pub fn unit_changes(alloc: Global) -> Result<UnitChanges, Fail> {
-    let schema = schema(alloc)?;
-    let mut changes = UnitChanges::new(alloc);
-    changes.add(alloc, &schema, one_change(alloc)?)?;
-    Ok(changes)
+/// The schema `K INTEGER NOT NULL`, with `K` as the key.
+pub fn schema(alloc: Global) -> Option<Arc<Schema, Global>> {
+    Arc::new(alloc, schema_of(alloc, &["K,INTEGER,not,0", "0"])??).ok()
 }
