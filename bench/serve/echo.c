@@ -3,7 +3,9 @@
 // a file it writes a record under the lock as a journal does: write, sync, write of a byte, sync. In groups the lock is held for the
 // waiting alone: one conversation writes the records of all that wait, with the same four calls, while the next ones gather.
 // Arguments: how many bytes come, how many are sent back, how many conversations there will be, and, where a record is written,
-// the file's path, its bytes and those of a record, and `groups` where they are written in groups. Prints `listening` and its port.
+// the file's path, its bytes and those of a record, and `groups` where they are written in groups; then two numbers more, where of
+// each conversation's exchanges only the last ones of so many write a record, as of a branch's five those that prepare and commit it.
+// Prints `listening` and its port.
 #define _GNU_SOURCE
 #include <arpa/inet.h>
 #include <fcntl.h>
@@ -20,6 +22,7 @@ static pthread_mutex_t lock = PTHREAD_MUTEX_INITIALIZER;
 static pthread_cond_t written = PTHREAD_COND_INITIALIZER;
 static long come, sent, size, record;
 static int file = -1, in_groups, leads;
+static long exchanges = 1, writing = 1;
 static long waiting, gathered, done;
 static off_t next;
 static char out[ROOM];
@@ -56,20 +59,20 @@ static int write_in_group(void) {
     return 1;
 }
 
-// What is done under the lock; 0 where a call of the device fails.
-static int work(void) {
-    if (file < 0) return 1;
+// What is done under the lock in an exchange of this number; 0 where a call of the device fails.
+static int work(long number) {
+    if (file < 0 || number % exchanges < exchanges - writing) return 1;
     return in_groups ? write_in_group() : write_records(1);
 }
 
 static void *converse(void *given) {
     int fd = (int)(long)given;
     char *in = malloc(ROOM);
-    long held = 0;
+    long held = 0, number = 0;
     for (ssize_t count; in && (count = read(fd, in, ROOM)) > 0;) {
         for (held += count; held >= come; held -= come) {
             pthread_mutex_lock(&lock);
-            int done = work();
+            int done = work(number++);
             pthread_mutex_unlock(&lock);
             if (!done || write(fd, out, sent) != sent) exit(4);
         }
@@ -102,7 +105,8 @@ int main(int argc, char **argv) {
     long count = atol(argv[3]);
     if (argc > 6) size = atol(argv[5]), record = atol(argv[6]), make_file(argv[4]);
     in_groups = argc > 7 && !strcmp(argv[7], "groups");
-    if (come < 1 || sent > ROOM || record * (in_groups ? count : 1) >= ROOM || count > MOST) return 2;
+    if (argc > 9) exchanges = atol(argv[8]), writing = atol(argv[9]);
+    if (come < 1 || exchanges < 1 || sent > ROOM || record * (in_groups ? count : 1) >= ROOM || count > MOST) return 2;
     int listener = listening(), one = 1;
     for (long at = 0; at < count; at++) {
         int fd = accept(listener, 0, 0);
