@@ -26,12 +26,13 @@ gate:
 edits:
 	@tools/try_edits $(EDITS)
 
-# Whether what the documents name is there, each refusal that is made is a listed one, and the gate runs the kept conversations.
+# Whether what the documents name is there, each refusal that is made is a listed one, and the gate runs the kept conversations and random lists.
 names:
 	@tools/check_map
 	@tools/check_refusals
 	@tests/planted_refusals
 	@tests/gate_conversations --check
+	@tests/core_stories --check
 
 # Conversations kept as event records, through the built program, and its statuses.
 vectors:

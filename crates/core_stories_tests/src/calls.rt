@@ -1,109 +1,103 @@
-//! What conversations ask.
+//! Random calls, by rules.
 
-use crate::statements::Statement;
+use std::alloc::{AllocError, Global};
 
-/// What an XA call asks of a branch.
-#[derive(Clone, Copy)]
-pub enum Verb {
-    Start,
-    Join,
-    End,
-    Fail,
-    Prepare,
-    Commit,
-    OnePhase,
-    RollBack,
-    Forget,
-    Recover,
+/// The next number of a linear congruential generator (Knuth, volume 2, section 3.3.4).
+pub fn next(seed: &mut u32) -> usize {
+    *seed = seed.wrapping_mul(1_664_525).wrapping_add(1_013_904_223);
+    (*seed >> 16) as usize
 }
 
-/// SYNCTYPE and XAFLAGS, and what they ask for, if anything.
-pub type Spelled = (u8, Option<&'static [u8]>, Option<Verb>);
-
-/// XID data, and whether they are good: then the place of the branch, the branches being in the order
-/// of their bytes.
-pub type Branch = (Option<&'static [u8]>, Option<usize>);
-
-/// How a statement is asked.
-#[derive(Clone, Copy)]
-pub enum How {
-    Run,
-    Query,
-    /// Its columns are described.
-    Columns,
-    /// Its parameters are described.
-    Parameters,
+/// The lines of a text that are rules, each behind its :.
+pub fn rules_of<'t>(alloc: Global, text: &'t str) -> Result<Vec<&'t str>, AllocError> {
+    let mut rules = Vec::new(alloc);
+    for line in text.lines() {
+        if let Some(rule) = line.strip_prefix(':') {
+            rules.push(rule)?;
+        }
+    }
+    Ok(rules)
 }
 
-#[derive(Clone, Copy)]
-pub enum Call {
-    Ask(How, Statement),
-    Commit,
-    RollBack,
-    Xa(Spelled, Branch),
-    Lost,
+// The alternatives of a rule, which stand behind its name.
+fn alternatives<'t>(rules: &[&'t str], name: &str) -> &'t str {
+    for rule in rules {
+        if let Some((first, rest)) = rule.split_once(' ')
+            && first == name
+        {
+            return rest;
+        }
+    }
+    ""
 }
 
-/// What is to come often stands more than once.
-pub static SPELLED: [Spelled; 32] = [
-    (0x09, None, Some(Verb::Start)),
-    (0x09, None, Some(Verb::Start)),
-    (0x09, Some(&[0x00, 0x20, 0, 0]), Some(Verb::Join)),
-    (0x0B, Some(&[0x04, 0x00, 0, 0]), Some(Verb::End)),
-    (0x0B, Some(&[0x02, 0x00, 0, 0]), Some(Verb::End)),
-    (0x01, None, Some(Verb::Prepare)),
-    (0x01, None, Some(Verb::Prepare)),
-    (0x0C, None, Some(Verb::Recover)),
-    (0x09, None, Some(Verb::Start)),
-    (0x09, Some(&[0, 0, 0, 0]), Some(Verb::Start)),
-    (0x09, Some(&[0x00, 0x20, 0, 0]), Some(Verb::Join)),
-    (0x09, Some(&[0x08, 0x00, 0, 0]), Some(Verb::Join)),
-    (0x09, Some(&[0x08, 0x20, 0, 0]), None),
-    (0x0B, Some(&[0x04, 0x00, 0, 0]), Some(Verb::End)),
-    (0x0B, Some(&[0x04, 0x00, 0, 0]), Some(Verb::End)),
-    (0x0B, Some(&[0x02, 0x00, 0, 0]), Some(Verb::End)),
-    (0x0B, Some(&[0x20, 0x00, 0, 0]), Some(Verb::Fail)),
-    (0x0B, None, None),
-    (0x01, None, Some(Verb::Prepare)),
-    (0x01, Some(&[0, 0, 0, 0]), Some(Verb::Prepare)),
-    (0x01, None, Some(Verb::Prepare)),
-    (0x01, Some(&[0, 0, 0]), None),
-    (0x04, None, Some(Verb::Commit)),
-    (0x04, Some(&[0, 0, 0, 0]), Some(Verb::Commit)),
-    (0x04, Some(&[0x40, 0x00, 0, 0]), Some(Verb::OnePhase)),
-    (0x07, None, Some(Verb::RollBack)),
-    (0x07, Some(&[0, 0, 0, 1]), None),
-    (0x06, None, Some(Verb::Forget)),
-    (0x0C, None, Some(Verb::Recover)),
-    (0x0C, Some(&[1, 2, 3, 4]), Some(Verb::Recover)),
-    (0x02, None, None),
-    (0x0C, Some(&[0, 0]), None),
-];
+// One of a rule's alternatives: behind = it is the conversation's own.
+fn chosen<'t>(rules: &[&'t str], name: &str, conversation: usize, seed: &mut u32) -> &'t str {
+    let (number, name) = match name.strip_prefix('=') {
+        Some(name) => (conversation, name),
+        None => (next(seed), name),
+    };
+    let all = alternatives(rules, name);
+    let count = all.split('/').count();
+    all.split('/')
+        .nth(number.checked_rem(count).unwrap_or(0))
+        .unwrap_or("")
+}
 
-/// The good XIDs.
-pub static GOOD: [Branch; 3] = [
-    (
-        Some(&[0, 0, 0, 1, 0, 0, 0, 1, 0, 0, 0, 1, 0x42, 0x78]),
-        Some(0),
-    ),
-    (
-        Some(&[0, 0, 0, 1, 0, 0, 0, 2, 0, 0, 0, 0, 0x41, 0x41]),
-        Some(1),
-    ),
-    (Some(&[0, 0, 1, 0, 0, 0, 0, 1, 0, 0, 0, 0, 0x41]), Some(2)),
-];
+// The text with an alternative in the place of the first name in brackets; None where there is none.
+fn expanded(
+    alloc: Global,
+    rules: &[&str],
+    text: &str,
+    conversation: usize,
+    seed: &mut u32,
+) -> Result<Option<String>, AllocError> {
+    let Some((front, rest)) = text.split_once('[') else {
+        return Ok(None);
+    };
+    let (name, behind) = rest.split_once(']').unwrap_or((rest, ""));
+    let choice = chosen(rules, name, conversation, seed);
+    Ok(Some(format!(in alloc; "{front}{choice}{behind}")?))
+}
 
-/// One with bytes behind it, the null XID, one that is cut, one without a global part, none.
-pub static ODD: [Branch; 5] = [
-    (
-        Some(&[0, 0, 0, 1, 0, 0, 0, 1, 0, 0, 0, 1, 0x42, 0x78, 0x79]),
-        Some(0),
-    ),
-    (
-        Some(&[0xFF, 0xFF, 0xFF, 0xFF, 0, 0, 0, 1, 0, 0, 0, 0, 0x41]),
-        None,
-    ),
-    (Some(&[0, 0, 0, 1, 0, 0, 0, 2, 0, 0, 0, 0, 0x41]), None),
-    (Some(&[0, 0, 0, 1, 0, 0, 0, 0, 0, 0, 0, 1, 0x41]), None),
-    (None, None),
-];
+// The text without the values that stand in braces.
+fn push_asked(text: &str, call: &mut String) -> Result<(), AllocError> {
+    for piece in text.split('{') {
+        let (_, rest) = piece.split_once('}').unwrap_or(("", piece));
+        call.push_str(rest)?;
+    }
+    Ok(())
+}
+
+// The values behind it; - at the end takes all of them away.
+fn push_values(text: &str, call: &mut String) -> Result<(), AllocError> {
+    if text.ends_with("{-}") {
+        return Ok(());
+    }
+    for (place, piece) in text.split('{').enumerate() {
+        if let Some((value, _)) = piece.split_once('}') {
+            let mark = if place == 1 { " |" } else { "" };
+            write!(call, "{mark} {value}")?;
+        }
+    }
+    Ok(())
+}
+
+/// Appends a random call of a conversation.
+pub fn push_call(
+    alloc: Global,
+    rules: &[&str],
+    conversation: usize,
+    seed: &mut u32,
+    call: &mut String,
+) -> Result<(), AllocError> {
+    let mut text = String::from_str(alloc, "[call]")?;
+    for _ in 0..100 {
+        match expanded(alloc, rules, &text, conversation, seed)? {
+            Some(next) => text = next,
+            None => break,
+        }
+    }
+    push_asked(&text, call)?;
+    push_values(&text, call)
+}

@@ -1,0 +1,124 @@
+//! A core that is asked.
+
+use core_calls::{Answer, CoreCall, Refusal};
+use rdb_core::Core;
+use std::alloc::Global;
+use test_bytes::bytes_of;
+use test_calls::{Calls, Scripts, push_answer, push_text};
+use unit_records::NoRecords;
+use xa_calls::{InvalidRequest, Request};
+
+/// A core, and what its last answer has besides.
+#[derive(Drop)]
+pub struct Bench {
+    alloc: Global,
+    core: Core<NoRecords>,
+    besides: Vec<u8>,
+}
+
+// The bytes that a word spells, which is - where there are none.
+fn unless_absent<'b>(word: &str, bytes: &'b [u8]) -> Option<&'b [u8]> {
+    if word == "-" { None } else { Some(bytes) }
+}
+
+// What a SYNCTYPE, XAFLAGS and XID data ask for, each in digits, or - where it is not there.
+fn request_of(alloc: Global, text: &str) -> Option<Result<Request, InvalidRequest>> {
+    let (kind, rest) = text.split_once(' ')?;
+    let (flags, xid) = rest.split_once(' ')?;
+    let bytes = bytes_of(alloc, &[kind, flags, xid]).ok()?;
+    match bytes.as_slice() {
+        [kind, rest @ ..] => {
+            let (given, data) = rest.split_at((flags.len() / 2).min(rest.len()));
+            let (given, data) = (unless_absent(flags, given), unless_absent(xid, data));
+            Some(Request::read(*kind, given, data))
+        }
+        [] => None,
+    }
+}
+
+impl Bench {
+    /// A core without tables.
+    pub fn new(alloc: Global) -> Bench {
+        Bench {
+            alloc,
+            core: Core::start(alloc, NoRecords),
+            besides: Vec::new(alloc),
+        }
+    }
+
+    // The places of columns that are described, and whether a statement is refused for its meaning.
+    fn look_besides(&mut self, answer: &Answer) -> Option<()> {
+        match answer {
+            Answer::Output(columns) if !columns.selected().is_empty() => {
+                push_text(&mut self.besides, " at")?;
+                for place in columns.selected() {
+                    self.besides
+                        .extend_from_slice(&[b' ', b'0'.saturating_add(*place)])
+                        .ok()?;
+                }
+                Some(())
+            }
+            Answer::Refused(Refusal::Meaning(_)) => push_text(&mut self.besides, " by its meaning"),
+            _ => Some(()),
+        }
+    }
+
+    /// Does what a call asks for, and appends a line of what it is answered.
+    pub fn hear(&mut self, call: &str, out: &mut Vec<u8>) -> Option<()> {
+        self.besides.clear();
+        let told = Scripts::new(self.alloc).tell(self, call, out);
+        told?;
+        out.extend_from_slice(&self.besides).ok()?;
+        push_text(out, "\n")
+    }
+}
+
+impl Calls for Bench {
+    fn step(&mut self, conversation: u64, call: &CoreCall<'_, '_>) -> Option<Answer> {
+        let answer = self.core.step(conversation, call);
+        match self.look_besides(&answer) {
+            Some(()) => Some(answer),
+            None => None,
+        }
+    }
+
+    fn commit(&mut self, conversation: u64) -> Option<Answer> {
+        Some(self.core.commit(conversation))
+    }
+
+    fn roll_back(&mut self, conversation: u64) -> Option<Answer> {
+        Some(self.core.roll_back(conversation))
+    }
+
+    fn lost(&mut self, conversation: u64) -> Option<Answer> {
+        Some(self.core.lost(conversation))
+    }
+
+    fn xa(
+        &mut self,
+        conversation: u64,
+        request: Result<Request, InvalidRequest>,
+    ) -> Option<Answer> {
+        Some(self.core.xa(conversation, &request))
+    }
+
+    // `sync` has the number of a conversation behind it, and then a SYNCTYPE, XAFLAGS and XID data.
+    fn do_other(
+        &mut self,
+        _scripts: &Scripts,
+        verb: &str,
+        rest: &str,
+        out: &mut Vec<u8>,
+    ) -> Option<()> {
+        let (conversation, text) = rest.split_once(' ')?;
+        if verb != "sync" {
+            return None;
+        }
+        let conversation = conversation.parse::<u64>().ok()?;
+        let request = request_of(self.alloc, text)?;
+        let answer = self.core.xa(conversation, &request);
+        let told = push_answer(self.alloc, out, &answer);
+        drop(answer);
+        told
+    }
+}
