@@ -1,42 +1,30 @@
 //! Catalogues that are written and read.
-ghost use Rattle.std.specs.Prelude.{◌≡◌};
+ghost use Rattle.std.specs.Prelude.{◌+◌, ◌≤◌, length};
+ghost use Rattle.half_store.specs.Writing.{from_of, half_bytes_of};
 
-use crate::fixtures::{Run, STORE_BYTES, new_store};
-use checkpoint_writer::{
-    CatalogueError, ImageError, StoredTable, TablePlace, read_catalogue, write_catalogue,
-};
-use drda_disk::{Disk, MemDisk};
-use half_store::{Active, begin_image};
+use crate::keys::pair;
+use crate::stores::{Run, STORE_BYTES};
+use checkpoint_writer::{ImageError, StoredTable, TablePlace, read_catalogue, write_catalogue};
+use drda_disk::Disk;
+use half_store::ImageWriter;
 use row_pages::PageCache;
-use row_values::{Column, Kind, Schema};
-use std::alloc::Global;
-use std::test::Fail;
+use std::alloc::{AllocError, Global};
+use test_rows::schema_of;
 
-/// The schema of one INTEGER, `A`, which is the key.
-fn one_integer(alloc: Global) -> Result<Schema, Fail> {
-    let mut columns = Vec::new(alloc);
-    columns.push(Column {
-        name: String::from_str(alloc, "A")?,
-        kind: Kind::Integer,
-        is_nullable: false,
-        length: 0,
-    })?;
-    Ok(Schema::new(columns, [0u8].to_vec(alloc)?)?)
-}
-
-/// Writes the catalogue of a table without rows and of one whose pages are 3 and 4.
-fn written(
+/// Writes the catalogue of a table without rows and of one whose pages are 3 and 4. Both have the schema of one INTEGER, `A`, which is the
+/// key.
+pub fn list<D: Disk>(
     alloc: Global,
-    disk: &mut MemDisk,
-    active: &Active,
-    schema: &Schema,
-) -> Result<Run, ImageError> {
-    let mut cache = PageCache::new(alloc, 2)?;
-    if disk.size() != STORE_BYTES {
-        return Err(ImageError::Damaged);
-    }
-    let mut image = begin_image(disk, active).map_err(|_| ImageError::DeviceFailed)?;
-    let at = image.finish_pages().at;
+    cache: &mut PageCache,
+    disk: &mut D,
+    image: &mut ImageWriter,
+) -> Result<(), ImageError>
+    requires { from_of image.old + half_bytes_of image.old ≤ length (D.life disk.old).seen }
+{
+    let Some(Some(schema)) = schema_of(alloc, &["A,INTEGER,not,0", "0"]) else {
+        return Err(ImageError::NoMemory);
+    };
+    let schema = &schema;
     let tables = [
         TablePlace {
             name: "A",
@@ -51,94 +39,46 @@ fn written(
             pages: 2,
         },
     ];
-    write_catalogue(alloc, &mut cache, disk, &mut image, &tables)?;
-    Ok(Run {
-        at,
-        pages: image.pages() as usize,
-    })
+    write_catalogue(alloc, cache, disk, image, &tables)
 }
 
-/// How a page of these two tables begins.
-const PAGE: [u8; 48] = [
-    1, 0, 2, 0, 19, 1, b'A', 1, 1, b'A', 2, 0, 0, 0, 1, 0, 0, 0, 0, 0, 0, 0, 0, 0, 0, 21, 3, b'T',
-    b'_', b'2', 1, 1, b'A', 2, 0, 0, 0, 1, 0, 0, 0, 0, 3, 0, 0, 0, 2, 0,
-];
-
-/// The bytes with which a disk has a page's tables at an offset.
-fn front(disk: &mut MemDisk, at: usize) -> [u8; 48] {
-    let mut bytes = [0u8; 48];
-    if at <= disk.size() && disk.size() - at >= 48 {
-        let _ = disk.read_at(at, &mut bytes);
-    }
-    bytes
-}
-
-/// The tables of the catalogue's pages.
-fn read(alloc: Global, disk: &mut MemDisk, run: Run) -> Result<Vec<StoredTable>, CatalogueError> {
-    let mut cache = PageCache::new(alloc, 2).map_err(|_| CatalogueError::NoMemory)?;
-    if run.at > STORE_BYTES || run.pages > 100 || run.at + 8_192 * run.pages > disk.size() {
-        return Err(CatalogueError::NoMemory);
-    }
-    read_catalogue(alloc, &mut cache, disk, run.at, run.pages)
-}
-
-/// Whether these are the two tables.
-fn are_the_tables(tables: &[StoredTable]) -> bool {
-    match tables {
-        [a, t] => {
-            a.name.as_str() == "A"
-                && a.first_page == 0
-                && a.pages == 0
-                && t.name.as_str() == "T_2"
-                && t.first_page == 3
-                && t.pages == 2
+// Changes a byte of a page at a place, where there is one to change, and reads the page's first bytes.
+fn front<D: Disk>(disk: &mut D, at: usize, change: &str) -> [u8; 48] {
+    let mut front = [0_u8; 48];
+    if at <= STORE_BYTES && at + 8_192 <= disk.size() {
+        let (byte, place) = pair(change);
+        if !change.is_empty() && place < 8_192 {
+            let _ = disk.write_at(at + place, &[byte]);
         }
-        _ => false,
+        let _ = disk.read_at(at, &mut front);
+    }
+    front
+}
+
+/// Tells the first bytes of a catalogue's pages, and its tables, once a byte of it at a place is changed, or none is.
+pub fn tell_catalogue<D: Disk>(
+    alloc: Global,
+    cache: &mut PageCache,
+    disk: &mut D,
+    run: Run,
+    change: &str,
+    out: &mut String,
+) -> Result<(), AllocError> {
+    let front = front(disk, run.at, change);
+    writeln!(out, "  {front:?}")?;
+    if run.at > STORE_BYTES || run.pages > 100 || run.at + 8_192 * run.pages > disk.size() {
+        return Ok(());
+    }
+    match read_catalogue(alloc, cache, disk, run.at, run.pages) {
+        Ok(tables) => tell_tables(&tables, out),
+        Err(fault) => writeln!(out, "  {fault:?}"),
     }
 }
 
-#[test]
-fn a_catalogue_is_written_and_read_back(rt: HostRuntime) -> Result<(), Fail> {
-    let (mut disk, active) = new_store(rt.alloc())?;
-    let schema = one_integer(rt.alloc())?;
-    let run = written(rt.alloc(), &mut disk, &active, &schema)?;
-    assert_eq!(rt; run.pages, 1);
-    assert_eq!(rt; front(&mut disk, run.at), PAGE);
-    let tables = read(rt.alloc(), &mut disk, run)?;
-    assert!(rt; are_the_tables(&tables));
-    Ok(())
-}
-
-/// Bytes of the page that are changed, and whether it is damaged then.
-const CHANGED: [(usize, u8, bool); 6] = [
-    (0, 2, true),
-    (2, 1, true),
-    (6, b'a', true),
-    (10, 6, true),
-    (23, 9, false),
-    (100, 1, true),
-];
-
-#[test]
-fn a_page_with_another_byte_is_damaged(rt: HostRuntime) -> Result<(), Fail> {
-    for (at, byte, is_damaged) in CHANGED {
-        let (mut disk, active) = new_store(rt.alloc())?;
-        let schema = one_integer(rt.alloc())?;
-        let run = written(rt.alloc(), &mut disk, &active, &schema)?;
-        put_byte(&mut disk, run.at.saturating_add(at), byte);
-        let fault = read(rt.alloc(), &mut disk, run).err();
-        let want = if is_damaged {
-            Some(CatalogueError::Damaged { at: run.at })
-        } else {
-            None
-        };
-        assert_eq!(rt; fault, want, "{at}");
+fn tell_tables(tables: &[StoredTable], out: &mut String) -> Result<(), AllocError> {
+    for table in tables {
+        let (name, pages, first) = (&table.name, table.pages, table.first_page);
+        writeln!(out, "  {name}: {pages} pages from {first} on")?;
     }
     Ok(())
-}
-
-fn put_byte(disk: &mut MemDisk, at: usize, byte: u8) {
-    if at < disk.size() {
-        let _ = disk.write_at(at, &[byte]);
-    }
 }

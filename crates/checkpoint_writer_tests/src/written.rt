@@ -1,156 +1,119 @@
-//! Tables that are written, read and written again.
-use crate::fixtures::{Change, NO_PAGES, has_lengths, new_store, pages_for, rewritten};
-use checkpoint_writer::ImageError;
-use drda_disk::FuseDisk;
-use half_store::Full;
-use std::test::Fail;
+//! Images into which rows or a catalogue are written.
+ghost use Rattle.std.specs.Prelude.{◌+◌, ◌≤◌, length};
+ghost use Rattle.half_store.specs.Writing.{from_of, half_bytes_of};
 
-/// Changes, made one list after another, and how many pages there are after each.
-const CASES: [&[(&[Change], usize)]; 6] = [
-    &[(&[], 0), (&[(1, 0)], 0)],
-    &[(&[(9, 1)], 1), (&[(9, 0)], 0), (&[(8, 8_187)], 1)],
-    // Seven rows whose bytes end a page exactly, and one more.
-    &[
-        (
-            &[
-                (1, 1_168),
-                (2, 1_168),
-                (3, 1_168),
-                (4, 1_168),
-                (5, 1_168),
-                (6, 1_168),
-                (7, 1_167),
-            ],
-            1,
-        ),
-        (&[(8, 1)], 2),
-        (&[(4, 1_169)], 2),
-        (&[(4, 0)], 1),
-    ],
-    // A byte too many for one page.
-    &[(&[(1, 4_093), (2, 4_093)], 2), (&[(1, 4_092)], 1)],
-    &[(&[(1, 8_187), (2, 8_187), (3, 1)], 3), (&[(2, 1)], 2)],
-    // What fits in front of a long row is not moved behind it.
-    &[(&[(1, 10), (2, 8_187), (3, 10)], 3), (&[(2, 0)], 1)],
-];
+use crate::catalogues::{list, tell_catalogue};
+use crate::keys::FirstByte;
+use crate::pages::{rows_of, table_with, tell_rows};
+use crate::stores::{Run, STORE_BYTES, new_store, number};
+use checkpoint_writer::{ImageError, merge_into, write_rows};
+use drda_disk::Disk;
+use half_store::{Active, ImageWriter, begin_image};
+use row_pages::PageCache;
+use std::alloc::{AllocError, Global};
 
-#[test]
-fn rows_are_written_and_read_back(rt: HostRuntime) -> Result<(), Fail> {
-    for case in CASES {
-        let (mut disk, mut active) = new_store(rt.alloc())?;
-        let mut lengths = [0usize; 256];
-        let mut base = NO_PAGES;
-        for (changes, pages) in case {
-            for (key, length) in *changes {
-                lengths[usize::from(*key)] = *length;
-            }
-            base = rewritten(rt.alloc(), &mut disk, &active, base, changes).unwrap_or(NO_PAGES);
-            active.half = active.half.other();
-            assert_eq!(rt; base.pages, *pages);
-            assert_eq!(rt;
-                has_lengths(rt.alloc(), &mut disk, base, &lengths),
-                Ok(true)
-            );
-        }
-    }
+// Writes the rows of these pages with these changes.
+fn merge<D: Disk>(
+    alloc: Global,
+    cache: &mut PageCache,
+    disk: &mut D,
+    image: &mut ImageWriter,
+    base: Run,
+    changes: &str,
+) -> Result<(), ImageError>
+    requires { from_of image.old + half_bytes_of image.old ≤ length (D.life disk.old).seen }
+{
+    let table = table_with(alloc, cache, disk, base, changes)?;
+    merge_into(alloc, &FirstByte, &table, cache, disk, image)?;
     Ok(())
 }
 
-/// The next number of a sequence that looks random.
-fn next(seed: u32) -> u32 {
-    seed.wrapping_mul(1_664_525).wrapping_add(1_013_904_223)
+// Writes rows that lie in memory.
+fn lay<D: Disk>(
+    alloc: Global,
+    cache: &mut PageCache,
+    disk: &mut D,
+    image: &mut ImageWriter,
+    changes: &str,
+) -> Result<(), ImageError>
+    requires { from_of image.old + half_bytes_of image.old ≤ length (D.life disk.old).seen }
+{
+    let rows = rows_of(alloc, changes)?;
+    write_rows(alloc, rows.rows(), cache, disk, image)?;
+    Ok(())
 }
 
-/// The next change: a row is taken out in one case of four.
-fn random_change(seed: u32) -> Change {
-    let key = (seed >> 24) as u8;
-    let length = if seed & 0xC00 == 0 {
-        0
-    } else {
-        1 + ((seed >> 12) & 0x7FF) as usize
+// Writes into the half that is not active: the rows of these pages with these changes, rows in memory, or a catalogue. Gives the pages
+// there.
+fn written<D: Disk>(
+    alloc: Global,
+    cache: &mut PageCache,
+    disk: &mut D,
+    active: &Active,
+    base: Run,
+    (verb, changes): (&str, &str),
+) -> Result<Run, ImageError> {
+    cache.clear();
+    if disk.size() != STORE_BYTES {
+        return Err(ImageError::Damaged);
+    }
+    let mut image = begin_image(disk, active)?;
+    let at = image.finish_pages().at;
+    let done = match verb {
+        "merge" => merge(alloc, cache, disk, &mut image, base, changes),
+        "memory" => lay(alloc, cache, disk, &mut image, changes),
+        _ => list(alloc, cache, disk, &mut image),
     };
-    (key, length)
+    done?;
+    Ok(Run {
+        at,
+        pages: image.pages() as usize,
+    })
 }
 
-#[test]
-fn random_changes_are_written_again_and_again(rt: HostRuntime) -> Result<(), Fail> {
-    let (mut disk, mut active) = new_store(rt.alloc())?;
-    let mut lengths = [0usize; 256];
-    let mut base = NO_PAGES;
-    let mut seed = 2_026;
-    for _ in 0..30 {
-        let mut changes = [(0u8, 0usize); 40];
-        for change in &mut changes {
-            seed = next(seed);
-            *change = random_change(seed);
-            lengths[usize::from(change.0)] = change.1;
+// Tells how many pages there are once it is written, and what is read of them. Where it is not, the base stays.
+fn tell_step<D: Disk>(
+    alloc: Global,
+    cache: &mut PageCache,
+    disk: &mut D,
+    active: &Active,
+    base: &mut Run,
+    (verb, step): (&str, &str),
+    out: &mut String,
+) -> Result<(), AllocError> {
+    match written(alloc, cache, disk, active, *base, (verb, step)) {
+        Ok(run) => *base = run,
+        Err(fault) => return writeln!(out, "  {fault:?}"),
+    }
+    let pages = base.pages;
+    writeln!(out, "  {pages} pages")?;
+    cache.clear();
+    match verb {
+        "catalogue" => tell_catalogue(alloc, cache, disk, *base, step, out),
+        _ => tell_rows(alloc, cache, disk, *base, out),
+    }
+}
+
+/// Tells what comes of writing, over a device that fails behind so many calls: how many pages there are then, and what is read of them.
+/// Behind each slash it is done anew, over the pages before, into the other half.
+pub fn tell_written(
+    alloc: Global,
+    verb: &str,
+    asked: &str,
+    out: &mut String,
+) -> Result<(), AllocError> {
+    let (calls, steps) = asked.split_once(' ').unwrap_or((asked, ""));
+    let mut cache = PageCache::new(alloc, 2)?;
+    let (mut disk, mut active) = new_store(alloc, number(calls))?;
+    let mut base = Run { at: 0, pages: 0 };
+    let mut done = Ok(());
+    for step in steps.split('/') {
+        let asked = (verb, step);
+        done = tell_step(alloc, &mut cache, &mut disk, &active, &mut base, asked, out);
+        if done.is_err() {
+            break;
         }
-        base = rewritten(rt.alloc(), &mut disk, &active, base, &changes).unwrap_or(NO_PAGES);
         active.half = active.half.other();
-        assert_eq!(rt; base.pages, pages_for(&lengths));
-        assert_eq!(rt;
-            has_lengths(rt.alloc(), &mut disk, base, &lengths),
-            Ok(true)
-        );
     }
-    Ok(())
-}
-
-#[test]
-fn a_row_that_is_too_long_is_damaged(rt: HostRuntime) -> Result<(), Fail> {
-    let (mut disk, active) = new_store(rt.alloc())?;
-    assert_eq!(rt;
-        rewritten(rt.alloc(), &mut disk, &active, NO_PAGES, &[(1, 8_188)]),
-        Err(ImageError::Damaged)
-    );
-    Ok(())
-}
-
-/// So many keys with rows that take a page each.
-fn long_rows(count: u8) -> [Change; 255] {
-    let mut changes = [(0u8, 0usize); 255];
-    let mut key = 0u8;
-    for change in &mut changes {
-        *change = (key, if key < count { 8_187 } else { 0 });
-        key = key.wrapping_add(1);
-    }
-    changes
-}
-
-#[test]
-fn a_half_has_room_for_125_pages(rt: HostRuntime) -> Result<(), Fail> {
-    let (mut disk, active) = new_store(rt.alloc())?;
-    let fits = rewritten(rt.alloc(), &mut disk, &active, NO_PAGES, &long_rows(125));
-    assert_eq!(rt; fits.map(|run| run.pages), Ok(125));
-    let full = rewritten(rt.alloc(), &mut disk, &active, NO_PAGES, &long_rows(126));
-    assert_eq!(rt;
-        full.map(|run| run.pages),
-        Err(ImageError::Full(Full {
-            need: 1_040_385,
-            room: 1_040_384,
-        }))
-    );
-    Ok(())
-}
-
-#[test]
-fn a_device_that_fails_is_told(rt: HostRuntime) -> Result<(), Fail> {
-    // A read and a sync of the gate, and two pages.
-    for (k, want) in [
-        (2, Err(ImageError::DeviceFailed)),
-        (3, Err(ImageError::DeviceFailed)),
-        (4, Ok(2)),
-    ] {
-        let (disk, active) = new_store(rt.alloc())?;
-        let mut disk = FuseDisk::new(disk, k, false);
-        let run = rewritten(
-            rt.alloc(),
-            &mut disk,
-            &active,
-            NO_PAGES,
-            &[(1, 8_000), (2, 8_000)],
-        );
-        assert_eq!(rt; run.map(|run| run.pages), want, "{k}");
-    }
-    Ok(())
+    done
 }

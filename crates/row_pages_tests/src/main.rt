@@ -25,14 +25,17 @@ fn main(rt: HostRuntime) -> io::Result<()> {
 fn follow(alloc: Global, text: &str, out: &mut String) -> Result<(), AllocError> {
     let mut disk = MemDisk::new(alloc, 16_384)?;
     let mut cache = PageCache::new(alloc, 1)?;
+    let mut done = Ok(());
     for line in text.lines() {
-        writeln!(out, "{line}")?;
-        answer(alloc, line, &mut disk, &mut cache, out)?;
+        done = answer(alloc, line, &mut disk, &mut cache, out);
+        if done.is_err() {
+            break;
+        }
     }
-    Ok(())
+    done
 }
 
-// What a line comes to. Lines that are empty or begin with # ask for nothing.
+// Writes down a line, and what it comes to. Lines that are empty or begin with # ask for nothing.
 fn answer(
     alloc: Global,
     line: &str,
@@ -40,6 +43,7 @@ fn answer(
     cache: &mut PageCache,
     out: &mut String,
 ) -> Result<(), AllocError> {
+    writeln!(out, "{line}")?;
     let (verb, rest) = line.split_once(' ').unwrap_or((line, ""));
     match verb {
         "page" => tell_page(alloc, rest, out),

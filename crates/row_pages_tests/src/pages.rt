@@ -51,16 +51,14 @@ pub fn tell_page(alloc: Global, lengths: &str, out: &mut String) -> Result<(), A
     tell_judged(&bytes, out)
 }
 
-/// Tells the first twelve bytes of a catalogue's page with rows of these lengths, how many of the others are not zero, and what page all of
-/// them are.
+/// Tells the bytes of a catalogue's page with rows of these lengths that are not zero, each with its place, and what page all of them are.
 pub fn tell_bytes(alloc: Global, lengths: &str, out: &mut String) -> Result<(), AllocError> {
     let (bytes, _) = filled(alloc, PageKind::Catalogue, lengths)?;
-    let front = bytes.get(..12);
-    let mut others = 0_usize;
-    for byte in bytes.iter().skip(12) {
-        others = others.wrapping_add(usize::from(*byte != 0));
+    for (place, byte) in bytes.iter().enumerate() {
+        if *byte != 0 {
+            writeln!(out, "  {place}: {byte}")?;
+        }
     }
-    writeln!(out, "  {front:?}, {others} others")?;
     tell_judged(&bytes, out)
 }
 
@@ -79,20 +77,33 @@ pub fn tell_changed(alloc: Global, asked: &str, out: &mut String) -> Result<(), 
     tell_judged(&bytes, out)
 }
 
+// Lays a row of this length behind those of a page, and counts it. Where a new page begins with it, tells what page the one before it is.
+fn lay_row(
+    alloc: Global,
+    page: &mut PageBuilder,
+    count: &mut PageCount,
+    length: usize,
+    out: &mut String,
+) -> Result<(), AllocError> {
+    let row = vec![in alloc; 7_u8; length]?;
+    if row.len() > 8_187 {
+        return Ok(());
+    }
+    count.push(&row);
+    match page.lay(alloc, &row)? {
+        Some(bytes) => tell_judged(&bytes, out),
+        None => Ok(()),
+    }
+}
+
 /// Tells what page each one is into which rows of these lengths are laid, and how many pages were counted for them.
 pub fn tell_laid(alloc: Global, lengths: &str, out: &mut String) -> Result<(), AllocError> {
     let mut page = PageBuilder::new(alloc, PageKind::Rows)?;
     let mut count = PageCount::new();
     for word in lengths.split_ascii_whitespace() {
-        let row = vec![in alloc; 7_u8; number(word)]?;
-        if row.len() <= 8_187 {
-            count.push(&row);
-            if let Some(bytes) = page.lay(alloc, &row)? {
-                tell_judged(&bytes, out)?;
-            }
-        }
+        lay_row(alloc, &mut page, &mut count, number(word), out)?;
     }
-    tell_judged(&page.finish(), out)?;
     let counted = count.pages();
+    tell_judged(&page.finish(), out)?;
     writeln!(out, "  {counted} counted")
 }

@@ -5,16 +5,19 @@ ghost use Rattle.std.specs.Prelude.{⊤};
 use command_kit::Ask;
 use conversation::{Front, Settings};
 use core_calls::{Answer, CoreCall};
-use drda_disk::{Disk, MemDisk};
+use drda_disk::{Disk, FuseDisk, MemDisk};
 use dss_frames::stays_read;
 use durable_core::{DurableCore, open};
 use half_store::format;
-use std::alloc::Global;
+use std::alloc::{AllocError, Global};
 use std::io::{Read, Write};
 use stream_service::{Served, serve};
 
 /// The least store.
 const TWO_MIB: usize = 2_097_152;
+
+/// A core over a store in memory whose device may fail.
+pub type Core = DurableCore<FuseDisk<MemDisk>>;
 
 /// The core, asked for one conversation after the other.
 #[derive(Drop)]
@@ -30,24 +33,17 @@ impl<D: Disk> Ask for Asker<'_, D> {
     }
 }
 
-/// A disk of 2 MiB with a fresh store of the name SHOP. None without memory.
-pub fn fresh_store(alloc: Global) -> Option<MemDisk> {
-    let mut disk = MemDisk::new(alloc, TWO_MIB).ok()?;
-    format(alloc, &mut disk, "SHOP").ok()?;
-    Some(disk)
-}
-
-/// The core of the store of a disk. None where the disk is no store, and without memory.
-pub fn core_over<D: Disk + Drop>(alloc: Global, disk: D) -> Option<DurableCore<D>> {
-    match open(alloc, disk) {
-        Ok(core) => Some(core),
-        Err(_) => None,
+/// The core of a fresh store of 2 MiB and of the name SHOP, whose device fails behind so many calls. It is an error too where the store is
+/// not opened.
+pub fn core_over(alloc: Global, calls: u64) -> Result<Core, AllocError> {
+    let mut disk = MemDisk::new(alloc, TWO_MIB)?;
+    if format(alloc, &mut disk, "SHOP").is_err() {
+        return Err(AllocError);
     }
-}
-
-/// The core of a fresh store.
-pub fn core_of(alloc: Global) -> Option<DurableCore<MemDisk>> {
-    core_over(alloc, fresh_store(alloc)?)
+    match open(alloc, FuseDisk::new(disk, calls, false)) {
+        Ok(core) => Ok(core),
+        Err(_) => Err(AllocError),
+    }
 }
 
 /// How a new conversation is served, for ana with the password pw and the database SHOP. None without memory.

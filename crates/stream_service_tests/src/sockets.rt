@@ -1,49 +1,14 @@
 //! A conversation over a socket, both of whose ends are in this process.
 
-use crate::cores::{core_of, serve_over};
-use drda_disk::MemDisk;
-use durable_core::DurableCore;
-use std::alloc::Global;
+use crate::cores::{Core, serve_over};
+use crate::names::bytes_named;
+use std::alloc::{AllocError, Global};
 use std::io::{Read, Write};
 use std::net::{Ipv4Addr, Net, OpenListener, OpenStream, Shutdown, SocketAddr, SocketAddrV4};
-use std::test::Fail;
 use stream_service::Served;
-use test_bytes::sentences::*;
-use test_bytes::*;
-
-// The database is opened, a row is committed, and a cursor reads it.
-const REQUESTS: [&str; 10] = [
-    EXCSAT_ALONE,
-    ACCSEC,
-    SECCHK_ALONE,
-    ACCRDB,
-    CREATE,
-    RDBCMM,
-    INSERT,
-    RDBCMM,
-    PREPARE,
-    QUERY,
-];
-
-const REPLIES: [&str; 10] = [
-    EXCSATRD_ALONE,
-    ACCSECRD,
-    SECCHKRM_ALONE,
-    ACCRDBRM,
-    CREATED,
-    COMMITTED,
-    FIRST_ROW,
-    COMMITTED,
-    PREPARED,
-    ONE_ROW,
-];
 
 // Serves the one who waits.
-fn serve_one<L: OpenListener>(
-    alloc: Global,
-    core: &mut DurableCore<MemDisk>,
-    listener: &L,
-) -> Option<Served>
+fn serve_one<L: OpenListener>(alloc: Global, core: &mut Core, listener: &L) -> Option<Served>
 where
     L::Stream: Read + Write + OpenStream,
 {
@@ -52,27 +17,51 @@ where
     serve_over(alloc, core, &mut reader, &mut writer)
 }
 
-// What a client is answered that sends this, and then no more.
-fn answers_to<N: Net>(alloc: Global, net: &N, request: &[u8]) -> Option<Vec<u8>> {
-    let address = SocketAddr::V4(SocketAddrV4::new(Ipv4Addr::new(127, 0, 0, 1), 0));
-    let listener = net.bind(address).ok()?;
-    let mut client = net.connect(listener.local_addr().ok()?).ok()?;
-    client.write_all(request).ok()?;
-    client.shutdown(Shutdown::Write).ok()?;
-    let mut core = core_of(alloc)?;
-    if serve_one(alloc, &mut core, &listener)? != Served::Done {
-        return None;
-    }
+// Whether this was sent, and that no more comes.
+fn is_sent<S: Write + OpenStream>(client: &mut S, request: &[u8]) -> bool {
+    client.write_all(request).is_ok() && client.shutdown(Shutdown::Write).is_ok()
+}
+
+fn answers_of<S: Read>(alloc: Global, client: &mut S) -> Option<Vec<u8>> {
     let mut answers = Vec::new(alloc);
     client.read_to_end(&mut answers).ok()?;
     Some(answers)
 }
 
-#[test]
-fn a_conversation_over_a_socket_is_answered(rt: HostRuntime) -> Result<(), Fail> {
-    let request = bytes_of(rt.alloc(), &REQUESTS)?;
-    let wanted = bytes_of(rt.alloc(), &REPLIES)?;
-    let answers = answers_to(rt.alloc(), &rt, &request);
-    assert_eq!(rt; answers.as_deref() == Some(wanted.as_slice()), true);
-    Ok(())
+// How a client is served that sends this, and then no more, and what it is answered.
+fn answers_to<N: Net>(
+    alloc: Global,
+    net: &N,
+    core: &mut Core,
+    request: &[u8],
+) -> Option<(Served, Vec<u8>)> {
+    let address = SocketAddr::V4(SocketAddrV4::new(Ipv4Addr::new(127, 0, 0, 1), 0));
+    let listener = net.bind(address).ok()?;
+    let mut client = net.connect(listener.local_addr().ok()?).ok()?;
+    if !is_sent(&mut client, request) {
+        return None;
+    }
+    match serve_one(alloc, core, &listener) {
+        Some(served) => Some((served, answers_of(alloc, &mut client)?)),
+        None => None,
+    }
+}
+
+/// Tells how a client over a socket is served whose requests and replies have these names, and whether it is answered so.
+pub fn tell_socket(
+    rt: &HostRuntime,
+    core: &mut Core,
+    text: &str,
+    (requests, replies): (&str, &str),
+    out: &mut String,
+) -> Result<(), AllocError> {
+    let request = bytes_named(rt.alloc(), text, requests, 1)?;
+    let wanted = bytes_named(rt.alloc(), text, replies, 1)?;
+    match answers_to(rt.alloc(), rt, core, &request) {
+        Some((served, answers)) => {
+            let is_wanted = answers == wanted;
+            writeln!(out, "  {served:?}, as wanted {is_wanted}")
+        }
+        None => writeln!(out, "  no answer"),
+    }
 }

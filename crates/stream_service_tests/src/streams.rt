@@ -1,73 +1,72 @@
-//! Streams that give little at a time, that fail, and that look into the buffers they are handed.
+//! Streams that give and take little at a time, and that fail.
 
 use std::io::{self, ErrorKind, Read, Write};
 
-/// A stream that gives a byte at a time, and behind them its end or a fault.
-#[derive(Drop)]
-pub struct OneByOne<'a> {
-    pub bytes: &'a [u8],
+/// How the streams of a conversation behave.
+#[derive(Clone, Copy)]
+pub struct Manner {
+    /// How many bytes are given at the most at a time.
+    pub given: usize,
+    /// How many bytes come at the most in all.
+    pub coming: usize,
+    /// Whether the reader fails behind them.
     pub fails: bool,
-}
-
-impl Read for OneByOne<'_> {
-    fn read(&mut self, buffer: &mut [u8]) -> io::Result<usize> {
-        if self.fails && self.bytes.is_empty() {
-            return Err(io::Error::from(ErrorKind::Other));
-        }
-        let size = buffer.len().min(1);
-        self.bytes.read(&mut buffer[..size])
-    }
-}
-
-/// A stream that gives seven bytes at a time, and remembers whether a buffer held any before.
-#[derive(Drop)]
-pub struct Looking<'a> {
-    pub bytes: &'a [u8],
-    pub finds: bool,
-}
-
-impl Read for Looking<'_> {
-    fn read(&mut self, buffer: &mut [u8]) -> io::Result<usize> {
-        self.finds |= buffer.iter().any(|byte| *byte != 0);
-        let size = buffer.len().min(7);
-        self.bytes.read(&mut buffer[..size])
-    }
-}
-
-/// A stream that takes so many bytes, one at a time, and then fails.
-#[derive(Drop)]
-pub struct Full {
-    pub taken: Vec<u8>,
+    /// How many bytes the writer takes at the most at a time.
+    pub taken: usize,
+    /// How many it takes in all before it fails.
     pub room: usize,
 }
 
-impl Write for Full {
-    fn write(&mut self, bytes: &[u8]) -> io::Result<usize> {
-        if self.taken.len() >= self.room {
+/// All comes and goes at once.
+pub const AT_ONCE: Manner = Manner {
+    given: usize::MAX,
+    coming: usize::MAX,
+    fails: false,
+    taken: usize::MAX,
+    room: usize::MAX,
+};
+
+/// A stream that gives bytes, counts how often it gave some, and remembers whether a buffer held any before.
+#[derive(Drop)]
+pub struct Giving<'a> {
+    pub bytes: &'a [u8],
+    pub manner: Manner,
+    pub times: u32,
+    pub finds: bool,
+}
+
+impl Read for Giving<'_> {
+    fn read(&mut self, buffer: &mut [u8]) -> io::Result<usize> {
+        for byte in buffer.iter() {
+            self.finds |= *byte != 0;
+        }
+        if !self.bytes.is_empty() {
+            self.times = self.times.saturating_add(1);
+        } else if self.manner.fails {
             return Err(io::Error::from(ErrorKind::Other));
         }
-        let count = bytes.len().min(1);
-        self.taken.extend_from_slice(&bytes[..count])?;
-        Ok(count)
-    }
-
-    fn flush(&mut self) -> io::Result<()> {
-        Ok(())
+        let size = buffer.len().min(self.manner.given);
+        self.bytes.read(&mut buffer[..size])
     }
 }
 
-/// A stream that takes all at once, and remembers how many bytes that were in all and at the most.
+/// A stream that takes bytes, and remembers the longest piece that it was handed.
 #[derive(Drop)]
-pub struct Measuring {
-    pub size: usize,
+pub struct Taking {
+    pub bytes: Vec<u8>,
+    pub manner: Manner,
     pub longest: usize,
 }
 
-impl Write for Measuring {
+impl Write for Taking {
     fn write(&mut self, bytes: &[u8]) -> io::Result<usize> {
-        self.size = self.size.saturating_add(bytes.len());
         self.longest = self.longest.max(bytes.len());
-        Ok(bytes.len())
+        if self.bytes.len() >= self.manner.room {
+            return Err(io::Error::from(ErrorKind::Other));
+        }
+        let count = bytes.len().min(self.manner.taken);
+        self.bytes.extend_from_slice(&bytes[..count])?;
+        Ok(count)
     }
 
     fn flush(&mut self) -> io::Result<()> {

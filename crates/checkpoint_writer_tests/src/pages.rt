@@ -1,0 +1,101 @@
+//! Tables over their pages, and rows in memory.
+ghost use Rattle.std.specs.Prelude.{◌≡◌, ◌+◌, ◌*◌, ◌≤◌, IfOk, length};
+ghost use Rattle.drda_disk.specs.Disk.{Stays};
+
+use crate::keys::{FirstByte, byte_of, pair};
+use crate::stores::{Run, STORE_BYTES};
+use drda_disk::Disk;
+use key_map::OrderedRows;
+use row_pages::{PageCache, PageFault};
+use std::alloc::{AllocError, Global};
+use table_map::{TableMap, TablePages};
+use tables::Rows;
+
+// Makes a change: without any bytes it takes the row of its key out.
+fn change(alloc: Global, table: &mut TableMap, key: u8, length: usize) -> Result<(), AllocError>
+    ensures { table.new.places ≡ table.old.places }
+{
+    table.reserve(alloc, &[key])?;
+    if length == 0 {
+        table.remove_reserved(alloc, &[key]);
+    } else {
+        let row = vec![in alloc; key; length]?;
+        table.put_reserved(&[key], row);
+    }
+    Ok(())
+}
+
+/// A table with these pages and changes.
+pub fn table_with<D: Disk>(
+    alloc: Global,
+    cache: &mut PageCache,
+    disk: &mut D,
+    base: Run,
+    changes: &str,
+) -> Result<TableMap, PageFault>
+    ensures inside { IfOk result (λ table. table.places.at + 8192 * length table.places.keys ≤ length (D.life disk.new).seen) }
+    ensures stays { Stays (D.life disk.old) (D.life disk.new) }
+{
+    if base.at > STORE_BYTES || base.pages > 200 || base.at + 8_192 * base.pages > disk.size() {
+        return Err(PageFault::DeviceFailed);
+    }
+    let pages = TablePages::open(alloc, &FirstByte, cache, disk, base.at, base.pages)?;
+    let mut table = TableMap::new(alloc, pages);
+    for word in changes.split_ascii_whitespace() {
+        let (key, length) = pair(word);
+        if change(alloc, &mut table, key, length).is_err() {
+            return Err(PageFault::NoMemory);
+        }
+    }
+    Ok(table)
+}
+
+/// Rows of these keys, in memory.
+pub fn rows_of(alloc: Global, changes: &str) -> Result<OrderedRows, AllocError> {
+    let mut rows = OrderedRows::new(alloc);
+    for word in changes.split_ascii_whitespace() {
+        let (key, length) = pair(word);
+        rows.reserve(alloc, &[key])?;
+        let row = vec![in alloc; key; length]?;
+        rows.put_reserved(&[key], row);
+    }
+    Ok(rows)
+}
+
+// All rows of these pages.
+fn read<D: Disk>(
+    alloc: Global,
+    cache: &mut PageCache,
+    disk: &mut D,
+    run: Run,
+) -> Result<Rows, PageFault> {
+    let table = table_with(alloc, cache, disk, run, "")?;
+    let mut rows = Rows::new(alloc);
+    table.scan_into(alloc, &FirstByte, cache, disk, &mut rows)?;
+    Ok(rows)
+}
+
+// The byte that each row is filled with, and its length.
+fn say_rows(rows: &Rows, out: &mut String) -> Result<(), AllocError> {
+    write!(out, " ")?;
+    for i in 0..rows.len() {
+        let row = rows.row(i);
+        let (byte, length) = (byte_of(row), row.len());
+        write!(out, " {byte}:{length}")?;
+    }
+    writeln!(out, " end")
+}
+
+/// Tells of each row of these pages the byte that it is filled with, and its length.
+pub fn tell_rows<D: Disk>(
+    alloc: Global,
+    cache: &mut PageCache,
+    disk: &mut D,
+    run: Run,
+    out: &mut String,
+) -> Result<(), AllocError> {
+    match read(alloc, cache, disk, run) {
+        Ok(rows) => say_rows(&rows, out),
+        Err(fault) => writeln!(out, "  {fault:?}"),
+    }
+}

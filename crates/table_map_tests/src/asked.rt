@@ -1,0 +1,108 @@
+//! What is asked of a table.
+ghost use Rattle.std.specs.Prelude.{◌+◌, ◌*◌, ◌≤◌, length};
+
+use crate::opened::opened;
+use drda_disk::Disk;
+use key_map::row_form;
+use row_pages::{PageCache, PageFault};
+use row_values::Schema;
+use std::alloc::Global;
+use table_map::{SchemaKeys, TableMap};
+use tables::Rows;
+use test_bytes::bytes_of;
+use test_rows::{say, tell};
+
+fn name_of(fault: PageFault) -> &'static str {
+    match fault {
+        PageFault::NoMemory => "no memory",
+        PageFault::DeviceFailed => "the device failed",
+        PageFault::Damaged => "damaged",
+    }
+}
+
+// Tells the row of the key of a row.
+fn tell_row<D: Disk>(
+    alloc: Global,
+    schema: &Schema,
+    table: &TableMap,
+    cache: &mut PageCache,
+    disk: &mut D,
+    row: &str,
+    out: &mut Vec<u8>,
+) -> Option<()>
+    requires { table.now.places.at + 8192 * length table.now.places.keys ≤ length (D.life disk.old).seen }
+{
+    let row = bytes_of(alloc, &[row]).ok()?;
+    let key = row_form(alloc, schema, &row).ok()?;
+    match table.get(alloc, &SchemaKeys { schema }, cache, disk, &key) {
+        Ok(Some(found)) => tell(alloc, out, "row", &found),
+        Ok(None) => say(out, "no row"),
+        Err(fault) => say(out, name_of(fault)),
+    }
+}
+
+// Tells all rows, in their order.
+fn tell_rows<D: Disk>(
+    alloc: Global,
+    schema: &Schema,
+    table: &TableMap,
+    cache: &mut PageCache,
+    disk: &mut D,
+    out: &mut Vec<u8>,
+) -> Option<()>
+    requires { table.now.places.at + 8192 * length table.now.places.keys ≤ length (D.life disk.old).seen }
+{
+    let mut rows = Rows::new(alloc);
+    if let Err(fault) = table.scan_into(alloc, &SchemaKeys { schema }, cache, disk, &mut rows) {
+        return say(out, name_of(fault));
+    }
+    for i in 0..rows.len() {
+        tell(alloc, out, "row", rows.row(i))?;
+    }
+    say(out, "end")
+}
+
+// Tells how many pages all rows take when they are laid anew.
+fn tell_count<D: Disk>(
+    alloc: Global,
+    schema: &Schema,
+    table: &TableMap,
+    cache: &mut PageCache,
+    disk: &mut D,
+    out: &mut Vec<u8>,
+) -> Option<()>
+    requires { table.now.places.at + 8192 * length table.now.places.keys ≤ length (D.life disk.old).seen }
+{
+    match table.page_count(alloc, &SchemaKeys { schema }, cache, disk) {
+        Ok(count) => tell(
+            alloc,
+            out,
+            "pages",
+            &[u8::try_from(count).unwrap_or(u8::MAX)],
+        ),
+        Err(fault) => say(out, name_of(fault)),
+    }
+}
+
+/// Tells what a line asks for, of a table of so many pages: `get` a row by the key of a row, `rows` all of them, and `count` the pages that
+/// they take. Changes that are made first stand in front of it, each with a semicolon behind it.
+pub fn tell_asked<D: Disk>(
+    alloc: Global,
+    schema: &Schema,
+    cache: &mut PageCache,
+    disk: &mut D,
+    pages: usize,
+    line: &str,
+    out: &mut Vec<u8>,
+) -> Option<()> {
+    let (changes, asked) = line.rsplit_once("; ").unwrap_or(("", line));
+    let (verb, row) = asked.split_once(' ').unwrap_or((asked, ""));
+    match opened(alloc, schema, cache, disk, pages, changes) {
+        Ok(table) => match verb {
+            "get" => tell_row(alloc, schema, &table, cache, disk, row, out),
+            "rows" => tell_rows(alloc, schema, &table, cache, disk, out),
+            _ => tell_count(alloc, schema, &table, cache, disk, out),
+        },
+        Err(fault) => say(out, name_of(fault)),
+    }
+}
