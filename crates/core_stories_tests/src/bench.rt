@@ -46,6 +46,11 @@ impl Bench {
         }
     }
 
+    /// A core without tables again.
+    pub fn restart(&mut self) {
+        self.core = Core::start(self.alloc, NoRecords);
+    }
+
     // The places of columns that are described, and whether a statement is refused for its meaning.
     fn look_besides(&mut self, answer: &Answer) -> Option<()> {
         match answer {
@@ -66,8 +71,7 @@ impl Bench {
     /// Does what a call asks for, and appends a line of what it is answered.
     pub fn hear(&mut self, call: &str, out: &mut Vec<u8>) -> Option<()> {
         self.besides.clear();
-        let told = Scripts::new(self.alloc).tell(self, call, out);
-        told?;
+        Scripts::new(self.alloc).tell(self, call, out)?;
         out.extend_from_slice(&self.besides).ok()?;
         push_text(out, "\n")
     }
@@ -116,9 +120,6 @@ impl Calls for Bench {
         }
         let conversation = conversation.parse::<u64>().ok()?;
         let request = request_of(self.alloc, text)?;
-        let answer = self.core.xa(conversation, &request);
-        let told = push_answer(self.alloc, out, &answer);
-        drop(answer);
-        told
+        push_answer(self.alloc, out, &self.core.xa(conversation, &request))
     }
 }

@@ -71,13 +71,13 @@ fn push_asked(text: &str, call: &mut String) -> Result<(), AllocError> {
 
 // The values behind it; - at the end takes all of them away.
 fn push_values(text: &str, call: &mut String) -> Result<(), AllocError> {
-    if text.ends_with("{-}") {
+    if !text.contains('{') || text.ends_with("{-}") {
         return Ok(());
     }
-    for (place, piece) in text.split('{').enumerate() {
+    call.push_str(" |")?;
+    for piece in text.split('{') {
         if let Some((value, _)) = piece.split_once('}') {
-            let mark = if place == 1 { " |" } else { "" };
-            write!(call, "{mark} {value}")?;
+            write!(call, " {value}")?;
         }
     }
     Ok(())

@@ -51,18 +51,34 @@ fn hear(
     bench.hear(&call, out)
 }
 
-/// Appends what the calls of a list are answered, a line each; each behind the call itself, if they are shown.
-pub fn push_list(
+fn push_list(
     alloc: Global,
     rules: &[&str],
+    bench: &mut Bench,
     list: u32,
     is_shown: bool,
     out: &mut Vec<u8>,
 ) -> Option<()> {
-    let mut bench = Bench::new(alloc);
+    bench.restart();
     let mut seed = list.wrapping_mul(2_654_435_769).wrapping_add(1);
     for at in 0..CALLS {
-        hear(alloc, rules, &mut bench, at, &mut seed, is_shown, out)?;
+        hear(alloc, rules, bench, at, &mut seed, is_shown, out)?;
+    }
+    Some(())
+}
+
+/// Appends what the calls of the lists from one to another, which is not taken, are answered, a line each; each behind the call itself, if
+/// they are shown.
+pub fn push_lists(
+    alloc: Global,
+    rules: &[&str],
+    bench: &mut Bench,
+    (first, last): (u32, u32),
+    is_shown: bool,
+    out: &mut Vec<u8>,
+) -> Option<()> {
+    for list in first..last {
+        push_list(alloc, rules, bench, list, is_shown, out)?;
     }
     Some(())
 }
@@ -76,28 +92,14 @@ fn sum_of(bytes: &[u8]) -> u64 {
     sum
 }
 
-/// Appends what the calls of the lists from one to another, which is not taken, are answered, and gives its sum.
+/// The sum of what the calls of these lists are answered.
 pub fn sum_of_lists(
     alloc: Global,
     rules: &[&str],
-    first: u32,
-    last: u32,
-    answers: &mut Vec<u8>,
+    bench: &mut Bench,
+    lists: (u32, u32),
 ) -> Option<u64> {
-    let from = answers.len();
-    for list in first..last {
-        push_list(alloc, rules, list, false, answers)?;
-    }
-    Some(sum_of(answers.get(from..)?))
-}
-
-/// How many lines of a text are this one.
-pub fn count_of(answers: &[u8], answer: &str) -> Option<usize> {
-    let mut count = 0_usize;
-    for line in str::from_utf8(answers).ok()?.lines() {
-        if line == answer {
-            count = count.wrapping_add(1);
-        }
-    }
-    Some(count)
+    let mut answers = Vec::new(alloc);
+    push_lists(alloc, rules, bench, lists, false, &mut answers)?;
+    Some(sum_of(&answers))
 }

@@ -8,6 +8,7 @@ mod calls;
 mod lists;
 
 use crate::asked::tell;
+use crate::bench::Bench;
 use crate::calls::rules_of;
 use std::io::{self, Write};
 use std::process::ExitCode;
@@ -30,9 +31,9 @@ fn answer_all(rt: &HostRuntime) -> io::Result<bool> {
 
 fn follow(rt: &HostRuntime, text: &str, out: &mut Vec<u8>) -> Option<()> {
     let rules = rules_of(rt.alloc(), text).ok()?;
-    let mut answers = Vec::new(rt.alloc());
+    let mut bench = Bench::new(rt.alloc());
     for line in text.lines() {
-        tell(rt.alloc(), &rules, line, &mut answers, out)?;
+        tell(rt.alloc(), &rules, &mut bench, line, out)?;
     }
     Some(())
 }
