@@ -1,5 +1,5 @@
 -- Branches that go through a phase together leave a core that is recorded, and what is made of its disk is journaled.
-use Rattle.std.proofs.Common.{◌≡◌, ℕ, ◌+◌, ◌-◌, ◌≤◌, Bool, true, false, IsTrue, List, [], ◌∷◌, ◌++◌, length, map, Some, Result, Ok, Err, IfErr, OnErr, OnOk, refl, sym, ◌∙◌, ap, subst, arith, append-nil}
+use Rattle.std.proofs.Common.{◌≡◌, ℕ, ◌+◌, ◌-◌, ◌≤◌, Bool, true, false, IsTrue, List, [], ◌++◌, length, map, Some, Result, Ok, Err, IfErr, OnErr, OnOk, refl, sym, ◌∙◌, ap, subst, arith, append-nil}
 use Rattle.std.proofs.lemmas.Bool.{false≢true}
 use Rattle.std.proofs.lemmas.List.{length-map}
 use Rattle.drda_disk.specs.Disk.{Life}
@@ -25,7 +25,7 @@ use Rattle.recovery.specs.Part.{durable_part}
 use Rattle.recovery.specs.Opens.{Holds}
 use Rattle.recovery.specs.ImageLaws.{GroupsStay}
 use Rattle.recovery.specs.Journaled.{FaultsAfter, GroupsGoOn, IsDurable, JournaledBy, MadeBy, OnDisk, OneCallIsMade, OneGroupIsMade, shown_on}
-use Rattle.journal_recorder.specs.Recording.{AreLeftOpen, RecordsAll, disk_of, has_failed, journal_of, made_of}
+use Rattle.journal_recorder.specs.Recording.{AreLeftOpen, RecordsAll, disk_of, has_failed, journal_of}
 use Rattle.journal_recorder.specs.declared.recorder.DiskRecorder.{DiskRecorder}
 use Rattle.durable_core.specs.Recorded.{IsOnDisk, IsRecorded, core_on}
 use Rattle.durable_core.proofs.Recording.{durable_from}

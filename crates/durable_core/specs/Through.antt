@@ -1,5 +1,5 @@
 -- What branches that go through a phase of two-phase commit together make of a core whose units are recorded on a disk.
-use Rattle.std.specs.Prelude.{◌≡◌, ℕ, ◌+◌, true, false, List, ◌++◌, map}
+use Rattle.std.specs.Prelude.{◌≡◌, ◌+◌, true, false, List, ◌++◌, map}
 use Rattle.unit_records.specs.Phases.{AreTaken, all_through, may_go_through, records_in}
 use Rattle.unit_records.specs.Records.{UnitRecord, entry_of}
 use Rattle.unit_records.specs.Room.{held_by, released_by, taken_by}

@@ -1,22 +1,21 @@
 -- What was written over the half that is not active, and that it was read before changes nothing.
-use Rattle.std.proofs.Common.{◌≡◌, inl, ℕ, ◌+◌, ◌*◌, ◌≤◌, Bool, true, false, IsTrue, List, length, take, drop, Result, Ok, Err, refl, sym, ◌∙◌, ap, subst}
+use Rattle.std.proofs.Common.{◌≡◌, inl, ℕ, ◌+◌, ◌≤◌, Bool, true, false, IsTrue, List, length, take, drop, Result, Ok, Err, refl, sym, ◌∙◌, ap, subst}
 use Rattle.drda_disk.specs.Disk.{LeavesOnly, Life, Now, Stays}
-use Rattle.drda_disk.specs.Region.{end_of}
 use Rattle.drda_disk.proofs.Moments.{Only-stays, stays_and}
 use Rattle.half_store.specs.Active.{Store, active_of}
 use Rattle.half_store.specs.Layout.{half_len, offset_of, other_than}
 use Rattle.half_store.specs.Opened.{store_of}
 use Rattle.half_store.specs.declared.active.Active.{Active}
 use Rattle.tables.specs.Tables.{Store as Tables}
-use Rattle.unit_journal.specs.Journal.{held_of, region_of}
+use Rattle.unit_journal.specs.Journal.{held_of}
 use Rattle.unit_journal.specs.declared.journal.Journal.{Journal}
 use Rattle.unit_journal.specs.Record.{Entry}
 use Rattle.checkpoint_writer.specs.declared.ending.Switched.{Switched}
 use Rattle.checkpoints.specs.Holds.{half_end, journal_at}
 use Rattle.checkpoints.specs.Room.{need_of}
 use Rattle.checkpoints.specs.Moment.{GoesOn, IsAnew, Moment, Rests}
-use Rattle.journal_recorder.specs.Checkpointing.{Checkpoints, IsSwitched, KeepsOld, LacksRoom, LeavesOldOrNew, LeavesOpen, OfStore, StaysOn, Switches}
-use Rattle.journal_recorder.specs.Recording.{disk_of, has_failed, journal_of, made_of}
+use Rattle.journal_recorder.specs.Checkpointing.{Checkpoints, IsSwitched, KeepsOld, LeavesOldOrNew, OfStore, StaysOn}
+use Rattle.journal_recorder.specs.Recording.{disk_of, journal_of, made_of}
 use Rattle.journal_recorder.specs.declared.checkpointing.CheckpointError.{CheckpointError}
 use Rattle.journal_recorder.specs.declared.checkpointing.CheckpointError.TheVariants.{DeviceFailed, Full, NoMemory}
 use Rattle.journal_recorder.specs.declared.recorder.DiskRecorder.{DiskRecorder}

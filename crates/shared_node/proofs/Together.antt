@@ -1,18 +1,17 @@
 -- Calls that are made together lead from the core before them to the core behind them.
-use Rattle.std.proofs.Common.{◌≡◌, ℕ, Bool, true, false, if◌then◌else◌, List, [], ◌∷◌, ◌++◌, Option, Some, None, refl, sym, ap, subst, ◌∙◌}
+use Rattle.std.proofs.Common.{◌≡◌, ℕ, Bool, true, false, List, [], ◌∷◌, ◌++◌, Option, Some, None, refl, sym, ap, subst, ◌∙◌}
 use Rattle.std.specs.Prelude.{◌&&◌, is_some, not}
 use Rattle.drda_disk.specs.Disk.{Life}
-use Rattle.xa_calls.specs.declared.code.XaCode.TheVariants as code
 use Rattle.xa_manager.specs.Branch.{joined_xid}
-use Rattle.core_calls.specs.Call.{Call, commit}
-use Rattle.core_calls.specs.Answer.{Answer, done, in_global, xa}
+use Rattle.core_calls.specs.Call.{commit}
+use Rattle.core_calls.specs.Answer.{done, in_global, xa}
 use Rattle.core_model.specs.Step.{CoreState, answer, step_state, unless_joined}
 use Rattle.core_model.specs.Units.{Held}
 use Rattle.unit_records.specs.Together.{all_committed, are_local}
 use Rattle.unit_records.specs.Phases.{AreTaken, all_through, call_for}
 use Rattle.unit_records.specs.declared.phase.Phase.{Phase}
 use Rattle.serializability.specs.Answered.{AnsweredCall, CallsLead, CallsLeadOn}
-use Rattle.recovery.specs.Journaled.{OnDisk, shown_on}
+use Rattle.recovery.specs.Journaled.{OnDisk}
 use Rattle.shared_node.specs.declared.wish.Wish.{Wish}
 use Rattle.shared_node.specs.declared.wish.Wished.{Wished}
 use Rattle.shared_node.specs.declared.wish.Wished.TheVariants.{Commit, Through}

@@ -1,5 +1,5 @@
 -- What conversations wait to ask, and how it is listed where it is done together with what others ask.
-use Rattle.std.specs.Prelude.{◌≡◌, ℕ, Bool, List, [], Option, Some, None, if◌then◌else◌}
+use Rattle.std.specs.Prelude.{ℕ, Bool, List, [], Option, Some, None, if◌then◌else◌}
 use Rattle.xa_calls.specs.declared.code.XaCode.TheVariants as code
 use Rattle.core_calls.specs.Call.{Call, commit}
 use Rattle.core_calls.specs.Answer.{Answer, device_failed, done, xa}

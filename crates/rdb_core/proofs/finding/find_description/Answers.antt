@@ -1,4 +1,4 @@
-use Rattle.std.proofs.Common.{◌≡◌, ap, option_map, rules, sym, ◌∙◌}
+use Rattle.std.proofs.Common.{◌≡◌, ap, option_map, rules, ◌∙◌}
 use Rattle.std.specs.Arc.{arc_value}
 use Rattle.std.specs.Option.{option_copied}
 use Rattle.tables.specs.Tables.{Store, schema_of}

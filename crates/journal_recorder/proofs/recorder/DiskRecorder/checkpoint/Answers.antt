@@ -1,4 +1,4 @@
-use Rattle.std.proofs.Common.{rules, refl}
+use Rattle.std.proofs.Common.{refl}
 use Rattle.unit_journal.specs.Record.{entries_of}
 use Rattle.table_store.specs.TableStore.{store_in}
 use Rattle.journal_recorder.proofs.Switching.{after_reading}

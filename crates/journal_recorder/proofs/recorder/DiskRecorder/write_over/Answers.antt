@@ -1,4 +1,4 @@
-use Rattle.std.proofs.Common.{rules, ℕ, ◌≤◌, length, List, refl, ◌∙◌, subst}
+use Rattle.std.proofs.Common.{ℕ, ◌≤◌, length, List, refl, ◌∙◌, subst}
 use Rattle.half_store.specs.Active.{Store}
 use Rattle.half_store.specs.Layout.{half_len}
 use Rattle.tables.specs.Tables.{Store as Tables}
@@ -7,7 +7,7 @@ use Rattle.unit_journal.specs.Journal.{held_of}
 use Rattle.unit_journal.specs.Record.{entries_of}
 use Rattle.journal_recorder.specs.declared.recorder.DiskRecorder.{DiskRecorder}
 use Rattle.half_store.specs.Opened.{store_of}
-use Rattle.checkpoints.specs.Moment.{IsAnew, Moment}
+use Rattle.checkpoints.specs.Moment.{Moment}
 use Rattle.checkpoints.specs.Room.{need_of}
 use Rattle.journal_recorder.specs.Checkpointing.{IsSwitched, Switches}
 use Rattle.journal_recorder.specs.Recording.{disk_of, journal_of}
