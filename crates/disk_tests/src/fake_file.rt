@@ -1,80 +1,57 @@
 //! A file that takes a part of what it is asked, is interrupted, and fails, for tests.
-ghost use Rattle.std.specs.Prelude.{◌≡◌, ◌≤◌, false, true};
+ghost use Rattle.std.specs.Prelude.{◌≡◌, ◌≤◌, false, IfOk};
 ghost use Rattle.drda_disk.specs.File.{unknown, no_image};
 
 use drda_disk::{FileFault, FilePlace, PositionalFile};
 use std::io::{self, ErrorKind};
-
-/// How a file behaves.
-#[derive(Clone, Copy)]
-pub struct Manner {
-    /// The most bytes that one call takes.
-    pub most: usize,
-    /// Every so many calls one is interrupted; none at 0.
-    pub interrupted_every: u32,
-    /// The number of the read or write, from 1, that fails; none at 0.
-    pub failing_call: u32,
-    pub fails_to_sync: bool,
-}
-
-/// A file that does all that it is asked at once.
-pub const WILLING: Manner = Manner {
-    most: 16,
-    interrupted_every: 0,
-    failing_call: 0,
-    fails_to_sync: false,
-};
 
 /// Sixteen bytes in memory.
 #[derive(Drop)]
 pub struct FakeFile {
     bytes: [u8; 16],
     len: usize,
-    manner: Manner,
-    calls: u32,
-    syncs: u32,
+    /// The most bytes that one call takes.
+    pub most: usize,
+    /// Every so many calls one is interrupted; none at 0.
+    pub interrupted_every: usize,
+    /// The number of the read or write, from 1, that fails; none at 0.
+    pub failing_call: usize,
+    pub fails_to_sync: bool,
+    /// How many reads and writes there were.
+    pub calls: usize,
+    pub syncs: u32,
 }
 
 impl FakeFile {
-    pub fn new(manner: Manner) -> FakeFile {
+    /// A file that does all that it is asked at once, but for its syncs if they are to fail.
+    pub fn new(fails_to_sync: bool) -> FakeFile {
         FakeFile {
             bytes: [0; 16],
             len: 16,
-            manner,
+            most: 16,
+            interrupted_every: 0,
+            failing_call: 0,
+            fails_to_sync,
             calls: 0,
             syncs: 0,
         }
     }
 
-    /// The calls of a read or a write.
-    pub fn calls(&self) -> u32 {
-        self.calls
-    }
-
-    pub fn syncs(&self) -> u32 {
-        self.syncs
-    }
-
-    /// Counts a read or a write, which may fail.
-    fn begin(&mut self) -> io::Result<()>
-        ensures { self.new.len ≡ self.old.len }
+    // Counts a read or a write of so many bytes, and says how many of them it takes; it may fail.
+    fn begin(&mut self, len: usize) -> io::Result<usize>
+        ensures same { self.new.len ≡ self.old.len }
+        ensures taken { IfOk result (λ n. n ≤ len) }
     {
         self.calls = self.calls.saturating_add(1);
-        if self.calls == self.manner.failing_call {
+        if self.calls == self.failing_call {
             return Err(ErrorKind::StorageFull.into());
         }
-        match self.calls.checked_rem(self.manner.interrupted_every) {
+        match self.calls.checked_rem(self.interrupted_every) {
             Some(0) => Err(ErrorKind::Interrupted.into()),
-            _ => Ok(()),
+            _ if self.most < len => Ok(self.most),
+            _ => Ok(len),
         }
     }
-}
-
-/// How many bytes of a range are moved at once.
-fn moved(most: usize, len: usize) -> usize
-    ensures { result ≤ len }
-{
-    if most < len { most } else { len }
 }
 
 impl PositionalFile for FakeFile {
@@ -100,8 +77,7 @@ impl PositionalFile for FakeFile {
     }
 
     fn read_some(&mut self, at: usize, into: &mut [u8]) -> io::Result<usize> {
-        self.begin()?;
-        let n = moved(self.manner.most, into.len());
+        let n = self.begin(into.len())?;
         for (byte, old) in into.iter_mut().take(n).zip(self.bytes.iter().skip(at)) {
             *byte = *old;
         }
@@ -109,8 +85,7 @@ impl PositionalFile for FakeFile {
     }
 
     fn write_some(&mut self, at: usize, bytes: &[u8]) -> io::Result<usize> {
-        self.begin()?;
-        let n = moved(self.manner.most, bytes.len());
+        let n = self.begin(bytes.len())?;
         for (byte, new) in self.bytes.iter_mut().skip(at).zip(bytes.iter().take(n)) {
             *byte = *new;
         }
@@ -119,31 +94,22 @@ impl PositionalFile for FakeFile {
 
     fn sync(&mut self) -> io::Result<()> {
         self.syncs = self.syncs.saturating_add(1);
-        if self.manner.fails_to_sync {
+        if self.fails_to_sync {
             return Err(ErrorKind::Other.into());
         }
         Ok(())
     }
 }
 
-/// Which step of making a file fails.
-#[derive(Clone, Copy, PartialEq, Eq)]
-pub enum Step {
-    Create,
-    Sync,
-    SyncFolder,
-    None,
-}
-
-/// A place for one such file.
+/// A place for one such file, and the step of making it that fails: to create it, to sync it, or to sync its folder.
 #[derive(Drop)]
-pub struct FakePlace {
-    pub failing: Step,
+pub struct FakePlace<'a> {
+    pub failing: &'a str,
     pub folder_syncs: u32,
     pub removed: u32,
 }
 
-impl FilePlace for FakePlace {
+impl<'a> FilePlace for FakePlace<'a> {
     type File = FakeFile;
 
     ghost is_modelled = { false };
@@ -151,22 +117,19 @@ impl FilePlace for FakePlace {
     ghost is_kept = { λ _. false };
 
     fn create(&mut self) -> io::Result<FakeFile> {
-        if self.failing == Step::Create {
+        if self.failing == "create" {
             return Err(ErrorKind::AlreadyExists.into());
         }
-        Ok(FakeFile::new(Manner {
-            fails_to_sync: self.failing == Step::Sync,
-            ..WILLING
-        }))
+        Ok(FakeFile::new(self.failing == "sync"))
     }
 
     fn open(&mut self) -> io::Result<FakeFile> {
-        Ok(FakeFile::new(WILLING))
+        Ok(FakeFile::new(false))
     }
 
     fn sync_folder(&mut self) -> io::Result<()> {
         self.folder_syncs = self.folder_syncs.saturating_add(1);
-        if self.failing == Step::SyncFolder {
+        if self.failing == "folder" {
             return Err(ErrorKind::Other.into());
         }
         Ok(())

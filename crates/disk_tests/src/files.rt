@@ -1,42 +1,78 @@
-//! Real files as disks.
+//! Files as disks: real ones, and one that takes a part of what it is asked, is interrupted, and fails.
 
-use crate::told::{push, push_first_16, put, size};
-use drda_disk::{Disk, DiskFault, FileDisk, FileFault, FilePath, SystemFile};
-use std::alloc::Global;
-use std::fs::{self, OpenFile, OpenOptions};
+use crate::calls::{number_in, tell_call};
+use crate::fake_file::{FakeFile, FakePlace};
+use drda_disk::{FileDisk, FileFault, FilePath, FilePlace, PositionalFile, SystemFile};
+use std::alloc::{AllocError, Global};
+use std::fs::{self, OpenOptions};
 use std::io::{self, ErrorKind};
 use std::process;
-use test_bytes::bytes_of;
 
-/// A file as a disk, if one is open.
+/// The files that are open as disks.
 #[derive(Drop)]
 pub struct Files {
-    alloc: Global,
-    disk: Option<FileDisk<SystemFile>>,
+    fake: Option<FileDisk<FakeFile>>,
+    real: Option<FileDisk<SystemFile>>,
 }
 
-fn path_in_temp(rt: &HostRuntime, name: &str) -> Option<String> {
-    let folder = std::env::temp_dir(rt).ok()?;
+// The path of a name in the folder for temporary files; of a dot, that folder's.
+fn path_of(rt: &HostRuntime, name: &str) -> Result<String, AllocError> {
+    let folder = match std::env::temp_dir(rt) {
+        Ok(folder) => folder,
+        Err(_) => return Err(AllocError),
+    };
     let id = process::id(rt.process());
-    format!(in rt.alloc(); "{}/drda_disk-{id}-{name}", folder.as_str()).ok()
+    match name {
+        "." => format!(in rt.alloc(); "{}/.", folder.as_str()),
+        _ => format!(in rt.alloc(); "{}/drda_disk-{id}-{name}", folder.as_str()),
+    }
 }
 
-fn push_refused(alloc: Global, fault: FileFault, out: &mut Vec<u8>) -> Option<()> {
-    match fault {
-        FileFault::Io(error) => {
-            let kind = error.kind();
-            push(out, &format!(in alloc; "refused as {kind:?}").ok()?)
+// Makes a file of so many bytes, or opens the one that is there. Its disk takes the place of the one before; where it is refused, that stays.
+fn take<F: PositionalFile + Drop, P: FilePlace<File = F>>(
+    disk: &mut Option<FileDisk<F>>,
+    place: &mut P,
+    size: Option<usize>,
+    out: &mut String,
+) -> Result<(), AllocError> {
+    let made = match size {
+        Some(size) => FileDisk::create(place, size),
+        None => FileDisk::open(place),
+    };
+    match made {
+        Ok(made) => {
+            *disk = Some(made);
+            writeln!(out, "  opened")
         }
-        FileFault::InUse => push(out, "in use"),
+        Err(FileFault::Io(error)) => {
+            let kind = error.kind();
+            writeln!(out, "  refused as {kind:?}")
+        }
+        Err(FileFault::InUse) => writeln!(out, "  in use"),
+    }
+}
+
+// Tells why the last call that failed did, or what a call of a disk answers.
+fn tell_step<F: PositionalFile>(
+    alloc: Global,
+    disk: &mut Option<FileDisk<F>>,
+    step: &str,
+    out: &mut String,
+) -> Result<(), AllocError> {
+    match disk {
+        Some(disk) if step == "why" => match disk.last_fault() {
+            Some(fault) => writeln!(out, "  {fault}"),
+            None => writeln!(out, "  no fault"),
+        },
+        Some(disk) => tell_call(alloc, disk, step, out),
+        None => writeln!(out, "  no disk"),
     }
 }
 
 // Somebody cuts a file off behind its disk's back.
-fn cut(rt: &HostRuntime, path: &str, length: u64) -> io::Result<()> {
-    OpenOptions::new()
-        .write(true)
-        .open(rt, path)?
-        .set_len(length)
+fn cut(rt: &HostRuntime, path: &str, length: usize) -> io::Result<()> {
+    let file = OpenOptions::new().write(true).open(rt, path)?;
+    file.set_len(length as u64)
 }
 
 fn lock(rt: &HostRuntime, path: &str) -> io::Result<()> {
@@ -54,117 +90,99 @@ fn is_refused(opened: Result<FileDisk<SystemFile>, FileFault>) -> bool {
     }
 }
 
-fn push_done(done: io::Result<()>, out: &mut Vec<u8>) -> Option<()> {
-    push(out, if done.is_ok() { "done" } else { "not done" })
-}
-
-fn push_answer(answer: Result<(), DiskFault>, out: &mut Vec<u8>) -> Option<()> {
-    push(out, if answer.is_ok() { "done" } else { "a fault" })
-}
-
-fn push_folder(rt: &HostRuntime, out: &mut Vec<u8>) -> Option<()> {
-    let folder = std::env::temp_dir(rt).ok()?;
-    match FileDisk::open(&mut FilePath::new(rt, folder.as_str())) {
-        Ok(_) => push(out, "opened"),
-        Err(fault) => push_refused(rt.alloc(), fault, out),
-    }
-}
-
 impl Files {
     /// No file.
-    pub fn new(alloc: Global) -> Files {
-        Files { alloc, disk: None }
-    }
-
-    // A disk takes the place of the one before; where it is refused, that stays.
-    fn lay(
-        &mut self,
-        made: Result<FileDisk<SystemFile>, FileFault>,
-        told: &str,
-        out: &mut Vec<u8>,
-    ) -> Option<()> {
-        match made {
-            Ok(disk) => {
-                self.disk = Some(disk);
-                push(out, told)
-            }
-            Err(fault) => push_refused(self.alloc, fault, out),
+    pub fn new() -> Files {
+        Files {
+            fake: None,
+            real: None,
         }
     }
 
-    fn answer_of_disk(&mut self, verb: &str, rest: &str, out: &mut Vec<u8>) -> Option<()> {
-        let disk = match &mut self.disk {
-            Some(disk) => disk,
-            None => return None,
+    // A file of which a call takes at most so many bytes, of every so many calls of which one is interrupted, and one call of which fails.
+    fn lay_fake(&mut self, asked: &str) {
+        let (most, asked) = number_in(asked);
+        let (every, asked) = number_in(asked);
+        let (failing, syncs) = number_in(asked);
+        let mut file = FakeFile::new(syncs == "fail");
+        file.most = most;
+        file.interrupted_every = every;
+        file.failing_call = failing;
+        self.fake = Some(FileDisk::over(file));
+    }
+
+    // A place one of whose steps fails: whether there is a disk, how often its folder was synced, and how many files it took away.
+    fn tell_place(&mut self, failing: &str, out: &mut String) -> Result<(), AllocError> {
+        let mut place = FakePlace {
+            failing,
+            folder_syncs: 0,
+            removed: 0,
         };
-        match verb {
-            "put" => {
-                let bytes = bytes_of(self.alloc, &[rest]).ok()?;
-                push_answer(put(disk, 3, &bytes), out)
+        self.fake = None;
+        take(&mut self.fake, &mut place, Some(16), out)?;
+        let (syncs, removed) = (place.folder_syncs, place.removed);
+        writeln!(out, "  {syncs} syncs of its folder, {removed} taken away")
+    }
+
+    /// Does a step with a file that is none, and tells what it comes to: `over` and `place` make one, `calls` tells how many there were of it,
+    /// and else it is a call of its disk.
+    pub fn answer_fake(
+        &mut self,
+        alloc: Global,
+        step: &str,
+        out: &mut String,
+    ) -> Result<(), AllocError> {
+        let (verb, rest) = step.split_once(' ').unwrap_or((step, ""));
+        match (verb, &self.fake) {
+            ("over", _) => {
+                self.lay_fake(rest);
+                Ok(())
             }
-            "sync" => push_answer(disk.sync(), out),
-            "read" => push_first_16(self.alloc, disk, out),
-            _ => {
-                let (size, failures) = (disk.size(), disk.failures());
-                push(
-                    out,
-                    &format!(in self.alloc; "{size} bytes, {failures} failures").ok()?,
-                )
+            ("place", _) => self.tell_place(rest, out),
+            ("calls", Some(disk)) => {
+                let (calls, syncs) = (disk.file().calls, disk.file().syncs);
+                writeln!(out, "  {calls} calls, {syncs} syncs")
             }
+            _ => tell_step(alloc, &mut self.fake, step, out),
         }
     }
 
-    fn answer_of_path(
+    /// Does a step with a real file, and tells what it comes to. `create`, `open`, `cut`, `lock`, `locked` and `remove` have a file's name
+    /// behind them; `close` closes the disk, and else it is a call of it.
+    pub fn answer_real(
         &mut self,
         rt: &HostRuntime,
-        verb: &str,
-        (name, rest): (&str, &str),
-        out: &mut Vec<u8>,
-    ) -> Option<()> {
-        let path = path_in_temp(rt, name)?;
+        step: &str,
+        out: &mut String,
+    ) -> Result<(), AllocError> {
+        let (verb, rest) = step.split_once(' ').unwrap_or((step, ""));
+        let (name, rest) = rest.split_once(' ').unwrap_or((rest, ""));
+        let (number, _) = number_in(rest);
+        let path = path_of(rt, name)?;
         let path = path.as_str();
         match verb {
-            "create" => {
-                let made = FileDisk::create(&mut FilePath::new(rt, path), size(rest)?);
-                self.lay(made, "created", out)
-            }
-            "open" => {
-                let made = FileDisk::open(&mut FilePath::new(rt, path));
-                self.lay(made, "opened", out)
-            }
-            "cut" => push_done(cut(rt, path, rest.parse::<u64>().ok()?), out),
-            "lock" => push_done(lock(rt, path), out),
+            "create" => take(
+                &mut self.real,
+                &mut FilePath::new(rt, path),
+                Some(number),
+                out,
+            ),
+            "open" => take(&mut self.real, &mut FilePath::new(rt, path), None, out),
             "locked" => {
                 let is_refused = is_refused(FileDisk::open(&mut FilePath::new(rt, path)));
-                push(
+                writeln!(
                     out,
-                    if is_refused {
-                        "refused, or to a privileged user opened"
-                    } else {
-                        "refused otherwise"
-                    },
+                    "  refused, or to a privileged user opened {is_refused}"
                 )
             }
-            _ => push_done(fs::remove_file(rt, path), out),
-        }
-    }
-
-    /// Answers a line. `create`, `open`, `cut`, `lock`, `locked` and `remove` have a file's name behind them; `close` closes the disk, `put`,
-    /// `sync`, `read` and `size` concern it, and `folder` opens a folder.
-    pub fn answer(&mut self, rt: &HostRuntime, asked: &str, out: &mut Vec<u8>) -> Option<()> {
-        let (verb, rest) = asked.split_once(' ').unwrap_or((asked, ""));
-        match verb {
+            "cut" => writeln!(out, "  {}", cut(rt, path, number).is_ok()),
+            "lock" => writeln!(out, "  {}", lock(rt, path).is_ok()),
+            "remove" => writeln!(out, "  {}", fs::remove_file(rt, path).is_ok()),
             "close" => {
-                self.disk = None;
-                push(out, "done")
+                self.real = None;
+                Ok(())
             }
-            "folder" => push_folder(rt, out),
-            "put" | "sync" | "read" | "size" => self.answer_of_disk(verb, rest, out),
-            "create" | "open" | "cut" | "lock" | "locked" | "remove" => {
-                let named = rest.split_once(' ').unwrap_or((rest, ""));
-                self.answer_of_path(rt, verb, named, out)
-            }
-            _ => None,
+            _ => tell_step(rt.alloc(), &mut self.real, step, out),
         }
     }
 }

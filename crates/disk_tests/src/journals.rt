@@ -1,11 +1,11 @@
-//! Calls on journals whose conditions are tested, for tests. One that does not hold shows as a
-//! fault of the device.
-ghost use Rattle.std.specs.Prelude.{◌≡◌, ◌^◌, ◌<◌, ◌≤◌, IfOk, IsTrue, length};
+//! Calls on journals whose conditions are tested. One that does not hold shows as a fault of the device.
+ghost use Rattle.std.specs.Prelude.{◌^◌, ◌<◌, ◌≤◌, IsTrue, length};
 ghost use Rattle.drda_disk.specs.Region.{end_of};
-ghost use Rattle.unit_journal.specs.LaidRecord.{entry_in};
 
-use drda_disk::{Disk, DiskFault, Region};
+use crate::calls::number_in;
+use drda_disk::{Disk, Region};
 use std::alloc::{AllocError, Global};
+use test_bytes::bytes_of;
 use unit_journal::{
     AppendError, Journal, Kind, LaidGroup, LaidRecord, LayError, OpenError, Record,
 };
@@ -18,13 +18,28 @@ fn may_be_a_journal<D: Disk>(disk: &D, region: Region) -> bool
     0 < region.length && region.length <= 1 << 32 && region.end() <= disk.size()
 }
 
-pub fn start<D: Disk>(disk: &mut D, region: Region) -> Result<Journal, DiskFault> {
+/// Begins a journal, or lays one of the first of these records, so many, with so many bytes held.
+pub fn settle<D: Disk>(
+    alloc: Global,
+    disk: &mut D,
+    region: Region,
+    records: &[Record],
+    count: Option<usize>,
+    held: usize,
+) -> Result<Journal, LayError> {
     if !may_be_a_journal(disk, region) {
-        return Err(DiskFault);
+        return Err(LayError::DeviceFailed);
     }
-    Journal::start(disk, region)
+    let Some(count) = count else {
+        return Ok(Journal::start(disk, region)?);
+    };
+    match records.get(..count) {
+        Some(records) => Journal::lay(alloc, disk, region, records, held),
+        None => Err(LayError::DeviceFailed),
+    }
 }
 
+/// The journal of a region, and its records.
 pub fn open<D: Disk>(
     alloc: Global,
     disk: &mut D,
@@ -36,84 +51,81 @@ pub fn open<D: Disk>(
     Journal::open(alloc, disk, region)
 }
 
-pub fn lay<D: Disk>(
+/// Tells how many records a region has, or why they are not found.
+pub fn tell_found<D: Disk>(
     alloc: Global,
     disk: &mut D,
     region: Region,
-    records: &[Record],
-    held: usize,
-) -> Result<Journal, LayError> {
-    if !may_be_a_journal(disk, region) {
-        return Err(LayError::DeviceFailed);
-    }
-    Journal::lay(alloc, disk, region, records, held)
-}
-
-/// What an append says, and what it holds and releases.
-#[derive(Clone, Copy)]
-pub struct Said<'a> {
-    pub kind: Kind,
-    pub body: &'a [u8],
-    pub hold: usize,
-    pub release: usize,
-}
-
-/// Only a record.
-pub fn record_of(kind: Kind, body: &[u8]) -> Said<'_> {
-    Said {
-        kind,
-        body,
-        hold: 0,
-        release: 0,
+    out: &mut String,
+) -> Result<(), AllocError> {
+    match open(alloc, disk, region) {
+        Ok((_, records)) => writeln!(out, "  {} records", records.len()),
+        Err(fault) => writeln!(out, "  {fault:?}"),
     }
 }
 
-/// The record of this kind with this body.
-pub fn laid_record(alloc: Global, kind: Kind, body: &[u8]) -> Result<LaidRecord, AllocError>
-    requires { length body.now < 2 ^ 32 }
-    ensures { IfOk result (λ laid. entry_in laid ≡ record { kind = kind; body = body.now }) }
-{
+fn kind_of(word: &str) -> Kind {
+    match word {
+        "prepare" => Kind::Prepare,
+        "decide" => Kind::Decide,
+        _ => Kind::Commit,
+    }
+}
+
+// The record of this kind with this body.
+fn laid_record(alloc: Global, kind: &str, body: &str) -> Result<LaidRecord, AllocError> {
+    let body = bytes_of(alloc, &[body])?;
+    if body.len() >= 1 << 32 {
+        return Err(AllocError);
+    }
     let mut bytes = LaidRecord::begin(alloc, body.len())?;
-    bytes.extend_from_slice(body)?;
-    LaidRecord::finish(kind, bytes)
+    bytes.extend_from_slice(&body)?;
+    LaidRecord::finish(kind_of(kind), bytes)
 }
 
-/// Lays a record, and what its append answers.
-pub fn append<D: Disk>(
-    alloc: Global,
-    journal: &mut Journal,
-    disk: &mut D,
-    said: Said<'_>,
-) -> Result<Result<(), AppendError>, AllocError> {
-    let Said {
-        kind,
-        body,
-        hold,
-        release,
-    } = said;
-    if journal.region().end() > disk.size()
-        || body.len() >= 1 << 32
-        || hold >= 1 << 32
-        || release > journal.held()
-    {
-        return Ok(Err(AppendError::DeviceFailed));
-    }
+/// Tells the kind and the body of the record of a kind with a body.
+pub fn tell_record(alloc: Global, asked: &str, out: &mut String) -> Result<(), AllocError> {
+    let (kind, body) = asked.split_once(' ').unwrap_or((asked, ""));
     let laid = laid_record(alloc, kind, body)?;
-    Ok(journal.append(disk, &laid, hold, release))
+    writeln!(out, "  {:?} {:?}", laid.kind(), laid.body())
 }
 
-/// The group of so many records, the first a commit of one byte and the others prepares of two.
-pub fn group_of(alloc: Global, count: usize) -> Result<LaidGroup, AllocError> {
-    let mut group = LaidGroup::of(laid_record(alloc, Kind::Commit, &[1])?);
-    let next = laid_record(alloc, Kind::Prepare, &[2, 3])?;
+/// Tells whether a record that was begun is laid: neither call fails whatever memory is refused.
+pub fn tell_begun(alloc: Global, out: &mut String) -> Result<(), AllocError> {
+    let mut bytes = LaidRecord::begin(alloc, 3)?;
+    let is_extended = bytes.extend_from_slice(&[1, 2, 3]).is_ok();
+    let is_laid = LaidRecord::finish(Kind::Commit, bytes).is_ok();
+    writeln!(out, "  extended {is_extended}, laid {is_laid}")
+}
+
+// The group of so many records, the first a commit of one byte and the others prepares of two.
+fn group_of(alloc: Global, count: usize) -> Result<LaidGroup, AllocError> {
+    let mut group = LaidGroup::of(laid_record(alloc, "commit", "01")?);
+    let next = laid_record(alloc, "prepare", "0203")?;
     for _ in 1..count {
         group.push(&next)?;
     }
     Ok(group)
 }
 
-/// What the append of a group answers.
-pub fn append_group<D: Disk>(
+fn append<D: Disk>(
+    journal: &mut Journal,
+    disk: &mut D,
+    laid: &LaidRecord,
+    hold: usize,
+    release: usize,
+) -> Result<(), AppendError> {
+    if journal.region().end() > disk.size()
+        || laid.body().len() >= 1 << 32
+        || hold >= 1 << 32
+        || release > journal.held()
+    {
+        return Err(AppendError::DeviceFailed);
+    }
+    journal.append(disk, laid, hold, release)
+}
+
+fn append_group<D: Disk>(
     journal: &mut Journal,
     disk: &mut D,
     group: &LaidGroup,
@@ -128,4 +140,31 @@ pub fn append_group<D: Disk>(
         return Err(AppendError::DeviceFailed);
     }
     journal.append_group(disk, group, hold, release)
+}
+
+/// Holds so many bytes back, or adds a group of so many records or a record of a kind; in front of the body or the number of records stand
+/// the bytes that are held then, and those that are released.
+pub fn add<D: Disk>(
+    alloc: Global,
+    journal: &mut Journal,
+    disk: &mut D,
+    verb: &str,
+    asked: &str,
+) -> Result<Result<(), AppendError>, AllocError> {
+    let (hold, asked) = number_in(asked);
+    let (release, asked) = number_in(asked);
+    match verb {
+        "hold" => Ok(match journal.hold(hold) {
+            Ok(()) => Ok(()),
+            Err(full) => Err(AppendError::Full(full)),
+        }),
+        "group" => {
+            let group = group_of(alloc, number_in(asked).0)?;
+            Ok(append_group(journal, disk, &group, hold, release))
+        }
+        _ => {
+            let laid = laid_record(alloc, verb, asked)?;
+            Ok(append(journal, disk, &laid, hold, release))
+        }
+    }
 }

@@ -1,71 +1,58 @@
-//! Tests of drda_disk and unit_journal. Each line of standard input does something to a disk, a file or a journal, or looks at it; what it
-//! comes to goes to standard output, which is compared.
+//! Tests of drda_disk and unit_journal. Each line of standard input names a disk and has steps for it, which semicolons part; what each step
+//! tells goes to standard output, which is compared.
 #![tactic(auto)]
 
-mod crashes;
+mod calls;
 mod fake_file;
 mod files;
-mod fuses;
-mod journal_rows;
 mod journals;
-mod short_files;
-mod stops;
-mod told;
+mod memory;
 
 use crate::files::Files;
-use crate::journal_rows::Journals;
-use crate::told::push;
+use crate::memory::Memory;
+use std::alloc::AllocError;
 use std::io::{self, Write};
-use std::process::ExitCode;
 
-fn main(rt: HostRuntime) -> ExitCode {
-    match answer_all(&rt) {
-        Ok(true) => ExitCode::from(0),
-        _ => ExitCode::from(1),
-    }
-}
-
-// Whether each line was answered.
-fn answer_all(rt: &HostRuntime) -> io::Result<bool> {
+fn main(rt: HostRuntime) -> io::Result<()> {
     let text = io::read_to_string(rt.alloc(), rt.stdin())?;
-    let mut written = Vec::new(rt.alloc());
-    let is_done = follow(rt, &text, &mut written).is_some();
+    let mut told = String::new(rt.alloc());
+    follow(&rt, &text, &mut told)?;
     let mut out = rt.stdout();
-    out.write_all(&written)?;
-    out.flush()?;
-    Ok(is_done)
+    out.write_all(told.as_bytes())?;
+    out.flush()
 }
 
-// Answers each line that is not empty and does not begin with #.
-fn follow(rt: &HostRuntime, text: &str, out: &mut Vec<u8>) -> Option<()> {
-    let mut files = Files::new(rt.alloc());
-    let mut journals = Journals::new(rt.alloc());
+// Writes each line down, and what its steps tell.
+fn follow(rt: &HostRuntime, text: &str, out: &mut String) -> Result<(), AllocError> {
+    let mut memory = Memory::new(rt.alloc())?;
+    let mut files = Files::new();
+    let mut done = Ok(());
     for line in text.lines() {
-        push(out, line)?;
-        if !line.is_empty() && !line.starts_with('#') {
-            push(out, "\n  ")?;
-            answer(rt, line, &mut files, &mut journals, out)?;
+        done = answer(rt, line, &mut memory, &mut files, out);
+        if done.is_err() {
+            break;
         }
-        push(out, "\n")?;
     }
-    Some(())
+    done
 }
 
-// The first word says what is asked.
+// Writes a line down, and what its steps tell. Lines that are empty or begin with # have none.
 fn answer(
     rt: &HostRuntime,
     line: &str,
+    memory: &mut Memory,
     files: &mut Files,
-    journals: &mut Journals,
-    out: &mut Vec<u8>,
-) -> Option<()> {
-    let (subject, asked) = line.split_once(' ')?;
-    match subject {
-        "crash" => crashes::answer(rt.alloc(), asked, out),
-        "fuse" => fuses::answer(rt.alloc(), asked, out),
-        "transfer" => short_files::answer(rt.alloc(), asked, out),
-        "file" => files.answer(rt, asked, out),
-        "stop" => stops::answer(rt.alloc(), asked, out),
-        _ => journals.answer(subject, asked, out),
+    out: &mut String,
+) -> Result<(), AllocError> {
+    writeln!(out, "{line}")?;
+    let (subject, steps) = line.split_once(' ').unwrap_or((line, ""));
+    for step in steps.split("; ") {
+        match subject {
+            "memory" => memory.answer(step, out)?,
+            "fake" => files.answer_fake(rt.alloc(), step, out)?,
+            "file" => files.answer_real(rt, step, out)?,
+            _ => {}
+        }
     }
+    Ok(())
 }

@@ -1,0 +1,253 @@
+//! A disk in memory that crashes and fails, and a journal on it.
+
+use crate::calls::{change, image, number_in, tell_call};
+use crate::journals::{add, open, settle, tell_begun, tell_found, tell_record};
+use drda_disk::{Disk, FuseDisk, MemDisk, Region};
+use std::alloc::{AllocError, Global};
+use std::mem;
+use test_bytes::bytes_of;
+use unit_journal::{AppendError, Journal, Record};
+
+/// A disk in memory behind a fuse, the region of a journal on it, the journal, if one is open, and the records that were found last.
+#[derive(Drop)]
+pub struct Memory {
+    alloc: Global,
+    disk: FuseDisk<MemDisk>,
+    region: Region,
+    journal: Option<Journal>,
+    records: Vec<Record>,
+}
+
+// A disk of so many zeros, with room set aside for so many writes of so many bytes; its fuse lets each call through.
+fn fresh(alloc: Global, asked: &str) -> Result<FuseDisk<MemDisk>, AllocError> {
+    let (size, aside) = number_in(asked);
+    let (writes, bytes) = number_in(aside);
+    let mut disk = MemDisk::new(alloc, size)?;
+    disk.set_aside(writes, number_in(bytes).0)?;
+    Ok(FuseDisk::new(disk, u64::MAX, false))
+}
+
+// What a crash leaves of a disk, or the disk behind another fuse, which fails once or always behind so many calls.
+fn remade(disk: FuseDisk<MemDisk>, verb: &str, number: u64) -> FuseDisk<MemDisk> {
+    let inner = disk.into_inner();
+    match verb {
+        "crash" => FuseDisk::new(inner.after_crash(number), u64::MAX, false),
+        _ => FuseDisk::new(inner, number, verb == "once"),
+    }
+}
+
+fn region_of(asked: &str) -> Region {
+    let (at, length) = number_in(asked);
+    let (length, _) = number_in(length);
+    if at.checked_add(length).is_none() {
+        return Region { at: 0, length: 0 };
+    }
+    Region { at, length }
+}
+
+// What a byte is that a crash leaves where an old one or a new one may be: the old one, the new one, or neither; where they are the same,
+// another one, or that one.
+fn place_of(old: u8, new: u8, left: u8) -> usize {
+    match (old == new, left == old, left == new) {
+        (true, true, _) => 4,
+        (true, false, _) => 3,
+        (false, true, _) => 0,
+        (false, false, true) => 1,
+        (false, false, false) => 2,
+    }
+}
+
+impl Memory {
+    /// No bytes, and no journal.
+    pub fn new(alloc: Global) -> Result<Memory, AllocError> {
+        Ok(Memory {
+            alloc,
+            disk: fresh(alloc, "0")?,
+            region: Region { at: 0, length: 0 },
+            journal: None,
+            records: Vec::new(alloc),
+        })
+    }
+
+    // The first 16 bytes that a crash leaves of a copy; zeros where there are fewer.
+    fn left(&self, pick: u64) -> Result<[u8; 16], AllocError> {
+        let mut left = self.disk.inner().copy(self.alloc)?.after_crash(pick);
+        Ok(image(&mut left).unwrap_or([0; 16]))
+    }
+
+    // How many records a crash leaves of a copy, or why there are none.
+    fn tell_left(&self, pick: u64, out: &mut String) -> Result<(), AllocError> {
+        let mut left = self.disk.inner().copy(self.alloc)?.after_crash(pick);
+        tell_found(self.alloc, &mut left, self.region, out)
+    }
+
+    // How many records a copy has with other bytes at a place, or why there are none.
+    fn tell_changed(&self, asked: &str, out: &mut String) -> Result<(), AllocError> {
+        let (at, bytes) = number_in(asked);
+        let bytes = bytes_of(self.alloc, &[bytes])?;
+        let mut copy = self.disk.inner().copy(self.alloc)?;
+        match change(&mut copy, "put", at, &bytes) {
+            Ok(()) => tell_found(self.alloc, &mut copy, self.region, out),
+            Err(fault) => writeln!(out, "  {fault:?}"),
+        }
+    }
+
+    // How many bytes of each kind, as `place_of` tells them, crashes of the picks from 2 on leave.
+    fn count_torn(&self, to: u64) -> Result<[usize; 5], AllocError> {
+        let old = self.left(0)?;
+        let new = self.left(1)?;
+        let mut counts = [0usize; 5];
+        for pick in 2..to {
+            let left = self.left(pick)?;
+            for (old, (new, left)) in old.iter().zip(new.iter().zip(left.iter())) {
+                if let Some(count) = counts.get_mut(place_of(*old, *new, *left)) {
+                    *count = count.saturating_add(1);
+                }
+            }
+        }
+        Ok(counts)
+    }
+
+    // Whether more bytes than so many are old, new and neither, and how many are changed that were not written.
+    fn tell_torn(&self, asked: &str, out: &mut String) -> Result<(), AllocError> {
+        let (to, olds) = number_in(asked);
+        let (olds, news) = number_in(olds);
+        let (news, others) = number_in(news);
+        let [old, new, other, outside, _] = self.count_torn(to as u64)?;
+        let (old, new, other) = (old > olds, new > news, other > number_in(others).0);
+        writeln!(
+            out,
+            "  old {old}, new {new}, neither {other}, outside {outside}"
+        )
+    }
+
+    // Whether a crash of one of the picks from 2 on leaves just these bytes.
+    fn tell_seen(&self, asked: &str, out: &mut String) -> Result<(), AllocError> {
+        let (to, bytes) = number_in(asked);
+        let bytes = bytes_of(self.alloc, &[bytes])?;
+        let mut is_seen = false;
+        for pick in 2..to {
+            is_seen = is_seen || self.left(pick as u64)?.iter().eq(bytes.iter());
+        }
+        writeln!(out, "  seen {is_seen}")
+    }
+
+    fn remake(&mut self, verb: &str, number: usize) -> Result<(), AllocError> {
+        let empty = fresh(self.alloc, "0")?;
+        let disk = mem::replace(&mut self.disk, empty);
+        self.disk = remade(disk, verb, number as u64);
+        Ok(())
+    }
+
+    // Begins the journal of the region, or lays so many of the records that were found last into it, with so many bytes held.
+    fn settle(
+        &mut self,
+        count: Option<usize>,
+        held: usize,
+        out: &mut String,
+    ) -> Result<(), AllocError> {
+        let settled = settle(
+            self.alloc,
+            &mut self.disk,
+            self.region,
+            &self.records,
+            count,
+            held,
+        );
+        match settled {
+            Ok(journal) => {
+                self.journal = Some(journal);
+                writeln!(out, "  settled")
+            }
+            Err(fault) => {
+                self.journal = None;
+                writeln!(out, "  {fault:?}")
+            }
+        }
+    }
+
+    // What stands in the region.
+    fn open(&mut self, out: &mut String) -> Result<(), AllocError> {
+        match open(self.alloc, &mut self.disk, self.region) {
+            Ok((journal, records)) => {
+                self.journal = Some(journal);
+                self.records = records;
+                writeln!(out, "  {:?}", self.records)
+            }
+            Err(fault) => writeln!(out, "  {fault:?}"),
+        }
+    }
+
+    // Adds to the journal or holds bytes back. A journal whose device failed is not used again.
+    fn add(&mut self, verb: &str, asked: &str, out: &mut String) -> Result<(), AllocError> {
+        let Some(journal) = &mut self.journal else {
+            return writeln!(out, "  no journal");
+        };
+        let told = add(self.alloc, journal, &mut self.disk, verb, asked)?;
+        if told == Err(AppendError::DeviceFailed) {
+            self.journal = None;
+        }
+        writeln!(out, "  {told:?}")
+    }
+
+    fn tell_room(&self, out: &mut String) -> Result<(), AllocError> {
+        match &self.journal {
+            Some(journal) => {
+                let (room, held) = (journal.room(), journal.held());
+                writeln!(out, "  room {room}, held {held}")
+            }
+            None => writeln!(out, "  no journal"),
+        }
+    }
+
+    /// Does a step, and tells what it comes to. `disk` is a fresh one; `crash` leaves of it what it may, and `once` and `always` change its
+    /// fuse. `left` tells the first bytes that a crash leaves of a copy, `seen` and `torn` what crashes of many picks leave.
+    pub fn answer(&mut self, step: &str, out: &mut String) -> Result<(), AllocError> {
+        let (verb, rest) = step.split_once(' ').unwrap_or((step, ""));
+        let (number, _) = number_in(rest);
+        match verb {
+            "disk" => {
+                self.disk = fresh(self.alloc, rest)?;
+                Ok(())
+            }
+            "crash" | "once" | "always" => self.remake(verb, number),
+            "left" => writeln!(out, "  {:?}", self.left(number as u64)?),
+            "torn" => self.tell_torn(rest, out),
+            "seen" => self.tell_seen(rest, out),
+            "calls" => {
+                let (calls, behind) = (self.disk.calls(), self.disk.inner().failures());
+                writeln!(out, "  {calls} calls, {behind} failures behind")
+            }
+            "put" | "through" | "try" | "sync" | "read" | "size" => {
+                tell_call(self.alloc, &mut self.disk, step, out)
+            }
+            _ => self.answer_of_journal(verb, rest, out),
+        }
+    }
+
+    // `journal` begins one in a region; `start`, `lay`, `open` and others concern it. `found` tells how many records a crash leaves of a copy,
+    // and `with` how many are there with another byte.
+    fn answer_of_journal(
+        &mut self,
+        verb: &str,
+        rest: &str,
+        out: &mut String,
+    ) -> Result<(), AllocError> {
+        let (number, second) = number_in(rest);
+        match verb {
+            "journal" => {
+                self.region = region_of(rest);
+                self.settle(None, 0, out)
+            }
+            "start" => self.settle(None, 0, out),
+            "lay" => self.settle(Some(number), number_in(second).0, out),
+            "open" => self.open(out),
+            "room" => self.tell_room(out),
+            "found" => self.tell_left(number as u64, out),
+            "with" => self.tell_changed(rest, out),
+            "begun" => tell_begun(self.alloc, out),
+            "record" => tell_record(self.alloc, rest, out),
+            _ => self.add(verb, rest, out),
+        }
+    }
+}
