@@ -1,74 +1,53 @@
 //! What conversations send. All commands have the correlator 6.
 
-use crate::records::push_record;
 use std::alloc::Global;
-use test_bytes::*;
+use test_bytes::{ACCRDB, ACCSEC, EXCSAT_ALONE, SECCHK_ALONE, push_texts};
 
 // EXCSQLIMM, and the text in a DSS of its own.
-fn statement(alloc: Global, text: &str) -> Option<Vec<u8>> {
+fn push_statement(bytes: &mut Vec<u8>, text: &str) -> Option<()> {
     let size = u8::try_from(text.len()).ok()?;
-    let object = size.checked_add(10)?;
-    let whole = size.checked_add(16)?;
-    let mut bytes = bytes_of(alloc, &["000A D051 0006 0004 200A"]).ok()?;
+    let object = u8::try_from(text.len().wrapping_add(10)).ok()?;
+    let whole = u8::try_from(text.len().wrapping_add(16)).ok()?;
+    push_texts(bytes, &["000A D051 0006 0004 200A"]).ok()?;
     bytes
         .extend_from_slice(&[
             0, whole, 0xD0, 0x03, 0, 6, 0, object, 0x24, 0x14, 0, 0, 0, 0, size,
         ])
         .ok()?;
     bytes.extend_from_slice(text.as_bytes()).ok()?;
-    bytes.push(0xFF).ok()?;
-    Some(bytes)
+    bytes.push(0xFF).ok()
 }
 
-/// The bytes that a conversation sends which accesses the database SHOP, runs a statement at once, commits or rolls back, or sends just
-/// these bytes.
-pub fn bytes_sent(alloc: Global, act: &str, rest: &str) -> Option<Vec<u8>> {
+// Appends what a conversation sends which accesses the database SHOP, runs a statement at once, commits or rolls back, or sends just these
+// bytes.
+fn push_sent(bytes: &mut Vec<u8>, act: &str, rest: &str) -> Option<()> {
     match act {
-        "opens" => bytes_of(alloc, &[EXCSAT_ALONE, ACCSEC, SECCHK_ALONE, ACCRDB]).ok(),
-        "runs" => statement(alloc, rest),
-        "commits" => bytes_of(alloc, &["000A D001 0006 0004 200E"]).ok(),
-        "rolls" => bytes_of(alloc, &["000A D001 0006 0004 200F"]).ok(),
-        "sends" => bytes_of(alloc, &[rest]).ok(),
+        "opens" => push_texts(bytes, &[EXCSAT_ALONE, ACCSEC, SECCHK_ALONE, ACCRDB]).ok(),
+        "runs" => push_statement(bytes, rest),
+        "commits" => push_texts(bytes, &["000A D001 0006 0004 200E"]).ok(),
+        "rolls" => push_texts(bytes, &["000A D001 0006 0004 200F"]).ok(),
+        "sends" => push_texts(bytes, &[rest]).ok(),
         _ => None,
     }
 }
 
+// Appends a record of an event.
+fn push_record(events: &mut Vec<u8>, kind: u8, number: u8, bytes: &[u8]) -> Option<()> {
+    let [a, b, c, d] = u32::try_from(bytes.len()).ok()?.to_be_bytes();
+    events.extend_from_slice(&[kind, number, a, b, c, d]).ok()?;
+    events.extend_from_slice(bytes).ok()
+}
+
 /// Appends the event of a conversation that does so; before the first of them it opens, and `lost` is none of them.
-pub fn push_act(
-    alloc: Global,
-    events: &mut Vec<u8>,
-    number: u8,
-    act: &str,
-    rest: &str,
-) -> Option<()> {
+pub fn push_act(alloc: Global, events: &mut Vec<u8>, number: u8, asked: &str) -> Option<()> {
+    let (act, rest) = asked.split_once(' ').unwrap_or((asked, ""));
     if act == "lost" {
         return push_record(events, 3, number, &[]);
     }
     if act == "opens" {
         push_record(events, 1, number, &[])?;
     }
-    push_record(events, 2, number, &bytes_sent(alloc, act, rest)?)
-}
-
-const CREATE: &str = "CREATE TABLE T (K INTEGER NOT NULL, V VARCHAR(600), PRIMARY KEY (K))";
-
-const ONE: &str = "INSERT INTO T VALUES (1, 'a')";
-
-/// The events of a conversation that opens, and sends two units in the same piece.
-pub fn two_units(alloc: Global) -> Option<Vec<u8>> {
-    let mut events = Vec::new(alloc);
-    push_record(&mut events, 1, 0, &[])?;
-    let mut piece = bytes_sent(alloc, "opens", "")?;
-    for (act, rest) in [
-        ("runs", CREATE),
-        ("commits", ""),
-        ("runs", ONE),
-        ("commits", ""),
-    ] {
-        piece
-            .extend_from_slice(&bytes_sent(alloc, act, rest)?)
-            .ok()?;
-    }
-    push_record(&mut events, 2, 0, &piece)?;
-    Some(events)
+    let mut sent = Vec::new(alloc);
+    push_sent(&mut sent, act, rest)?;
+    push_record(events, 2, number, &sent)
 }

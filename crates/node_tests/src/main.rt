@@ -2,30 +2,24 @@
 //! in over which node; the records that it writes go to standard output, which is compared.
 #![tactic(auto)]
 
-mod bench;
 mod conversations;
-mod readers;
 mod records;
 mod rows;
+mod runs;
 
-use crate::rows::Rows;
-use std::io::{self, Write};
-use std::process::ExitCode;
+use crate::rows::follow;
+use std::io::{self, ErrorKind, Write};
 
-fn main(rt: HostRuntime) -> ExitCode {
-    match answer_all(&rt) {
-        Ok(true) => ExitCode::from(0),
-        _ => ExitCode::from(1),
-    }
-}
-
-// Whether each line was answered.
-fn answer_all(rt: &HostRuntime) -> io::Result<bool> {
+fn main(rt: HostRuntime) -> io::Result<()> {
     let text = io::read_to_string(rt.alloc(), rt.stdin())?;
-    let mut rows = Rows::new(rt.alloc());
-    let is_done = rows.follow(&text).is_some();
+    let mut told = String::new(rt.alloc());
+    let is_done = follow(rt.alloc(), &text, &mut told).is_some();
     let mut out = rt.stdout();
-    out.write_all(rows.written())?;
+    out.write_all(told.as_bytes())?;
     out.flush()?;
-    Ok(is_done)
+    if is_done {
+        Ok(())
+    } else {
+        Err(io::Error::from(ErrorKind::Other))
+    }
 }

@@ -1,15 +1,8 @@
 //! Records as they are written down.
 
-use std::alloc::Global;
-
-/// Appends a text.
-pub fn push(out: &mut Vec<u8>, text: &str) -> Option<()> {
-    out.extend_from_slice(text.as_bytes()).ok()
-}
-
-fn push_bytes(alloc: Global, out: &mut Vec<u8>, bytes: &[u8]) -> Option<()> {
+fn push_bytes(bytes: &[u8], told: &mut String) -> Option<()> {
     for byte in bytes {
-        push(out, &format!(in alloc; "{byte:02X}").ok()?)?;
+        write!(told, "{byte:02X}").ok()?;
     }
     Some(())
 }
@@ -19,8 +12,8 @@ fn split_record(bytes: &[u8]) -> Option<(&[u8], &[u8])> {
     let [_, _, a, b, c, d, ..] = bytes else {
         return None;
     };
-    let size = u32::from_be_bytes([*a, *b, *c, *d]);
-    let whole = usize::try_from(size).ok()?.checked_add(6)?;
+    let size = u32::from_be_bytes([*a, *b, *c, *d]) as usize;
+    let whole = size.wrapping_add(6);
     if whole <= bytes.len() {
         Some(bytes.split_at(whole))
     } else {
@@ -28,67 +21,41 @@ fn split_record(bytes: &[u8]) -> Option<(&[u8], &[u8])> {
     }
 }
 
-/// What was told of records so far, and how often in a row the last one came.
-#[derive(Drop)]
-struct Tally<'a> {
-    last: &'a [u8],
-    count: u32,
+// A line for a record that came so often in a row: its kind and its conversation, and what it brings.
+fn tell_record(record: &[u8], count: usize, told: &mut String) -> Option<()> {
+    match count {
+        0 => return Some(()),
+        1 => told.push_str("  ").ok()?,
+        _ => write!(told, "  {count} times ").ok()?,
+    }
+    push_bytes(record.get(..2)?, told)?;
+    told.push_str(" ").ok()?;
+    push_bytes(record.get(6..)?, told)?;
+    told.push_str("\n").ok()
 }
 
-// A line for the last record, which came so often.
-fn push_last(alloc: Global, out: &mut Vec<u8>, last: &[u8], count: u32) -> Option<()> {
-    if count == 0 {
-        return Some(());
-    }
-    push(out, "  ")?;
-    if count > 1 {
-        push(out, &format!(in alloc; "{count} times ").ok()?)?;
-    }
-    let (head, body) = last.split_at(last.len().min(2));
-    push_bytes(alloc, out, head)?;
-    push(out, " ")?;
-    push_bytes(alloc, out, body.get(4..).unwrap_or(&[]))?;
-    push(out, "\n")
-}
-
-/// Appends a line for each record: its kind, its conversation and what it brings. One that comes several times in a row has one line. What
-/// is no whole record stands by itself at the end.
-pub fn push_records(alloc: Global, out: &mut Vec<u8>, records: &[u8]) -> Option<()> {
+/// Tells each record in a line. One that comes several times in a row has one line. What is no whole record stands by itself at the end.
+pub fn tell_records(records: &[u8], told: &mut String) -> Option<()> {
     let mut left = records;
-    let mut tally = Tally {
-        last: &[],
-        count: 0,
-    };
+    let mut last: &[u8] = &[];
+    let mut count = 0_usize;
     for _ in 0..records.len() {
         let Some((record, others)) = split_record(left) else {
             break;
         };
         left = others;
-        if record != tally.last {
-            push_last(alloc, out, tally.last, tally.count)?;
-            tally = Tally {
-                last: record,
-                count: 0,
-            };
+        if record != last {
+            tell_record(last, count, told)?;
+            last = record;
+            count = 0;
         }
-        tally.count = tally.count.wrapping_add(1);
+        count = count.wrapping_add(1);
     }
-    push_last(alloc, out, tally.last, tally.count)?;
-    push_rest(alloc, out, left)
-}
-
-fn push_rest(alloc: Global, out: &mut Vec<u8>, rest: &[u8]) -> Option<()> {
-    if rest.is_empty() {
+    tell_record(last, count, told)?;
+    if left.is_empty() {
         return Some(());
     }
-    push(out, "  a part ")?;
-    push_bytes(alloc, out, rest)?;
-    push(out, "\n")
-}
-
-/// Appends a record.
-pub fn push_record(records: &mut Vec<u8>, kind: u8, number: u8, bytes: &[u8]) -> Option<()> {
-    let [a, b, c, d] = u32::try_from(bytes.len()).ok()?.to_be_bytes();
-    records.extend_from_slice(&[kind, number, a, b, c, d]).ok()?;
-    records.extend_from_slice(bytes).ok()
+    told.push_str("  a part ").ok()?;
+    push_bytes(left, told)?;
+    told.push_str("\n").ok()
 }

@@ -8,7 +8,7 @@ use std::net::SocketAddr;
 use std::sync::{Mutex, Wait};
 
 /// A log that keeps its lines, in which each time is 0. What is told of a time alone is left out: whether it comes
-/// depends on the machine. So does which of two conversations tells first, so that the lines of the second stand last.
+/// depends on the machine.
 #[derive(Drop)]
 pub struct Kept<'r, T> {
     rt: &'r T,
@@ -24,21 +24,18 @@ impl<'r, T: Wait> Kept<'r, T> {
         }
     }
 
-    /// The lines, those of the second conversation behind the others.
-    pub fn into_lines(self, alloc: Global) -> Option<String> {
-        let told = self.lines.into_inner();
-        let mut lines = String::new(alloc);
-        push_lines(&mut lines, &told, false)?;
-        push_lines(&mut lines, &told, true)?;
-        Some(lines)
+    /// The lines, in the order in which they were told.
+    pub fn into_lines(self) -> String {
+        self.lines.into_inner()
     }
 }
 
-// Appends the lines of the second conversation, or the others.
-fn push_lines(lines: &mut String, told: &str, of_second: bool) -> Option<()> {
-    for line in told.lines() {
+/// Appends the lines of the second conversation, or the others: which of two tells first depends on the machine.
+pub fn push_lines(said: &mut Vec<u8>, lines: &str, of_second: bool) -> Option<()> {
+    for line in lines.lines() {
         if line.starts_with("drdad: conversation 2") == of_second {
-            writeln!(lines, "{line}").ok()?;
+            said.extend_from_slice(line.as_bytes()).ok()?;
+            said.push(b'\n').ok()?;
         }
     }
     Some(())
@@ -74,8 +71,8 @@ fn timeless(notice: Notice) -> Option<Notice> {
     }
 }
 
-/// What a log may be told, each kind of it at least once.
-pub fn notices() -> [Notice; 10] {
+// What a log may be told, each kind of it at least once.
+fn notices() -> [Notice; 10] {
     let peer = Some(address(51234));
     [
         Notice::Begins {
@@ -104,6 +101,15 @@ pub fn notices() -> [Notice; 10] {
             micros: 2_500,
         },
     ]
+}
+
+/// Writes what a log may be told.
+pub fn tell_notices(alloc: Global, told: &mut Vec<u8>) -> Option<()> {
+    for notice in notices() {
+        let line = format!(in alloc; "{notice}\n").ok()?;
+        told.extend_from_slice(line.as_bytes()).ok()?;
+    }
+    Some(())
 }
 
 fn ends(peer: Option<SocketAddr>) -> Notice {

@@ -9,35 +9,34 @@ mod streams;
 mod system;
 mod trials;
 
-use crate::trials::Trials;
-use std::io::{self, Write};
-use std::process::{self, ExitCode};
+use crate::system::Place;
+use crate::trials::follow;
+use std::io::{self, ErrorKind, Write};
+use std::process;
 
-fn main(rt: HostRuntime) -> ExitCode {
-    let Ok(text) = io::read_to_string(rt.alloc(), rt.stdin()) else {
-        return ExitCode::from(1);
+fn main(rt: HostRuntime) -> io::Result<()> {
+    let text = io::read_to_string(rt.alloc(), rt.stdin())?;
+    let front = front_of_paths(&rt)?;
+    let mut told = Vec::new(rt.alloc());
+    let place = Place {
+        rt: &rt,
+        alloc: rt.alloc(),
+        front: &front,
     };
-    let Some(front) = front_of_paths(&rt) else {
-        return ExitCode::from(1);
-    };
-    let mut trials = Trials::new(&rt, rt.alloc(), &front);
-    let is_done = trials.follow(&text).is_some();
-    match tell(&rt, trials.written()) {
-        Ok(()) if is_done => ExitCode::from(0),
-        _ => ExitCode::from(1),
+    let is_done = follow(&place, &text, &mut told).is_some();
+    let mut out = rt.stdout();
+    out.write_all(&told)?;
+    out.flush()?;
+    if is_done {
+        Ok(())
+    } else {
+        Err(io::Error::from(ErrorKind::Other))
     }
 }
 
 // What the paths of files of this process begin with.
-fn front_of_paths(rt: &HostRuntime) -> Option<String> {
-    let folder = std::env::temp_dir(rt).ok()?;
+fn front_of_paths(rt: &HostRuntime) -> io::Result<String> {
+    let folder = std::env::temp_dir(rt)?;
     let id = process::id(rt.process());
-    format!(in rt.alloc(); "{}/program_tests-{id}-", folder.as_str()).ok()
-}
-
-// Writes what the trials came to.
-fn tell(rt: &HostRuntime, written: &[u8]) -> io::Result<()> {
-    let mut out = rt.stdout();
-    out.write_all(written)?;
-    out.flush()
+    Ok(format!(in rt.alloc(); "{}/program_tests-{id}-", folder.as_str())?)
 }

@@ -4,65 +4,28 @@ use drda_program::Network;
 use std::io::{self, ErrorKind, Read, Write};
 use std::net::{Ipv4Addr, SocketAddr, SocketAddrV4};
 
-/// Who calls. `Silent` has nothing to say, `Broken` can't be read, `Deaf` says bytes and can't be written
-/// to, `Alone` has no second handle, `Slow` can't be hurried, and `Talking` says bytes and hears all.
-#[derive(Clone, Copy, Debug, Drop, PartialEq, Eq)]
-pub enum Caller {
-    Silent,
-    Broken,
-    Deaf,
-    Alone,
-    Slow,
-    Talking,
-}
-
-/// What becomes of who calls: the ports are taken, each is such a caller, the same once letting one in has failed so
-/// often, the first is such a caller and the others are such ones, or none is let in.
-#[derive(Clone, Copy, Drop)]
-pub enum Way {
-    Taken,
-    LetsIn(Caller),
-    LetsInBehind(u64, Caller),
-    LetsInThen(Caller, Caller),
-    Shut,
-}
-
-/// A network with one listener, of this machine alone, asked for the port 0 or 4711 and found at 4711. Each
-/// caller says the same, and has a second handle only once it was asked to hurry.
+/// A network with one listener, of this machine alone, asked for the port 0 or 4711 and found at 4711. By its way the ports are `taken`; none
+/// is let in (`shut`); letting one in fails 99 times before (`late`), or 100 times (`too-late`); or the first caller is broken and the others
+/// are not (`broken-then`). By any other way each caller is such a one. Each says the same, and has a second handle only once it was asked to
+/// hurry.
 #[derive(Drop)]
 pub struct Callers<'a> {
-    pub way: Way,
-    pub said: &'a [u8],
-    /// How often letting one in has failed, and how many have come.
-    pub failures: u64,
-    pub came: u64,
+    way: &'a str,
+    said: &'a [u8],
+    // How often letting one in will fail.
+    failures: u64,
+    has_come: bool,
+    // The last one that came was asked to hurry.
+    is_hurried: bool,
     /// To how many seconds the reads of the last one were limited, 0 where they were not.
     pub limit: u32,
-    /// The last one that came was asked to hurry.
-    pub is_hurried: bool,
 }
 
-#[derive(Drop)]
-pub struct Door {
-    first: Option<Caller>,
-    others: Option<Caller>,
-    failures: u64,
-}
-
-impl Door {
-    // One behind which each is such a caller.
-    fn of(caller: Option<Caller>, failures: u64) -> Door {
-        Door {
-            first: caller,
-            others: caller,
-            failures,
-        }
-    }
-}
-
+/// Who calls. One that is `broken` can't be read, one that is `deaf` can't be written to, `alone` has no second handle and `slow` can't be
+/// hurried; any other one says bytes and hears all.
 #[derive(Drop)]
 pub struct Call<'a> {
-    caller: Caller,
+    way: &'a str,
     said: &'a [u8],
 }
 
@@ -75,53 +38,62 @@ pub fn address(port: u16) -> SocketAddr {
     SocketAddr::V4(SocketAddrV4::new(Ipv4Addr::new(127, 0, 0, 1), port))
 }
 
+impl<'a> Callers<'a> {
+    /// Such a network, to which nobody has come yet.
+    pub fn new(way: &'a str, said: &'a [u8]) -> Callers<'a> {
+        let failures = match way {
+            "late" => 99,
+            "too-late" => 100,
+            _ => 0,
+        };
+        Callers {
+            way,
+            said,
+            failures,
+            has_come: false,
+            is_hurried: false,
+            limit: 0,
+        }
+    }
+}
+
 impl<'a> Network for Callers<'a> {
-    type Listener = Door;
+    type Listener = u16;
 
     type Stream = Call<'a>;
 
     type Writer = Call<'a>;
 
-    fn bind(&mut self, at: SocketAddr) -> io::Result<Door> {
-        if at != address(0) && at != address(4711) {
+    fn bind(&mut self, at: SocketAddr) -> io::Result<u16> {
+        if self.way == "taken" || at != address(0) && at != address(4711) {
             return refused();
         }
-        match self.way {
-            Way::Taken => refused(),
-            Way::LetsIn(caller) => Ok(Door::of(Some(caller), 0)),
-            Way::LetsInBehind(failures, caller) => Ok(Door::of(Some(caller), failures)),
-            Way::LetsInThen(first, others) => Ok(Door {
-                first: Some(first),
-                others: Some(others),
-                failures: 0,
-            }),
-            Way::Shut => Ok(Door::of(None, 0)),
-        }
-    }
-
-    fn port(&self, _listener: &Door) -> io::Result<u16> {
         Ok(4711)
     }
 
-    fn accept(&mut self, listener: &Door) -> io::Result<Call<'a>> {
-        if self.failures < listener.failures {
-            self.failures += 1;
+    fn port(&self, listener: &u16) -> io::Result<u16> {
+        Ok(*listener)
+    }
+
+    fn accept(&mut self, _listener: &u16) -> io::Result<Call<'a>> {
+        if self.way == "shut" {
             return refused();
         }
-        self.is_hurried = false;
-        let caller = if self.came == 0 {
-            listener.first
-        } else {
-            listener.others
-        };
-        self.came = self.came.saturating_add(1);
-        match caller {
-            Some(caller) => Ok(Call {
-                caller,
-                said: self.said,
-            }),
-            None => refused(),
+        if self.failures > 0 {
+            self.failures -= 1;
+            return refused();
         }
+        let way = match self.way {
+            "broken-then" if self.has_come => "talking",
+            "broken-then" => "broken",
+            way => way,
+        };
+        self.has_come = true;
+        self.is_hurried = false;
+        Ok(Call {
+            way,
+            said: self.said,
+        })
     }
 
     fn peer(&self, _stream: &Call<'a>) -> Option<SocketAddr> {
@@ -129,7 +101,7 @@ impl<'a> Network for Callers<'a> {
     }
 
     fn limit(&mut self, stream: &Call<'a>, seconds: u32) -> io::Result<()> {
-        if stream.caller == Caller::Alone {
+        if stream.way == "alone" {
             return refused();
         }
         self.limit = seconds;
@@ -138,18 +110,18 @@ impl<'a> Network for Callers<'a> {
 
     fn hurry(&mut self, stream: &Call<'a>) -> io::Result<()> {
         self.is_hurried = true;
-        if stream.caller == Caller::Slow {
+        if stream.way == "slow" {
             return refused();
         }
         Ok(())
     }
 
     fn writer(&mut self, stream: &Call<'a>) -> io::Result<Call<'a>> {
-        if stream.caller == Caller::Alone || !self.is_hurried {
+        if stream.way == "alone" || !self.is_hurried {
             return refused();
         }
         Ok(Call {
-            caller: stream.caller,
+            way: stream.way,
             said: &[],
         })
     }
@@ -159,7 +131,7 @@ impl<'a> Network for Callers<'a> {
 
 impl Read for Call<'_> {
     fn read(&mut self, buffer: &mut [u8]) -> io::Result<usize> {
-        if self.caller == Caller::Broken {
+        if self.way == "broken" {
             return Err(io::Error::from(ErrorKind::Other));
         }
         self.said.read(buffer)
@@ -168,7 +140,7 @@ impl Read for Call<'_> {
 
 impl Write for Call<'_> {
     fn write(&mut self, bytes: &[u8]) -> io::Result<usize> {
-        if self.caller == Caller::Deaf {
+        if self.way == "deaf" {
             return Err(io::Error::from(ErrorKind::Other));
         }
         Ok(bytes.len())

@@ -3,17 +3,23 @@
 use drda_program::Ready;
 use std::io::{self, ErrorKind, Read, Write};
 
-/// A stream that gives nothing and takes nothing.
+/// A stream that gives bytes, none of which lie ready, or can't be read.
 #[derive(Drop)]
-pub struct Broken;
+pub struct Input<'a> {
+    pub bytes: &'a [u8],
+    pub is_broken: bool,
+}
 
-impl Read for Broken {
-    fn read(&mut self, _buffer: &mut [u8]) -> io::Result<usize> {
-        Err(io::Error::from(ErrorKind::Other))
+impl Read for Input<'_> {
+    fn read(&mut self, buffer: &mut [u8]) -> io::Result<usize> {
+        if self.is_broken {
+            return Err(io::Error::from(ErrorKind::Other));
+        }
+        self.bytes.read(buffer)
     }
 }
 
-impl Ready for Broken {
+impl Ready for Input<'_> {
     fn ready(&self) -> &[u8] {
         &[]
     }
@@ -21,29 +27,27 @@ impl Ready for Broken {
     fn skip(&mut self, _count: usize) {}
 }
 
-impl Write for Broken {
-    fn write(&mut self, _bytes: &[u8]) -> io::Result<usize> {
-        Err(io::Error::from(ErrorKind::Other))
-    }
-
-    fn flush(&mut self) -> io::Result<()> {
-        Ok(())
-    }
-}
-
-/// A stream that takes all bytes, and fails at its flush.
+/// A stream that takes all bytes, or none where it is broken; or it fails at its flush.
 #[derive(Drop)]
-pub struct Unflushed {
+pub struct Output {
     pub taken: Vec<u8>,
+    pub is_broken: bool,
+    pub is_unflushed: bool,
 }
 
-impl Write for Unflushed {
+impl Write for Output {
     fn write(&mut self, bytes: &[u8]) -> io::Result<usize> {
+        if self.is_broken {
+            return Err(io::Error::from(ErrorKind::Other));
+        }
         self.taken.extend_from_slice(bytes)?;
         Ok(bytes.len())
     }
 
     fn flush(&mut self) -> io::Result<()> {
-        Err(io::Error::from(ErrorKind::Other))
+        if self.is_unflushed {
+            return Err(io::Error::from(ErrorKind::Other));
+        }
+        Ok(())
     }
 }
