@@ -1,44 +1,45 @@
 //! A disk, or a store that is open on one, and what is done to it.
 
-use crate::opened::{Opened, fresh};
-use crate::shown::{opened, push_left, push_shown};
-use crate::sweeps::{Event, events, sweep};
+use crate::asked::{Asked, ask};
+use crate::told::{tell, told_refusal};
 use core_calls::{Answer, CoreCall};
-use drda_disk::{Disk, DiskFault, FuseDisk, MemDisk};
+use drda_disk::{Disk, FuseDisk, MemDisk};
+use durable_core::{DurableCore, Refused, open};
+use half_store::format;
 use std::alloc::Global;
 use test_bytes::bytes_of;
 use test_calls::{Calls, Scripts, push_text};
 use xa_calls::{InvalidRequest, Request};
 
-/// The least store.
-pub const TWO_MIB: usize = 2_097_152;
+/// A core over a disk in memory that may fail.
+pub type Core = DurableCore<FuseDisk<MemDisk>>;
 
-/// A little more than 64 MiB.
-const LARGE: usize = 67_117_056;
-
-/// A disk that is not open, or an open store; and the events that are swept.
+/// A disk that is not open, or a store that is open on one.
 #[derive(Drop)]
 pub struct Bench {
     alloc: Global,
     disk: Option<MemDisk>,
-    opened: Option<Opened>,
-    events: Vec<Event>,
+    core: Option<Core>,
 }
 
-// Writes bytes to a disk. A range that does not lie on it is a fault here.
-fn put(disk: &mut MemDisk, at: usize, bytes: &[u8]) -> Result<(), DiskFault> {
-    if at > disk.size() || bytes.len() > disk.size() - at {
-        return Err(DiskFault);
+// A disk of so many zeros, or with a fresh store of the name SHOP.
+fn disk_of(alloc: Global, size: &str, is_store: bool) -> Option<MemDisk> {
+    let mut disk = MemDisk::new(alloc, size.parse::<usize>().ok()?).ok()?;
+    if is_store {
+        format(alloc, &mut disk, "SHOP").ok()?;
     }
-    disk.write_at(at, bytes)
+    Some(disk)
 }
 
-// How many device calls the opening of a disk makes.
-fn calls_of_opening(alloc: Global, disk: &MemDisk) -> Option<u64> {
-    let copy = FuseDisk::new(disk.copy(alloc).ok()?, u64::MAX, false);
-    let mut told = Vec::new(alloc);
-    let it = opened(alloc, copy, &mut told)??;
-    Some(it.core.into_disk().calls())
+// Writes bytes to a disk, where their range lies on it.
+fn put(alloc: Global, disk: &mut MemDisk, rest: &str) -> Option<()> {
+    let (at, bytes) = rest.split_once(' ')?;
+    let at = at.parse::<usize>().ok()?;
+    let bytes = bytes_of(alloc, &[bytes]).ok()?;
+    if at > disk.size() || bytes.len() > disk.size() - at {
+        return None;
+    }
+    disk.write_at(at, &bytes).ok()
 }
 
 impl Bench {
@@ -47,126 +48,90 @@ impl Bench {
         Bench {
             alloc,
             disk: None,
-            opened: None,
-            events: Vec::new(alloc),
+            core: None,
         }
     }
 
-    fn opened(&mut self) -> Option<&mut Opened> {
-        match &mut self.opened {
-            Some(it) => Some(it),
-            None => None,
-        }
-    }
-
-    // The disk, also where a store is open on it.
-    fn take_disk(&mut self) -> Option<MemDisk> {
-        match self.opened.take() {
-            Some(it) => Some(it.core.into_disk().into_inner()),
-            None => self.disk.take(),
-        }
-    }
-
-    fn put(&mut self, rest: &str, out: &mut Vec<u8>) -> Option<()> {
-        let (at, bytes) = rest.split_once(' ')?;
-        let bytes = bytes_of(self.alloc, &[bytes]).ok()?;
-        let mut disk = self.take_disk()?;
-        put(&mut disk, at.parse::<usize>().ok()?, &bytes).ok()?;
-        self.disk = Some(disk);
-        push_text(out, "put")
-    }
-
-    // Opens the disk, one call of which fails behind so many.
-    fn open(&mut self, calls: u64, out: &mut Vec<u8>) -> Option<()> {
-        let disk = self.take_disk()?;
-        self.opened = opened(self.alloc, FuseDisk::new(disk, calls, true), out)?;
-        match &self.opened {
-            Some(_) => push_text(out, "opened"),
-            None => Some(()),
-        }
-    }
-
-    fn open_and_stop(&mut self, calls: &str, out: &mut Vec<u8>) -> Option<()> {
-        let disk = self.take_disk()?;
-        let opening = calls_of_opening(self.alloc, &disk)?;
-        self.disk = Some(disk);
-        self.open(opening.saturating_add(calls.parse::<u64>().ok()?), out)
-    }
-
-    // What crashes leave without the writes since the last sync and with them.
-    fn tell_left(&mut self, scripts: &Scripts, out: &mut Vec<u8>) -> Option<()> {
-        let disk = self.take_disk()?;
-        let copy = disk.copy(self.alloc).ok()?;
-        push_left(scripts, self.alloc, copy, 0, out)?;
-        push_text(out, ", ")?;
-        push_left(scripts, self.alloc, disk, 1, out)
-    }
-
-    fn lay(&mut self, disk: MemDisk, told: &str, out: &mut Vec<u8>) -> Option<()> {
-        self.opened = None;
-        self.disk = Some(disk);
-        push_text(out, told)
-    }
-
-    fn crash(&mut self, pick: &str, out: &mut Vec<u8>) -> Option<()> {
-        let disk = self.take_disk()?;
-        let left = disk.after_crash(pick.parse::<u64>().ok()?);
-        self.lay(left, "crashed", out)
-    }
-
-    // `zeros SIZE` is a disk of zeros, `fresh` one of 2 MiB with a fresh store and `large` one of 64 MiB, `put` puts bytes to it, and `crash` leaves what a crash
-    // leaves.
-    fn change_disk(&mut self, verb: &str, rest: &str, out: &mut Vec<u8>) -> Option<()> {
-        match verb {
-            "zeros" => {
-                let disk = MemDisk::new(self.alloc, rest.parse::<usize>().ok()?).ok()?;
-                self.lay(disk, "zeros", out)
+    // The disk, also where a store is open on it, and how many calls it had since it was opened.
+    fn take_disk(&mut self) -> Option<(MemDisk, u64)> {
+        match self.core.take() {
+            Some(core) => {
+                let disk = core.into_disk();
+                let calls = disk.calls();
+                Some((disk.into_inner(), calls))
             }
-            "fresh" => {
-                let disk = fresh(self.alloc, TWO_MIB)?;
-                self.lay(disk, "formatted", out)
-            }
-            "large" => {
-                let disk = fresh(self.alloc, LARGE)?;
-                self.lay(disk, "formatted", out)
-            }
-            "put" => self.put(rest, out),
-            "crash" => self.crash(rest, out),
-            _ => None,
+            None => Some((self.disk.take()?, 0)),
         }
     }
 
-    fn tell_opened(
-        &mut self,
-        scripts: &Scripts,
-        verb: &str,
-        rest: &str,
-        out: &mut Vec<u8>,
-    ) -> Option<()> {
-        let it = self.opened()?;
-        if verb == "shown" {
-            push_shown(scripts, it, out)
-        } else {
-            it.do_other(scripts, verb, rest, out)
+    // Opens the disk, whose calls fail behind so many: the next one alone, or all.
+    fn open(&mut self, calls: u64, is_once: bool, out: &mut Vec<u8>) -> Option<()> {
+        let (disk, _) = self.take_disk()?;
+        match open(self.alloc, FuseDisk::new(disk, calls, is_once)) {
+            Ok(core) => {
+                self.core = Some(core);
+                push_text(out, "opened")
+            }
+            Err(Refused { disk, error }) => {
+                let told = told_refusal(self.alloc, error, disk.size());
+                self.disk = Some(disk.into_inner());
+                push_text(out, &told.ok()?)
+            }
         }
+    }
+
+    // The same, where that is so of the calls behind those of the opening, which writes nothing.
+    fn open_and_stop(&mut self, calls: u64, out: &mut Vec<u8>) -> Option<()> {
+        let mut told = Vec::new(self.alloc);
+        self.open(u64::MAX, true, &mut told)?;
+        let (disk, opening) = self.take_disk()?;
+        self.disk = Some(disk);
+        self.open(opening.saturating_add(calls), true, out)
+    }
+
+    // `zeros SIZE` is a disk of zeros, `fresh SIZE` one with a fresh store, `put AT BYTES` puts bytes to it, and `crash PICK` leaves what a
+    // crash leaves.
+    fn change(&mut self, verb: &str, rest: &str) -> Option<&'static str> {
+        let (disk, told) = match verb {
+            "zeros" => (disk_of(self.alloc, rest, false)?, "zeros"),
+            "fresh" => (disk_of(self.alloc, rest, true)?, "formatted"),
+            "put" => {
+                let (mut disk, _) = self.take_disk()?;
+                put(self.alloc, &mut disk, rest)?;
+                (disk, "put")
+            }
+            _ => {
+                let (disk, _) = self.take_disk()?;
+                (disk.after_crash(rest.parse::<u64>().ok()?), "crashed")
+            }
+        };
+        self.core = None;
+        self.disk = Some(disk);
+        Some(told)
     }
 }
 
 impl Calls for Bench {
     fn step(&mut self, conversation: u64, call: &CoreCall<'_, '_>) -> Option<Answer> {
-        self.opened()?.step(conversation, call)
+        let Some(core) = &mut self.core else {
+            return None;
+        };
+        Some(core.step(conversation, call))
     }
 
     fn commit(&mut self, conversation: u64) -> Option<Answer> {
-        self.opened()?.commit(conversation)
+        ask(self.alloc, &mut self.core, conversation, Asked::Commit)
     }
 
     fn roll_back(&mut self, conversation: u64) -> Option<Answer> {
-        self.opened()?.roll_back(conversation)
+        ask(self.alloc, &mut self.core, conversation, Asked::RollBack)
     }
 
     fn lost(&mut self, conversation: u64) -> Option<Answer> {
-        self.opened()?.lost(conversation)
+        let Some(core) = &mut self.core else {
+            return None;
+        };
+        Some(core.lost(conversation))
     }
 
     fn xa(
@@ -174,31 +139,29 @@ impl Calls for Bench {
         conversation: u64,
         request: Result<Request, InvalidRequest>,
     ) -> Option<Answer> {
-        self.opened()?.xa(conversation, request)
+        ask(self.alloc, &mut self.core, conversation, Asked::Xa(request))
     }
 
-    // `open` opens the disk, `fails N` the same where the call behind so many fails, and `stops N` where that is so of the calls behind the
-    // opening. `left` tells what crashes leave, `events` what each call of a script is told and leaves, and `sweep` what crashes leave at
-    // each call of the device.
+    // `open` opens the disk; `fails N` and `breaks N` do, where the call behind so many fails, or all; `stops N` does where the one behind so
+    // many fails that come behind the opening.
     fn do_other(
         &mut self,
-        scripts: &Scripts,
+        _scripts: &Scripts,
         verb: &str,
         rest: &str,
         out: &mut Vec<u8>,
     ) -> Option<()> {
         match verb {
-            "open" => self.open(u64::MAX, out),
-            "fails" => self.open(rest.parse::<u64>().ok()?, out),
-            "stops" => self.open_and_stop(rest, out),
-            "left" => self.tell_left(scripts, out),
-            "events" => {
-                self.events = events(self.alloc, scripts, scripts.lines(rest)?, out)?;
-                Some(())
+            "open" => self.open(u64::MAX, true, out),
+            "fails" | "breaks" => self.open(rest.parse::<u64>().ok()?, verb == "fails", out),
+            "stops" => self.open_and_stop(rest.parse::<u64>().ok()?, out),
+            "zeros" | "fresh" | "put" | "crash" => push_text(out, self.change(verb, rest)?),
+            _ => {
+                let Some(core) = &mut self.core else {
+                    return None;
+                };
+                tell(self.alloc, core, verb, rest, out)
             }
-            "sweep" => sweep(self.alloc, scripts, &self.events, rest, out),
-            "zeros" | "fresh" | "large" | "put" | "crash" => self.change_disk(verb, rest, out),
-            _ => self.tell_opened(scripts, verb, rest, out),
         }
     }
 }

@@ -2,10 +2,9 @@
 //! damaged ones. What each line of standard input comes to goes to standard output, which is compared.
 #![tactic(auto)]
 
+mod asked;
 mod bench;
-mod opened;
-mod shown;
-mod sweeps;
+mod told;
 
 use crate::bench::Bench;
 use std::io::{self, Write};

@@ -1,0 +1,108 @@
+//! What is asked of an open store that no call of a conversation asks, and how it is told.
+
+use crate::bench::Core;
+use durable_core::{Checkpointed, OpenError, Together};
+use std::alloc::{AllocError, Global};
+use test_calls::{push_bytes, push_text, xid_of};
+use unit_records::{BranchCall, Phase};
+use xa_manager::Decision;
+
+/// Why a disk was not opened, and its size when it is handed back.
+pub fn told_refusal(alloc: Global, error: OpenError, size: usize) -> Result<String, AllocError> {
+    let told = match error {
+        OpenError::Damaged { at } => {
+            return format!(in alloc; "damaged at {at}, {size} bytes back");
+        }
+        OpenError::NotAStore => "no store",
+        OpenError::DeviceFailed => "the device failed",
+        OpenError::NoMemory => "no memory",
+    };
+    format!(in alloc; "{told}, {size} bytes back")
+}
+
+fn told_checkpoint(alloc: Global, told: Checkpointed) -> Result<String, AllocError> {
+    let told = match told {
+        Checkpointed::Full { need, room } => return format!(in alloc; "full, {need} into {room}"),
+        Checkpointed::Done => "done",
+        Checkpointed::NoMemory => "no memory",
+        Checkpointed::DeviceFailed => "the device failed",
+        Checkpointed::Closed => "closed",
+    };
+    String::from_str(alloc, told)
+}
+
+fn told_together(told: Together) -> &'static str {
+    match told {
+        Together::Done => "done",
+        Together::Alone => "alone",
+        Together::DeviceFailed => "the device failed",
+        Together::Closed => "closed",
+    }
+}
+
+// The phase of two-phase commit that a word names.
+fn phase_named(word: &str) -> Option<Phase> {
+    match word {
+        "prepare" => Some(Phase::Prepare),
+        "commit" => Some(Phase::Decide(Decision::Commit)),
+        "rollback" => Some(Phase::Decide(Decision::RollBack)),
+        _ => None,
+    }
+}
+
+// The conversations of these numbers commit together.
+fn commit(alloc: Global, core: &mut Core, numbers: &str) -> Option<Together> {
+    let mut conversations = Vec::new(alloc);
+    for number in numbers.split_ascii_whitespace() {
+        conversations.push(number.parse::<u64>().ok()?).ok()?;
+    }
+    Some(core.commit_together(&conversations))
+}
+
+// A phase, and branches that go through it together. A conversation asks for the branch of its own number, which is spelled behind =.
+fn go_through(alloc: Global, core: &mut Core, rest: &str) -> Option<Together> {
+    let (phase, words) = rest.split_once(' ')?;
+    let phase = phase_named(phase)?;
+    let mut calls = Vec::new(alloc);
+    for word in words.split_ascii_whitespace() {
+        let conversation = word.strip_prefix('=')?.parse::<u64>().ok()?;
+        let xid = xid_of(alloc, word)?;
+        calls.push(BranchCall { conversation, xid }).ok()?;
+    }
+    Some(core.go_through(phase, &calls))
+}
+
+// The global parts of the XIDs in doubt.
+fn tell_in_doubt(alloc: Global, core: &Core, out: &mut Vec<u8>) -> Option<()> {
+    push_text(out, "in doubt")?;
+    let mut xids = core.in_doubt();
+    for _ in 0..usize::MAX {
+        let Some(xid) = xids.next() else { break };
+        push_text(out, " ")?;
+        push_bytes(alloc, out, xid.global())?;
+    }
+    Some(())
+}
+
+/// `together` commits the conversations of these numbers together, `through PHASE =N ..` prepares or decides the branches of these numbers, each
+/// asked for by the conversation of its number, `checkpoint` makes a checkpoint, `room` tells the store's name and the room of its journal, and
+/// `in_doubt` which branches are in doubt.
+pub fn tell(
+    alloc: Global,
+    core: &mut Core,
+    verb: &str,
+    rest: &str,
+    out: &mut Vec<u8>,
+) -> Option<()> {
+    match verb {
+        "together" => push_text(out, told_together(commit(alloc, core, rest)?)),
+        "through" => push_text(out, told_together(go_through(alloc, core, rest)?)),
+        "checkpoint" => push_text(out, &told_checkpoint(alloc, core.checkpoint()).ok()?),
+        "room" => {
+            let (name, room) = (core.name(), core.room());
+            push_text(out, &format!(in alloc; "{name} has room {room}").ok()?)
+        }
+        "in_doubt" => tell_in_doubt(alloc, core, out),
+        _ => None,
+    }
+}
