@@ -5,6 +5,7 @@ use Rattle.core_model.specs.Step.{CoreState, step_state}
 use Rattle.unit_records.specs.Records.{UnitRecord}
 use Rattle.unit_records.specs.Room.{released, released_by}
 use Rattle.recovery.specs.Durable.{Durable, next, replayed_from}
+use Rattle.half_store.specs.declared.header.Layout.{Layout}
 use Rattle.recovery.specs.Laws.{held_for}
 use Rattle.recovery.specs.Sound.{IsSound}
 use Rattle.unit_records.specs.Due.{record_due}
@@ -29,7 +30,7 @@ RecordsLead = (s : CoreState) (conversation : ℕ) (k : Call) (r : UnitRecord) �
 
 -- what a record that is due releases was held for a unit in doubt
 abbrev pub DecisionsAreOfDoubts : Type 0
-DecisionsAreOfDoubts = (s : CoreState) (conversation : ℕ) (k : Call) (r : UnitRecord) → IsKept s → record_due s conversation k ≡ Some r → released r ≤ held_for (durable_part s).doubts
+DecisionsAreOfDoubts = (layout : Layout) (s : CoreState) (conversation : ℕ) (k : Call) (r : UnitRecord) → IsKept s → record_due s conversation k ≡ Some r → released layout r ≤ held_for layout (durable_part s).doubts
 
 -- what records lead to is sound, and a core that is opened over it is kept
 pub record IsOpened (d : Durable) : Type 0 where
@@ -73,5 +74,5 @@ BranchesLead = (s : CoreState) (phase : Phase) (cs : List BranchCall) → IsKept
 
 -- what they release was held for units in doubt
 abbrev pub PhasesAreOfDoubts : Type 0
-PhasesAreOfDoubts = (s : CoreState) (phase : Phase) (cs : List BranchCall) → IsKept s → may_go_through phase s cs ≡ true
-    → released_by (records_in phase s.base.units cs) ≤ held_for (durable_part s).doubts
+PhasesAreOfDoubts = (layout : Layout) (s : CoreState) (phase : Phase) (cs : List BranchCall) → IsKept s → may_go_through phase s cs ≡ true
+    → released_by layout (records_in phase s.base.units cs) ≤ held_for layout (durable_part s).doubts

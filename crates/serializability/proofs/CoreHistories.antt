@@ -7,11 +7,11 @@ use Rattle.tables.specs.View.{is_store}
 use Rattle.xa_calls.specs.declared.request.Request.TheVariants as request
 use Rattle.xa_manager.specs.declared.branch.Branch.{Branch}
 use Rattle.xa_manager.specs.declared.branch.BranchState.{BranchState}
-use Rattle.xa_manager.specs.declared.branch.BranchState.TheVariants.{Active, Idle, RollbackOnly, Prepared}
+use Rattle.xa_manager.specs.declared.branch.BranchState.TheVariants.{Active, Heuristic, Idle, RollbackOnly, Prepared}
 use Rattle.xa_manager.specs.declared.due.Action.{Action}
 use Rattle.xa_manager.specs.declared.due.Action.TheVariants as action
 use Rattle.xa_manager.specs.declared.due.Facts.{Facts}
-use Rattle.xa_manager.specs.Branch.{is_in_doubt, is_lost_with, state_of}
+use Rattle.xa_manager.specs.Branch.{is_undecided, is_lost_with, state_of}
 use Rattle.xa_manager.specs.Due.{after}
 use Rattle.xa_manager.specs.Laws.{ActionsFit, FitsAction}
 use Rattle.xa_manager.proofs.Rising.{rises, rises_branch, rises_filter, rises_state, rising}
@@ -43,10 +43,11 @@ rising_after bs c xid action.Start f fit h = rising _ (rises_branch bs (record {
 rising_after bs c xid action.Join f fit h = rising _ (rises_state xid _ bs (rises bs h))
 rising_after bs c xid (action.End e) f fit h = rising _ (rises_state xid _ bs (rises bs h))
 rising_after bs c xid action.Prepare f fit h = rising _ (rises_state xid _ bs (rises bs h))
-rising_after bs c xid action.Forget f fit h = rising _ (rises_filter _ bs (rises bs h))
+rising_after bs c xid action.EndUnchanged f fit h = rising _ (rises_filter _ bs (rises bs h))
 rising_after bs c xid action.CommitOnePhase f fit h = rising _ (rises_filter _ bs (rises bs h))
 rising_after bs c xid (action.Decide o) f fit h = rising _ (rises_filter _ bs (rises bs h))
 rising_after bs c xid action.RollBack f fit h = rising _ (rises_filter _ bs (rises bs h))
+rising_after bs c xid action.Forget f fit h = rising _ (rises_filter _ bs (rises bs h))
 
 rising_next : ActionsFit → (bs : List Branch) (b : CoreBase) (c : ℕ) (k : Call) → IsRising (λ (r : Branch). r.xid) bs → IsRising (λ (r : Branch). r.xid) (next bs b c k)
 rising_next fits bs b c (call.run st params) h = h
@@ -61,11 +62,12 @@ rising_next fits bs b c call.lost h = rising _ (rises_filter (λ (r : Branch). n
 
 -- ---- units in doubt
 
-is_it : (s : BranchState) → is_in_doubt s ≡ true → s ≡ Prepared
+is_it : (s : BranchState) → is_undecided s ≡ true → s ≡ Prepared
 is_it (Active c) h = both false h refl
 is_it (Idle c) h = both false h refl
 is_it (RollbackOnly c) h = both false h refl
 is_it Prepared h = refl
+is_it (Heuristic d) h = both false h refl
 
 state_is : (o : Option BranchState) → waits o ≡ true → o ≡ Some Prepared
 state_is None h = both false h refl

@@ -5,7 +5,7 @@ use Rattle.tables.specs.Tables.{Store}
 use Rattle.tables.specs.View.{is_store}
 use Rattle.xa_manager.specs.declared.branch.Branch.{Branch}
 use Rattle.xa_manager.specs.declared.branch.BranchState.{BranchState}
-use Rattle.xa_manager.specs.Branch.{is_in_doubt, state_of}
+use Rattle.xa_manager.specs.Branch.{is_undecided, state_of}
 use Rattle.core_calls.specs.Call.{Call}
 use Rattle.core_model.specs.Units.{Held, Owner, global, has_work, local, unit_of}
 use Rattle.core_model.specs.Events.{Base as CoreBase}
@@ -44,7 +44,7 @@ story (l ∷ ls) s = story ls (told_by l.mark s l.conversation l.call)
 -- the branch is known, and waits for its decision
 abbrev pub waits : Option BranchState → Bool
 waits None = false
-waits (Some state) = is_in_doubt state
+waits (Some state) = is_undecided state
 
 -- the unit is that of a prepared branch
 abbrev pub is_prepared : List Branch → Owner → Bool
