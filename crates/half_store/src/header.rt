@@ -3,7 +3,7 @@ ghost use Rattle.std.specs.Prelude.{◌≡◌, ◌==◌, ◌^◌, ◌<◌, ◌�
 ghost use Rattle.std.specs.List.{list_all};
 ghost use Rattle.std.specs.Int.{w32, from_be_bytes};
 ghost use Rattle.drda_words.specs.Place.{part};
-ghost use Rattle.half_store.specs.Header.{is_inside, half_in, layout_of, layout_word, opened, HasRoom};
+ghost use Rattle.half_store.specs.Header.{header_in, is_inside, half_in, layout_of, layout_word, opened, HasRoom};
 
 use crate::layout::PAGE_BYTES;
 
@@ -12,6 +12,9 @@ pub(crate) const OPEN: u8 = 0xA5;
 
 /// The offset of the layout in a header page.
 const LAYOUT_AT: usize = 21;
+
+/// The bytes of a gate and a header.
+const HEADER_BYTES: usize = 25;
 
 /// What is written to close a gate.
 pub(crate) const CLOSED: u8 = 0;
@@ -98,11 +101,10 @@ fn layout_in(page: &[u8]) -> Option<Layout>
     Layout::of(u32::from_be_bytes([word[0], word[1], word[2], word[3]]))
 }
 
-/// What the header of this layout says of its half, behind an open gate.
-fn opened_as(half_bytes: usize, page: &[u8], layout: Layout) -> HalfState
+/// The header of this layout that a page has behind its gate.
+fn header_in(layout: Layout, page: &[u8]) -> Header
     requires { length page.now ≡ 8192 }
-    ensures state { result ≡ opened half_bytes page.now (Some layout) }
-    ensures room { HasRoom half_bytes result }
+    ensures { result ≡ header_in layout page.now }
 {
     let [
         _,
@@ -126,23 +128,28 @@ fn opened_as(half_bytes: usize, page: &[u8], layout: Layout) -> HalfState
         c1,
         c2,
         c3,
-        _,
-        _,
-        _,
-        _,
-        rest @ ..,
+        ..
     ] = page
     else {
-        return HalfState::Unsound;
+        unreachable!()
     };
-    let header = Header {
+    Header {
         generation: u64::from_be_bytes([*g0, *g1, *g2, *g3, *g4, *g5, *g6, *g7]),
         pages: u32::from_be_bytes([*p0, *p1, *p2, *p3]),
         first_catalogue: u32::from_be_bytes([*f0, *f1, *f2, *f3]),
         catalogue_pages: u32::from_be_bytes([*c0, *c1, *c2, *c3]),
         layout,
-    };
-    if is_inside(half_bytes, header) && are_zeros(rest) {
+    }
+}
+
+/// What the header of this layout says of its half, behind an open gate.
+fn opened_as(half_bytes: usize, page: &[u8], layout: Layout) -> HalfState
+    requires { length page.now ≡ 8192 }
+    ensures state { result ≡ opened half_bytes page.now (Some layout) }
+    ensures room { HasRoom half_bytes result }
+{
+    let header = header_in(layout, page);
+    if is_inside(half_bytes, header) && are_zeros(&page[HEADER_BYTES..]) {
         HalfState::Open(header)
     } else {
         HalfState::Unsound

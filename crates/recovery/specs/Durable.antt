@@ -76,6 +76,11 @@ with_doubt doubts xid doubt = insert_entry (slice_cmp nat_cmp) doubts xid doubt
 abbrev pub without_doubt : Doubts → List ℕ → Doubts
 without_doubt doubts xid = remove_entry (bytes_eq xid) doubts
 
+-- with another in the place of the first of this XID
+abbrev pub turned : Doubts → List ℕ → Doubt → Doubts
+turned [] xid doubt = []
+turned (e ∷ es) xid doubt = if bytes_eq xid e.0 then (e.0, doubt) ∷ es else e ∷ turned es xid doubt
+
 -- no table is created
 abbrev pub creates_none : List Change → Bool
 creates_none [] = true
@@ -96,9 +101,12 @@ abbrev pub is_free : Doubts → List ℕ → Bool
 is_free doubts xid = not (is_some (doubt_of doubts xid)) && nat_lt (length doubts) 256
 
 -- a unit that was in doubt is decided: its changes are made, or not, and its claims end
+abbrev pub decide_changes : Decision → List Change → Store → Store
+decide_changes decision.Commit changes store = apply_all changes store
+decide_changes decision.RollBack changes store = store
+
 abbrev pub decide : Decision → Store → Work → Store
-decide decision.Commit store work = apply_all work.changes store
-decide decision.RollBack store work = store
+decide o store work = decide_changes o work.changes store
 
 -- the branch of an XID is decided, where it waits for that
 abbrev pub ended_in : Durable → List ℕ → Decision → Work → Option Decision → Option Durable
@@ -110,7 +118,7 @@ ended d xid o doubt = ended_in d xid o doubt.work doubt.outcome
 
 -- it is decided heuristically, where it waits for its decision, and stands so
 abbrev pub completed_in : Durable → List ℕ → Decision → Work → Option Decision → Option Durable
-completed_in d xid o work None = Some (record { store = decide o d.store work; doubts = with_doubt d.doubts xid (completed o) })
+completed_in d xid o work None = Some (record { store = decide o d.store work; doubts = turned d.doubts xid (completed o) })
 completed_in d xid o work (Some h) = None
 
 -- one that is not in doubt is found so, as behind a checkpoint, where fewer than 256 are in doubt

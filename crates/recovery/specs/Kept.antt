@@ -18,7 +18,7 @@ abbrev pub waits : Option BranchState → Bool
 waits None = false
 waits (Some state) = is_in_doubt state
 
--- the unit is that of a prepared branch
+-- the unit is that of a branch in doubt
 abbrev pub is_in_doubt_in : List Branch → Owner → Bool
 is_in_doubt_in branches (local conversation) = false
 is_in_doubt_in branches (global xid) = waits (state_of branches xid)

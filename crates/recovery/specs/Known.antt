@@ -25,16 +25,14 @@ IsKnown layout r = is_of layout (kind_of r) ≡ true
 abbrev pub AreKnown : Layout → List Entry → Type 0
 AreKnown layout es = AllByRecursion (λ (e : Entry). is_of layout e.kind ≡ true) es
 
--- what a record releases is held for its branch: a heuristic decision is one of a branch in doubt
-abbrev pub IsOfDoubt : Durable → UnitRecord → Type 0
-IsOfDoubt d (heuristic xid o) = is_some (doubt_of d.doubts xid) ≡ true
-IsOfDoubt d (committed changes) = Unit {0}
-IsOfDoubt d (prepared xid changes claims) = Unit {0}
-IsOfDoubt d (decided xid o) = Unit {0}
-IsOfDoubt d (forgotten xid) = Unit {0}
-
+-- What a record releases is held for its branch: a heuristic decision is made in layout 2, of a branch in doubt. Behind a
+-- checkpoint one that was made before releases nothing.
 abbrev pub Releases : Layout → Durable → UnitRecord → Type 0
-Releases layout d r = IsKnown layout r × IsOfDoubt d r
+Releases layout d (committed changes) = Unit {0}
+Releases layout d (prepared xid changes claims) = Unit {0}
+Releases layout d (decided xid o) = Unit {0}
+Releases layout d (heuristic xid o) = (layout ≡ Two) × (is_some (doubt_of d.doubts xid) ≡ true)
+Releases layout d (forgotten xid) = Unit {0}
 
 -- each of records one behind another
 abbrev pub ReleaseAll : Layout → Durable → List UnitRecord → Type 0

@@ -20,10 +20,15 @@ laid_of e = laid_in e.0 e.1.work e.1.outcome
 abbrev pub records_of : Doubts → List UnitRecord
 records_of doubts = map laid_of doubts
 
--- the changes of each have their places in a store
+-- the changes of a unit that waits for its decision have their places in a store
+abbrev pub is_placed : Store → Work → Option Decision → Bool
+is_placed store work None = have_places work.changes store
+is_placed store work (Some o) = true
+
+-- and those of each
 abbrev pub are_placed : Doubts → Store → Bool
 are_placed [] store = true
-are_placed (e ∷ es) store = have_places e.1.work.changes store && are_placed es store
+are_placed (e ∷ es) store = is_placed store e.1.work e.1.outcome && are_placed es store
 
 -- So the records lead from the checkpoint to the state with just these branches in doubt. In a store that other programs
 -- wrote the changes of a unit in doubt may have lost their places.

@@ -1,8 +1,13 @@
 -- Steps of the core, and what is durable of it.
 use Rattle.std.specs.Prelude.{◌≡◌, ◌≤◌, ℕ, List, true, Some, None}
 use Rattle.core_calls.specs.Call.{Call}
-use Rattle.core_model.specs.Step.{CoreState, step_state}
-use Rattle.unit_records.specs.Records.{UnitRecord}
+use Rattle.core_model.specs.Step.{CoreState, decided_state, step_state}
+use Rattle.xa_manager.specs.declared.branch.BranchState.TheVariants.{Prepared}
+use Rattle.xa_manager.specs.declared.due.Decision.{Decision}
+use Rattle.xa_manager.specs.Branch.{state_of}
+use Rattle.half_store.specs.declared.header.Layout.TheVariants.{Two}
+use Rattle.unit_records.specs.Records.{UnitRecord, heuristic}
+use Rattle.recovery.specs.Known.{Releases}
 use Rattle.unit_records.specs.Room.{released, released_by}
 use Rattle.recovery.specs.Durable.{Durable, next, replayed_from}
 use Rattle.half_store.specs.declared.header.Layout.{Layout}
@@ -31,6 +36,22 @@ RecordsLead = (s : CoreState) (conversation : ℕ) (k : Call) (r : UnitRecord) �
 -- what a record that is due releases was held for a unit in doubt
 abbrev pub DecisionsAreOfDoubts : Type 0
 DecisionsAreOfDoubts = (layout : Layout) (s : CoreState) (conversation : ℕ) (k : Call) (r : UnitRecord) → IsKept s → record_due s conversation k ≡ Some r → released layout r ≤ held_for layout (durable_part s).doubts
+
+-- ---- a heuristic decision of a prepared branch
+
+-- it keeps a core
+abbrev pub DecisionsKeep : Type 0
+DecisionsKeep = (s : CoreState) (xid : List ℕ) (d : Decision) → IsKept s → state_of s.branches xid ≡ Some Prepared → IsKept (decided_state s xid d)
+
+-- its record has its place, and leads to what is durable then
+abbrev pub DecisionsLead : Type 0
+DecisionsLead = (s : CoreState) (xid : List ℕ) (d : Decision) → IsKept s → state_of s.branches xid ≡ Some Prepared → next (durable_part s) (heuristic xid d) ≡ Some (durable_part (decided_state s xid d))
+
+-- what it releases was held for the branch
+abbrev pub HeuristicsAreOfDoubts : Type 0
+HeuristicsAreOfDoubts = (s : CoreState) (xid : List ℕ) (d : Decision) → IsKept s → state_of s.branches xid ≡ Some Prepared → (released Two (heuristic xid d) ≤ held_for Two (durable_part s).doubts) × Releases Two (durable_part s) (heuristic xid d)
+
+-- ---- a core that is opened
 
 -- what records lead to is sound, and a core that is opened over it is kept
 pub record IsOpened (d : Durable) : Type 0 where

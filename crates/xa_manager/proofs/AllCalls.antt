@@ -32,7 +32,7 @@ use Rattle.xa_manager.specs.Counts.{weight}
 abbrev first_or : Bool → BranchState → Option BranchState → Option BranchState
 first_or t s rest = cond t (Some s) rest
 
-other_with_branch : (bs : List Branch) (new : Branch) (x : List ℕ) → bytes_eq new.xid x ≡ false → state_of (with_branch bs new) x ≡ state_of bs x
+pub other_with_branch : (bs : List Branch) (new : Branch) (x : List ℕ) → bytes_eq new.xid x ≡ false → state_of (with_branch bs new) x ≡ state_of bs x
 other_with_branch [] new x e = rw e refl
 other_with_branch (b ∷ bs) new x e =
     let rest = other_with_branch bs new x e in
@@ -44,7 +44,7 @@ other_with_branch (b ∷ bs) new x e =
 not_of : (b y x : List ℕ) → bytes_eq b y ≡ true → bytes_eq y x ≡ false → bytes_eq b x ≡ false
 not_of b y x e d = subst (λ (z : List ℕ). bytes_eq z x ≡ false) (sym (same_bytes b y e)) d
 
-other_with_state : (bs : List Branch) (y : List ℕ) (s : BranchState) (x : List ℕ) → bytes_eq y x ≡ false → state_of (with_state bs y s) x ≡ state_of bs x
+pub other_with_state : (bs : List Branch) (y : List ℕ) (s : BranchState) (x : List ℕ) → bytes_eq y x ≡ false → state_of (with_state bs y s) x ≡ state_of bs x
 other_with_state [] y s x d = refl
 other_with_state (b ∷ bs) y s x d =
     let rest = other_with_state bs y s x d in
@@ -53,7 +53,7 @@ other_with_state (b ∷ bs) y s x d =
     let kept : state_of (b ∷ with_state bs y s) x ≡ state_of (b ∷ bs) x = rw rest refl in
     elim (bytes_eq b.xid y) as (λ t. bytes_eq b.xid y ≡ t → state_of ((cond t set_to b) ∷ with_state bs y s) x ≡ state_of (b ∷ bs) x) [ true ↦ changed | false ↦ λ e. kept ] refl
 
-other_without : (bs : List Branch) (y x : List ℕ) → bytes_eq y x ≡ false → state_of (without bs y) x ≡ state_of bs x
+pub other_without : (bs : List Branch) (y x : List ℕ) → bytes_eq y x ≡ false → state_of (without bs y) x ≡ state_of bs x
 other_without [] y x d = refl
 other_without (b ∷ bs) y x d =
     let rest = other_without bs y x d in
@@ -232,7 +232,7 @@ same_with_branch (b ∷ bs) new e =
     elim (precedes new.xid b.xid) as (λ t. state_of (cond t (new ∷ b ∷ bs) (b ∷ with_branch bs new)) new.xid ≡ Some new.state) [ true ↦ front | false ↦ behind ]
 
 -- the branch of x, which is known, with its new state
-same_with_state : (bs : List Branch) (x : List ℕ) (t s : BranchState) → state_of bs x ≡ Some s → state_of (with_state bs x t) x ≡ Some t
+pub same_with_state : (bs : List Branch) (x : List ℕ) (t s : BranchState) → state_of bs x ≡ Some s → state_of (with_state bs x t) x ≡ Some t
 same_with_state [] x t s e = absurd cc
 same_with_state (b ∷ bs) x t s e =
     let set_to : Branch = record { xid = b.xid; state = t } in
@@ -304,7 +304,7 @@ prepared_stays bs c v asked xid work known =
     elim (bytes_eq asked xid) as (λ t. bytes_eq asked xid ≡ t → (state_of (after bs c asked a) xid ≡ Some Prepared) ⊎ ((asked ≡ xid) × (is_decision a ≡ true))) [ true ↦ same | false ↦ other ] refl
 
 -- what is not lost with a conversation stays as it stands
-outlives : (bs : List Branch) (c : ℕ) (x : List ℕ) (s : BranchState) → is_lost_with c s ≡ false → state_of bs x ≡ Some s → state_of (without_those_of bs c) x ≡ Some s
+pub outlives : (bs : List Branch) (c : ℕ) (x : List ℕ) (s : BranchState) → is_lost_with c s ≡ false → state_of bs x ≡ Some s → state_of (without_those_of bs c) x ≡ Some s
 outlives [] c x s stays known = absurd cc
 outlives (b ∷ bs) c x s stays known =
     let here : bytes_eq b.xid x ≡ true → state_of (without_those_of (b ∷ bs) c) x ≡ Some s = λ e.
