@@ -6,10 +6,11 @@ from drdad import wire
 
 
 def questions(store):
-    """A conversation that ends all units in doubt and reads all tables."""
+    """A conversation that decides or forgets all units in doubt, and reads all tables."""
     talk = written.Talk()
     talk.opens(0)
-    sent = [wire.command(6, wire.sync_control(written.ROLL_BACK, 0, xid)) for xid in store.doubts]
+    ends = [(xid, wire.FORGET if unit.outcome else wire.ROLL_BACK) for xid, unit in store.doubts.items()]
+    sent = [wire.command(6, wire.sync_control(call, 0, xid)) for xid, call in ends]
     for number, name in enumerate(sorted(store.tables), 1):
         section = wire.section("SHOP", number)
         query = wire.ddm(wire.OPNQRY, section + wire.number_object(wire.QRYBLKSZ, 10_485_760))

@@ -1,9 +1,11 @@
-"""Stories of a store whose device stops: what comes in over it, and what answers that; what is answered behind a fault, and the states that
-crashes may leave."""
+"""Stories of a store whose device stops: what comes in over it, and what answers that; units in doubt that are decided heuristically; what is
+answered behind a fault, and the states that crashes may leave."""
 import collections
+import struct
 
 import event_records as events
 import full_stores
+import old_store
 import plain_judge
 import store_reader
 import written_conversations as written
@@ -13,8 +15,16 @@ CALLS_OF_A_RECORD = 4
 FOUR_RECORDS = "four records"
 BROKEN_CHECKPOINT = b"\3"
 
-# A story: the events that the store has behind it, those that are swept, and what answers each of these.
-Story = collections.namedtuple("Story", "name before sent answers")
+COMMIT, ROLL_BACK = 1, 2
+DECISIONS = {COMMIT: "commit", ROLL_BACK: "rollback"}
+# XID data of the branches that are decided heuristically.
+G, R, LAID, ADDED = (struct.pack(">III", 1, len(name), 1) + name + b"B" for name in (b"G", b"R", *old_store.IN_DOUBT))
+
+# A story: the store that it begins with, a fresh one for None; the events that this one has behind it, and the units that are decided
+# heuristically then; the events that are swept, and what answers each of these.
+Story = collections.namedtuple("Story", "name before sent answers begin decided", defaults=(None, ()))
+# A decision that is swept: the store that it begins with, and the events behind it; the XID of the unit, and how it is decided.
+Decision = collections.namedtuple("Decision", "name begin before xid decision")
 
 
 def stories():
@@ -25,6 +35,17 @@ def stories():
     yield Story("checkpoints", [], sent, answers)
     # The same store, opened again with pages and records.
     yield Story("an opening", sent[:-6], *parts_of(decisions()))
+    yield Story("a forgetting", parts_of(two_in_doubt())[0], *parts_of(forgettings()), None, ((G, COMMIT), (R, ROLL_BACK)))
+    yield Story("a migration", [], *parts_of(migration()), old_store.image())
+
+
+def decided():
+    """Decisions that are made while a device may fail."""
+    before = parts_of(two_in_doubt())[0]
+    yield Decision("a heuristic commit", None, before, G, COMMIT)
+    yield Decision("a heuristic rollback", None, before, R, ROLL_BACK)
+    yield Decision("a heuristic commit that migrates", old_store.image(), [], ADDED, COMMIT)
+    yield Decision("a heuristic rollback that migrates", old_store.image(), [], LAID, ROLL_BACK)
 
 
 def parts_of(part):
@@ -96,6 +117,46 @@ def decisions():
     talk.calls(0, wire.COMMIT, b"G", 0)
     talk.changes(0, "UPDATE T SET V = 'decided' WHERE K = 100", 1, True)
     talk.commits(0)
+    return talk.sent, talk.answered
+
+
+def two_in_doubt():
+    """A table and two rows, each of the rows prepared under an XID."""
+    talk = written.Talk()
+    talk.opens(0)
+    talk.creates(0)
+    for name, key in ((b"G", 1), (b"R", 2)):
+        talk.works_in(0, name, (f"INSERT INTO T VALUES ({key}, 'a')", 1))
+        talk.calls(0, wire.PREPARE, name, 0)
+    return talk.sent, talk.answered
+
+
+def forgettings():
+    """Behind a heuristic commit and a heuristic rollback: both are told and forgotten, and their rows are free."""
+    talk = written.Talk()
+    talk.opens(0)
+    talk.calls(0, wire.COMMIT, b"G", 7)
+    talk.calls(0, wire.FORGET, b"G", 0)
+    talk.changes(0, "UPDATE T SET V = 'b' WHERE K = 1", 1, True)
+    talk.changes(0, "INSERT INTO T VALUES (2, 'b')", 1)
+    talk.commits(0)
+    talk.calls(0, written.ROLL_BACK, b"R", 6)
+    talk.calls(0, wire.FORGET, b"R", 0)
+    talk.asks(0, written.SYNCCTL, written.sync(written.RECOVER), written.in_doubt())
+    return talk.sent, talk.answered
+
+
+def migration():
+    """Over a store of layout 1: a record, a checkpoint, which migrates it, and two records behind that."""
+    talk = written.Talk()
+    talk.opens(0)
+    talk.changes(0, "UPDATE T SET V = 'old' WHERE K = 2", 1, True)
+    talk.commits(0)
+    talk.record(events.CHECKPOINT, 0, b"", b"\0")
+    talk.asks(0, written.SYNCCTL, written.sync(written.RECOVER), written.in_doubt(*old_store.IN_DOUBT))
+    talk.runs(0, "INSERT INTO T VALUES (100, 'a')", written.CLASHES)
+    talk.calls(0, wire.COMMIT, b"laid", 0)
+    talk.calls(0, written.ROLL_BACK, b"added", 0)
     return talk.sent, talk.answered
 
 

@@ -1,4 +1,5 @@
-"""A plain reader of a store's file, by docs/STORAGE.md: which tables and units in doubt it opens to, or at which offset it is damaged.
+"""A plain reader of a store's file, of layout 1 or 2, by docs/STORAGE.md: which tables and units in doubt it opens to, or at which offset it is
+damaged.
 A claim stands in a prepare as 00 read or 01 write, the table's name behind its length in one byte, and 00 for all of the table, or
 01 and the key behind its length in two bytes."""
 import struct
@@ -6,7 +7,10 @@ from collections import namedtuple
 
 PAGE, OPEN_GATE = 8192, 0xA5
 SMALLEST, LARGEST = 2 << 20, 1 << 30
-COMMIT, PREPARE, DECIDE = 1, 2, 3
+COMMIT, PREPARE, DECIDE, HEURISTIC, FORGET = 1, 2, 3, 4, 5
+# The kinds of records that a half may have, by the number that its header has for its layout.
+KINDS = {0: (COMMIT, PREPARE, DECIDE), 2: (COMMIT, PREPARE, DECIDE, HEURISTIC, FORGET)}
+OUTCOMES = {1: "committed", 2: "rolledback"}
 CATALOGUE, ROWS = 1, 2
 NUMBERS = {1: struct.Struct(">h"), 2: struct.Struct(">i"), 3: struct.Struct(">q")}
 VARCHAR, VARBINARY = 4, 5
@@ -16,10 +20,11 @@ MOST_TABLES, MOST_IN_DOUBT = 1000, 256
 LONGEST_ROW, LONGEST_KEY = 4000, 8012
 ALL_NAMES = 1, b"*", None
 
-Half = namedtuple("Half", "generation pages first_catalogue catalogue_pages")
+Half = namedtuple("Half", "generation pages first_catalogue catalogue_pages layout")
 Column = namedtuple("Column", "name kind takes_null length")
 Schema = namedtuple("Schema", "columns key")
-Unit = namedtuple("Unit", "changes claims")
+# A unit in doubt; of one that was decided heuristically there is the outcome alone.
+Unit = namedtuple("Unit", "changes claims outcome", defaults=[None])
 # What opens: tables by name, each a schema and its rows by keys; units in doubt by XIDs; the bytes that are left for records.
 Store = namedtuple("Store", "name tables doubts room")
 
@@ -173,9 +178,9 @@ def half_at(image, at, size):
     page = bytes(image[at:at + PAGE])
     if page[0] != OPEN_GATE:
         return None
-    half = Half(*struct.unpack(">QIII", page[1:21]))
+    half = Half(*struct.unpack(">QIIII", page[1:25]))
     fits = PAGE * (1 + half.pages) + 1 <= size and half.first_catalogue + half.catalogue_pages <= half.pages
-    if not fits or page[21:].strip(b"\0"):
+    if half.layout not in KINDS or not fits or page[25:].strip(b"\0"):
         raise Damaged(at)
     return half
 
@@ -260,12 +265,12 @@ def add_rows(schema, rows, found):
 
 # ---- the journal
 
-def records_of(image, at, end):
-    """The records of a journal: the offset of each one's gate, its kind and its body; and the offset of the closed gate behind them."""
+def records_of(image, at, end, layout):
+    """The records of a journal of a layout: the offset of each one's gate, its kind and its body; and the offset of the closed gate behind them."""
     found = []
     while image[at] == OPEN_GATE:
         kind, size = (image[at + 1], int.from_bytes(image[at + 2:at + 6], "big")) if at + 6 < end else (0, 0)
-        if kind not in (COMMIT, PREPARE, DECIDE) or at + 6 + size >= end:
+        if kind not in KINDS[layout] or at + 6 + size >= end:
             raise Damaged(at)
         found.append((at, kind, bytes(image[at + 6:at + 6 + size])))
         at += 6 + size
@@ -320,10 +325,25 @@ def step(tables, doubts, kind, body):
         need(all(change[0] != 1 for change in changes) or ALL_NAMES in claims)
         all_placed(tables, changes)
         return tables, {**doubts, xid: Unit(changes, claims)}
-    decision = front.number(1)
-    need(front.is_empty() and decision in (1, 2) and xid in doubts)
     left = {one: unit for one, unit in doubts.items() if one != xid}
+    if kind == FORGET:
+        need(front.is_empty() and xid in doubts and doubts[xid].outcome)
+        return tables, left
+    decision = front.number(1)
+    need(front.is_empty() and decision in OUTCOMES)
+    if kind == HEURISTIC:
+        left[xid] = Unit([], [], decision)
+        if xid not in doubts:
+            need(len(doubts) < MOST_IN_DOUBT)
+            return tables, left
+    need(xid in doubts and not doubts[xid].outcome)
     return applied(tables, doubts[xid].changes) if decision == 1 else tables, left
+
+
+def held_for(layout, xid, unit):
+    """The bytes that are held back for a unit in doubt: for its decision, and in layout 2 for its forgetting too."""
+    decision, forgetting = 7 + len(xid), 6 + len(xid)
+    return (0 if unit.outcome else decision) + (forgetting if layout == 2 else 0)
 
 
 def opened(image):
@@ -331,26 +351,30 @@ def opened(image):
     name = head_of(image)
     half_begin, size, half = active_of(image)
     begin, end = half_begin + PAGE * (1 + half.pages), half_begin + size
-    tables, doubts, prepares = pages_of(image, half_begin + PAGE, half), {}, {}
-    records, closed = records_of(image, begin, end)
+    tables, doubts, holders = pages_of(image, half_begin + PAGE, half), {}, {}
+    records, closed = records_of(image, begin, end, half.layout)
     for at, kind, body in records:
         try:
             tables, doubts = step(tables, doubts, kind, body)
         except NoValue:
             raise Damaged(at) from None
-        if kind == PREPARE:
-            prepares[xid_in(Front(body))] = at
-    room = end - closed - 1 - sum(7 + len(xid) for xid in doubts)
+        if kind in (PREPARE, HEURISTIC):
+            holders[xid_in(Front(body))] = at
+    room = end - closed - 1 - sum(held_for(half.layout, *one) for one in doubts.items())
     if room < 0:
-        raise Damaged(max(prepares[xid] for xid in doubts))
+        raise Damaged(max(holders[xid] for xid in doubts))
     return Store(name.decode(), tables, dict(sorted(doubts.items())), room)
 
 
 def doubt_lines(doubts):
     """What `drdad indoubt` lists."""
     lines = ""
-    for xid in doubts:
-        number, first, _ = struct.unpack_from(">III", xid)
-        parts = xid[12:12 + first].hex() or "-", xid[12 + first:].hex() or "-"
-        lines += f"{number} {parts[0]} {parts[1]}\n"
+    for xid, unit in doubts.items():
+        lines += " ".join([*words_of(xid), *([OUTCOMES[unit.outcome]] if unit.outcome else [])]) + "\n"
     return lines
+
+
+def words_of(xid):
+    """An XID in the words that `drdad indoubt` prints and `drdad decide` takes."""
+    number, first, _ = struct.unpack_from(">III", xid)
+    return str(number), xid[12:12 + first].hex() or "-", xid[12 + first:].hex() or "-"

@@ -67,6 +67,7 @@ module _ (base : List ℕ) (store : Store) (w : ImageWriter) (half : half_of w �
           name = refl;
           half = half;
           generation = generation;
+          layout = refl;
           holds = record {
             active = is.active;
             pages = subst (λ n. HasCheckpoint image (record { at = offset_of n (half_of w) + 8192; count = pages_of w; first_catalogue = first; catalogue_pages = catalogue }) tables) same
@@ -180,7 +181,7 @@ module _ (old mid : List ℕ) (store : Store) (some : 1 ≤ half_len (length old
       }
 
   new_before : (tables : Tables) (es : List Entry) (held : ℕ) (image : List ℕ) → IsNew mid store tables es held image → IsNew old store tables es held image
-  new_before tables es held image is = record { size = is.size ∙ torn.size; new = is.new; name = is.name; half = is.half; generation = is.generation; holds = is.holds }
+  new_before tables es held image is = record { size = is.size ∙ torn.size; new = is.new; name = is.name; half = is.half; generation = is.generation; layout = is.layout; holds = is.holds }
 
   pub before : (tables : Tables) (es : List Entry) (held : ℕ) (image : List ℕ) → Moment mid store tables es held image → Moment old store tables es held image
   before tables es held image moment = ⊎_elim (λ is. inl (old_before image is)) (λ is. inr (new_before tables es held image is)) moment

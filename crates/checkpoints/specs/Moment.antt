@@ -6,6 +6,7 @@ use Rattle.half_store.specs.Active.{Store, active_of}
 use Rattle.half_store.specs.Layout.{half_len, offset_of, other_than}
 use Rattle.half_store.specs.Opened.{IsBehindPages, store_of}
 use Rattle.half_store.specs.Writing.{IsKept}
+use Rattle.half_store.specs.declared.header.Layout.TheVariants.{Two}
 use Rattle.unit_journal.specs.Journal.{IsSettled, held_of, region_of}
 use Rattle.unit_journal.specs.Record.{Entry}
 use Rattle.tables.specs.Tables.{Store as Tables}
@@ -24,14 +25,15 @@ pub record Rests (modelled : Bool) (disk : Life) (store : Store) : Type 0 where
 abbrev pub IsOld : List ℕ → Store → List ℕ → Type 0
 IsOld base store image = IsKept base store (offset_of (half_len (length base)) (other_than store.half)) (half_len (length base)) image
 
--- An image of the base's size has the other half as its active one, of the next generation, and in it these tables, these
--- records and no others, and the room for so many bytes.
+-- An image of the base's size has the other half as its active one, of the next generation and of layout 2, and in it these
+-- tables, these records and no others, and the room for so many bytes.
 pub record IsNew (base : List ℕ) (store : Store) (tables : Tables) (es : List Entry) (held : ℕ) (image : List ℕ) : Type 0 where
   pub size : length image ≡ length base
   pub new : Store
   pub name : new.name ≡ store.name
   pub half : new.half ≡ other_than store.half
   pub generation : new.header.generation ≡ store.header.generation + 1
+  pub layout : new.header.layout ≡ Two
   pub holds : Holds new tables es held image
 
 -- what a crash leaves: the old half as it was, or the new one

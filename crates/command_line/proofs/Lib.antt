@@ -2,3 +2,4 @@ pub mod Parsed
 pub mod Decimal
 pub mod Owning
 pub mod Returned
+pub mod Spelled

@@ -3,6 +3,7 @@
 --   drdad pipe [PATH] [--rdb NAME] [--user U:P] [--user-file FILE]
 --   drdad serve PATH --port N [--user U:P] [--user-file FILE] [--count N] [--idle N] [--log]
 --   drdad indoubt PATH
+--   drdad decide PATH FORMAT GLOBAL BRANCH DECISION
 --   drdad room PATH
 --   drdad check PATH
 --   drdad version
@@ -45,6 +46,9 @@ serve = with_rule (with_rule (with_rule (with_rule (with_rule (with_rule (with_r
 abbrev pub in_doubt : App
 in_doubt = with_rule (new_app (codes "indoubt")) (needed_word (codes "path"))
 
+abbrev pub decide : App
+decide = with_rule (with_rule (with_rule (with_rule (with_rule (new_app (codes "decide")) (needed_word (codes "path"))) (needed_word (codes "format"))) (needed_word (codes "global"))) (needed_word (codes "branch"))) (needed_word (codes "decision"))
+
 abbrev pub room : App
 room = with_rule (new_app (codes "room")) (needed_word (codes "path"))
 
@@ -63,7 +67,7 @@ abbrev pub serving : App
 serving = with_subcommand (with_subcommand (with_subcommand (with_subcommand nothing_yet init.top) pipe.top) serve.top) in_doubt.top
 
 abbrev pub drdad : App
-drdad = with_subcommand (with_subcommand (with_subcommand serving room.top) check.top) version.top
+drdad = with_subcommand (with_subcommand (with_subcommand (with_subcommand serving decide.top) room.top) check.top) version.top
 
 -- what is wrong with the words
 unfoldable pub faults : List Text → Kinds

@@ -4,6 +4,9 @@ use Rattle.std.specs.List.{position_or_len, before_first, after_first}
 use Rattle.clap.specs.Words.{Kinds, Row, Text, first_of}
 use Rattle.command_line.specs.Grammar.{faults, given}
 use Rattle.command_line.specs.Number.{number_in, port_in, seconds_in}
+use Rattle.command_line.specs.Spelling.{xid_said}
+use Rattle.xa_manager.specs.declared.due.Decision.{Decision}
+use Rattle.xa_manager.specs.declared.due.Decision.TheVariants.{Commit, RollBack}
 use Rattle.command_line.specs.declared.job.Job.{Job as CodeJob}
 use Rattle.command_line.specs.declared.job.Job.TheVariants as code
 use Rattle.command_line.specs.declared.job.Login.{Login as CodeLogin}
@@ -28,6 +31,8 @@ pub data Job : Type 0 where
   -- the path, the port, and how conversations are served
   serve : Text → ℕ → LoginSource → ServeOptions → Job
   in_doubt : Text → Job
+  -- the path, the XID, and how its unit is decided
+  decide : Text → List ℕ → Decision → Job
   room : Text → Job
   check : Text → Job
   version : Job
@@ -44,6 +49,7 @@ plain_job (code.Init path size rdb) = init path.now size rdb.now
 plain_job (code.Pipe path rdb login) = pipe (option_map (λ p. p.now) path) rdb.now (plain_source login)
 plain_job (code.Serve path port login options) = serve path.now port (plain_source login) options
 plain_job (code.InDoubt path) = in_doubt path.now
+plain_job (code.Decide path xid decision) = decide path.now xid decision
 plain_job (code.Room path) = room path.now
 plain_job (code.Check path) = check path.now
 plain_job code.Version = version
@@ -124,6 +130,18 @@ serve_by path port user file options = None
 abbrev pub in_doubt_by : Option Text → Option Job
 in_doubt_by path = option_map (λ (p : Text). in_doubt p) path
 
+-- how a unit is decided
+abbrev pub decision_in : Text → Option Decision
+decision_in text = if bytes_eq text (codes "commit") then Some Commit else (if bytes_eq text (codes "rollback") then Some RollBack else None)
+
+abbrev pub xid_by : Option Text → Option Text → Option Text → Option (List ℕ)
+xid_by (Some format) (Some global) (Some branch) = xid_said format global branch
+xid_by format global branch = None
+
+abbrev pub decide_by : Option Text → Option (List ℕ) → Option Text → Option Job
+decide_by (Some path) (Some xid) (Some decision) = option_map (λ (d : Decision). decide path xid d) (decision_in decision)
+decide_by path xid decision = None
+
 abbrev pub room_by : Option Text → Option Job
 room_by path = option_map (λ (p : Text). room p) path
 
@@ -141,9 +159,10 @@ said_to name rows =
     else (if bytes_eq name (codes "pipe") then pipe_by (value rows (codes "path")) (value rows (codes "rdb")) (value rows (codes "user")) (value rows (codes "user-file"))
     else (if bytes_eq name (codes "serve") then serve_by (value rows (codes "path")) (value rows (codes "port")) (value rows (codes "user")) (value rows (codes "user-file")) (options_by (value rows (codes "count")) (value rows (codes "idle")) (value rows (codes "log")))
     else (if bytes_eq name (codes "indoubt") then in_doubt_by (value rows (codes "path"))
+    else (if bytes_eq name (codes "decide") then decide_by (value rows (codes "path")) (xid_by (value rows (codes "format")) (value rows (codes "global")) (value rows (codes "branch"))) (value rows (codes "decision"))
     else (if bytes_eq name (codes "room") then room_by (value rows (codes "path"))
     else (if bytes_eq name (codes "check") then check_by (value rows (codes "path"))
-    else (if bytes_eq name (codes "version") then Some version else None))))))
+    else (if bytes_eq name (codes "version") then Some version else None)))))))
 
 abbrev pub said_by : Kinds → Option (Text × List Row) → Option Job
 said_by [] (Some sub) = said_to sub.0 sub.1

@@ -1,4 +1,5 @@
 pub mod Grammar
 pub mod Number
+pub mod Spelling
 pub mod Job
 pub mod Reading

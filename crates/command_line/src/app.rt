@@ -154,6 +154,30 @@ fn in_doubt<'a>(alloc: Global) -> Result<Command<'a>, AllocError>
         .arg(needed_word(alloc, "path", STORE_FILE))
 }
 
+fn decide<'a>(alloc: Global) -> Result<Command<'a>, AllocError>
+    ensures { IfOk result (λ c. (app_of c ≡ grammar.decide) × grammar.AddsItself c) }
+{
+    Command::new(alloc, "decide")
+        .about("Decides a unit in doubt of a store, in the place of its transaction manager")
+        .arg(needed_word(alloc, "path", STORE_FILE))?
+        .arg(needed_word(
+            alloc,
+            "format",
+            "The format number of its XID, as indoubt prints it",
+        ))?
+        .arg(needed_word(
+            alloc,
+            "global",
+            "The global part of its XID, as indoubt prints it",
+        ))?
+        .arg(needed_word(
+            alloc,
+            "branch",
+            "The branch part of its XID, as indoubt prints it",
+        ))?
+        .arg(needed_word(alloc, "decision", "commit or rollback"))
+}
+
 fn room<'a>(alloc: Global) -> Result<Command<'a>, AllocError>
     ensures { IfOk result (λ c. (app_of c ≡ grammar.room) × grammar.AddsItself c) }
 {
@@ -202,6 +226,7 @@ pub(crate) fn drdad<'a>(alloc: Global) -> Result<Command<'a>, AllocError>
     let program = with_one(program, pipe(alloc))?;
     let program = with_one(program, serve(alloc))?;
     let program = with_one(program, in_doubt(alloc))?;
+    let program = with_one(program, decide(alloc))?;
     let program = with_one(program, room(alloc))?;
     let program = with_one(program, check(alloc))?;
     with_one(program, version(alloc))

@@ -1,5 +1,8 @@
 //! What the words of a command line ask for.
 
+use xa_calls::Xid;
+use xa_manager::Decision;
+
 /// Who may open the database.
 #[derive(Clone, Copy, Debug)]
 pub struct Login<'a> {
@@ -57,6 +60,13 @@ pub enum Job<'a> {
     /// `indoubt PATH`: the units in doubt of a store.
     InDoubt {
         path: &'a str,
+    },
+    /// `decide PATH FORMAT GLOBAL BRANCH commit|rollback`: the unit in doubt of this XID is decided so, without its
+    /// transaction manager.
+    Decide {
+        path: &'a str,
+        xid: Xid,
+        decision: Decision,
     },
     /// `room PATH`: how much a store holds, and how much more it has room for.
     Room {

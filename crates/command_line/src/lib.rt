@@ -5,9 +5,11 @@ mod app;
 mod job;
 mod logins;
 mod numbers;
+mod spelling;
 mod texts;
 mod words;
 
 pub use job::{Job, Login, LoginSource, ServeOptions};
 pub use logins::login_in_file;
+pub use spelling::{words_spell_one_xid, xid_text};
 pub use words::{BadWords, job_of};

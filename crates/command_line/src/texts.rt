@@ -1,11 +1,15 @@
 //! What the texts behind a subcommand ask for.
 
-ghost use Rattle.std.specs.Prelude.{◌≡◌, option_map};
+ghost use Rattle.std.specs.Prelude.{◌≡◌, IfOk, option_map};
 ghost use Rattle.command_line.specs.Job as spec;
 
 use crate::job::{Job, LoginSource, ServeOptions};
 use crate::logins::login_in;
 use crate::numbers::{number_in, port_in, seconds_in};
+use crate::spelling::xid_in;
+use std::alloc::{AllocError, Global};
+use xa_calls::Xid;
+use xa_manager::Decision;
 
 pub(crate) fn init_by<'a>(
     path: Option<&'a str>,
@@ -79,6 +83,50 @@ pub(crate) fn in_doubt_by<'a>(path: Option<&'a str>) -> Option<Job<'a>>
     match path {
         Some(path) => Some(Job::InDoubt { path }),
         None => None,
+    }
+}
+
+pub(crate) fn decide_by<'a>(
+    path: Option<&'a str>,
+    xid: Option<Xid>,
+    decision: Option<&str>,
+) -> Option<Job<'a>>
+    ensures { option_map spec.plain_job result ≡ spec.decide_by (option_map (λ p. p.now) path.entry) xid (option_map (λ d. d.now) decision.entry) }
+{
+    let (Some(path), Some(xid), Some(decision)) = (path, xid, decision) else {
+        return None;
+    };
+    let decision = decision_in(decision)?;
+    Some(Job::Decide {
+        path,
+        xid,
+        decision,
+    })
+}
+
+/// The XID that the words for its parts spell, where all three are given.
+pub(crate) fn xid_by(
+    alloc: Global,
+    format: Option<&str>,
+    global: Option<&str>,
+    branch: Option<&str>,
+) -> Result<Option<Xid>, AllocError>
+    ensures { IfOk result (λ xid. xid ≡ spec.xid_by (option_map (λ f. f.now) format.entry) (option_map (λ g. g.now) global.entry) (option_map (λ b. b.now) branch.entry)) }
+{
+    match (format, global, branch) {
+        (Some(format), Some(global), Some(branch)) => xid_in(alloc, format, global, branch),
+        _ => Ok(None),
+    }
+}
+
+// How a unit is decided, as its word says.
+fn decision_in(text: &str) -> Option<Decision>
+    ensures { result ≡ spec.decision_in text.now }
+{
+    match text {
+        "commit" => Some(Decision::Commit),
+        "rollback" => Some(Decision::RollBack),
+        _ => None,
     }
 }
 

@@ -1,13 +1,15 @@
 //! Reading the words.
 
-ghost use Rattle.std.specs.Prelude.{◌≡◌, [], codes, map, option_map, string_bytes};
+ghost use Rattle.std.specs.Prelude.{◌≡◌, IfOk, [], codes, map, option_map, string_bytes};
 ghost use Rattle.clap.specs.Words.{found_of, rows_of, subcommand_rows_of};
 ghost use Rattle.command_line.specs.Job as spec;
 ghost use Rattle.command_line.specs.Reading.{Parses, Says, Tells};
 
 use crate::app::drdad;
 use crate::job::Job;
-use crate::texts::{check_by, in_doubt_by, init_by, options_by, pipe_by, room_by, serve_by};
+use crate::texts::{
+    check_by, decide_by, in_doubt_by, init_by, options_by, pipe_by, room_by, serve_by, xid_by,
+};
 use clap::ArgMatches;
 use clap::error::ErrorKind;
 use std::alloc::{AllocError, Global};
@@ -62,7 +64,8 @@ pub fn parse_words<'a, S: AsStr>(
 /// The job that words of `drdad` ask for, the program's name first, lent from them. `NoJob` comes
 /// exactly where they ask for none: they are none of the grammar's, or a number is none, a port has
 /// more than 16 bits, seconds are 0 or more than 4,294,967, a U:P has no colon, or a login is asked for and there
-/// is none or two. What the parser of words has to say is appended to `said`.
+/// is none or two, or an XID is spelled otherwise than `xid_text` does, or is none. What the parser of words has to say
+/// is appended to `said`.
 pub fn job_of<'a, S: AsStr>(
     alloc: Global,
     words: &'a [S],
@@ -72,26 +75,30 @@ pub fn job_of<'a, S: AsStr>(
     ensures tells { Tells result (string_bytes said.old) (string_bytes said.new) }
 {
     let matches = parse_words(alloc, words, said)?;
-    match job_in(&matches) {
-        Some(job) => Ok(job),
-        None => Err(BadWords::NoJob),
+    match job_in(alloc, &matches) {
+        Ok(Some(job)) => Ok(job),
+        Ok(None) => Err(BadWords::NoJob),
+        Err(AllocError) => Err(BadWords::NoMemory),
     }
 }
 
 // What the subcommand that was found asks for.
-fn job_in<'a>(matches: &ArgMatches<'a>) -> Option<Job<'a>>
-    ensures { option_map spec.plain_job result ≡ spec.said_by [] (subcommand_rows_of matches.now) }
+fn job_in<'a>(alloc: Global, matches: &ArgMatches<'a>) -> Result<Option<Job<'a>>, AllocError>
+    ensures { IfOk result (λ job. option_map spec.plain_job job ≡ spec.said_by [] (subcommand_rows_of matches.now)) }
 {
-    let (name, given) = matches.subcommand()?;
+    let Some((name, given)) = matches.subcommand() else {
+        return Ok(None);
+    };
     match name {
-        "init" => init_in(given),
-        "pipe" => pipe_in(given),
-        "serve" => serve_in(given),
-        "indoubt" => in_doubt_in(given),
-        "room" => room_in(given),
-        "check" => check_in(given),
-        "version" => Some(Job::Version),
-        _ => None,
+        "init" => Ok(init_in(given)),
+        "pipe" => Ok(pipe_in(given)),
+        "serve" => Ok(serve_in(given)),
+        "indoubt" => Ok(in_doubt_in(given)),
+        "decide" => decide_in(alloc, given),
+        "room" => Ok(room_in(given)),
+        "check" => Ok(check_in(given)),
+        "version" => Ok(Some(Job::Version)),
+        _ => Ok(None),
     }
 }
 
@@ -136,6 +143,18 @@ fn in_doubt_in<'a>(given: &ArgMatches<'a>) -> Option<Job<'a>>
     ensures { option_map spec.plain_job result ≡ spec.in_doubt_by (spec.value (rows_of (found_of given.now)) (codes "path")) }
 {
     in_doubt_by(given.get_str("path"))
+}
+
+fn decide_in<'a>(alloc: Global, given: &ArgMatches<'a>) -> Result<Option<Job<'a>>, AllocError>
+    ensures { IfOk result (λ job. option_map spec.plain_job job ≡ spec.decide_by (spec.value (rows_of (found_of given.now)) (codes "path")) (spec.xid_by (spec.value (rows_of (found_of given.now)) (codes "format")) (spec.value (rows_of (found_of given.now)) (codes "global")) (spec.value (rows_of (found_of given.now)) (codes "branch"))) (spec.value (rows_of (found_of given.now)) (codes "decision"))) }
+{
+    let xid = xid_by(
+        alloc,
+        given.get_str("format"),
+        given.get_str("global"),
+        given.get_str("branch"),
+    )?;
+    Ok(decide_by(given.get_str("path"), xid, given.get_str("decision")))
 }
 
 fn room_in<'a>(given: &ArgMatches<'a>) -> Option<Job<'a>>

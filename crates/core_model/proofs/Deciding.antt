@@ -9,7 +9,7 @@ use Rattle.xa_manager.specs.declared.branch.BranchState.TheVariants.{Active}
 use Rattle.xa_manager.specs.declared.due.Action.{Action}
 use Rattle.xa_manager.specs.declared.due.Action.TheVariants as action
 use Rattle.xa_manager.specs.declared.due.Decision.TheVariants as decided
-use Rattle.xa_manager.specs.Branch.{is_in_doubt, joined_xid, state_of}
+use Rattle.xa_manager.specs.Branch.{is_undecided, joined_xid, state_of}
 use Rattle.xa_manager.specs.Laws.{JoinedIsActive, PreparedOutlives, PreparedStays, is_decision}
 use Rattle.core_calls.specs.Call as call
 use Rattle.core_calls.specs.Call.{Call}
@@ -36,7 +36,7 @@ xid_in d (global x) = x
 
 abbrev waits : Option BranchState → Bool
 waits None = false
-waits (Some s) = is_in_doubt s
+waits (Some s) = is_undecided s
 
 -- the owner that a conversation works for is no XID in doubt
 asker : JoinedIsActive → (branches : List Branch) (c : ℕ) (xid : List ℕ) (j : Option (List ℕ)) → joined_xid branches c ≡ j → IsRising (λ (r : Branch). r.xid) branches → IsPrepared branches xid → unwrap_or (option_map (λ x. global x) j) (local c) ≡ global xid → ⊥
@@ -52,11 +52,12 @@ ends_here asked xid action.Start e h = both false h refl
 ends_here asked xid action.Join e h = both false h refl
 ends_here asked xid (action.End d) e h = both false h refl
 ends_here asked xid action.Prepare e h = both false h refl
-ends_here asked xid action.Forget e h = both false h refl
+ends_here asked xid action.EndUnchanged e h = both false h refl
 ends_here asked xid action.CommitOnePhase e h = both false h refl
 ends_here asked xid (action.Decide decided.Commit) e h = inl (ap global (sym e))
 ends_here asked xid (action.Decide decided.RollBack) e h = inl (ap global (sym e))
 ends_here asked xid action.RollBack e h = both false h refl
+ends_here asked xid action.Forget e h = both false h refl
 
 module _ (active : JoinedIsActive) (stay : PreparedStays) (outlive : PreparedOutlives) where
   pub in_doubt_wait : InDoubtWait

@@ -7,7 +7,7 @@ use Rattle.core_model.specs.Units.{Owner, global, local}
 use Rattle.core_model.specs.Asked.{Clashes, Done, Outcome, TooMany, Unfit}
 use Rattle.core_model.specs.Events.{Base, Commit, Event, Leave, bare, bare_run, happens_asked}
 use Rattle.core_model.specs.Step.{CoreState, action_events, due_in, unless_joined}
-use Rattle.core_model.specs.Laws.{BranchesWork, Commits, Does, GlobalUnitsStay, LocalUnitsEnd, OthersStay, RollsBack}
+use Rattle.core_model.specs.Laws.{BranchesWork, Commits, Does, GlobalUnitsStay, HeuristicsWork, LocalUnitsEnd, OthersStay, RollsBack}
 use Rattle.core_model.proofs.Owners.{unit_of_gone, unit_of_other, unit_of_without}
 
 pub commits : (o : Owner) (b : Base) → Commits o b (bare b (Commit o))
@@ -34,11 +34,15 @@ does action.Start xid b = refl
 does action.Join xid b = refl
 does (action.End e) xid b = refl
 does action.Prepare xid b = refl
-does action.Forget xid b = commits (global xid) b
+does action.EndUnchanged xid b = commits (global xid) b
 does action.CommitOnePhase xid b = commits (global xid) b
 does (action.Decide decided.Commit) xid b = commits (global xid) b
 does (action.Decide decided.RollBack) xid b = rolls_back (global xid) b
 does action.RollBack xid b = rolls_back (global xid) b
+does action.Forget xid b = refl
+
+pub heuristics_work : HeuristicsWork
+heuristics_work s xid d = does (action.Decide d) xid s.base
 
 pub branches_work : BranchesWork
 branches_work s conversation verb xid = does (due_in s.branches s.base conversation verb xid).action xid s.base

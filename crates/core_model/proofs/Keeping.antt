@@ -28,11 +28,12 @@ of_action xid action.Start = tt
 of_action xid action.Join = tt
 of_action xid (action.End e) = tt
 of_action xid action.Prepare = tt
-of_action xid action.Forget = tt
+of_action xid action.EndUnchanged = tt
 of_action xid action.CommitOnePhase = tt
 of_action xid (action.Decide decided.Commit) = tt
 of_action xid (action.Decide decided.RollBack) = tt
 of_action xid action.RollBack = tt
+of_action xid action.Forget = tt
 
 pub of_xa : (branches : List Branch) (b : Base) (c : ℕ) (r : Option Request) → NoAsks (xa_events branches b c r)
 of_xa branches b c (Some (request.Branch verb xid)) = of_action xid (due_in branches b c verb xid).action

@@ -20,6 +20,7 @@ use Rattle.xa_manager.specs.declared.branch.BranchState.{BranchState}
 use Rattle.xa_manager.specs.declared.branch.BranchState.TheVariants.{Idle, Prepared}
 use Rattle.xa_manager.specs.declared.due.Action.{Action}
 use Rattle.xa_manager.specs.declared.due.Action.TheVariants as action
+use Rattle.xa_manager.specs.declared.due.Decision.{Decision}
 use Rattle.xa_manager.specs.declared.due.Decision.TheVariants as decided
 use Rattle.xa_manager.specs.Branch.{is_lost_with, joined_xid, state_of}
 use Rattle.core_calls.specs.declared.call.Side.{Side}
@@ -39,7 +40,7 @@ use Rattle.core_model.specs.Units.{Held, Owner, Work, clashes, comes_before, glo
 use Rattle.core_model.specs.Asked as asked
 use Rattle.core_model.specs.Asked.{Done, Question, TooMany, describing, is_create, is_select, kept, meant, outcome, querying, running}
 use Rattle.core_model.specs.Events.{Ask, Base, Commit, Event, Leave}
-use Rattle.core_model.specs.Step.{CoreState, MarkedCall, answer, due_in, events, lost_xids, next, owner_of, replay, step_state}
+use Rattle.core_model.specs.Step.{CoreState, MarkedCall, answer, decided_state, due_in, events, lost_xids, next, owner_of, replay, step_state}
 
 -- the answer to a call, and the state behind it
 abbrev pub answered : CoreState → ℕ → Call → Answer
@@ -218,11 +219,16 @@ Does action.Start o b c = c ≡ b
 Does action.Join o b c = c ≡ b
 Does (action.End e) o b c = c ≡ b
 Does action.Prepare o b c = c ≡ b
-Does action.Forget o b c = Commits o b c
+Does action.EndUnchanged o b c = Commits o b c
 Does action.CommitOnePhase o b c = Commits o b c
 Does (action.Decide decided.Commit) o b c = Commits o b c
 Does (action.Decide decided.RollBack) o b c = RollsBack o b c
 Does action.RollBack o b c = RollsBack o b c
+Does action.Forget o b c = c ≡ b
+
+-- a heuristic decision does to the units what the transaction manager's would, and leaves every other branch
+abbrev pub HeuristicsWork : Type 0
+HeuristicsWork = (s : CoreState) (xid : List ℕ) (d : Decision) → Does (action.Decide d) (global xid) s.base (decided_state s xid d).base
 
 -- an XA call does to the units what is due of its branch: a prepare keeps all claims, reading ones too
 abbrev pub BranchesWork : Type 0

@@ -8,9 +8,11 @@ use Rattle.xa_manager.specs.declared.branch.Branch.{Branch}
 use Rattle.xa_manager.specs.declared.due.Action.{Action}
 use Rattle.xa_manager.specs.declared.due.Action.TheVariants as action
 use Rattle.xa_manager.specs.declared.due.Due.{Due}
+use Rattle.xa_manager.specs.declared.branch.BranchState.TheVariants.{Heuristic}
+use Rattle.xa_manager.specs.declared.due.Decision.{Decision}
 use Rattle.xa_manager.specs.declared.due.Decision.TheVariants as decided
 use Rattle.xa_manager.specs.declared.due.Work.{Work as Facts}
-use Rattle.xa_manager.specs.Branch.{in_doubt_xids, is_lost_with, joined_xid, without_those_of}
+use Rattle.xa_manager.specs.Branch.{in_doubt_xids, is_lost_with, joined_xid, with_state, without_those_of}
 use Rattle.xa_manager.specs.Due.{after, due_of}
 use Rattle.core_calls.specs.Call as call
 use Rattle.core_calls.specs.Call.{Call}
@@ -48,11 +50,12 @@ action_events xid action.Start = []
 action_events xid action.Join = []
 action_events xid (action.End ending) = []
 action_events xid action.Prepare = []
-action_events xid action.Forget = Commit (global xid) ∷ []
+action_events xid action.EndUnchanged = Commit (global xid) ∷ []
 action_events xid action.CommitOnePhase = Commit (global xid) ∷ []
 action_events xid (action.Decide decided.Commit) = Commit (global xid) ∷ []
 action_events xid (action.Decide decided.RollBack) = Leave (global xid) ∷ []
 action_events xid action.RollBack = Leave (global xid) ∷ []
+action_events xid action.Forget = []
 
 -- the XIDs of the branches that a lost conversation takes with it
 abbrev pub lost_xids : List Branch → ℕ → List (List ℕ)
@@ -116,6 +119,13 @@ step_state s conversation k = record { base = bare_run (events s.branches s.base
 
 abbrev pub step : CoreState → ℕ → Call → Answer × CoreState
 step s conversation k = (answer s.branches s.base conversation k, step_state s conversation k)
+
+-- ---- heuristic decisions
+
+-- A prepared branch is decided without its transaction manager: its changes are made, or not, its unit ends with its claims,
+-- and the branch stands so until it is forgotten.
+abbrev pub decided_state : CoreState → List ℕ → Decision → CoreState
+decided_state s xid d = record { base = bare_run (action_events xid (action.Decide d)) s.base; branches = with_state s.branches xid (Heuristic d) }
 
 -- ---- histories
 

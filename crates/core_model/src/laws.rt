@@ -1,6 +1,6 @@
 //! Laws of the definitions. The functions do nothing: their contracts are the laws.
 
-ghost use Rattle.core_model.specs.Laws.{AllButCreationsAreDescribed, AnswersAreMeanings, BranchesWork, ChangesHaveALimit, ChangesLie, ClaimsAreKept, ClaimsHaveALimit, ClaimsStayFew, DescriptionsClaimNothing, EndsAreAnswered, GlobalUnitsStay, HistoriesAreSane, InDoubtWait, LocalUnitsEnd, LostLeavesNothing, NewCoresAreSane, OneListing, RefusalsChangeNothing, RefusalsMakeNoChange, StartsWantNoWork, StatementsStay, StoresStay, UnfitIsRefused, UnitsSeeStores, UnitsStayApart, UnitsStayListed, WorkIsWhereJoined};
+ghost use Rattle.core_model.specs.Laws.{AllButCreationsAreDescribed, AnswersAreMeanings, BranchesWork, ChangesHaveALimit, ChangesLie, ClaimsAreKept, ClaimsHaveALimit, ClaimsStayFew, DescriptionsClaimNothing, EndsAreAnswered, GlobalUnitsStay, HeuristicsWork, HistoriesAreSane, InDoubtWait, LocalUnitsEnd, LostLeavesNothing, NewCoresAreSane, OneListing, RefusalsChangeNothing, RefusalsMakeNoChange, StartsWantNoWork, StatementsStay, StoresStay, UnfitIsRefused, UnitsSeeStores, UnitsStayApart, UnitsStayListed, WorkIsWhereJoined};
 
 use sql_semantics::laws::statements_are_framed;
 use tables::laws::changes_are_local;
@@ -69,6 +69,11 @@ pub fn ends_are_answered()
 /// An XA call does to the units what is due of its branch, and nothing else.
 pub fn branches_work()
     ensures { BranchesWork }
+{}
+
+/// A heuristic decision of a prepared branch does to the units what its transaction manager's would.
+pub fn heuristics_work()
+    ensures { HeuristicsWork }
 {}
 
 /// A branch is started or joined only from a local unit that has neither claims nor changes.

@@ -7,9 +7,10 @@ use core_calls::{Answer, CoreCall};
 use rdb_core::Core;
 use std::alloc::Global;
 use tables::TableView;
-use test_calls::{Calls, Scripts, push_text};
+use test_calls::{Calls, Scripts, push_text, xid_of};
 use unit_records::{BranchCall, GroupError, Phase, RecordError};
-use xa_calls::{InvalidRequest, Request};
+use xa_calls::{InvalidRequest, Request, Xid};
+use xa_manager::{BranchState, Decision};
 
 /// A core.
 #[derive(Drop)]
@@ -92,6 +93,28 @@ impl Bench {
         }
         push_text(out, self.through(phase_of(name)?, &calls))
     }
+
+    // What becomes of a branch that is to be decided heuristically.
+    fn decide(&mut self, xid: &Xid, decision: Decision) -> &'static str {
+        match self.core.branch_state(xid) {
+            Some(BranchState::Prepared) => {}
+            Some(_) => return "not in doubt",
+            None => return "not in doubt",
+        }
+        match self.core.decide(xid, decision) {
+            Ok(()) => "decided",
+            Err(_) => "no memory",
+        }
+    }
+
+    fn push_decided(&mut self, asked: &str, out: &mut Vec<u8>) -> Option<()> {
+        let (branch, name) = asked.split_once(' ')?;
+        let xid = xid_of(self.alloc, branch)?;
+        match phase_of(name)? {
+            Phase::Decide(decision) => push_text(out, self.decide(&xid, decision)),
+            Phase::Prepare => None,
+        }
+    }
 }
 
 impl Calls for Bench {
@@ -122,7 +145,7 @@ impl Calls for Bench {
     // `fresh` is a core without tables. `look` shows the rows of T, the units that have work, and the branches; `branches` those alone, and
     // `changes` how many changes the first unit has, and their bytes. `together` commits the conversations of these numbers, in this order;
     // behind `room` a commit has so many changes at most. `through` takes branches through the phase that it names first, each as C=N: the
-    // conversation C asks for the branch =N. `tables`, `known`, `doubts` and `records` count tables, branches and records.
+    // conversation C asks for the branch =N. `decide` decides a branch heuristically, to `commit` or to `rollback`. `tables`, `known`, `doubts` and `records` count tables, branches and records.
     fn do_other(
         &mut self,
         _scripts: &Scripts,
@@ -140,6 +163,7 @@ impl Calls for Bench {
             "changes" => push_changes(self.alloc, self.core.plain().ok()?.units(), out),
             "together" => self.push_together(rest, out),
             "through" => self.push_through(rest, out),
+            "decide" => self.push_decided(rest, out),
             "room" => {
                 self.core.recorder.changes = rest.parse::<usize>().ok()?;
                 push_text(out, "so many")

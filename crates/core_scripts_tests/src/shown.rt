@@ -6,7 +6,7 @@ use std::alloc::{AllocError, Global};
 use tables::{Rows, TableView};
 use test_calls::{push_bytes, push_row, push_text};
 use unit_table::{Owner, PlainUnit};
-use xa_manager::{Branch, BranchState};
+use xa_manager::{Branch, BranchState, Decision};
 
 fn said_state(alloc: Global, state: &BranchState) -> Result<String, AllocError> {
     match state {
@@ -14,6 +14,12 @@ fn said_state(alloc: Global, state: &BranchState) -> Result<String, AllocError> 
         BranchState::Idle(last) => format!(in alloc; "idle, last of {last}"),
         BranchState::RollbackOnly(last) => format!(in alloc; "rollback only, last of {last}"),
         BranchState::Prepared => String::from_str(alloc, "prepared"),
+        BranchState::Heuristic(Decision::Commit) => {
+            String::from_str(alloc, "heuristically committed")
+        }
+        BranchState::Heuristic(Decision::RollBack) => {
+            String::from_str(alloc, "heuristically rolled back")
+        }
     }
 }
 

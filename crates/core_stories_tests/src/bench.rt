@@ -4,9 +4,10 @@ use core_calls::{Answer, CoreCall, Refusal};
 use rdb_core::Core;
 use std::alloc::Global;
 use test_bytes::bytes_of;
-use test_calls::{Calls, Scripts, push_answer, push_text};
+use test_calls::{Calls, Scripts, push_answer, push_text, xid_of};
 use unit_records::NoRecords;
 use xa_calls::{InvalidRequest, Request};
+use xa_manager::{BranchState, Decision};
 
 /// A core, and what its last answer has besides.
 #[derive(Drop)]
@@ -49,6 +50,28 @@ impl Bench {
     /// A core without tables again.
     pub fn restart(&mut self) {
         self.core = Core::start(self.alloc, NoRecords);
+    }
+
+    // What becomes of a branch that is to be decided heuristically.
+    fn decide(&mut self, branch: &str, word: &str) -> Option<&'static str> {
+        let xid = xid_of(self.alloc, branch)?;
+        let decision = match word {
+            "commit" => Decision::Commit,
+            "rollback" => Decision::RollBack,
+            _ => return None,
+        };
+        match self.core.branch_state(&xid) {
+            Some(BranchState::Prepared) => {}
+            Some(_) => return Some("not in doubt"),
+            None => return Some("not in doubt"),
+        }
+        self.core.decide(&xid, decision).ok()?;
+        Some("decided")
+    }
+
+    fn push_synced(&mut self, conversation: u64, text: &str, out: &mut Vec<u8>) -> Option<()> {
+        let request = request_of(self.alloc, text)?;
+        push_answer(self.alloc, out, &self.core.xa(conversation, &request))
     }
 
     // The places of columns that are described, and whether a statement is refused for its meaning.
@@ -106,7 +129,8 @@ impl Calls for Bench {
         Some(self.core.xa(conversation, &request))
     }
 
-    // `sync` has the number of a conversation behind it, and then a SYNCTYPE, XAFLAGS and XID data.
+    // `sync` has the number of a conversation behind it, and then a SYNCTYPE, XAFLAGS and XID data; `decide` XID data, and `commit` or
+    // `rollback`.
     fn do_other(
         &mut self,
         _scripts: &Scripts,
@@ -114,12 +138,11 @@ impl Calls for Bench {
         rest: &str,
         out: &mut Vec<u8>,
     ) -> Option<()> {
-        let (conversation, text) = rest.split_once(' ')?;
-        if verb != "sync" {
-            return None;
+        let (first, text) = rest.split_once(' ')?;
+        match verb {
+            "sync" => self.push_synced(first.parse::<u64>().ok()?, text, out),
+            "decide" => push_text(out, self.decide(first, text)?),
+            _ => None,
         }
-        let conversation = conversation.parse::<u64>().ok()?;
-        let request = request_of(self.alloc, text)?;
-        push_answer(self.alloc, out, &self.core.xa(conversation, &request))
     }
 }

@@ -68,6 +68,8 @@ fn kind_of(word: &str) -> Kind {
     match word {
         "prepare" => Kind::Prepare,
         "decide" => Kind::Decide,
+        "heuristic" => Kind::Heuristic,
+        "forget" => Kind::Forget,
         _ => Kind::Commit,
     }
 }

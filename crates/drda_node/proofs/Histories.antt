@@ -20,7 +20,7 @@ use Rattle.durable_core.specs.declared.checkpointing.Checkpointed.{Checkpointed}
 use Rattle.durable_core.specs.declared.checkpointing.Checkpointed.TheVariants.{Closed, DeviceFailed, Done, Full, NoMemory}
 use Rattle.drda_node.specs.Asking.{AskedCore, IsExcused, asks, left_by}
 use Rattle.drda_node.specs.Machine as machine
-use Rattle.drda_node.specs.Machine.{Conversation, Machine, opened}
+use Rattle.drda_node.specs.Machine.{Conversation, Machine}
 use Rattle.drda_node.specs.Hearing.{Attended, Hears, HearsAt}
 use Rattle.drda_node.specs.Records.{Event, checkpoints, loses, opens, sends}
 use Rattle.drda_node.specs.Happening.{BreaksOff, CheckpointsAs, HappenAll, Happens, IsCheckpointed, LosesAt, OpensAt, SendsAt, SendsPart}
@@ -106,6 +106,7 @@ lost_by false old place is =
       going = is;
       answer_is = refl;
       state = ap (λ (b : Bool). if b then old.state else step_state old.state place call.lost) is;
+      layout = refl;
       room = refl;
       still = is;
       made = sym (append-nil old.made);

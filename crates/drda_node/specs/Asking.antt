@@ -2,6 +2,7 @@
 -- leaves unfinished goes with it when it is lost, so that another one may have its place.
 use Rattle.std.specs.Prelude.{◌≡◌, ◌⊎◌, ℕ, ◌+◌, ◌-◌, ◌^◌, ◌<◌, min, Bool, true, false, List, [], ◌∷◌, ◌++◌, Some, if◌then◌else◌}
 use Rattle.drda_disk.specs.Disk.{Life}
+use Rattle.half_store.specs.declared.header.Layout.{Layout}
 use Rattle.unit_journal.specs.Record.{Entry}
 use Rattle.unit_records.specs.Records.{UnitRecord, entry_of}
 use Rattle.unit_records.specs.Room.{held, released, taken}
@@ -14,10 +15,11 @@ use Rattle.recovery.specs.Journaled.{Journaled, OnDisk, shown_on}
 use Rattle.durable_core.specs.Steps.{MayWantMemory, RoomAfter, due_entries}
 use Rattle.drda_node.specs.declared.asker.CoreAsker.{CoreAsker}
 
--- what a core is to those who ask it: its state, the bytes that are left for records, whether the device has failed, and
--- the records that were due of its calls so far, in their order; the last may be of a call in which the device failed
+-- what a core is to those who ask it: its state, its store's layout, the bytes that are left for records, whether the device has
+-- failed, and the records that were due of its calls so far, in their order; the last may be of a call in which the device failed
 pub record AskedCore : Type 0 where
   pub state : CoreState
+  pub layout : Layout
   pub room : ℕ
   pub has_failed : Bool
   pub made : List Entry
@@ -27,7 +29,8 @@ pub record IsTaken (old : AskedCore) (place : ℕ) (call : Call) (answer : Answe
   pub going : old.has_failed ≡ false
   pub answer_is : answer ≡ answer_to old.state.branches old.state.base place call
   pub state : new.state ≡ step_state old.state place call
-  pub room : RoomAfter (record_due old.state place call) old.room new.room
+  pub layout : new.layout ≡ old.layout
+  pub room : RoomAfter old.layout (record_due old.state place call) old.room new.room
   pub still : new.has_failed ≡ false
   pub made : new.made ≡ old.made ++ due_entries (record_due old.state place call)
 
@@ -45,8 +48,8 @@ pub record FindsNoRoom (old : AskedCore) (place : ℕ) (call : Call) (answer : A
   pub going : old.has_failed ≡ false
   pub record_is : UnitRecord
   pub due : record_due old.state place call ≡ Some record_is
-  pub answer_is : answer ≡ full (min (taken record_is + held record_is - released record_is) (2 ^ 64 - 1)) old.room
-  pub less : old.room + released record_is < taken record_is + held record_is
+  pub answer_is : answer ≡ full (min (taken record_is + held old.layout record_is - released old.layout record_is) (2 ^ 64 - 1)) old.room
+  pub less : old.room + released old.layout record_is < taken record_is + held old.layout record_is
   pub same : new ≡ old
 
 -- the device failed where the call's record was to be made
@@ -56,6 +59,7 @@ pub record FailsHere (old : AskedCore) (place : ℕ) (call : Call) (answer : Ans
   pub due : record_due old.state place call ≡ Some record_is
   pub answer_is : answer ≡ device_failed
   pub state : new.state ≡ old.state
+  pub layout : new.layout ≡ old.layout
   pub room : new.room ≡ old.room
   pub failed : new.has_failed ≡ true
   pub made : new.made ≡ old.made ++ entry_of record_is ∷ []
@@ -82,7 +86,7 @@ left_by old place = record old { state = if old.has_failed then old.state else s
 -- ---- in code
 
 abbrev pub asked_of : {D : Type 0} → OnDisk D → AskedCore
-asked_of s = record { state = s.state; room = s.room; has_failed = s.is_failed; made = s.made }
+asked_of s = record { state = s.state; layout = s.layout; room = s.room; has_failed = s.is_failed; made = s.made }
 
 abbrev pub core_of : {D : Type 0} → CoreAsker D → AskedCore
 core_of asker = asked_of asker.core.now

@@ -1,5 +1,6 @@
 -- What an event does to the machine, and the records that answer it.
 use Rattle.std.specs.Prelude.{◌≡◌, ◌⊎◌, ℕ, ◌+◌, ◌<◌, ◌^◌, Bool, true, false, List, [], ◌∷◌, ◌++◌, Option, Some, None, slice_get, if◌then◌else◌}
+use Rattle.half_store.specs.declared.header.Layout.TheVariants.{Two}
 use Rattle.durable_core.specs.declared.checkpointing.Checkpointed.{Checkpointed}
 use Rattle.durable_core.specs.declared.checkpointing.Checkpointed.TheVariants.{Closed, DeviceFailed, Done, Full, NoMemory}
 use Rattle.drda_node.specs.Asking.{AskedCore}
@@ -53,9 +54,9 @@ code_of NoMemory = 2
 code_of DeviceFailed = 3
 code_of Closed = 3
 
--- what a checkpoint makes of a core: once it is written, the room that it leaves; where the device fails in it, it has failed
+-- what a checkpoint makes of a core: once it is written, layout 2 and the room that it leaves; where the device fails in it, it has failed
 abbrev pub IsCheckpointed : Checkpointed → AskedCore → AskedCore → Type 0
-IsCheckpointed Done old new = (old.has_failed ≡ false) × ((room : ℕ) × (new ≡ record old { room = room }))
+IsCheckpointed Done old new = (old.has_failed ≡ false) × ((room : ℕ) × (new ≡ record old { layout = Two; room = room }))
 IsCheckpointed (Full need room) old new = (old.has_failed ≡ false) × (new ≡ old)
 IsCheckpointed NoMemory old new = (old.has_failed ≡ false) × (new ≡ old)
 IsCheckpointed DeviceFailed old new = (old.has_failed ≡ false) × (new ≡ record old { has_failed = true })
@@ -70,7 +71,7 @@ pub record CheckpointsAs (machine : Machine) (number : ℕ) (written : List ℕ)
   pub rest : new ≡ record machine { core = core }
 
 -- From this machine the event makes this machine, and is answered by these records. A conversation's
--- number is its place in the row. By a checkpoint only the core changes: its room, or that the device has failed.
+-- number is its place in the row. By a checkpoint only the core changes: its layout and room, or that the device has failed.
 abbrev pub Happens : Machine → Event → List ℕ → Machine → Type 0
 Happens machine (opens number) written new = OpensAt (slice_get machine.row number) machine number written new
 Happens machine (sends number bytes) written new = SendsAt (slice_get machine.row number) machine number bytes written new

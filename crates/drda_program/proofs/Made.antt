@@ -11,7 +11,7 @@ use Rattle.drda_program.specs.Opening.{IsMade}
 use Rattle.drda_program.specs.Program.{Makes}
 use Rattle.drda_program.specs.Stores.{MakesFile}
 use Rattle.drda_program.specs.declared.fault.Fault.{Fault}
-use Rattle.drda_program.specs.declared.fault.Fault.TheVariants.{BadArguments, BadEvent, Damaged, Device, NoMemory, NotAStore}
+use Rattle.drda_program.specs.declared.fault.Fault.TheVariants.{BadArguments, BadEvent, Damaged, Device, NoMemory, NoRoom, NotAStore, NotInDoubt}
 
 zeros_unmarked : (size : ℕ) → is_marked (replicate size 0) ≡ false
 zeros_unmarked zero = refl
@@ -35,3 +35,5 @@ module _ {F D : Type 0} (modelled : Bool) (life : D → Life) (calls : FileCalls
   not_made before (Damaged at) is same = absurd is
   not_made before BadEvent is same = absurd is
   not_made before NoMemory is same = (is, refl)
+  not_made before NotInDoubt is same = absurd is
+  not_made before NoRoom is same = absurd is

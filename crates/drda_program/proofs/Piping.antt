@@ -3,6 +3,7 @@ use Rattle.std.proofs.Common.{◌≡◌, ◌∙◌, refl, sym, subst, ap₂, inl
 use Rattle.drda_disk.specs.Disk.{Life}
 use Rattle.session_commands.specs.Settings.{Settings, is_rdb_name}
 use Rattle.half_store.specs.Fresh.{is_name}
+use Rattle.half_store.specs.declared.header.Layout.TheVariants.{Two}
 use Rattle.recovery.specs.Durable.{fresh}
 use Rattle.recovery.specs.Journaled.{OnDisk}
 use Rattle.durable_core.specs.Opening.{IsOpenedTo}
@@ -15,7 +16,7 @@ use Rattle.drda_program.proofs.Names.{both, names_alike}
 use Rattle.drda_program.specs.Program.{AnswersOver, HasRun, Pipes, PipesInMemory, machine_over, new_core, settings_of}
 use Rattle.drda_program.specs.Stores.{BeginsFresh, RefusesName}
 use Rattle.drda_program.specs.declared.fault.Fault.{Fault}
-use Rattle.drda_program.specs.declared.fault.Fault.TheVariants.{BadArguments, BadEvent, Damaged, Device, NoMemory, NotAStore}
+use Rattle.drda_program.specs.declared.fault.Fault.TheVariants.{BadArguments, BadEvent, Damaged, Device, NoMemory, NoRoom, NotAStore, NotInDoubt}
 
 -- the name was good, so what is refused is memory
 pub refused_at_start : (settings : Settings) (name : List ℕ) (input before : Option (List ℕ)) (fault : Fault) → is_rdb_name name ≡ true → RefusesName name fault → Pipes settings input before (Err fault) before
@@ -25,6 +26,8 @@ refused_at_start settings name input before NotAStore is refused = both (is_rdb_
 refused_at_start settings name input before (Damaged at) is refused = absurd refused
 refused_at_start settings name input before BadEvent is refused = absurd refused
 refused_at_start settings name input before NoMemory is refused = inl (inl refl, refl)
+refused_at_start settings name input before NotInDoubt is refused = absurd refused
+refused_at_start settings name input before NoRoom is refused = absurd refused
 
 -- what a store's name is, a database's is
 as_rdb_name : (name : List ℕ) (b : Bool) → is_name name ≡ b → is_rdb_name name ≡ b
@@ -37,11 +40,13 @@ not_piped D rdb login input before NotAStore is = absurd is
 not_piped D rdb login input before (Damaged at) is = absurd is
 not_piped D rdb login input before BadEvent is = absurd is
 not_piped D rdb login input before NoMemory is = inr (as_rdb_name rdb true is, inl (inl refl, refl))
+not_piped D rdb login input before NotInDoubt is = absurd is
+not_piped D rdb login input before NoRoom is = absurd is
 
 -- what is started over it
-starts_fresh : {D : Type 0} (name : List ℕ) (login : Login) (core : OnDisk D) → IsOpenedTo name fresh core → machine_over login core ≡ at_start (settings_of login name) (new_core core.room)
-starts_fresh name login core is =
-    let opened_fresh : asked_of core ≡ new_core core.room = λ i. record { state = is.state i; room = core.room; has_failed = is.going i; made = is.made i } in
+starts_fresh : {D : Type 0} (name : List ℕ) (login : Login) (core : OnDisk D) → IsOpenedTo name fresh core → core.layout ≡ Two → machine_over login core ≡ at_start (settings_of login name) (new_core core.room)
+starts_fresh name login core is two =
+    let opened_fresh : asked_of core ≡ new_core core.room = λ i. record { state = is.state i; layout = two i; room = core.room; has_failed = is.going i; made = is.made i } in
     ap₂ (λ (n : List ℕ) (a : AskedCore). at_start (settings_of login n) a) is.named opened_fresh
 
 fresh_run : (settings : Settings) (room : ℕ) (first last : Machine) (before now : Option (List ℕ)) (end : RunEnd) (o : Option (List ℕ)) → first ≡ at_start settings (new_core room)
@@ -52,21 +57,21 @@ fresh_run settings room first last before now end (Some input) is r =
     (room, last, subst P is r)
 
 -- over the store that was just made
-by_answer : {D : Type 0} (modelled : Bool) (life : D → Life) (rdb : List ℕ) (login : Login) (input before now : Option (List ℕ)) (outcome : Result (Unit {0}) Fault) (core : OnDisk D) → is_rdb_name rdb ≡ true → IsOpenedTo rdb fresh core
+by_answer : {D : Type 0} (modelled : Bool) (life : D → Life) (rdb : List ℕ) (login : Login) (input before now : Option (List ℕ)) (outcome : Result (Unit {0}) Fault) (core : OnDisk D) → is_rdb_name rdb ≡ true → IsOpenedTo rdb fresh core → core.layout ≡ Two
     → AnswersOver modelled life core login input before outcome now → Pipes (settings_of login rdb) input before outcome now
-by_answer modelled life rdb login input before now outcome core is opened (inl (fault, reported, refused, silent)) =
+by_answer modelled life rdb login input before now outcome core is opened two (inl (fault, reported, refused, silent)) =
     subst (λ (w : Option (List ℕ)). Pipes (settings_of login rdb) input before outcome w) (sym silent)
     (subst (λ (r : Result (Unit {0}) Fault). Pipes (settings_of login rdb) input before r before) (sym reported)
     (refused_at_start (settings_of login rdb) rdb input before fault is (subst (λ (n : List ℕ). RefusesName n fault) opened.named refused)))
-by_answer modelled life rdb login input before now outcome core is opened (inr ran) = inr (record {
+by_answer modelled life rdb login input before now outcome core is opened two (inr ran) = inr (record {
   end = ran.end;
   is_flushed = ran.is_flushed;
   reported = ran.reported;
-  has_run = fresh_run (settings_of login rdb) core.room (machine_over login core) ran.last before now ran.end input (starts_fresh rdb login core opened) ran.runs;
+  has_run = fresh_run (settings_of login rdb) core.room (machine_over login core) ran.last before now ran.end input (starts_fresh rdb login core opened two) ran.runs;
 })
 
 pub piped : {D : Type 0} (modelled : Bool) (life : D → Life) (rdb : List ℕ) (login : Login) (input before now : Option (List ℕ)) (outcome : Result (Unit {0}) Fault) (core : OnDisk D) → BeginsFresh rdb (Ok core)
     → AnswersOver modelled life core login input before outcome now → PipesInMemory rdb login input before outcome now
 piped modelled life rdb login input before now outcome core begun answers =
     let is = as_rdb_name rdb true begun.0 in
-    inr (is, by_answer modelled life rdb login input before now outcome core is begun.1 answers)
+    inr (is, by_answer modelled life rdb login input before now outcome core is begun.1 begun.2 answers)

@@ -1,26 +1,32 @@
--- The units in doubt of a store, as text: a line for each XID.
-use Rattle.std.specs.Prelude.{ℕ, ◌+◌, ◌/◌, ◌%◌, List, [], ◌∷◌, ◌++◌, ◌==◌, length, nat_lt, if◌then◌else◌}
+-- The units in doubt of a store, as text: a line for each, with its XID's words and how it was decided heuristically, where it was.
+use Rattle.std.specs.Prelude.{ℕ, List, [], ◌∷◌, ◌++◌, map, codes, Option, Some, None}
 use Rattle.std.specs.List.{flat_map}
-use Rattle.std.specs.Fmt.{decimal}
-use Rattle.xa_calls.specs.Xid.{parts_of}
+use Rattle.command_line.specs.Spelling.{xid_text}
+use Rattle.xa_manager.specs.declared.branch.Branch.{Branch}
+use Rattle.xa_manager.specs.declared.due.Decision.{Decision}
+use Rattle.xa_manager.specs.declared.due.Decision.TheVariants.{Commit, RollBack}
+use Rattle.xa_manager.specs.Branch.{in_doubt_xids, state_of}
+use Rattle.recovery.specs.Part.{outcome_at}
 
--- a digit of base 16, in lower case: 48 is `0`, and 87 + 10 is `a`
-abbrev pub digit : ℕ → ℕ
-digit value = if nat_lt value 10 then 48 + value else 87 + value
+-- what is listed of a unit in doubt: its XID, and how it was decided heuristically, where it was
+abbrev pub Listed : Type 0
+Listed = List ℕ × Option Decision
 
-abbrev pub digits_of : ℕ → List ℕ
-digits_of byte = digit (byte / 16) ∷ digit (byte % 16) ∷ []
+-- those of a table of branches, ascending by the bytes of their XIDs
+abbrev pub listed_of : List Branch → List ℕ → Listed
+listed_of branches xid = (xid, outcome_at (state_of branches xid))
 
--- a part of an XID: two digits a byte, and a hyphen where it has none
-abbrev pub part_text : List ℕ → List ℕ
-part_text bytes = if length bytes == 0 then 45 ∷ [] else flat_map digits_of bytes
+abbrev pub listed_in : List Branch → List Listed
+listed_in branches = map (listed_of branches) (in_doubt_xids branches)
 
--- the format number, the global part and the branch part, separated by blanks
-abbrev pub parts_line : ℕ → List ℕ → List ℕ → List ℕ
-parts_line format global branch = decimal format ++ ((32 ∷ part_text global) ++ ((32 ∷ part_text branch) ++ 10 ∷ []))
+-- the fourth word, with the blank in front of it
+abbrev pub outcome_word : Option Decision → List ℕ
+outcome_word None = []
+outcome_word (Some Commit) = codes " committed"
+outcome_word (Some RollBack) = codes " rolledback"
 
-abbrev pub doubt_line : List ℕ → List ℕ
-doubt_line xid = parts_line (parts_of xid).format (parts_of xid).global (parts_of xid).branch
+abbrev pub doubt_line : Listed → List ℕ
+doubt_line doubt = xid_text doubt.0 ++ (outcome_word doubt.1 ++ 10 ∷ [])
 
-abbrev pub doubt_text : List (List ℕ) → List ℕ
-doubt_text xids = flat_map doubt_line xids
+abbrev pub doubt_text : List Listed → List ℕ
+doubt_text doubts = flat_map doubt_line doubts

@@ -8,7 +8,7 @@ use Rattle.command_line.specs.declared.words.BadWords.TheVariants as words
 use Rattle.durable_core.specs.declared.errors.OpenError.{OpenError}
 use Rattle.durable_core.specs.declared.errors.OpenError.TheVariants as errors
 use Rattle.drda_program.specs.declared.fault.Fault.{Fault}
-use Rattle.drda_program.specs.declared.fault.Fault.TheVariants.{BadArguments, Device, NotAStore, Damaged, BadEvent, NoMemory}
+use Rattle.drda_program.specs.declared.fault.Fault.TheVariants.{BadArguments, Device, NotAStore, Damaged, BadEvent, NoMemory, NotInDoubt, NoRoom}
 
 -- what is reported of a run by its end, and by whether the last flush succeeded: a flush that fails is
 -- reported however the run had ended
@@ -28,6 +28,8 @@ status_for NotAStore = 3
 status_for (Damaged at) = 3
 status_for BadEvent = 4
 status_for NoMemory = 5
+status_for NotInDoubt = 6
+status_for NoRoom = 7
 
 abbrev pub status_of : Result (Unit {0}) Fault → ℕ
 status_of (Ok done) = 0
@@ -41,6 +43,8 @@ line_for NotAStore = codes "drdad: not a store\n"
 line_for (Damaged at) = codes "drdad: damaged at " ++ decimal at ++ 10 ∷ []
 line_for BadEvent = codes "drdad: bad event\n"
 line_for NoMemory = codes "drdad: no memory\n"
+line_for NotInDoubt = codes "drdad: not in doubt\n"
+line_for NoRoom = codes "drdad: no room\n"
 
 abbrev pub line_of : Result (Unit {0}) Fault → List ℕ
 line_of (Ok done) = []

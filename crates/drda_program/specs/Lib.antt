@@ -7,5 +7,6 @@ pub mod Opening
 pub mod LoggingIn
 pub mod Rooms
 pub mod Listening
+pub mod Deciding
 pub mod Program
 pub mod Threads

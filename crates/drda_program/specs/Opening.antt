@@ -1,30 +1,35 @@
 -- What making and opening the store of a path come to.
-use Rattle.std.specs.Prelude.{◌≡◌, ◌⊎◌, ℕ, Bool, true, IsTrue, List, length, Some, None, Result, Ok, Err}
+use Rattle.std.specs.Prelude.{◌≡◌, ◌⊎◌, ℕ, Bool, true, IsTrue, List, length, map, Some, None, Result, Ok, Err}
 use Rattle.std.specs.Ordering.{nat_cmp}
 use Rattle.std.specs.Cmp.Lexicographic.{slice_cmp}
 use Rattle.std.specs.Map.{keys_of}
 use Rattle.drda_words.specs.Order.{rises}
 use Rattle.drda_disk.specs.Disk.{LeavesOnly, Life, Only, Stays}
 use Rattle.half_store.specs.Fresh.{IsFresh, IsNoneOrFresh}
-use Rattle.recovery.specs.Durable.{Durable}
+use Rattle.recovery.specs.Durable.{Doubt, Durable}
 use Rattle.recovery.specs.Opens.{OpensTo}
 use Rattle.recovery.specs.Journaled.{OnDisk}
 use Rattle.durable_core.specs.Opening.{IsOpenedTo, StoodThere}
 use Rattle.durable_core.specs.Reads.{IsExcused, TellsNoStore}
 use Rattle.durable_core.specs.declared.errors.OpenError.{OpenError}
 use Rattle.drda_program.specs.Endings.{fault_for}
+use Rattle.drda_program.specs.Doubts.{Listed}
 use Rattle.drda_program.specs.Files.{FileCalls}
 use Rattle.drda_program.specs.Stores.{RefusesName}
 use Rattle.drda_program.specs.declared.fault.Fault.{Fault}
 use Rattle.drda_program.specs.declared.fault.Fault.TheVariants.{Device}
 
--- these are the XIDs of the units in doubt of the state that an image opens to, ascending by their bytes
-pub record AreDoubts (xids : List (List ℕ)) (image : List ℕ) : Type 0 where
+-- what is listed of an XID that waits for its transaction manager
+abbrev pub listed_as : List ℕ × Doubt → Listed
+listed_as e = (e.0, e.1.outcome)
+
+-- these are listed of the units in doubt of the state that an image opens to, ascending by the bytes of their XIDs
+pub record AreDoubts (doubts : List Listed) (image : List ℕ) : Type 0 where
   pub name : List ℕ
   pub state : Durable
   pub opens : OpensTo name state image
-  pub xids_are : xids ≡ keys_of state.doubts
-  pub rising : rises (slice_cmp nat_cmp) xids ≡ true
+  pub listed : doubts ≡ map listed_as state.doubts
+  pub rising : rises (slice_cmp nat_cmp) (keys_of state.doubts) ≡ true
 
 -- ---- a disk, of which no more than this is known unless it gives back what was written
 

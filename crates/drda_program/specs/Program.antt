@@ -5,6 +5,7 @@ use Rattle.std.specs.Io.KnownBytes.{Appends}
 use Rattle.drda_disk.specs.Disk.{Life}
 use Rattle.session_commands.specs.Settings.{Settings, is_rdb_name}
 use Rattle.half_store.specs.Fresh.{is_store_of}
+use Rattle.half_store.specs.declared.header.Layout.TheVariants.{Two}
 use Rattle.recovery.specs.Durable.{Durable, fresh}
 use Rattle.recovery.specs.Journaled.{OnDisk}
 use Rattle.recovery.specs.Opens.{OpensTo}
@@ -13,9 +14,10 @@ use Rattle.drda_node.specs.Asking.{AskedCore, IsJournaled, asked_of}
 use Rattle.drda_node.specs.Machine.{Machine, at_start}
 use Rattle.drda_node.specs.Serving.{Runs}
 use Rattle.drda_node.specs.declared.serving.RunEnd.{RunEnd}
-use Rattle.command_line.specs.Job.{Job, Login, LoginSource, init, pipe, serve, in_doubt}
+use Rattle.command_line.specs.Job.{Job, Login, init, pipe, serve, in_doubt}
 use Rattle.command_line.specs.Job as job
-use Rattle.drda_program.specs.Doubts.{doubt_text}
+use Rattle.drda_program.specs.Deciding.{DecidesFile}
+use Rattle.drda_program.specs.Doubts.{Listed, doubt_text}
 use Rattle.drda_program.specs.Endings.{line_of, result_for, status_of}
 use Rattle.drda_program.specs.Files.{FileCalls}
 use Rattle.drda_program.specs.Network.{NetworkCalls}
@@ -25,16 +27,16 @@ use Rattle.drda_program.specs.LoggingIn.{LogsIn, net_and_out}
 use Rattle.drda_program.specs.Rooms.{room_text}
 use Rattle.drda_program.specs.Stores.{RefusesName}
 use Rattle.drda_program.specs.declared.fault.Fault.{Fault}
-use Rattle.drda_program.specs.declared.fault.Fault.TheVariants.{BadArguments, BadEvent, Damaged, Device, NoMemory, NotAStore}
+use Rattle.drda_program.specs.declared.fault.Fault.TheVariants.{BadArguments, BadEvent, Damaged, Device, NoMemory, NoRoom, NotAStore, NotInDoubt}
 
 -- ---- event records over a store in memory
 
 abbrev pub settings_of : Login → List ℕ → Settings
 settings_of login rdb = record { user = login.user; password = login.password; rdb = rdb }
 
--- over a store that was just made, with so many bytes for records
+-- over a store that was just made, of layout 2, with so many bytes for records
 abbrev pub new_core : ℕ → AskedCore
-new_core room = record { state = opened fresh; room = room; has_failed = false; made = [] }
+new_core room = record { state = opened fresh; layout = Two; room = room; has_failed = false; made = [] }
 
 -- a machine that is started with these settings over a fresh store has run over the input and ended so
 abbrev pub HasRun : Settings → List ℕ → Option (List ℕ) → RunEnd → Option (List ℕ) → Type 0
@@ -91,13 +93,13 @@ module _ {D : Type 0} (modelled : Bool) (life : D → Life) where
 
   -- a line for each unit in doubt
   abbrev pub IsOfDoubts : D → List ℕ → Type 0
-  IsOfDoubts disk text = (xids : List (List ℕ)) × (text ≡ doubt_text xids) × (IsTrue modelled → AreDoubts xids (life disk).seen)
+  IsOfDoubts disk text = (doubts : List Listed) × (text ≡ doubt_text doubts) × (IsTrue modelled → AreDoubts doubts (life disk).seen)
 
   -- The name and the size of the store that a disk is, the bytes that it has left for records, and how many units are in
   -- doubt.
   abbrev pub IsOfRoom : D → List ℕ → Type 0
-  IsOfRoom disk text = (core : OnDisk D) × IsOver modelled life disk core × (xids : List (List ℕ))
-      × (text ≡ room_text core.name (length (life disk).seen) core.room (length xids)) × (IsTrue modelled → AreDoubts xids (life disk).seen)
+  IsOfRoom disk text = (core : OnDisk D) × IsOver modelled life disk core × (doubts : List Listed)
+      × (text ≡ room_text core.name (length (life disk).seen) core.room (length doubts)) × (IsTrue modelled → AreDoubts doubts (life disk).seen)
 
   -- a disk that opens to a state is whole
   abbrev pub IsOfCheck : D → List ℕ → Type 0
@@ -123,6 +125,8 @@ module _ {D : Type 0} (modelled : Bool) (life : D → Life) where
     Makes path size rdb files before (Err NotAStore) files' now = ⊥
     Makes path size rdb files before (Err (Damaged at)) files' now = ⊥
     Makes path size rdb files before (Err BadEvent) files' now = ⊥
+    Makes path size rdb files before (Err NotInDoubt) files' now = ⊥
+    Makes path size rdb files before (Err NoRoom) files' now = ⊥
 
     -- a text of the store of a path is written, and nothing else; none is where the store is not opened or memory is refused
     abbrev pub Tells : (D → List ℕ → Type 0) → List ℕ → F → Option (List ℕ) → Result (Unit {0}) Fault → F → Option (List ℕ) → Type 0
@@ -154,7 +158,7 @@ module _ {D : Type 0} (modelled : Bool) (life : D → Life) where
 
 -- the line that tells the version and the logic
 abbrev pub version_line : List ℕ
-version_line = codes "drdad 0.9, proved by Rattle's logic dac8208d650f15bf\n"
+version_line = codes "drdad 0.10, proved by Rattle's logic dac8208d650f15bf\n"
 
 abbrev pub TellsVersion : Option (List ℕ) → Result (Unit {0}) Fault → Option (List ℕ) → Type 0
 TellsVersion before (Ok done) now = Appends before now version_line
@@ -197,6 +201,7 @@ module _ {F D N L S W : Type 0} (around : Surroundings F D N L S W) where
   Does (Some (serve path port source options)) input old outcome new = LogsIn around.files source old.files (net_and_out old.net old.out) outcome new.files (net_and_out new.net new.out) (λ login files.
       ServesFile path port (seen files old.net old.out) outcome new)
   Does (Some (in_doubt path)) input old outcome new = Lists around.modelled around.life around.files path old.files old.out outcome new.files new.out × (new.net ≡ old.net)
+  Does (Some (job.decide path xid d)) input old outcome new = DecidesFile around.modelled around.life around.files path xid d old.files old.out outcome new.files new.out × (new.net ≡ old.net)
   Does (Some (job.room path)) input old outcome new = TellsRoom around.modelled around.life around.files path old.files old.out outcome new.files new.out × (new.net ≡ old.net)
   Does (Some (job.check path)) input old outcome new = Checks around.modelled around.life around.files path old.files old.out outcome new.files new.out × (new.net ≡ old.net)
   Does (Some job.version) input old outcome new = TellsVersion old.out outcome new.out × (new.files ≡ old.files) × (new.net ≡ old.net)

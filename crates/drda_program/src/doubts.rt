@@ -1,91 +1,61 @@
 //! The units in doubt of a store, as text.
 
-ghost use Rattle.std.specs.Prelude.{◌≡◌, ◌<◌, ◌∷◌, ◌++◌, IfOk, OnOk, string_bytes};
-ghost use Rattle.std.specs.List.{flat_map};
-ghost use Rattle.rdb_core.specs.InDoubt.{xids_left};
-ghost use Rattle.drda_program.specs.Doubts.{digit, digits_of, doubt_line, doubt_text, part_text, parts_line};
+ghost use Rattle.std.specs.Prelude.{◌≡◌, ◌++◌, IfOk, OnOk, string_bytes};
+ghost use Rattle.recovery.specs.Part.{outcome_at};
+ghost use Rattle.drda_program.specs.Doubts.{doubt_line, doubt_text, listed_in, outcome_word};
 
-use rdb_core::InDoubt;
+use command_line::xid_text;
+use drda_disk::Disk;
+use durable_core::DurableCore;
 use std::alloc::{AllocError, Global};
 use std::fmt::Write;
 use xa_calls::Xid;
+use xa_manager::{BranchState, Decision};
 
 /// A line for each unit in doubt.
-pub(crate) fn doubt_text(alloc: Global, doubts: InDoubt<'_>) -> Result<String, AllocError>
-    ensures { IfOk result (λ text. string_bytes text ≡ doubt_text (xids_left doubts.entry)) }
+pub(crate) fn doubt_text<D: Disk + Drop>(
+    alloc: Global,
+    core: &DurableCore<D>,
+) -> Result<String, AllocError>
+    ensures { IfOk result (λ text. string_bytes text ≡ doubt_text (listed_in core.now.state.branches)) }
 {
-    let mut left = doubts;
+    let mut left = core.in_doubt();
     let mut text = String::new(alloc);
     while let Some(xid) = left.next() {
-        push_line(&mut text, xid)?;
+        push_line(alloc, &mut text, xid, core.branch_state(xid))?;
     }
     Ok(text)
 }
 
-// The line of an XID.
-fn push_line(text: &mut String, xid: &Xid) -> Result<(), AllocError>
-    ensures { OnOk result (string_bytes text.new ≡ string_bytes text.old ++ doubt_line xid.now) }
-{
-    push_parts(text, xid.format(), xid.global(), xid.branch())
-}
-
-// The format number, the global part and the branch part.
-fn push_parts(
+// The line of a unit in doubt, by its XID and where its branch stands.
+fn push_line(
+    alloc: Global,
     text: &mut String,
-    format: u32,
-    global: &[u8],
-    branch: &[u8],
+    xid: &Xid,
+    state: Option<BranchState>,
 ) -> Result<(), AllocError>
-    ensures { OnOk result (string_bytes text.new ≡ string_bytes text.old ++ parts_line format global.now branch.now) }
+    ensures { OnOk result (string_bytes text.new ≡ string_bytes text.old ++ doubt_line (xid.now, outcome_at state)) }
 {
-    match write!(text, "{format}") {
-        Ok(()) => {}
-        Err(_) => return Err(AllocError),
+    let words = xid_text(alloc, xid)?;
+    match writeln!(text, "{}{}", words.as_str(), outcome_word(state)) {
+        Ok(()) => Ok(()),
+        Err(_) => Err(AllocError),
     }
-    push_part(text, global)?;
-    push_part(text, branch)?;
-    text.push('\n')?;
-    Ok(())
 }
 
-// A blank, and a part in hexadecimal.
-fn push_part(text: &mut String, part: &[u8]) -> Result<(), AllocError>
-    ensures { OnOk result (string_bytes text.new ≡ string_bytes text.old ++ 32 ∷ part_text part.now) }
+// How a unit was decided heuristically, where it was.
+fn outcome_word(state: Option<BranchState>) -> &'static str
+    ensures { result.now ≡ outcome_word (outcome_at state) }
 {
-    text.push(' ')?;
-    if part.is_empty() {
-        return text.push('-');
-    }
-    push_digits(text, part)
-}
-
-// Two digits for each byte.
-fn push_digits(text: &mut String, bytes: &[u8]) -> Result<(), AllocError>
-    ensures { OnOk result (string_bytes text.new ≡ string_bytes text.old ++ flat_map digits_of bytes.now) }
-{
-    for byte in bytes {
-        push_byte(text, *byte)?;
-    }
-    Ok(())
-}
-
-// The digits of a byte.
-fn push_byte(text: &mut String, byte: u8) -> Result<(), AllocError>
-    ensures { OnOk result (string_bytes text.new ≡ string_bytes text.old ++ digits_of byte) }
-{
-    text.push(digit(byte / 16))?;
-    text.push(digit(byte % 16))
-}
-
-// The digit of a value below 16.
-fn digit(value: u8) -> char
-    requires { value < 16 }
-    ensures digit { result ≡ digit value }
-    ensures ascii { result < 128 }
-{
-    if value < 10 {
-        (b'0' + value) as char
-    } else {
-        (b'a' + (value - 10)) as char
+    match state {
+        Some(BranchState::Heuristic(Decision::Commit)) => " committed",
+        Some(BranchState::Heuristic(Decision::RollBack)) => " rolledback",
+        Some(
+            BranchState::Active(_)
+            | BranchState::Idle(_)
+            | BranchState::RollbackOnly(_)
+            | BranchState::Prepared,
+        )
+        | None => "",
     }
 }

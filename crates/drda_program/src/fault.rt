@@ -25,6 +25,10 @@ pub enum Fault {
     BadEvent,
     /// Memory was refused.
     NoMemory,
+    /// No unit of an XID waits for its decision.
+    NotInDoubt,
+    /// A checkpoint has no room in its half.
+    NoRoom,
 }
 
 impl Fault {
@@ -39,6 +43,8 @@ impl Fault {
             Fault::Damaged { at: _ } => 3,
             Fault::BadEvent => 4,
             Fault::NoMemory => 5,
+            Fault::NotInDoubt => 6,
+            Fault::NoRoom => 7,
         }
     }
 
@@ -54,6 +60,8 @@ impl Fault {
             Fault::Damaged { at } => say_damaged(alloc, at, err),
             Fault::BadEvent => say_line(b"drdad: bad event\n", err),
             Fault::NoMemory => say_line(b"drdad: no memory\n", err),
+            Fault::NotInDoubt => say_line(b"drdad: not in doubt\n", err),
+            Fault::NoRoom => say_line(b"drdad: no room\n", err),
         }
     }
 }

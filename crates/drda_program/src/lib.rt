@@ -1,6 +1,7 @@
 //! The program `drdad` over words, files, a network and streams that are handed in.
 #![tactic(auto)]
 
+mod deciding;
 mod doubts;
 mod fault;
 mod files;

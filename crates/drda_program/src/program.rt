@@ -3,8 +3,10 @@
 ghost use Rattle.std.specs.Prelude.{◌≡◌, ◌≢◌, ◌⊎◌, ℕ, [], Err, List, None, Some, map, string_bytes};
 ghost use Rattle.std.specs.Io.KnownBytes.{Appends};
 ghost use Rattle.command_line.specs.Job.{plain_job, said};
+ghost use Rattle.drda_program.specs.Deciding.{DecidesFile};
 ghost use Rattle.drda_program.specs.Program.{Checks, Does, Exits, Lists, Makes, TellsRoom, seen, surroundings};
 
+use crate::deciding::decide_on;
 use crate::doubts::doubt_text;
 use crate::fault::Fault;
 use crate::files::StoreFiles;
@@ -19,6 +21,7 @@ use command_line::{Job, job_of};
 use conversation::write_whole;
 use drda_node::Ready;
 use recovery::laws::records_lead_to_sound_states;
+use recovery::step_laws::openings_are_kept;
 use std::alloc::Global;
 use std::convert::AsStr;
 use std::io::{Read, Write};
@@ -26,6 +29,8 @@ use std::sync::Wait;
 use std::thread::Threads;
 use std::time::Clock;
 use store_check::checkpoints_are_known;
+use xa_calls::Xid;
+use xa_manager::Decision;
 
 /// Does what the words say, the program's name first, and answers the exit status; a fault's line goes
 /// to `err`, behind the text of the command-line parser where that has one and the files' reason where a
@@ -38,7 +43,9 @@ use store_check::checkpoints_are_known;
 /// - `serve PATH --port N --user U:P [--count N] [--idle N] [--log]` says its port and serves conversations over
 ///   sockets, up to 64 side by side, each in a thread of its own; with `--idle N` a connection on which nothing has
 ///   come for N seconds is closed, with `--log` what becomes of conversations is told to `log`.
-/// - `indoubt PATH` lists the units in doubt of a store.
+/// - `indoubt PATH` lists the units in doubt of a store, with how each was decided heuristically, where it was.
+/// - `decide PATH FORMAT GLOBAL BRANCH commit|rollback` decides a unit in doubt in the place of its transaction manager,
+///   and says so; a store of layout 1 is checkpointed first.
 /// - `room PATH` tells the name and size of a store, its room, and how many units are in doubt.
 /// - `check PATH` says that a store is whole, where it is.
 /// - `version` tells the program's version.
@@ -47,11 +54,13 @@ use store_check::checkpoints_are_known;
 ///
 /// The status is 0 where the job was done; 1 where the words ask for none, for a store of a size or
 /// name that none has, or for a login in a file that holds none; 2 where a file, a port or a stream failed, the last flush included; 3 where a file
-/// is no store or a damaged one; 4 where what came is no event; 5 where memory was refused.
+/// is no store or a damaged one; 4 where what came is no event; 5 where memory was refused; 6 where no unit of the XID
+/// waits for its decision; 7 where the checkpoint before a decision has no room, and the store stays as it was.
 ///
 /// Of a store in a file all is said of the disk that opening its path gave: `indoubt` lists the units in
 /// doubt of the state that it opens to, in the order of their bytes; `pipe` answers as a machine does that
-/// begins with that state, and what its calls left on it is journaled; `serve` lets its conversations ask a
+/// begins with that state, and what its calls left on it is journaled, as is what `decide` left on it, which is the
+/// decision, or nothing where it refuses; `serve` lets its conversations ask a
 /// core that begins with that state, under one lock; `init` has made it a fresh store of the size and name that
 /// were asked. Where a disk may give back something else than what was written, no state is said of it.
 pub fn run_words<
@@ -135,8 +144,10 @@ where
         (R.remaining reader.old) (seen files.old net.old (W.contents out.old)) result (seen files.new net.new (W.contents out.new)) }
     ensures quiet { said (map S.text words.now) ≢ None → string_bytes text.new ≡ string_bytes text.old }
 {
-    let job = job_of(alloc, words, text)?;
-    do_job(rt, alloc, job, files, net, log, reader, out)
+    match job_of(alloc, words, text) {
+        Ok(job) => do_job(rt, alloc, &job, files, net, log, reader, out),
+        Err(error) => Err(Fault::from(error)),
+    }
 }
 
 fn do_job<
@@ -149,7 +160,7 @@ fn do_job<
 >(
     rt: &T,
     alloc: Global,
-    job: Job<'_>,
+    job: &Job<'_>,
     files: &mut F,
     net: &mut N,
     log: &L,
@@ -160,19 +171,26 @@ where
     F::Disk: Send,
     N::Stream: Send,
     N::Writer: Send,
-    ensures { Does (surroundings F.calls F.Disk.is_modelled F.Disk.life N.calls) (Some (plain_job job.entry))
+    ensures { Does (surroundings F.calls F.Disk.is_modelled F.Disk.life N.calls) (Some (plain_job job.now))
         (R.remaining reader.old) (seen files.old net.old (W.contents out.old)) result (seen files.new net.new (W.contents out.new)) }
 {
     match job {
-        Job::Init { path, size, rdb } => init(alloc, files, path, size, rdb, out),
-        Job::Pipe { path, rdb, login } => pipe(alloc, files, path, rdb, login, reader, out),
+        Job::Init { path, size, rdb } => init(alloc, files, path, *size, rdb, out),
+        Job::Pipe { path, rdb, login } => pipe(alloc, files, *path, rdb, *login, reader, out),
         Job::Serve {
             path,
             port,
             login,
             options,
-        } => serve(rt, alloc, files, net, log, path, port, login, options, out),
+        } => serve(
+            rt, alloc, files, net, log, path, *port, *login, *options, out,
+        ),
         Job::InDoubt { path } => list_doubts(alloc, files, path, out),
+        Job::Decide {
+            path,
+            xid,
+            decision,
+        } => decide(alloc, files, path, xid, *decision, out),
         Job::Room { path } => tell_room(alloc, files, path, out),
         Job::Check { path } => check(alloc, files, path, out),
         Job::Version => tell_version(out),
@@ -208,9 +226,26 @@ fn list_doubts<F: StoreFiles, W: Write>(
 {
     records_lead_to_sound_states();
     checkpoints_are_known();
+    openings_are_kept();
     let core = open_file(alloc, files, path)?;
-    let text = doubt_text(alloc, core.in_doubt())?;
+    let text = doubt_text(alloc, &core)?;
     tell(&text, out)
+}
+
+// Decides a unit in doubt, and says so.
+fn decide<F: StoreFiles, W: Write>(
+    alloc: Global,
+    files: &mut F,
+    path: &str,
+    xid: &Xid,
+    decision: Decision,
+    out: &mut W,
+) -> Result<(), Fault>
+    ensures { DecidesFile F.Disk.is_modelled F.Disk.life F.calls path.now xid.now decision files.old (W.contents out.old) result files.new (W.contents out.new) }
+{
+    let mut core = open_file(alloc, files, path)?;
+    decide_on(&mut core, xid, decision)?;
+    tell("decided\n", out)
 }
 
 // Tells how much a store holds.
@@ -224,6 +259,7 @@ fn tell_room<F: StoreFiles, W: Write>(
 {
     records_lead_to_sound_states();
     checkpoints_are_known();
+    openings_are_kept();
     let core = open_file(alloc, files, path)?;
     let text = room_text(alloc, core)?;
     tell(&text, out)

@@ -12,7 +12,7 @@ pub(crate) fn tell_version<W: Write>(out: &mut W) -> Result<(), Fault>
     ensures { TellsVersion (W.contents out.old) result (W.contents out.new) }
 {
     tell(
-        "drdad 0.9, proved by Rattle's logic dac8208d650f15bf\n",
+        "drdad 0.10, proved by Rattle's logic dac8208d650f15bf\n",
         out,
     )
 }

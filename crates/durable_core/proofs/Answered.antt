@@ -2,6 +2,7 @@
 use Rattle.std.proofs.Common.{◌≡◌, ℕ, ◌+◌, ◌-◌, ◌≤◌, Bool, IsTrue, IfErr, IfOk, List, length, Result, Ok, Err, refl, sym, ◌∙◌, ap, subst, arith}
 use Rattle.drda_disk.specs.Disk.{Life}
 use Rattle.drda_disk.specs.Region.{end_of}
+use Rattle.half_store.specs.declared.header.Layout.{Layout}
 use Rattle.unit_journal.specs.Journal.{held_of, region_of, room_of}
 use Rattle.unit_journal.specs.Record.{laid}
 use Rattle.recovery.specs.Durable.{Durable}
@@ -24,10 +25,10 @@ left : (at len l held room : ℕ) → room ≡ at + len - (at + l) - 1 - held �
 left at len l held room is inside = omega (arith, is, inside)
 
 room_left : (modelled : Bool) (last : Life) (f : Found) → IsFound modelled last f → (there : StandsThere modelled last f)
-    → room_of f.journal + (length (laid there.entries) + 1 + held_for (durable_in f).doubts) ≡ (region_of f.journal).length
+    → room_of f.journal + (length (laid there.entries) + 1 + held_for f.layout (durable_in f).doubts) ≡ (region_of f.journal).length
 room_left modelled last f found there =
     let region = region_of f.journal in
-    left region.at region.length (length (laid there.entries)) (held_for (durable_in f).doubts) (room_of f.journal)
+    left region.at region.length (length (laid there.entries)) (held_for f.layout (durable_in f).doubts) (room_of f.journal)
     (ap (λ (n : ℕ). end_of region - n - 1 - held_of f.journal) there.settled.next ∙ ap (λ (n : ℕ). end_of region - (region.at + length (laid there.entries)) - 1 - n) found.held)
     there.holds.room
 
@@ -39,16 +40,18 @@ module _ {D : Type 0} (modelled : Bool) (last : Life) (image : List ℕ) (seen :
   pub finds : OpensToOne → (name : List ℕ) (d : Durable) → IsTrue modelled → OpensTo name d image → (r : Result (OnDisk D) (Refused D)) → IfOk r (IsOpenedTo (name_in f) (durable_in f)) → IfErr r (λ refused. refused.error ≡ NoMemory) → Finds name d r
   finds one name d is opens r ok err = finds_in name d (finds_one modelled last image f one seen name d opens (found.stands is)) r ok err
 
-  pub stood : IsTrue modelled → (r : Result (OnDisk D) (Refused D)) → IfOk r (IsOpenedTo (name_in f) (durable_in f)) → IfOk r (λ core. core.room ≡ room_of f.journal) → IfOk r (StoodThere image)
-  stood is (Ok core) ok room =
+  pub stood : IsTrue modelled → (r : Result (OnDisk D) (Refused D)) → IfOk r (IsOpenedTo (name_in f) (durable_in f)) → IfOk r (λ core. core.room ≡ room_of f.journal) → IfOk r (λ core. core.layout ≡ f.layout) → IfOk r (StoodThere image)
+  stood is (Ok core) ok room layout =
       let there = found.stands is in
       record {
         durable = durable_in f;
         region = region_of f.journal;
         entries = there.entries;
-        stood = subst (λ (n : List ℕ). Holds n (region_of f.journal) there.entries (durable_in f) image) (sym ok.named)
-            (subst (λ (i : List ℕ). Holds (name_in f) (region_of f.journal) there.entries (durable_in f) i) seen there.holds);
+        stood = subst (λ (l : Layout). Holds core.name l (region_of f.journal) there.entries (durable_in f) image) (sym layout)
+            (subst (λ (n : List ℕ). Holds n f.layout (region_of f.journal) there.entries (durable_in f) image) (sym ok.named)
+            (subst (λ (i : List ℕ). Holds (name_in f) f.layout (region_of f.journal) there.entries (durable_in f) i) seen there.holds));
         is = record { named = refl; state = ok.state; going = ok.going; made = ok.made };
-        room = ap (λ (n : ℕ). n + (length (laid there.entries) + 1 + held_for (durable_in f).doubts)) room ∙ room_left modelled last f found there;
+        room = ap (λ (l : Layout). core.room + (length (laid there.entries) + 1 + held_for l (durable_in f).doubts)) layout
+            ∙ ap (λ (n : ℕ). n + (length (laid there.entries) + 1 + held_for f.layout (durable_in f).doubts)) room ∙ room_left modelled last f found there;
       }
-  stood is (Err refused) ok room = tt
+  stood is (Err refused) ok room layout = tt

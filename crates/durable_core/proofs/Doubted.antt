@@ -1,4 +1,4 @@
--- Units in doubt that are restored from the last one on.
+-- Branches in doubt that are restored from the last one on.
 use Rattle.std.proofs.Common.{◌≡◌, ◌⊎◌, inl, inr, ℕ, ◌<◌, ◌≤◌, Bool, true, false, cond, List, [], ◌∷◌, ◌++◌, length, Option, Some, None, IsSome, refl, sym, ◌∙◌, ap, subst, arith, length-append}
 use Rattle.std.specs.List.{list_all}
 use Rattle.std.specs.Map.{keys_of}
@@ -12,24 +12,25 @@ use Rattle.row_values.proofs.ValueLaws.{first_true, second_true}
 use Rattle.tables.specs.Tables.{Store}
 use Rattle.xa_manager.specs.declared.branch.Branch.{Branch}
 use Rattle.xa_manager.specs.declared.branch.BranchState.{BranchState}
-use Rattle.xa_manager.specs.declared.branch.BranchState.TheVariants.{Prepared}
-use Rattle.xa_manager.specs.Branch.{in_doubt_count, in_doubt_xids, state_of, with_branch}
+use Rattle.xa_manager.specs.declared.due.Decision.{Decision}
+use Rattle.xa_manager.specs.Branch.{found_state, in_doubt_count, state_of, with_branch}
 use Rattle.core_model.specs.Units.{Work, global, has_work, idle, unit_of}
 use Rattle.core_model.specs.Step.{CoreState}
 use Rattle.core_model.proofs.Owners.{unit_of_other}
-use Rattle.recovery.specs.Durable.{Doubts}
+use Rattle.recovery.specs.Durable.{Doubt, Doubts}
 use Rattle.recovery.specs.Replay.{doubt_in, doubts_in}
 use Rattle.recovery.specs.Sound.{IsSound}
 use Rattle.recovery.specs.declared.prepared.PreparedUnit.{PreparedUnit}
 use Rattle.recovery.specs.Part.{doubt_branches, doubt_units, opened}
 use Rattle.recovery.proofs.Doubts.{xids_count}
+use Rattle.recovery.proofs.Opening.{xids_of}
 use Rattle.rdb_core.specs.Restored.{RestoresUnit, with_in_doubt}
 use Rattle.xa_manager.specs.declared.table.RestoreError.{RestoreError}
 use Rattle.xa_manager.specs.declared.table.RestoreError.TheVariants as error
 use Rattle.std.specs.Prelude.{Result, Err}
 
-abbrev branch_of : List ℕ → Branch
-branch_of x = record { xid = x; state = Prepared }
+abbrev branch_of : List ℕ → Option Decision → Branch
+branch_of x o = record { xid = x; state = found_state o }
 
 abbrev comes_first : List ℕ → List ℕ → Bool
 comes_first x later = is_lt (slice_cmp nat_cmp x later)
@@ -38,33 +39,30 @@ comes_first x later = is_lt (slice_cmp nat_cmp x later)
 abbrev IsFirst : List ℕ → Doubts → Type 0
 IsFirst x es = list_all (comes_first x) (keys_of es) ≡ true
 
-here : (x : List ℕ) (e : List ℕ × Work) (es : Doubts) → IsFirst x (e ∷ es) → precedes x e.0 ≡ true
+here : (x : List ℕ) (e : List ℕ × Doubt) (es : Doubts) → IsFirst x (e ∷ es) → precedes x e.0 ≡ true
 here x e es first = first_true (comes_first x e.0) (list_all (comes_first x) (keys_of es)) first
 
-later : (x : List ℕ) (e : List ℕ × Work) (es : Doubts) → IsFirst x (e ∷ es) → IsFirst x es
+later : (x : List ℕ) (e : List ℕ × Doubt) (es : Doubts) → IsFirst x (e ∷ es) → IsFirst x es
 later x e es first = second_true (comes_first x e.0) (list_all (comes_first x) (keys_of es)) first
 
 idle_first : (x : List ℕ) (es : Doubts) → IsFirst x es → unit_of (global x) (doubt_units es) ≡ idle
 idle_first x [] first = refl
-idle_first x (e ∷ es) first = unit_of_other (global x) (global e.0) e.1 (doubt_units es) (precedes_other x e.0 (here x e es first)) ∙ idle_first x es (later x e es first)
+idle_first x (e ∷ es) first = unit_of_other (global x) (global e.0) e.1.work (doubt_units es) (precedes_other x e.0 (here x e es first)) ∙ idle_first x es (later x e es first)
 
 unknown_first : (x : List ℕ) (es : Doubts) → IsFirst x es → state_of (doubt_branches es) x ≡ None
 unknown_first x [] first = refl
-unknown_first x (e ∷ es) first = ap (λ (b : Bool). cond b (Some Prepared) (state_of (doubt_branches es) x)) (precedes_another x e.0 (here x e es first)) ∙ unknown_first x es (later x e es first)
+unknown_first x (e ∷ es) first = ap (λ (b : Bool). cond b (Some (found_state e.1.outcome)) (state_of (doubt_branches es) x)) (precedes_another x e.0 (here x e es first)) ∙ unknown_first x es (later x e es first)
 
-branch_first : (x : List ℕ) (es : Doubts) → IsFirst x es → with_branch (doubt_branches es) (branch_of x) ≡ branch_of x ∷ doubt_branches es
-branch_first x [] first = refl
-branch_first x (e ∷ es) first = ap (λ (b : Bool). cond b (branch_of x ∷ branch_of e.0 ∷ doubt_branches es) (branch_of e.0 ∷ with_branch (doubt_branches es) (branch_of x))) (here x e es first)
-
-xids_of : (es : Doubts) → in_doubt_xids (doubt_branches es) ≡ keys_of es
-xids_of [] = refl
-xids_of (e ∷ es) = ap (λ (l : List (List ℕ)). e.0 ∷ l) (xids_of es)
+branch_first : (x : List ℕ) (o : Option Decision) (es : Doubts) → IsFirst x es → with_branch (doubt_branches es) (branch_of x o) ≡ branch_of x o ∷ doubt_branches es
+branch_first x o [] first = refl
+branch_first x o (e ∷ es) first =
+    ap (λ (b : Bool). cond b (branch_of x o ∷ branch_of e.0 e.1.outcome ∷ doubt_branches es) (branch_of e.0 e.1.outcome ∷ with_branch (doubt_branches es) (branch_of x o))) (here x e es first)
 
 count_is : (es : Doubts) → in_doubt_count (doubt_branches es) ≡ length es
-count_is es = sym (xids_count (doubt_branches es)) ∙ ap (λ (l : List (List ℕ)). length l) (xids_of es) ∙ length-map es (λ (e : List ℕ × Work). e.0)
+count_is es = sym (xids_count (doubt_branches es)) ∙ ap (λ (l : List (List ℕ)). length l) (xids_of es) ∙ length-map es (λ (e : List ℕ × Doubt). e.0)
 
 known_is : (es : Doubts) → length (doubt_branches es) ≡ length es
-known_is es = length-map es (λ (e : List ℕ × Work). branch_of e.0)
+known_is es = length-map es (λ (e : List ℕ × Doubt). branch_of e.0 e.1.outcome)
 
 rises_back : (front back : Doubts) → rises (slice_cmp nat_cmp) (keys_of (front ++ back)) ≡ true → rises (slice_cmp nat_cmp) (keys_of back) ≡ true
 rises_back [] back rise = rise
@@ -112,12 +110,12 @@ module _ (store : Store) (all : Doubts) where
     not_full (inl many) = omega (arith, many, few, known_is way.done, ap (λ (s : CoreState). length s.branches) way.state)
     not_full (inr many) = omega (arith, many, few, count_is way.done, ap (λ (s : CoreState). in_doubt_count s.branches) way.state)
 
-    pub goes_on : (next : CoreState) → next ≡ with_in_doubt now u.xid u.changes u.claims.items → IsUnderWay left next
+    pub goes_on : (next : CoreState) → next ≡ with_in_doubt now u.xid u.outcome u.changes u.claims.items → IsUnderWay left next
     goes_on next is = record {
       done = doubt_in u ∷ way.done;
       whole = all_is;
-      state = is ∙ ap (λ (s : CoreState). with_in_doubt s u.xid u.changes u.claims.items) way.state
-          ∙ ap (λ (bs : List Branch). record { base = record { store = store; units = doubt_units (doubt_in u ∷ way.done) }; branches = bs }) (branch_first u.xid way.done is_first);
+      state = is ∙ ap (λ (s : CoreState). with_in_doubt s u.xid u.outcome u.changes u.claims.items) way.state
+          ∙ ap (λ (bs : List Branch). record { base = record { store = store; units = doubt_units (doubt_in u ∷ way.done) }; branches = bs }) (branch_first u.xid u.outcome way.done is_first);
     }
 
 -- ---- what is told

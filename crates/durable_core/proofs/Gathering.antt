@@ -6,11 +6,12 @@ use Rattle.unit_records.specs.Together.{all_committed, due_together}
 use Rattle.unit_records.specs.declared.record_error.RecordError.{RecordError}
 use Rattle.unit_records.specs.declared.record_error.RecordError.TheVariants.{DeviceFailed, Full, NoMemory}
 use Rattle.recovery.specs.Durable.{next}
+use Rattle.recovery.specs.Known.{IsKnown, Releases}
 use Rattle.recovery.specs.Part.{durable_part}
-use Rattle.recovery.specs.StepLaws.{CommitsKeep, CommitsLead, MayGoTogether, SilentCommitsStay}
+use Rattle.recovery.specs.StepLaws.{CommitsAreKnown, CommitsKeep, CommitsLead, MayGoTogether, SilentCommitsStay}
 use Rattle.recovery.specs.Journaled.{Journaled, shown_on}
 use Rattle.core_model.specs.Step.{CoreState}
-use Rattle.journal_recorder.specs.Recording.{Fails, Records, has_failed}
+use Rattle.journal_recorder.specs.Recording.{Fails, Records, has_failed, layout_of}
 use Rattle.journal_recorder.specs.declared.recorder.DiskRecorder.{DiskRecorder}
 use Rattle.rdb_core.specs.Recorded as told
 use Rattle.durable_core.specs.Recorded.{IsRecorded, core_on}
@@ -21,6 +22,7 @@ pub record CommitLaws {D : Type 0} (life : D → Life) : Type 0 where
   pub keep : CommitsKeep
   pub silent : SilentCommitsStay
   pub lead : CommitsLead
+  pub known : CommitsAreKnown
   pub laws : Laws life
 
 module _ {D : Type 0} (modelled : Bool) (life : D → Life) (name : List ℕ) (all : CommitLaws life) (s : CoreState) (r : DiskRecorder D) (is : IsRecorded modelled life name s r) (going : has_failed r ≡ false) where
@@ -39,6 +41,12 @@ module _ {D : Type 0} (modelled : Bool) (life : D → Life) (name : List ℕ) (a
     leads : (said : UnitRecord) → due_together conversations s ≡ Some said → next (durable_part s) said ≡ Some (durable_part behind)
     leads said due = all.lead s conversations said is.kept may due
 
+    known : (said : UnitRecord) → due_together conversations s ≡ Some said → IsKnown (layout_of r) said
+    known said due = (all.known (layout_of r) s conversations said due).0
+
+    releases : (said : UnitRecord) → due_together conversations s ≡ Some said → Releases (layout_of r) (durable_part s) said
+    releases said due = (all.known (layout_of r) s conversations said due).1
+
     done_by : (o : Option UnitRecord) → due_together conversations s ≡ o → (after : DiskRecorder D) → told.IsRecorded (Records modelled life) o r after → IsLeft behind after
     done_by None none after same =
         let stays = all.silent s conversations is.kept may none in
@@ -47,16 +55,16 @@ module _ {D : Type 0} (modelled : Bool) (life : D → Life) (name : List ℕ) (a
           journaled = silent_journaled modelled life name all.laws s r is going behind stays;
         })
     done_by (Some said) due after made = record {
-      recorded = record_recorded modelled life name all.laws s r is going behind said (leads said due) after made (all.keep s conversations is.kept may);
-      journaled = record_journaled modelled life name all.laws s r is going behind said (leads said due) after made;
+      recorded = record_recorded modelled life name all.laws s r is going behind said (leads said due) (λ there. known said due) (releases said due) after made (all.keep s conversations is.kept may);
+      journaled = record_journaled modelled life name all.laws s r is going behind said (leads said due) (λ there. known said due) (releases said due) after made;
     }
 
     refused_by : (said : UnitRecord) → due_together conversations s ≡ Some said → (fault : RecordError) (after : DiskRecorder D) → Fails modelled life r said fault after → IsLeft s after
     refused_by said due NoMemory after same = subst (λ (x : DiskRecorder D). IsLeft s x) (sym same) same_left
     refused_by said due (Full need room) after no_room = subst (λ (x : DiskRecorder D). IsLeft s x) (sym no_room.0) same_left
     refused_by said due DeviceFailed after left = record {
-      recorded = left_recorded modelled life name all.laws s r is going behind said (leads said due) after left;
-      journaled = left_journaled modelled life name all.laws s r is going behind said (leads said due) after left;
+      recorded = left_recorded modelled life name all.laws s r is going behind said (leads said due) (λ there. known said due) (releases said due) after left;
+      journaled = left_journaled modelled life name all.laws s r is going behind said (leads said due) (λ there. known said due) (releases said due) after left;
     }
 
     kept_by : (fault : RecordError) (after : DiskRecorder D) → told.Refuses (Fails modelled life) (due_together conversations s) fault r after → IsLeft s after

@@ -1,5 +1,6 @@
 pub mod Recording
 pub mod Stepping
+pub mod HeuristicSteps
 pub mod Gathering
 pub mod Doubted
 pub mod Heads
@@ -7,8 +8,8 @@ pub mod Opened
 pub mod Parts
 pub mod Answered
 pub mod Damaged
-pub mod Prepared
+pub mod LeftInDoubt
 pub mod Telling
 pub mod Switching
-pub mod Prepares
+pub mod Laid
 pub mod Phasing

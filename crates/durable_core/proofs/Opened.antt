@@ -2,6 +2,7 @@
 use Rattle.std.proofs.Common.{◌≡◌, ◌≤◌, Bool, IsTrue, length, sym, ◌∙◌, ap, subst}
 use Rattle.drda_disk.specs.Disk.{Life}
 use Rattle.drda_disk.specs.Region.{end_of}
+use Rattle.half_store.specs.declared.header.Layout.{Layout}
 use Rattle.unit_journal.specs.Journal.{IsSettled, held_of, region_of}
 use Rattle.unit_journal.specs.declared.journal.Journal.{Journal}
 use Rattle.recovery.specs.Durable.{Durable}
@@ -10,7 +11,7 @@ use Rattle.core_model.specs.Step.{CoreState}
 use Rattle.recovery.specs.Kept.{IsKept}
 use Rattle.recovery.specs.StepLaws.{OpeningsAreKept}
 use Rattle.recovery.specs.Part.{durable_part, opened}
-use Rattle.journal_recorder.specs.Recording.{disk_of, journal_of}
+use Rattle.journal_recorder.specs.Recording.{disk_of, journal_of, layout_of}
 use Rattle.journal_recorder.specs.declared.recorder.DiskRecorder.{DiskRecorder}
 use Rattle.recovery.specs.Opens.{Holds}
 use Rattle.durable_core.specs.Recorded.{IsOnDisk, IsRecorded}
@@ -18,7 +19,7 @@ use Rattle.durable_core.specs.Found.{IsFound, durable_in, name_in}
 use Rattle.durable_core.specs.declared.reading.Found.{Found}
 
 module _ {D : Type 0} (modelled : Bool) (life : D → Life) (laws : OpeningsAreKept) (disk : D) (f : Found) (found : IsFound modelled (life disk) f)
-    (s : CoreState) (r : DiskRecorder D) (state : s ≡ opened (durable_in f)) (same_disk : disk_of r ≡ disk) (same_journal : journal_of r ≡ f.journal) where
+    (s : CoreState) (r : DiskRecorder D) (state : s ≡ opened (durable_in f)) (same_disk : disk_of r ≡ disk) (same_journal : journal_of r ≡ f.journal) (same_layout : layout_of r ≡ f.layout) where
   part_is : durable_part s ≡ durable_in f
   part_is = ap (λ (t : CoreState). durable_part t) state ∙ (laws (durable_in f) found.sound).part
 
@@ -29,15 +30,16 @@ module _ {D : Type 0} (modelled : Bool) (life : D → Life) (laws : OpeningsAreK
         entries = there.entries;
         settled = subst (λ (j : Journal). IsSettled modelled (life (disk_of r)) j there.entries) (sym same_journal)
             (subst (λ (x : D). IsSettled modelled (life x) f.journal there.entries) (sym same_disk) there.settled);
-        holds = subst (λ (j : Journal). Holds (name_in f) (region_of j) there.entries (durable_part s) (life (disk_of r)).seen) (sym same_journal)
-            (subst (λ (d : Durable). Holds (name_in f) (region_of f.journal) there.entries d (life (disk_of r)).seen) (sym part_is)
-            (subst (λ (x : D). Holds (name_in f) (region_of f.journal) there.entries (durable_in f) (life x).seen) (sym same_disk) there.holds));
+        holds = subst (λ (l : Layout). Holds (name_in f) l (region_of (journal_of r)) there.entries (durable_part s) (life (disk_of r)).seen) (sym same_layout)
+            (subst (λ (j : Journal). Holds (name_in f) f.layout (region_of j) there.entries (durable_part s) (life (disk_of r)).seen) (sym same_journal)
+            (subst (λ (d : Durable). Holds (name_in f) f.layout (region_of f.journal) there.entries d (life (disk_of r)).seen) (sym part_is)
+            (subst (λ (x : D). Holds (name_in f) f.layout (region_of f.journal) there.entries (durable_in f) (life x).seen) (sym same_disk) there.holds)));
       }
 
   pub is_recorded : IsRecorded modelled life (name_in f) s r
   is_recorded = record {
     kept = subst (λ (t : CoreState). IsKept t) (sym state) (laws (durable_in f) found.sound).kept;
-    held = ap (λ (j : Journal). held_of j) same_journal ∙ found.held ∙ ap (λ (d : Durable). held_for d.doubts) (sym part_is);
+    held = ap (λ (j : Journal). held_of j) same_journal ∙ found.held ∙ ap (λ (d : Durable). held_for f.layout d.doubts) (sym part_is) ∙ ap (λ (l : Layout). held_for l (durable_part s).doubts) (sym same_layout);
     inside = subst (λ (j : Journal). end_of (region_of j) ≤ length (life (disk_of r)).seen) (sym same_journal)
         (subst (λ (x : D). end_of (region_of f.journal) ≤ length (life x).seen) (sym same_disk) found.inside);
     on_disk = λ is going. on_disk is;

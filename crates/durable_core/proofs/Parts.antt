@@ -5,6 +5,7 @@ use Rattle.drda_disk.specs.Region.{end_of}
 use Rattle.drda_disk.specs.declared.region.Region.{Region}
 use Rattle.half_store.specs.Active.{Store, active_of}
 use Rattle.half_store.specs.Layout.{half_len, offset_of}
+use Rattle.half_store.specs.declared.header.Layout.{Layout}
 use Rattle.half_store.specs.Opened.{store_of}
 use Rattle.half_store.specs.declared.active.Active.{Active}
 use Rattle.store_check.specs.Checkpoint.{HasCheckpoint, OneCheckpoint, half_pages}
@@ -18,6 +19,7 @@ use Rattle.unit_journal.specs.Record.{Entry, laid}
 use Rattle.unit_journal.specs.Stands.{Stands}
 use Rattle.recovery.specs.Durable.{Doubts, Durable, at_checkpoint}
 use Rattle.recovery.specs.Journal.{Leads, OneState}
+use Rattle.recovery.specs.Known.{AreKnown}
 use Rattle.recovery.specs.Laws.{held_for}
 use Rattle.recovery.specs.Sound.{IsSound, LeadsAreSound}
 use Rattle.recovery.specs.Opens.{Holds, IsJournal, OpensTo}
@@ -39,7 +41,7 @@ same_pages image a head =
 
 module _ (image : List ℕ) (name : List ℕ) (d : Durable) (opens : OpensTo name d image) where
   pub head_plain : {T : Type 0} (r : Result T OpenError) → ((store : Store) → active_of image ≡ Ok store → IsPlain r) → IsPlain r
-  head_plain r plain = plain opens.2.store opens.2.active
+  head_plain r plain = plain opens.3.store opens.3.active
 
   module _ (there_is : OpensThere) (a : Active) (head : IsHead image a) where
     there : IsThere name d image (store_of a) a.region
@@ -65,36 +67,42 @@ module _ (image : List ℕ) (name : List ℕ) (d : Durable) (opens : OpensTo nam
       leads = subst (λ (t : Tables). Leads (at_checkpoint t) es d) (checkpoints image (pages_of a) there.holds.checkpoint tables laid_there laid_are)
           (subst (λ (l : List Entry). Leads (at_checkpoint there.holds.checkpoint) l d) same there.holds.leads)
 
-      pub units_plain : {T : Type 0} (r : Result T OpenError) → ((e : Durable) → Leads (at_checkpoint tables) es e → IsPlain r) → IsPlain r
-      units_plain r plain = plain d leads
+      known : AreKnown a.layout es
+      known = subst (λ (l : List Entry). AreKnown a.layout l) same there.holds.known
+
+      pub units_plain : {T : Type 0} (r : Result T OpenError) → ((e : Durable) → AreKnown a.layout es → Leads (at_checkpoint tables) es e → IsPlain r) → IsPlain r
+      units_plain r plain = plain d known leads
 
       pub held_plain : {T : Type 0} (r : Result T OpenError) (states : OneState) (e : Durable) → Leads (at_checkpoint tables) es e → (j : Journal) → region_of j ≡ a.region → held_of j ≡ 0 → next_of j ≡ (region_of j).at + length (laid es)
-          → (doubts : Doubts) → doubts ≡ e.doubts → (held_for doubts ≤ room_of j → IsPlain r) → IsPlain r
+          → (doubts : Doubts) → doubts ≡ e.doubts → (held_for a.layout doubts ≤ room_of j → IsPlain r) → IsPlain r
       held_plain r states e led j place none next doubts same_doubts plain =
           let one : d ≡ e = states (at_checkpoint tables) d e es leads led in
-          let held : held_for doubts ≡ held_for d.doubts = ap (λ (l : Doubts). held_for l) (same_doubts ∙ ap (λ (x : Durable). x.doubts) (sym one)) in
+          let held : held_for a.layout doubts ≡ held_for a.layout d.doubts = ap (λ (l : Doubts). held_for a.layout l) (same_doubts ∙ ap (λ (x : Durable). x.doubts) (sym one)) in
           let laid_is : length (laid there.es) ≡ length (laid es) = ap (λ (l : List Entry). length (laid l)) same in
           let long : (region_of j).length ≡ a.region.length = ap (λ (g : Region). g.length) place in
-          let fits : held_for doubts ≤ room_of j = omega (arith, there.holds.room, held, laid_is, long, none, next) in
+          let fits : held_for a.layout doubts ≤ room_of j = omega (arith, there.holds.room, held, laid_is, long, none, next) in
           plain fits
 
 -- and it is what opens
 pub finds_one : (modelled : Bool) (last : Life) (image : List ℕ) (f : Found) → OpensToOne → last.seen ≡ image → (name : List ℕ) (d : Durable) → OpensTo name d image → StandsThere modelled last f → (name_in f ≡ name) × (durable_in f ≡ d)
 finds_one modelled last image f one seen name d opens there =
-    one (name_in f) name (durable_in f) d image (region_of f.journal, there.entries, subst (λ (i : List ℕ). Holds (name_in f) (region_of f.journal) there.entries (durable_in f) i) seen there.holds) opens
+    one (name_in f) name (durable_in f) d image (f.layout, region_of f.journal, there.entries, subst (λ (i : List ℕ). Holds (name_in f) f.layout (region_of f.journal) there.entries (durable_in f) i) seen there.holds) opens
 
 -- what was read of a store is what stands there
 module _ (modelled : Bool) (last : Life) (image : List ℕ) (a : Active) (tables : Tables) (es : List Entry) (d : Durable) (f : Found) (seen : last.seen ≡ image)
-    (leads : Leads (at_checkpoint tables) es d) (same : durable_in f ≡ d) (region : region_of f.journal ≡ a.region) (held : held_of f.journal ≡ held_for (durable_in f).doubts) (named : string_bytes a.name ≡ name_in f) where
-  holds_there : IsHead image a → HasCheckpoint image (pages_of a) tables → IsSettled modelled last f.journal es → Holds (name_in f) (region_of f.journal) es (durable_in f) image
+    (known : AreKnown a.layout es) (leads : Leads (at_checkpoint tables) es d) (same : durable_in f ≡ d) (region : region_of f.journal ≡ a.region) (layout : f.layout ≡ a.layout) (held : held_of f.journal ≡ held_for f.layout (durable_in f).doubts)
+    (named : string_bytes a.name ≡ name_in f) where
+  holds_there : IsHead image a → HasCheckpoint image (pages_of a) tables → IsSettled modelled last f.journal es → Holds (name_in f) f.layout (region_of f.journal) es (durable_in f) image
   holds_there head has settled = record {
     store = store_of a;
     active = head.active;
     named = named;
+    layout_is = sym layout;
     journal = subst (λ (g : Region). IsJournal (length image) (store_of a) g) (sym region) head.journal;
     checkpoint = tables;
     pages = subst (λ (h : HalfPages). HasCheckpoint image h tables) (same_pages image a head) has;
     stands = subst (λ (i : List ℕ). Stands (region_of f.journal) es i) seen settled.stands;
+    known = subst (λ (l : Layout). AreKnown l es) (sym layout) known;
     leads = subst (λ (x : Durable). Leads (at_checkpoint tables) es x) (sym same) leads;
     room = omega (arith, f.journal.fits, settled.next, held);
   }
@@ -108,7 +116,7 @@ module _ (modelled : Bool) (last : Life) (image : List ℕ) (a : Active) (tables
     stands = λ is. record {
       entries = es;
       settled = settled is;
-      holds = subst (λ (i : List ℕ). Holds (name_in f) (region_of f.journal) es (durable_in f) i) (sym seen) (holds_there (head is) (has is) (settled is));
+      holds = subst (λ (i : List ℕ). Holds (name_in f) f.layout (region_of f.journal) es (durable_in f) i) (sym seen) (holds_there (head is) (has is) (settled is));
     };
   }
 

@@ -5,6 +5,8 @@ use Rattle.std.proofs.lemmas.List.{length-map}
 use Rattle.drda_disk.specs.Disk.{Life}
 use Rattle.drda_disk.specs.Region.{end_of}
 use Rattle.drda_disk.specs.declared.region.Region.{Region}
+use Rattle.std.specs.List.{AllByRecursion}
+use Rattle.half_store.specs.declared.header.Layout.{Layout}
 use Rattle.unit_journal.specs.Journal.{held_of, region_of, room_of}
 use Rattle.unit_journal.specs.declared.journal.Journal.{Journal}
 use Rattle.unit_journal.specs.Record.{laid}
@@ -18,14 +20,15 @@ use Rattle.unit_records.specs.declared.group_error.GroupError.TheVariants.{Devic
 use Rattle.unit_records.specs.declared.phase.BranchCall.{BranchCall}
 use Rattle.unit_records.specs.declared.phase.Phase.{Phase}
 use Rattle.recovery.specs.Durable.{replayed_from}
+use Rattle.recovery.specs.Known.{IsKnown, ReleaseAll}
 use Rattle.recovery.specs.Laws.{HeldForAll, held_for}
-use Rattle.recovery.specs.StepLaws.{BranchesKeep, BranchesLead}
+use Rattle.recovery.specs.StepLaws.{BranchesKeep, BranchesLead, PhasesAreKnown, PhasesAreOfDoubts}
 use Rattle.core_model.specs.Step.{CoreState}
 use Rattle.recovery.specs.Part.{durable_part}
 use Rattle.recovery.specs.Opens.{Holds}
 use Rattle.recovery.specs.ImageLaws.{GroupsStay}
 use Rattle.recovery.specs.Journaled.{FaultsAfter, GroupsGoOn, IsDurable, JournaledBy, MadeBy, OnDisk, OneCallIsMade, OneGroupIsMade, shown_on}
-use Rattle.journal_recorder.specs.Recording.{AreLeftOpen, RecordsAll, disk_of, has_failed, journal_of}
+use Rattle.journal_recorder.specs.Recording.{AllowsAll, AreLeftOpen, RecordsAll, disk_of, has_failed, journal_of, layout_of}
 use Rattle.journal_recorder.specs.declared.recorder.DiskRecorder.{DiskRecorder}
 use Rattle.durable_core.specs.Recorded.{IsOnDisk, IsRecorded, core_on}
 use Rattle.durable_core.proofs.Recording.{durable_from}
@@ -34,6 +37,8 @@ use Rattle.durable_core.proofs.Recording.{durable_from}
 pub record PhaseLaws {D : Type 0} (life : D → Life) : Type 0 where
   pub keep : BranchesKeep
   pub lead : BranchesLead
+  pub of_doubts : PhasesAreOfDoubts
+  pub known : PhasesAreKnown
   pub held : HeldForAll
   pub stay : GroupsStay
   pub calls : OneCallIsMade life
@@ -77,15 +82,34 @@ module _ {D : Type 0} (modelled : Bool) (life : D → Life) (name : List ℕ) (a
     as_many : length said ≡ length cs
     as_many = length-map cs (λ (c : BranchCall). record_in phase s.base.units c.xid)
 
-    holds_for : held_for (durable_part behind).doubts + released_by said ≡ held_for (durable_part s).doubts + held_by said
-    holds_for = all.held (durable_part s) (durable_part behind) said leads
+    abbrev hold : ℕ
+    hold = held_by (layout_of r) said
 
-    fit : (there : IsOnDisk modelled life name s r) → taken_by said + held_by said ≤ room_of (journal_of r) + released_by said
-        → length (laid there.entries) + taken_by said + 1 + held_for (durable_part behind).doubts ≤ (region_of (journal_of r)).length
-    fit there less = fits (region_of (journal_of r)).at (region_of (journal_of r)).length (length (laid there.entries)) (taken_by said) (held_by said) (released_by said) (held_of (journal_of r)) (held_for (durable_part behind).doubts) (room_of (journal_of r))
+    abbrev free : ℕ
+    free = released_by (layout_of r) said
+
+    known : AllByRecursion (IsKnown (layout_of r)) said
+    known = all.known (layout_of r) s phase cs
+
+    releases : ReleaseAll (layout_of r) (durable_part s) said
+    releases = (all.of_doubts (layout_of r) s phase cs is.kept may).1
+
+    pub allowed : AllowsAll modelled life r said
+    allowed = record {
+      going = going;
+      inside = is.inside;
+      released_is_held = subst (λ (n : ℕ). free ≤ n) (sym is.held) (all.of_doubts (layout_of r) s phase cs is.kept may).0;
+    }
+
+    holds_for : held_for (layout_of r) (durable_part behind).doubts + free ≡ held_for (layout_of r) (durable_part s).doubts + hold
+    holds_for = all.held (layout_of r) (durable_part s) (durable_part behind) said releases leads
+
+    fit : (there : IsOnDisk modelled life name s r) → taken_by said + hold ≤ room_of (journal_of r) + free
+        → length (laid there.entries) + taken_by said + 1 + held_for (layout_of r) (durable_part behind).doubts ≤ (region_of (journal_of r)).length
+    fit there less = fits (region_of (journal_of r)).at (region_of (journal_of r)).length (length (laid there.entries)) (taken_by said) hold free (held_of (journal_of r)) (held_for (layout_of r) (durable_part behind).doubts) (room_of (journal_of r))
         (ap (λ (n : ℕ). end_of (region_of (journal_of r)) - n - 1 - held_of (journal_of r)) there.settled.next)
         (subst (λ (n : ℕ). length (laid there.entries) + 1 + n ≤ (region_of (journal_of r)).length) (sym is.held) there.holds.room)
-        less (holds_for ∙ ap (λ (n : ℕ). n + held_by said) (sym is.held))
+        less (holds_for ∙ ap (λ (n : ℕ). n + hold) (sym is.held))
 
     made_for : (new : CoreState) (after : DiskRecorder D) → MadeBy (length said) said (shown_on life (core_on name s r)) (shown_on life (core_on name new after))
         → MadeBy (length cs) said (shown_on life (core_on name s r)) (shown_on life (core_on name new after))
@@ -94,7 +118,7 @@ module _ {D : Type 0} (modelled : Bool) (life : D → Life) (name : List ℕ) (a
     -- ---- the records are made
 
     module _ (after : DiskRecorder D) (made : RecordsAll modelled life r said after) where
-      less : taken_by said + held_by said ≤ room_of (journal_of r) + released_by said
+      less : taken_by said + hold ≤ room_of (journal_of r) + free
       less = omega (arith, made.room)
 
       on_disk : IsTrue modelled → IsOnDisk modelled life name behind after
@@ -105,27 +129,28 @@ module _ {D : Type 0} (modelled : Bool) (life : D → Life) (name : List ℕ) (a
           record {
             entries = there.entries ++ map entry_of said;
             settled = settled;
-            holds = subst (λ (g : Region). Holds name g (there.entries ++ map entry_of said) (durable_part behind) (life (disk_of after)).seen) (sym made.region)
-                (all.stay name (region_of (journal_of r)) there.entries (durable_part s) (durable_part behind) said (life (disk_of r)).seen (life (disk_of after)).seen
-                there.holds made.good leads (fit there less) made.others here);
+            holds = subst (λ (l : Layout). Holds name l (region_of (journal_of after)) (there.entries ++ map entry_of said) (durable_part behind) (life (disk_of after)).seen) (sym made.layout)
+                (subst (λ (g : Region). Holds name (layout_of r) g (there.entries ++ map entry_of said) (durable_part behind) (life (disk_of after)).seen) (sym made.region)
+                (all.stay name (layout_of r) (region_of (journal_of r)) there.entries (durable_part s) (durable_part behind) said (life (disk_of r)).seen (life (disk_of after)).seen
+                there.holds made.good known leads (fit there less) made.others here));
           }
 
       durable_after : IsTrue modelled → IsDurable (shown_on life (core_on name behind after))
       durable_after modelled_disk =
           let here = on_disk modelled_disk in
-          all.calls.durable (core_on name behind after) (region_of (journal_of after)) here.entries here.settled.durable here.holds
+          all.calls.durable (core_on name behind after) (layout_of after) (region_of (journal_of after)) here.entries here.settled.durable here.holds
 
       all_made : IsTrue modelled → MadeBy (length said) said (shown_on life (core_on name s r)) (shown_on life (core_on name behind after))
       all_made modelled_disk =
           let there = is.on_disk modelled_disk going in
-          all.groups (core_on name s r) (core_on name behind after) (region_of (journal_of r)) there.entries said
-          (durable_part behind) there.holds made.good leads (fit there less) (made.moments there.entries there.settled) refl (λ more. refl) (λ more. durable_after modelled_disk) made.made
+          all.groups (core_on name s r) (core_on name behind after) (layout_of r) (region_of (journal_of r)) there.entries said
+          (durable_part behind) there.holds made.good known leads (fit there less) (made.moments there.entries there.settled) refl (λ more. refl) (λ more. durable_after modelled_disk) made.made
 
       pub done_left : IsLeft (length cs) behind after
       done_left = record {
         recorded = record {
           kept = all.keep s phase cs is.kept may;
-          held = omega (arith, made.held, holds_for, is.held);
+          held = (let sum : held_of (journal_of after) ≡ held_for (layout_of r) (durable_part behind).doubts = omega (arith, made.held, holds_for, is.held) in sum) ∙ ap (λ (l : Layout). held_for l (durable_part behind).doubts) (sym made.layout);
           inside = subst (λ (g : Region). end_of g ≤ length (life (disk_of after)).seen) (sym made.region) (subst (λ (n : ℕ). end_of (region_of (journal_of r)) ≤ n) (sym made.others.size) is.inside);
           on_disk = λ modelled_disk still. on_disk modelled_disk;
         };
@@ -145,15 +170,15 @@ module _ {D : Type 0} (modelled : Bool) (life : D → Life) (name : List ℕ) (a
       left_made : IsTrue modelled → MadeBy (length said) said (shown_on life (core_on name s r)) (shown_on life (core_on name s after))
       left_made modelled_disk =
           let there = is.on_disk modelled_disk going in
-          all.groups (core_on name s r) (core_on name s after) (region_of (journal_of r)) there.entries said
-          (durable_part behind) there.holds left.good leads (fit there left.fits) (left.moments there.entries there.settled) refl
+          all.groups (core_on name s r) (core_on name s after) (layout_of r) (region_of (journal_of r)) there.entries said
+          (durable_part behind) there.holds left.good known leads (fit there left.fits) (left.moments there.entries there.settled) refl
           (λ more. absurd (false≢true (sym more ∙ left.failed))) (λ more. absurd (false≢true (sym more ∙ left.failed))) left.made
 
       pub open_left : IsLeft (length cs) s after
       open_left = record {
         recorded = record {
           kept = is.kept;
-          held = ap (λ (j : Journal). held_of j) left.journal ∙ is.held;
+          held = ap (λ (j : Journal). held_of j) left.journal ∙ is.held ∙ ap (λ (l : Layout). held_for l (durable_part s).doubts) (sym left.layout);
           inside = subst (λ (j : Journal). end_of (region_of j) ≤ length (life (disk_of after)).seen) (sym left.journal) (subst (λ (n : ℕ). end_of (region_of (journal_of r)) ≤ n) (sym left.others.size) is.inside);
           on_disk = λ modelled_disk still. absurd (false≢true (sym still ∙ left.failed));
         };

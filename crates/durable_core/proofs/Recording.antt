@@ -5,6 +5,7 @@ use Rattle.drda_disk.specs.Disk.{Life}
 use Rattle.drda_disk.specs.Region.{end_of}
 use Rattle.drda_disk.specs.declared.region.Region.{Region}
 use Rattle.drda_disk.proofs.Moments.{Stays-refl}
+use Rattle.half_store.specs.declared.header.Layout.{Layout}
 use Rattle.unit_journal.specs.Journal.{held_of, region_of, room_of}
 use Rattle.unit_journal.specs.declared.journal.Journal.{Journal}
 use Rattle.unit_journal.specs.Record.{laid}
@@ -12,11 +13,12 @@ use Rattle.unit_journal.specs.Stands.{Stands}
 use Rattle.unit_records.specs.Records.{UnitRecord, entry_of}
 use Rattle.unit_records.specs.Room.{held, released, taken}
 use Rattle.recovery.specs.Durable.{Durable, next}
+use Rattle.recovery.specs.Known.{IsKnown, Releases}
 use Rattle.recovery.specs.Laws.{HeldForDoubts, held_for}
 use Rattle.core_model.specs.Step.{CoreState}
 use Rattle.recovery.specs.Part.{durable_part}
 use Rattle.recovery.specs.Kept.{IsKept}
-use Rattle.journal_recorder.specs.Recording.{IsLeftOpen, Records, disk_of, has_failed, journal_of, made_of}
+use Rattle.journal_recorder.specs.Recording.{IsLeftOpen, Records, disk_of, has_failed, journal_of, layout_of, made_of}
 use Rattle.journal_recorder.specs.declared.recorder.DiskRecorder.{DiskRecorder}
 use Rattle.recovery.specs.Opens.{Holds}
 use Rattle.recovery.specs.ImageLaws.{RecordsStay}
@@ -49,13 +51,13 @@ module _ {D : Type 0} (modelled : Bool) (life : D → Life) (name : List ℕ) wh
   untouched r = record { stays = Stays-refl (life (disk_of r)); moment = refl; faults = refl }
 
   pub unchanged : (s : CoreState) (r : DiskRecorder D) → IsUnchanged (shown_on life (core_on name s r)) (shown_on life (core_on name s r))
-  unchanged s r = record { name = refl; state = refl; disk = untouched r; room = refl; is_failed = refl; made = refl }
+  unchanged s r = record { name = refl; state = refl; disk = untouched r; layout = refl; room = refl; is_failed = refl; made = refl }
 
   -- the core is durable until the device fails
   pub durable_from : OneCallIsMade life → (s : CoreState) (r : DiskRecorder D) → IsRecorded modelled life name s r → IsTrue modelled → has_failed r ≡ false → IsDurable (shown_on life (core_on name s r))
   durable_from made s r is modelled_disk going =
       let there = is.on_disk modelled_disk going in
-      made.durable (core_on name s r) (region_of (journal_of r)) there.entries there.settled.durable there.holds
+      made.durable (core_on name s r) (layout_of r) (region_of (journal_of r)) there.entries there.settled.durable there.holds
 
   module _ (laws : Laws life) (s : CoreState) (r : DiskRecorder D) (is : IsRecorded modelled life name s r) (going : has_failed r ≡ false) where
     -- ---- no record: nothing durable changes
@@ -77,32 +79,39 @@ module _ {D : Type 0} (modelled : Bool) (life : D → Life) (name : List ℕ) wh
       pub silent_recorded : IsKept new → IsRecorded modelled life name new r
       silent_recorded kept = record {
         kept = kept;
-        held = is.held ∙ ap (λ (d : Durable). held_for d.doubts) (sym same);
+        held = is.held ∙ ap (λ (d : Durable). held_for (layout_of r) d.doubts) (sym same);
         inside = is.inside;
         on_disk = λ modelled_disk still.
             let there = is.on_disk modelled_disk still in
             record {
               entries = there.entries;
               settled = there.settled;
-              holds = subst (λ (d : Durable). Holds name (region_of (journal_of r)) there.entries d (life (disk_of r)).seen) (sym same) there.holds;
+              holds = subst (λ (d : Durable). Holds name (layout_of r) (region_of (journal_of r)) there.entries d (life (disk_of r)).seen) (sym same) there.holds;
             };
       }
 
     -- ---- a record that leads to what is durable of the new state
 
-    module _ (new : CoreState) (said : UnitRecord) (leads : next (durable_part s) said ≡ Some (durable_part new)) where
-      holds_for : held_for (durable_part new).doubts + released said ≡ held_for (durable_part s).doubts + held said
-      holds_for = laws.held_for_doubts (durable_part s) (durable_part new) said leads
+    module _ (new : CoreState) (said : UnitRecord) (leads : next (durable_part s) said ≡ Some (durable_part new))
+        (known : IsOnDisk modelled life name s r → IsKnown (layout_of r) said) (releases : Releases (layout_of r) (durable_part s) said) where
+      abbrev hold : ℕ
+      hold = held (layout_of r) said
 
-      fit : (there : IsOnDisk modelled life name s r) → taken said + held said ≤ room_of (journal_of r) + released said
-          → length (laid there.entries) + taken said + 1 + held_for (durable_part new).doubts ≤ (region_of (journal_of r)).length
-      fit there less = fits (region_of (journal_of r)).at (region_of (journal_of r)).length (length (laid there.entries)) (taken said) (held said) (released said) (held_of (journal_of r)) (held_for (durable_part new).doubts) (room_of (journal_of r))
+      abbrev free : ℕ
+      free = released (layout_of r) said
+
+      holds_for : held_for (layout_of r) (durable_part new).doubts + free ≡ held_for (layout_of r) (durable_part s).doubts + hold
+      holds_for = laws.held_for_doubts (layout_of r) (durable_part s) (durable_part new) said releases leads
+
+      fit : (there : IsOnDisk modelled life name s r) → taken said + hold ≤ room_of (journal_of r) + free
+          → length (laid there.entries) + taken said + 1 + held_for (layout_of r) (durable_part new).doubts ≤ (region_of (journal_of r)).length
+      fit there less = fits (region_of (journal_of r)).at (region_of (journal_of r)).length (length (laid there.entries)) (taken said) hold free (held_of (journal_of r)) (held_for (layout_of r) (durable_part new).doubts) (room_of (journal_of r))
           (ap (λ (n : ℕ). end_of (region_of (journal_of r)) - n - 1 - held_of (journal_of r)) there.settled.next)
           (subst (λ (n : ℕ). length (laid there.entries) + 1 + n ≤ (region_of (journal_of r)).length) (sym is.held) there.holds.room)
-          less (holds_for ∙ ap (λ (n : ℕ). n + held said) (sym is.held))
+          less (holds_for ∙ ap (λ (n : ℕ). n + hold) (sym is.held))
 
       module _ (after : DiskRecorder D) (made : Records modelled life r said after) where
-        less : taken said + held said ≤ room_of (journal_of r) + released said
+        less : taken said + hold ≤ room_of (journal_of r) + free
         less = omega (arith, made.room)
 
         record_on_disk : IsTrue modelled → IsOnDisk modelled life name new after
@@ -113,21 +122,22 @@ module _ {D : Type 0} (modelled : Bool) (life : D → Life) (name : List ℕ) wh
             record {
               entries = there.entries ++ entry_of said ∷ [];
               settled = settled;
-              holds = subst (λ (g : Region). Holds name g (there.entries ++ entry_of said ∷ []) (durable_part new) (life (disk_of after)).seen) (sym made.region)
-                  (laws.records_stay name (region_of (journal_of r)) there.entries (durable_part s) (durable_part new) said (life (disk_of r)).seen (life (disk_of after)).seen
-                  there.holds made.good leads (fit there less) made.others here);
+              holds = subst (λ (l : Layout). Holds name l (region_of (journal_of after)) (there.entries ++ entry_of said ∷ []) (durable_part new) (life (disk_of after)).seen) (sym made.layout)
+                  (subst (λ (g : Region). Holds name (layout_of r) g (there.entries ++ entry_of said ∷ []) (durable_part new) (life (disk_of after)).seen) (sym made.region)
+                  (laws.records_stay name (layout_of r) (region_of (journal_of r)) there.entries (durable_part s) (durable_part new) said (life (disk_of r)).seen (life (disk_of after)).seen
+                  there.holds made.good (known there) leads (fit there less) made.others here));
             }
 
         durable_after : IsTrue modelled → IsDurable (shown_on life (core_on name new after))
         durable_after modelled_disk =
             let here = record_on_disk modelled_disk in
-            laws.calls_made.durable (core_on name new after) (region_of (journal_of after)) here.entries here.settled.durable here.holds
+            laws.calls_made.durable (core_on name new after) (layout_of after) (region_of (journal_of after)) here.entries here.settled.durable here.holds
 
         record_made : IsTrue modelled → Made (said ∷ []) (shown_on life (core_on name s r)) (shown_on life (core_on name new after))
         record_made modelled_disk =
             let there = is.on_disk modelled_disk going in
-            laws.calls_made.recorded (core_on name s r) (core_on name new after) (region_of (journal_of r)) there.entries said
-            (durable_part new) there.holds made.good leads (fit there less) (made.moments there.entries there.settled) refl (λ more. refl) (λ more. durable_after modelled_disk) made.made
+            laws.calls_made.recorded (core_on name s r) (core_on name new after) (layout_of r) (region_of (journal_of r)) there.entries said
+            (durable_part new) there.holds made.good (known there) leads (fit there less) (made.moments there.entries there.settled) refl (λ more. refl) (λ more. durable_after modelled_disk) made.made
 
         pub record_journaled : Journaled modelled (shown_on life (core_on name s r)) (shown_on life (core_on name new after))
         record_journaled = record {
@@ -142,7 +152,7 @@ module _ {D : Type 0} (modelled : Bool) (life : D → Life) (name : List ℕ) wh
         pub record_recorded : IsKept new → IsRecorded modelled life name new after
         record_recorded kept = record {
           kept = kept;
-          held = omega (arith, made.held, holds_for, is.held);
+          held = (let sum : held_of (journal_of after) ≡ held_for (layout_of r) (durable_part new).doubts = omega (arith, made.held, holds_for, is.held) in sum) ∙ ap (λ (l : Layout). held_for l (durable_part new).doubts) (sym made.layout);
           inside = subst (λ (g : Region). end_of g ≤ length (life (disk_of after)).seen) (sym made.region) (subst (λ (n : ℕ). end_of (region_of (journal_of r)) ≤ n) (sym made.others.size) is.inside);
           on_disk = λ modelled_disk still. record_on_disk modelled_disk;
         }
@@ -153,8 +163,8 @@ module _ {D : Type 0} (modelled : Bool) (life : D → Life) (name : List ℕ) wh
         left_made : IsTrue modelled → Made (said ∷ []) (shown_on life (core_on name s r)) (shown_on life (core_on name s after))
         left_made modelled_disk =
             let there = is.on_disk modelled_disk going in
-            laws.calls_made.recorded (core_on name s r) (core_on name s after) (region_of (journal_of r)) there.entries said
-            (durable_part new) there.holds left.good leads (fit there left.fits) (left.moments there.entries there.settled) refl
+            laws.calls_made.recorded (core_on name s r) (core_on name s after) (layout_of r) (region_of (journal_of r)) there.entries said
+            (durable_part new) there.holds left.good (known there) leads (fit there left.fits) (left.moments there.entries there.settled) refl
             (λ more. absurd (false≢true (sym more ∙ left.failed))) (λ more. absurd (false≢true (sym more ∙ left.failed))) left.made
 
         pub left_journaled : Journaled modelled (shown_on life (core_on name s r)) (shown_on life (core_on name s after))
@@ -170,7 +180,7 @@ module _ {D : Type 0} (modelled : Bool) (life : D → Life) (name : List ℕ) wh
         pub left_recorded : IsRecorded modelled life name s after
         left_recorded = record {
           kept = is.kept;
-          held = ap (λ (j : Journal). held_of j) left.journal ∙ is.held;
+          held = ap (λ (j : Journal). held_of j) left.journal ∙ is.held ∙ ap (λ (l : Layout). held_for l (durable_part s).doubts) (sym left.layout);
           inside = subst (λ (j : Journal). end_of (region_of j) ≤ length (life (disk_of after)).seen) (sym left.journal) (subst (λ (n : ℕ). end_of (region_of (journal_of r)) ≤ n) (sym left.others.size) is.inside);
           on_disk = λ modelled_disk still. absurd (false≢true (sym still ∙ left.failed));
         }

@@ -12,14 +12,15 @@ use Rattle.core_model.specs.Step.{CoreState, answer, step_state}
 use Rattle.unit_records.specs.Due.{record_due}
 use Rattle.unit_records.specs.declared.record_error.RecordError.{RecordError}
 use Rattle.unit_records.specs.declared.record_error.RecordError.TheVariants as error
+use Rattle.recovery.specs.Known.{IsKnown, Releases}
 use Rattle.recovery.specs.Part.{durable_part}
-use Rattle.recovery.specs.StepLaws.{DecisionsAreOfDoubts, RecordsLead, SilentStepsStay, StepsKeep}
-use Rattle.journal_recorder.specs.Recording.{Allows, Fails, IsLeftOpen, Records, has_failed, journal_of, made_of}
+use Rattle.recovery.specs.StepLaws.{DecisionsAreOfDoubts, DueAreKnown, RecordsLead, SilentStepsStay, StepsKeep}
+use Rattle.journal_recorder.specs.Recording.{Allows, Fails, IsLeftOpen, Records, has_failed, journal_of, layout_of, made_of}
 use Rattle.journal_recorder.specs.declared.recorder.DiskRecorder.{DiskRecorder}
 use Rattle.recovery.specs.Journaled.{Journaled, shown_on}
 use Rattle.rdb_core.specs.Recorded as told
 use Rattle.rdb_core.specs.Steps as core
-use Rattle.durable_core.specs.Recorded.{IsRecorded, core_on}
+use Rattle.durable_core.specs.Recorded.{IsOnDisk, IsRecorded, core_on}
 use Rattle.durable_core.specs.Steps.{IsClosed, MayWantMemory, RoomAfter, Steps, due_entries}
 use Rattle.durable_core.proofs.Recording.{Laws, left_journaled, left_recorded, record_journaled, record_recorded, silent_journaled, silent_recorded, unchanged}
 
@@ -29,6 +30,7 @@ pub record StepLaws {D : Type 0} (life : D → Life) : Type 0 where
   pub silent : SilentStepsStay
   pub lead : RecordsLead
   pub of_doubts : DecisionsAreOfDoubts
+  pub known : DueAreKnown
   pub laws : Laws life
 
 module _ {D : Type 0} (modelled : Bool) (life : D → Life) (name : List ℕ) where
@@ -49,7 +51,7 @@ module _ {D : Type 0} (modelled : Bool) (life : D → Life) (name : List ℕ) wh
       allowed said due = record {
         going = going;
         inside = is.inside;
-        released_is_held = subst (λ (n : ℕ). released said ≤ n) (sym is.held) (all.of_doubts s conversation k said is.kept due);
+        released_is_held = subst (λ (n : ℕ). released (layout_of r) said ≤ n) (sym is.held) (all.of_doubts (layout_of r) s conversation k said is.kept due).0;
       }
 
       -- ---- no record
@@ -63,7 +65,8 @@ module _ {D : Type 0} (modelled : Bool) (life : D → Life) (name : List ℕ) wh
               going = going;
               answer_is = refl;
               state = refl;
-              room = subst (λ (o : Option UnitRecord). RoomAfter o (room_of (journal_of r)) (room_of (journal_of r))) (sym none) refl;
+              layout = refl;
+              room = subst (λ (o : Option UnitRecord). RoomAfter (layout_of r) o (room_of (journal_of r)) (room_of (journal_of r))) (sym none) refl;
               faults = refl;
               still = going;
               made = sym (append-nil (made_of r)) ∙ ap (λ (o : Option UnitRecord). made_of r ++ due_entries o) (sym none);
@@ -84,25 +87,32 @@ module _ {D : Type 0} (modelled : Bool) (life : D → Life) (name : List ℕ) wh
         leads : next (durable_part s) said ≡ Some (durable_part (step_state s conversation k))
         leads = all.lead s conversation k said is.kept due
 
+        known : IsOnDisk modelled life name s r → IsKnown (layout_of r) said
+        known there = all.known (layout_of r) there.holds.checkpoint there.entries s conversation k said there.holds.known there.holds.leads is.kept due
+
+        releases : Releases (layout_of r) (durable_part s) said
+        releases = (all.of_doubts (layout_of r) s conversation k said is.kept due).1
+
         recorded_step : (after : DiskRecorder D) → Records modelled life r said after → IsDone s r conversation k (answer s.branches s.base conversation k) (step_state s conversation k) after
         recorded_step after made = record {
-          recorded = record_recorded modelled life name all.laws s r is going (step_state s conversation k) said leads after made (all.keep s conversation k is.kept);
+          recorded = record_recorded modelled life name all.laws s r is going (step_state s conversation k) said leads known releases after made (all.keep s conversation k is.kept);
           steps = inl (record {
             going = going;
             answer_is = refl;
             state = refl;
-            room = subst (λ (o : Option UnitRecord). RoomAfter o (room_of (journal_of r)) (room_of (journal_of after))) (sym due) made.room;
+            layout = made.layout;
+            room = subst (λ (o : Option UnitRecord). RoomAfter (layout_of r) o (room_of (journal_of r)) (room_of (journal_of after))) (sym due) made.room;
             faults = made.faults;
             still = made.going;
             made = made.made ∙ ap (λ (o : Option UnitRecord). made_of r ++ due_entries o) (sym due);
           });
-          journaled = record_journaled modelled life name all.laws s r is going (step_state s conversation k) said leads after made;
+          journaled = record_journaled modelled life name all.laws s r is going (step_state s conversation k) said leads known releases after made;
         }
 
         -- the device failed
         failed_step : (after : DiskRecorder D) → IsLeftOpen modelled life r said after → IsDone s r conversation k (told.refusal_answer error.DeviceFailed) s after
         failed_step after left = record {
-          recorded = left_recorded modelled life name all.laws s r is going (step_state s conversation k) said leads after left;
+          recorded = left_recorded modelled life name all.laws s r is going (step_state s conversation k) said leads known releases after left;
           steps = inr (inr (inr (inl (record {
             going = going;
             record_is = said;
@@ -110,12 +120,13 @@ module _ {D : Type 0} (modelled : Bool) (life : D → Life) (name : List ℕ) wh
             answer_is = refl;
             name = refl;
             state = refl;
+            layout = left.layout;
             room = ap (λ (j : Journal). room_of j) left.journal;
             faults = left.faults;
             failed = left.failed;
             made = left.made;
           }))));
-          journaled = left_journaled modelled life name all.laws s r is going (step_state s conversation k) said leads after left;
+          journaled = left_journaled modelled life name all.laws s r is going (step_state s conversation k) said leads known releases after left;
         }
 
         some_is_due : record_due s conversation k ≡ None → ⊥
@@ -125,8 +136,8 @@ module _ {D : Type 0} (modelled : Bool) (life : D → Life) (name : List ℕ) wh
         refused_by : (fault : RecordError) (after : DiskRecorder D) → Fails modelled life r said fault after → IsDone s r conversation k (told.refusal_answer fault) s after
         refused_by error.NoMemory after same = subst (λ (x : DiskRecorder D). IsDone s r conversation k no_memory s x) (sym same) (out_of_memory (inr some_is_due))
         refused_by (error.Full need room) after no_room =
-            let at_need : told.refusal_answer (error.Full need room) ≡ told.refusal_answer (error.Full (min (taken said + held said - released said) (2 ^ 64 - 1)) (room_of (journal_of r)))
-            = ap (λ (n : ℕ). told.refusal_answer (error.Full n room)) no_room.1.need_is ∙ ap (λ (n : ℕ). told.refusal_answer (error.Full (min (taken said + held said - released said) (2 ^ 64 - 1)) n)) no_room.1.room_is in
+            let at_need : told.refusal_answer (error.Full need room) ≡ told.refusal_answer (error.Full (min (taken said + held (layout_of r) said - released (layout_of r) said) (2 ^ 64 - 1)) (room_of (journal_of r)))
+            = ap (λ (n : ℕ). told.refusal_answer (error.Full n room)) no_room.1.need_is ∙ ap (λ (n : ℕ). told.refusal_answer (error.Full (min (taken said + held (layout_of r) said - released (layout_of r) said) (2 ^ 64 - 1)) n)) no_room.1.room_is in
             subst (λ (x : DiskRecorder D). IsDone s r conversation k (told.refusal_answer (error.Full need room)) s x) (sym no_room.0) (record {
               recorded = is;
               steps = inr (inr (inl (record { going = going; record_is = said; due = due; answer_is = at_need; less = no_room.1.less; same = unchanged modelled life name s r })));

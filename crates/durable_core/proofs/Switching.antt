@@ -1,5 +1,5 @@
--- What a checkpoint leaves: at each moment the same tables and units in doubt.
-use Rattle.std.proofs.Common.{◌≡◌, ◌⊎◌, inl, inr, ℕ, ◌+◌, ◌-◌, ◌≤◌, Bool, true, false, IsTrue, List, [], length, map, refl, sym, ◌∙◌, ap, subst, arith, append-nil}
+-- What a checkpoint leaves: at each moment the same tables and branches in doubt.
+use Rattle.std.proofs.Common.{◌≡◌, ◌⊎◌, inl, inr, ℕ, ◌+◌, ◌-◌, ◌≤◌, Bool, true, false, IsTrue, List, [], ◌∷◌, length, map, refl, sym, ◌∙◌, ap, subst, arith, append-nil}
 use Rattle.std.proofs.lemmas.Bool.{false≢true}
 use Rattle.drda_disk.specs.Disk.{LeavesOnly, Life}
 use Rattle.drda_disk.specs.Region.{end_of}
@@ -7,10 +7,12 @@ use Rattle.drda_disk.specs.declared.region.Region.{Region}
 use Rattle.drda_disk.proofs.Moments.{Stays-refl, weaker}
 use Rattle.half_store.specs.Active.{Store, active_of}
 use Rattle.half_store.specs.Layout.{half_len, other_than}
+use Rattle.half_store.specs.declared.header.Layout.{Layout}
+use Rattle.half_store.specs.declared.header.Layout.TheVariants.{Two}
 use Rattle.half_store.specs.declared.layout.Half.{Half}
 use Rattle.half_store.specs.declared.layout.Half.TheVariants.{First, Second}
 use Rattle.tables.specs.Tables.{Store as Tables}
-use Rattle.unit_journal.specs.Journal.{IsSettled, region_of}
+use Rattle.unit_journal.specs.Journal.{IsSettled, held_of, region_of}
 use Rattle.unit_journal.specs.declared.journal.Journal.{Journal}
 use Rattle.unit_journal.specs.Record.{Entry}
 use Rattle.unit_journal.specs.Stands.{StandsFrom}
@@ -21,17 +23,18 @@ use Rattle.checkpoints.specs.Holds.{half_end, journal_at}
 use Rattle.checkpoints.specs.Moment.{IsNew, IsOld, Moment, MomentsHold, Rests}
 use Rattle.recovery.specs.Durable.{Durable, at_checkpoint}
 use Rattle.recovery.specs.Journal.{AreGood, Leads}
+use Rattle.recovery.specs.Known.{AreKnown}
 use Rattle.recovery.specs.Laws.{held_for}
-use Rattle.recovery.specs.Laying.{DoubtsAreLaid, are_placed, prepares_of}
+use Rattle.recovery.specs.Laying.{DoubtsAreLaid, are_placed, records_of}
 use Rattle.recovery.specs.Sound.{IsSound, LeadsAreSound}
-use Rattle.recovery.proofs.Laying.{prepares_good}
+use Rattle.recovery.proofs.Laying.{records_good}
 use Rattle.core_model.specs.Step.{CoreState}
 use Rattle.recovery.specs.Part.{durable_part}
 use Rattle.recovery.specs.Opens.{Holds, IsJournal, OpensTo}
 use Rattle.recovery.specs.Journaled.{FaultsAfter, Journaled, Made, OneCallIsMade, OpensAfterSome, shown_on}
 use Rattle.recovery.proofs.Reading.{active_sized, half_large, one_store}
 use Rattle.journal_recorder.specs.Checkpointing.{IsSwitched, KeepsOld, LeavesOldOrNew, LeavesOpen, Switches}
-use Rattle.journal_recorder.specs.Recording.{disk_of, has_failed, journal_of, made_of}
+use Rattle.journal_recorder.specs.Recording.{disk_of, has_failed, journal_of, layout_of, made_of}
 use Rattle.journal_recorder.specs.declared.recorder.DiskRecorder.{DiskRecorder}
 use Rattle.durable_core.specs.Recorded.{IsOnDisk, IsRecorded, core_on}
 use Rattle.durable_core.proofs.Heads.{ends_in}
@@ -39,24 +42,33 @@ use Rattle.durable_core.proofs.Recording.{durable_from}
 
 -- ---- images
 
+-- all records are of layout 2
+known_in_two : (es : List Entry) → AreKnown Two es
+known_in_two [] = tt
+known_in_two (e ∷ es) = (refl, known_in_two es)
+
 -- what an image holds, it opens to
-opens_from : (store : Store) (tables : Tables) (es : List Entry) (held : ℕ) (file : List ℕ) (name : List ℕ) (d : Durable) → image.Holds store tables es held file → store.name ≡ name → Leads (at_checkpoint tables) es d → held ≡ held_for d.doubts → OpensTo name d file
-opens_from store tables es held file name d is named leads bytes =
+opens_from : (layout : Layout) (store : Store) (tables : Tables) (es : List Entry) (held : ℕ) (file : List ℕ) (name : List ℕ) (d : Durable) → image.Holds store tables es held file → store.name ≡ name → store.header.layout ≡ layout
+    → AreKnown layout es → Leads (at_checkpoint tables) es d → held ≡ held_for layout d.doubts → OpensTo name d file
+opens_from layout store tables es held file name d is named layout_is known leads bytes =
     let size : ℕ = length file in
     let large = half_large size (active_sized file store is.active) in
     let ends : half_end size store ≤ size = ends_in (half_len size) size store.half large.1 in
     let region : Region = record { at = journal_at size store; length = half_end size store - journal_at size store; ends = omega (arith, is.room, ends, large.2) } in
     let last : end_of region ≡ half_end size store = omega (arith, is.room) in (
+      layout,
       region,
       es,
       record {
         store = store;
         active = is.active;
         named = named;
+        layout_is = layout_is;
         journal = record { begins = refl; ends = last };
         checkpoint = tables;
         pages = is.pages;
         stands = subst (λ (n : ℕ). StandsFrom (journal_at size store) n es file) (sym last) is.stands;
+        known = known;
         leads = leads;
         room = omega (arith, is.room, bytes);
       },
@@ -75,8 +87,8 @@ never_other : (h : Half) → h ≡ other_than h → ⊥
 never_other First same = absurd cc
 never_other Second same = absurd cc
 
-module _ (moments : MomentsHold) (name : List ℕ) (region : Region) (es : List Entry) (d : Durable) (seen : List ℕ) (was : Holds name region es d seen) where
-  held_there : image.Holds was.store was.checkpoint es (held_for d.doubts) seen
+module _ (moments : MomentsHold) (name : List ℕ) (layout : Layout) (region : Region) (es : List Entry) (d : Durable) (seen : List ℕ) (was : Holds name layout region es d seen) where
+  held_there : image.Holds was.store was.checkpoint es (held_for layout d.doubts) seen
   held_there = record {
     active = was.active;
     pages = was.pages;
@@ -85,32 +97,34 @@ module _ (moments : MomentsHold) (name : List ℕ) (region : Region) (es : List 
   }
 
   module _ (fs : List Entry) where
-    after : (file : List ℕ) → Moment seen was.store d.store fs (held_for d.doubts) file → image.Holds was.store was.checkpoint es (held_for d.doubts) file ⊎ IsNew seen was.store d.store fs (held_for d.doubts) file
-    after file m = moments seen was.store was.checkpoint d.store es fs (held_for d.doubts) (held_for d.doubts) file held_there m
+    after : (file : List ℕ) → Moment seen was.store d.store fs (held_for Two d.doubts) file → image.Holds was.store was.checkpoint es (held_for layout d.doubts) file ⊎ IsNew seen was.store d.store fs (held_for Two d.doubts) file
+    after file m = moments seen was.store was.checkpoint d.store es fs (held_for layout d.doubts) (held_for Two d.doubts) file held_there m
 
     -- at each moment it opens to the same
-    moment_opens : Leads (at_checkpoint d.store) fs d → (file : List ℕ) → Moment seen was.store d.store fs (held_for d.doubts) file → OpensTo name d file
+    moment_opens : Leads (at_checkpoint d.store) fs d → (file : List ℕ) → Moment seen was.store d.store fs (held_for Two d.doubts) file → OpensTo name d file
     moment_opens leads file m = by_half (after file m)
       where
-        by_half : image.Holds was.store was.checkpoint es (held_for d.doubts) file ⊎ IsNew seen was.store d.store fs (held_for d.doubts) file → OpensTo name d file
-        by_half (inl h) = opens_from was.store was.checkpoint es (held_for d.doubts) file name d h was.named was.leads refl
-        by_half (inr n) = opens_from n.new d.store fs (held_for d.doubts) file name d n.holds (n.name ∙ was.named) leads refl
+        by_half : image.Holds was.store was.checkpoint es (held_for layout d.doubts) file ⊎ IsNew seen was.store d.store fs (held_for Two d.doubts) file → OpensTo name d file
+        by_half (inl h) = opens_from layout was.store was.checkpoint es (held_for layout d.doubts) file name d h was.named was.layout_is was.known was.leads refl
+        by_half (inr n) = opens_from Two n.new d.store fs (held_for Two d.doubts) file name d n.holds (n.name ∙ was.named) n.layout (known_in_two fs) leads refl
 
     -- the old half goes on
-    kept_there : (file : List ℕ) → IsOld seen was.store file → Holds name region es d file
+    kept_there : (file : List ℕ) → IsOld seen was.store file → Holds name layout region es d file
     kept_there file old = by_half (after file (inl old))
       where
-        by_half : image.Holds was.store was.checkpoint es (held_for d.doubts) file ⊎ IsNew seen was.store d.store fs (held_for d.doubts) file → Holds name region es d file
+        by_half : image.Holds was.store was.checkpoint es (held_for layout d.doubts) file ⊎ IsNew seen was.store d.store fs (held_for Two d.doubts) file → Holds name layout region es d file
         by_half (inl h) =
             let journal : IsJournal (length file) was.store region = subst (λ (n : ℕ). IsJournal n was.store region) (sym old.others.size) was.journal in
             record {
               store = was.store;
               active = h.active;
               named = was.named;
+              layout_is = was.layout_is;
               journal = journal;
               checkpoint = was.checkpoint;
               pages = h.pages;
               stands = to_region (length file) was.store region es file journal h.stands;
+              known = was.known;
               leads = was.leads;
               room = was.room;
             }
@@ -119,17 +133,19 @@ module _ (moments : MomentsHold) (name : List ℕ) (region : Region) (es : List 
             absurd (never_other was.store.half (ap (λ (x : Store). x.half) same ∙ n.half))
 
     -- the new half is there
-    switched_there : Leads (at_checkpoint d.store) fs d → (modelled : Bool) (disk : Life) (journal : Journal) → IsSwitched modelled disk seen was.store d.store fs (held_for d.doubts) journal → Holds name (region_of journal) fs d disk.seen
+    switched_there : Leads (at_checkpoint d.store) fs d → (modelled : Bool) (disk : Life) (journal : Journal) → IsSwitched modelled disk seen was.store d.store fs (held_for Two d.doubts) journal → Holds name Two (region_of journal) fs d disk.seen
     switched_there leads modelled disk journal s =
         let there : IsJournal (length disk.seen) s.is.new (region_of journal) = record { begins = s.begins; ends = s.ends } in
         record {
           store = s.is.new;
           active = s.is.holds.active;
           named = s.is.name ∙ was.named;
+          layout_is = s.is.layout;
           journal = there;
           checkpoint = d.store;
           pages = s.is.holds.pages;
           stands = to_region (length disk.seen) s.is.new (region_of journal) fs disk.seen there s.is.holds.stands;
+          known = known_in_two fs;
           leads = leads;
           room = omega (arith, s.is.holds.room, s.begins, s.ends);
         }
@@ -144,12 +160,10 @@ pub record Laws : Type 0 where
   pub stores : CheckpointsAreStores
 
 module _ {D : Type 0} (modelled : Bool) (life : D → Life) (name : List ℕ) (laws : Laws) (s : CoreState) (r : DiskRecorder D) (is : IsRecorded modelled life name s r) (going : has_failed r ≡ false)
-    (fs : List Entry) (are : fs ≡ map entry_of (prepares_of (durable_part s).doubts)) (placed : AreGood (prepares_of (durable_part s).doubts) → are_placed (durable_part s).doubts s.base.store ≡ true) where
+    (fs : List Entry) (are : fs ≡ map entry_of (records_of (durable_part s).doubts)) (placed : AreGood (records_of (durable_part s).doubts) → are_placed (durable_part s).doubts s.base.store ≡ true)
+    (hold : ℕ) (bytes : hold ≡ held_for Two (durable_part s).doubts) where
   abbrev tables : Tables
   tables = s.base.store
-
-  abbrev bytes : ℕ
-  bytes = held_for (durable_part s).doubts
 
   there : IsTrue modelled → IsOnDisk modelled life name s r
   there m = is.on_disk m going
@@ -158,22 +172,22 @@ module _ {D : Type 0} (modelled : Bool) (life : D → Life) (name : List ℕ) (l
   leads m =
       let h = (there m).holds in
       let sound : IsSound (durable_part s) = laws.sound h.checkpoint (durable_part s) (there m).entries (laws.stores (life (disk_of r)).seen (half_pages (length (life (disk_of r)).seen) h.store) h.checkpoint h.pages) h.leads in
-      subst (λ (l : List Entry). Leads (at_checkpoint tables) l (durable_part s)) (sym are) (laws.laid.leads (durable_part s) sound (placed (prepares_good (durable_part s).doubts sound.good)))
+      subst (λ (l : List Entry). Leads (at_checkpoint tables) l (durable_part s)) (sym are) (laws.laid.leads (durable_part s) sound (placed (records_good (durable_part s).doubts sound.good)))
 
   rests : (m : IsTrue modelled) → Rests modelled (life (disk_of r)) (there m).holds.store
   rests m = record { modelled_disk = m; durable = (there m).settled.durable; active = (there m).holds.active }
 
-  moments : (new : DiskRecorder D) → LeavesOldOrNew modelled life r tables fs new → (m : IsTrue modelled) → LeavesOnly (life (disk_of r)) (life (disk_of new)) (OpensTo name (durable_part s))
+  moments : (new : DiskRecorder D) → LeavesOldOrNew modelled life r tables fs hold new → (m : IsTrue modelled) → LeavesOnly (life (disk_of r)) (life (disk_of new)) (OpensTo name (durable_part s))
   moments new leaves m =
       let h = (there m).holds in
       weaker (life (disk_of r)) (life (disk_of new)) _ _
-      (subst (λ (n : ℕ). LeavesOnly (life (disk_of r)) (life (disk_of new)) (Moment (life (disk_of r)).seen h.store tables fs n)) is.held (leaves h.store (rests m)))
-      (moment_opens laws.moments name (region_of (journal_of r)) (there m).entries (durable_part s) (life (disk_of r)).seen h fs (leads m))
+      (subst (λ (n : ℕ). LeavesOnly (life (disk_of r)) (life (disk_of new)) (Moment (life (disk_of r)).seen h.store tables fs n)) bytes (leaves h.store (rests m)))
+      (moment_opens laws.moments name (layout_of r) (region_of (journal_of r)) (there m).entries (durable_part s) (life (disk_of r)).seen h fs (leads m))
 
   opens_here : (c : List ℕ) → OpensTo name (durable_part s) c → OpensAfterSome name (durable_part s) [] c
   opens_here c opens = record { count = 0; state = durable_part s; leads = refl; opens = opens }
 
-  made : (new : DiskRecorder D) → LeavesOldOrNew modelled life r tables fs new → made_of new ≡ made_of r → IsTrue modelled → Made [] (shown_on life (core_on name s r)) (shown_on life (core_on name s new))
+  made : (new : DiskRecorder D) → LeavesOldOrNew modelled life r tables fs hold new → made_of new ≡ made_of r → IsTrue modelled → Made [] (shown_on life (core_on name s r)) (shown_on life (core_on name s new))
   made new leaves same m =
       let all = moments new leaves m in
       record {
@@ -184,7 +198,7 @@ module _ {D : Type 0} (modelled : Bool) (life : D → Life) (name : List ℕ) (l
         made = same ∙ sym (append-nil (made_of r));
       }
 
-  pub journaled : (new : DiskRecorder D) → LeavesOldOrNew modelled life r tables fs new → made_of new ≡ made_of r → FaultsAfter (has_failed new) (life (disk_of r)).faults (life (disk_of new)).faults
+  pub journaled : (new : DiskRecorder D) → LeavesOldOrNew modelled life r tables fs hold new → made_of new ≡ made_of r → FaultsAfter (has_failed new) (life (disk_of r)).faults (life (disk_of new)).faults
       → Journaled modelled (shown_on life (core_on name s r)) (shown_on life (core_on name s new))
   journaled new leaves same faults = record {
     name = refl;
@@ -195,18 +209,19 @@ module _ {D : Type 0} (modelled : Bool) (life : D → Life) (name : List ℕ) (l
     records = λ m still. ([], made new leaves same m);
   }
 
-  pub switched : (new : DiskRecorder D) → Switches modelled life r tables fs new → IsRecorded modelled life name s new
+  pub switched : (new : DiskRecorder D) → Switches modelled life r tables fs hold new → IsRecorded modelled life name s new
   switched new w = record {
     kept = is.kept;
-    held = w.stays.held ∙ is.held;
+    held = w.held ∙ bytes ∙ ap (λ (l : Layout). held_for l (durable_part s).doubts) (sym w.layout);
     inside = w.inside;
     on_disk = λ m still.
         let h = (there m).holds in
-        let after = subst (λ (n : ℕ). IsSwitched modelled (life (disk_of new)) (life (disk_of r)).seen h.store tables fs n (journal_of new)) is.held (w.switched h.store (rests m)) in
+        let after = subst (λ (n : ℕ). IsSwitched modelled (life (disk_of new)) (life (disk_of r)).seen h.store tables fs n (journal_of new)) bytes (w.switched h.store (rests m)) in
         record {
           entries = fs;
           settled = after.settled;
-          holds = switched_there laws.moments name (region_of (journal_of r)) (there m).entries (durable_part s) (life (disk_of r)).seen h fs (leads m) modelled (life (disk_of new)) (journal_of new) after;
+          holds = subst (λ (l : Layout). Holds name l (region_of (journal_of new)) fs (durable_part s) (life (disk_of new)).seen) (sym w.layout)
+              (switched_there laws.moments name (layout_of r) (region_of (journal_of r)) (there m).entries (durable_part s) (life (disk_of r)).seen h fs (leads m) modelled (life (disk_of new)) (journal_of new) after);
         };
   }
 
@@ -214,29 +229,33 @@ module _ {D : Type 0} (modelled : Bool) (life : D → Life) (name : List ℕ) (l
   inside_still new journal size =
       subst (λ (n : ℕ). end_of (region_of (journal_of new)) ≤ n) (sym size) (subst (λ (j : Journal). end_of (region_of j) ≤ length (life (disk_of r)).seen) (sym journal) is.inside)
 
-  pub kept : (new : DiskRecorder D) → KeepsOld modelled life r tables fs new → IsRecorded modelled life name s new
+  still_held : (new : DiskRecorder D) → journal_of new ≡ journal_of r → layout_of new ≡ layout_of r → held_of (journal_of new) ≡ held_for (layout_of new) (durable_part s).doubts
+  still_held new journal layout = ap (λ (j : Journal). held_of j) journal ∙ is.held ∙ ap (λ (l : Layout). held_for l (durable_part s).doubts) (sym layout)
+
+  pub kept : (new : DiskRecorder D) → KeepsOld modelled life r tables fs hold new → IsRecorded modelled life name s new
   kept new k = record {
     kept = is.kept;
-    held = k.stays.held ∙ is.held;
+    held = still_held new k.journal k.layout;
     inside = inside_still new k.journal k.stays.size;
     on_disk = λ m still.
         let h = (there m).holds in
         let old = (there m).settled in
         let goes = k.goes_on h.store (rests m) in
-        let holds : Holds name (region_of (journal_of r)) (there m).entries (durable_part s) (life (disk_of new)).seen =
-        kept_there laws.moments name (region_of (journal_of r)) (there m).entries (durable_part s) (life (disk_of r)).seen h fs (life (disk_of new)).seen goes.is in
+        let holds : Holds name (layout_of r) (region_of (journal_of r)) (there m).entries (durable_part s) (life (disk_of new)).seen =
+        kept_there laws.moments name (layout_of r) (region_of (journal_of r)) (there m).entries (durable_part s) (life (disk_of r)).seen h fs (life (disk_of new)).seen goes.is in
         record {
           entries = (there m).entries;
           settled = subst (λ (j : Journal). IsSettled modelled (life (disk_of new)) j (there m).entries) (sym k.journal)
               (record { modelled_disk = m; durable = goes.durable; stands = holds.stands; next = old.next });
-          holds = subst (λ (j : Journal). Holds name (region_of j) (there m).entries (durable_part s) (life (disk_of new)).seen) (sym k.journal) holds;
+          holds = subst (λ (l : Layout). Holds name l (region_of (journal_of new)) (there m).entries (durable_part s) (life (disk_of new)).seen) (sym k.layout)
+              (subst (λ (j : Journal). Holds name (layout_of r) (region_of j) (there m).entries (durable_part s) (life (disk_of new)).seen) (sym k.journal) holds);
         };
   }
 
-  pub left_open : (new : DiskRecorder D) → LeavesOpen modelled life r tables fs new → IsRecorded modelled life name s new
+  pub left_open : (new : DiskRecorder D) → LeavesOpen modelled life r tables fs hold new → IsRecorded modelled life name s new
   left_open new l = record {
     kept = is.kept;
-    held = l.stays.held ∙ is.held;
+    held = still_held new l.journal l.layout;
     inside = inside_still new l.journal l.stays.size;
     on_disk = λ m still. absurd (false≢true (sym still ∙ l.failed));
   }
@@ -252,23 +271,23 @@ module _ {D : Type 0} (modelled : Bool) (life : D → Life) (name : List ℕ) (l
     abbrev JournaledTo : CoreState → Type 0
     JournaledTo x = Journaled modelled (shown_on life (core_on name s r)) (shown_on life (core_on name x new))
 
-    pub switched_so : Switches modelled life r T fs new → IsRecorded modelled life name t new
-    switched_so w = subst (λ (x : CoreState). IsRecorded modelled life name x new) (sym same_state) (switched new (subst (λ (x : Tables). Switches modelled life r x fs new) same_tables w))
+    pub switched_so : Switches modelled life r T fs hold new → IsRecorded modelled life name t new
+    switched_so w = subst (λ (x : CoreState). IsRecorded modelled life name x new) (sym same_state) (switched new (subst (λ (x : Tables). Switches modelled life r x fs hold new) same_tables w))
 
-    pub switched_journaled : Switches modelled life r T fs new → JournaledTo t
+    pub switched_journaled : Switches modelled life r T fs hold new → JournaledTo t
     switched_journaled w =
-        subst JournaledTo (sym same_state) (journaled new (subst (λ (x : Tables). LeavesOldOrNew modelled life r x fs new) same_tables w.moments) w.stays.made (no_fault new w.going w.faults))
+        subst JournaledTo (sym same_state) (journaled new (subst (λ (x : Tables). LeavesOldOrNew modelled life r x fs hold new) same_tables w.moments) w.stays.made (no_fault new w.going w.faults))
 
-    pub kept_so : KeepsOld modelled life r T fs new → IsRecorded modelled life name t new
-    kept_so k = subst (λ (x : CoreState). IsRecorded modelled life name x new) (sym same_state) (kept new (subst (λ (x : Tables). KeepsOld modelled life r x fs new) same_tables k))
+    pub kept_so : KeepsOld modelled life r T fs hold new → IsRecorded modelled life name t new
+    kept_so k = subst (λ (x : CoreState). IsRecorded modelled life name x new) (sym same_state) (kept new (subst (λ (x : Tables). KeepsOld modelled life r x fs hold new) same_tables k))
 
-    pub kept_journaled : KeepsOld modelled life r T fs new → JournaledTo t
+    pub kept_journaled : KeepsOld modelled life r T fs hold new → JournaledTo t
     kept_journaled k =
-        subst JournaledTo (sym same_state) (journaled new (subst (λ (x : Tables). LeavesOldOrNew modelled life r x fs new) same_tables k.moments) k.stays.made (no_fault new k.going k.faults))
+        subst JournaledTo (sym same_state) (journaled new (subst (λ (x : Tables). LeavesOldOrNew modelled life r x fs hold new) same_tables k.moments) k.stays.made (no_fault new k.going k.faults))
 
-    pub open_journaled : LeavesOpen modelled life r T fs new → JournaledTo t
+    pub open_journaled : LeavesOpen modelled life r T fs hold new → JournaledTo t
     open_journaled l =
-        subst JournaledTo (sym same_state) (journaled new (subst (λ (x : Tables). LeavesOldOrNew modelled life r x fs new) same_tables l.moments) l.stays.made (one_fault new l.failed l.faults))
+        subst JournaledTo (sym same_state) (journaled new (subst (λ (x : Tables). LeavesOldOrNew modelled life r x fs hold new) same_tables l.moments) l.stays.made (one_fault new l.failed l.faults))
 
 -- nothing was done
 pub untouched_journaled : {D : Type 0} (modelled : Bool) (life : D → Life) (name : List ℕ) (made : OneCallIsMade life) (s t : CoreState) (r : DiskRecorder D) → IsRecorded modelled life name s r → has_failed r ≡ false → t ≡ s

@@ -1,5 +1,5 @@
 -- What is told of a store that is not opened.
-use Rattle.std.proofs.Common.{◌≡◌, inl, inr, ℕ, ◌+◌, ◌<◌, List, [], ◌∷◌, ◌++◌, length, Result, Ok, Err, sym, ◌∙◌, ap, subst, arith}
+use Rattle.std.proofs.Common.{◌≡◌, inl, inr, ℕ, ◌+◌, ◌<◌, List, [], ◌∷◌, ◌++◌, length, Result, Ok, Err, refl, sym, ◌∙◌, ap, subst, arith}
 use Rattle.std.specs.List.{AllByRecursion}
 use Rattle.std.proofs.lemmas.List.{map-append}
 use Rattle.drda_disk.specs.declared.region.Region.{Region}
@@ -17,14 +17,15 @@ use Rattle.unit_journal.specs.declared.record.Record.{Record}
 use Rattle.unit_journal.proofs.Spelling.{length-laid-cons}
 use Rattle.recovery.specs.Durable.{Doubts, Durable, at_checkpoint}
 use Rattle.recovery.specs.Journal.{Leads, StopsAt}
+use Rattle.recovery.specs.Known.{AreKnown}
 use Rattle.recovery.specs.Laws.{held_for}
-use Rattle.durable_core.specs.Damage.{HasJournal, HasNoRoom, IsDamagedAt, IsMisplaced, PreparesOne}
-use Rattle.durable_core.specs.Prepares.{NonePrepares, TellsLast}
+use Rattle.durable_core.specs.Damage.{HasJournal, HasNoRoom, HoldsForOne, IsDamagedAt, IsMisplaced}
+use Rattle.durable_core.specs.Holders.{NoneHolds, TellsLast}
 use Rattle.durable_core.specs.Reads.{IsHead, TellsDamage, TellsStore}
 use Rattle.durable_core.specs.declared.errors.OpenError.{OpenError}
 use Rattle.durable_core.specs.declared.errors.OpenError.TheVariants.{Damaged, DeviceFailed, NoMemory, NotAStore}
 use Rattle.durable_core.proofs.Parts.{same_pages}
-use Rattle.durable_core.proofs.Prepared.{none_held}
+use Rattle.durable_core.proofs.LeftInDoubt.{none_held}
 
 -- ---- what a part tells is told of the store
 
@@ -51,7 +52,7 @@ placed from (x ∷ before) behind here are =
 split : (records before behind : List Record) (here : Record) → records ≡ before ++ (here ∷ behind) → entries_of records ≡ entries_of before ++ (entry_of here ∷ entries_of behind)
 split records before behind here whole = ap (λ (l : List Record). entries_of l) whole ∙ map-append entry_of before (here ∷ behind)
 
-none_entries : (doubts : Doubts) (records : List Record) → NonePrepares doubts records → AllByRecursion (λ e. PreparesOne doubts e → ⊥) (entries_of records)
+none_entries : (doubts : Doubts) (records : List Record) → NoneHolds doubts records → AllByRecursion (λ e. HoldsForOne doubts e → ⊥) (entries_of records)
 none_entries doubts [] none = tt
 none_entries doubts (x ∷ records) none = (none.0, none_entries doubts records none.1)
 
@@ -60,29 +61,30 @@ module _ (image : List ℕ) (a : Active) (head : IsHead image a) where
   bad_page at bad = inr (inl (record { store = store_of a; active = head.active; bad = subst (λ (h : HalfPages). BreaksHalf forms image h at) (same_pages image a head) bad }))
 
 module _ (image : List ℕ) (a : Active) (head : IsHead image a) (tables : Tables) (laid_are : HasCheckpoint image (pages_of a) tables) where
-  has_journal : HasJournal image tables a.region
-  has_journal = record { store = store_of a; active = head.active; pages = subst (λ (h : HalfPages). HasCheckpoint image h tables) (same_pages image a head) laid_are; journal = head.journal }
+  has_journal : HasJournal image a.layout tables a.region
+  has_journal = record { store = store_of a; active = head.active; layout_is = refl; pages = subst (λ (h : HalfPages). HasCheckpoint image h tables) (same_pages image a head) laid_are; journal = head.journal }
 
   pub no_record : (at : ℕ) → HasNoRecord a.region at image → IsDamagedAt image at
-  no_record at there = inr (inr (tables, a.region, has_journal, inl there))
+  no_record at there = inr (inr (a.layout, tables, a.region, has_journal, inl there))
 
   module _ (records : List Record) (stands : Stands a.region (entries_of records) image) (placed_all : ArePlaced a.region.at records) where
-    pub misplaced : (at : ℕ) → StopsAt (at_checkpoint tables) records at → IsDamagedAt image at
+    pub misplaced : (at : ℕ) → StopsAt a.layout (at_checkpoint tables) records at → IsDamagedAt image at
     misplaced at s =
-        let is : IsMisplaced tables a.region image at = record {
+        let is : IsMisplaced a.layout tables a.region image at = record {
           before = entries_of s.before;
           here = entry_of s.here;
           behind = entries_of s.behind;
           stands = subst (λ (l : List Entry). Stands a.region l image) (split records s.before s.behind s.here s.whole) stands;
           state = s.state;
+          known = s.known;
           leads = s.leads;
           no_place = s.no_place;
           place = s.place ∙ placed a.region.at s.before s.behind s.here (subst (λ (l : List Record). ArePlaced a.region.at l) s.whole placed_all);
         } in
-        inr (inr (tables, a.region, has_journal, inr (inl is)))
+        inr (inr (a.layout, tables, a.region, has_journal, inr (inl is)))
 
-    module _ (d : Durable) (leads : Leads (at_checkpoint tables) (entries_of records) d) (short : a.region.length < length (laid (entries_of records)) + 1 + held_for d.doubts) where
-      last_one : (at : ℕ) → TellsLast d.doubts records at → HasNoRoom tables a.region image at
+    module _ (d : Durable) (known : AreKnown a.layout (entries_of records)) (leads : Leads (at_checkpoint tables) (entries_of records) d) (short : a.region.length < length (laid (entries_of records)) + 1 + held_for a.layout d.doubts) where
+      last_one : (at : ℕ) → TellsLast d.doubts records at → HasNoRoom a.layout tables a.region image at
       last_one at (inl p) =
           let parts = split records p.before p.behind p.here p.whole in
           record {
@@ -91,16 +93,17 @@ module _ (image : List ℕ) (a : Active) (head : IsHead image a) (tables : Table
             behind = entries_of p.behind;
             stands = subst (λ (l : List Entry). Stands a.region l image) parts stands;
             state = d;
+            known = subst (λ (l : List Entry). AreKnown a.layout l) parts known;
             leads = subst (λ (l : List Entry). Leads (at_checkpoint tables) l d) parts leads;
-            short = subst (λ (l : List Entry). a.region.length < length (laid l) + 1 + held_for d.doubts) parts short;
-            prepares = p.prepares;
+            short = subst (λ (l : List Entry). a.region.length < length (laid l) + 1 + held_for a.layout d.doubts) parts short;
+            holds = p.holds;
             none_behind = none_entries d.doubts p.behind p.none_behind;
             place = p.place ∙ placed a.region.at p.before p.behind p.here (subst (λ (l : List Record). ArePlaced a.region.at l) p.whole placed_all);
           }
-      last_one at (inr none) = absurd (omega (arith, short, stands.within, none_held tables d (entries_of records) leads (none_entries d.doubts records none)))
+      last_one at (inr none) = absurd (omega (arith, short, stands.within, none_held a.layout tables d (entries_of records) leads (none_entries d.doubts records none)))
 
       pub no_room : (at : ℕ) → TellsLast d.doubts records at → IsDamagedAt image at
-      no_room at is = inr (inr (tables, a.region, has_journal, inr (inr (last_one at is))))
+      no_room at is = inr (inr (a.layout, tables, a.region, has_journal, inr (inr (last_one at is))))
 
 -- the room of a journal that holds nothing yet
 pub is_short : (region : Region) (j : Journal) (es : List Entry) (held : ℕ) → region_of j ≡ region → held_of j ≡ 0 → next_of j ≡ (region_of j).at + length (laid es) → room_of j < held → region.length < length (laid es) + 1 + held

@@ -1,10 +1,11 @@
 -- What a checkpoint makes of a core: nothing but its disk and the room of its journal changes.
 use Rattle.std.specs.Prelude.{◌≡◌, ◌<◌, ◌≤◌, ℕ, ◌+◌, true, false, length, map}
 use Rattle.half_store.specs.Layout.{half_len}
+use Rattle.half_store.specs.declared.header.Layout.TheVariants.{Two}
 use Rattle.unit_records.specs.Records.{entry_of}
 use Rattle.checkpoints.specs.Room.{need_of}
 use Rattle.recovery.specs.Laws.{held_for}
-use Rattle.recovery.specs.Laying.{prepares_of}
+use Rattle.recovery.specs.Laying.{records_of}
 use Rattle.recovery.specs.Journaled.{IsUnchanged, Shown}
 use Rattle.recovery.specs.Part.{durable_part}
 use Rattle.durable_core.specs.declared.checkpointing.Checkpointed.{Checkpointed}
@@ -16,17 +17,18 @@ pub record IsSameCore (old new : Shown) : Type 0 where
   pub state : new.state ≡ old.state
   pub made : new.made ≡ old.made
 
--- the bytes of a half that the checkpoint of a core takes
+-- the bytes of a half that the checkpoint of a core takes, which is of layout 2
 abbrev pub need_for : Shown → ℕ
-need_for s = need_of s.state.base.store (map entry_of (prepares_of (durable_part s.state).doubts)) (held_for (durable_part s.state).doubts)
+need_for s = need_of s.state.base.store (map entry_of (records_of (durable_part s.state).doubts)) (held_for Two (durable_part s.state).doubts)
 
 abbrev pub half_bytes_for : Shown → ℕ
 half_bytes_for s = half_len (length s.disk.seen)
 
--- it is there, and it fits into a half
+-- it is there, of layout 2, and it fits into a half
 pub record IsLaid (old new : Shown) : Type 0 where
   pub going : old.is_failed ≡ false
   pub still : new.is_failed ≡ false
+  pub layout : new.layout ≡ Two
   pub fits : need_for old ≤ half_bytes_for old
   pub faults : new.disk.faults ≡ old.disk.faults
 
@@ -34,6 +36,7 @@ pub record IsLaid (old new : Shown) : Type 0 where
 pub record GoesOn (old new : Shown) : Type 0 where
   pub going : old.is_failed ≡ false
   pub still : new.is_failed ≡ false
+  pub layout : new.layout ≡ old.layout
   pub room : new.room ≡ old.room
   pub faults : new.disk.faults ≡ old.disk.faults
 
@@ -46,6 +49,7 @@ pub record LacksRoom (old : Shown) (need room : ℕ) : Type 0 where
 pub record FailsHere (old new : Shown) : Type 0 where
   pub going : old.is_failed ≡ false
   pub failed : new.is_failed ≡ true
+  pub layout : new.layout ≡ old.layout
   pub room : new.room ≡ old.room
   pub faults : new.disk.faults ≡ old.disk.faults + 1
 

@@ -22,10 +22,10 @@ durable_in f = record { store = store_in f.store; doubts = doubts_in f.units.ite
 pub record StandsThere (modelled : Bool) (disk : Life) (f : Found) : Type 0 where
   pub entries : List Entry
   pub settled : IsSettled modelled disk f.journal entries
-  pub holds : Holds (name_in f) (region_of f.journal) entries (durable_in f) disk.seen
+  pub holds : Holds (name_in f) f.layout (region_of f.journal) entries (durable_in f) disk.seen
 
 pub record IsFound (modelled : Bool) (disk : Life) (f : Found) : Type 0 where
   pub sound : IsSound (durable_in f)
-  pub held : held_of f.journal ≡ held_for (durable_in f).doubts
+  pub held : held_of f.journal ≡ held_for f.layout (durable_in f).doubts
   pub inside : end_of (region_of f.journal) ≤ length disk.seen
   pub stands : IsTrue modelled → StandsThere modelled disk f

@@ -28,14 +28,14 @@ Finds name d (Ok core) = IsOpenedTo name d core
 Finds name d (Err refused) = IsExcused refused.error
 
 -- What is opened stood there. Its room is what the records leave of the journal behind the next gate, less the bytes
--- that are held back for the decisions of the units in doubt.
+-- that are held back for the branches in doubt.
 pub record StoodThere {D : Type 0} (image : List ℕ) (core : OnDisk D) : Type 0 where
   pub durable : Durable
   pub region : Region
   pub entries : List Entry
-  pub stood : Holds core.name region entries durable image
+  pub stood : Holds core.name core.layout region entries durable image
   pub is : IsOpenedTo core.name durable core
-  pub room : core.room + (length (laid entries) + 1 + held_for durable.doubts) ≡ region.length
+  pub room : core.room + (length (laid entries) + 1 + held_for core.layout durable.doubts) ≡ region.length
 
 -- the device has failed once more exactly where that is told
 abbrev pub CountsOpen : {D : Type 0} → Result (OnDisk D) (Refused D) → ℕ → ℕ → Type 0

@@ -1,5 +1,6 @@
 -- What a call makes of a core whose units are recorded on a disk.
 use Rattle.std.specs.Prelude.{◌≡◌, ◌⊎◌, ℕ, ◌+◌, ◌-◌, ◌^◌, ◌<◌, min, true, false, List, [], ◌∷◌, ◌++◌, Option, Some, None}
+use Rattle.half_store.specs.declared.header.Layout.{Layout}
 use Rattle.unit_journal.specs.Record.{Entry}
 use Rattle.unit_records.specs.Records.{UnitRecord, entry_of}
 use Rattle.unit_records.specs.Room.{held, released, taken}
@@ -11,9 +12,9 @@ use Rattle.recovery.specs.Journaled.{IsUnchanged, Shown}
 use Rattle.rdb_core.specs.Steps.{may_want_any}
 
 -- what a record makes of the room
-abbrev pub RoomAfter : Option UnitRecord → ℕ → ℕ → Type 0
-RoomAfter None old new = new ≡ old
-RoomAfter (Some r) old new = new + (taken r + held r) ≡ old + released r
+abbrev pub RoomAfter : Layout → Option UnitRecord → ℕ → ℕ → Type 0
+RoomAfter layout None old new = new ≡ old
+RoomAfter layout (Some r) old new = new + (taken r + held layout r) ≡ old + released layout r
 
 -- the record that is due, as the journal has it
 abbrev pub due_entries : Option UnitRecord → List Entry
@@ -25,7 +26,8 @@ pub record IsTaken (old : Shown) (conversation : ℕ) (k : Call) (told : Answer)
   pub going : old.is_failed ≡ false
   pub answer_is : told ≡ answer old.state.branches old.state.base conversation k
   pub state : new.state ≡ step_state old.state conversation k
-  pub room : RoomAfter (record_due old.state conversation k) old.room new.room
+  pub layout : new.layout ≡ old.layout
+  pub room : RoomAfter old.layout (record_due old.state conversation k) old.room new.room
   pub faults : new.disk.faults ≡ old.disk.faults
   pub still : new.is_failed ≡ false
   pub made : new.made ≡ old.made ++ due_entries (record_due old.state conversation k)
@@ -48,8 +50,8 @@ pub record FindsNoRoom (old : Shown) (conversation : ℕ) (k : Call) (told : Ans
   pub going : old.is_failed ≡ false
   pub record_is : UnitRecord
   pub due : record_due old.state conversation k ≡ Some record_is
-  pub answer_is : told ≡ full (min (taken record_is + held record_is - released record_is) (2 ^ 64 - 1)) old.room
-  pub less : old.room + released record_is < taken record_is + held record_is
+  pub answer_is : told ≡ full (min (taken record_is + held old.layout record_is - released old.layout record_is) (2 ^ 64 - 1)) old.room
+  pub less : old.room + released old.layout record_is < taken record_is + held old.layout record_is
   pub same : IsUnchanged old new
 
 -- the device failed in this call; what of its record a crash leaves, `Journaled` says
@@ -60,6 +62,7 @@ pub record FailsHere (old : Shown) (conversation : ℕ) (k : Call) (told : Answe
   pub answer_is : told ≡ device_failed
   pub name : new.name ≡ old.name
   pub state : new.state ≡ old.state
+  pub layout : new.layout ≡ old.layout
   pub room : new.room ≡ old.room
   pub faults : new.disk.faults ≡ old.disk.faults + 1
   pub failed : new.is_failed ≡ true

@@ -22,7 +22,8 @@ pub record HaveGone (old : Shown) (phase : Phase) (cs : List BranchCall) (new : 
   pub taken : AreTaken phase old.state.base.units cs old.state
   pub name : new.name ≡ old.name
   pub state : new.state ≡ all_through phase cs old.state
-  pub room : new.room + (taken_by (records_of old phase cs) + held_by (records_of old phase cs)) ≡ old.room + released_by (records_of old phase cs)
+  pub layout : new.layout ≡ old.layout
+  pub room : new.room + (taken_by (records_of old phase cs) + held_by old.layout (records_of old phase cs)) ≡ old.room + released_by old.layout (records_of old phase cs)
   pub faults : new.disk.faults ≡ old.disk.faults
   pub still : new.is_failed ≡ false
   pub made : new.made ≡ old.made ++ map entry_of (records_of old phase cs)
@@ -33,6 +34,7 @@ pub record FailGoing (old : Shown) (phase : Phase) (cs : List BranchCall) (new :
   pub may : may_go_through phase old.state cs ≡ true
   pub name : new.name ≡ old.name
   pub state : new.state ≡ old.state
+  pub layout : new.layout ≡ old.layout
   pub room : new.room ≡ old.room
   pub faults : new.disk.faults ≡ old.disk.faults + 1
   pub failed : new.is_failed ≡ true

@@ -14,7 +14,8 @@ pub record HaveCommitted (old : Shown) (conversations : List ℕ) (new : Shown) 
   pub local : are_local old.state.branches conversations ≡ true
   pub name : new.name ≡ old.name
   pub state : new.state ≡ all_committed conversations old.state
-  pub room : RoomAfter (due_together conversations old.state) old.room new.room
+  pub layout : new.layout ≡ old.layout
+  pub room : RoomAfter old.layout (due_together conversations old.state) old.room new.room
   pub faults : new.disk.faults ≡ old.disk.faults
   pub still : new.is_failed ≡ false
   pub made : new.made ≡ old.made ++ due_entries (due_together conversations old.state)
@@ -31,6 +32,7 @@ pub record FailTogether (old : Shown) (conversations : List ℕ) (new : Shown) :
   pub due : due_together conversations old.state ≡ Some record_is
   pub name : new.name ≡ old.name
   pub state : new.state ≡ old.state
+  pub layout : new.layout ≡ old.layout
   pub room : new.room ≡ old.room
   pub faults : new.disk.faults ≡ old.disk.faults + 1
   pub failed : new.is_failed ≡ true

@@ -2,18 +2,20 @@
 #![tactic(auto)]
 
 mod checkpointing;
+mod deciding;
 mod durable;
 mod errors;
 mod head;
+mod holders;
 mod holding;
 pub mod laws;
 mod opening;
-mod preparing;
 mod reading;
 mod restoring;
 mod together;
 
 pub use checkpointing::Checkpointed;
+pub use deciding::Decided;
 pub use durable::DurableCore;
 pub use errors::{OpenError, Refused};
 pub use opening::open;

@@ -27,13 +27,13 @@ use store_check::checkpoints_are_known;
 use unit_journal::a_region_has_one_reading;
 
 /// Opens the store of a disk: the head, the tables of the last checkpoint on the pages of the active
-/// half, the records of the journal from its first on, and the units in doubt with their claims.
-/// Nothing is written. Each refusal hands the disk back.
+/// half, the records of the journal from its first on, and the branches in doubt with their claims.
+/// A store of layout 1 opens too: it stays so until its next checkpoint. Nothing is written. Each refusal hands the disk back.
 ///
 /// `NotAStore` comes where the disk has not 2 MiB to 1 GiB or does not begin with `DRDASTO1`.
 /// `Damaged` comes where the head, the header of a half, a page of the active half or a record of the
-/// journal is damaged, at the offset of the first that is; and where the decisions of the units in
-/// doubt have no room behind the records, at the last record that prepared one of them. What opens is
+/// journal is damaged, at the offset of the first that is; and where what the branches in doubt hold
+/// has no room behind the records, at the last record that left one of them in doubt. What opens is
 /// never answered so.
 pub fn open<D: Disk>(alloc: Global, disk: D) -> Result<DurableCore<D>, Refused<D>>
     ensures opens { (name : List ℕ) (d : Durable) → IsTrue D.is_modelled → OpensTo name d (D.life disk).seen → Finds name d result }
@@ -65,12 +65,24 @@ fn read_store<D: Disk>(alloc: Global, disk: &mut D) -> Result<Found, OpenError>
     a_region_has_one_reading();
     let active = read_head(alloc, disk)?;
     let tables = read_tables(alloc, disk, &active)?;
-    let Active { name, region, .. } = active;
+    let Active {
+        name,
+        layout,
+        region,
+        ..
+    } = active;
     let (mut journal, records) = read_journal(alloc, disk, region)?;
-    let (store, units) = read_units(alloc, tables, records.as_slice())?.into_parts();
-    hold_all(alloc, &mut journal, records.as_slice(), units.as_slice())?;
+    let (store, units) = read_units(alloc, layout, tables, records.as_slice())?.into_parts();
+    hold_all(
+        alloc,
+        layout,
+        &mut journal,
+        records.as_slice(),
+        units.as_slice(),
+    )?;
     Ok(Found {
         name,
+        layout,
         journal,
         store,
         units,
@@ -82,17 +94,19 @@ fn begin<D: Disk>(alloc: Global, disk: D, found: Found) -> Result<DurableCore<D>
     requires { IsFound D.is_modelled (D.life disk) found }
     ensures ok { IfOk result (IsOpenedTo (name_in found) (durable_in found)) }
     ensures room { IfOk result (λ core. core.room ≡ room_of found.journal) }
+    ensures layout { IfOk result (λ core. core.layout ≡ found.layout) }
     ensures err { IfErr result (λ refused. refused.error ≡ OpenError.NoMemory) }
     ensures disk { disk_in result ≡ disk }
 {
     openings_are_kept();
     let Found {
         name,
+        layout,
         journal,
         store,
         units,
     } = found;
-    let recorder = DiskRecorder::new(alloc, disk, journal);
+    let recorder = DiskRecorder::new(alloc, disk, journal, layout);
     let mut core = Core::restored(alloc, recorder, store);
     match restore_all(&mut core, units) {
         Ok(()) => Ok(DurableCore { name, core }),

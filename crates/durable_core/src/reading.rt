@@ -13,23 +13,25 @@ ghost use Rattle.tables.specs.View.{is_store};
 ghost use Rattle.table_store.specs.TableStore.{store_in};
 ghost use Rattle.recovery.specs.Durable.{Durable, at_checkpoint};
 ghost use Rattle.recovery.specs.Journal.{Leads, StopsAt};
+ghost use Rattle.recovery.specs.Known.{AreKnown};
 ghost use Rattle.recovery.specs.Replay.{durable_of};
 ghost use Rattle.durable_core.specs.Reads.{ArePagesInside, Counts, IsInside, IsPlain, TellsDamage};
 
 use crate::errors::OpenError;
 use checkpoints::read_checkpoint;
 use drda_disk::{Disk, Region};
-use half_store::Active;
+use half_store::{Active, Layout};
 use recovery::{PreparedUnit, Replay, ReplayError, replay};
 use std::alloc::Global;
 use store_check::{CheckError, checkpoints_are_known};
 use table_store::TableStore;
 use unit_journal::{Journal, Record};
 
-/// The name of a store, its journal, its committed tables and its units in doubt.
+/// The name of a store, the layout of its active half, its journal, its committed tables and its branches in doubt.
 #[derive(Debug, Drop)]
 pub(crate) struct Found {
     pub(crate) name: String,
+    pub(crate) layout: Layout,
     pub(crate) journal: Journal,
     pub(crate) store: TableStore,
     pub(crate) units: Vec<PreparedUnit>,
@@ -81,18 +83,20 @@ pub(crate) fn read_journal<D: Disk>(
     }
 }
 
-/// What the records of a journal lead to, over the tables of the checkpoint that they follow.
+/// What the records of a journal of this layout lead to, over the tables of the checkpoint that they follow.
 pub(crate) fn read_units(
     alloc: Global,
+    layout: Layout,
     checkpoint: TableStore,
     records: &[Record],
 ) -> Result<Replay, OpenError>
+    ensures known { IfOk result (λ r. AreKnown layout (entries_of records.now)) }
     ensures leads { IfOk result (λ r. Leads (at_checkpoint (store_in checkpoint)) (entries_of records.now) (durable_of r)) }
-    ensures opens { (d : Durable) → Leads (at_checkpoint (store_in checkpoint)) (entries_of records.now) d → IsPlain result }
-    ensures tells { TellsDamage result (StopsAt (at_checkpoint (store_in checkpoint)) records.now) }
+    ensures opens { (d : Durable) → AreKnown layout (entries_of records.now) → Leads (at_checkpoint (store_in checkpoint)) (entries_of records.now) d → IsPlain result }
+    ensures tells { TellsDamage result (StopsAt layout (at_checkpoint (store_in checkpoint)) records.now) }
     ensures cause { (n : ℕ) → Counts result n n }
 {
-    match replay(alloc, checkpoint, records) {
+    match replay(alloc, layout, checkpoint, records) {
         Ok(units) => Ok(units),
         Err(ReplayError::Damaged { at }) => Err(OpenError::Damaged { at }),
         Err(ReplayError::NoMemory) => Err(OpenError::NoMemory),

@@ -1,4 +1,4 @@
-//! Units in doubt, prepared again.
+//! Branches in doubt, restored.
 
 ghost use Rattle.std.specs.Prelude.{◌≡◌, OnOk, []};
 ghost use Rattle.recovery.specs.Replay.{doubts_in};
@@ -12,7 +12,7 @@ use std::alloc::AllocError;
 use unit_records::Recorder;
 use xa_manager::RestoreError;
 
-/// Prepares the branches of units in doubt again, with their units, in a core without any.
+/// Restores branches in doubt, as they stand and with their units, in a core without any.
 pub(crate) fn restore_all<R: Recorder>(
     core: &mut Core<R>,
     units: Vec<PreparedUnit>,
@@ -24,7 +24,7 @@ pub(crate) fn restore_all<R: Recorder>(
 {
     let mut left = units;
     while let Some(unit) = left.pop() {
-        match core.restore(unit.xid, unit.changes, unit.claims) {
+        match core.restore(unit.xid, unit.outcome, unit.changes, unit.claims) {
             Ok(()) => {}
             Err(RestoreError::NoMemory) => return Err(AllocError),
             Err(RestoreError::Known) => unreachable!(),

@@ -1,11 +1,11 @@
 //! What is asked of an open store that no call of a conversation asks, and how it is told.
 
 use crate::bench::Core;
-use durable_core::{Checkpointed, OpenError, Together};
+use durable_core::{Checkpointed, Decided, OpenError, Together};
 use std::alloc::{AllocError, Global};
 use test_calls::{push_bytes, push_text, xid_of};
 use unit_records::{BranchCall, Phase};
-use xa_manager::Decision;
+use xa_manager::{BranchState, Decision};
 
 /// Why a disk was not opened, and its size when it is handed back.
 pub fn told_refusal(alloc: Global, error: OpenError, size: usize) -> Result<String, AllocError> {
@@ -37,6 +37,17 @@ fn told_together(told: Together) -> &'static str {
         Together::Alone => "alone",
         Together::DeviceFailed => "the device failed",
         Together::Closed => "closed",
+    }
+}
+
+fn told_decided(told: Decided) -> &'static str {
+    match told {
+        Decided::Done => "done",
+        Decided::NotInDoubt => "not in doubt",
+        Decided::OldLayout => "old layout",
+        Decided::NoMemory => "no memory",
+        Decided::DeviceFailed => "the device failed",
+        Decided::Closed => "closed",
     }
 }
 
@@ -72,7 +83,30 @@ fn go_through(alloc: Global, core: &mut Core, rest: &str) -> Option<Together> {
     Some(core.go_through(phase, &calls))
 }
 
-// The global parts of the XIDs in doubt.
+// The branch of an XID is decided heuristically, to `commit` or to `rollback`.
+fn decide(alloc: Global, core: &mut Core, rest: &str) -> Option<Decided> {
+    let (branch, word) = rest.split_once(' ')?;
+    let xid = xid_of(alloc, branch)?;
+    match phase_named(word)? {
+        Phase::Decide(decision) => Some(core.decide(&xid, decision)),
+        Phase::Prepare => None,
+    }
+}
+
+// What stands behind the XID of a branch in doubt.
+fn outcome_of(state: Option<BranchState>) -> &'static str {
+    match state {
+        Some(BranchState::Prepared) => "",
+        Some(BranchState::Heuristic(Decision::Commit)) => " (committed)",
+        Some(BranchState::Heuristic(Decision::RollBack)) => " (rolled back)",
+        Some(BranchState::Active(_)) => " (active)",
+        Some(BranchState::Idle(_)) => " (idle)",
+        Some(BranchState::RollbackOnly(_)) => " (rollback only)",
+        None => " (unknown)",
+    }
+}
+
+// The global parts of the XIDs in doubt, and how those were decided that were so heuristically.
 fn tell_in_doubt(alloc: Global, core: &Core, out: &mut Vec<u8>) -> Option<()> {
     push_text(out, "in doubt")?;
     let mut xids = core.in_doubt();
@@ -80,13 +114,14 @@ fn tell_in_doubt(alloc: Global, core: &Core, out: &mut Vec<u8>) -> Option<()> {
         let Some(xid) = xids.next() else { break };
         push_text(out, " ")?;
         push_bytes(alloc, out, xid.global())?;
+        push_text(out, outcome_of(core.branch_state(xid)))?;
     }
     Some(())
 }
 
 /// `together` commits the conversations of these numbers together, `through PHASE =N ..` prepares or decides the branches of these numbers, each
-/// asked for by the conversation of its number, `checkpoint` makes a checkpoint, `room` tells the store's name and the room of its journal, and
-/// `in_doubt` which branches are in doubt.
+/// asked for by the conversation of its number, `decide XID commit` or `rollback` decides a branch heuristically, `checkpoint` makes a checkpoint,
+/// `room` tells the store's name and the room of its journal, `layout` the layout of its active half, and `in_doubt` which branches are in doubt.
 pub fn tell(
     alloc: Global,
     core: &mut Core,
@@ -97,10 +132,15 @@ pub fn tell(
     match verb {
         "together" => push_text(out, told_together(commit(alloc, core, rest)?)),
         "through" => push_text(out, told_together(go_through(alloc, core, rest)?)),
+        "decide" => push_text(out, told_decided(decide(alloc, core, rest)?)),
         "checkpoint" => push_text(out, &told_checkpoint(alloc, core.checkpoint()).ok()?),
         "room" => {
             let (name, room) = (core.name(), core.room());
             push_text(out, &format!(in alloc; "{name} has room {room}").ok()?)
+        }
+        "layout" => {
+            let is_old = core.is_of_old_layout();
+            push_text(out, if is_old { "layout 1" } else { "layout 2" })
         }
         "in_doubt" => tell_in_doubt(alloc, core, out),
         _ => None,

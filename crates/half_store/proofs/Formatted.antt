@@ -63,8 +63,8 @@ pub record IsLaid (name image : List ℕ) : Type 0 where
   pub name_len : is_name_len (length name) ≡ true
   pub printable : are_printable name ≡ true
   pub head : part image 8 (13 + length name) ≡ head_bytes (length image) name
-  pub header : part image 8192 21 ≡ 165 ∷ header_bytes first_header
-  pub rest : part image 8213 8172 ≡ zeros 8172
+  pub header : part image 8192 25 ≡ 165 ∷ header_bytes first_header
+  pub rest : part image 8217 8168 ≡ zeros 8168
   pub second : get_or image (8192 + half_len (length image)) 0 ≡ 0
   pub room : 8192 < half_len (length image)
 
@@ -77,8 +77,8 @@ laid_torn name old new cut l = record {
   name_len = l.name_len;
   printable = l.printable;
   head = part_after old new 8 8 (13 + length name) cut.after (omega arith) ∙ l.head ∙ ap (λ n. head_bytes n name) (sym cut.size);
-  header = part_after old new 8 8192 21 cut.after (omega arith) ∙ l.header;
-  rest = part_after old new 8 8213 8172 cut.after (omega arith) ∙ l.rest;
+  header = part_after old new 8 8192 25 cut.after (omega arith) ∙ l.header;
+  rest = part_after old new 8 8217 8168 cut.after (omega arith) ∙ l.rest;
   second = ap (λ n. get_or new (8192 + half_len n) 0) cut.size ∙ byte_outside 0 8 (8192 + half_len (length old)) old new cut (inr (omega arith)) ∙ l.second;
   room = subst (λ n. 8192 < half_len n) (sym cut.size) l.room;
 }
@@ -123,15 +123,15 @@ module _ (name image : List ℕ) (l : IsLaid name image) (marked : is_marked ima
   pub name_read : name_in (length image) (take 39 image) ≡ Ok name
   name_read = passes (length image) (take 39 image) (mark_in_head image ∙ marked) layout_is size_is ∙ ap (λ n. name_behind n (drop 21 (take 39 image))) len_is ∙ named_behind (length name) (drop 21 (take 39 image)) name name_is l.name_len l.printable
 
-  blank : list_all (λ b. b == 0) (part image 8213 8171) ≡ true
-  blank = ap (λ (f : List ℕ). list_all (λ b. b == 0) f) (sym (take-take 8171 8172 (drop 8213 image) (omega arith)) ∙ ap (λ (f : List ℕ). take 8171 f) l.rest) ∙ zeros_blank 8171 8172
+  blank : list_all (λ b. b == 0) (part image 8217 8167) ≡ true
+  blank = ap (λ (f : List ℕ). list_all (λ b. b == 0) f) (sym (take-take 8167 8168 (drop 8217 image) (omega arith)) ∙ ap (λ (f : List ℕ). take 8167 f) l.rest) ∙ zeros_blank 8167 8168
 
   inside : is_inside (half_len (length image)) first_header ≡ true
   inside = ap (λ b. b && true) (lt-ltb 8192 (half_len (length image)) l.room)
 
   first_is : half_in (half_len (length image)) (part image 8192 8192) ≡ Open first_header
-  first_is = ap (λ (f : List ℕ). half_in (half_len (length image)) f) (part-add image 8192 21 8171 ∙ ap (λ (f : List ℕ). f ++ part image 8213 8171) l.header)
-      ∙ half_open (half_len (length image)) first_header (part image 8213 8171) (record { generation = omega arith; pages = omega arith; first_catalogue = omega arith; catalogue_pages = omega arith }) inside blank
+  first_is = ap (λ (f : List ℕ). half_in (half_len (length image)) f) (part-add image 8192 25 8167 ∙ ap (λ (f : List ℕ). f ++ part image 8217 8167) l.header)
+      ∙ half_open (half_len (length image)) first_header (part image 8217 8167) (record { generation = omega arith; pages = omega arith; first_catalogue = omega arith; catalogue_pages = omega arith }) inside blank
 
   second_is : half_in (half_len (length image)) (part image (8192 + half_len (length image)) 8192) ≡ Closed
   second_is = half_closed (half_len (length image)) (part image (8192 + half_len (length image)) 8192)
@@ -143,7 +143,7 @@ module _ (name image : List ℕ) (l : IsLaid name image) (marked : is_marked ima
         ∙ ap (λ a. with_half name (picked (half_len (length image)) a (half_in (half_len (length image)) (part image (8192 + half_len (length image)) 8192)))) first_is
         ∙ ap (λ b. with_half name (picked (half_len (length image)) (Open first_header) b)) second_is
         ∙ ap (λ p. with_half name p) (first_alone (half_len (length image)));
-    gate = sym (byte_in_part image 8213 8172 8171 (omega arith)) ∙ ap (λ (f : List ℕ). get_or f 8171 0) l.rest ∙ zeros_at 8172 8171;
+    gate = sym (byte_in_part image 8217 8168 8167 (omega arith)) ∙ ap (λ (f : List ℕ). get_or f 8167 0) l.rest ∙ zeros_at 8168 8167;
   }
 
 -- with any bytes in the place of the mark
@@ -167,7 +167,7 @@ module _ (name file new : List ℕ) (at : ℕ) (front second : List ℕ) (front_
   page_len = omega (arith, length-append (head_bytes (length file) name) (zeros (8184 - length (head_bytes (length file) name))), length-zeros (8184 - length (head_bytes (length file) name)))
 
   front_len : length front ≡ 16377
-  front_len = omega (arith, ap length front_is, length-append (head_page (length file) name) ((165 ∷ header_bytes first_header) ++ zeros 8172), page_len, length-zeros 8172)
+  front_len = omega (arith, ap length front_is, length-append (head_page (length file) name) ((165 ∷ header_bytes first_header) ++ zeros 8168), page_len, length-zeros 8168)
 
   second_len : length second ≡ 8192
   second_len = ap length second_is ∙ length-zeros 8192
@@ -188,8 +188,8 @@ module _ (name file new : List ℕ) (at : ℕ) (front second : List ℕ) (front_
       ∙ sym (part-part (overlaid file 8 front) 8 (length front) i n (omega (arith, low, front_len)))
       ∙ ap (λ (f : List ℕ). part f i n) (part-overlaid file 8 front (omega (arith, front_len, is_at, large, inside)))
 
-  behind_page : drop 8184 front ≡ (165 ∷ header_bytes first_header) ++ zeros 8172
-  behind_page = ap (λ (f : List ℕ). drop 8184 f) front_is ∙ drop_at (head_page (length file) name) ((165 ∷ header_bytes first_header) ++ zeros 8172) 8184 page_len
+  behind_page : drop 8184 front ≡ (165 ∷ header_bytes first_header) ++ zeros 8168
+  behind_page = ap (λ (f : List ℕ). drop 8184 f) front_is ∙ drop_at (head_page (length file) name) ((165 ∷ header_bytes first_header) ++ zeros 8168) 8184 page_len
 
   pub is_laid : IsLaid name new
   is_laid = record {
@@ -199,10 +199,10 @@ module _ (name file new : List ℕ) (at : ℕ) (front second : List ℕ) (front_
     name_len = and_left (is_name_len (length name)) (are_printable name) named;
     printable = and_right (is_name_len (length name)) (are_printable name) named;
     head = in_front 0 (13 + length name) (omega (arith, short))
-        ∙ ap (λ (f : List ℕ). take (13 + length name) f) (front_is ∙ append_assoc (head_bytes (length file) name) (zeros (8184 - length (head_bytes (length file) name))) ((165 ∷ header_bytes first_header) ++ zeros 8172))
+        ∙ ap (λ (f : List ℕ). take (13 + length name) f) (front_is ∙ append_assoc (head_bytes (length file) name) (zeros (8184 - length (head_bytes (length file) name))) ((165 ∷ header_bytes first_header) ++ zeros 8168))
         ∙ take_at (head_bytes (length file) name) _ (13 + length name) (omega arith) ∙ ap (λ n. head_bytes n name) (sym size);
-    header = in_front 8184 21 (omega arith) ∙ ap (λ (f : List ℕ). take 21 f) behind_page ∙ take_at (165 ∷ header_bytes first_header) (zeros 8172) 21 refl;
-    rest = in_front 8205 8172 (omega arith) ∙ ap (λ (f : List ℕ). take 8172 f) (sym (drop-drop 21 8184 front) ∙ ap (λ (f : List ℕ). drop 21 f) behind_page ∙ drop_at (165 ∷ header_bytes first_header) (zeros 8172) 21 refl) ∙ take_all 8172 (zeros 8172) (omega (arith, length-zeros 8172));
+    header = in_front 8184 25 (omega arith) ∙ ap (λ (f : List ℕ). take 25 f) behind_page ∙ take_at (165 ∷ header_bytes first_header) (zeros 8168) 25 refl;
+    rest = in_front 8209 8168 (omega arith) ∙ ap (λ (f : List ℕ). take 8168 f) (sym (drop-drop 25 8184 front) ∙ ap (λ (f : List ℕ). drop 25 f) behind_page ∙ drop_at (165 ∷ header_bytes first_header) (zeros 8168) 25 refl) ∙ take_all 8168 (zeros 8168) (omega (arith, length-zeros 8168));
     second = ap (λ n. get_or new (8192 + half_len n) 0) size ∙ ap (λ i. get_or new i 0) (sym (is_at) ∙ sym (add-zero at)) ∙ sym (byte_in_part new at (length second) 0 (omega (arith, second_len)))
         ∙ ap (λ (f : List ℕ). get_or f 0 0) (ap (λ (f : List ℕ). part f at (length second)) written ∙ part-overlaid (overlaid file 8 front) at second (omega (arith, second_len, inside, cut_front.size)) ∙ second_is) ∙ zeros_at 8192 0;
     room = subst (λ n. 8192 < half_len n) (sym size) (omega (arith, large));

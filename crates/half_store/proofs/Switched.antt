@@ -130,7 +130,7 @@ other_new base image s i Second new half_is active large place torn opened next 
 -- ---- the images of a switch
 
 module _ (base file bytes : List ℕ) (s : Store) (i h : ℕ) (new : Header) (active : active_of base ≡ Ok s) (halves : h ≡ half_len (length base)) (large : 8192 < h) (place : i ≡ offset_of h (other_than s.half))
-    (inside : i + h ≤ length file) (within : Torn (i + 1) (h - 1) base file) (shut : get_or base i 0 ≢ 165) (is : bytes ≡ header_bytes new ++ zeros 8171) (len : length bytes ≡ 8191)
+    (inside : i + h ≤ length file) (within : Torn (i + 1) (h - 1) base file) (shut : get_or base i 0 ≢ 165) (is : bytes ≡ header_bytes new ++ zeros 8167) (len : length bytes ≡ 8191)
     (fits : Fits new) (room : is_inside h new ≡ true) (next : new.generation ≡ s.header.generation + 1) where
   there : i ≡ offset_of (half_len (length base)) (other_than s.half)
   there = place ∙ ap (λ k. offset_of k (other_than s.half)) halves
@@ -145,14 +145,14 @@ module _ (base file bytes : List ℕ) (s : Store) (i h : ℕ) (new : Header) (ac
   beside_base : (c : List ℕ) → Torn i 1 (overlaid file (i + 1) bytes) c → Torn i h base c
   beside_base c cut = Torn-trans i h base file c (Torn-wider (i + 1) (h - 1) i h base file (omega arith) (omega arith) within) (Torn-wider i 8192 i h file c (omega arith) (omega arith) (beside_file c cut))
 
-  page_is : (c : List ℕ) → Torn i 1 (overlaid file (i + 1) bytes) c → get_or c i 0 ≡ 165 → part c i 8192 ≡ 165 ∷ (header_bytes new ++ zeros 8171)
+  page_is : (c : List ℕ) → Torn i 1 (overlaid file (i + 1) bytes) c → get_or c i 0 ≡ 165 → part c i 8192 ≡ 165 ∷ (header_bytes new ++ zeros 8167)
   page_is c cut opened =
       let gate : part c i 1 ≡ 165 ∷ [] = ap (λ (l : List ℕ). take 1 l) (drop_more c i 0 (omega (arith, cut.size, written.size))) ∙ ap (λ b. b ∷ []) opened in
       let behind : part c (i + 1) 8191 ≡ bytes = part_after (overlaid file (i + 1) bytes) c (i + 1) (i + 1) 8191 cut.after (omega arith) ∙ ap (λ n. part (overlaid file (i + 1) bytes) (i + 1) n) (sym len) ∙ part-overlaid file (i + 1) bytes (omega arith) in
       part-add c i 1 8191 ∙ ap (λ (l : List ℕ). l ++ part c (i + 1) 8191) gate ∙ ap (λ (l : List ℕ). 165 ∷ l) (behind ∙ is)
 
   state_is : (c : List ℕ) → Torn i 1 (overlaid file (i + 1) bytes) c → get_or c i 0 ≡ 165 → state_at h c i ≡ Open new
-  state_is c cut opened = ap (λ (l : List ℕ). half_in h l) (page_is c cut opened) ∙ half_open h new (zeros 8171) fits room (zeros_whole 8171)
+  state_is c cut opened = ap (λ (l : List ℕ). half_in h l) (page_is c cut opened) ∙ half_open h new (zeros 8167) fits room (zeros_whole 8167)
 
   -- with an open gate
   pub new_active : (c : List ℕ) → Torn i 1 (overlaid file (i + 1) bytes) c → get_or c i 0 ≡ 165 → active_of c ≡ Ok (record { name = s.name; half = other_than s.half; header = new })
@@ -168,7 +168,7 @@ module _ (base file bytes : List ℕ) (s : Store) (i h : ℕ) (new : Header) (ac
 
 -- what a switch of a writer leaves
 module _ (modelled : Bool) (old : Life) (base bytes : List ℕ) (s : Store) (w : ImageWriter) (first catalogue at : ℕ) (writing : IsWriting modelled old base s w) (place : at ≡ from_of w) (read : Now old old.seen)
-    (large : 8192 < half_bytes_of w) (inside : from_of w + half_bytes_of w ≤ length old.seen) (is : bytes ≡ header_bytes (header_of w first catalogue) ++ zeros 8171) (len : length bytes ≡ 8191)
+    (large : 8192 < half_bytes_of w) (inside : from_of w + half_bytes_of w ≤ length old.seen) (is : bytes ≡ header_bytes (header_of w first catalogue) ++ zeros 8167) (len : length bytes ≡ 8191)
     (fits : Fits (header_of w first catalogue)) (room : is_inside (half_bytes_of w) (header_of w first catalogue) ≡ true) where
   stands : from_of w ≡ offset_of (half_bytes_of w) (other_than s.half)
   stands = ap (λ half. offset_of (half_bytes_of w) half) writing.other

@@ -6,6 +6,8 @@ use Rattle.half_store.specs.Layout.{is_store_size, is_name_len, are_printable}
 use Rattle.half_store.specs.Active.{Store, is_marked, not_a_store, active_of}
 use Rattle.half_store.specs.declared.layout.Half.TheVariants.{First}
 use Rattle.half_store.specs.declared.header.Header.{Header}
+use Rattle.half_store.specs.declared.header.Layout.TheVariants.{Two}
+use Rattle.half_store.specs.Header.{layout_word}
 use Rattle.half_store.specs.declared.errors.FormatError.{FormatError}
 use Rattle.half_store.specs.declared.errors.FormatError.TheVariants.{BadSize, BadName, DeviceFailed, NoMemory}
 
@@ -27,11 +29,11 @@ head_bytes size name = to_be_bytes w32 1 ++ (to_be_bytes w64 size ++ length name
 
 -- a header behind its gate
 abbrev pub header_bytes : Header → List ℕ
-header_bytes header = to_be_bytes w64 header.generation ++ (to_be_bytes w32 header.pages ++ (to_be_bytes w32 header.first_catalogue ++ to_be_bytes w32 header.catalogue_pages))
+header_bytes header = to_be_bytes w64 header.generation ++ (to_be_bytes w32 header.pages ++ (to_be_bytes w32 header.first_catalogue ++ (to_be_bytes w32 header.catalogue_pages ++ to_be_bytes w32 (layout_word header.layout))))
 
--- the first image of a store: no pages
+-- the first image of a store: no pages, and layout 2
 abbrev pub first_header : Header
-first_header = record { generation = 1; pages = 0; first_catalogue = 0; catalogue_pages = 0 }
+first_header = record { generation = 1; pages = 0; first_catalogue = 0; catalogue_pages = 0; layout = Two }
 
 abbrev pub fresh : List ℕ → Store
 fresh name = record { name = name; half = First; header = first_header }
@@ -78,4 +80,4 @@ abbrev pub head_page : ℕ → List ℕ → List ℕ
 head_page size name = head_bytes size name ++ zeros (8184 - length (head_bytes size name))
 
 abbrev pub front_bytes : ℕ → List ℕ → List ℕ
-front_bytes size name = head_page size name ++ ((165 ∷ header_bytes first_header) ++ zeros 8172)
+front_bytes size name = head_page size name ++ ((165 ∷ header_bytes first_header) ++ zeros 8168)

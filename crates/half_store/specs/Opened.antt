@@ -18,7 +18,7 @@ abbrev pub store_of : Active → Store
 store_of a = record {
   name = string_bytes a.name;
   half = a.half;
-  header = record { generation = a.generation; pages = a.pages; first_catalogue = a.first_catalogue; catalogue_pages = a.catalogue_pages };
+  header = record { generation = a.generation; pages = a.pages; first_catalogue = a.first_catalogue; catalogue_pages = a.catalogue_pages; layout = a.layout };
 }
 
 -- its journal's region is what is left of its half behind the header and the pages: a byte at least

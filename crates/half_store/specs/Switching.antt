@@ -4,13 +4,14 @@ use Rattle.drda_disk.specs.Disk.{Torn, overlaid}
 use Rattle.half_store.specs.Active.{Store}
 use Rattle.half_store.specs.Writing.{IsKept, half_of, generation_of, pages_of}
 use Rattle.half_store.specs.declared.header.Header.{Header}
+use Rattle.half_store.specs.declared.header.Layout.TheVariants.{Two}
 use Rattle.half_store.specs.declared.image.ImageWriter.{ImageWriter}
 use Rattle.half_store.specs.declared.errors.SwitchError.{SwitchError}
 use Rattle.half_store.specs.declared.errors.SwitchError.TheVariants.{NoMemory, DeviceFailed}
 
--- the header of the image that is written, whose catalogue has so many pages from the first one on
+-- the header of the image that is written, whose catalogue has so many pages from the first one on; its layout is 2
 abbrev pub header_of : ImageWriter → ℕ → ℕ → Header
-header_of w first catalogue = record { generation = generation_of w; pages = pages_of w; first_catalogue = first; catalogue_pages = catalogue }
+header_of w first catalogue = record { generation = generation_of w; pages = pages_of w; first_catalogue = first; catalogue_pages = catalogue; layout = Two }
 
 -- the store once that image is its active half
 abbrev pub switched : Store → ImageWriter → ℕ → ℕ → Store

@@ -6,7 +6,7 @@ ghost use Rattle.half_store.specs.Opened.{Tells, IsBehindPages, store_of, Counts
 
 use crate::header::HalfState;
 use crate::layout::{FIRST_AT, PAGE_BYTES};
-use crate::{Half, Header, OpenError};
+use crate::{Half, Header, Layout, OpenError};
 use drda_disk::Region;
 
 /// The half of a store that counts, and the name of its database.
@@ -21,6 +21,8 @@ pub struct Active {
     /// The number of the first catalogue page, from 0.
     pub first_catalogue: u32,
     pub catalogue_pages: u32,
+    /// How its journal is laid out.
+    pub layout: Layout,
     /// What is left of the half behind its pages: its journal's.
     pub region: Region,
 }
@@ -67,6 +69,7 @@ pub(crate) fn active_at(half_bytes: usize, name: String, half: Half, header: Hea
         pages: header.pages,
         first_catalogue: header.first_catalogue,
         catalogue_pages: header.catalogue_pages,
+        layout: header.layout,
         region: Region {
             at: half.offset(half_bytes) + used,
             length: half_bytes - used,

@@ -2,10 +2,10 @@
 ghost use Rattle.std.specs.Prelude.{◌≡◌, ◌-◌, ◌≤◌, ◌++◌, OnOk, IfOk, length};
 ghost use Rattle.half_store.specs.Fresh.{zeros, head_bytes, header_bytes, front_bytes};
 
-use crate::Header;
 use crate::head::{LAYOUT, MARK_BYTES};
 use crate::header::OPEN;
 use crate::layout::PAGE_BYTES;
+use crate::{Header, Layout};
 use std::alloc::{AllocError, Global};
 
 /// The header of a store's first image.
@@ -14,6 +14,7 @@ const FIRST_HEADER: Header = Header {
     pages: 0,
     first_catalogue: 0,
     catalogue_pages: 0,
+    layout: Layout::Two,
 };
 
 /// The rest of the head's page behind the mark.
@@ -39,6 +40,7 @@ fn push_header(bytes: &mut Vec<u8>, header: Header) -> Result<(), AllocError>
     bytes.extend_from_slice(&header.pages.to_be_bytes())?;
     bytes.extend_from_slice(&header.first_catalogue.to_be_bytes())?;
     bytes.extend_from_slice(&header.catalogue_pages.to_be_bytes())?;
+    bytes.extend_from_slice(&header.layout.word().to_be_bytes())?;
     Ok(())
 }
 
@@ -64,7 +66,7 @@ pub(crate) fn blank_page(alloc: Global) -> Result<Vec<u8>, AllocError>
 
 /// The header page of a half behind its gate.
 pub(crate) fn header_page(alloc: Global, header: Header) -> Result<Vec<u8>, AllocError>
-    ensures items { IfOk result (λ bytes. bytes.items ≡ header_bytes header ++ zeros 8171) }
+    ensures items { IfOk result (λ bytes. bytes.items ≡ header_bytes header ++ zeros 8167) }
     ensures len { IfOk result (λ bytes. length bytes.items ≡ 8191) }
 {
     let mut bytes = Vec::with_capacity(alloc, PAGE_BYTES - 1)?;

@@ -17,7 +17,7 @@ pub use active::Active;
 pub use begin::begin_image;
 pub use errors::{BeginError, FormatError, Full, OpenError, PageError, SwitchError};
 pub use formatting::{format, is_store};
-pub use header::Header;
+pub use header::{Header, Layout};
 pub use image::ImageWriter;
 pub use layout::Half;
 pub use opening::open;

@@ -40,9 +40,9 @@ fn read_half<D: Disk>(
 /// `Damaged` comes at 8 for another layout than 1, at 12 for a size that is not the disk's, at 20 for
 /// a name of another length than 1 to 18, at 21 for one that is not printable; at a half's offset
 /// where its gate is open and its pages, with a byte for a gate, pass its end, its catalogue pages
-/// pass its pages, or its header page has other bytes than zeros behind the header; at the first
-/// half where no half is open, and at the second where both are and have one generation. The first
-/// of these in this order counts.
+/// pass its pages, the number of its own layout is neither 0 nor 2, or its header page has other
+/// bytes than zeros behind the header; at the first half where no half is open, and at the second
+/// where both are and have one generation. The first of these in this order counts.
 pub fn open<D: Disk>(alloc: Global, disk: &mut D) -> Result<Active, OpenError>
     ensures active { IsTrue D.is_modelled → Tells (active_of (D.life disk.old).seen) result }
     ensures size { OnOk result (IsTrue (is_store_size (length (D.life disk.new).seen))) }

@@ -9,7 +9,7 @@ ghost use Rattle.half_store.specs.Switching.{IsBehindGate, IsOldOrNew, switched,
 use crate::active::active_at;
 use crate::fresh::header_page;
 use crate::header::OPEN;
-use crate::{Active, Header, ImageWriter, SwitchError};
+use crate::{Active, Header, ImageWriter, Layout, SwitchError};
 use drda_disk::{Disk, DiskFault, write_through};
 use std::alloc::Global;
 
@@ -30,9 +30,9 @@ fn open_gate<D: Disk>(disk: &mut D, at: usize, behind: &[u8]) -> Result<(), Disk
 }
 
 impl ImageWriter {
-    /// Makes the half that was written the active one, with its catalogue at these of its pages: the
-    /// header is written and all that was written is synced before the gate is opened, and then that
-    /// is synced. `active` is the half from which the image was begun.
+    /// Makes the half that was written the active one, of layout 2, with its catalogue at these of its
+    /// pages: the header is written and all that was written is synced before the gate is opened, and
+    /// then that is synced. `active` is the half from which the image was begun.
     ///
     /// A crash at any moment leaves the old active half, or the new one with all that was read of it
     /// before the call. `NoMemory` comes before any device call; on `DeviceFailed` either of the two
@@ -64,6 +64,7 @@ impl ImageWriter {
             pages: self.pages,
             first_catalogue,
             catalogue_pages,
+            layout: Layout::Two,
         };
         let name = active.name.clone()?;
         let page = header_page(alloc, header)?;

@@ -1,5 +1,5 @@
 -- What was written over the half that is not active, and that it was read before changes nothing.
-use Rattle.std.proofs.Common.{◌≡◌, inl, ℕ, ◌+◌, ◌≤◌, Bool, true, false, IsTrue, List, length, take, drop, Result, Ok, Err, refl, sym, ◌∙◌, ap, subst}
+use Rattle.std.proofs.Common.{◌≡◌, inl, ℕ, ◌+◌, ◌≤◌, Bool, IsTrue, List, length, take, drop, Result, Ok, Err, sym, ◌∙◌, ap, subst}
 use Rattle.drda_disk.specs.Disk.{LeavesOnly, Life, Now, Stays}
 use Rattle.drda_disk.proofs.Moments.{Only-stays, stays_and}
 use Rattle.half_store.specs.Active.{Store, active_of}
@@ -7,15 +7,13 @@ use Rattle.half_store.specs.Layout.{half_len, offset_of, other_than}
 use Rattle.half_store.specs.Opened.{store_of}
 use Rattle.half_store.specs.declared.active.Active.{Active}
 use Rattle.tables.specs.Tables.{Store as Tables}
-use Rattle.unit_journal.specs.Journal.{held_of}
-use Rattle.unit_journal.specs.declared.journal.Journal.{Journal}
 use Rattle.unit_journal.specs.Record.{Entry}
 use Rattle.checkpoint_writer.specs.declared.ending.Switched.{Switched}
 use Rattle.checkpoints.specs.Holds.{half_end, journal_at}
 use Rattle.checkpoints.specs.Room.{need_of}
 use Rattle.checkpoints.specs.Moment.{GoesOn, IsAnew, Moment, Rests}
 use Rattle.journal_recorder.specs.Checkpointing.{Checkpoints, IsSwitched, KeepsOld, LeavesOldOrNew, OfStore, StaysOn}
-use Rattle.journal_recorder.specs.Recording.{disk_of, journal_of, made_of}
+use Rattle.journal_recorder.specs.Recording.{disk_of, journal_of, layout_of, made_of}
 use Rattle.journal_recorder.specs.declared.checkpointing.CheckpointError.{CheckpointError}
 use Rattle.journal_recorder.specs.declared.checkpointing.CheckpointError.TheVariants.{DeviceFailed, Full, NoMemory}
 use Rattle.journal_recorder.specs.declared.recorder.DiskRecorder.{DiskRecorder}
@@ -43,12 +41,9 @@ module _ {D : Type 0} (modelled : Bool) (life : D → Life) (old : DiskRecorder 
 -- ---- a read before
 
 module _ {D : Type 0} (modelled : Bool) (life : D → Life) (old mid : DiskRecorder D) (stays : Stays (life (disk_of old)) (life (disk_of mid))) (faults : (life (disk_of mid)).faults ≡ (life (disk_of old)).faults)
-    (journal : journal_of mid ≡ journal_of old) (made : made_of mid ≡ made_of old) (tables : Tables) (es : List Entry) (new : DiskRecorder D) where
+    (journal : journal_of mid ≡ journal_of old) (layout : layout_of mid ≡ layout_of old) (made : made_of mid ≡ made_of old) (tables : Tables) (es : List Entry) (hold : ℕ) (new : DiskRecorder D) where
   seen : (life (disk_of mid)).seen ≡ (life (disk_of old)).seen
   seen = stays.same
-
-  held : held_of (journal_of mid) ≡ held_of (journal_of old)
-  held = ap (λ (j : Journal). held_of j) journal
 
   rests : (store : Store) → Rests modelled (life (disk_of old)) store → Rests modelled (life (disk_of mid)) store
   rests store r = record {
@@ -60,7 +55,7 @@ module _ {D : Type 0} (modelled : Bool) (life : D → Life) (old mid : DiskRecor
   abbrev from : Store → ℕ
   from store = offset_of (half_len (length (life (disk_of old)).seen)) (other_than store.half)
 
-  here : (store : Store) → Rests modelled (life (disk_of old)) store → (c : List ℕ) → Now (life (disk_of old)) c → Moment (life (disk_of old)).seen store tables es (held_of (journal_of old)) c
+  here : (store : Store) → Rests modelled (life (disk_of old)) store → (c : List ℕ) → Now (life (disk_of old)) c → Moment (life (disk_of old)).seen store tables es hold c
   here store r c now = inl (record {
     active = ap active_of (r.durable c now) ∙ r.active;
     others = record {
@@ -70,41 +65,38 @@ module _ {D : Type 0} (modelled : Bool) (life : D → Life) (old mid : DiskRecor
     };
   })
 
-  leaves : LeavesOldOrNew modelled life mid tables es new → LeavesOldOrNew modelled life old tables es new
+  leaves : LeavesOldOrNew modelled life mid tables es hold new → LeavesOldOrNew modelled life old tables es hold new
   leaves all store r =
-      let P : List ℕ → ℕ → List ℕ → Type 0 = λ base n. Moment base store tables es n in
-      let there : LeavesOnly (life (disk_of mid)) (life (disk_of new)) (P (life (disk_of old)).seen (held_of (journal_of old))) =
-      subst (λ (n : ℕ). LeavesOnly (life (disk_of mid)) (life (disk_of new)) (P (life (disk_of old)).seen n)) held
-      (subst (λ (base : List ℕ). LeavesOnly (life (disk_of mid)) (life (disk_of new)) (P base (held_of (journal_of mid)))) seen (all store (rests store r))) in
+      let there : LeavesOnly (life (disk_of mid)) (life (disk_of new)) (Moment (life (disk_of old)).seen store tables es hold) =
+      subst (λ (base : List ℕ). LeavesOnly (life (disk_of mid)) (life (disk_of new)) (Moment base store tables es hold)) seen (all store (rests store r)) in
       stays_and (life (disk_of old)) (life (disk_of mid)) (life (disk_of new)) _ stays there (here store r)
 
   same_stays : StaysOn modelled life mid new → StaysOn modelled life old new
   same_stays s = record {
     size = s.size ∙ ap (λ (l : List ℕ). length l) seen;
-    held = s.held ∙ held;
     made = s.made ∙ made;
   }
 
-  keeps : KeepsOld modelled life mid tables es new → KeepsOld modelled life old tables es new
+  keeps : KeepsOld modelled life mid tables es hold new → KeepsOld modelled life old tables es hold new
   keeps k = record {
     stays = same_stays k.stays;
     moments = leaves k.moments;
     goes_on = λ store r. subst (λ (base : List ℕ). GoesOn (life (disk_of new)) base store) seen (k.goes_on store (rests store r));
     journal = k.journal ∙ journal;
+    layout = k.layout ∙ layout;
     faults = k.faults ∙ faults;
     going = k.going;
   }
 
-  pub after_reading : (result : Result (Unit {0}) CheckpointError) → Checkpoints modelled life mid tables es result new → Checkpoints modelled life old tables es result new
+  pub after_reading : (result : Result (Unit {0}) CheckpointError) → Checkpoints modelled life mid tables es hold result new → Checkpoints modelled life old tables es hold result new
   after_reading (Ok x) w = record {
     stays = same_stays w.stays;
     moments = leaves w.moments;
-    switched = λ store r.
-        subst (λ (n : ℕ). IsSwitched modelled (life (disk_of new)) (life (disk_of old)).seen store tables es n (journal_of new)) held
-        (subst (λ (base : List ℕ). IsSwitched modelled (life (disk_of new)) base store tables es (held_of (journal_of mid)) (journal_of new)) seen (w.switched store (rests store r)));
+    switched = λ store r. subst (λ (base : List ℕ). IsSwitched modelled (life (disk_of new)) base store tables es hold (journal_of new)) seen (w.switched store (rests store r));
+    held = w.held;
+    layout = w.layout;
     inside = w.inside;
-    fits = subst (λ (n : ℕ). need_of tables es n ≤ half_len (length (life (disk_of old)).seen)) held
-        (subst (λ (base : List ℕ). need_of tables es (held_of (journal_of mid)) ≤ half_len (length base)) seen w.fits);
+    fits = subst (λ (base : List ℕ). need_of tables es hold ≤ half_len (length base)) seen w.fits;
     faults = w.faults ∙ faults;
     going = w.going;
   }
@@ -113,14 +105,14 @@ module _ {D : Type 0} (modelled : Bool) (life : D → Life) (old mid : DiskRecor
     keeps k.0,
     record {
       less = k.1.less;
-      lacking = subst (λ (n : ℕ). need + half_len (length (life (disk_of old)).seen) ≤ need_of tables es n + room) held
-          (subst (λ (base : List ℕ). need + half_len (length base) ≤ need_of tables es (held_of (journal_of mid)) + room) seen k.1.lacking);
+      lacking = subst (λ (base : List ℕ). need + half_len (length base) ≤ need_of tables es hold + room) seen k.1.lacking;
     },
   )
   after_reading (Err DeviceFailed) l = record {
     stays = same_stays l.stays;
     moments = leaves l.moments;
     journal = l.journal ∙ journal;
+    layout = l.layout ∙ layout;
     faults = l.faults ∙ ap (λ (n : ℕ). n + 1) faults;
     failed = l.failed;
   }

@@ -4,6 +4,7 @@ use Rattle.drda_disk.specs.Disk.{LeavesOnly, Life}
 use Rattle.drda_disk.specs.Region.{end_of}
 use Rattle.half_store.specs.Active.{Store}
 use Rattle.half_store.specs.Layout.{half_len}
+use Rattle.half_store.specs.declared.header.Layout.TheVariants.{Two}
 use Rattle.tables.specs.Tables.{Store as Tables}
 use Rattle.unit_journal.specs.Journal.{IsSettled, held_of, region_of}
 use Rattle.unit_journal.specs.declared.journal.Journal.{Journal}
@@ -11,7 +12,7 @@ use Rattle.unit_journal.specs.Record.{Entry}
 use Rattle.checkpoints.specs.Holds.{half_end, journal_at}
 use Rattle.checkpoints.specs.Moment.{GoesOn, IsNew, Moment, Rests}
 use Rattle.checkpoints.specs.Room.{need_of}
-use Rattle.journal_recorder.specs.Recording.{disk_of, has_failed, journal_of, made_of}
+use Rattle.journal_recorder.specs.Recording.{disk_of, has_failed, journal_of, layout_of, made_of}
 use Rattle.journal_recorder.specs.declared.checkpointing.CheckpointError.{CheckpointError}
 use Rattle.journal_recorder.specs.declared.checkpointing.CheckpointError.TheVariants.{DeviceFailed, Full, NoMemory}
 use Rattle.journal_recorder.specs.declared.recorder.DiskRecorder.{DiskRecorder}
@@ -31,49 +32,53 @@ module _ {D : Type 0} (modelled : Bool) (life : D → Life) where
   abbrev pub OfStore : DiskRecorder D → (Store → Type 0) → Type 0
   OfStore r P = (store : Store) → Rests modelled (disk_life r) store → P store
 
-  -- a crash at any moment leaves the old half, or the new one
-  abbrev pub LeavesOldOrNew : DiskRecorder D → Tables → List Entry → DiskRecorder D → Type 0
-  LeavesOldOrNew old tables es new = OfStore old (λ store. LeavesOnly (disk_life old) (disk_life new) (Moment (disk_life old).seen store tables es (held_of (journal_of old))))
+  -- a crash at any moment leaves the old half, or the new one, with room for so many bytes that are held back
+  abbrev pub LeavesOldOrNew : DiskRecorder D → Tables → List Entry → ℕ → DiskRecorder D → Type 0
+  LeavesOldOrNew old tables es hold new = OfStore old (λ store. LeavesOnly (disk_life old) (disk_life new) (Moment (disk_life old).seen store tables es hold))
 
   -- the records that were made stay, and so does the size of the disk
   pub record StaysOn (old new : DiskRecorder D) : Type 0 where
     pub size : length (disk_life new).seen ≡ length (disk_life old).seen
-    pub held : held_of (journal_of new) ≡ held_of (journal_of old)
     pub made : made_of new ≡ made_of old
 
-  pub record Switches (old : DiskRecorder D) (tables : Tables) (es : List Entry) (new : DiskRecorder D) : Type 0 where
+  -- what is recorded next stands in layout 2
+  pub record Switches (old : DiskRecorder D) (tables : Tables) (es : List Entry) (hold : ℕ) (new : DiskRecorder D) : Type 0 where
     pub stays : StaysOn old new
-    pub moments : LeavesOldOrNew old tables es new
-    pub switched : OfStore old (λ store. IsSwitched modelled (disk_life new) (disk_life old).seen store tables es (held_of (journal_of old)) (journal_of new))
+    pub moments : LeavesOldOrNew old tables es hold new
+    pub switched : OfStore old (λ store. IsSwitched modelled (disk_life new) (disk_life old).seen store tables es hold (journal_of new))
+    pub held : held_of (journal_of new) ≡ hold
+    pub layout : layout_of new ≡ Two
     pub inside : end_of (region_of (journal_of new)) ≤ length (disk_life new).seen
-    pub fits : need_of tables es (held_of (journal_of old)) ≤ half_len (length (disk_life old).seen)
+    pub fits : need_of tables es hold ≤ half_len (length (disk_life old).seen)
     pub faults : (disk_life new).faults ≡ (disk_life old).faults
     pub going : has_failed new ≡ false
 
   -- nothing is switched, and the old half goes on
-  pub record KeepsOld (old : DiskRecorder D) (tables : Tables) (es : List Entry) (new : DiskRecorder D) : Type 0 where
+  pub record KeepsOld (old : DiskRecorder D) (tables : Tables) (es : List Entry) (hold : ℕ) (new : DiskRecorder D) : Type 0 where
     pub stays : StaysOn old new
-    pub moments : LeavesOldOrNew old tables es new
+    pub moments : LeavesOldOrNew old tables es hold new
     pub goes_on : OfStore old (λ store. GoesOn (disk_life new) (disk_life old).seen store)
     pub journal : journal_of new ≡ journal_of old
+    pub layout : layout_of new ≡ layout_of old
     pub faults : (disk_life new).faults ≡ (disk_life old).faults
     pub going : has_failed new ≡ false
 
   -- the device failed: either half may be the active one when the store is opened again
-  pub record LeavesOpen (old : DiskRecorder D) (tables : Tables) (es : List Entry) (new : DiskRecorder D) : Type 0 where
+  pub record LeavesOpen (old : DiskRecorder D) (tables : Tables) (es : List Entry) (hold : ℕ) (new : DiskRecorder D) : Type 0 where
     pub stays : StaysOn old new
-    pub moments : LeavesOldOrNew old tables es new
+    pub moments : LeavesOldOrNew old tables es hold new
     pub journal : journal_of new ≡ journal_of old
+    pub layout : layout_of new ≡ layout_of old
     pub faults : (disk_life new).faults ≡ (disk_life old).faults + 1
     pub failed : has_failed new ≡ true
 
   -- There is no room only where the half is too short for the header, the pages, the records, the bytes held and a gate.
-  pub record LacksRoom (old : DiskRecorder D) (tables : Tables) (es : List Entry) (need room : ℕ) : Type 0 where
+  pub record LacksRoom (old : DiskRecorder D) (tables : Tables) (es : List Entry) (hold need room : ℕ) : Type 0 where
     pub less : room < need
-    pub lacking : need + half_len (length (disk_life old).seen) ≤ need_of tables es (held_of (journal_of old)) + room
+    pub lacking : need + half_len (length (disk_life old).seen) ≤ need_of tables es hold + room
 
-  abbrev pub Checkpoints : {T : Type 0} → DiskRecorder D → Tables → List Entry → Result T CheckpointError → DiskRecorder D → Type 0
-  Checkpoints old tables es (Ok x) new = Switches old tables es new
-  Checkpoints old tables es (Err NoMemory) new = KeepsOld old tables es new
-  Checkpoints old tables es (Err (Full need room)) new = KeepsOld old tables es new × LacksRoom old tables es need room
-  Checkpoints old tables es (Err DeviceFailed) new = LeavesOpen old tables es new
+  abbrev pub Checkpoints : {T : Type 0} → DiskRecorder D → Tables → List Entry → ℕ → Result T CheckpointError → DiskRecorder D → Type 0
+  Checkpoints old tables es hold (Ok x) new = Switches old tables es hold new
+  Checkpoints old tables es hold (Err NoMemory) new = KeepsOld old tables es hold new
+  Checkpoints old tables es hold (Err (Full need room)) new = KeepsOld old tables es hold new × LacksRoom old tables es hold need room
+  Checkpoints old tables es hold (Err DeviceFailed) new = LeavesOpen old tables es hold new

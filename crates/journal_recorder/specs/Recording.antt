@@ -3,6 +3,7 @@ use Rattle.std.specs.Prelude.{◌≡◌, ℕ, ◌+◌, ◌-◌, ◌^◌, ◌<◌
 use Rattle.std.specs.List.{AllByRecursion}
 use Rattle.drda_disk.specs.Disk.{LeavesOnly, Life}
 use Rattle.drda_disk.specs.Region.{SameOutside, end_of}
+use Rattle.half_store.specs.declared.header.Layout.{Layout}
 use Rattle.unit_journal.specs.declared.journal.Journal.{Journal}
 use Rattle.unit_journal.specs.Journal.{IsSettled, held_of, region_of, room_of}
 use Rattle.unit_journal.specs.Record.{Entry}
@@ -18,6 +19,10 @@ journal_of r = r.journal
 
 abbrev pub disk_of : {D : Type 0} → DiskRecorder D → D
 disk_of r = r.disk
+
+-- its journal's layout, by which bytes are held back and released
+abbrev pub layout_of : {D : Type 0} → DiskRecorder D → Layout
+layout_of r = r.layout
 
 -- the device has failed
 abbrev pub has_failed : {D : Type 0} → DiskRecorder D → Bool
@@ -35,7 +40,7 @@ module _ {D : Type 0} (modelled : Bool) (life : D → Life) where
   pub record Allows (r : DiskRecorder D) (said : UnitRecord) : Type 0 where
     pub going : has_failed r ≡ false
     pub inside : end_of (region_of (journal_of r)) ≤ length (life_of r).seen
-    pub released_is_held : released said ≤ held_of (journal_of r)
+    pub released_is_held : released (layout_of r) said ≤ held_of (journal_of r)
 
   -- a crash at any moment leaves the records from before, with this one or without
   abbrev pub LeavesOneMore : DiskRecorder D → UnitRecord → DiskRecorder D → Type 0
@@ -48,25 +53,27 @@ module _ {D : Type 0} (modelled : Bool) (life : D → Life) where
     pub moments : LeavesOneMore old said new
     pub others : SameOutside (region_of (journal_of old)) (life_of old).seen (life_of new).seen
     pub region : region_of (journal_of new) ≡ region_of (journal_of old)
-    pub room : room_of (journal_of new) + (taken said + held said) ≡ room_of (journal_of old) + released said
-    pub held : held_of (journal_of new) + released said ≡ held_of (journal_of old) + held said
+    pub layout : layout_of new ≡ layout_of old
+    pub room : room_of (journal_of new) + (taken said + held (layout_of old) said) ≡ room_of (journal_of old) + released (layout_of old) said
+    pub held : held_of (journal_of new) + released (layout_of old) said ≡ held_of (journal_of old) + held (layout_of old) said
     pub faults : (life_of new).faults ≡ (life_of old).faults
     pub going : has_failed new ≡ false
     pub made : made_of new ≡ made_of old ++ entry_of said ∷ []
 
   -- the record and what it holds back are longer than the room and what it releases; what is needed stops at 2^64 - 1
   pub record HasNoRoom (old : DiskRecorder D) (said : UnitRecord) (need room : ℕ) : Type 0 where
-    pub need_is : need ≡ min (taken said + held said - released said) (2 ^ 64 - 1)
+    pub need_is : need ≡ min (taken said + held (layout_of old) said - released (layout_of old) said) (2 ^ 64 - 1)
     pub room_is : room ≡ room_of (journal_of old)
-    pub less : room_of (journal_of old) + released said < taken said + held said
+    pub less : room_of (journal_of old) + released (layout_of old) said < taken said + held (layout_of old) said
 
   -- whether the record is there shows when the store is opened again
   pub record IsLeftOpen (old : DiskRecorder D) (said : UnitRecord) (new : DiskRecorder D) : Type 0 where
     pub good : IsGood said
-    pub fits : taken said + held said ≤ room_of (journal_of old) + released said
+    pub fits : taken said + held (layout_of old) said ≤ room_of (journal_of old) + released (layout_of old) said
     pub moments : LeavesOneMore old said new
     pub others : SameOutside (region_of (journal_of old)) (life_of old).seen (life_of new).seen
     pub journal : journal_of new ≡ journal_of old
+    pub layout : layout_of new ≡ layout_of old
     pub faults : (life_of new).faults ≡ (life_of old).faults + 1
     pub failed : has_failed new ≡ true
     pub made : made_of new ≡ made_of old ++ entry_of said ∷ []
@@ -82,7 +89,7 @@ module _ {D : Type 0} (modelled : Bool) (life : D → Life) where
   pub record AllowsAll (r : DiskRecorder D) (records : List UnitRecord) : Type 0 where
     pub going : has_failed r ≡ false
     pub inside : end_of (region_of (journal_of r)) ≤ length (life_of r).seen
-    pub released_is_held : released_by records ≤ held_of (journal_of r)
+    pub released_is_held : released_by (layout_of r) records ≤ held_of (journal_of r)
 
   -- a crash at any moment leaves the records from before, with all of these or without
   abbrev pub LeavesAllMore : DiskRecorder D → List UnitRecord → DiskRecorder D → Type 0
@@ -95,8 +102,9 @@ module _ {D : Type 0} (modelled : Bool) (life : D → Life) where
     pub moments : LeavesAllMore old records new
     pub others : SameOutside (region_of (journal_of old)) (life_of old).seen (life_of new).seen
     pub region : region_of (journal_of new) ≡ region_of (journal_of old)
-    pub room : room_of (journal_of new) + (taken_by records + held_by records) ≡ room_of (journal_of old) + released_by records
-    pub held : held_of (journal_of new) + released_by records ≡ held_of (journal_of old) + held_by records
+    pub layout : layout_of new ≡ layout_of old
+    pub room : room_of (journal_of new) + (taken_by records + held_by (layout_of old) records) ≡ room_of (journal_of old) + released_by (layout_of old) records
+    pub held : held_of (journal_of new) + released_by (layout_of old) records ≡ held_of (journal_of old) + held_by (layout_of old) records
     pub faults : (life_of new).faults ≡ (life_of old).faults
     pub going : has_failed new ≡ false
     pub made : made_of new ≡ made_of old ++ map entry_of records
@@ -104,10 +112,11 @@ module _ {D : Type 0} (modelled : Bool) (life : D → Life) where
   -- whether the records are there, all or none, shows when the store is opened again
   pub record AreLeftOpen (old : DiskRecorder D) (records : List UnitRecord) (new : DiskRecorder D) : Type 0 where
     pub good : AllByRecursion IsGood records
-    pub fits : taken_by records + held_by records ≤ room_of (journal_of old) + released_by records
+    pub fits : taken_by records + held_by (layout_of old) records ≤ room_of (journal_of old) + released_by (layout_of old) records
     pub moments : LeavesAllMore old records new
     pub others : SameOutside (region_of (journal_of old)) (life_of old).seen (life_of new).seen
     pub journal : journal_of new ≡ journal_of old
+    pub layout : layout_of new ≡ layout_of old
     pub faults : (life_of new).faults ≡ (life_of old).faults + 1
     pub failed : has_failed new ≡ true
     pub made : made_of new ≡ made_of old ++ map entry_of records

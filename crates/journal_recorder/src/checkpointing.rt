@@ -8,25 +8,27 @@ ghost use Rattle.half_store.specs.Opened.{store_of};
 ghost use Rattle.table_store.specs.TableStore.{store_in};
 ghost use Rattle.tables.specs.ChangeView.{change_of};
 ghost use Rattle.unit_journal.specs.Journal.{region_of};
+ghost use Rattle.unit_journal.specs.LaidRecord.{entry_in};
 ghost use Rattle.unit_journal.specs.Record.{entries_of, entry_of};
-ghost use Rattle.unit_records.specs.Records.{IsGood, entry_of as written, prepared};
-ghost use Rattle.journal_recorder.specs.declared.checkpointing.CheckpointError.TheVariants.{DeviceFailed};
+ghost use Rattle.unit_records.specs.Records.{IsGood, entry_of as written, heuristic, prepared};
+ghost use Rattle.journal_recorder.specs.declared.checkpointing.CheckpointError.TheVariants.{DeviceFailed, NoMemory};
 ghost use Rattle.journal_recorder.specs.Recording.{disk_of, has_failed, journal_of};
 
-use crate::laying::lay_prepare;
+use crate::laying::{lay_heuristic, lay_prepare};
 use crate::recorder::DiskRecorder;
 use checkpoint_writer::ImageError;
 use checkpoints::write_checkpoint;
 use drda_disk::Disk;
-use half_store::{Active, OpenError};
+use half_store::{Active, Layout, OpenError};
 use std::alloc::{AllocError, Global};
 use table_store::TableStore;
 use tables::Change;
 use thiserror::Error;
-use unit_journal::Record;
+use unit_journal::{LaidRecord, Record};
 use unit_locks::Claim;
 use unit_records::RecordError;
 use xa_calls::Xid;
+use xa_manager::Decision;
 
 /// Why no checkpoint was written.
 #[derive(Clone, Copy, Debug, PartialEq, Eq, Error)]
@@ -46,7 +48,7 @@ pub enum CheckpointError {
 const LONGEST_RECORD_BYTES: usize = 4_294_967_295;
 
 /// The record that prepares a unit with these changes and claims, to be laid behind a checkpoint. `Full`
-/// only where it has 2^32 bytes or more with what its decision holds back, so that no half has room for it.
+/// only where it has 2^32 bytes or more with what it holds back in layout 2, so that no half has room for it.
 pub fn prepare_record(
     alloc: Global,
     xid: &Xid,
@@ -57,7 +59,14 @@ pub fn prepare_record(
     ensures good { IfOk result (λ r. IsGood (prepared xid.now (map change_of changes.now) claims.now)) }
     ensures other { IfErr result (λ error. error ≢ DeviceFailed) }
 {
-    let laid = match lay_prepare(alloc, xid, changes, claims, LONGEST_RECORD_BYTES) {
+    let laid = match lay_prepare(
+        alloc,
+        Layout::Two,
+        xid,
+        changes,
+        claims,
+        LONGEST_RECORD_BYTES,
+    ) {
         Ok(laid) => laid,
         Err(RecordError::NoMemory) => return Err(CheckpointError::NoMemory),
         Err(RecordError::Full { need, room }) => {
@@ -68,6 +77,30 @@ pub fn prepare_record(
         }
         Err(RecordError::DeviceFailed) => unreachable!(),
     };
+    record_of(alloc, &laid)
+}
+
+/// The record that decides a branch heuristically, to be laid behind a checkpoint.
+pub fn heuristic_record(
+    alloc: Global,
+    xid: &Xid,
+    decision: Decision,
+) -> Result<Record, CheckpointError>
+    ensures record { IfOk result (λ r. entry_of r ≡ written (heuristic xid.now decision)) }
+    ensures good { IfOk result (λ r. IsGood (heuristic xid.now decision)) }
+    ensures other { IfErr result (λ error. error ≡ NoMemory) }
+{
+    match lay_heuristic(alloc, xid, decision) {
+        Ok(laid) => record_of(alloc, &laid),
+        Err(AllocError) => Err(CheckpointError::NoMemory),
+    }
+}
+
+// The record that was laid.
+fn record_of(alloc: Global, laid: &LaidRecord) -> Result<Record, CheckpointError>
+    ensures record { IfOk result (λ r. entry_of r ≡ entry_in laid.now) }
+    ensures other { IfErr result (λ error. error ≡ NoMemory) }
+{
     match Vec::from_slice(alloc, laid.body()) {
         Ok(body) => Ok(Record {
             at: 0,
@@ -82,8 +115,8 @@ impl<D: Disk> DiskRecorder<D> {
     ghost use Rattle.journal_recorder.specs.Checkpointing.{Checkpoints};
 
     /// Writes a checkpoint: these tables into the half of the store that is not active, and behind them
-    /// these records and no others; then that half is the active one, and what is recorded next stands
-    /// behind them. As many bytes as before are held back.
+    /// these records and no others; then that half is the active one, of layout 2, and what is recorded
+    /// next stands behind them. `held` bytes are held back then.
     ///
     /// A crash at any moment leaves the old half or the new one (`Moment`). `Full` comes only where the
     /// half is too short for all of it. After it and after `NoMemory` the old half goes on. On
@@ -94,10 +127,11 @@ impl<D: Disk> DiskRecorder<D> {
         &mut self,
         tables: &TableStore,
         records: &[Record],
+        held: usize,
     ) -> Result<(), CheckpointError>
         requires going { has_failed self.old ≡ false }
         requires inside { end_of (region_of (journal_of self.old)) ≤ length (D.life (disk_of self.old)).seen }
-        ensures { Checkpoints D.is_modelled D.life self.old (store_in tables.now) (entries_of records.now) result self.new }
+        ensures { Checkpoints D.is_modelled D.life self.old (store_in tables.now) (entries_of records.now) held result self.new }
     {
         let active = match half_store::open(self.alloc, &mut self.disk) {
             Ok(active) => active,
@@ -109,7 +143,7 @@ impl<D: Disk> DiskRecorder<D> {
             Err(OpenError::Damaged { .. }) => return Err(CheckpointError::NoMemory),
             Err(OpenError::NoMemory) => return Err(CheckpointError::NoMemory),
         };
-        self.write_over(&active, tables, records)
+        self.write_over(&active, tables, records, held)
     }
 
     // The same, where this is the active half.
@@ -118,17 +152,18 @@ impl<D: Disk> DiskRecorder<D> {
         active: &Active,
         tables: &TableStore,
         records: &[Record],
+        held: usize,
     ) -> Result<(), CheckpointError>
         requires going { has_failed self.old ≡ false }
         requires size { IsTrue (is_store_size (length (D.life (disk_of self.old)).seen)) }
         requires active { IsTrue D.is_modelled → active_of (D.life (disk_of self.old)).seen ≡ Ok (store_of active.now) }
-        ensures { Checkpoints D.is_modelled D.life self.old (store_in tables.now) (entries_of records.now) result self.new }
+        ensures { Checkpoints D.is_modelled D.life self.old (store_in tables.now) (entries_of records.now) held result self.new }
     {
-        let held = self.journal.held();
         let mut left = tables.lend();
         match write_checkpoint(self.alloc, &mut self.disk, active, &mut left, records, held) {
             Ok(switched) => {
                 self.journal = switched.journal;
+                self.layout = Layout::Two;
                 Ok(())
             }
             Err(ImageError::NoMemory) => Err(CheckpointError::NoMemory),

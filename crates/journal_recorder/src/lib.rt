@@ -7,5 +7,5 @@ mod laying_all;
 mod made;
 mod recorder;
 
-pub use checkpointing::{CheckpointError, prepare_record};
+pub use checkpointing::{CheckpointError, heuristic_record, prepare_record};
 pub use recorder::DiskRecorder;

@@ -2,6 +2,8 @@
 #![tactic(auto)]
 
 #[cfg(test)]
+mod migration;
+#[cfg(test)]
 mod records;
 #[cfg(test)]
 mod together;

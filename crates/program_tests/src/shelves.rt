@@ -4,13 +4,30 @@ use drda_disk::{Disk, FileFault, FuseDisk, MemDisk};
 use drda_program::StoreFiles;
 use std::alloc::Global;
 use std::io::{self, ErrorKind};
+use test_bytes::{ACCRDB, ACCSEC, EXCSAT_ALONE, RDBCMM, SECCHK_ALONE, push_texts};
 use test_nodes::{Node, fresh_store, node_of};
 
 const TWO_MIB: usize = 2_097_152;
 
-/// Files by their names: `store` is a fresh store SHOP, `doubt` one over which a conversation has said what leaves units in doubt, `zeros` none
-/// at all, and `damaged` one whose journal begins with a record of an unknown kind. The one that can be made is `new`. The private texts
-/// `login`, `line` and `carriage` hold a login, `lines`, `blank` and `colon` none.
+/// Where a store of 2 MiB has the number of the layout of its first half, in four bytes.
+const LAYOUT_AT: usize = 8_213;
+
+/// CREATE TABLE T000 (K INTEGER NOT NULL, PRIMARY KEY (K)), and INSERT INTO T000 VALUES (1), in front of the digits of the table and
+/// behind them.
+const CREATE: [&str; 2] = [
+    "000A D051 0006 0004 200A 0047 D003 0006 0041 2414 00 00000037 435245415445205441424C452054",
+    "20284B20494E5445474552204E4F54204E554C4C2C205052494D415259204B455920284B2929 FF",
+];
+
+const INSERT: [&str; 2] = [
+    "000A D051 0006 0004 200A 002B D003 0006 0025 2414 00 0000001B 494E5345525420494E544F2054",
+    "2056414C55455320283129 FF",
+];
+
+/// Files by their names: `store` is a fresh store SHOP, `doubt` one over which a conversation has said what leaves units in doubt, `old` the same
+/// of layout 1, `crowded` the same of layout 1 with more tables than a half has pages, `zeros` none at all, and `damaged` one whose journal begins
+/// with a record of an unknown kind. The one that can be made is `new`. The private texts `login`, `line` and `carriage` hold a login, `lines`,
+/// `blank` and `colon` none.
 #[derive(Drop)]
 pub struct Shelf<'a> {
     alloc: Global,
@@ -54,7 +71,9 @@ impl StoreFiles for Shelf<'_> {
     fn open(&mut self, path: &str) -> Result<FuseDisk<MemDisk>, FileFault> {
         let disk = match path {
             "store" => fresh_store(self.alloc),
-            "doubt" => in_doubt(self.alloc, self.doubtful),
+            "doubt" => in_doubt(self.alloc, &[], self.doubtful),
+            "old" => as_layout_1(in_doubt(self.alloc, &[], self.doubtful)),
+            "crowded" => crowded(self.alloc, self.doubtful),
             "zeros" => MemDisk::new(self.alloc, TWO_MIB).ok(),
             "damaged" => damaged(self.alloc),
             _ => None,
@@ -95,11 +114,37 @@ fn damaged(alloc: Global) -> Option<MemDisk> {
     Some(disk)
 }
 
-fn in_doubt(alloc: Global, doubtful: &[u8]) -> Option<MemDisk> {
+// The store behind two conversations.
+fn in_doubt(alloc: Global, before: &[u8], doubtful: &[u8]) -> Option<MemDisk> {
     let mut node = node_of(alloc)?;
-    let has_heard = hears(alloc, &mut node, doubtful);
+    let has_heard = hears(alloc, &mut node, before) && hears(alloc, &mut node, doubtful);
     let disk = node.into_core().into_disk();
     if has_heard { Some(disk) } else { None }
+}
+
+// A store of layout 1: its first half is the active one.
+fn as_layout_1(made: Option<MemDisk>) -> Option<MemDisk> {
+    let mut disk = made?;
+    if disk.size() < LAYOUT_AT + 4 {
+        return None;
+    }
+    disk.write_at(LAYOUT_AT, &[0; 4]).ok()?;
+    Some(disk)
+}
+
+// A store of layout 1 with 130 tables of a row each.
+fn crowded(alloc: Global, doubtful: &[u8]) -> Option<MemDisk> {
+    let mut said = Vec::new(alloc);
+    push_texts(&mut said, &[EXCSAT_ALONE, ACCSEC, SECCHK_ALONE, ACCRDB]).ok()?;
+    for number in 100..230 {
+        let (hundreds, tens, ones) = (number / 100, number / 10 % 10, number % 10);
+        let name = format!(in alloc; "3{hundreds}3{tens}3{ones}").ok()?;
+        let (create, insert) = (CREATE, INSERT);
+        let texts = [create[0], &name, create[1], insert[0], &name, insert[1]];
+        push_texts(&mut said, &texts).ok()?;
+    }
+    push_texts(&mut said, &[RDBCMM]).ok()?;
+    as_layout_1(in_doubt(alloc, &said, doubtful))
 }
 
 // Whether a node opens a conversation, which says these bytes.

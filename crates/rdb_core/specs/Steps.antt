@@ -42,7 +42,7 @@ Steps records fails old conversation k told new before after =
 -- what is due may want memory: a branch begins, or changes are committed
 abbrev pub wants_memory : Action → List Change → Bool
 wants_memory action.Start changes = true
-wants_memory action.Forget changes = has_any changes
+wants_memory action.EndUnchanged changes = has_any changes
 wants_memory action.CommitOnePhase changes = has_any changes
 wants_memory (action.Decide decided.Commit) changes = has_any changes
 wants_memory _ changes = false

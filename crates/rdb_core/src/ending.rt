@@ -3,7 +3,8 @@
 ghost use Rattle.std.specs.Prelude.{◌≡◌, IfErr, None, OnErr, OnOk, Some, if◌then◌else◌, map};
 ghost use Rattle.tables.specs.ChangeView.{change_of};
 ghost use Rattle.table_store.specs.TableStore.{IsReserved, store_in};
-ghost use Rattle.unit_records.specs.Records.{UnitRecord, decided};
+ghost use Rattle.unit_records.specs.RecordContents.{said_by};
+ghost use Rattle.unit_records.specs.Records.{UnitRecord};
 ghost use Rattle.unit_records.specs.Due.{action_due, commit_due};
 ghost use Rattle.xa_manager.specs.Branch.{is_lost_with};
 ghost use Rattle.core_model.specs.Units.{global, unit_of, without};
@@ -53,7 +54,31 @@ pub(crate) fn commit_unit<R: Recorder>(
     finish(store, units, owner, recorded)
 }
 
-// The unit of a branch in doubt is committed: that is recorded, then its changes are made, and it ends
+/// The unit of a branch in doubt ends as the branch is decided: what is said of that is recorded first. Memory is
+/// taken where it commits; rolled back, by the record alone. On an error all units and tables stay, and no
+/// room is held.
+pub(crate) fn end_decided<R: Recorder>(
+    store: &mut TableStore,
+    units: &mut Units,
+    recorder: &mut R,
+    alloc: Global,
+    xid: &Xid,
+    decision: Decision,
+    saying: RecordContents<'_>,
+) -> Result<(), RecordError>
+    requires allowed { R.allows recorder.old (said_by saying) }
+    ensures done { OnOk result (base_of store.new units.new ≡ bare_run (action_events xid.now (Action.Decide decision)) (base_of store.old units.old)) }
+    ensures recorded { OnOk result (R.records recorder.old (said_by saying.entry) recorder.new) }
+    ensures kept { OnErr result (base_of store.new units.new ≡ base_of store.old units.old) }
+    ensures refused { IfErr result (λ error. Refuses R.fails (Some (said_by saying.entry)) error recorder.old recorder.new) }
+{
+    match decision {
+        Decision::Commit => commit_decided(store, units, recorder, alloc, xid, saying),
+        Decision::RollBack => roll_back_decided(units, recorder, xid, saying),
+    }
+}
+
+// The unit of a branch in doubt is committed: this is recorded, then its changes are made, and it ends
 // with its claims. On an error all units and tables stay, and no room is held.
 fn commit_decided<R: Recorder>(
     store: &mut TableStore,
@@ -61,42 +86,38 @@ fn commit_decided<R: Recorder>(
     recorder: &mut R,
     alloc: Global,
     xid: &Xid,
+    saying: RecordContents<'_>,
 ) -> Result<(), RecordError>
-    requires allowed { R.allows recorder.old (decided xid.now Decision.Commit) }
+    requires allowed { R.allows recorder.old (said_by saying) }
     ensures done { OnOk result (base_of store.new units.new ≡ bare (base_of store.old units.old) (Commit (global xid.now))) }
-    ensures recorded { OnOk result (R.records recorder.old (decided xid.now Decision.Commit) recorder.new) }
+    ensures recorded { OnOk result (R.records recorder.old (said_by saying.entry) recorder.new) }
     ensures kept { OnErr result (base_of store.new units.new ≡ base_of store.old units.old) }
-    ensures refused { IfErr result (λ error. Refuses R.fails (Some (decided xid.now Decision.Commit)) error recorder.old recorder.new) }
+    ensures refused { IfErr result (λ error. Refuses R.fails (Some (said_by saying.entry)) error recorder.old recorder.new) }
 {
     let owner = Owner::Global(*xid);
     match make_room(store, alloc, units.changes(&owner)) {
         Ok(()) => {}
         Err(AllocError) => return Err(RecordError::NoMemory),
     }
-    let recorded = recorder.record(RecordContents::Decide {
-        xid,
-        decision: Decision::Commit,
-    });
+    let recorded = recorder.record(saying);
     finish(store, units, &owner, recorded)
 }
 
-// The unit of a branch in doubt is rolled back: that is recorded, then it ends. On an error all units
-// stay.
+// The unit of a branch in doubt is rolled back: this is recorded, then it ends with its claims. On an error
+// all units stay.
 fn roll_back_decided<R: Recorder>(
     units: &mut Units,
     recorder: &mut R,
     xid: &Xid,
+    saying: RecordContents<'_>,
 ) -> Result<(), RecordError>
-    requires allowed { R.allows recorder.old (decided xid.now Decision.RollBack) }
+    requires allowed { R.allows recorder.old (said_by saying) }
     ensures done { OnOk result (units.new ≡ without (global xid.now) units.old) }
-    ensures recorded { OnOk result (R.records recorder.old (decided xid.now Decision.RollBack) recorder.new) }
+    ensures recorded { OnOk result (R.records recorder.old (said_by saying.entry) recorder.new) }
     ensures kept { OnErr result (units.new ≡ units.old) }
-    ensures refused { IfErr result (λ error. Refuses R.fails (Some (decided xid.now Decision.RollBack)) error recorder.old recorder.new) }
+    ensures refused { IfErr result (λ error. Refuses R.fails (Some (said_by saying.entry)) error recorder.old recorder.new) }
 {
-    recorder.record(RecordContents::Decide {
-        xid,
-        decision: Decision::RollBack,
-    })?;
+    recorder.record(saying)?;
     let _changes = units.end(&Owner::Global(*xid));
     Ok(())
 }
@@ -169,20 +190,23 @@ pub(crate) fn do_due<R: Recorder>(
             changes: units.changes(&owner),
             claims: units.claims(&owner),
         }),
-        Action::Forget | Action::CommitOnePhase => {
+        Action::EndUnchanged | Action::CommitOnePhase => {
             commit_unit(store, units, recorder, alloc, &owner)
         }
-        Action::Decide(Decision::Commit) => commit_decided(store, units, recorder, alloc, xid),
-        Action::Decide(Decision::RollBack) => roll_back_decided(units, recorder, xid),
+        Action::Decide(decision) => {
+            let saying = RecordContents::Decide { xid, decision };
+            end_decided(store, units, recorder, alloc, xid, decision, saying)
+        }
         Action::RollBack => {
             let _changes = units.end(&owner);
             Ok(())
         }
+        Action::Forget => recorder.record(RecordContents::Forget { xid }),
     }
 }
 
-/// The units of the branches that a conversation was the last to start or join, and that are not
-/// prepared, end without their changes. Takes no memory.
+/// The units of the branches that a conversation was the last to start or join, and that are not in
+/// doubt, end without their changes. Takes no memory.
 pub(crate) fn end_lost(units: &mut Units, branches: &[Branch], conversation: u64)
     ensures { units.new ≡ left_units (lost_xids branches.now conversation) units.old }
 {

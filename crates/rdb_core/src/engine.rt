@@ -24,7 +24,7 @@ use xa_manager::{Work, XaTable};
 
 /// The committed tables, the units of work of conversations and of branches, and the XA branches.
 /// Contracts see its state by `state_of`, and each call is a step of that state.
-/// What is committed, prepared or decided is recorded before it is made.
+/// What is committed, prepared, decided or forgotten is recorded before it is made.
 #[derive(Drop)]
 pub struct Core<R: Recorder> {
     /// Where memory is asked for.
@@ -117,7 +117,7 @@ impl<R: Recorder> Core<R> {
     }
 
     /// The conversation is lost: its local unit ends, and so does each branch that it was the last to
-    /// start or join, and that is not prepared. Takes no memory.
+    /// start or join, and that is not in doubt. Takes no memory.
     pub fn lost(&mut self, conversation: u64) -> Answer
         ensures { Takes R.records (state_of self.old) conversation lost (answer_of result) (state_of self.new) (recorder_of self.old) (recorder_of self.new) }
     {
@@ -127,9 +127,9 @@ impl<R: Recorder> Core<R> {
         Answer::Done
     }
 
-    /// An XA call (C193 chapter 6). What is prepared, decided or committed is recorded first. Memory may be
-    /// refused only where a branch begins, where changes are committed, at `xa_recover` and where a record
-    /// is made; the core is then as before.
+    /// An XA call (C193 chapter 6). What is prepared, decided, committed or forgotten is recorded first. Memory
+    /// may be refused only where a branch begins, where changes are committed, at `xa_recover` and where a
+    /// record is made; the core is then as before.
     pub fn xa(&mut self, conversation: u64, request: &Result<Request, InvalidRequest>) -> Answer
         requires allowed { (r : UnitRecord) → record_due (state_of self.old) conversation (xa (result_ok request.now)) ≡ Some r → R.allows (recorder_of self.old) r }
         ensures step { Steps R.records R.fails (state_of self.old) conversation (xa (result_ok request.now)) (answer_of result) (state_of self.new) (recorder_of self.old) (recorder_of self.new) }

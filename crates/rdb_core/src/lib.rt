@@ -2,6 +2,7 @@
 #![tactic(auto)]
 
 mod asking;
+mod deciding;
 mod ending;
 mod engine;
 mod finding;

@@ -19,7 +19,7 @@ use unit_locks::Claim;
 use unit_records::Recorder;
 use unit_table::{Owner, Units};
 use xa_calls::Xid;
-use xa_manager::{RestoreError, XaTable};
+use xa_manager::{Decision, RestoreError, XaTable};
 
 impl<R: Recorder> Core<R> {
     /// A core with these committed tables, without units and branches. Takes no memory.
@@ -36,17 +36,19 @@ impl<R: Recorder> Core<R> {
         }
     }
 
-    /// A branch that was found in doubt is prepared again, with the unit that it had: these changes,
-    /// and of these claims each once. On an error nothing changes. `Known` and `Full` come only where it
-    /// is so, and memory may be refused.
+    /// A branch that was found in doubt stands again as it was found: prepared where it has no outcome, else
+    /// decided heuristically so. Its unit has these changes, and of these claims each once: none of either
+    /// where the branch was decided. On an error nothing changes. `Known` and `Full` come only where it is
+    /// so, and memory may be refused.
     pub fn restore(
         &mut self,
         xid: Xid,
+        outcome: Option<Decision>,
         changes: UnitChanges,
         claims: Vec<Claim>,
     ) -> Result<(), RestoreError>
         requires idle { has_work (unit_of (global xid) (state_of self.old).base.units) ≡ false }
-        ensures ok { OnOk result (state_of self.new ≡ with_in_doubt (state_of self.old) xid changes claims.items) }
+        ensures ok { OnOk result (state_of self.new ≡ with_in_doubt (state_of self.old) xid outcome changes claims.items) }
         ensures err { OnErr result (state_of self.new ≡ state_of self.old) }
         ensures exact { RestoresUnit result (state_of self.old).branches xid }
         ensures recorder { recorder_of self.new ≡ recorder_of self.old }
@@ -56,7 +58,7 @@ impl<R: Recorder> Core<R> {
             Ok(()) => {}
             Err(AllocError) => return Err(RestoreError::NoMemory),
         }
-        match self.branches.restore(&xid) {
+        match self.branches.restore(&xid, outcome) {
             Ok(()) => Ok(()),
             Err(error) => {
                 let _changes = self.units.end(&Owner::Global(xid));
@@ -65,7 +67,7 @@ impl<R: Recorder> Core<R> {
         }
     }
 
-    /// The XIDs that are in doubt, by rising bytes. Takes no memory.
+    /// The XIDs that are in doubt, prepared or decided heuristically, by rising bytes. Takes no memory.
     pub fn in_doubt(&self) -> InDoubt<'_>
         ensures { xids_left result ≡ in_doubt_xids (state_of self.now).branches }
     {

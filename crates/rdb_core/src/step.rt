@@ -21,8 +21,8 @@ use std::alloc::AllocError;
 use unit_records::Recorder;
 
 impl<R: Recorder> Core<R> {
-    /// What a conversation asks is answered, and the core takes one step. What is committed, prepared or
-    /// decided is recorded first; where that is refused the answer says why, and the core is as before.
+    /// What a conversation asks is answered, and the core takes one step. What is committed, prepared,
+    /// decided or forgotten is recorded first; where that is refused the answer says why, and the core is as before.
     /// Out of memory it answers `NoMemory` and is as before. A rollback and the loss of a conversation
     /// take no memory, nor do a commit of a unit without changes and a statement that is refused before
     /// it claims anything; nothing is recorded of them.

@@ -2,7 +2,11 @@
 #![tactic(auto)]
 
 #[cfg(test)]
+mod decisions;
+#[cfg(test)]
 mod doubts;
+#[cfg(test)]
+mod few;
 #[cfg(test)]
 mod fixtures;
 #[cfg(test)]

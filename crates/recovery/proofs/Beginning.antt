@@ -1,15 +1,17 @@
 -- What a store opens to begins a history, over crashes and openings too.
-use Rattle.std.proofs.Common.{◌≡◌, ◌⊎◌, ◌≤◌, inl, inr, ⊎_elim, ℕ, zero, suc, Bool, true, false, List, [], ◌∷◌, ◌++◌, length, Option, Some, None, refl, sym, ◌∙◌, ap, subst, map, take}
-use Rattle.std.specs.Prelude.{bytes_eq, if◌then◌else◌, unwrap_or}
+use Rattle.std.proofs.Common.{◌≡◌, ◌⊎◌, ◌≤◌, inl, inr, ⊎_elim, ℕ, zero, suc, true, false, List, [], ◌∷◌, ◌++◌, length, Option, Some, None, refl, sym, ◌∙◌, ap, subst, map, take}
+use Rattle.std.specs.Prelude.{unwrap_or}
 use Rattle.std.specs.List.{AllByRecursion}
 use Rattle.std.specs.Option.{option_and_then, option_to_list}
 use Rattle.std.proofs.lemmas.Bool.{ltb-false}
-use Rattle.drda_words.proofs.Precedes.{bytes_eq-refl}
 use Rattle.tables.specs.Change.{Change, create, is_change, put, remove}
 use Rattle.tables.specs.View.{is_sound}
 use Rattle.xa_manager.specs.declared.branch.BranchState.{BranchState}
 use Rattle.xa_manager.specs.declared.branch.BranchState.TheVariants.{Prepared}
-use Rattle.xa_manager.specs.Branch.{in_doubt_xids, state_of}
+use Rattle.xa_manager.specs.declared.branch.Branch.{Branch}
+use Rattle.xa_manager.specs.declared.due.Decision.{Decision}
+use Rattle.xa_manager.specs.Branch.{found_state, in_doubt_xids}
+use Rattle.xa_manager.proofs.Rising.{Rises, rises}
 use Rattle.unit_locks.specs.Claims.{AreDistinct}
 use Rattle.core_calls.specs.Call.{Call}
 use Rattle.sql_semantics.specs.Frame as frame
@@ -17,47 +19,48 @@ use Rattle.core_model.specs.Units.{Held, Owner, Work, global, has_work, idle, un
 use Rattle.core_model.specs.Step.{CoreState, Kept, Mark, MarkedCall, Taken, replay, step_by, step_state}
 use Rattle.core_model.specs.Laws.{AreListed, HistoriesAreSane, IsPrepared, IsSane, LiesIn, NewCoresAreSane}
 use Rattle.core_model.proofs.Listing.{listed_set}
-use Rattle.core_model.proofs.Owners.{both, which}
+use Rattle.core_model.proofs.Owners.{both}
 use Rattle.unit_records.specs.Due.{record_due}
 use Rattle.unit_records.specs.Laws.{OneReading}
 use Rattle.unit_records.specs.Records.{IsChange, IsGood, UnitRecord, entry_of, kind_of, record_bytes}
 use Rattle.unit_journal.specs.Record.{Entry}
 use Rattle.store_check.specs.Checkpoint.{CheckpointsAreStores, half_pages}
-use Rattle.recovery.specs.Durable.{Doubts, Durable, fresh, replayed_from}
-use Rattle.recovery.specs.Sound.{IsSound}
+use Rattle.recovery.specs.Durable.{Doubt, Doubts, Durable, fresh, replayed_from}
+use Rattle.recovery.specs.Sound.{IsGoodBranch, IsGoodDoubt, IsSound}
 use Rattle.recovery.specs.Sound.{LeadsAreSound}
 use Rattle.recovery.specs.Kept.{IsKept}
-use Rattle.recovery.specs.Part.{doubt_branches, doubt_units, doubts_in, durable_part, opened}
+use Rattle.recovery.specs.Part.{doubt_at, doubt_branches, doubt_units, doubts_in, durable_part, opened}
 use Rattle.recovery.specs.StepLaws.{OpeningsAreKept, RecordsLead, SilentStepsStay, StepsKeep}
 use Rattle.recovery.specs.Openings.{CrashesFindPoints, CrashesLeaveSane, EntriesTell, ImagesAreSound, ImagesBegin, IsPoint, Life, LivesLead, OpeningsBegin, OpeningsStaySane, RecordsGoOn, StoresStaySane, records_by, records_of}
 use Rattle.recovery.proofs.Asking.{set}
+use Rattle.recovery.proofs.Doubts.{state_behind, state_here}
 
 -- ---- units in doubt
 
 listed_units : (es : Doubts) → AreListed (doubt_units es)
 listed_units [] = tt
-listed_units (e ∷ es) = listed_set (global e.0) e.1 (doubt_units es) (listed_units es)
+listed_units (e ∷ es) = listed_set (global e.0) e.1.work (doubt_units es) (listed_units es)
 
 abbrev InDoubt : Doubts → Owner → Type 0
 InDoubt es o = (xid : List ℕ) × (o ≡ global xid) × IsPrepared (doubt_branches es) xid
 
--- an XID that is in doubt is so with one more
-still_prepared : (e : List ℕ × Work) (es : Doubts) (x : List ℕ) → IsPrepared (doubt_branches es) x → IsPrepared (doubt_branches (e ∷ es)) x
-still_prepared e es x is =
-    let P : Bool → Option BranchState = λ b. if b then Some Prepared else state_of (doubt_branches es) x in
-    ⊎_elim (λ so. ap P so) (λ n. ap P n ∙ is) (which (bytes_eq e.0 x))
+abbrev first_branch : List ℕ × Doubt → Branch
+first_branch e = record { xid = e.0; state = found_state e.1.outcome }
 
-first_prepared : (e : List ℕ × Work) (es : Doubts) → IsPrepared (doubt_branches (e ∷ es)) e.0
-first_prepared e es =
-    let P : Bool → Option BranchState = λ b. if b then Some Prepared else state_of (doubt_branches es) e.0 in
-    ap P (bytes_eq-refl e.0)
+-- a branch with work waits for its decision
+waits_with : (xid : List ℕ) (work : Work) (outcome : Option Decision) → IsGoodBranch xid work outcome → has_work work ≡ true → found_state outcome ≡ Prepared
+waits_with xid work None good works = refl
+waits_with xid work (Some o) good works = both (has_work work) works (ap has_work good.1)
 
-in_doubt : (es : Doubts) (o : Owner) → has_work (unit_of o (doubt_units es)) ≡ true → InDoubt es o
-in_doubt [] o works = both false works refl
-in_doubt (e ∷ es) o works =
-    set (global e.0) e.1 (doubt_units es) (λ u. has_work u ≡ true → InDoubt (e ∷ es) o) o
-    (λ same w. (e.0, same, first_prepared e es))
-    (λ n w. let p = in_doubt es o w in (p.0, p.1, still_prepared e es p.0 p.2))
+first_prepared : (e : List ℕ × Doubt) (es : Doubts) → IsGoodDoubt e → has_work e.1.work ≡ true → IsPrepared (doubt_branches (e ∷ es)) e.0
+first_prepared e es good works = state_here (first_branch e) (doubt_branches es) ∙ ap (λ (s : BranchState). let o : Option BranchState = Some s in o) (waits_with e.0 e.1.work e.1.outcome good works)
+
+in_doubt : (es : Doubts) → AllByRecursion IsGoodDoubt es → Rises (doubt_branches es) → (o : Owner) → has_work (unit_of o (doubt_units es)) ≡ true → InDoubt es o
+in_doubt [] all rise o works = both false works refl
+in_doubt (e ∷ es) all rise o works =
+    set (global e.0) e.1.work (doubt_units es) (λ u. has_work u ≡ true → InDoubt (e ∷ es) o) o
+    (λ same w. (e.0, same, first_prepared e es all.0 w))
+    (λ n w. let p = in_doubt es all.1 rise.1 o w in (p.0, p.1, state_behind (first_branch e) (doubt_branches es) p.0 Prepared rise.0 p.2))
     works
 
 sound_of : (x : Change) → is_change x ≡ true → is_sound x ≡ true
@@ -71,14 +74,14 @@ all_sound (y ∷ xs) good x (inl same) = subst (λ (z : Change). is_sound z ≡ 
 all_sound (y ∷ xs) good x (inr i) = all_sound xs good.1 x i
 
 pub images_sound : CheckpointsAreStores → LeadsAreSound → ImagesAreSound
-images_sound stores lead name d image (region, es, holds) =
+images_sound stores lead name d image (layout, region, es, holds) =
     lead holds.checkpoint d es (stores image (half_pages (length image) holds.store) holds.checkpoint holds.pages) holds.leads
 
 module _ (kept : OpeningsAreKept) where
   pub openings_begin : OpeningsBegin
   openings_begin d sound =
       let k = (kept d sound).kept in
-      record { listed = listed_units d.doubts; sound = (k.store, λ o. all_sound (unit_of o (doubt_units d.doubts)).changes (k.good o)); rising = k.table.rising; prepared = in_doubt d.doubts }
+      record { listed = listed_units d.doubts; sound = (k.store, λ o. all_sound (unit_of o (doubt_units d.doubts)).changes (k.good o)); rising = k.table.rising; prepared = in_doubt d.doubts sound.good (rises (doubt_branches d.doubts) k.table.rising) }
 
   pub images_begin : CheckpointsAreStores → LeadsAreSound → ImagesBegin
   images_begin stores lead name d image opens = openings_begin d (images_sound stores lead name d image opens)
@@ -86,20 +89,20 @@ module _ (kept : OpeningsAreKept) where
 -- ---- what is durable of a sane core
 
 -- what holds of the idle unit, and of each unit, holds of each that is opened
-each : (P : Work → Type 0) → P idle → (hs : List Held) → ((o : Owner) → P (unit_of o hs)) → (xids : List (List ℕ)) (o : Owner)
-    → P (unit_of o (doubt_units (map (λ (x : List ℕ). (x, unit_of (global x) hs)) xids)))
-each P none hs all [] o = none
-each P none hs all (x ∷ xs) o =
-    set (global x) (unit_of (global x) hs) (doubt_units (map (λ (y : List ℕ). (y, unit_of (global y) hs)) xs)) P o (λ same. all (global x)) (λ n. each P none hs all xs o)
+each : (P : Work → Type 0) → P idle → (bs : List Branch) (hs : List Held) → ((o : Owner) → P (unit_of o hs)) → (xids : List (List ℕ)) (o : Owner)
+    → P (unit_of o (doubt_units (map (λ (x : List ℕ). (x, doubt_at bs hs x)) xids)))
+each P none bs hs all [] o = none
+each P none bs hs all (x ∷ xs) o =
+    set (global x) (unit_of (global x) hs) (doubt_units (map (λ (y : List ℕ). (y, doubt_at bs hs y)) xs)) P o (λ same. all (global x)) (λ n. each P none bs hs all xs o)
 
 pub openings_stay_sane : OpeningsStaySane
 openings_stay_sane s sane =
     let hs = s.base.units in
     let xids = in_doubt_xids s.branches in record {
       listed = listed_units (doubts_in s.branches hs);
-      sound = (sane.sound.0, each (λ (u : Work). (x : Change) → frame.In x u.changes → is_sound x ≡ true) (λ x i. absurd i) hs sane.sound.1 xids);
-      lie = each (LiesIn s.base.store) (λ x i. absurd i) hs sane.lie xids;
-      few = each (λ (u : Work). (length u.claims ≤ 65535) × AreDistinct u.claims) (ltb-false 65535 0 refl, tt) hs sane.few xids;
+      sound = (sane.sound.0, each (λ (u : Work). (x : Change) → frame.In x u.changes → is_sound x ≡ true) (λ x i. absurd i) s.branches hs sane.sound.1 xids);
+      lie = each (LiesIn s.base.store) (λ x i. absurd i) s.branches hs sane.lie xids;
+      few = each (λ (u : Work). (length u.claims ≤ 65535) × AreDistinct u.claims) (ltb-false 65535 0 refl, tt) s.branches hs sane.few xids;
     }
 
 -- ---- records of calls that follow others

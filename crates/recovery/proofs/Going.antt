@@ -79,7 +79,7 @@ pub untouched : (a : Life) → IsUntouched a a
 untouched a = record { stays = Stays-refl a; moment = refl; faults = refl }
 
 pub unchanged : (s : Shown) → IsUnchanged s s
-unchanged s = record { name = refl; state = refl; disk = untouched s.disk; room = refl; is_failed = refl; made = refl }
+unchanged s = record { name = refl; state = refl; disk = untouched s.disk; layout = refl; room = refl; is_failed = refl; made = refl }
 
 untouched_both : (a b c : Life) → IsUntouched a b → IsUntouched b c → IsUntouched a c
 untouched_both a b c first second = record { stays = Stays-trans a b c first.stays second.stays; moment = second.moment ∙ first.moment; faults = second.faults ∙ first.faults }
@@ -94,7 +94,7 @@ made_failed most a b c rs failed first stays = record {
 }
 
 failed_both : (a b c : Shown) → StaysFailed a b → StaysFailed b c → StaysFailed a c
-failed_both a b c first second = record { failed = second.failed; name = second.name ∙ first.name; state = second.state ∙ first.state; disk = untouched_both a.disk b.disk c.disk first.disk second.disk; made = second.made ∙ first.made }
+failed_both a b c first second = record { failed = second.failed; name = second.name ∙ first.name; state = second.state ∙ first.state; disk = untouched_both a.disk b.disk c.disk first.disk second.disk; layout = second.layout ∙ first.layout; made = second.made ∙ first.made }
 
 made_none : (most : ℕ) (s : Shown) → IsDurable s → MadeBy most [] s s
 made_none most s durable =
@@ -141,7 +141,7 @@ goes_none most modelled s durable = record {
   more = [];
   made = sym (append-nil s.made);
   faults = λ going. subst (λ (f : Bool). FaultsAfter f s.disk.faults s.disk.faults) (sym going) (omega arith);
-  failed = λ failed. record { failed = failed; name = refl; state = refl; disk = untouched s.disk; made = refl };
+  failed = λ failed. record { failed = failed; name = refl; state = refl; disk = untouched s.disk; layout = refl; made = refl };
   records = λ honest going. ([], made_none most s (durable honest going));
 }
 

@@ -1,5 +1,5 @@
--- The prepares of units in doubt lead from a checkpoint to a state with just these.
-use Rattle.std.proofs.Common.{◌≡◌, ℕ, ◌+◌, ◌<◌, ◌≤◌, List, [], ◌∷◌, ◌++◌, length, Bool, true, false, ◌&&◌, cond, if◌then◌else◌, refl, sym, ap, subst, ◌∙◌, arith, Some, None, Ordering, Less, Greater, append-nil}
+-- The records of branches in doubt lead from a checkpoint to a state with just these.
+use Rattle.std.proofs.Common.{◌≡◌, ℕ, ◌+◌, ◌<◌, ◌≤◌, List, [], ◌∷◌, ◌++◌, length, Bool, true, false, ◌&&◌, cond, if◌then◌else◌, refl, sym, ap, subst, ◌∙◌, arith, Option, Some, None, Ordering, Less, Greater, append-nil}
 use Rattle.std.specs.Prelude.{bytes_eq, is_some, not, nat_lt}
 use Rattle.std.specs.List.{AllByRecursion, list_all}
 use Rattle.std.specs.Option.{option_and_then}
@@ -15,26 +15,27 @@ use Rattle.tables.proofs.Keeping.{less_is}
 use Rattle.tables.specs.Tables.{Store}
 use Rattle.core_model.specs.Units.{Work}
 use Rattle.unit_locks.specs.Claims.{all_added}
-use Rattle.unit_records.specs.Records.{prepared}
-use Rattle.recovery.specs.Durable.{Doubts, Durable, at_checkpoint, doubt_of, have_places, is_claimed, is_free, next, replayed_from, with_doubt}
+use Rattle.xa_manager.specs.declared.due.Decision.{Decision}
+use Rattle.unit_records.specs.Records.{IsGood}
+use Rattle.recovery.specs.Durable.{Doubt, Doubts, Durable, at_checkpoint, completed, decided_so, doubt_of, have_places, is_claimed, is_free, next, replayed_from, waiting, with_doubt}
 use Rattle.recovery.specs.Journal.{AreGood, WrittenLead}
-use Rattle.recovery.specs.Laying.{DoubtsAreLaid, are_placed, prepares_of}
-use Rattle.recovery.specs.Sound.{IsGoodDoubt, IsSound}
+use Rattle.recovery.specs.Laying.{DoubtsAreLaid, are_placed, is_placed, laid_in, records_of}
+use Rattle.recovery.specs.Sound.{IsGoodBranch, IsGoodDoubt, IsSound}
 
 abbrev by_xid : List ℕ → List ℕ → Ordering
 by_xid = slice_cmp nat_cmp
 
 -- each of them comes before this XID
 abbrev AreBefore : List ℕ → Doubts → Type 0
-AreBefore xid front = AllByRecursion (λ (e : List ℕ × Work). by_xid e.0 xid ≡ Less) front
+AreBefore xid front = AllByRecursion (λ (e : List ℕ × Doubt). by_xid e.0 xid ≡ Less) front
 
 -- ---- one more at the end
 
-at_end : (front : Doubts) (xid : List ℕ) (work : Work) → AreBefore xid front → with_doubt front xid work ≡ front ++ (xid, work) ∷ []
-at_end [] xid work before = refl
-at_end (e ∷ es) xid work before =
+at_end : (front : Doubts) (xid : List ℕ) (doubt : Doubt) → AreBefore xid front → with_doubt front xid doubt ≡ front ++ (xid, doubt) ∷ []
+at_end [] xid doubt before = refl
+at_end (e ∷ es) xid doubt before =
     let after : by_xid xid e.0 ≡ Greater = nat_list_cmp_total.antisymm xid e.0 ∙ ap ordering_reverse before.0 in
-    ap (λ (o : Ordering). match_ordering o ((xid, work) ∷ e ∷ es) ((e.0, work) ∷ es) (e ∷ with_doubt es xid work)) after ∙ ap (λ (l : Doubts). e ∷ l) (at_end es xid work before.1)
+    ap (λ (o : Ordering). match_ordering o ((xid, doubt) ∷ e ∷ es) ((e.0, doubt) ∷ es) (e ∷ with_doubt es xid doubt)) after ∙ ap (λ (l : Doubts). e ∷ l) (at_end es xid doubt before.1)
 
 never_less : (o : Ordering) → o ≡ ordering_reverse o → o ≡ Less → ⊥
 never_less o same less = let clash : Less ≡ Greater = sym less ∙ same ∙ ap ordering_reverse less in absurd cc
@@ -50,28 +51,39 @@ unknown : (front : Doubts) (xid : List ℕ) → AreBefore xid front → is_some 
 unknown [] xid before = refl
 unknown (e ∷ es) xid before = ap (λ (b : Bool). is_some (cond b (Some e.1) (lookup (bytes_eq xid) es))) (other xid e.0 before.0) ∙ unknown es xid before.1
 
-one_laid : (store : Store) (front : Doubts) (e : List ℕ × Work) → IsGoodDoubt e → have_places e.1.changes store ≡ true → AreBefore e.0 front → length front < 256
-    → next (record { store = store; doubts = front }) (prepared e.0 e.1.changes e.1.claims) ≡ Some (record { store = store; doubts = front ++ e ∷ [] })
-one_laid store front e good places before few =
-    let free : is_free front e.0 ≡ true = both_true (not (is_some (doubt_of front e.0))) (nat_lt (length front) 256) (ap not (unknown front e.0 before)) (grind (arith, nat_tests)) in
-    let fits : (have_places e.1.changes store && (is_claimed e.1.changes e.1.claims && is_free front e.0)) ≡ true =
-    both_true (have_places e.1.changes store) (is_claimed e.1.changes e.1.claims && is_free front e.0) places (both_true (is_claimed e.1.changes e.1.claims) (is_free front e.0) good.claimed free) in
-    let work : Work = record { changes = e.1.changes; claims = all_added [] e.1.claims } in
-    let last : with_doubt front e.0 work ≡ front ++ e ∷ [] =
-    at_end front e.0 work before ∙ ap (λ (claims : _). front ++ (e.0, record { changes = e.1.changes; claims = claims }) ∷ []) good.once in
+none_found : (found : Option Doubt) → is_some found ≡ false → found ≡ None
+none_found None h = refl
+none_found (Some d) h = absurd cc
+
+one_laid : (store : Store) (front : Doubts) (xid : List ℕ) (work : Work) (outcome : Option Decision) → IsGoodBranch xid work outcome → is_placed store work outcome ≡ true → AreBefore xid front → length front < 256
+    → next (record { store = store; doubts = front }) (laid_in xid work outcome) ≡ Some (record { store = store; doubts = front ++ (xid, record { work = work; outcome = outcome }) ∷ [] })
+one_laid store front xid work None good places before few =
+    let free : is_free front xid ≡ true = both_true (not (is_some (doubt_of front xid))) (nat_lt (length front) 256) (ap not (unknown front xid before)) (grind (arith, nat_tests)) in
+    let fits : (have_places work.changes store && (is_claimed work.changes work.claims && is_free front xid)) ≡ true =
+    both_true (have_places work.changes store) (is_claimed work.changes work.claims && is_free front xid) places (both_true (is_claimed work.changes work.claims) (is_free front xid) good.claimed free) in
+    let again : Work = record { changes = work.changes; claims = all_added [] work.claims } in
+    let last : with_doubt front xid (waiting again) ≡ front ++ (xid, waiting work) ∷ [] =
+    at_end front xid (waiting again) before ∙ ap (λ (claims : _). front ++ (xid, waiting (record { changes = work.changes; claims = claims })) ∷ []) good.once in
     let state : Doubts → Durable = λ doubts. record { store = store; doubts = doubts } in
-    ap (λ (b : Bool). if b then Some (state (with_doubt front e.0 work)) else None) fits ∙ ap (λ (doubts : Doubts). Some (state doubts)) last
+    ap (λ (b : Bool). if b then Some (state (with_doubt front xid (waiting again))) else None) fits ∙ ap (λ (doubts : Doubts). Some (state doubts)) last
+one_laid store front xid work (Some o) good places before few =
+    let room : nat_lt (length front) 256 ≡ true = grind (arith, nat_tests) in
+    let state : Doubts → Durable = λ doubts. record { store = store; doubts = doubts } in
+    let last : with_doubt front xid (completed o) ≡ front ++ (xid, record { work = work; outcome = Some o }) ∷ [] =
+    at_end front xid (completed o) before ∙ ap (λ (w : Work). front ++ (xid, record { work = w; outcome = Some o }) ∷ []) (sym good.1) in
+    ap (decided_so (state front) xid o) (none_found (doubt_of front xid) (unknown front xid before))
+    ∙ ap (λ (b : Bool). if b then Some (state (with_doubt front xid (completed o))) else None) room ∙ ap (λ (doubts : Doubts). Some (state doubts)) last
 
 -- ---- all of them
 
-one_behind : (xid : List ℕ) (front : Doubts) (e : List ℕ × Work) → AreBefore xid front → by_xid e.0 xid ≡ Less → AreBefore xid (front ++ e ∷ [])
+one_behind : (xid : List ℕ) (front : Doubts) (e : List ℕ × Doubt) → AreBefore xid front → by_xid e.0 xid ≡ Less → AreBefore xid (front ++ e ∷ [])
 one_behind xid [] e before less = (less, tt)
 one_behind xid (x ∷ front) e before less = (before.0, one_behind xid front e before.1 less)
 
 abbrev AllBefore : Doubts → Doubts → Type 0
-AllBefore front rest = AllByRecursion (λ (e : List ℕ × Work). AreBefore e.0 front) rest
+AllBefore front rest = AllByRecursion (λ (e : List ℕ × Doubt). AreBefore e.0 front) rest
 
-all_behind : (front rest : Doubts) (e : List ℕ × Work) → AllBefore front rest → list_all (λ later. is_lt (by_xid e.0 later)) (keys_of rest) ≡ true → AllBefore (front ++ e ∷ []) rest
+all_behind : (front rest : Doubts) (e : List ℕ × Doubt) → AllBefore front rest → list_all (λ later. is_lt (by_xid e.0 later)) (keys_of rest) ≡ true → AllBefore (front ++ e ∷ []) rest
 all_behind front [] e before less = tt
 all_behind front (x ∷ rest) e before less = (
   one_behind x.0 front e before.0 (less_is (by_xid e.0 x.0) (first_true (is_lt (by_xid e.0 x.0)) (list_all (λ later. is_lt (by_xid e.0 later)) (keys_of rest)) less)),
@@ -79,14 +91,14 @@ all_behind front (x ∷ rest) e before less = (
 )
 
 all_laid : (store : Store) (front rest : Doubts) → AllByRecursion IsGoodDoubt rest → are_placed rest store ≡ true → AllBefore front rest → rises by_xid (keys_of rest) ≡ true → length front + length rest ≤ 256
-    → replayed_from (record { store = store; doubts = front }) (prepares_of rest) ≡ Some (record { store = store; doubts = front ++ rest })
+    → replayed_from (record { store = store; doubts = front }) (records_of rest) ≡ Some (record { store = store; doubts = front ++ rest })
 all_laid store front [] good placed before rise few = ap (λ (doubts : Doubts). Some (record { store = store; doubts = doubts })) (sym (append-nil front))
 all_laid store front (e ∷ rest) good placed before rise few =
-    let here = first_true (have_places e.1.changes store) (are_placed rest store) placed in
-    let others = second_true (have_places e.1.changes store) (are_placed rest store) placed in
+    let here = first_true (is_placed store e.1.work e.1.outcome) (are_placed rest store) placed in
+    let others = second_true (is_placed store e.1.work e.1.outcome) (are_placed rest store) placed in
     let later = first_true (list_all (λ later. is_lt (by_xid e.0 later)) (keys_of rest)) (rises by_xid (keys_of rest)) rise in
     let longer : length (front ++ e ∷ []) ≡ length front + 1 = length-append front (e ∷ []) in
-    ap (option_and_then (λ (d : Durable). replayed_from d (prepares_of rest))) (one_laid store front e good.0 here before.0 (omega (arith, few)))
+    ap (option_and_then (λ (d : Durable). replayed_from d (records_of rest))) (one_laid store front e.0 e.1.work e.1.outcome good.0 here before.0 (omega (arith, few)))
     ∙ all_laid store (front ++ e ∷ []) rest good.1 others (all_behind front rest e before.1 later) (second_true (list_all (λ later. is_lt (by_xid e.0 later)) (keys_of rest)) (rises by_xid (keys_of rest)) rise) (omega (arith, few, longer))
     ∙ ap (λ (doubts : Doubts). Some (record { store = store; doubts = doubts })) (append_assoc front (e ∷ []) rest)
 
@@ -94,15 +106,19 @@ none_before : (rest : Doubts) → AllBefore [] rest
 none_before [] = tt
 none_before (e ∷ rest) = (tt, none_before rest)
 
-pub prepares_good : (doubts : Doubts) → AllByRecursion IsGoodDoubt doubts → AreGood (prepares_of doubts)
-prepares_good [] good = tt
-prepares_good (e ∷ es) good = (good.0.good, prepares_good es good.1)
+record_good : (xid : List ℕ) (work : Work) (outcome : Option Decision) → IsGoodBranch xid work outcome → IsGood (laid_in xid work outcome)
+record_good xid work None good = good.good
+record_good xid work (Some o) good = good.0
+
+pub records_good : (doubts : Doubts) → AllByRecursion IsGoodDoubt doubts → AreGood (records_of doubts)
+records_good [] good = tt
+records_good (e ∷ es) good = (record_good e.0 e.1.work e.1.outcome good.0, records_good es good.1)
 
 pub doubts_are_laid : WrittenLead → DoubtsAreLaid
 doubts_are_laid written = record {
   replayed = laid;
-  leads = λ d sound placed. written (at_checkpoint d.store) d (prepares_of d.doubts) (prepares_good d.doubts sound.good) (laid d sound placed);
+  leads = λ d sound placed. written (at_checkpoint d.store) d (records_of d.doubts) (records_good d.doubts sound.good) (laid d sound placed);
 }
   where
-    laid : (d : Durable) → IsSound d → are_placed d.doubts d.store ≡ true → replayed_from (at_checkpoint d.store) (prepares_of d.doubts) ≡ Some d
+    laid : (d : Durable) → IsSound d → are_placed d.doubts d.store ≡ true → replayed_from (at_checkpoint d.store) (records_of d.doubts) ≡ Some d
     laid d sound placed = all_laid d.store [] d.doubts sound.good placed (none_before d.doubts) sound.rising (omega (arith, sound.few))

@@ -1,5 +1,5 @@
 -- Entries lead to one state, or stop at one place.
-use Rattle.std.proofs.Common.{◌≡◌, ℕ, ◌<◌, List, [], ◌∷◌, ◌++◌, length, map, refl, sym, ap, subst, ◌∙◌, arith, Option, Some, None, Result, Ok, Err}
+use Rattle.std.proofs.Common.{◌≡◌, inl, inr, true, ℕ, ◌<◌, List, [], ◌∷◌, ◌++◌, length, map, refl, sym, ap, subst, ◌∙◌, arith, Option, Some, None, Result, Ok, Err}
 use Rattle.std.specs.Option.{option_and_then}
 use Rattle.unit_journal.specs.Record.{Entry, entries_of, entry_of}
 use Rattle.unit_journal.specs.declared.kind.Kind.{Kind}
@@ -7,7 +7,10 @@ use Rattle.unit_journal.specs.declared.record.Record.{Record}
 use Rattle.tables.specs.Tables.{Store}
 use Rattle.unit_records.specs.Laws.{OneReading}
 use Rattle.unit_records.specs.Records.{IsGood, IsRecord, UnitRecord, entry_of as written, kind_of}
+use Rattle.core_model.proofs.Owners.{both}
+use Rattle.half_store.specs.declared.header.Layout.{Layout}
 use Rattle.recovery.specs.Durable.{Durable, at_checkpoint, next, replayed_from}
+use Rattle.recovery.specs.Known.{AreKnown, is_of}
 use Rattle.recovery.specs.Journal.{Finds, HasNoPlace, Leads, LeadingWereWritten, LeadsOn, NoStop, OneState, Replays, StopsAt, WrittenLead}
 use Rattle.recovery.specs.Replay.{durable_of}
 use Rattle.recovery.specs.declared.steps.Replay.{Replay}
@@ -27,23 +30,30 @@ module _ (once : OneReading) where
       let same = one_step d b.0 a.0 x b.1 a.1 in
       one_state a.0 e f xs a.2 (subst (λ (g : Durable). Leads g xs f) same b.2)
 
-  stops : (d e state : Durable) (before behind : List Record) (here : Record) → Leads d (entries_of (before ++ (here ∷ behind))) e → Leads d (entries_of before) state → HasNoPlace state (entry_of here) → ⊥
-  stops d e state [] behind here whole front none =
-      let no : next state whole.1.said ≡ None = none whole.1.said whole.1.is in
-      let some : next state whole.1.said ≡ Some whole.0 = subst (λ (g : Durable). next g whole.1.said ≡ Some whole.0) front whole.1.step in
-      let clash : None ≡ Some whole.0 = sym no ∙ some in
+  -- an entry that leads on has a place
+  placed : (layout : Layout) (d g : Durable) (x : Entry) → is_of layout x.kind ≡ true → LeadsOn d x g → HasNoPlace layout d x → ⊥
+  placed layout d g x known on (inl other) = both (is_of layout x.kind) known other
+  placed layout d g x known on (inr none) =
+      let no : next d on.said ≡ None = none on.said on.is in
+      let clash : None ≡ Some g = sym no ∙ on.step in
       absurd cc
-  stops d e state (x ∷ before) behind here whole front none =
+
+  stops : (layout : Layout) (d e state : Durable) (before behind : List Record) (here : Record) → AreKnown layout (entries_of (before ++ (here ∷ behind))) → Leads d (entries_of (before ++ (here ∷ behind))) e → Leads d (entries_of before) state
+      → HasNoPlace layout state (entry_of here) → ⊥
+  stops layout d e state [] behind here known whole front none = placed layout state whole.0 (entry_of here) known.0 (subst (λ (g : Durable). LeadsOn g (entry_of here) whole.0) front whole.1) none
+  stops layout d e state (x ∷ before) behind here known whole front none =
       let same = one_step d front.0 whole.0 (entry_of x) front.1 whole.1 in
-      stops whole.0 e state before behind here whole.2 (subst (λ (g : Durable). Leads g (entries_of before) state) same front.2) none
+      stops layout whole.0 e state before behind here known.1 whole.2 (subst (λ (g : Durable). Leads g (entries_of before) state) same front.2) none
 
   pub no_stop : NoStop
-  no_stop d e records at whole s = stops d e s.state s.before s.behind s.here (subst (λ (l : List Record). Leads d (entries_of l) e) s.whole whole) s.leads s.no_place
+  no_stop layout d e records at known whole s =
+      stops layout d e s.state s.before s.behind s.here (subst (λ (l : List Record). AreKnown layout (entries_of l)) s.whole known) (subst (λ (l : List Record). Leads d (entries_of l) e) s.whole whole) s.leads s.no_place
 
-pub finds : OneState → NoStop → (store : Store) (records : List Record) (result : Result Replay ReplayError) → Replays store records result → (d : Durable) → Leads (at_checkpoint store) (entries_of records) d → Finds d result
-finds one damage store records (Ok r) told d leads = one (at_checkpoint store) (durable_of r) d (entries_of records) told leads
-finds one damage store records (Err (Damaged at)) told d leads = damage (at_checkpoint store) d records at leads told
-finds one damage store records (Err NoMemory) told d leads = tt
+pub finds : OneState → NoStop → (layout : Layout) (store : Store) (records : List Record) (result : Result Replay ReplayError) → Replays layout store records result → (d : Durable) → AreKnown layout (entries_of records)
+    → Leads (at_checkpoint store) (entries_of records) d → Finds d result
+finds one damage layout store records (Ok r) told d known leads = one (at_checkpoint store) (durable_of r) d (entries_of records) told.1 leads
+finds one damage layout store records (Err (Damaged at)) told d known leads = damage layout (at_checkpoint store) d records at known leads told
+finds one damage layout store records (Err NoMemory) told d known leads = tt
 
 -- ---- records and their bytes
 
@@ -77,17 +87,22 @@ pub leads_nowhere : (d : Durable) (left : List Record) → length left < 1 → L
 leads_nowhere d [] few = refl
 leads_nowhere d (x ∷ left) few = absurd (omega arith)
 
-pub stops_behind : (d g : Durable) (x : Record) (left : List Record) (at : ℕ) → LeadsOn d (entry_of x) g → StopsAt g left at → StopsAt d (x ∷ left) at
-stops_behind d g x left at on s = record {
+pub known_nowhere : (layout : Layout) (left : List Record) → length left < 1 → AreKnown layout (entries_of left)
+known_nowhere layout [] few = tt
+known_nowhere layout (x ∷ left) few = absurd (omega arith)
+
+pub stops_behind : (layout : Layout) (d g : Durable) (x : Record) (left : List Record) (at : ℕ) → is_of layout (entry_of x).kind ≡ true → LeadsOn d (entry_of x) g → StopsAt layout g left at → StopsAt layout d (x ∷ left) at
+stops_behind layout d g x left at known on s = record {
   before = x ∷ s.before;
   here = s.here;
   behind = s.behind;
   whole = ap (λ (l : List Record). x ∷ l) s.whole;
   state = s.state;
+  known = (known, s.known);
   leads = (g, on, s.leads);
   no_place = s.no_place;
   place = s.place;
 }
 
-pub stops_here : (d : Durable) (x : Record) (left : List Record) → HasNoPlace d (entry_of x) → StopsAt d (x ∷ left) x.at
-stops_here d x left none = record { before = []; here = x; behind = left; whole = refl; state = d; leads = refl; no_place = none; place = refl }
+pub stops_here : (layout : Layout) (d : Durable) (x : Record) (left : List Record) → HasNoPlace layout d (entry_of x) → StopsAt layout d (x ∷ left) x.at
+stops_here layout d x left none = record { before = []; here = x; behind = left; whole = refl; state = d; known = tt; leads = refl; no_place = none; place = refl }

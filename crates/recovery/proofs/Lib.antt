@@ -26,6 +26,7 @@ pub mod Doubts
 pub mod Deciding
 pub mod Silent
 pub mod DueRecords
+pub mod DueKinds
 pub mod Gathering
 pub mod Phasing
 pub mod Opening

@@ -9,6 +9,8 @@ use Rattle.unit_journal.specs.Stands.{IsBeforeOrAfter, IsBeforeOrAfterAll}
 use Rattle.unit_records.specs.Records.{IsGood, UnitRecord, entry_of}
 use Rattle.unit_records.specs.Room.{taken, taken_by}
 use Rattle.recovery.specs.Durable.{Durable, next, replayed_from}
+use Rattle.half_store.specs.declared.header.Layout.{Layout}
+use Rattle.recovery.specs.Known.{IsKnown}
 use Rattle.recovery.specs.Laws.{held_for}
 use Rattle.recovery.specs.Part.{durable_part}
 use Rattle.recovery.specs.Opens.{Holds, OpensTo}
@@ -42,14 +44,14 @@ opens_all old new rs e c steps name state durable now =
     record { after = opens_behind old.name (durable_part old.state) e rs c steps here; all = omega (arith, count) }
 
 module _ (opened : GroupsOpen) where
-  module _ (old new : Shown) (region : Region) (es : List Entry) (rs : List UnitRecord) (e : Durable)
-      (was : Holds old.name region es (durable_part old.state) old.disk.seen) (good : AllByRecursion IsGood rs) (steps : replayed_from (durable_part old.state) rs ≡ Some e)
-      (room : length (laid es) + taken_by rs + 1 + held_for e.doubts ≤ region.length)
+  module _ (old new : Shown) (layout : Layout) (region : Region) (es : List Entry) (rs : List UnitRecord) (e : Durable)
+      (was : Holds old.name layout region es (durable_part old.state) old.disk.seen) (good : AllByRecursion IsGood rs) (known : AllByRecursion (IsKnown layout) rs) (steps : replayed_from (durable_part old.state) rs ≡ Some e)
+      (room : length (laid es) + taken_by rs + 1 + held_for layout e.doubts ≤ region.length)
       (run : LeavesOnly old.disk new.disk (IsBeforeOrAfterAll region old.disk.seen es (map entry_of rs))) where
     opens_some : (c : List ℕ) → IsBeforeOrAfterAll region old.disk.seen es (map entry_of rs) c → OpensAfterSome old.name (durable_part old.state) rs c
     opens_some c found =
-        ⊎_elim (λ before. opens_here old.name (durable_part old.state) rs c (region, es, before)) (λ after. opens_behind old.name (durable_part old.state) e rs c steps (region, es ++ map entry_of rs, after))
-        (opened old.name region es (durable_part old.state) e rs old.disk.seen c was good steps room found)
+        ⊎_elim (λ before. opens_here old.name (durable_part old.state) rs c (layout, region, es, before)) (λ after. opens_behind old.name (durable_part old.state) e rs c steps (layout, region, es ++ map entry_of rs, after))
+        (opened old.name layout region es (durable_part old.state) e rs old.disk.seen c was good known steps room found)
 
     left_by : (failed : Bool) → new.is_failed ≡ failed → new.name ≡ old.name → (new.is_failed ≡ false → durable_part new.state ≡ e) → (new.is_failed ≡ false → IsDurable new)
         → (c : List ℕ) → Now new.disk c → OpensAfterAllBut (if failed then length rs else 0) old.name (durable_part old.state) rs c
@@ -69,14 +71,14 @@ module _ (opened : GroupsOpen) where
   one_group_is_made life old new = made_group (shown_on life old) (shown_on life new)
 
 -- a record alone
-made_one : {D : Type 0} (life : D → Life) → OneGroupIsMade life → (old new : OnDisk D) (region : Region) (es : List Entry) (r : UnitRecord) (e : Durable)
-    → Holds old.name region es (durable_part old.state) (life old.disk).seen → IsGood r → next (durable_part old.state) r ≡ Some e
-    → length (laid es) + taken r + 1 + held_for e.doubts ≤ region.length
+made_one : {D : Type 0} (life : D → Life) → OneGroupIsMade life → (old new : OnDisk D) (layout : Layout) (region : Region) (es : List Entry) (r : UnitRecord) (e : Durable)
+    → Holds old.name layout region es (durable_part old.state) (life old.disk).seen → IsGood r → IsKnown layout r → next (durable_part old.state) r ≡ Some e
+    → length (laid es) + taken r + 1 + held_for layout e.doubts ≤ region.length
     → LeavesOnly (life old.disk) (life new.disk) (IsBeforeOrAfter region (life old.disk).seen es (entry_of r))
     → new.name ≡ old.name → (new.is_failed ≡ false → durable_part new.state ≡ e) → (new.is_failed ≡ false → IsDurable (shown_on life new))
     → new.made ≡ old.made ++ entry_of r ∷ []
     → Made (r ∷ []) (shown_on life old) (shown_on life new)
-made_one life group old new region es r e was good step room = group old new region es (r ∷ []) e was (good, tt) (one_step (durable_part old.state) e r step) (omega (arith, room))
+made_one life group old new layout region es r e was good known step room = group old new layout region es (r ∷ []) e was (good, tt) (known, tt) (one_step (durable_part old.state) e r step) (omega (arith, room))
 
 made_silent : (old new : Shown) → IsDurable old → Stays old.disk new.disk → durable_part new.state ≡ durable_part old.state → new.made ≡ old.made → Made [] old new
 made_silent old new durable stays same made =
@@ -91,10 +93,10 @@ made_silent old new durable stays same made =
 
 pub one_call_is_made : {D : Type 0} (life : D → Life) → OneGroupIsMade life → OneCallIsMade life
 one_call_is_made {D} life group = record {
-  durable = λ s region es only holds. record { only = only; opens = (region, es, holds) };
+  durable = λ s layout region es only holds. record { only = only; opens = (layout, region, es, holds) };
   recorded = made_one life group;
   silent = λ old new. made_silent (shown_on life old) (shown_on life new);
-  failed = λ old new failed same. subst (λ (n : OnDisk D). StaysFailed (shown_on life old) (shown_on life n)) (sym same) (record { failed = failed; name = refl; state = refl; disk = untouched (life old.disk); made = refl });
+  failed = λ old new failed same. subst (λ (n : OnDisk D). StaysFailed (shown_on life old) (shown_on life n)) (sym same) (record { failed = failed; name = refl; state = refl; disk = untouched (life old.disk); layout = refl; made = refl });
   unchanged = λ old new same. subst (λ (n : OnDisk D). IsUnchanged (shown_on life old) (shown_on life n)) (sym same) (unchanged (shown_on life old));
   read_only = λ old new stays only. stays_leaves (life old) (life new) _ stays only;
 }

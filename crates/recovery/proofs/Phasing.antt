@@ -12,6 +12,8 @@ use Rattle.unit_records.specs.declared.phase.Phase.{Phase}
 use Rattle.unit_records.specs.declared.phase.Phase.TheVariants.{Decide, Prepare}
 use Rattle.recovery.specs.Durable.{Durable, replayed_from}
 use Rattle.recovery.specs.Kept.{IsKept}
+use Rattle.half_store.specs.declared.header.Layout.{Layout}
+use Rattle.recovery.specs.Known.{ReleaseAll}
 use Rattle.recovery.specs.Laws.{HeldForAll}
 use Rattle.recovery.specs.Part.{durable_part}
 use Rattle.recovery.specs.StepLaws.{BranchesKeep, BranchesLead, PhasesAreOfDoubts, RecordsLead, StepsKeep}
@@ -38,17 +40,29 @@ module _ (keep : StepsKeep) where
 
 -- ---- what they release
 
-prepares_release_none : (units : List Held) (cs : List BranchCall) → released_by (records_in Prepare units cs) ≡ 0
-prepares_release_none units [] = refl
-prepares_release_none units (c ∷ cs) = let rest = prepares_release_none units cs in omega (arith, rest)
+prepares_release_none : (layout : Layout) (units : List Held) (cs : List BranchCall) → released_by layout (records_in Prepare units cs) ≡ 0
+prepares_release_none layout units [] = refl
+prepares_release_none layout units (c ∷ cs) = let rest = prepares_release_none layout units cs in omega (arith, rest)
 
-decisions_hold_none : (d : Decision) (units : List Held) (cs : List BranchCall) → held_by (records_in (Decide d) units cs) ≡ 0
-decisions_hold_none d units [] = refl
-decisions_hold_none d units (c ∷ cs) = let rest = decisions_hold_none d units cs in omega (arith, rest)
+decisions_hold_none : (layout : Layout) (d : Decision) (units : List Held) (cs : List BranchCall) → held_by layout (records_in (Decide d) units cs) ≡ 0
+decisions_hold_none layout d units [] = refl
+decisions_hold_none layout d units (c ∷ cs) = let rest = decisions_hold_none layout d units cs in omega (arith, rest)
+
+prepares_release : (layout : Layout) (units : List Held) (cs : List BranchCall) (s : Durable) → ReleaseAll layout s (records_in Prepare units cs)
+prepares_release layout units [] s = tt
+prepares_release layout units (c ∷ cs) s = (tt, λ e step. prepares_release layout units cs e)
+
+-- each is of a branch in doubt
+decisions_release : (layout : Layout) (d : Decision) (units : List Held) (cs : List BranchCall) (s : Durable) → ReleaseAll layout s (records_in (Decide d) units cs)
+decisions_release layout d units [] s = tt
+decisions_release layout d units (c ∷ cs) s = (tt, λ e step. decisions_release layout d units cs e)
 
 pub phases_are_of_doubts : HeldForAll → BranchesLead → PhasesAreOfDoubts
-phases_are_of_doubts held lead s Prepare cs kept may = let none = prepares_release_none s.base.units cs in omega (arith, none)
-phases_are_of_doubts held lead s (Decide d) cs kept may =
-    let sum = held (durable_part s) (durable_part (all_through (Decide d) cs s)) (records_in (Decide d) s.base.units cs) (lead s (Decide d) cs kept may) in
-    let none = decisions_hold_none d s.base.units cs in
-    omega (arith, sum, none)
+phases_are_of_doubts held lead layout s Prepare cs kept may =
+    let none = prepares_release_none layout s.base.units cs in
+    (omega (arith, none), prepares_release layout s.base.units cs (durable_part s))
+phases_are_of_doubts held lead layout s (Decide d) cs kept may =
+    let of = decisions_release layout d s.base.units cs (durable_part s) in
+    let sum = held layout (durable_part s) (durable_part (all_through (Decide d) cs s)) (records_in (Decide d) s.base.units cs) of (lead s (Decide d) cs kept may) in
+    let none = decisions_hold_none layout d s.base.units cs in
+    (omega (arith, sum, none), of)

@@ -8,13 +8,16 @@ use Rattle.half_store.specs.Fresh.{first_header}
 use Rattle.half_store.specs.Layout.{half_len, is_store_size, offset_of}
 use Rattle.half_store.specs.declared.layout.Half.TheVariants.{First}
 use Rattle.unit_journal.specs.Laws.{OneReading}
-use Rattle.unit_journal.specs.Record.{Entry}
+use Rattle.unit_journal.specs.Record.{Entry, laid}
+use Rattle.half_store.specs.declared.header.Layout.{Layout}
 use Rattle.unit_journal.specs.Stands.{Stands, StandsFrom}
 use Rattle.unit_journal.proofs.Spelling.{byte_part}
 use Rattle.tables.specs.Tables.{Store as Tables}
 use Rattle.store_check.specs.Checkpoint.{HasCheckpoint, NoPagesHaveNoTables, OneCheckpoint, half_pages}
 use Rattle.recovery.specs.Durable.{at_checkpoint}
 use Rattle.recovery.specs.Journal.{Leads, OneState}
+use Rattle.recovery.specs.Known.{AreKnown}
+use Rattle.recovery.specs.Laws.{held_for}
 use Rattle.recovery.specs.ImageLaws.{FreshStoresOpen, OpensThere, OpensToOne}
 use Rattle.recovery.specs.Opens.{IsJournal}
 
@@ -32,7 +35,7 @@ stands_there size s t a b es image same p q stands =
 
 module _ (readings : OneReading) (checkpoints : OneCheckpoint) (states : OneState) where
   pub opens_to_one : OpensToOne
-  opens_to_one name other d e image (a, es, p) (b, fs, q) =
+  opens_to_one name other d e image (l, a, es, p) (m, b, fs, q) =
       let store : p.store ≡ q.store = one_store p.store q.store (active_of image) p.active q.active in
       let pages : HasCheckpoint image (half_pages (length image) q.store) p.checkpoint = subst (λ (s : Store). HasCheckpoint image (half_pages (length image) s) p.checkpoint) store p.pages in
       let tables : p.checkpoint ≡ q.checkpoint = checkpoints image (half_pages (length image) q.store) p.checkpoint q.checkpoint pages q.pages in
@@ -42,10 +45,11 @@ module _ (readings : OneReading) (checkpoints : OneCheckpoint) (states : OneStat
 
 -- what opens stands where the half says
 pub opens_there : OpensThere
-opens_there name d image store region (a, es, p) active journal =
+opens_there name d image store region (l, a, es, p) active journal =
     let same : p.store ≡ store = one_store p.store store (active_of image) p.active active in
     let old : IsJournal (length image) store a = subst (λ (s : Store). IsJournal (length image) s a) same p.journal in
     let len : region.length ≡ a.length = omega (arith, journal.begins, journal.ends, old.begins, old.ends) in
+    let layout : l ≡ store.header.layout = sym p.layout_is ∙ ap (λ (s : Store). s.header.layout) same in
     let named : store.name ≡ name = ap (λ (s : Store). s.name) (sym same) ∙ p.named in
     record {
       named = named;
@@ -54,12 +58,14 @@ opens_there name d image store region (a, es, p) active journal =
         store = store;
         active = active;
         named = named;
+        layout_is = refl;
         journal = journal;
         checkpoint = p.checkpoint;
         pages = subst (λ (s : Store). HasCheckpoint image (half_pages (length image) s) p.checkpoint) same p.pages;
         stands = stands_there (length image) p.store store a region es image same p.journal journal p.stands;
+        known = subst (λ (m : Layout). AreKnown m es) layout p.known;
         leads = p.leads;
-        room = omega (arith, p.room, len);
+        room = subst (λ (m : Layout). length (laid es) + 1 + held_for m d.doubts ≤ region.length) layout (omega (arith, p.room, len));
       };
     }
 
@@ -99,10 +105,12 @@ fresh_stores_open none name image is =
         store = record { name = name; half = First; header = first_header };
         active = is.active;
         named = refl;
+        layout_is = refl;
         journal = record { begins = refl; ends = omega (arith, room.0) };
         checkpoint = [];
         pages = none image 16384;
         stands = stands;
+        known = tt;
         leads = refl;
         room = omega (arith, room.0);
       },

@@ -7,17 +7,17 @@ use Rattle.tables.specs.Tables.{Store}
 use Rattle.xa_calls.specs.declared.request.Request.TheVariants as request
 use Rattle.xa_manager.specs.declared.branch.Branch.{Branch}
 use Rattle.xa_manager.specs.declared.branch.BranchState.{BranchState}
-use Rattle.xa_manager.specs.declared.branch.BranchState.TheVariants.{Active, Idle, Prepared, RollbackOnly}
+use Rattle.xa_manager.specs.declared.branch.BranchState.TheVariants.{Active, Idle, RollbackOnly}
 use Rattle.xa_manager.specs.declared.due.Action.{Action}
 use Rattle.xa_manager.specs.declared.due.Action.TheVariants as action
 use Rattle.xa_manager.specs.declared.due.Work.{Work as Facts}
-use Rattle.xa_manager.specs.Branch.{in_doubt_xids, is_in_doubt, is_lost_with, joined_xid, state_of, without, without_those_of}
+use Rattle.xa_manager.specs.Branch.{in_doubt_xids, is_in_doubt, is_lost_with, joined_xid, state_of, with_state, without, without_those_of}
 use Rattle.xa_manager.specs.Due.{after, facts_of, left_by}
 use Rattle.xa_manager.specs.Laws.{ActionsFit, FitsAction, JoinedIsActive}
+use Rattle.xa_manager.proofs.AllCalls.{other_with_branch, other_with_state, other_without, outlives}
 use Rattle.xa_manager.proofs.Rising.{Above, Rises, rises, rises_filter}
 use Rattle.core_calls.specs.Call as call
-use Rattle.core_calls.specs.Call.{Call}
-use Rattle.core_model.specs.Units.{Held, Owner, Work, global, local, same_owner, unit_of, view}
+use Rattle.core_model.specs.Units.{Held, Owner, global, local, unit_of, view}
 use Rattle.core_model.specs.Units as units
 use Rattle.core_model.specs.Asked.{Question, describing, querying, running}
 use Rattle.core_model.specs.Events.{Ask, Base, Commit, Leave, asked_of, bare, bare_run, happens_asked}
@@ -25,39 +25,51 @@ use Rattle.core_model.specs.Step.{CoreState, action_events, due_in, facts, lost_
 use Rattle.core_model.specs.Laws.{InXids}
 use Rattle.core_model.proofs.Losing.{lost_leaves_nothing}
 use Rattle.core_model.proofs.Happening.{others_stay, store_stays}
-use Rattle.core_model.proofs.Owners.{both, owners_same, unit_of_without, which}
+use Rattle.core_model.proofs.Owners.{both, unit_of_without, which}
 use Rattle.recovery.specs.Durable.{Doubts, Durable}
 use Rattle.unit_records.specs.Due.{action_due, commit_due}
 use Rattle.recovery.specs.Kept.{IsKept, is_in_doubt_in, waits}
 use Rattle.recovery.specs.StepLaws.{SilentStepsStay}
 use Rattle.recovery.specs.Part.{doubts_in, durable_part}
 use Rattle.recovery.proofs.Deciding.{none_left}
-use Rattle.recovery.proofs.Doubts.{doubts_agree, doubts_of, state_here, state_rest, xids_begun, xids_lost, xids_moved, xids_without}
-use Rattle.recovery.proofs.KeptSteps.{left_out, owner_out}
+use Rattle.recovery.proofs.Doubts.{IsDoubted, doubts_agree, doubts_of, state_here, state_rest, stays_doubted, xids_begun, xids_lost, xids_moved, xids_without}
+use Rattle.recovery.proofs.KeptSteps.{apart, left_out, owner_out}
 
 pub same_part : (s t : Store) (d e : Doubts) → s ≡ t → d ≡ e → (let p : Durable = record { store = s; doubts = d } in p) ≡ record { store = t; doubts = e }
 same_part s t d e p q = λ i. record { store = p i; doubts = q i }
 
 -- ---- units that are in no doubt
 
--- the unit of a branch in doubt is another one
-apart : (bs : List Branch) (o : Owner) (x : List ℕ) → is_in_doubt_in bs o ≡ false → state_of bs x ≡ Some Prepared → same_owner (global x) o ≡ false
-apart bs o x out known =
-    ⊎_elim
-    (λ so. both (is_in_doubt_in bs o) (ap (is_in_doubt_in bs) (sym (owners_same (global x) o so)) ∙ ap waits known) out)
-    (λ n. n)
-    (which (same_owner (global x) o))
-
 pub out_agree : (bs : List Branch) (hs : List Held) (o : Owner) → Rises bs → is_in_doubt_in bs o ≡ false → doubts_in bs (units.without o hs) ≡ doubts_in bs hs
-out_agree bs hs o rise out = doubts_agree bs (units.without o hs) hs rise (λ x known. unit_of_without (global x) o hs (apart bs o x out known))
+out_agree bs hs o rise out = doubts_agree bs (units.without o hs) hs rise (λ x d. unit_of_without (global x) o hs (apart bs o x d.0 out d.1 d.2))
 
--- what is durable where a unit ends, and the branches have changed to others with the same XIDs in doubt
-module _ (bs cs : List Branch) (b : Base) (o : Owner) (rise : Rises cs) (same : in_doubt_xids cs ≡ in_doubt_xids bs) (out : is_in_doubt_in cs o ≡ false) where
+-- the branch of an XID in doubt is another than one that is not
+pub sure_apart : (bs : List Branch) (x : List ℕ) → waits (state_of bs x) ≡ false → (y : List ℕ) → IsDoubted bs y → bytes_eq x y ≡ false
+sure_apart bs x sure y d =
+    ⊎_elim
+    (λ so. both (waits (state_of bs x)) (ap (λ (z : List ℕ). waits (state_of bs z)) (same_bytes x y so) ∙ ap waits d.1 ∙ d.2) sure)
+    (λ n. n)
+    (which (bytes_eq x y))
+
+-- and another than the one that is gone
+pub sure_apart_left : (bs : List Branch) (x : List ℕ) (y : List ℕ) → IsDoubted (without bs x) y → bytes_eq x y ≡ false
+sure_apart_left bs x y d =
+    ⊎_elim
+    (λ so. both (waits (state_of (without bs x) y)) (ap waits d.1 ∙ d.2) (ap waits (ap (state_of (without bs x)) (sym (same_bytes x y so)) ∙ none_left bs x)))
+    (λ n. n)
+    (which (bytes_eq x y))
+
+-- the branches in doubt stand as before
+abbrev pub StandSame : List Branch → List Branch → Type 0
+StandSame cs bs = (x : List ℕ) → IsDoubted bs x → state_of cs x ≡ state_of bs x
+
+-- what is durable where a unit ends, and the branches have changed to others with the same ones in doubt
+module _ (bs cs : List Branch) (b : Base) (o : Owner) (before : Rises bs) (rise : Rises cs) (same : in_doubt_xids cs ≡ in_doubt_xids bs) (stand : StandSame cs bs) (out : is_in_doubt_in cs o ≡ false) where
   pub part_committed : durable_part (record { base = bare b (Commit o); branches = cs }) ≡ record { store = view b.store (unit_of o b.units); doubts = doubts_in bs b.units }
-  part_committed = same_part _ _ _ _ refl (out_agree cs b.units o rise out ∙ doubts_of cs bs b.units same)
+  part_committed = same_part _ _ _ _ refl (out_agree cs b.units o rise out ∙ doubts_of cs bs b.units before same stand)
 
   pub part_left : durable_part (record { base = bare b (Leave o); branches = cs }) ≡ durable_part (record { base = b; branches = bs })
-  part_left = same_part _ _ _ _ refl (out_agree cs b.units o rise out ∙ doubts_of cs bs b.units same)
+  part_left = same_part _ _ _ _ refl (out_agree cs b.units o rise out ∙ doubts_of cs bs b.units before same stand)
 
   -- without changes nothing is committed
   pub part_idle : (unit_of o b.units).changes ≡ [] → durable_part (record { base = bare b (Commit o); branches = cs }) ≡ durable_part (record { base = b; branches = bs })
@@ -74,6 +86,9 @@ module _ (bs : List Branch) (x : List ℕ) (old : BranchState) (rise : Rises bs)
   pub out_before : is_in_doubt_in bs (global x) ≡ false
   out_before = ap waits known ∙ sure
 
+  pub stand_without : StandSame (without bs x) bs
+  stand_without y d = other_without bs x y (sure_apart bs x out_before y d)
+
 pub out_without : (bs : List Branch) (x : List ℕ) → is_in_doubt_in (without bs x) (global x) ≡ false
 out_without bs x = ap waits (none_left bs x)
 
@@ -84,7 +99,7 @@ asked_stays active s c q kept =
     let o = owner_of s.branches c in
     let x = asked_of s.base o q in
     same_part _ _ _ _ (store_stays s.base o x)
-    (doubts_agree s.branches (happens_asked s.base o x).units s.base.units (rises s.branches kept.table.rising) (λ y known. others_stay s.base o x (global y) (apart s.branches o y (owner_out active s.branches c kept.table) known)))
+    (doubts_agree s.branches (happens_asked s.base o x).units s.base.units (rises s.branches kept.table.rising) (λ y d. others_stay s.base o x (global y) (apart s.branches o y d.0 (owner_out active s.branches c kept.table) d.1 d.2)))
 
 -- ---- the ends of a local unit
 
@@ -94,18 +109,20 @@ none_made (x ∷ xs) h = absurd cc
 
 commit_stays : (s : CoreState) (c : ℕ) (j : Option (List ℕ)) → IsKept s → unless_joined j (commit_due (unit_of (local c) s.base.units).changes) None ≡ None
     → durable_part (record { base = bare_run (unless_joined j (Commit (local c) ∷ []) []) s.base; branches = s.branches }) ≡ durable_part s
-commit_stays s c None kept h = part_idle s.branches s.branches s.base (local c) (rises s.branches kept.table.rising) refl refl (none_made (unit_of (local c) s.base.units).changes h)
+commit_stays s c None kept h =
+    let rise = rises s.branches kept.table.rising in
+    part_idle s.branches s.branches s.base (local c) rise rise refl (λ x d. refl) refl (none_made (unit_of (local c) s.base.units).changes h)
 commit_stays s c (Some x) kept h = refl
 
 roll_back_stays : (s : CoreState) (c : ℕ) (j : Option (List ℕ)) → IsKept s → durable_part (record { base = bare_run (unless_joined j (Leave (local c) ∷ []) []) s.base; branches = s.branches }) ≡ durable_part s
-roll_back_stays s c None kept = part_left s.branches s.branches s.base (local c) (rises s.branches kept.table.rising) refl refl
+roll_back_stays s c None kept = let rise = rises s.branches kept.table.rising in part_left s.branches s.branches s.base (local c) rise rise refl (λ x d. refl) refl
 roll_back_stays s c (Some x) kept = refl
 
 -- ---- an action of a branch
 
--- units stay, and so do the XIDs in doubt
-moved : (s : CoreState) (cs : List Branch) → in_doubt_xids cs ≡ in_doubt_xids s.branches → durable_part (record { base = s.base; branches = cs }) ≡ durable_part s
-moved s cs same = same_part _ _ _ _ refl (doubts_of cs s.branches s.base.units same)
+-- units stay, and so do the branches in doubt
+moved : (s : CoreState) (cs : List Branch) → Rises s.branches → in_doubt_xids cs ≡ in_doubt_xids s.branches → StandSame cs s.branches → durable_part (record { base = s.base; branches = cs }) ≡ durable_part s
+moved s cs rise same stand = same_part _ _ _ _ refl (doubts_of cs s.branches s.base.units rise same stand)
 
 -- the state is this one, which is not in doubt
 only : (s t : BranchState) (o : Option BranchState) → o ≡ Some t → is_in_doubt t ≡ false → o ≡ Some s → is_in_doubt s ≡ false
@@ -118,26 +135,35 @@ module _ (s : CoreState) (c : ℕ) (x : List ℕ) (w : Facts) (kept : IsKept s) 
   rise = rises s.branches kept.table.rising
 
   unit_left : (old : BranchState) → state_of s.branches x ≡ Some old → is_in_doubt old ≡ false → durable_part (record { base = bare s.base (Leave (global x)); branches = without s.branches x }) ≡ durable_part s
-  unit_left old known sure = part_left s.branches (without s.branches x) s.base (global x) (rise_without s.branches x old rise known sure) (same_without s.branches x old rise known sure) (out_without s.branches x)
+  unit_left old known sure = part_left s.branches (without s.branches x) s.base (global x) rise (rise_without s.branches x old rise known sure) (same_without s.branches x old rise known sure) (stand_without s.branches x old rise known sure) (out_without s.branches x)
 
   unit_idle : (old : BranchState) → state_of s.branches x ≡ Some old → is_in_doubt old ≡ false → commit_due (unit_of (global x) s.base.units).changes ≡ None
       → durable_part (record { base = bare s.base (Commit (global x)); branches = without s.branches x }) ≡ durable_part s
   unit_idle old known sure h =
-      part_idle s.branches (without s.branches x) s.base (global x) (rise_without s.branches x old rise known sure) (same_without s.branches x old rise known sure) (out_without s.branches x) (none_made (unit_of (global x) s.base.units).changes h)
+      part_idle s.branches (without s.branches x) s.base (global x) rise (rise_without s.branches x old rise known sure) (same_without s.branches x old rise known sure) (stand_without s.branches x old rise known sure) (out_without s.branches x) (none_made (unit_of (global x) s.base.units).changes h)
+
+  -- the branch moves, out of doubt
+  turned : (new old : BranchState) → state_of s.branches x ≡ Some old → is_in_doubt new ≡ false → is_in_doubt old ≡ false → durable_part (record { base = s.base; branches = with_state s.branches x new }) ≡ durable_part s
+  turned new old known sure was =
+      moved s (with_state s.branches x new) rise (xids_moved s.branches x new rise sure (λ at is. only at old (state_of s.branches x) known was is))
+      (λ y d. other_with_state s.branches x new y (sure_apart s.branches x (ap waits known ∙ was) y d))
 
   pub action_stays : (a : Action) → FitsAction a (state_of s.branches x) (facts_of s.branches c w) → action_due x (unit_of (global x) s.base.units) a ≡ None
       → durable_part (record { base = bare_run (action_events x a) s.base; branches = after s.branches c x a }) ≡ durable_part s
   action_stays action.Nothing fit h = refl
-  action_stays action.Start fit h = moved s (after s.branches c x action.Start) (xids_begun s.branches (record { xid = x; state = Active c }) refl)
-  action_stays action.Join fit h = moved s (after s.branches c x action.Join) (xids_moved s.branches x (Active c) rise refl (λ old known. only old (Idle fit.0.0) (state_of s.branches x) fit.0.1 refl known))
-  action_stays (action.End e) (inl is) h = moved s (after s.branches c x (action.End e)) (xids_moved s.branches x (left_by c e) rise (left_out c e) (λ old known. only old (Active c) (state_of s.branches x) is refl known))
-  action_stays (action.End e) (inr is) h = moved s (after s.branches c x (action.End e)) (xids_moved s.branches x (left_by c e) rise (left_out c e) (λ old known. only old (Idle c) (state_of s.branches x) is refl known))
+  action_stays action.Start fit h =
+      let new : Branch = record { xid = x; state = Active c } in
+      moved s (after s.branches c x action.Start) rise (xids_begun s.branches new refl) (λ y d. other_with_branch s.branches new y (sure_apart s.branches x (ap waits fit.0) y d))
+  action_stays action.Join fit h = turned (Active c) (Idle fit.0.0) fit.0.1 refl refl
+  action_stays (action.End e) (inl is) h = turned (left_by c e) (Active c) is (left_out c e) refl
+  action_stays (action.End e) (inr is) h = turned (left_by c e) (Idle c) is (left_out c e) refl
   action_stays action.Prepare fit h = absurd cc
-  action_stays action.Forget fit h = unit_idle (Idle fit.0) fit.1 refl h
+  action_stays action.EndUnchanged fit h = unit_idle (Idle fit.0) fit.1 refl h
   action_stays action.CommitOnePhase fit h = unit_idle (Idle fit.0) fit.1 refl h
   action_stays (action.Decide o) fit h = absurd cc
   action_stays action.RollBack (inl fit) h = unit_left (Idle fit.0) fit.1 refl
   action_stays action.RollBack (inr fit) h = unit_left (RollbackOnly fit.0) fit.1 refl
+  action_stays action.Forget fit h = absurd cc
 
 -- ---- a conversation is lost
 
@@ -162,15 +188,15 @@ module _ (c : ℕ) (y : List ℕ) where
       (λ later. none_behind bs above.1 later)
       (first_or_later (is_lost_with c b.state) b bs i)
 
-  -- a prepared branch is not lost
-  not_lost : (bs : List Branch) → Rises bs → state_of bs y ≡ Some Prepared → InXids y (lost_xids bs c) → ⊥
-  not_lost [] rise known i = i
-  not_lost (b ∷ bs) rise known i =
+  -- a branch in doubt is not lost
+  not_lost : (bs : List Branch) (s : BranchState) → Rises bs → state_of bs y ≡ Some s → is_in_doubt s ≡ true → InXids y (lost_xids bs c) → ⊥
+  not_lost [] s rise known doubt i = i
+  not_lost (b ∷ bs) s rise known doubt i =
       ⊎_elim
-      (λ here. both (is_lost_with c b.state) here.0 (ap (last_of c) (sym (state_here b bs) ∙ ap (state_of (b ∷ bs)) (sym here.1) ∙ known)))
+      (λ here. both (is_lost_with c b.state) here.0 (ap (last_of c) (sym (state_here b bs) ∙ ap (state_of (b ∷ bs)) (sym here.1) ∙ known) ∙ stays_doubted c s doubt))
       (λ later. ⊎_elim
       (λ so. none_behind bs (subst (λ (z : List ℕ). Above z bs) (same_bytes b.xid y so) rise.0) later)
-      (λ n. not_lost bs rise.1 (sym (state_rest b bs y n) ∙ known) later)
+      (λ n. not_lost bs s rise.1 (sym (state_rest b bs y n) ∙ known) doubt later)
       (which (bytes_eq b.xid y)))
       (first_or_later (is_lost_with c b.state) b bs i)
 
@@ -180,7 +206,8 @@ lost_stays s c kept =
     let behind = (step_state s c call.lost).base in
     let all = lost_leaves_nothing s c in
     same_part behind.store s.base.store (doubts_in (without_those_of s.branches c) behind.units) (doubts_in s.branches s.base.units) all.store
-    (doubts_of (without_those_of s.branches c) s.branches behind.units (xids_lost s.branches c rise) ∙ doubts_agree s.branches behind.units s.base.units rise (λ y known. all.globals y (not_lost c y s.branches rise known)))
+    (doubts_of (without_those_of s.branches c) s.branches behind.units rise (xids_lost s.branches c rise) (λ y d. outlives s.branches c y d.0 (stays_doubted c d.0 d.2) d.1 ∙ sym d.1)
+    ∙ doubts_agree s.branches behind.units s.base.units rise (λ y d. all.globals y (not_lost c y s.branches d.0 rise d.1 d.2)))
 
 -- ---- the step
 

@@ -10,6 +10,9 @@ use Rattle.unit_journal.specs.Stands.{IsBeforeOrAfter, IsBeforeOrAfterAll, Stand
 use Rattle.unit_records.specs.Records.{IsGood, UnitRecord, entry_of}
 use Rattle.unit_records.specs.Room.{taken, taken_by}
 use Rattle.recovery.specs.Durable.{Durable, fresh, next, replayed_from}
+use Rattle.half_store.specs.declared.header.Layout.{Layout}
+use Rattle.half_store.specs.declared.header.Layout.TheVariants.{Two}
+use Rattle.recovery.specs.Known.{IsKnown}
 use Rattle.recovery.specs.Laws.{held_for}
 use Rattle.recovery.specs.Opens.{Holds, IsJournal, OpensTo}
 
@@ -21,7 +24,7 @@ OpensToOne = (name other : List ℕ) (d e : Durable) (image : List ℕ) → Open
 pub record IsThere (name : List ℕ) (d : Durable) (image : List ℕ) (store : Store) (region : Region) : Type 0 where
   pub named : store.name ≡ name
   pub es : List Entry
-  pub holds : Holds name region es d image
+  pub holds : Holds name store.header.layout region es d image
 
 abbrev pub OpensThere : Type 0
 OpensThere = (name : List ℕ) (d : Durable) (image : List ℕ) (store : Store) (region : Region)
@@ -31,38 +34,38 @@ OpensThere = (name : List ℕ) (d : Durable) (image : List ℕ) (store : Store) 
 -- before it or behind it.
 abbrev pub RecordsOpen : Type 0
 RecordsOpen =
-    (name : List ℕ) (region : Region) (es : List Entry) (d e : Durable) (r : UnitRecord) (seen image : List ℕ)
-    → Holds name region es d seen → IsGood r → next d r ≡ Some e
-    → length (laid es) + taken r + 1 + held_for e.doubts ≤ region.length
+    (name : List ℕ) (layout : Layout) (region : Region) (es : List Entry) (d e : Durable) (r : UnitRecord) (seen image : List ℕ)
+    → Holds name layout region es d seen → IsGood r → IsKnown layout r → next d r ≡ Some e
+    → length (laid es) + taken r + 1 + held_for layout e.doubts ≤ region.length
     → IsBeforeOrAfter region seen es (entry_of r) image
-    → Holds name region es d image ⊎ Holds name region (es ++ entry_of r ∷ []) e image
+    → Holds name layout region es d image ⊎ Holds name layout region (es ++ entry_of r ∷ []) e image
 
 -- and where the record is there, to the state behind it
 abbrev pub RecordsStay : Type 0
 RecordsStay =
-    (name : List ℕ) (region : Region) (es : List Entry) (d e : Durable) (r : UnitRecord) (seen image : List ℕ)
-    → Holds name region es d seen → IsGood r → next d r ≡ Some e
-    → length (laid es) + taken r + 1 + held_for e.doubts ≤ region.length
+    (name : List ℕ) (layout : Layout) (region : Region) (es : List Entry) (d e : Durable) (r : UnitRecord) (seen image : List ℕ)
+    → Holds name layout region es d seen → IsGood r → IsKnown layout r → next d r ≡ Some e
+    → length (laid es) + taken r + 1 + held_for layout e.doubts ≤ region.length
     → SameOutside region seen image → Stands region (es ++ entry_of r ∷ []) image
-    → Holds name region (es ++ entry_of r ∷ []) e image
+    → Holds name layout region (es ++ entry_of r ∷ []) e image
 
 -- the same of records that are added together, which have their places one behind another
 abbrev pub GroupsOpen : Type 0
 GroupsOpen =
-    (name : List ℕ) (region : Region) (es : List Entry) (d e : Durable) (rs : List UnitRecord) (seen image : List ℕ)
-    → Holds name region es d seen → AllByRecursion IsGood rs → replayed_from d rs ≡ Some e
-    → length (laid es) + taken_by rs + 1 + held_for e.doubts ≤ region.length
+    (name : List ℕ) (layout : Layout) (region : Region) (es : List Entry) (d e : Durable) (rs : List UnitRecord) (seen image : List ℕ)
+    → Holds name layout region es d seen → AllByRecursion IsGood rs → AllByRecursion (IsKnown layout) rs → replayed_from d rs ≡ Some e
+    → length (laid es) + taken_by rs + 1 + held_for layout e.doubts ≤ region.length
     → IsBeforeOrAfterAll region seen es (map entry_of rs) image
-    → Holds name region es d image ⊎ Holds name region (es ++ map entry_of rs) e image
+    → Holds name layout region es d image ⊎ Holds name layout region (es ++ map entry_of rs) e image
 
 abbrev pub GroupsStay : Type 0
 GroupsStay =
-    (name : List ℕ) (region : Region) (es : List Entry) (d e : Durable) (rs : List UnitRecord) (seen image : List ℕ)
-    → Holds name region es d seen → AllByRecursion IsGood rs → replayed_from d rs ≡ Some e
-    → length (laid es) + taken_by rs + 1 + held_for e.doubts ≤ region.length
+    (name : List ℕ) (layout : Layout) (region : Region) (es : List Entry) (d e : Durable) (rs : List UnitRecord) (seen image : List ℕ)
+    → Holds name layout region es d seen → AllByRecursion IsGood rs → AllByRecursion (IsKnown layout) rs → replayed_from d rs ≡ Some e
+    → length (laid es) + taken_by rs + 1 + held_for layout e.doubts ≤ region.length
     → SameOutside region seen image → Stands region (es ++ map entry_of rs) image
-    → Holds name region (es ++ map entry_of rs) e image
+    → Holds name layout region (es ++ map entry_of rs) e image
 
 -- a store that was just made has no tables, and no records
 abbrev pub FreshStoresOpen : Type 0
-FreshStoresOpen = (name image : List ℕ) → IsFresh name image → (region : Region) × Holds name region [] fresh image
+FreshStoresOpen = (name image : List ℕ) → IsFresh name image → (region : Region) × Holds name Two region [] fresh image

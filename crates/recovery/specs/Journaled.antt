@@ -9,6 +9,8 @@ use Rattle.unit_journal.specs.Stands.{IsBeforeOrAfter, IsBeforeOrAfterAll}
 use Rattle.unit_records.specs.Records.{IsGood, UnitRecord, entry_of}
 use Rattle.unit_records.specs.Room.{taken, taken_by}
 use Rattle.recovery.specs.Durable.{Durable, next, replayed_from}
+use Rattle.half_store.specs.declared.header.Layout.{Layout}
+use Rattle.recovery.specs.Known.{IsKnown}
 use Rattle.recovery.specs.Laws.{held_for}
 use Rattle.core_model.specs.Step.{CoreState}
 use Rattle.recovery.specs.Part.{durable_part}
@@ -19,6 +21,8 @@ pub record Shown : Type 1 where
   pub name : List ℕ
   pub state : CoreState
   pub disk : Life
+  -- the layout of its active half
+  pub layout : Layout
   -- the bytes that are left in its journal
   pub room : ℕ
   -- the device has failed: the core does nothing more
@@ -79,6 +83,7 @@ pub record IsUnchanged (old new : Shown) : Type 0 where
   pub name : new.name ≡ old.name
   pub state : new.state ≡ old.state
   pub disk : IsUntouched old.disk new.disk
+  pub layout : new.layout ≡ old.layout
   pub room : new.room ≡ old.room
   pub is_failed : new.is_failed ≡ old.is_failed
   pub made : new.made ≡ old.made
@@ -89,6 +94,7 @@ pub record StaysFailed (old new : Shown) : Type 0 where
   pub name : new.name ≡ old.name
   pub state : new.state ≡ old.state
   pub disk : IsUntouched old.disk new.disk
+  pub layout : new.layout ≡ old.layout
   pub made : new.made ≡ old.made
 
 -- Of any disk: records that were made stay so, each fault is one of a core that fails then, and a core that has failed
@@ -111,13 +117,14 @@ pub record OnDisk (D : Type 0) : Type 0 where
   pub name : List ℕ
   pub state : CoreState
   pub disk : D
+  pub layout : Layout
   pub room : ℕ
   pub is_failed : Bool
   pub made : List Entry
 
 module _ {D : Type 0} (life : D → Life) where
   abbrev pub shown_on : OnDisk D → Shown
-  shown_on s = record { name = s.name; state = s.state; disk = life s.disk; room = s.room; is_failed = s.is_failed; made = s.made }
+  shown_on s = record { name = s.name; state = s.state; disk = life s.disk; layout = s.layout; room = s.room; is_failed = s.is_failed; made = s.made }
 
   -- calls one after another
   pub record CallsGoOn : Type 0 where
@@ -133,9 +140,9 @@ module _ {D : Type 0} (life : D → Life) where
   -- a call that makes a group of records, all or none, or fails as it makes them
   abbrev pub OneGroupIsMade : Type 0
   OneGroupIsMade =
-      (old new : OnDisk D) (region : Region) (es : List Entry) (rs : List UnitRecord) (e : Durable)
-      → Holds old.name region es (durable_part old.state) (life old.disk).seen → AllByRecursion IsGood rs → replayed_from (durable_part old.state) rs ≡ Some e
-      → length (laid es) + taken_by rs + 1 + held_for e.doubts ≤ region.length
+      (old new : OnDisk D) (layout : Layout) (region : Region) (es : List Entry) (rs : List UnitRecord) (e : Durable)
+      → Holds old.name layout region es (durable_part old.state) (life old.disk).seen → AllByRecursion IsGood rs → AllByRecursion (IsKnown layout) rs → replayed_from (durable_part old.state) rs ≡ Some e
+      → length (laid es) + taken_by rs + 1 + held_for layout e.doubts ≤ region.length
       → LeavesOnly (life old.disk) (life new.disk) (IsBeforeOrAfterAll region (life old.disk).seen es (map entry_of rs))
       → new.name ≡ old.name → (new.is_failed ≡ false → durable_part new.state ≡ e) → (new.is_failed ≡ false → IsDurable (shown_on new))
       → new.made ≡ old.made ++ map entry_of rs
@@ -144,11 +151,11 @@ module _ {D : Type 0} (life : D → Life) where
   -- What is read holds what is durable of a core.
   pub record OneCallIsMade : Type 0 where
     -- so the core is durable, where a crash leaves nothing else
-    pub durable : (s : OnDisk D) (region : Region) (es : List Entry) → Only (life s.disk) → Holds s.name region es (durable_part s.state) (life s.disk).seen → IsDurable (shown_on s)
+    pub durable : (s : OnDisk D) (layout : Layout) (region : Region) (es : List Entry) → Only (life s.disk) → Holds s.name layout region es (durable_part s.state) (life s.disk).seen → IsDurable (shown_on s)
     -- a call that makes a record, or fails as it makes it
-    pub recorded : (old new : OnDisk D) (region : Region) (es : List Entry) (r : UnitRecord) (e : Durable)
-        → Holds old.name region es (durable_part old.state) (life old.disk).seen → IsGood r → next (durable_part old.state) r ≡ Some e
-        → length (laid es) + taken r + 1 + held_for e.doubts ≤ region.length
+    pub recorded : (old new : OnDisk D) (layout : Layout) (region : Region) (es : List Entry) (r : UnitRecord) (e : Durable)
+        → Holds old.name layout region es (durable_part old.state) (life old.disk).seen → IsGood r → IsKnown layout r → next (durable_part old.state) r ≡ Some e
+        → length (laid es) + taken r + 1 + held_for layout e.doubts ≤ region.length
         → LeavesOnly (life old.disk) (life new.disk) (IsBeforeOrAfter region (life old.disk).seen es (entry_of r))
         → new.name ≡ old.name → (new.is_failed ≡ false → durable_part new.state ≡ e) → (new.is_failed ≡ false → IsDurable (shown_on new))
         → new.made ≡ old.made ++ entry_of r ∷ []

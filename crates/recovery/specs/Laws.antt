@@ -1,9 +1,12 @@
 -- What holds of the states that records stand for.
-use Rattle.std.specs.Prelude.{◌≡◌, ℕ, ◌+◌, List, [], ◌∷◌, ◌++◌, take, Some}
+use Rattle.std.specs.Prelude.{◌≡◌, ℕ, ◌+◌, List, [], ◌∷◌, ◌++◌, take, Option, Some, None}
 use Rattle.std.specs.Option.{option_and_then}
 use Rattle.unit_records.specs.Records.{UnitRecord}
-use Rattle.unit_records.specs.Room.{decision_taken, held, held_by, released, released_by}
+use Rattle.half_store.specs.declared.header.Layout.{Layout}
+use Rattle.unit_records.specs.Room.{forgetting_taken, held, held_by, held_in_doubt, released, released_by}
+use Rattle.xa_manager.specs.declared.due.Decision.{Decision}
 use Rattle.recovery.specs.Durable.{Doubts, Durable, next, replayed_from}
+use Rattle.recovery.specs.Known.{Releases, ReleaseAll}
 
 -- the records of two lists, one behind the other
 abbrev pub GoesOn : Type 0
@@ -19,15 +22,20 @@ FrontsStand = (d e : Durable) (rs : List UnitRecord) (n : ℕ) → replayed_from
 
 -- ---- bytes that are held
 
--- how many bytes the units in doubt hold back for their decisions
-abbrev pub held_for : Doubts → ℕ
-held_for [] = 0
-held_for (e ∷ es) = decision_taken e.0 + held_for es
+-- how many bytes a branch in doubt holds back: for its decision, or to be forgotten
+abbrev pub held_at : Layout → List ℕ → Option Decision → ℕ
+held_at layout xid None = held_in_doubt layout xid
+held_at layout xid (Some o) = forgetting_taken xid
+
+-- and all of them
+abbrev pub held_for : Layout → Doubts → ℕ
+held_for layout [] = 0
+held_for layout (e ∷ es) = held_at layout e.0 e.1.outcome + held_for layout es
 
 -- a record with a place holds its bytes back, and releases those that were held for it
 abbrev pub HeldForDoubts : Type 0
-HeldForDoubts = (d e : Durable) (r : UnitRecord) → next d r ≡ Some e → held_for e.doubts + released r ≡ held_for d.doubts + held r
+HeldForDoubts = (layout : Layout) (d e : Durable) (r : UnitRecord) → Releases layout d r → next d r ≡ Some e → held_for layout e.doubts + released layout r ≡ held_for layout d.doubts + held layout r
 
 -- so do records one behind another
 abbrev pub HeldForAll : Type 0
-HeldForAll = (d e : Durable) (rs : List UnitRecord) → replayed_from d rs ≡ Some e → held_for e.doubts + released_by rs ≡ held_for d.doubts + held_by rs
+HeldForAll = (layout : Layout) (d e : Durable) (rs : List UnitRecord) → ReleaseAll layout d rs → replayed_from d rs ≡ Some e → held_for layout e.doubts + released_by layout rs ≡ held_for layout d.doubts + held_by layout rs

@@ -1,22 +1,37 @@
--- Units in doubt at a checkpoint: their prepares are laid behind its tables.
-use Rattle.std.specs.Prelude.{◌≡◌, Bool, true, List, [], ◌∷◌, ◌&&◌, map, Some}
+-- Branches in doubt at a checkpoint: a record of each is laid behind its tables.
+use Rattle.std.specs.Prelude.{◌≡◌, ℕ, Bool, true, List, [], ◌∷◌, ◌&&◌, map, Option, Some, None}
 use Rattle.tables.specs.Tables.{Store}
-use Rattle.unit_records.specs.Records.{UnitRecord, entry_of, prepared}
-use Rattle.recovery.specs.Durable.{Doubts, Durable, at_checkpoint, have_places, replayed_from}
+use Rattle.unit_records.specs.Records.{UnitRecord, entry_of, heuristic, prepared}
+use Rattle.xa_manager.specs.declared.due.Decision.{Decision}
+use Rattle.core_model.specs.Units.{Work}
+use Rattle.recovery.specs.Durable.{Doubt, Doubts, Durable, at_checkpoint, have_places, replayed_from}
 use Rattle.recovery.specs.Journal.{Leads}
 use Rattle.recovery.specs.Sound.{IsSound}
 
--- the records that prepare them, in the order of their XIDs
-abbrev pub prepares_of : Doubts → List UnitRecord
-prepares_of doubts = map (λ e. prepared e.0 e.1.changes e.1.claims) doubts
+-- the record of a branch that waits for its decision, and of one that was decided heuristically
+abbrev pub laid_in : List ℕ → Work → Option Decision → UnitRecord
+laid_in xid work None = prepared xid work.changes work.claims
+laid_in xid work (Some o) = heuristic xid o
 
--- the changes of each have their places in a store
+abbrev pub laid_of : List ℕ × Doubt → UnitRecord
+laid_of e = laid_in e.0 e.1.work e.1.outcome
+
+-- the records of all of them, in the order of their XIDs
+abbrev pub records_of : Doubts → List UnitRecord
+records_of doubts = map laid_of doubts
+
+-- the changes of a unit that waits for its decision have their places in a store
+abbrev pub is_placed : Store → Work → Option Decision → Bool
+is_placed store work None = have_places work.changes store
+is_placed store work (Some o) = true
+
+-- and those of each
 abbrev pub are_placed : Doubts → Store → Bool
 are_placed [] store = true
-are_placed (e ∷ es) store = have_places e.1.changes store && are_placed es store
+are_placed (e ∷ es) store = is_placed store e.1.work e.1.outcome && are_placed es store
 
--- So the prepares lead from the checkpoint to the state with just these units in doubt. In a store that other programs
+-- So the records lead from the checkpoint to the state with just these branches in doubt. In a store that other programs
 -- wrote the changes of a unit in doubt may have lost their places.
 pub record DoubtsAreLaid : Type 0 where
-  pub replayed : (d : Durable) → IsSound d → are_placed d.doubts d.store ≡ true → replayed_from (at_checkpoint d.store) (prepares_of d.doubts) ≡ Some d
-  pub leads : (d : Durable) → IsSound d → are_placed d.doubts d.store ≡ true → Leads (at_checkpoint d.store) (map entry_of (prepares_of d.doubts)) d
+  pub replayed : (d : Durable) → IsSound d → are_placed d.doubts d.store ≡ true → replayed_from (at_checkpoint d.store) (records_of d.doubts) ≡ Some d
+  pub leads : (d : Durable) → IsSound d → are_placed d.doubts d.store ≡ true → Leads (at_checkpoint d.store) (map entry_of (records_of d.doubts)) d

@@ -1,4 +1,5 @@
 pub mod Durable
+pub mod Known
 pub mod Laws
 pub mod Places
 pub mod Sound

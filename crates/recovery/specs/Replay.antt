@@ -4,14 +4,13 @@ use Rattle.row_values.specs.declared.row.ReadError.{ReadError}
 use Rattle.row_values.specs.declared.row.ReadError.TheVariants.{Damaged, NoMemory}
 use Rattle.table_store.specs.TableStore.{store_in}
 use Rattle.unit_locks.specs.Claims.{all_added}
-use Rattle.core_model.specs.Units.{Work}
-use Rattle.recovery.specs.Durable.{Doubts, Durable}
+use Rattle.recovery.specs.Durable.{Doubt, Doubts, Durable}
 use Rattle.recovery.specs.declared.prepared.PreparedUnit.{PreparedUnit}
 use Rattle.recovery.specs.declared.steps.Replay.{Replay}
 
 -- with each claim once
-abbrev pub doubt_in : PreparedUnit → List ℕ × Work
-doubt_in u = (u.xid, record { changes = u.changes; claims = all_added [] u.claims.items })
+abbrev pub doubt_in : PreparedUnit → List ℕ × Doubt
+doubt_in u = (u.xid, record { work = record { changes = u.changes; claims = all_added [] u.claims.items }; outcome = u.outcome })
 
 abbrev pub doubts_in : List PreparedUnit → Doubts
 doubts_in units = map doubt_in units

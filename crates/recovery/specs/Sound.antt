@@ -1,5 +1,5 @@
 -- What holds of every state that records lead to.
-use Rattle.std.specs.Prelude.{◌≡◌, ◌≤◌, ℕ, true, List, [], length, Some}
+use Rattle.std.specs.Prelude.{◌≡◌, ◌≤◌, ℕ, true, List, [], length, Option, Some, None}
 use Rattle.std.specs.List.{AllByRecursion}
 use Rattle.std.specs.Ordering.{nat_cmp}
 use Rattle.std.specs.Cmp.Lexicographic.{slice_cmp}
@@ -7,19 +7,29 @@ use Rattle.std.specs.Map.{keys_of}
 use Rattle.drda_words.specs.Order.{rises}
 use Rattle.tables.specs.Tables.{Store}
 use Rattle.tables.specs.View.{is_store}
-use Rattle.core_model.specs.Units.{Work}
+use Rattle.core_model.specs.Units.{Work, idle}
+use Rattle.xa_calls.specs.Xid.{IsXid}
+use Rattle.xa_manager.specs.declared.due.Decision.{Decision}
 use Rattle.unit_locks.specs.Claims.{all_added}
 use Rattle.unit_journal.specs.Record.{Entry}
 use Rattle.unit_records.specs.Records.{IsGood, UnitRecord, prepared}
-use Rattle.recovery.specs.Durable.{Durable, at_checkpoint, is_claimed, next}
+use Rattle.recovery.specs.Durable.{Doubt, Durable, at_checkpoint, is_claimed, next}
 use Rattle.recovery.specs.Journal.{Leads}
 
 -- a unit in doubt whose prepare can be written, and that has claimed all names where it creates a table
-pub record IsGoodDoubt (e : List ℕ × Work) : Type 0 where
-  pub good : IsGood (prepared e.0 e.1.changes e.1.claims)
-  pub claimed : is_claimed e.1.changes e.1.claims ≡ true
+pub record IsGoodUnit (xid : List ℕ) (work : Work) : Type 0 where
+  pub good : IsGood (prepared xid work.changes work.claims)
+  pub claimed : is_claimed work.changes work.claims ≡ true
   -- each claim once
-  pub once : all_added [] e.1.claims ≡ e.1.claims
+  pub once : all_added [] work.claims ≡ work.claims
+
+-- a branch that waits for its decision has such a unit, and of one that was decided heuristically the unit has ended
+abbrev pub IsGoodBranch : List ℕ → Work → Option Decision → Type 0
+IsGoodBranch xid work None = IsGoodUnit xid work
+IsGoodBranch xid work (Some o) = IsXid xid × (work ≡ idle)
+
+abbrev pub IsGoodDoubt : List ℕ × Doubt → Type 0
+IsGoodDoubt e = IsGoodBranch e.0 e.1.work e.1.outcome
 
 -- the committed store is one; the XIDs in doubt rise, 256 at most, each with a unit that can be written
 pub record IsSound (d : Durable) : Type 0 where

@@ -1,10 +1,20 @@
 -- Steps of the core, and what is durable of it.
 use Rattle.std.specs.Prelude.{◌≡◌, ◌≤◌, ℕ, List, true, Some, None}
 use Rattle.core_calls.specs.Call.{Call}
-use Rattle.core_model.specs.Step.{CoreState, step_state}
-use Rattle.unit_records.specs.Records.{UnitRecord}
+use Rattle.core_model.specs.Step.{CoreState, decided_state, step_state}
+use Rattle.xa_manager.specs.declared.branch.BranchState.TheVariants.{Prepared}
+use Rattle.xa_manager.specs.declared.due.Decision.{Decision}
+use Rattle.xa_manager.specs.Branch.{state_of}
+use Rattle.half_store.specs.declared.header.Layout.TheVariants.{Two}
+use Rattle.unit_records.specs.Records.{UnitRecord, heuristic}
+use Rattle.std.specs.List.{AllByRecursion}
+use Rattle.tables.specs.Tables.{Store}
+use Rattle.unit_journal.specs.Record.{Entry}
+use Rattle.recovery.specs.Journal.{Leads}
+use Rattle.recovery.specs.Known.{AreKnown, IsKnown, ReleaseAll, Releases}
 use Rattle.unit_records.specs.Room.{released, released_by}
-use Rattle.recovery.specs.Durable.{Durable, next, replayed_from}
+use Rattle.recovery.specs.Durable.{Durable, at_checkpoint, next, replayed_from}
+use Rattle.half_store.specs.declared.header.Layout.{Layout}
 use Rattle.recovery.specs.Laws.{held_for}
 use Rattle.recovery.specs.Sound.{IsSound}
 use Rattle.unit_records.specs.Due.{record_due}
@@ -27,9 +37,31 @@ SilentStepsStay = (s : CoreState) (conversation : ℕ) (k : Call) → IsKept s �
 abbrev pub RecordsLead : Type 0
 RecordsLead = (s : CoreState) (conversation : ℕ) (k : Call) (r : UnitRecord) → IsKept s → record_due s conversation k ≡ Some r → next (durable_part s) r ≡ Some (durable_part (step_state s conversation k))
 
--- what a record that is due releases was held for a unit in doubt
+-- what a record that is due releases was held for a branch in doubt
 abbrev pub DecisionsAreOfDoubts : Type 0
-DecisionsAreOfDoubts = (s : CoreState) (conversation : ℕ) (k : Call) (r : UnitRecord) → IsKept s → record_due s conversation k ≡ Some r → released r ≤ held_for (durable_part s).doubts
+DecisionsAreOfDoubts = (layout : Layout) (s : CoreState) (conversation : ℕ) (k : Call) (r : UnitRecord) → IsKept s → record_due s conversation k ≡ Some r
+    → (released layout r ≤ held_for layout (durable_part s).doubts) × Releases layout (durable_part s) r
+
+-- A record that is due is of the layout's kinds, where those of the journal are: a forgetting is due only where a heuristic decision was recorded
+abbrev pub DueAreKnown : Type 0
+DueAreKnown = (layout : Layout) (store : Store) (es : List Entry) (s : CoreState) (conversation : ℕ) (k : Call) (r : UnitRecord)
+    → AreKnown layout es → Leads (at_checkpoint store) es (durable_part s) → IsKept s → record_due s conversation k ≡ Some r → IsKnown layout r
+
+-- ---- a heuristic decision of a prepared branch
+
+-- it keeps a core
+abbrev pub DecisionsKeep : Type 0
+DecisionsKeep = (s : CoreState) (xid : List ℕ) (d : Decision) → IsKept s → state_of s.branches xid ≡ Some Prepared → IsKept (decided_state s xid d)
+
+-- its record has its place, and leads to what is durable then
+abbrev pub DecisionsLead : Type 0
+DecisionsLead = (s : CoreState) (xid : List ℕ) (d : Decision) → IsKept s → state_of s.branches xid ≡ Some Prepared → next (durable_part s) (heuristic xid d) ≡ Some (durable_part (decided_state s xid d))
+
+-- what it releases was held for the branch
+abbrev pub HeuristicsAreOfDoubts : Type 0
+HeuristicsAreOfDoubts = (s : CoreState) (xid : List ℕ) (d : Decision) → IsKept s → state_of s.branches xid ≡ Some Prepared → (released Two (heuristic xid d) ≤ held_for Two (durable_part s).doubts) × Releases Two (durable_part s) (heuristic xid d)
+
+-- ---- a core that is opened
 
 -- what records lead to is sound, and a core that is opened over it is kept
 pub record IsOpened (d : Durable) : Type 0 where
@@ -60,6 +92,11 @@ abbrev pub CommitsLead : Type 0
 CommitsLead = (s : CoreState) (conversations : List ℕ) (r : UnitRecord) → IsKept s → MayGoTogether s conversations
     → due_together conversations s ≡ Some r → next (durable_part s) r ≡ Some (durable_part (all_committed conversations s))
 
+-- it is of every layout's kinds, and releases nothing
+abbrev pub CommitsAreKnown : Type 0
+CommitsAreKnown = (layout : Layout) (s : CoreState) (conversations : List ℕ) (r : UnitRecord)
+    → due_together conversations s ≡ Some r → IsKnown layout r × Releases layout (durable_part s) r
+
 -- ---- branches that go through a phase together
 
 -- their calls keep a core
@@ -71,7 +108,11 @@ abbrev pub BranchesLead : Type 0
 BranchesLead = (s : CoreState) (phase : Phase) (cs : List BranchCall) → IsKept s → may_go_through phase s cs ≡ true
     → replayed_from (durable_part s) (records_in phase s.base.units cs) ≡ Some (durable_part (all_through phase cs s))
 
--- what they release was held for units in doubt
+-- what they release was held for branches in doubt
 abbrev pub PhasesAreOfDoubts : Type 0
-PhasesAreOfDoubts = (s : CoreState) (phase : Phase) (cs : List BranchCall) → IsKept s → may_go_through phase s cs ≡ true
-    → released_by (records_in phase s.base.units cs) ≤ held_for (durable_part s).doubts
+PhasesAreOfDoubts = (layout : Layout) (s : CoreState) (phase : Phase) (cs : List BranchCall) → IsKept s → may_go_through phase s cs ≡ true
+    → (released_by layout (records_in phase s.base.units cs) ≤ held_for layout (durable_part s).doubts) × ReleaseAll layout (durable_part s) (records_in phase s.base.units cs)
+
+-- they are of every layout's kinds
+abbrev pub PhasesAreKnown : Type 0
+PhasesAreKnown = (layout : Layout) (s : CoreState) (phase : Phase) (cs : List BranchCall) → AllByRecursion (IsKnown layout) (records_in phase s.base.units cs)

@@ -5,16 +5,18 @@ ghost use Rattle.unit_journal.specs.Record.{entries_of, entry_of};
 ghost use Rattle.unit_records.specs.Records.{UnitRecord as RecordIs};
 ghost use Rattle.table_store.specs.TableStore.{store_in};
 ghost use Rattle.recovery.specs.Durable.{Durable, at_checkpoint};
+ghost use Rattle.recovery.specs.Known.{AreKnown, is_of};
 ghost use Rattle.recovery.specs.Replay.{durable_of};
 ghost use Rattle.recovery.specs.Journal.{Finds, Goes, Leads, Replays};
 
 use crate::laws::records_lead_one_way;
 use crate::steps::Replay;
+use half_store::Layout;
 use row_values::ReadError;
 use std::alloc::Global;
 use table_store::TableStore;
 use thiserror::Error;
-use unit_journal::Record;
+use unit_journal::{Kind, Record};
 use unit_records::UnitRecord;
 use unit_records::laws::records_have_one_reading;
 
@@ -31,21 +33,22 @@ pub enum ReplayError {
 
 /// The committed tables and the units in doubt that the records of a journal lead to, from its first
 /// on, over the tables of the checkpoint that they follow. `Damaged` exactly where a record has no place among those before it (as `Replay::step` tells; so
-/// a prepare that creates a table and does not claim all names has none), or its body is none of its
-/// kind: at the first such record's gate.
+/// a prepare that creates a table and does not claim all names has none), its kind is none of the layout's, or its
+/// body is none of its kind: at the first such record's gate.
 pub fn replay(
     alloc: Global,
+    layout: Layout,
     checkpoint: TableStore,
     records: &[Record],
 ) -> Result<Replay, ReplayError>
-    ensures replays { Replays (store_in checkpoint) records.now result }
-    ensures finds { (d : Durable) → Leads (at_checkpoint (store_in checkpoint)) (entries_of records.now) d → Finds d result }
+    ensures replays { Replays layout (store_in checkpoint) records.now result }
+    ensures finds { (d : Durable) → AreKnown layout (entries_of records.now) → Leads (at_checkpoint (store_in checkpoint)) (entries_of records.now) d → Finds d result }
 {
     records_lead_one_way();
     let mut state = Replay::over(alloc, checkpoint);
     let mut left = records;
     while let [entry, rest @ ..] = left {
-        match read_and_step(&mut state, alloc, entry) {
+        match read_and_step(&mut state, alloc, layout, entry) {
             Ok(()) => {}
             Err(ReadError::Damaged) => return Err(ReplayError::Damaged { at: entry.at }),
             Err(ReadError::NoMemory) => return Err(ReplayError::NoMemory),
@@ -55,11 +58,30 @@ pub fn replay(
     Ok(state)
 }
 
+// Whether the layout has records of the kind.
+fn is_of(layout: Layout, kind: Kind) -> bool
+    ensures { result ≡ is_of layout kind }
+{
+    match (layout, kind) {
+        (Layout::One, Kind::Heuristic | Kind::Forget) => false,
+        (Layout::One, Kind::Commit | Kind::Prepare | Kind::Decide) => true,
+        (Layout::Two, _) => true,
+    }
+}
+
 // Reads a record and makes it good.
-fn read_and_step(state: &mut Replay, alloc: Global, entry: &Record) -> Result<(), ReadError>
-    ensures { Goes (durable_of state.old) (entry_of entry.now) result (durable_of state.new) }
+fn read_and_step(
+    state: &mut Replay,
+    alloc: Global,
+    layout: Layout,
+    entry: &Record,
+) -> Result<(), ReadError>
+    ensures { Goes layout (durable_of state.old) (entry_of entry.now) result (durable_of state.new) }
 {
     records_have_one_reading();
+    if !is_of(layout, entry.kind) {
+        return Err(ReadError::Damaged);
+    }
     let said = match UnitRecord::read(alloc, entry.kind, entry.body.as_slice()) {
         Ok(said) => said,
         Err(error) => return Err(error),

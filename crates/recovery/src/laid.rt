@@ -1,4 +1,4 @@
-//! Units in doubt whose prepares are laid behind a checkpoint.
+//! Branches in doubt whose records are laid behind a checkpoint.
 
 ghost use Rattle.std.specs.Prelude.{◌≡◌, OnOk, List, map, true};
 ghost use Rattle.table_store.specs.TableStore.{store_in};
@@ -6,7 +6,7 @@ ghost use Rattle.unit_journal.specs.Record.{entries_of, entry_of};
 ghost use Rattle.unit_records.specs.Records.{IsRecord, entry_of as written, prepared};
 ghost use Rattle.recovery.specs.Durable.{Doubts, have_places};
 ghost use Rattle.recovery.specs.Journal.{AreGood};
-ghost use Rattle.recovery.specs.Laying.{are_placed, prepares_of};
+ghost use Rattle.recovery.specs.Laying.{are_placed, records_of};
 
 use crate::gathered::gather;
 use row_values::ReadError;
@@ -23,7 +23,7 @@ pub fn find_places(
     store: &mut TableStore,
     prepares: &[Record],
 ) -> Result<(), ReadError>
-    ensures placed { OnOk result ((doubts : Doubts) → AreGood (prepares_of doubts) → entries_of prepares.now ≡ map written (prepares_of doubts) → are_placed doubts (store_in store.old) ≡ true) }
+    ensures placed { OnOk result ((doubts : Doubts) → AreGood (records_of doubts) → entries_of prepares.now ≡ map written (records_of doubts) → are_placed doubts (store_in store.old) ≡ true) }
     ensures store { store_in store.new ≡ store_in store.old }
 {
     let mut left = prepares;
@@ -50,5 +50,7 @@ fn find_place(alloc: Global, store: &mut TableStore, prepare: &Record) -> Result
         },
         UnitRecord::Commit { .. } => Ok(()),
         UnitRecord::Decide { .. } => Ok(()),
+        UnitRecord::Heuristic { .. } => Ok(()),
+        UnitRecord::Forget { .. } => Ok(()),
     }
 }

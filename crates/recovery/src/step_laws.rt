@@ -1,6 +1,6 @@
 //! Laws of the definitions. The functions do nothing: their contracts are the laws.
 
-ghost use Rattle.recovery.specs.StepLaws.{BranchesKeep, BranchesLead, CommitsKeep, CommitsLead, DecisionsAreOfDoubts, OpeningsAreKept, PhasesAreOfDoubts, RecordsLead, SilentCommitsStay, SilentStepsStay, StepsKeep};
+ghost use Rattle.recovery.specs.StepLaws.{BranchesKeep, BranchesLead, CommitsAreKnown, CommitsKeep, CommitsLead, DecisionsAreOfDoubts, DecisionsKeep, DecisionsLead, DueAreKnown, HeuristicsAreOfDoubts, OpeningsAreKept, PhasesAreKnown, PhasesAreOfDoubts, RecordsLead, SilentCommitsStay, SilentStepsStay, StepsKeep};
 
 use crate::laws::{
     decisions_of_all_are_held, doubts_hold_their_decisions, places_depend_on_tables,
@@ -20,9 +20,27 @@ pub fn steps_are_recorded()
     ensures silent { SilentStepsStay }
     ensures lead { RecordsLead }
     ensures decisions { DecisionsAreOfDoubts }
+    ensures known { DueAreKnown }
 {
     actions_fit_states();
     adding();
+    changes_are_local();
+    changes_have_places();
+    doubts_hold_their_decisions();
+    places_depend_on_tables();
+    units_in_doubt_wait();
+    works_while_active();
+}
+
+/// A heuristic decision of a prepared branch keeps a core. Its record has its place, leads to what is durable then, and
+/// releases what was held for the branch.
+pub fn heuristics_are_recorded()
+    ensures keep { DecisionsKeep }
+    ensures lead { DecisionsLead }
+    ensures held { HeuristicsAreOfDoubts }
+{
+    adding();
+    actions_fit_states();
     changes_are_local();
     changes_have_places();
     doubts_hold_their_decisions();
@@ -42,6 +60,7 @@ pub fn commits_are_recorded()
     ensures keep { CommitsKeep }
     ensures silent { SilentCommitsStay }
     ensures lead { CommitsLead }
+    ensures known { CommitsAreKnown }
 {
     steps_are_recorded();
 }
@@ -53,6 +72,7 @@ pub fn phases_are_recorded()
     ensures keep { BranchesKeep }
     ensures lead { BranchesLead }
     ensures decisions { PhasesAreOfDoubts }
+    ensures known { PhasesAreKnown }
 {
     branches_go_through();
     decisions_of_all_are_held();

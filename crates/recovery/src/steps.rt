@@ -1,18 +1,22 @@
 //! Records made good, one after another.
 
-ghost use Rattle.std.specs.Prelude.{◌≡◌, OnErr, OnOk, is_some, false, map};
+ghost use Rattle.std.specs.Prelude.{◌≡◌, IfErr, None, OnErr, OnOk, is_some, false, map};
 ghost use Rattle.tables.specs.ChangeView.{change_of};
-ghost use Rattle.unit_records.specs.Records.{committed, decided, prepared};
+ghost use Rattle.row_values.specs.declared.row.ReadError.TheVariants.{NoMemory};
+ghost use Rattle.xa_manager.specs.declared.due.Decision.{Decision as DecisionIs};
+ghost use Rattle.unit_records.specs.Records.{committed, decided, forgotten, heuristic, prepared};
 ghost use Rattle.unit_records.specs.Read.{record_of};
-ghost use Rattle.recovery.specs.Durable.{at_checkpoint, next};
+ghost use Rattle.recovery.specs.Durable.{at_checkpoint, completed as completed_so, decide_changes, doubt_of, next};
+ghost use Rattle.recovery.specs.Replay.{doubt_in};
 
 use crate::claimed::is_claimed;
 use crate::gathered::{gather, make};
-use crate::prepared::{PreparedUnit, add, is_known, place_of, take_at};
+use crate::prepared::{PreparedUnit, add, is_known, place_of, replace_at, take_at};
 use row_values::ReadError;
 use std::alloc::Global;
 use table_store::TableStore;
 use tables::Change;
+use unit_changes::UnitChanges;
 use unit_locks::Claim;
 use unit_records::UnitRecord;
 use xa_calls::Xid;
@@ -42,8 +46,9 @@ impl Replay {
     /// Makes the next record good. `Damaged` exactly where it has no place among those before it: a
     /// change of a commit or of a prepare is of no table, or of another form than its table's, or
     /// creates a table that is there or the 1,001st; a prepare creates a table and does not claim all
-    /// names; its XID is in doubt already, or 256 are; the XID of a decision is not in doubt. A claim
-    /// that a prepare repeats counts once. After an error the replay is not used again.
+    /// names; its XID is in doubt already, or 256 are; the XID of a decision does not wait for one; that of a
+    /// heuristic decision was decided so already, or is the 257th in doubt; that of a forgetting was not decided so.
+    /// A claim that a prepare repeats counts once. After an error the replay is not used again.
     pub fn step(&mut self, alloc: Global, said: UnitRecord) -> Result<(), ReadError>
         ensures { Steps result (next (durable_of self.old) (record_of said)) (durable_of self.new) }
     {
@@ -55,6 +60,8 @@ impl Replay {
                 claims,
             } => self.prepare(alloc, xid, changes, claims),
             UnitRecord::Decide { xid, decision } => self.decide(alloc, &xid, decision),
+            UnitRecord::Heuristic { xid, decision } => self.complete(alloc, &xid, decision),
+            UnitRecord::Forget { xid } => self.forget(&xid),
         }
     }
 
@@ -103,6 +110,7 @@ impl Replay {
                 xid,
                 changes,
                 claims,
+                outcome: None,
             },
         )?;
         Ok(())
@@ -116,12 +124,71 @@ impl Replay {
             None => return Err(ReadError::Damaged),
         };
         let unit = take_at(&mut self.units, xid, place);
+        if unit.outcome.is_some() {
+            return Err(ReadError::Damaged);
+        }
+        self.end(alloc, unit.changes, decision)
+    }
+
+    // A unit that was in doubt ends so.
+    fn end(
+        &mut self,
+        alloc: Global,
+        changes: UnitChanges,
+        decision: Decision,
+    ) -> Result<(), ReadError>
+        ensures store { OnOk result (store_in self.new.store ≡ decide_changes decision changes (store_in self.old.store)) }
+        ensures units { self.new.units ≡ self.old.units }
+        ensures memory { IfErr result (λ error. error ≡ NoMemory) }
+    {
         match decision {
             Decision::Commit => {
-                make(&mut self.store, alloc, unit.changes)?;
+                make(&mut self.store, alloc, changes)?;
                 Ok(())
             }
             Decision::RollBack => Ok(()),
+        }
+    }
+
+    fn complete(&mut self, alloc: Global, xid: &Xid, decision: Decision) -> Result<(), ReadError>
+        ensures { Steps result (next (durable_of self.old) (heuristic xid.now decision)) (durable_of self.new) }
+    {
+        let completed = PreparedUnit::completed(alloc, xid, decision);
+        let place = match place_of(self.units.as_slice(), xid) {
+            Some(place) => place,
+            None => return self.find_completed(xid, completed),
+        };
+        let unit = replace_at(&mut self.units, xid, place, completed);
+        if unit.outcome.is_some() {
+            return Err(ReadError::Damaged);
+        }
+        self.end(alloc, unit.changes, decision)
+    }
+
+    // A branch that is not in doubt is found to have been decided heuristically.
+    fn find_completed(&mut self, xid: &Xid, completed: PreparedUnit) -> Result<(), ReadError>
+        requires same { completed.xid ≡ xid.now }
+        requires free { doubt_of (durable_of self.old).doubts xid.now ≡ None }
+        ensures { (decision : DecisionIs) → doubt_in completed ≡ (xid.now, completed_so decision) → Steps result (next (durable_of self.old) (heuristic xid.now decision)) (durable_of self.new) }
+    {
+        if self.units.len() >= MAX_IN_DOUBT {
+            return Err(ReadError::Damaged);
+        }
+        add(&mut self.units, completed)?;
+        Ok(())
+    }
+
+    fn forget(&mut self, xid: &Xid) -> Result<(), ReadError>
+        ensures { Steps result (next (durable_of self.old) (forgotten xid.now)) (durable_of self.new) }
+    {
+        let place = match place_of(self.units.as_slice(), xid) {
+            Some(place) => place,
+            None => return Err(ReadError::Damaged),
+        };
+        let unit = take_at(&mut self.units, xid, place);
+        match unit.outcome {
+            Some(_) => Ok(()),
+            None => Err(ReadError::Damaged),
         }
     }
 }

@@ -1,10 +1,12 @@
 //! What the records of journals lead to.
 
-use recovery::{Replay, ReplayError, replay};
-use std::alloc::Global;
+use half_store::Layout::{self, One, Two};
+use recovery::{PreparedUnit, Replay, ReplayError, replay};
+use std::alloc::{AllocError, Global};
 use table_store::TableStore;
 use tables::TableView;
 use unit_journal::{Kind, Record};
+use xa_manager::Decision;
 
 // T is created and a row put; nothing; a row is put under a branch with a claim of the table; another
 // branch puts none; the branches are decided.
@@ -56,6 +58,27 @@ const UNDONE: (Kind, &'static [u8]) = (
     &[0, 0, 0, 7, 0, 0, 0, 1, 0, 0, 0, 0, b'g', 2],
 );
 
+// The first branch is decided heuristically, in both ways and in none, and is forgotten.
+pub const COMPLETED: (Kind, &'static [u8]) = (
+    Kind::Heuristic,
+    &[0, 0, 0, 7, 0, 0, 0, 1, 0, 0, 0, 0, b'g', 1],
+);
+
+const DROPPED: (Kind, &'static [u8]) = (
+    Kind::Heuristic,
+    &[0, 0, 0, 7, 0, 0, 0, 1, 0, 0, 0, 0, b'g', 2],
+);
+
+const NEITHER: (Kind, &'static [u8]) = (
+    Kind::Heuristic,
+    &[0, 0, 0, 7, 0, 0, 0, 1, 0, 0, 0, 0, b'g', 3],
+);
+
+const FORGOTTEN: (Kind, &'static [u8]) = (
+    Kind::Forget,
+    &[0, 0, 0, 7, 0, 0, 0, 1, 0, 0, 0, 0, b'g'],
+);
+
 const REMOVED: (Kind, &'static [u8]) = (
     Kind::Commit,
     &[0, 0, 0, 1, 3, 1, b'T', 0, 5, 0, 0, 0, 0, 5],
@@ -63,33 +86,106 @@ const REMOVED: (Kind, &'static [u8]) = (
 
 const SHORT_ROW: (Kind, &'static [u8]) = (Kind::Commit, &[0, 0, 0, 1, 2, 1, b'T', 0, 2, 0, 0]);
 
-// How many rows T has, how many units are in doubt, and how many claims the first of them has; or the
-// gate of the record that is damaged. The gate of record i is at i times 100.
-type Told = Result<(usize, usize, usize), usize>;
+// How many rows T has, a sign for each branch in doubt, in their order, and how many claims the first of them has: ? waits for its decision,
+// C and R were decided heuristically to commit and to roll back. Or the gate of the record that is damaged, of which that of record i is at
+// i times 100.
+type Told = Result<(usize, &'static str, usize), usize>;
 
 pub type Records = &'static [(Kind, &'static [u8])];
 
-// Records whose tables are a checkpoint, those that follow it, and what these lead to.
-const JOURNALS: [(Records, Records, Told); 19] = [
-    (&[], &[], Ok((0, 0, 0))),
-    (&[], &[CREATED, NOTHING], Ok((1, 0, 0))),
-    (&[], &[CREATED, PREPARED], Ok((1, 1, 1))),
-    (&[], &[CREATED, PREPARED, ANOTHER], Ok((1, 2, 0))),
-    (&[], &[CREATED, ANOTHER, PREPARED, DONE], Ok((2, 1, 0))),
-    (&[], &[CREATED, PREPARED, UNDONE], Ok((1, 0, 0))),
-    (&[], &[CREATED, REMOVED, REMOVED], Ok((0, 0, 0))),
-    (&[], &[CREATED, CLAIMED], Ok((1, 1, 2))),
-    (&[], &[CREATED, UNCLAIMED], Err(100)),
-    (&[], &[CREATED, CREATED], Err(100)),
-    (&[], &[PREPARED], Err(0)),
-    (&[], &[CREATED, PREPARED, PREPARED], Err(200)),
-    (&[], &[CREATED, PREPARED, DONE, UNDONE], Err(300)),
-    (&[], &[CREATED, SHORT_ROW], Err(100)),
-    (&[], &[CREATED, (Kind::Commit, &[0, 0, 0])], Err(100)),
-    (&[CREATED], &[], Ok((1, 0, 0))),
-    (&[CREATED], &[NOTHING, PREPARED, DONE], Ok((2, 0, 0))),
-    (&[CREATED, REMOVED], &[PREPARED], Ok((0, 1, 1))),
-    (&[CREATED], &[NOTHING, CREATED], Err(100)),
+// The layout, records whose tables are a checkpoint, those that follow it, and what these lead to.
+const JOURNALS: [(Layout, Records, Records, Told); 41] = [
+    (Two, &[], &[], Ok((0, "", 0))),
+    (Two, &[], &[CREATED, NOTHING], Ok((1, "", 0))),
+    (Two, &[], &[CREATED, PREPARED], Ok((1, "?", 1))),
+    (Two, &[], &[CREATED, PREPARED, ANOTHER], Ok((1, "??", 0))),
+    (
+        Two,
+        &[],
+        &[CREATED, ANOTHER, PREPARED, DONE],
+        Ok((2, "?", 0)),
+    ),
+    (Two, &[], &[CREATED, PREPARED, UNDONE], Ok((1, "", 0))),
+    (Two, &[], &[CREATED, REMOVED, REMOVED], Ok((0, "", 0))),
+    (Two, &[], &[CREATED, CLAIMED], Ok((1, "?", 2))),
+    (Two, &[], &[CREATED, UNCLAIMED], Err(100)),
+    (Two, &[], &[CREATED, CREATED], Err(100)),
+    (Two, &[], &[PREPARED], Err(0)),
+    (Two, &[], &[CREATED, PREPARED, PREPARED], Err(200)),
+    (Two, &[], &[CREATED, PREPARED, DONE, UNDONE], Err(300)),
+    (Two, &[], &[CREATED, SHORT_ROW], Err(100)),
+    (Two, &[], &[CREATED, (Kind::Commit, &[0, 0, 0])], Err(100)),
+    (Two, &[CREATED], &[], Ok((1, "", 0))),
+    (Two, &[CREATED], &[NOTHING, PREPARED, DONE], Ok((2, "", 0))),
+    (Two, &[CREATED, REMOVED], &[PREPARED], Ok((0, "?", 1))),
+    (Two, &[CREATED], &[NOTHING, CREATED], Err(100)),
+    (Two, &[], &[CREATED, PREPARED, COMPLETED], Ok((2, "C", 0))),
+    (Two, &[], &[CREATED, PREPARED, DROPPED], Ok((1, "R", 0))),
+    (
+        Two,
+        &[],
+        &[CREATED, PREPARED, COMPLETED, ANOTHER],
+        Ok((2, "?C", 0)),
+    ),
+    (
+        Two,
+        &[CREATED],
+        &[ANOTHER, PREPARED, DROPPED],
+        Ok((1, "?R", 0)),
+    ),
+    (
+        Two,
+        &[],
+        &[CREATED, PREPARED, COMPLETED, FORGOTTEN],
+        Ok((2, "", 0)),
+    ),
+    (
+        Two,
+        &[],
+        &[CREATED, PREPARED, DROPPED, FORGOTTEN],
+        Ok((1, "", 0)),
+    ),
+    (
+        Two,
+        &[CREATED],
+        &[PREPARED, DROPPED, FORGOTTEN, PREPARED],
+        Ok((1, "?", 1)),
+    ),
+    (Two, &[], &[COMPLETED], Ok((0, "C", 0))),
+    (
+        Two,
+        &[CREATED],
+        &[DROPPED, FORGOTTEN, COMPLETED],
+        Ok((1, "C", 0)),
+    ),
+    (Two, &[CREATED], &[PREPARED, COMPLETED, DONE], Err(200)),
+    (Two, &[CREATED], &[PREPARED, COMPLETED, DROPPED], Err(200)),
+    (Two, &[CREATED], &[PREPARED, COMPLETED, PREPARED], Err(200)),
+    (Two, &[CREATED], &[PREPARED, FORGOTTEN], Err(100)),
+    (Two, &[CREATED], &[PREPARED, DONE, FORGOTTEN], Err(200)),
+    (
+        Two,
+        &[CREATED],
+        &[COMPLETED, FORGOTTEN, FORGOTTEN],
+        Err(200),
+    ),
+    (Two, &[], &[NEITHER], Err(0)),
+    (
+        One,
+        &[],
+        &[CREATED, ANOTHER, PREPARED, DONE],
+        Ok((2, "?", 0)),
+    ),
+    (
+        One,
+        &[CREATED],
+        &[PREPARED, UNDONE, CLAIMED],
+        Ok((1, "?", 2)),
+    ),
+    (One, &[CREATED], &[PREPARED, COMPLETED], Err(100)),
+    (One, &[CREATED], &[PREPARED, DROPPED], Err(100)),
+    (One, &[], &[COMPLETED], Err(0)),
+    (One, &[CREATED], &[NOTHING, FORGOTTEN], Err(100)),
 ];
 
 pub fn records(alloc: Global, said: &[(Kind, &'static [u8])]) -> Option<Vec<Record>> {
@@ -108,31 +204,45 @@ pub fn records(alloc: Global, said: &[(Kind, &'static [u8])]) -> Option<Vec<Reco
     Some(list)
 }
 
-fn shown(alloc: Global, state: Replay) -> Option<(usize, usize, usize)> {
+// The sign of each branch in doubt.
+fn signs(alloc: Global, units: &[PreparedUnit]) -> Result<String, AllocError> {
+    let mut signs = String::new(alloc);
+    for unit in units {
+        signs.push_str(match unit.outcome {
+            None => "?",
+            Some(Decision::Commit) => "C",
+            Some(Decision::RollBack) => "R",
+        })?;
+    }
+    Ok(signs)
+}
+
+fn shown(alloc: Global, state: Replay) -> Option<(usize, String, usize)> {
     let (store, units) = state.into_parts();
     let rows = store.view().scan(alloc, "T").ok()?;
     let claims = match units.first() {
         Some(unit) => unit.claims.len(),
         None => 0,
     };
-    Some((rows.len(), units.len(), claims))
+    Some((rows.len(), signs(alloc, units.as_slice()).ok()?, claims))
 }
 
 // The tables that records lead to.
 pub fn checkpoint(alloc: Global, said: &[(Kind, &'static [u8])]) -> Option<TableStore> {
     let list = records(alloc, said)?;
-    let state = replay(alloc, TableStore::new(alloc), list.as_slice()).ok()?;
+    let state = replay(alloc, Two, TableStore::new(alloc), list.as_slice()).ok()?;
     Some(state.into_parts().0)
 }
 
 // None without memory.
 fn told(
     alloc: Global,
+    layout: Layout,
     before: &[(Kind, &'static [u8])],
     said: &[(Kind, &'static [u8])],
-) -> Option<Told> {
+) -> Option<Result<(usize, String, usize), usize>> {
     let list = records(alloc, said)?;
-    match replay(alloc, checkpoint(alloc, before)?, list.as_slice()) {
+    match replay(alloc, layout, checkpoint(alloc, before)?, list.as_slice()) {
         Ok(state) => Some(Ok(shown(alloc, state)?)),
         Err(ReplayError::Damaged { at }) => Some(Err(at)),
         Err(ReplayError::NoMemory) => None,
@@ -141,12 +251,13 @@ fn told(
 
 fn leads_to(
     alloc: Global,
+    layout: Layout,
     before: &[(Kind, &'static [u8])],
     said: &[(Kind, &'static [u8])],
     want: &Told,
 ) -> bool {
-    match (told(alloc, before, said), want) {
-        (Some(Ok(state)), Ok(wanted)) => state == *wanted,
+    match (told(alloc, layout, before, said), want) {
+        (Some(Ok((rows, signs, claims))), Ok(wanted)) => (rows, signs.as_str(), claims) == *wanted,
         (Some(Err(at)), Err(wanted)) => at == *wanted,
         _ => false,
     }
@@ -155,8 +266,11 @@ fn leads_to(
 #[test]
 fn journals_lead_to_states(rt: HostRuntime) {
     let mut number: usize = 0;
-    for (before, said, want) in &JOURNALS {
-        assert!(rt; leads_to(rt.alloc(), before, said, want), "{number}");
+    for (layout, before, said, want) in &JOURNALS {
+        assert!(rt;
+            leads_to(rt.alloc(), *layout, before, said, want),
+            "{number}"
+        );
         number = number.saturating_add(1);
     }
 }

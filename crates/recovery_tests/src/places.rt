@@ -1,7 +1,8 @@
 //! Whether the changes of units in doubt have their places.
 
 use crate::journals::{
-    ANOTHER, CLAIMED, CREATED, NOTHING, PREPARED, Records, UNCLAIMED, checkpoint, records,
+    ANOTHER, CLAIMED, COMPLETED, CREATED, NOTHING, PREPARED, Records, UNCLAIMED, checkpoint,
+    records,
 };
 use recovery::find_places;
 use row_values::ReadError;
@@ -16,8 +17,8 @@ const OTHER_TABLE: (Kind, &'static [u8]) = (
 
 const SHORT: (Kind, &'static [u8]) = (Kind::Prepare, &[0, 0, 0, 7, 0, 0, 0, 1]);
 
-// Records whose tables are a checkpoint, prepares, and whether each has its places there.
-const CASES: [(Records, Records, bool); 10] = [
+// Records whose tables are a checkpoint, those of branches in doubt, and whether each has its places there.
+const CASES: [(Records, Records, bool); 12] = [
     (&[], &[], true),
     (&[CREATED], &[PREPARED], true),
     (&[CREATED], &[ANOTHER, PREPARED], true),
@@ -28,6 +29,8 @@ const CASES: [(Records, Records, bool); 10] = [
     (&[CREATED, OTHER_TABLE], &[PREPARED, CLAIMED], false),
     (&[NOTHING], &[ANOTHER, PREPARED], false),
     (&[CREATED], &[PREPARED, SHORT], false),
+    (&[NOTHING], &[COMPLETED], true),
+    (&[NOTHING], &[COMPLETED, PREPARED], false),
 ];
 
 // None without memory.

@@ -1,19 +1,24 @@
 -- Histories of calls are in serial order: no call asks anything of a unit in doubt, as long as the
 -- branches rise, and every call keeps that.
-use Rattle.std.proofs.Common.{◌≡◌, inl, inr, ⊎_elim, ℕ, true, false, not, List, [], ◌∷◌, ◌++◌, refl, sym, ap, subst, ◌∙◌, Option, Some, None}
+use Rattle.std.proofs.Common.{◌≡◌, inl, inr, ⊎_elim, ℕ, Bool, true, false, not, List, [], ◌∷◌, ◌++◌, refl, sym, ap, subst, ◌∙◌, Option, Some, None}
+use Rattle.std.specs.Prelude.{bytes_eq, if◌then◌else◌}
 use Rattle.drda_words.specs.Order.{IsRising}
+use Rattle.drda_words.proofs.Precedes.{same_bytes}
 use Rattle.tables.specs.Tables.{Store}
 use Rattle.tables.specs.View.{is_store}
 use Rattle.xa_calls.specs.declared.request.Request.TheVariants as request
 use Rattle.xa_manager.specs.declared.branch.Branch.{Branch}
 use Rattle.xa_manager.specs.declared.branch.BranchState.{BranchState}
-use Rattle.xa_manager.specs.declared.branch.BranchState.TheVariants.{Active, Idle, RollbackOnly, Prepared}
+use Rattle.xa_manager.specs.declared.branch.BranchState.TheVariants.{Active, Heuristic, Idle, RollbackOnly, Prepared}
 use Rattle.xa_manager.specs.declared.due.Action.{Action}
 use Rattle.xa_manager.specs.declared.due.Action.TheVariants as action
+use Rattle.xa_manager.specs.declared.due.Decision.{Decision}
+use Rattle.xa_manager.specs.declared.due.Decision.TheVariants as decision
 use Rattle.xa_manager.specs.declared.due.Facts.{Facts}
-use Rattle.xa_manager.specs.Branch.{is_in_doubt, is_lost_with, state_of}
+use Rattle.xa_manager.specs.Branch.{is_undecided, is_lost_with, state_of, with_state}
 use Rattle.xa_manager.specs.Due.{after}
 use Rattle.xa_manager.specs.Laws.{ActionsFit, FitsAction}
+use Rattle.xa_manager.proofs.AllCalls.{other_with_state}
 use Rattle.xa_manager.proofs.Rising.{rises, rises_branch, rises_filter, rises_state, rising}
 use Rattle.core_calls.specs.Call as call
 use Rattle.core_calls.specs.Call.{Call}
@@ -22,7 +27,7 @@ use Rattle.core_model.specs.Units.{Held, Owner, global, has_work, local, unit_of
 use Rattle.core_model.specs.Asked.{Question, unfit}
 use Rattle.core_model.specs.Events as core
 use Rattle.core_model.specs.Events.{Base as CoreBase, Event as CoreEvent}
-use Rattle.core_model.specs.Step.{CoreState, Kept, MarkedCall, Mark, Taken, events, facts, due_in, next, replay, step_by, step_state}
+use Rattle.core_model.specs.Step.{CoreState, Kept, MarkedCall, Mark, Taken, action_events, decided_state, events, facts, due_in, next, replay, step_by, step_state}
 use Rattle.core_model.specs.Laws as laws
 use Rattle.core_model.specs.Laws.{AsksNone, InDoubtWait, IsPrepared}
 use Rattle.serializability.specs.Words.{Laws}
@@ -32,7 +37,7 @@ use Rattle.serializability.specs.Steps.{AsksOf, Ends}
 use Rattle.serializability.proofs.Bare.{all_begun, events_hold, forget_run, found_run}
 use Rattle.serializability.proofs.Running.{Holds, at_start, both, which}
 use Rattle.serializability.specs.CoreWords.{core_units, core_words, events_of, question_events}
-use Rattle.serializability.specs.Histories.{HistoriesAreSerial, Story, base_of, core_of, is_prepared, story, told, told_by, waits}
+use Rattle.serializability.specs.Histories.{DecidedHistoriesAreSerial, Happening, HistoriesAreSerial, Story, all_happened, base_of, calls, core_of, decides, happened, is_prepared, story, told, told_by, told_decided, told_of, waits, whole_story}
 use Rattle.serializability.proofs.CoreUnits.{core_kept, events_are_theirs}
 
 -- ---- the branches rise
@@ -43,10 +48,11 @@ rising_after bs c xid action.Start f fit h = rising _ (rises_branch bs (record {
 rising_after bs c xid action.Join f fit h = rising _ (rises_state xid _ bs (rises bs h))
 rising_after bs c xid (action.End e) f fit h = rising _ (rises_state xid _ bs (rises bs h))
 rising_after bs c xid action.Prepare f fit h = rising _ (rises_state xid _ bs (rises bs h))
-rising_after bs c xid action.Forget f fit h = rising _ (rises_filter _ bs (rises bs h))
+rising_after bs c xid action.EndUnchanged f fit h = rising _ (rises_filter _ bs (rises bs h))
 rising_after bs c xid action.CommitOnePhase f fit h = rising _ (rises_filter _ bs (rises bs h))
 rising_after bs c xid (action.Decide o) f fit h = rising _ (rises_filter _ bs (rises bs h))
 rising_after bs c xid action.RollBack f fit h = rising _ (rises_filter _ bs (rises bs h))
+rising_after bs c xid action.Forget f fit h = rising _ (rises_filter _ bs (rises bs h))
 
 rising_next : ActionsFit → (bs : List Branch) (b : CoreBase) (c : ℕ) (k : Call) → IsRising (λ (r : Branch). r.xid) bs → IsRising (λ (r : Branch). r.xid) (next bs b c k)
 rising_next fits bs b c (call.run st params) h = h
@@ -61,11 +67,12 @@ rising_next fits bs b c call.lost h = rising _ (rises_filter (λ (r : Branch). n
 
 -- ---- units in doubt
 
-is_it : (s : BranchState) → is_in_doubt s ≡ true → s ≡ Prepared
+is_it : (s : BranchState) → is_undecided s ≡ true → s ≡ Prepared
 is_it (Active c) h = both false h refl
 is_it (Idle c) h = both false h refl
 is_it (RollbackOnly c) h = both false h refl
 is_it Prepared h = refl
+is_it (Heuristic d) h = both false h refl
 
 state_is : (o : Option BranchState) → waits o ≡ true → o ≡ Some Prepared
 state_is None h = both false h refl
@@ -101,6 +108,28 @@ ends_of o [] e = e
 ends_of o (core.Ask p q ∷ es) e = ends_question (unfit q) p q o (events_of es) (ends_of o es e)
 ends_of o (core.Commit p ∷ es) e = ⊎_elim (λ same. inl same) (λ more. inr (ends_of o es more)) e
 ends_of o (core.Leave p ∷ es) e = ⊎_elim (λ same. inl same) (λ more. inr (ends_of o es more)) e
+
+-- ---- a heuristic decision
+
+abbrev decision_events : List ℕ → Decision → List CoreEvent
+decision_events xid d = action_events xid (action.Decide d)
+
+no_asks : (bs : List Branch) (xid : List ℕ) (d : Decision) → AsksOf core_words core_units (is_prepared bs) (events_of (decision_events xid d))
+no_asks bs xid decision.Commit = tt
+no_asks bs xid decision.RollBack = tt
+
+ends_here : (xid : List ℕ) (d : Decision) → Ends core_words core_units (global xid) (events_of (decision_events xid d))
+ends_here xid decision.Commit = inl refl
+ends_here xid decision.RollBack = inl refl
+
+-- another prepared branch waits on
+stays_undecided : (bs : List Branch) (xid : List ℕ) (d : Decision) (o : Owner) → is_prepared bs o ≡ true → (o ≡ global xid → ⊥) → is_prepared (with_state bs xid (Heuristic d)) o ≡ true
+stays_undecided bs xid d (local c) so none = both false so refl
+stays_undecided bs xid d (global y) so none =
+    ⊎_elim
+    (λ same. absurd (none (ap global (sym (same_bytes xid y same)))))
+    (λ ne. ap waits (other_with_state bs xid (Heuristic d) y ne) ∙ so)
+    (which (bytes_eq xid y))
 
 -- ---- the story
 
@@ -155,4 +184,47 @@ module _ (l : Laws core_words) (wait : InDoubtWait) (fits : ActionsFit) where
       let first : Story = record { branches = branches; world = start core_words core_units s units } in
       let r = all_told s history first (fine_start s units branches good lie up in_doubt) in
       let end = story history first in
+      (subst (λ (t : Store). Serially core_words s end.world.ended t) (ap (λ (c : CoreState). c.base.store) r.1) r.0.holds.serial, r.1)
+
+  -- ---- heuristic decisions between calls
+
+  one_decided : (first : Store) (s : Story) (xid : List ℕ) (d : Decision) → Fine first s → core_of (told_decided s xid d) ≡ decided_state (core_of s) xid d
+  one_decided first s xid d f =
+      let b = base_of s.world in
+      let es = decision_events xid d in
+      let begun = all_begun core_words core_units core_kept s.world (events_of es) (is_prepared s.branches) f.in_doubt (no_asks s.branches xid d) in
+      let same = forget_run core_words core_units core_kept s.world (events_of es) begun ∙ sym (events_are_theirs es b) in
+      λ i. record { base = record { store = (same i).store; units = (same i).units }; branches = with_state s.branches xid (Heuristic d) }
+
+  fine_decided : (first : Store) (s : Story) (xid : List ℕ) (d : Decision) → Fine first s → Fine first (told_decided s xid d)
+  fine_decided first s xid d f =
+      let es = decision_events xid d in record {
+        holds = events_hold core_words l core_units core_kept first (events_of es) s.world f.holds;
+        in_doubt = λ o is.
+            let r = found_run core_words core_units core_kept s.world (events_of es) o is in
+            stays_undecided s.branches xid d o (f.in_doubt o r.0) (λ same. r.1 (subst (λ (p : Owner). Ends core_words core_units p (events_of es)) (sym same) (ends_here xid d)));
+        rises = rising _ (rises_state xid _ s.branches (rises s.branches f.rises));
+      }
+
+  fine_if : (first : Store) (s : Story) (xid : List ℕ) (d : Decision) (b : Bool) → Fine first s
+      → Fine first (if b then told_decided s xid d else s) × (core_of (if b then told_decided s xid d else s) ≡ (if b then decided_state (core_of s) xid d else core_of s))
+  fine_if first s xid d true f = (fine_decided first s xid d f, one_decided first s xid d f)
+  fine_if first s xid d false f = (f, refl)
+
+  fine_of : (first : Store) (h : Happening) (s : Story) → Fine first s → Fine first (told_of h s) × (core_of (told_of h s) ≡ happened h (core_of s))
+  fine_of first (calls x) s f = fine_by first x.mark s x.conversation x.call f
+  fine_of first (decides xid d) s f = fine_if first s xid d (is_prepared s.branches (global xid)) f
+
+  whole_told : (first : Store) (hs : List Happening) (s : Story) → Fine first s → Fine first (whole_story hs s) × (core_of (whole_story hs s) ≡ all_happened hs (core_of s))
+  whole_told first [] s f = (f, refl)
+  whole_told first (h ∷ hs) s f =
+      let here = fine_of first h s f in
+      let rest = whole_told first hs (told_of h s) here.0 in
+      (rest.0, rest.1 ∙ ap (λ (t : CoreState). all_happened hs t) here.1)
+
+  pub decided_histories_are_serial : DecidedHistoriesAreSerial
+  decided_histories_are_serial s units branches history good lie up in_doubt =
+      let first : Story = record { branches = branches; world = start core_words core_units s units } in
+      let r = whole_told s history first (fine_start s units branches good lie up in_doubt) in
+      let end = whole_story history first in
       (subst (λ (t : Store). Serially core_words s end.world.ended t) (ap (λ (c : CoreState). c.base.store) r.1) r.0.holds.serial, r.1)

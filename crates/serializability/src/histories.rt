@@ -3,7 +3,7 @@
 ghost use Rattle.serializability.specs.Serial.{SerialOrder};
 ghost use Rattle.serializability.specs.Steps.{EventsKeep};
 ghost use Rattle.serializability.specs.CoreWords.{CoreOrder, EventsAreTheirs, core_units, core_words};
-ghost use Rattle.serializability.specs.Histories.{HistoriesAreSerial};
+ghost use Rattle.serializability.specs.Histories.{DecidedHistoriesAreSerial, HistoriesAreSerial};
 
 use core_model::laws::units_in_doubt_wait;
 use sql_semantics::laws::statements_are_framed;
@@ -25,6 +25,8 @@ pub fn histories_are_serial()
     // of any list of calls of any conversations, whether their steps are taken or not, after an opening
     // whose units are of prepared branches
     ensures histories { HistoriesAreSerial }
+    // and with heuristic decisions between them
+    ensures decided { DecidedHistoriesAreSerial }
 {
     changes_are_local();
     changes_make_tables();

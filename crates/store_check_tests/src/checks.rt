@@ -3,7 +3,7 @@
 use crate::first_column::FirstColumn;
 use crate::pages::{DISK_BYTES, TABLE_AT};
 use drda_disk::{Disk, Region};
-use half_store::{Active, Half};
+use half_store::{Active, Half, Layout};
 use row_pages::PageCache;
 use row_values::Schema;
 use std::alloc::Global;
@@ -63,6 +63,7 @@ pub fn half_of<D: Disk>(
         pages,
         first_catalogue,
         catalogue_pages,
+        layout: Layout::Two,
         region: Region {
             at: TABLE_AT + 8_192 * pages as usize,
             length: 8_192,

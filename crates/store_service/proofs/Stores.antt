@@ -29,8 +29,8 @@ module _ {D : Type 0} (modelled : Bool) (life : D → Life) (sound : ImagesAreSo
     part_is = (kept d (sound name d (life disk).seen store.opens)).part
 
     module _ (core : OnDisk D) (is : IsOpenedTo name d core) (stays : Stays (life disk) (life core.disk)) where
-      over : asked_of core ≡ core_over d core.room
-      over = λ i. record { state = is.state i; room = core.room; has_failed = is.going i; made = is.made i }
+      over : asked_of core ≡ core_over d core.layout core.room
+      over = λ i. record { state = is.state i; layout = core.layout; room = core.room; has_failed = is.going i; made = is.made i }
 
       durable : durable_part core.state ≡ d
       durable = ap durable_part is.state ∙ part_is
@@ -55,11 +55,11 @@ module _ {D : Type 0} (modelled : Bool) (life : D → Life) (sound : ImagesAreSo
         settings : Settings
         settings = record { user = user; password = password; rdb = name }
 
-        starts : at_start (record { user = user; password = password; rdb = core.name }) (asked_of core) ≡ at_start (record { user = user; password = password; rdb = name }) (core_over d core.room)
+        starts : at_start (record { user = user; password = password; rdb = core.name }) (asked_of core) ≡ at_start (record { user = user; password = password; rdb = name }) (core_over d core.layout core.room)
         starts = λ i. at_start (record { user = user; password = password; rdb = is.named i }) (over i)
 
         runs_from : (o : Option (List ℕ)) → IfSome o (λ bytes. Runs (at_start (record { user = user; password = password; rdb = core.name }) (asked_of core)) bytes before end now goes.last)
-            → IfSome o (λ bytes. Runs (at_start (record { user = user; password = password; rdb = name }) (core_over d core.room)) bytes before end now goes.last)
+            → IfSome o (λ bytes. Runs (at_start (record { user = user; password = password; rdb = name }) (core_over d core.layout core.room)) bytes before end now goes.last)
         runs_from o runs = subst (λ (m : Machine). IfSome o (λ bytes. Runs m bytes before end now goes.last)) starts runs
 
         failed_is : goes.last.core.has_failed ≡ goes.new.is_failed
@@ -69,6 +69,7 @@ module _ {D : Type 0} (modelled : Bool) (life : D → Life) (sound : ImagesAreSo
         has_run =
             let (records, made) = goes.journaled.records store.modelled_is is.going in
             record {
+              layout = core.layout;
               room = core.room;
               last = goes.last;
               runs = runs_from input goes.runs;

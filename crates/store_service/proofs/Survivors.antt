@@ -42,6 +42,7 @@ module _ (name : List ℕ) (d : Durable) (user password input : List ℕ) (f lef
         state = after.after.state;
         opens = after.after.opens;
         survives = λ told is. record {
+          layout = ran.layout;
           room = ran.room;
           last = ran.last;
           replies = replies;

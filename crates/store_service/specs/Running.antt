@@ -4,6 +4,7 @@ use Rattle.std.specs.Prelude.{◌≡◌, ℕ, Bool, false, IsTrue, List, [], map
 use Rattle.std.specs.List.{AllByRecursion}
 use Rattle.drda_disk.specs.Disk.{LeavesOnly, Life, Now, Only, Stays}
 use Rattle.session_commands.specs.Settings.{Settings, is_rdb_name}
+use Rattle.half_store.specs.declared.header.Layout.{Layout}
 use Rattle.unit_records.specs.Records.{IsGood, UnitRecord, entry_of}
 use Rattle.recovery.specs.Durable.{Durable, replayed_from}
 use Rattle.recovery.specs.Part.{durable_part, opened}
@@ -25,16 +26,17 @@ pub record IsStore (modelled : Bool) (name : List ℕ) (d : Durable) (disk : Lif
   pub opens : OpensTo name d disk.seen
 
 -- what a core over that state is to those who ask it
-abbrev pub core_over : Durable → ℕ → AskedCore
-core_over d room = record { state = opened d; room = room; has_failed = false; made = [] }
+abbrev pub core_over : Durable → Layout → ℕ → AskedCore
+core_over d layout room = record { state = opened d; layout = layout; room = room; has_failed = false; made = [] }
 
 -- a machine that begins with the state answered the input; these records were made of its calls, and lead from the state to
 -- what is durable of it; a crash leaves the state after the first of them, and at the end after all of them, but perhaps not
 -- the last where the device failed
 pub record HasRun (name : List ℕ) (d : Durable) (settings : Settings) (old new : Life) (input before : Option (List ℕ)) (end : RunEnd) (now : Option (List ℕ)) : Type 0 where
+  pub layout : Layout
   pub room : ℕ
   pub last : Machine
-  pub runs : IfSome input (λ bytes. Runs (at_start settings (core_over d room)) bytes before end now last)
+  pub runs : IfSome input (λ bytes. Runs (at_start settings (core_over d layout room)) bytes before end now last)
   pub records : List UnitRecord
   pub good : AllByRecursion IsGood records
   pub made : last.core.made ≡ map entry_of records

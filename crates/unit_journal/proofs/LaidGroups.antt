@@ -9,7 +9,7 @@ use Rattle.unit_journal.specs.Kind.{code_of, kind_for}
 use Rattle.unit_journal.specs.Record.{Entry, behind, laid, AreShort}
 use Rattle.unit_journal.specs.LaidGroup.{first_in, entries_from, entries_behind, IsLaid}
 use Rattle.unit_journal.specs.declared.kind.Kind.{Kind}
-use Rattle.unit_journal.specs.declared.kind.Kind.TheVariants.{Commit, Prepare, Decide}
+use Rattle.unit_journal.specs.declared.kind.Kind.TheVariants.{Commit, Prepare, Decide, Heuristic, Forget}
 use Rattle.unit_journal.proofs.Spelling.{laid-push, length-laid-cons, short-push}
 use Rattle.unit_journal.proofs.Appending.{length-bytes}
 
@@ -17,6 +17,8 @@ kind-code : (kind : Kind) → kind_for (code_of kind) ≡ kind
 kind-code Commit = refl
 kind-code Prepare = refl
 kind-code Decide = refl
+kind-code Heuristic = refl
+kind-code Forget = refl
 
 module _ (e : Entry) (behind_it : List ℕ) (short : length e.body < 2 ^ 32) where
   abbrev bytes : List ℕ

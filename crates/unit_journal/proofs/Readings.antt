@@ -10,7 +10,7 @@ use Rattle.unit_journal.specs.Kind.{code_of}
 use Rattle.unit_journal.specs.Record.{Entry, laid, AreShort}
 use Rattle.unit_journal.specs.Stands.{StandsFrom, Stands, DamagedFrom, IsDamagedAt, IsNoRecord}
 use Rattle.unit_journal.specs.declared.kind.Kind.{Kind}
-use Rattle.unit_journal.specs.declared.kind.Kind.TheVariants.{Commit, Prepare, Decide}
+use Rattle.unit_journal.specs.declared.kind.Kind.TheVariants.{Commit, Prepare, Decide, Heuristic, Forget}
 use Rattle.unit_journal.proofs.Spelling.{length-laid-cons, byte_part, those}
 
 -- records that are spelled from an offset on
@@ -60,12 +60,28 @@ same_kind : (a b : Kind) → code_of a ≡ code_of b → a ≡ b
 same_kind Commit Commit is = refl
 same_kind Commit Prepare is = absurd (omega (arith, is))
 same_kind Commit Decide is = absurd (omega (arith, is))
+same_kind Commit Heuristic is = absurd (omega (arith, is))
+same_kind Commit Forget is = absurd (omega (arith, is))
 same_kind Prepare Commit is = absurd (omega (arith, is))
 same_kind Prepare Prepare is = refl
 same_kind Prepare Decide is = absurd (omega (arith, is))
+same_kind Prepare Heuristic is = absurd (omega (arith, is))
+same_kind Prepare Forget is = absurd (omega (arith, is))
 same_kind Decide Commit is = absurd (omega (arith, is))
 same_kind Decide Prepare is = absurd (omega (arith, is))
 same_kind Decide Decide is = refl
+same_kind Decide Heuristic is = absurd (omega (arith, is))
+same_kind Decide Forget is = absurd (omega (arith, is))
+same_kind Heuristic Commit is = absurd (omega (arith, is))
+same_kind Heuristic Prepare is = absurd (omega (arith, is))
+same_kind Heuristic Decide is = absurd (omega (arith, is))
+same_kind Heuristic Heuristic is = refl
+same_kind Heuristic Forget is = absurd (omega (arith, is))
+same_kind Forget Commit is = absurd (omega (arith, is))
+same_kind Forget Prepare is = absurd (omega (arith, is))
+same_kind Forget Decide is = absurd (omega (arith, is))
+same_kind Forget Heuristic is = absurd (omega (arith, is))
+same_kind Forget Forget is = refl
 
 -- the first of two readings
 same_first : (at : ℕ) (e f : Entry) (es fs : List Entry) (image : List ℕ) → Spelled at (e ∷ es) image → Spelled at (f ∷ fs) image → e ≡ f

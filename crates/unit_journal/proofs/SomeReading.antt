@@ -12,14 +12,16 @@ use Rattle.unit_journal.specs.Kind.{code_of}
 use Rattle.unit_journal.specs.Record.{Entry, behind, laid}
 use Rattle.unit_journal.specs.Stands.{StandsFrom, DamagedFrom, IsNoRecord}
 use Rattle.unit_journal.specs.declared.kind.Kind.{Kind}
-use Rattle.unit_journal.specs.declared.kind.Kind.TheVariants.{Commit, Prepare, Decide}
+use Rattle.unit_journal.specs.declared.kind.Kind.TheVariants.{Commit, Prepare, Decide, Heuristic, Forget}
 use Rattle.unit_journal.proofs.Reading.{kind_is, lengths, record_spelled}
 use Rattle.unit_journal.proofs.Spelling.{length-laid-cons, stands_from}
 
-none_of : (byte : ℕ) → byte ≢ 1 → byte ≢ 2 → byte ≢ 3 → (kind : Kind) → byte ≢ code_of kind
-none_of byte one two three Commit = one
-none_of byte one two three Prepare = two
-none_of byte one two three Decide = three
+none_of : (byte : ℕ) → byte ≢ 1 → byte ≢ 2 → byte ≢ 3 → byte ≢ 4 → byte ≢ 5 → (kind : Kind) → byte ≢ code_of kind
+none_of byte one two three four five Commit = one
+none_of byte one two three four five Prepare = two
+none_of byte one two three four five Decide = three
+none_of byte one two three four five Heuristic = four
+none_of byte one two three four five Forget = five
 
 -- a kind's byte, or none
 kind_of : (byte : ℕ) → ((kind : Kind) × (byte ≡ code_of kind)) ⊎ ((kind : Kind) → byte ≢ code_of kind)
@@ -29,7 +31,13 @@ kind_of byte = elim (cases_eq byte 1) [
     | inl two ↦ inl (Prepare, two)
     | inr not_two ↦ elim (cases_eq byte 3) [
       | inl three ↦ inl (Decide, three)
-      | inr not_three ↦ inr (none_of byte not_one not_two not_three)
+      | inr not_three ↦ elim (cases_eq byte 4) [
+        | inl four ↦ inl (Heuristic, four)
+        | inr not_four ↦ elim (cases_eq byte 5) [
+          | inl five ↦ inl (Forget, five)
+          | inr not_five ↦ inr (none_of byte not_one not_two not_three not_four not_five)
+        ]
+      ]
     ]
   ]
 ]

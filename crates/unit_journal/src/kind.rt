@@ -10,6 +10,10 @@ pub enum Kind {
     Prepare,
     /// A unit in doubt was decided: 03.
     Decide,
+    /// A unit in doubt was decided heuristically: 04.
+    Heuristic,
+    /// A unit that was decided heuristically was forgotten: 05.
+    Forget,
 }
 
 impl Kind {
@@ -23,6 +27,8 @@ impl Kind {
             Kind::Commit => 1,
             Kind::Prepare => 2,
             Kind::Decide => 3,
+            Kind::Heuristic => 4,
+            Kind::Forget => 5,
         }
     }
 
@@ -34,6 +40,8 @@ impl Kind {
             1 => Some(Kind::Commit),
             2 => Some(Kind::Prepare),
             3 => Some(Kind::Decide),
+            4 => Some(Kind::Heuristic),
+            5 => Some(Kind::Forget),
             _ => None,
         }
     }

@@ -9,9 +9,9 @@ use Rattle.xa_calls.specs.Xid.{IsXid}
 use Rattle.xa_manager.specs.declared.due.Decision.{Decision}
 use Rattle.xa_manager.specs.declared.due.Decision.TheVariants as decision
 use Rattle.unit_journal.specs.declared.kind.Kind.{Kind}
-use Rattle.unit_journal.specs.declared.kind.Kind.TheVariants.{Commit, Prepare, Decide}
+use Rattle.unit_journal.specs.declared.kind.Kind.TheVariants.{Commit, Prepare, Decide, Heuristic, Forget}
 use Rattle.unit_records.specs.Fronts.{AreListed, Misses, listed}
-use Rattle.unit_records.specs.Records.{IsChange, IsRecord, UnitRecord, committed, decided, decision_byte, prepared}
+use Rattle.unit_records.specs.Records.{IsChange, IsRecord, UnitRecord, committed, decided, decision_byte, forgotten, heuristic, prepared}
 use Rattle.unit_records.specs.Laws.{OneReading, PartsStandOnce}
 use Rattle.unit_records.specs.Read.{Gives, IsNone, ReadsRecord, record_of}
 use Rattle.unit_records.specs.declared.record.UnitRecord.{UnitRecord as CodeRecord}
@@ -47,6 +47,8 @@ module _ (o : PartsStandOnce) where
       ap committed one.0
   one_reading kind body (committed a) (prepared y bs es) r s = absurd (cc (r.same_kind, s.same_kind))
   one_reading kind body (committed a) (decided y e) r s = absurd (cc (r.same_kind, s.same_kind))
+  one_reading kind body (committed a) (heuristic y e) r s = absurd (cc (r.same_kind, s.same_kind))
+  one_reading kind body (committed a) (forgotten y) r s = absurd (cc (r.same_kind, s.same_kind))
   one_reading kind body (prepared x cs ds) (committed b) r s = absurd (cc (r.same_kind, s.same_kind))
   one_reading kind body (prepared x cs ds) (prepared y bs es) r s =
       let first = o.xids x y (listed claim_bytes ds ++ listed change_bytes cs) (listed claim_bytes es ++ listed change_bytes bs) r.good.0 s.good.0 (sym r.bytes ∙ s.bytes) in
@@ -54,11 +56,27 @@ module _ (o : PartsStandOnce) where
       let third = o.changes cs bs [] [] r.good.2 s.good.2 (whole_text (listed change_bytes cs) (listed change_bytes bs) second.1) in
       ap (λ (z : List ℕ). prepared z cs ds) first.0 ∙ ap (λ (zs : List Change). prepared y zs ds) third.0 ∙ ap (prepared y bs) second.0
   one_reading kind body (prepared x cs ds) (decided y e) r s = absurd (cc (r.same_kind, s.same_kind))
+  one_reading kind body (prepared x cs ds) (heuristic y e) r s = absurd (cc (r.same_kind, s.same_kind))
+  one_reading kind body (prepared x cs ds) (forgotten y) r s = absurd (cc (r.same_kind, s.same_kind))
   one_reading kind body (decided x d) (committed b) r s = absurd (cc (r.same_kind, s.same_kind))
   one_reading kind body (decided x d) (prepared y bs es) r s = absurd (cc (r.same_kind, s.same_kind))
   one_reading kind body (decided x d) (decided y e) r s =
       let first = o.xids x y (decision_byte d ∷ []) (decision_byte e ∷ []) r.good s.good (sym r.bytes ∙ s.bytes) in
       ap (λ (z : List ℕ). decided z d) first.0 ∙ ap (decided y) (outcomes_once d e first.1)
+  one_reading kind body (decided x d) (heuristic y e) r s = absurd (cc (r.same_kind, s.same_kind))
+  one_reading kind body (decided x d) (forgotten y) r s = absurd (cc (r.same_kind, s.same_kind))
+  one_reading kind body (heuristic x d) (committed b) r s = absurd (cc (r.same_kind, s.same_kind))
+  one_reading kind body (heuristic x d) (prepared y bs es) r s = absurd (cc (r.same_kind, s.same_kind))
+  one_reading kind body (heuristic x d) (decided y e) r s = absurd (cc (r.same_kind, s.same_kind))
+  one_reading kind body (heuristic x d) (heuristic y e) r s =
+      let first = o.xids x y (decision_byte d ∷ []) (decision_byte e ∷ []) r.good s.good (sym r.bytes ∙ s.bytes) in
+      ap (λ (z : List ℕ). heuristic z d) first.0 ∙ ap (heuristic y) (outcomes_once d e first.1)
+  one_reading kind body (heuristic x d) (forgotten y) r s = absurd (cc (r.same_kind, s.same_kind))
+  one_reading kind body (forgotten x) (committed b) r s = absurd (cc (r.same_kind, s.same_kind))
+  one_reading kind body (forgotten x) (prepared y bs es) r s = absurd (cc (r.same_kind, s.same_kind))
+  one_reading kind body (forgotten x) (decided y e) r s = absurd (cc (r.same_kind, s.same_kind))
+  one_reading kind body (forgotten x) (heuristic y e) r s = absurd (cc (r.same_kind, s.same_kind))
+  one_reading kind body (forgotten x) (forgotten y) r s = ap forgotten (sym r.bytes ∙ s.bytes)
 
   -- ---- what is wrong with a body
 
@@ -73,29 +91,70 @@ module _ (o : PartsStandOnce) where
   commit_damaged body none (committed a) r = none a [] r.good (r.bytes ∙ sym (append-nil (listed change_bytes a)))
   commit_damaged body none (prepared x cs ds) r = absurd (cc r.same_kind)
   commit_damaged body none (decided x d) r = absurd (cc r.same_kind)
+  commit_damaged body none (heuristic x d) r = absurd (cc r.same_kind)
+  commit_damaged body none (forgotten x) r = absurd (cc r.same_kind)
 
   pub commit_too_long : (body rest : List ℕ) (changes : List Change) → AreListed IsChange changes → body ≡ listed change_bytes changes ++ rest → rest ≢ [] → (r : UnitRecord) → IsRecord Commit body r → ⊥
   commit_too_long body rest changes good text more (committed a) r =
       more (o.changes changes a rest [] good r.good (sym text ∙ r.bytes ∙ sym (append-nil (listed change_bytes a)))).1
   commit_too_long body rest changes good text more (prepared x cs ds) r = absurd (cc r.same_kind)
   commit_too_long body rest changes good text more (decided x d) r = absurd (cc r.same_kind)
+  commit_too_long body rest changes good text more (heuristic x d) r = absurd (cc r.same_kind)
+  commit_too_long body rest changes good text more (forgotten x) r = absurd (cc r.same_kind)
 
   -- no XID stands in front
   pub unnamed_prepare : (body : List ℕ) → ((xid rest : List ℕ) → IsXid xid → body ≢ xid ++ rest) → (r : UnitRecord) → IsRecord Prepare body r → ⊥
   unnamed_prepare body none (committed a) r = absurd (cc r.same_kind)
   unnamed_prepare body none (prepared x cs ds) r = none x (listed claim_bytes ds ++ listed change_bytes cs) r.good.0 r.bytes
   unnamed_prepare body none (decided x d) r = absurd (cc r.same_kind)
+  unnamed_prepare body none (heuristic x d) r = absurd (cc r.same_kind)
+  unnamed_prepare body none (forgotten x) r = absurd (cc r.same_kind)
 
   pub unnamed_decide : (body : List ℕ) → ((xid rest : List ℕ) → IsXid xid → body ≢ xid ++ rest) → (r : UnitRecord) → IsRecord Decide body r → ⊥
   unnamed_decide body none (committed a) r = absurd (cc r.same_kind)
   unnamed_decide body none (prepared x cs ds) r = absurd (cc r.same_kind)
   unnamed_decide body none (decided x d) r = none x (decision_byte d ∷ []) r.good r.bytes
+  unnamed_decide body none (heuristic x d) r = absurd (cc r.same_kind)
+  unnamed_decide body none (forgotten x) r = absurd (cc r.same_kind)
+
+  pub unnamed_heuristic : (body : List ℕ) → ((xid rest : List ℕ) → IsXid xid → body ≢ xid ++ rest) → (r : UnitRecord) → IsRecord Heuristic body r → ⊥
+  unnamed_heuristic body none (committed a) r = absurd (cc r.same_kind)
+  unnamed_heuristic body none (prepared x cs ds) r = absurd (cc r.same_kind)
+  unnamed_heuristic body none (decided x d) r = absurd (cc r.same_kind)
+  unnamed_heuristic body none (heuristic x d) r = none x (decision_byte d ∷ []) r.good r.bytes
+  unnamed_heuristic body none (forgotten x) r = absurd (cc r.same_kind)
+
+  pub unnamed_forget : (body : List ℕ) → ((xid rest : List ℕ) → IsXid xid → body ≢ xid ++ rest) → (r : UnitRecord) → IsRecord Forget body r → ⊥
+  unnamed_forget body none (committed a) r = absurd (cc r.same_kind)
+  unnamed_forget body none (prepared x cs ds) r = absurd (cc r.same_kind)
+  unnamed_forget body none (decided x d) r = absurd (cc r.same_kind)
+  unnamed_forget body none (heuristic x d) r = absurd (cc r.same_kind)
+  unnamed_forget body none (forgotten x) r = none x [] r.good (r.bytes ∙ sym (append-nil x))
 
   module _ (body xid behind : List ℕ) (named : IsXid xid) (text : body ≡ xid ++ behind) where
+    pub no_outcome : ((d : Decision) → behind ≢ decision_byte d ∷ []) → (r : UnitRecord) → IsRecord Heuristic body r → ⊥
+    no_outcome none (committed a) r = absurd (cc r.same_kind)
+    no_outcome none (prepared x cs ds) r = absurd (cc r.same_kind)
+    no_outcome none (decided x d) r = absurd (cc r.same_kind)
+    no_outcome none (heuristic x d) r = none d (o.xids xid x behind (decision_byte d ∷ []) named r.good (sym text ∙ r.bytes)).1
+    no_outcome none (forgotten x) r = absurd (cc r.same_kind)
+
+    pub forget_too_long : behind ≢ [] → (r : UnitRecord) → IsRecord Forget body r → ⊥
+    forget_too_long more (committed a) r = absurd (cc r.same_kind)
+    forget_too_long more (prepared x cs ds) r = absurd (cc r.same_kind)
+    forget_too_long more (decided x d) r = absurd (cc r.same_kind)
+    forget_too_long more (heuristic x d) r = absurd (cc r.same_kind)
+    forget_too_long more (forgotten x) r = more (o.xids xid x behind [] named r.good (sym text ∙ r.bytes ∙ sym (append-nil x))).1
+
+    pub is_forget : behind ≡ [] → IsRecord Forget body (forgotten xid)
+    is_forget none = record { same_kind = refl; bytes = text ∙ ap (λ (l : List ℕ). xid ++ l) none ∙ append-nil xid; good = named }
+
     pub undecided : ((d : Decision) → behind ≢ decision_byte d ∷ []) → (r : UnitRecord) → IsRecord Decide body r → ⊥
     undecided none (committed a) r = absurd (cc r.same_kind)
     undecided none (prepared x cs ds) r = absurd (cc r.same_kind)
     undecided none (decided x d) r = none d (o.xids xid x behind (decision_byte d ∷ []) named r.good (sym text ∙ r.bytes)).1
+    undecided none (heuristic x d) r = absurd (cc r.same_kind)
+    undecided none (forgotten x) r = absurd (cc r.same_kind)
 
     -- what a prepare has behind its XID
     after_xid : (x : List ℕ) (cs : List Change) (ds : List Claim) → IsRecord Prepare body (prepared x cs ds) → behind ≡ listed claim_bytes ds ++ listed change_bytes cs
@@ -105,6 +164,8 @@ module _ (o : PartsStandOnce) where
     unclaimed none (committed a) r = absurd (cc r.same_kind)
     unclaimed none (prepared x cs ds) r = none ds (listed change_bytes cs) r.good.1 (after_xid x cs ds r)
     unclaimed none (decided x d) r = absurd (cc r.same_kind)
+    unclaimed none (heuristic x d) r = absurd (cc r.same_kind)
+    unclaimed none (forgotten x) r = absurd (cc r.same_kind)
 
     module _ (claims : List Claim) (last : List ℕ) (claimed : AreListed IsClaim claims) (more : behind ≡ listed claim_bytes claims ++ last) where
       after_claims : (x : List ℕ) (cs : List Change) (ds : List Claim) → IsRecord Prepare body (prepared x cs ds) → last ≡ listed change_bytes cs
@@ -114,6 +175,8 @@ module _ (o : PartsStandOnce) where
       unchanged none (committed a) r = absurd (cc r.same_kind)
       unchanged none (prepared x cs ds) r = none cs [] r.good.2 (after_claims x cs ds r ∙ sym (append-nil (listed change_bytes cs)))
       unchanged none (decided x d) r = absurd (cc r.same_kind)
+      unchanged none (heuristic x d) r = absurd (cc r.same_kind)
+      unchanged none (forgotten x) r = absurd (cc r.same_kind)
 
       module _ (changes : List Change) (rest : List ℕ) (good : AreListed IsChange changes) (end : last ≡ listed change_bytes changes ++ rest) where
         pub prepare_too_long : rest ≢ [] → (r : UnitRecord) → IsRecord Prepare body r → ⊥
@@ -121,6 +184,8 @@ module _ (o : PartsStandOnce) where
         prepare_too_long left (prepared x cs ds) r =
             left (o.changes changes cs rest [] good r.good.2 (sym end ∙ after_claims x cs ds r ∙ sym (append-nil (listed change_bytes cs)))).1
         prepare_too_long left (decided x d) r = absurd (cc r.same_kind)
+        prepare_too_long left (heuristic x d) r = absurd (cc r.same_kind)
+        prepare_too_long left (forgotten x) r = absurd (cc r.same_kind)
 
         pub is_prepare : rest ≡ [] → IsRecord Prepare body (prepared xid changes claims)
         is_prepare none = record {

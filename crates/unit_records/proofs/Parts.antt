@@ -10,7 +10,8 @@ use Rattle.tables.specs.Laws.{ChangeReadWasWritten, ChangeWrittenIsRead}
 use Rattle.xa_calls.specs.Xid.{AreParts, IsXid, Parts, wire, xid_in}
 use Rattle.unit_records.specs.Fronts.{OneFront, TakesFront}
 use Rattle.unit_records.specs.Records.{IsChange, decision_byte}
-use Rattle.unit_records.specs.Room.{DecisionsAreShort, DecisionsFit, DecisionsNeedNoRoom}
+use Rattle.unit_records.specs.Room.{DecisionsAreShort, DecisionsFit, DecisionsNeedNoRoom, HeuristicsFit}
+use Rattle.half_store.specs.declared.header.Layout.TheVariants.{One, Two}
 
 -- ---- changes
 
@@ -59,10 +60,15 @@ pub short_xid : (xid : List ℕ) → IsXid xid → length xid ≤ 140
 short_xid xid is = omega (arith, ap length is.2, length-wire is.0, is.1.short_global, is.1.short_branch)
 
 pub decision_fits : DecisionsFit
-decision_fits xid changes claims o = omega (arith, length-append xid (decision_byte o ∷ []))
+decision_fits One xid changes claims o = omega (arith, length-append xid (decision_byte o ∷ []))
+decision_fits Two xid changes claims o = omega (arith, length-append xid (decision_byte o ∷ []))
+
+pub heuristics_fit : HeuristicsFit
+heuristics_fit xid changes claims o = omega arith
 
 pub decision_needs_no_more : DecisionsNeedNoRoom
-decision_needs_no_more xid o = omega (arith, length-append xid (decision_byte o ∷ []))
+decision_needs_no_more One xid o = (omega (arith, length-append xid (decision_byte o ∷ [])), omega (arith, length-append xid (decision_byte o ∷ [])), omega arith)
+decision_needs_no_more Two xid o = (omega (arith, length-append xid (decision_byte o ∷ [])), omega (arith, length-append xid (decision_byte o ∷ [])), omega arith)
 
 pub decision_short : DecisionsAreShort
-decision_short p = omega (arith, length-wire p)
+decision_short p = (omega (arith, length-wire p), omega (arith, length-wire p))

@@ -8,7 +8,7 @@ use Rattle.tables.specs.Change.{Change}
 use Rattle.tables.specs.Tables.{Store}
 use Rattle.xa_manager.specs.declared.branch.Branch.{Branch}
 use Rattle.xa_manager.specs.declared.branch.BranchState.{BranchState}
-use Rattle.xa_manager.specs.declared.branch.BranchState.TheVariants.{Active, Idle, Prepared, RollbackOnly}
+use Rattle.xa_manager.specs.declared.branch.BranchState.TheVariants.{Active, Heuristic, Idle, Prepared, RollbackOnly}
 use Rattle.xa_manager.specs.declared.due.Action.{Action}
 use Rattle.xa_manager.specs.declared.due.Decision.TheVariants as decision
 use Rattle.xa_manager.specs.declared.due.Due.{Due}
@@ -43,12 +43,14 @@ due_for Prepare (Some (Idle n)) f stands allows = rw (allows.0, allows.1) refl
 due_for Prepare (Some (Active n)) f stands allows = absurd cc
 due_for Prepare (Some (RollbackOnly n)) f stands allows = absurd cc
 due_for Prepare (Some Prepared) f stands allows = absurd cc
+due_for Prepare (Some (Heuristic d)) f stands allows = absurd cc
 due_for Prepare None f stands allows = absurd cc
 due_for (Decide decision.Commit) (Some Prepared) f stands allows = refl
 due_for (Decide decision.RollBack) (Some Prepared) f stands allows = refl
 due_for (Decide d) (Some (Idle n)) f stands allows = absurd cc
 due_for (Decide d) (Some (Active n)) f stands allows = absurd cc
 due_for (Decide d) (Some (RollbackOnly n)) f stands allows = absurd cc
+due_for (Decide d) (Some (Heuristic h)) f stands allows = absurd cc
 due_for (Decide d) None f stands allows = absurd cc
 
 -- the core where the phase has been due of a branch
@@ -112,6 +114,7 @@ idle_for (Some (Idle n)) stands = (n, refl)
 idle_for (Some (Active n)) stands = absurd cc
 idle_for (Some (RollbackOnly n)) stands = absurd cc
 idle_for (Some Prepared) stands = absurd cc
+idle_for (Some (Heuristic d)) stands = absurd cc
 idle_for None stands = absurd cc
 
 -- one more is in doubt, and one call fewer is left

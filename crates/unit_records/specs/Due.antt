@@ -12,7 +12,7 @@ use Rattle.core_calls.specs.Call.{Call}
 use Rattle.core_model.specs.Units.{Work, global, local, unit_of}
 use Rattle.core_model.specs.Events.{Base}
 use Rattle.core_model.specs.Step.{CoreState, due_in, unless_joined}
-use Rattle.unit_records.specs.Records.{UnitRecord, committed, decided, prepared}
+use Rattle.unit_records.specs.Records.{UnitRecord, committed, decided, forgotten, prepared}
 
 -- a commit's record; a unit that has changed nothing needs none
 abbrev pub commit_due : List Change → Option UnitRecord
@@ -26,10 +26,11 @@ action_due xid unit action.Start = None
 action_due xid unit action.Join = None
 action_due xid unit (action.End ending) = None
 action_due xid unit action.Prepare = Some (prepared xid unit.changes unit.claims)
-action_due xid unit action.Forget = commit_due unit.changes
+action_due xid unit action.EndUnchanged = commit_due unit.changes
 action_due xid unit action.CommitOnePhase = commit_due unit.changes
 action_due xid unit (action.Decide decision) = Some (decided xid decision)
 action_due xid unit action.RollBack = None
+action_due xid unit action.Forget = Some (forgotten xid)
 
 abbrev pub xa_due : List Branch → Base → ℕ → Option Request → Option UnitRecord
 xa_due branches b conversation (Some (request.Branch verb xid)) = action_due xid (unit_of (global xid) b.units) (due_in branches b conversation verb xid).action

@@ -10,7 +10,7 @@ use Rattle.xa_calls.specs.declared.request.Verb.TheVariants as verb
 use Rattle.xa_calls.specs.declared.request.Request.TheVariants as request
 use Rattle.xa_manager.specs.declared.branch.Branch.{Branch}
 use Rattle.xa_manager.specs.declared.branch.BranchState.{BranchState}
-use Rattle.xa_manager.specs.declared.branch.BranchState.TheVariants.{Active, Idle, Prepared, RollbackOnly}
+use Rattle.xa_manager.specs.declared.branch.BranchState.TheVariants.{Active, Heuristic, Idle, Prepared, RollbackOnly}
 use Rattle.xa_manager.specs.declared.due.Action.{Action}
 use Rattle.xa_manager.specs.declared.due.Action.TheVariants as action
 use Rattle.xa_manager.specs.declared.due.Decision.TheVariants as decision
@@ -67,11 +67,13 @@ stands_for Prepare (Some (Idle _)) = true
 stands_for Prepare (Some (Active _)) = false
 stands_for Prepare (Some (RollbackOnly _)) = false
 stands_for Prepare (Some Prepared) = false
+stands_for Prepare (Some (Heuristic _)) = false
 stands_for Prepare None = false
 stands_for (Decide d) (Some Prepared) = true
 stands_for (Decide d) (Some (Idle _)) = false
 stands_for (Decide d) (Some (Active _)) = false
 stands_for (Decide d) (Some (RollbackOnly _)) = false
+stands_for (Decide d) (Some (Heuristic _)) = false
 stands_for (Decide d) None = false
 
 -- a unit that is prepared has changes; without, its branch would end

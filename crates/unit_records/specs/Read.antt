@@ -4,14 +4,16 @@ use Rattle.row_values.specs.declared.row.ReadError.{ReadError}
 use Rattle.row_values.specs.declared.row.ReadError.TheVariants.{Damaged, NoMemory}
 use Rattle.tables.specs.ChangeView.{change_of}
 use Rattle.unit_journal.specs.declared.kind.Kind.{Kind}
-use Rattle.unit_records.specs.Records.{IsRecord, UnitRecord, committed, decided, prepared}
+use Rattle.unit_records.specs.Records.{IsRecord, UnitRecord, committed, decided, forgotten, heuristic, prepared}
 use Rattle.unit_records.specs.declared.record.UnitRecord.{UnitRecord as CodeRecord}
-use Rattle.unit_records.specs.declared.record.UnitRecord.TheVariants.{Commit, Decide, Prepare}
+use Rattle.unit_records.specs.declared.record.UnitRecord.TheVariants.{Commit, Decide, Forget, Heuristic, Prepare}
 
 abbrev pub record_of : CodeRecord → UnitRecord
 record_of (Commit changes) = committed (map change_of changes.items)
 record_of (Prepare xid changes claims) = prepared xid (map change_of changes.items) claims.items
 record_of (Decide xid decision) = decided xid decision
+record_of (Heuristic xid decision) = heuristic xid decision
+record_of (Forget xid) = forgotten xid
 
 -- the body is no record of the kind, or there is no memory
 abbrev pub IsNone : Kind → List ℕ → ReadError → Type 0

@@ -2,6 +2,8 @@
 --   commit: the unit's changes
 --   prepare: the branch's XID, the unit's claims, its changes
 --   decide: the branch's XID, then 01 commit or 02 roll back
+--   heuristic: the same
+--   forget: the branch's XID
 -- Claims and changes stand behind their number, which has four bytes. An XID, a change and a claim have the
 -- bytes that they have elsewhere. Nothing follows the last part.
 use Rattle.std.specs.Prelude.{◌≡◌, ℕ, List, [], ◌∷◌, ◌++◌, true}
@@ -11,7 +13,7 @@ use Rattle.xa_calls.specs.Xid.{IsXid}
 use Rattle.xa_manager.specs.declared.due.Decision.{Decision}
 use Rattle.xa_manager.specs.declared.due.Decision.TheVariants as decision
 use Rattle.unit_journal.specs.declared.kind.Kind.{Kind}
-use Rattle.unit_journal.specs.declared.kind.Kind.TheVariants.{Commit, Prepare, Decide}
+use Rattle.unit_journal.specs.declared.kind.Kind.TheVariants.{Commit, Prepare, Decide, Heuristic, Forget}
 use Rattle.unit_journal.specs.Record.{Entry}
 use Rattle.unit_records.specs.Fronts.{AreListed, listed}
 
@@ -22,11 +24,17 @@ pub data UnitRecord : Type 0 where
   prepared : List ℕ → List Change → List Claim → UnitRecord
   -- the branch of an XID, which was in doubt, was decided
   decided : List ℕ → Decision → UnitRecord
+  -- the branch of an XID was decided heuristically: where it was in doubt its unit has ended so
+  heuristic : List ℕ → Decision → UnitRecord
+  -- the branch of an XID, which was decided heuristically, was forgotten
+  forgotten : List ℕ → UnitRecord
 
 abbrev pub kind_of : UnitRecord → Kind
 kind_of (committed changes) = Commit
 kind_of (prepared xid changes claims) = Prepare
 kind_of (decided xid o) = Decide
+kind_of (heuristic xid o) = Heuristic
+kind_of (forgotten xid) = Forget
 
 -- ---- the bytes
 
@@ -38,6 +46,8 @@ abbrev pub record_bytes : UnitRecord → List ℕ
 record_bytes (committed changes) = listed change_bytes changes
 record_bytes (prepared xid changes claims) = xid ++ (listed claim_bytes claims ++ listed change_bytes changes)
 record_bytes (decided xid o) = xid ++ decision_byte o ∷ []
+record_bytes (heuristic xid o) = xid ++ decision_byte o ∷ []
+record_bytes (forgotten xid) = xid
 
 -- as the journal has it
 abbrev pub entry_of : UnitRecord → Entry
@@ -53,6 +63,8 @@ abbrev pub IsGood : UnitRecord → Type 0
 IsGood (committed changes) = AreListed IsChange changes
 IsGood (prepared xid changes claims) = IsXid xid × AreListed IsClaim claims × AreListed IsChange changes
 IsGood (decided xid o) = IsXid xid
+IsGood (heuristic xid o) = IsXid xid
+IsGood (forgotten xid) = IsXid xid
 
 -- ---- reading
 

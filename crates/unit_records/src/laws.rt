@@ -2,7 +2,7 @@
 
 ghost use Rattle.unit_records.specs.Laws.{OneReading, PartsStandOnce, WrittenIsRead};
 ghost use Rattle.unit_records.specs.Phases.{BranchesGoThrough};
-ghost use Rattle.unit_records.specs.Room.{DecisionsAreShort, DecisionsFit, DecisionsNeedNoRoom};
+ghost use Rattle.unit_records.specs.Room.{DecisionsAreShort, DecisionsFit, DecisionsNeedNoRoom, HeuristicsFit};
 ghost use Rattle.unit_records.specs.Together.{CommitsGoTogether};
 
 use tables::laws::changes_have_their_bytes;
@@ -15,9 +15,11 @@ pub fn records_have_one_reading()
     parts_stand_once();
 }
 
-/// The decision of a branch takes the bytes that its prepare held back, and no more.
+/// The decision of a branch takes no more than the bytes that its prepare held back; nor do a heuristic decision and its
+/// forgetting, in layout 2.
 pub fn decisions_have_room()
     ensures fit { DecisionsFit }
+    ensures heuristics { HeuristicsFit }
     ensures no_more { DecisionsNeedNoRoom }
     ensures short { DecisionsAreShort }
 {}

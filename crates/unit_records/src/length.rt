@@ -7,9 +7,10 @@ ghost use Rattle.tables.specs.ChangeView.{change_of};
 ghost use Rattle.unit_locks.specs.Claim.{IsClaim, claim_bytes};
 ghost use Rattle.xa_calls.specs.Xid.{IsXid, xid_in};
 ghost use Rattle.xa_manager.specs.declared.due.Decision.{Decision as DecisionIs};
-ghost use Rattle.unit_records.specs.Records.{committed, decided, prepared, record_bytes};
-ghost use Rattle.unit_records.specs.Room.{decision_taken};
+ghost use Rattle.unit_records.specs.Records.{committed, decided, forgotten, prepared, record_bytes};
+ghost use Rattle.unit_records.specs.Room.{decision_taken, forgetting_taken, held_in_doubt};
 
+use half_store::Layout;
 use tables::Change;
 use unit_locks::Claim;
 use xa_calls::Xid;
@@ -41,7 +42,7 @@ pub fn prepare_length(xid: &Xid, changes: &[Change], claims: &[Claim]) -> usize
         .saturating_add(changes_length(changes))
 }
 
-/// The length of the body of a decision, whichever it is: 14 to 141.
+/// The length of the body of a decision, whichever it is and whoever makes it: 14 to 141.
 pub fn decide_length(xid: &Xid) -> usize
     ensures length { (decision : DecisionIs) → result ≡ length (record_bytes (decided xid.now decision)) }
     ensures short { result ≤ 141 }
@@ -50,8 +51,38 @@ pub fn decide_length(xid: &Xid) -> usize
     xid_bytes(xid).len() + OUTCOME_BYTES
 }
 
-/// How many bytes of its journal a prepare of this branch holds back for its decision, which takes so
-/// many with its head: 20 to 147.
+/// The length of the body of a forgetting: 13 to 140.
+pub fn forget_length(xid: &Xid) -> usize
+    ensures length { result ≡ length (record_bytes (forgotten xid.now)) }
+    ensures short { result ≤ 140 }
+    ensures named { IsXid xid.now }
+{
+    xid_bytes(xid).len()
+}
+
+/// How many bytes of its journal a branch in doubt holds back: those of its decision, and in layout 2 those of its
+/// forgetting, too; 20 to 293.
+pub fn held_in_doubt(layout: Layout, xid: &Xid) -> usize
+    ensures held { result ≡ held_in_doubt layout xid.now }
+    ensures short { result ≤ 293 }
+{
+    match layout {
+        Layout::One => held_for_decision(xid),
+        Layout::Two => held_for_decision(xid) + held_for_forgetting(xid),
+    }
+}
+
+/// How many bytes of its journal a branch holds back that was decided heuristically, for its forgetting, which takes
+/// so many with its head: 19 to 146.
+pub fn held_for_forgetting(xid: &Xid) -> usize
+    ensures held { result ≡ forgetting_taken xid.now }
+    ensures short { result ≤ 146 }
+{
+    HEAD_BYTES + xid_bytes(xid).len()
+}
+
+/// How many bytes of its journal a branch in doubt holds back for its decision, which takes so many with its
+/// head: 20 to 147.
 pub fn held_for_decision(xid: &Xid) -> usize
     ensures held { result ≡ decision_taken xid.now }
     ensures short { result ≤ 147 }

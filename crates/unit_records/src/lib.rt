@@ -16,7 +16,10 @@ mod recorder;
 mod write;
 
 pub use group_error::GroupError;
-pub use length::{commit_length, decide_length, held_for_decision, prepare_length};
+pub use length::{
+    commit_length, decide_length, forget_length, held_for_decision, held_for_forgetting,
+    held_in_doubt, prepare_length,
+};
 pub use memory::NoRecords;
 pub use phase::{BranchCall, Phase};
 pub use record::UnitRecord;
@@ -24,4 +27,4 @@ pub use record_contents::RecordContents;
 pub use record_error::RecordError;
 pub use recorder::Recorder;
 pub use row_values::ReadError;
-pub use write::{write_commit, write_decide, write_prepare};
+pub use write::{write_commit, write_decide, write_forget, write_prepare};

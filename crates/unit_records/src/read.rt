@@ -76,6 +76,36 @@ pub(crate) fn read_decide(body: &[u8]) -> Result<UnitRecord, ReadError>
     }
 }
 
+/// An XID and a byte, as of a decision.
+pub(crate) fn read_heuristic(body: &[u8]) -> Result<UnitRecord, ReadError>
+    ensures { ReadsRecord kind.Heuristic body.now result }
+{
+    parts_stand_once();
+    let (xid, rest) = match take_xid(body) {
+        Ok(taken) => taken,
+        Err(error) => return Err(error),
+    };
+    match decision_in(rest) {
+        Some(decision) => Ok(UnitRecord::Heuristic { xid, decision }),
+        None => Err(ReadError::Damaged),
+    }
+}
+
+/// An XID alone.
+pub(crate) fn read_forget(body: &[u8]) -> Result<UnitRecord, ReadError>
+    ensures { ReadsRecord kind.Forget body.now result }
+{
+    parts_stand_once();
+    let (xid, rest) = match take_xid(body) {
+        Ok(taken) => taken,
+        Err(error) => return Err(error),
+    };
+    if !rest.is_empty() {
+        return Err(ReadError::Damaged);
+    }
+    Ok(UnitRecord::Forget { xid })
+}
+
 // The decision whose byte stands here, and nothing else.
 fn decision_in(bytes: &[u8]) -> Option<Decision>
     ensures some { IfSome result (λ decision. bytes.now ≡ decision_byte decision ∷ []) }

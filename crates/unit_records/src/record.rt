@@ -4,7 +4,7 @@ ghost use Rattle.unit_records.specs.Records.{IsRecord, UnitRecord as RecordIs};
 ghost use Rattle.unit_records.specs.Read.{Gives, ReadsRecord};
 
 use crate::laws::records_have_one_reading;
-use crate::read::{read_commit, read_decide, read_prepare};
+use crate::read::{read_commit, read_decide, read_forget, read_heuristic, read_prepare};
 use row_values::ReadError;
 use std::alloc::Global;
 use tables::Change;
@@ -32,6 +32,15 @@ pub enum UnitRecord {
         xid: Xid,
         decision: Decision,
     },
+    /// The branch of the XID was decided heuristically.
+    Heuristic {
+        xid: Xid,
+        decision: Decision,
+    },
+    /// The branch of the XID, which was decided heuristically, was forgotten.
+    Forget {
+        xid: Xid,
+    },
 }
 
 impl UnitRecord {
@@ -47,6 +56,8 @@ impl UnitRecord {
             Kind::Commit => read_commit(alloc, body),
             Kind::Prepare => read_prepare(alloc, body),
             Kind::Decide => read_decide(body),
+            Kind::Heuristic => read_heuristic(body),
+            Kind::Forget => read_forget(body),
         }
     }
 }

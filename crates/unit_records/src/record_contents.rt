@@ -24,4 +24,13 @@ pub enum RecordContents<'a> {
         xid: &'a Xid,
         decision: Decision,
     },
+    /// The branch of the XID is decided heuristically.
+    Heuristic {
+        xid: &'a Xid,
+        decision: Decision,
+    },
+    /// The branch of the XID, which was decided heuristically, is forgotten.
+    Forget {
+        xid: &'a Xid,
+    },
 }

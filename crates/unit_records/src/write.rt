@@ -7,9 +7,9 @@ ghost use Rattle.tables.specs.Change.{change_bytes};
 ghost use Rattle.tables.specs.ChangeView.{change_of};
 ghost use Rattle.unit_locks.specs.Claim.{claim_bytes};
 ghost use Rattle.unit_records.specs.Fronts.{listed};
-ghost use Rattle.unit_records.specs.Records.{IsGood, committed, decided, decision_byte, prepared, record_bytes};
+ghost use Rattle.unit_records.specs.Records.{IsGood, committed, decided, decision_byte, forgotten, heuristic, prepared, record_bytes};
 
-use crate::length::{commit_length, decide_length, prepare_length, xid_bytes};
+use crate::length::{commit_length, decide_length, forget_length, prepare_length, xid_bytes};
 use std::alloc::AllocError;
 use tables::Change;
 use unit_locks::Claim;
@@ -55,10 +55,11 @@ pub fn write_prepare(
     written
 }
 
-/// Appends the body of a decision. Out of memory, nothing is appended; with room for 141 bytes in
-/// `out` it does not fail.
+/// Appends the body of a decision, which is the same of a heuristic one. Out of memory, nothing is appended; with
+/// room for 141 bytes in `out` it does not fail.
 pub fn write_decide(out: &mut Vec<u8>, xid: &Xid, decision: Decision) -> Result<(), AllocError>
     ensures good { IsGood (decided xid.now decision) }
+    ensures good_heuristic { IsGood (heuristic xid.now decision) }
     ensures room { vec_len out.old + 141 ≤ vec_capacity out.old → IsOk result }
     ensures ok { OnOk result (out.new.items ≡ out.old.items ++ record_bytes (decided xid.now decision)) }
     ensures err { OnErr result (out.new.items ≡ out.old.items) }
@@ -70,6 +71,18 @@ pub fn write_decide(out: &mut Vec<u8>, xid: &Xid, decision: Decision) -> Result<
         out.truncate(start);
     }
     written
+}
+
+/// Appends the body of a forgetting. Out of memory, nothing is appended; with room for 140 bytes in `out` it does not
+/// fail.
+pub fn write_forget(out: &mut Vec<u8>, xid: &Xid) -> Result<(), AllocError>
+    ensures good { IsGood (forgotten xid.now) }
+    ensures room { vec_len out.old + 140 ≤ vec_capacity out.old → IsOk result }
+    ensures ok { OnOk result (out.new.items ≡ out.old.items ++ record_bytes (forgotten xid.now)) }
+    ensures err { OnErr result (out.new.items ≡ out.old.items) }
+{
+    out.reserve(forget_length(xid))?;
+    out.extend_from_slice(xid_bytes(xid))
 }
 
 // Appends the bytes of an XID, and of claims and changes behind their numbers, or some of them.

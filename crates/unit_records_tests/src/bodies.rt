@@ -5,14 +5,14 @@ use tables::Change;
 use unit_journal::Kind;
 use unit_locks::Claim;
 use unit_records::{
-    ReadError, UnitRecord, commit_length, decide_length, prepare_length, write_commit,
-    write_decide, write_prepare,
+    ReadError, UnitRecord, commit_length, decide_length, forget_length, prepare_length,
+    write_commit, write_decide, write_forget, write_prepare,
 };
 use xa_calls::Xid;
 
 // A table is created, a row put and one removed; nothing; a branch with a claim of all of a table and
-// one of a key, and a change; decisions.
-const BODIES: [(Kind, &'static [u8]); 6] = [
+// one of a key, and a change; decisions; heuristic ones, and forgettings.
+const BODIES: [(Kind, &'static [u8]); 10] = [
     (
         Kind::Commit,
         &[
@@ -38,6 +38,19 @@ const BODIES: [(Kind, &'static [u8]); 6] = [
     (
         Kind::Decide,
         &[0, 0, 0, 7, 0, 0, 0, 1, 0, 0, 0, 1, b'g', b'b', 2],
+    ),
+    (
+        Kind::Heuristic,
+        &[0, 0, 0, 7, 0, 0, 0, 1, 0, 0, 0, 0, b'g', 1],
+    ),
+    (
+        Kind::Heuristic,
+        &[0, 0, 0, 7, 0, 0, 0, 1, 0, 0, 0, 1, b'g', b'b', 2],
+    ),
+    (Kind::Forget, &[0, 0, 0, 7, 0, 0, 0, 1, 0, 0, 0, 0, b'g']),
+    (
+        Kind::Forget,
+        &[0, 0, 0, 7, 0, 0, 0, 1, 0, 0, 0, 2, b'g', b'b', 1],
     ),
 ];
 
@@ -76,9 +89,13 @@ fn write(out: &mut Vec<u8>, read: &UnitRecord) -> Result<usize, AllocError> {
             changes,
             claims,
         } => write_branch(out, xid, changes.as_slice(), claims.as_slice()),
-        UnitRecord::Decide { xid, decision } => {
+        UnitRecord::Decide { xid, decision } | UnitRecord::Heuristic { xid, decision } => {
             write_decide(out, xid, *decision)?;
             Ok(decide_length(xid))
+        }
+        UnitRecord::Forget { xid } => {
+            write_forget(out, xid)?;
+            Ok(forget_length(xid))
         }
     }
 }
@@ -132,8 +149,9 @@ fn parts_of_bodies_are_damaged(rt: HostRuntime) {
     }
 }
 
-// Another record, an unknown decision, the XID that names no branch, and an XID that is missing.
-const STRANGERS: [(Kind, &'static [u8]); 4] = [
+// Another record, an unknown decision, the XID that names no branch, and an XID that is missing; and the same of heuristic decisions and
+// of forgettings.
+const STRANGERS: [(Kind, &'static [u8]); 9] = [
     (Kind::Commit, &[0, 0, 0, 7, 0, 0, 0, 1, 0, 0, 0, 0, b'g', 1]),
     (Kind::Decide, &[0, 0, 0, 7, 0, 0, 0, 1, 0, 0, 0, 0, b'g', 3]),
     (
@@ -141,6 +159,20 @@ const STRANGERS: [(Kind, &'static [u8]); 4] = [
         &[255, 255, 255, 255, 0, 0, 0, 1, 0, 0, 0, 0, b'g', 1],
     ),
     (Kind::Prepare, &[0, 0, 0, 0]),
+    (
+        Kind::Heuristic,
+        &[0, 0, 0, 7, 0, 0, 0, 1, 0, 0, 0, 0, b'g', 0],
+    ),
+    (
+        Kind::Heuristic,
+        &[255, 255, 255, 255, 0, 0, 0, 1, 0, 0, 0, 0, b'g', 2],
+    ),
+    (Kind::Heuristic, &[1]),
+    (Kind::Forget, &[0, 0, 0, 7, 0, 0, 0, 1, 0, 0, 0, 0, b'g', 1]),
+    (
+        Kind::Forget,
+        &[255, 255, 255, 255, 0, 0, 0, 1, 0, 0, 0, 0, b'g'],
+    ),
 ];
 
 #[test]

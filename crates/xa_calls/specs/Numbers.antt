@@ -48,10 +48,12 @@ flags_of n =
     else (if n == 0x4000_0000 then Some flag.OnePhase
     else None))))))
 
--- XA_OK, XA_RDONLY, XA_RBROLLBACK, XAER_RMERR, XAER_NOTA, XAER_INVAL, XAER_PROTO, XAER_DUPID, XAER_OUTSIDE
+-- XA_OK, XA_RDONLY, XA_HEURRB, XA_HEURCOM, XA_RBROLLBACK, XAER_RMERR, XAER_NOTA, XAER_INVAL, XAER_PROTO, XAER_DUPID, XAER_OUTSIDE
 abbrev pub code_number : XaCode → ℤ
 code_number code.Done = pos 0
 code_number code.ReadOnly = pos 3
+code_number code.HeuristicallyRolledBack = pos 6
+code_number code.HeuristicallyCommitted = pos 7
 code_number code.RolledBack = pos 100
 code_number code.Limit = negsuc 2
 code_number code.Unknown = negsuc 3

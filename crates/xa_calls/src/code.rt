@@ -10,6 +10,10 @@ pub enum XaCode {
     Done = 0,
     /// XA_RDONLY: the branch changed nothing, and has ended.
     ReadOnly = 3,
+    /// XA_HEURRB: the branch was rolled back heuristically, and is known until it is forgotten.
+    HeuristicallyRolledBack = 6,
+    /// XA_HEURCOM: the branch was committed heuristically, and is known until it is forgotten.
+    HeuristicallyCommitted = 7,
     /// XA_RBROLLBACK: the branch is, or has to be, rolled back.
     RolledBack = 100,
     /// XAER_RMERR: a limit of this server is reached; the branch is as before.

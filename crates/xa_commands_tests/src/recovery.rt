@@ -30,7 +30,7 @@ fn in_doubt(alloc: Global, branches: &[&[u8]]) -> Result<Xids, Fail> {
     let mut table = XaTable::new(alloc);
     for branch in branches {
         let xid = Xid::read(branch)?;
-        table.restore(&xid)?;
+        table.restore(&xid, None)?;
     }
     Ok(table.recover(alloc)?)
 }

@@ -13,15 +13,16 @@ use Rattle.xa_calls.specs.declared.request.Verb.{Verb}
 use Rattle.xa_calls.specs.declared.request.Verb.TheVariants as verb
 use Rattle.xa_manager.specs.declared.branch.Branch.{Branch}
 use Rattle.xa_manager.specs.declared.branch.BranchState.{BranchState}
-use Rattle.xa_manager.specs.declared.branch.BranchState.TheVariants.{Active, Idle, RollbackOnly, Prepared}
+use Rattle.xa_manager.specs.declared.branch.BranchState.TheVariants.{Active, Heuristic, Idle, RollbackOnly, Prepared}
+use Rattle.xa_manager.specs.declared.due.Decision.{Decision}
 use Rattle.xa_manager.specs.declared.due.Decision.TheVariants as decision
 use Rattle.xa_manager.specs.declared.due.Action.{Action}
 use Rattle.xa_manager.specs.declared.due.Action.TheVariants as action
 use Rattle.xa_manager.specs.declared.due.Due.{Due}
 use Rattle.xa_manager.specs.declared.due.Facts.{Facts}
 use Rattle.xa_manager.specs.Branch.{is_joined_by, is_lost_with, count_of, state_of, joined_xid, with_branch, with_state, without, without_those_of}
-use Rattle.xa_manager.specs.Due.{due_at, due_of_new, due_of_free, due_of_join, due_of_end, due_of_prepare, due_of_commit, due_of_one_phase, due_of_roll_back, refused, done, facts_of, IsDue, left_by, next_state, after}
-use Rattle.xa_manager.specs.Laws.{is_decision, is_refusal, FitsAction, action_of, RefusalsDoNothing, ActionsFit, MovesOne, PreparedStays, PreparedOutlives, OnlyPreparedDecided, JoinedIsActive, OneEach, OneEachStays, OneEachOutlives}
+use Rattle.xa_manager.specs.Due.{due_at, due_of_new, due_of_free, due_of_join, due_of_end, due_of_prepare, due_of_commit, due_of_one_phase, due_of_roll_back, due_of_forget, heuristic_code, refused, done, facts_of, IsDue, left_by, next_state, after}
+use Rattle.xa_manager.specs.Laws.{is_decision, is_refusal, FitsAction, action_of, RefusalsDoNothing, ActionsFit, MovesOne, PreparedStays, PreparedOutlives, OnlyPreparedDecided, HeuristicStays, HeuristicOutlives, DecidesOne, JoinedIsActive, OneEach, OneEachStays, OneEachOutlives}
 use Rattle.xa_manager.proofs.Rising.{Above, Rises, rises, state_of_above, unknown_parts, count_of-with_branch, count_of-with_state, count_of-filter, counted}
 use Rattle.xa_manager.specs.Counts.{weight}
 
@@ -31,7 +32,7 @@ use Rattle.xa_manager.specs.Counts.{weight}
 abbrev first_or : Bool → BranchState → Option BranchState → Option BranchState
 first_or t s rest = cond t (Some s) rest
 
-other_with_branch : (bs : List Branch) (new : Branch) (x : List ℕ) → bytes_eq new.xid x ≡ false → state_of (with_branch bs new) x ≡ state_of bs x
+pub other_with_branch : (bs : List Branch) (new : Branch) (x : List ℕ) → bytes_eq new.xid x ≡ false → state_of (with_branch bs new) x ≡ state_of bs x
 other_with_branch [] new x e = rw e refl
 other_with_branch (b ∷ bs) new x e =
     let rest = other_with_branch bs new x e in
@@ -43,7 +44,7 @@ other_with_branch (b ∷ bs) new x e =
 not_of : (b y x : List ℕ) → bytes_eq b y ≡ true → bytes_eq y x ≡ false → bytes_eq b x ≡ false
 not_of b y x e d = subst (λ (z : List ℕ). bytes_eq z x ≡ false) (sym (same_bytes b y e)) d
 
-other_with_state : (bs : List Branch) (y : List ℕ) (s : BranchState) (x : List ℕ) → bytes_eq y x ≡ false → state_of (with_state bs y s) x ≡ state_of bs x
+pub other_with_state : (bs : List Branch) (y : List ℕ) (s : BranchState) (x : List ℕ) → bytes_eq y x ≡ false → state_of (with_state bs y s) x ≡ state_of bs x
 other_with_state [] y s x d = refl
 other_with_state (b ∷ bs) y s x d =
     let rest = other_with_state bs y s x d in
@@ -52,7 +53,7 @@ other_with_state (b ∷ bs) y s x d =
     let kept : state_of (b ∷ with_state bs y s) x ≡ state_of (b ∷ bs) x = rw rest refl in
     elim (bytes_eq b.xid y) as (λ t. bytes_eq b.xid y ≡ t → state_of ((cond t set_to b) ∷ with_state bs y s) x ≡ state_of (b ∷ bs) x) [ true ↦ changed | false ↦ λ e. kept ] refl
 
-other_without : (bs : List Branch) (y x : List ℕ) → bytes_eq y x ≡ false → state_of (without bs y) x ≡ state_of bs x
+pub other_without : (bs : List Branch) (y x : List ℕ) → bytes_eq y x ≡ false → state_of (without bs y) x ≡ state_of bs x
 other_without [] y x d = refl
 other_without (b ∷ bs) y x d =
     let rest = other_without bs y x d in
@@ -65,11 +66,12 @@ other_after bs c y x action.Nothing d = refl
 other_after bs c y x action.Start d = other_with_branch bs (record { xid = y; state = Active c }) x d
 other_after bs c y x action.Join d = other_with_state bs y (Active c) x d
 other_after bs c y x (action.End e) d = other_with_state bs y (left_by c e) x d
-other_after bs c y x action.Forget d = other_without bs y x d
+other_after bs c y x action.EndUnchanged d = other_without bs y x d
 other_after bs c y x action.Prepare d = other_with_state bs y Prepared x d
 other_after bs c y x action.CommitOnePhase d = other_without bs y x d
 other_after bs c y x (action.Decide o) d = other_without bs y x d
 other_after bs c y x action.RollBack d = other_without bs y x d
+other_after bs c y x action.Forget d = other_without bs y x d
 
 -- ---- rows
 
@@ -94,6 +96,7 @@ free_row (Active c) f j = refuses (Some (Active c)) f code.Protocol
 free_row (Idle c) f j = does (Some (Idle c)) f action.Join ((c, refl), j)
 free_row (RollbackOnly c) f j = refuses (Some (RollbackOnly c)) f code.RolledBack
 free_row Prepared f j = refuses (Some Prepared) f code.Protocol
+free_row (Heuristic d) f j = refuses (Some (Heuristic d)) f code.Protocol
 
 new_row : (f : Facts) → IsRow None f (due_of_new f)
 new_row f =
@@ -113,33 +116,45 @@ end_row g (Idle c) f = either (IsRow (Some (Idle c)) f) (eqb c f.conversation) (
     (λ e. does (Some (Idle c)) f (action.End g) (inr (ap (λ (n : ℕ). let s : Option BranchState = Some (Idle n) in s) (eqb-true c f.conversation e)))) (λ e. refuses (Some (Idle c)) f code.Protocol)
 end_row g (RollbackOnly c) f = refuses (Some (RollbackOnly c)) f code.Protocol
 end_row g Prepared f = refuses (Some Prepared) f code.Protocol
+end_row g (Heuristic d) f = refuses (Some (Heuristic d)) f code.Protocol
 
 prepare_row : (s : BranchState) (f : Facts) → IsRow (Some s) f (due_of_prepare s f)
 prepare_row (Active c) f = refuses (Some (Active c)) f code.Protocol
 prepare_row (Idle c) f =
-    either (IsRow (Some (Idle c)) f) f.work.has_changes (cond (nat_le 256 f.in_doubt) (refused code.Limit) (done action.Prepare)) (record { code = code.ReadOnly; action = action.Forget })
+    either (IsRow (Some (Idle c)) f) f.work.has_changes (cond (nat_le 256 f.in_doubt) (refused code.Limit) (done action.Prepare)) (record { code = code.ReadOnly; action = action.EndUnchanged })
     (λ e. either (IsRow (Some (Idle c)) f) (nat_le 256 f.in_doubt) (refused code.Limit) (done action.Prepare) (λ d. refuses (Some (Idle c)) f code.Limit) (λ d. does (Some (Idle c)) f action.Prepare ((c, refl), leb-false 256 f.in_doubt d)))
     (λ e. record { fits = (c, refl); refusal = λ d. absurd cc })
 prepare_row (RollbackOnly c) f = record { fits = inr (c, refl); refusal = λ e. absurd cc }
 prepare_row Prepared f = refuses (Some Prepared) f code.Protocol
+prepare_row (Heuristic d) f = refuses (Some (Heuristic d)) f code.Protocol
 
 one_phase_row : (s : BranchState) (f : Facts) → IsRow (Some s) f (due_of_one_phase s)
 one_phase_row (Active c) f = refuses (Some (Active c)) f code.Protocol
 one_phase_row (Idle c) f = does (Some (Idle c)) f action.CommitOnePhase (c, refl)
 one_phase_row (RollbackOnly c) f = record { fits = inr (c, refl); refusal = λ e. absurd cc }
 one_phase_row Prepared f = refuses (Some Prepared) f code.Protocol
+one_phase_row (Heuristic d) f = refuses (Some (Heuristic d)) f code.Protocol
 
 commit_row : (s : BranchState) (f : Facts) → IsRow (Some s) f (due_of_commit s)
 commit_row (Active c) f = refuses (Some (Active c)) f code.Protocol
 commit_row (Idle c) f = refuses (Some (Idle c)) f code.Protocol
 commit_row (RollbackOnly c) f = refuses (Some (RollbackOnly c)) f code.Protocol
 commit_row Prepared f = does (Some Prepared) f (action.Decide decision.Commit) refl
+commit_row (Heuristic d) f = refuses (Some (Heuristic d)) f (heuristic_code d)
 
 roll_back_row : (s : BranchState) (f : Facts) → IsRow (Some s) f (due_of_roll_back s)
 roll_back_row (Active c) f = refuses (Some (Active c)) f code.Protocol
 roll_back_row (Idle c) f = does (Some (Idle c)) f action.RollBack (inl (c, refl))
 roll_back_row (RollbackOnly c) f = does (Some (RollbackOnly c)) f action.RollBack (inr (c, refl))
 roll_back_row Prepared f = does (Some Prepared) f (action.Decide decision.RollBack) refl
+roll_back_row (Heuristic d) f = refuses (Some (Heuristic d)) f (heuristic_code d)
+
+forget_row : (s : BranchState) (f : Facts) → IsRow (Some s) f (due_of_forget s)
+forget_row (Active c) f = refuses (Some (Active c)) f code.Protocol
+forget_row (Idle c) f = refuses (Some (Idle c)) f code.Protocol
+forget_row (RollbackOnly c) f = refuses (Some (RollbackOnly c)) f code.Protocol
+forget_row Prepared f = refuses (Some Prepared) f code.Protocol
+forget_row (Heuristic d) f = does (Some (Heuristic d)) f action.Forget (d, refl)
 
 row : (v : Verb) (s : Option BranchState) (f : Facts) → IsRow s f (due_at v s f)
 row verb.Start None f = new_row f
@@ -150,7 +165,7 @@ row verb.Prepare (Some s) f = prepare_row s f
 row verb.Commit (Some s) f = commit_row s f
 row verb.CommitOnePhase (Some s) f = one_phase_row s f
 row verb.RollBack (Some s) f = roll_back_row s f
-row verb.Forget (Some s) f = refuses (Some s) f code.Protocol
+row verb.Forget (Some s) f = forget_row s f
 row verb.Join None f = refuses None f code.Unknown
 row (verb.End g) None f = refuses None f code.Unknown
 row verb.Prepare None f = refuses None f code.Unknown
@@ -175,11 +190,12 @@ decided action.Nothing s f h e = absurd cc
 decided action.Start s f h e = absurd cc
 decided action.Join s f h e = absurd cc
 decided (action.End g) s f h e = absurd cc
-decided action.Forget s f h e = absurd cc
+decided action.EndUnchanged s f h e = absurd cc
 decided action.Prepare s f h e = absurd cc
 decided action.CommitOnePhase s f h e = absurd cc
 decided (action.Decide o) s f h e = h
 decided action.RollBack s f h e = absurd cc
+decided action.Forget s f h e = absurd cc
 
 pub only_prepared_decided : OnlyPreparedDecided
 only_prepared_decided bs c v x work e = decided (action_of bs c v x work) (state_of bs x) (facts_of bs c work) (actions_fit bs c v x work) e
@@ -196,11 +212,12 @@ not_begun action.Nothing s f h = inl refl
 not_begun action.Start s f h = inr h.1
 not_begun action.Join s f h = inr h.1
 not_begun (action.End g) s f h = inl refl
-not_begun action.Forget s f h = inl refl
+not_begun action.EndUnchanged s f h = inl refl
 not_begun action.Prepare s f h = inl refl
 not_begun action.CommitOnePhase s f h = inl refl
 not_begun (action.Decide o) s f h = inl refl
 not_begun action.RollBack s f h = inl refl
+not_begun action.Forget s f h = inl refl
 
 -- ---- the branch that a call names
 
@@ -215,7 +232,7 @@ same_with_branch (b ∷ bs) new e =
     elim (precedes new.xid b.xid) as (λ t. state_of (cond t (new ∷ b ∷ bs) (b ∷ with_branch bs new)) new.xid ≡ Some new.state) [ true ↦ front | false ↦ behind ]
 
 -- the branch of x, which is known, with its new state
-same_with_state : (bs : List Branch) (x : List ℕ) (t s : BranchState) → state_of bs x ≡ Some s → state_of (with_state bs x t) x ≡ Some t
+pub same_with_state : (bs : List Branch) (x : List ℕ) (t s : BranchState) → state_of bs x ≡ Some s → state_of (with_state bs x t) x ≡ Some t
 same_with_state [] x t s e = absurd cc
 same_with_state (b ∷ bs) x t s e =
     let set_to : Branch = record { xid = b.xid; state = t } in
@@ -237,11 +254,12 @@ same_after bs c x action.Start f h = same_with_branch bs (record { xid = x; stat
 same_after bs c x action.Join f h = same_with_state bs x (Active c) (Idle h.0.0) h.0.1
 same_after bs c x (action.End g) f (inl active) = same_with_state bs x (left_by c g) (Active f.conversation) active
 same_after bs c x (action.End g) f (inr idle) = same_with_state bs x (left_by c g) (Idle f.conversation) idle
-same_after bs c x action.Forget f h = same_without bs x
+same_after bs c x action.EndUnchanged f h = same_without bs x
 same_after bs c x action.Prepare f h = same_with_state bs x Prepared (Idle h.0.0) h.0.1
 same_after bs c x action.CommitOnePhase f h = same_without bs x
 same_after bs c x (action.Decide o) f h = same_without bs x
 same_after bs c x action.RollBack f h = same_without bs x
+same_after bs c x action.Forget f h = same_without bs x
 
 pub moves_one : MovesOne
 moves_one bs c v asked xid work =
@@ -263,12 +281,13 @@ at_prepared action.Start s f p h = let e : None ≡ Some Prepared = sym h.0 ∙ 
 at_prepared action.Join s f p h = let e : Some (Idle h.0.0) ≡ Some Prepared = sym h.0.1 ∙ p in absurd cc
 at_prepared (action.End g) s f p (inl h) = let e : Some (Active f.conversation) ≡ Some Prepared = sym h ∙ p in absurd cc
 at_prepared (action.End g) s f p (inr h) = let e : Some (Idle f.conversation) ≡ Some Prepared = sym h ∙ p in absurd cc
-at_prepared action.Forget s f p h = let e : Some (Idle h.0) ≡ Some Prepared = sym h.1 ∙ p in absurd cc
+at_prepared action.EndUnchanged s f p h = let e : Some (Idle h.0) ≡ Some Prepared = sym h.1 ∙ p in absurd cc
 at_prepared action.Prepare s f p h = let e : Some (Idle h.0.0) ≡ Some Prepared = sym h.0.1 ∙ p in absurd cc
 at_prepared action.CommitOnePhase s f p h = let e : Some (Idle h.0) ≡ Some Prepared = sym h.1 ∙ p in absurd cc
 at_prepared (action.Decide o) s f p h = inr refl
 at_prepared action.RollBack s f p (inl h) = let e : Some (Idle h.0) ≡ Some Prepared = sym h.1 ∙ p in absurd cc
 at_prepared action.RollBack s f p (inr h) = let e : Some (RollbackOnly h.0) ≡ Some Prepared = sym h.1 ∙ p in absurd cc
+at_prepared action.Forget s f p h = let e : Some (Heuristic h.0) ≡ Some Prepared = sym h.1 ∙ p in absurd cc
 
 pub prepared_stays : PreparedStays
 prepared_stays bs c v asked xid work known =
@@ -284,19 +303,66 @@ prepared_stays bs c v asked xid work known =
     let other : bytes_eq asked xid ≡ false → (state_of (after bs c asked a) xid ≡ Some Prepared) ⊎ ((asked ≡ xid) × (is_decision a ≡ true)) = λ e. inl (other_after bs c asked xid a e ∙ known) in
     elim (bytes_eq asked xid) as (λ t. bytes_eq asked xid ≡ t → (state_of (after bs c asked a) xid ≡ Some Prepared) ⊎ ((asked ≡ xid) × (is_decision a ≡ true))) [ true ↦ same | false ↦ other ] refl
 
+-- what is not lost with a conversation stays as it stands
+pub outlives : (bs : List Branch) (c : ℕ) (x : List ℕ) (s : BranchState) → is_lost_with c s ≡ false → state_of bs x ≡ Some s → state_of (without_those_of bs c) x ≡ Some s
+outlives [] c x s stays known = absurd cc
+outlives (b ∷ bs) c x s stays known =
+    let here : bytes_eq b.xid x ≡ true → state_of (without_those_of (b ∷ bs) c) x ≡ Some s = λ e.
+    let is : Some b.state ≡ Some s = rw e at known in
+    let state : b.state ≡ s = cc in
+    rw (state, stays, e) refl in
+    let behind : bytes_eq b.xid x ≡ false → state_of (without_those_of (b ∷ bs) c) x ≡ Some s = λ e.
+    let known_behind : state_of bs x ≡ Some s = rw e at known in
+    let rest = outlives bs c x s stays known_behind in
+    let kept : state_of (b ∷ without_those_of bs c) x ≡ Some s = rw e rest in
+    elim (is_lost_with c b.state) as (λ t. state_of (cond (not t) (b ∷ without_those_of bs c) (without_those_of bs c)) x ≡ Some s) [ true ↦ rest | false ↦ kept ] in
+    elim (bytes_eq b.xid x) as (λ t. bytes_eq b.xid x ≡ t → state_of (without_those_of (b ∷ bs) c) x ≡ Some s) [ true ↦ here | false ↦ behind ] refl
+
 pub prepared_outlives : PreparedOutlives
-prepared_outlives [] c x known = absurd cc
-prepared_outlives (b ∷ bs) c x known =
-    let here : bytes_eq b.xid x ≡ true → state_of (without_those_of (b ∷ bs) c) x ≡ Some Prepared = λ e.
-    let s : Some b.state ≡ Some Prepared = rw e at known in
-    let state : b.state ≡ Prepared = cc in
-    rw (state, e) refl in
-    let behind : bytes_eq b.xid x ≡ false → state_of (without_those_of (b ∷ bs) c) x ≡ Some Prepared = λ e.
-    let known_behind : state_of bs x ≡ Some Prepared = rw e at known in
-    let rest = prepared_outlives bs c x known_behind in
-    let kept : state_of (b ∷ without_those_of bs c) x ≡ Some Prepared = rw e rest in
-    elim (is_lost_with c b.state) as (λ t. state_of (cond (not t) (b ∷ without_those_of bs c) (without_those_of bs c)) x ≡ Some Prepared) [ true ↦ rest | false ↦ kept ] in
-    elim (bytes_eq b.xid x) as (λ t. bytes_eq b.xid x ≡ t → state_of (without_those_of (b ∷ bs) c) x ≡ Some Prepared) [ true ↦ here | false ↦ behind ] refl
+prepared_outlives bs c x known = outlives bs c x Prepared refl known
+
+-- ---- a branch that was decided heuristically
+
+-- it is forgotten, or nothing is due of it
+at_heuristic : (a : Action) (d : Decision) (s : Option BranchState) (f : Facts) → s ≡ Some (Heuristic d) → FitsAction a s f → (a ≡ action.Nothing) ⊎ (a ≡ action.Forget)
+at_heuristic action.Nothing d s f p h = inl refl
+at_heuristic action.Start d s f p h = let e : None ≡ Some (Heuristic d) = sym h.0 ∙ p in absurd cc
+at_heuristic action.Join d s f p h = let e : Some (Idle h.0.0) ≡ Some (Heuristic d) = sym h.0.1 ∙ p in absurd cc
+at_heuristic (action.End g) d s f p (inl h) = let e : Some (Active f.conversation) ≡ Some (Heuristic d) = sym h ∙ p in absurd cc
+at_heuristic (action.End g) d s f p (inr h) = let e : Some (Idle f.conversation) ≡ Some (Heuristic d) = sym h ∙ p in absurd cc
+at_heuristic action.EndUnchanged d s f p h = let e : Some (Idle h.0) ≡ Some (Heuristic d) = sym h.1 ∙ p in absurd cc
+at_heuristic action.Prepare d s f p h = let e : Some (Idle h.0.0) ≡ Some (Heuristic d) = sym h.0.1 ∙ p in absurd cc
+at_heuristic action.CommitOnePhase d s f p h = let e : Some (Idle h.0) ≡ Some (Heuristic d) = sym h.1 ∙ p in absurd cc
+at_heuristic (action.Decide o) d s f p h = let e : Some Prepared ≡ Some (Heuristic d) = sym h ∙ p in absurd cc
+at_heuristic action.RollBack d s f p (inl h) = let e : Some (Idle h.0) ≡ Some (Heuristic d) = sym h.1 ∙ p in absurd cc
+at_heuristic action.RollBack d s f p (inr h) = let e : Some (RollbackOnly h.0) ≡ Some (Heuristic d) = sym h.1 ∙ p in absurd cc
+at_heuristic action.Forget d s f p h = inr refl
+
+pub heuristic_stays : HeuristicStays
+heuristic_stays bs c v asked xid work d known =
+    let a = action_of bs c v asked work in
+    let same : bytes_eq asked xid ≡ true → (state_of (after bs c asked a) xid ≡ Some (Heuristic d)) ⊎ ((asked ≡ xid) × (a ≡ action.Forget)) = λ e.
+    let it : asked ≡ xid = same_bytes asked xid e in
+    let here : state_of bs asked ≡ Some (Heuristic d) = rw it known in
+    let row : (a ≡ action.Nothing) ⊎ (a ≡ action.Forget) = at_heuristic a d (state_of bs asked) (facts_of bs c work) here (actions_fit bs c v asked work) in
+    elim row [
+      | inl nothing ↦ inl (subst (λ (k : Action). state_of (after bs c asked k) xid ≡ Some (Heuristic d)) (sym nothing) known)
+      | inr forgotten ↦ inr (it, forgotten)
+    ] in
+    let other : bytes_eq asked xid ≡ false → (state_of (after bs c asked a) xid ≡ Some (Heuristic d)) ⊎ ((asked ≡ xid) × (a ≡ action.Forget)) = λ e. inl (other_after bs c asked xid a e ∙ known) in
+    elim (bytes_eq asked xid) as (λ t. bytes_eq asked xid ≡ t → (state_of (after bs c asked a) xid ≡ Some (Heuristic d)) ⊎ ((asked ≡ xid) × (a ≡ action.Forget))) [ true ↦ same | false ↦ other ] refl
+
+pub heuristic_outlives : HeuristicOutlives
+heuristic_outlives bs c x d known = outlives bs c x (Heuristic d) refl known
+
+pub decides_one : DecidesOne
+decides_one bs asked d xid known =
+    let here : bytes_eq asked xid ≡ true → state_of (with_state bs asked (Heuristic d)) xid ≡ Some (Heuristic d) = λ e.
+    subst (λ (y : List ℕ). state_of (with_state bs asked (Heuristic d)) y ≡ Some (Heuristic d)) (same_bytes asked xid e) (same_with_state bs asked (Heuristic d) Prepared known) in
+    elim (bytes_eq asked xid) as (λ t. bytes_eq asked xid ≡ t → state_of (with_state bs asked (Heuristic d)) xid ≡ cond t (Some (Heuristic d)) (state_of bs xid)) [
+      | true ↦ here
+      | false ↦ λ e. other_with_state bs asked (Heuristic d) xid e
+    ] refl
 
 -- ---- the branch that a conversation is joined to
 
@@ -305,6 +371,7 @@ active_of c (Active d) e = ap (λ (n : ℕ). Active n) (eqb-true d c e)
 active_of c (Idle d) e = absurd cc
 active_of c (RollbackOnly d) e = absurd cc
 active_of c Prepared e = absurd cc
+active_of c (Heuristic d) e = absurd cc
 
 -- the first branch that the conversation is joined to, or one behind it
 abbrev joined_or : Bool → Branch → Option Branch → Option (List ℕ)
@@ -361,10 +428,11 @@ one_after bs c x (action.End Kept) f h one (inr idle) begun d = omega (arith, on
 one_after bs c x (action.End Failed) f h one (inl active) begun d = omega (arith, one d, count_of-with_state (is_joined_by d) bs x (RollbackOnly c) (Active f.conversation) h active)
 one_after bs c x (action.End Failed) f h one (inr idle) begun d = omega (arith, one d, count_of-with_state (is_joined_by d) bs x (RollbackOnly c) (Idle f.conversation) h idle)
 one_after bs c x action.Prepare f h one fit begun d = omega (arith, one d, count_of-with_state (is_joined_by d) bs x Prepared (Idle fit.0.0) h fit.0.1)
-one_after bs c x action.Forget f h one fit begun d = omega (arith, one d, count_of-filter (is_joined_by d) (λ b. not (bytes_eq b.xid x)) bs)
+one_after bs c x action.EndUnchanged f h one fit begun d = omega (arith, one d, count_of-filter (is_joined_by d) (λ b. not (bytes_eq b.xid x)) bs)
 one_after bs c x action.CommitOnePhase f h one fit begun d = omega (arith, one d, count_of-filter (is_joined_by d) (λ b. not (bytes_eq b.xid x)) bs)
 one_after bs c x (action.Decide o) f h one fit begun d = omega (arith, one d, count_of-filter (is_joined_by d) (λ b. not (bytes_eq b.xid x)) bs)
 one_after bs c x action.RollBack f h one fit begun d = omega (arith, one d, count_of-filter (is_joined_by d) (λ b. not (bytes_eq b.xid x)) bs)
+one_after bs c x action.Forget f h one fit begun d = omega (arith, one d, count_of-filter (is_joined_by d) (λ b. not (bytes_eq b.xid x)) bs)
 
 pub one_each_stays : OneEachStays
 one_each_stays bs c v x work h one =

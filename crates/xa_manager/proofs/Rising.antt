@@ -6,7 +6,8 @@ use Rattle.std.proofs.lemmas.List.Sums.{sum_by-cons}
 use Rattle.drda_words.specs.Order.{precedes, IsRising}
 use Rattle.xa_manager.specs.declared.branch.Branch.{Branch}
 use Rattle.xa_manager.specs.declared.branch.BranchState.{BranchState}
-use Rattle.xa_manager.specs.declared.branch.BranchState.TheVariants.{Active, Idle, RollbackOnly, Prepared}
+use Rattle.xa_manager.specs.declared.due.Decision.{Decision}
+use Rattle.xa_manager.specs.declared.branch.BranchState.TheVariants.{Active, Heuristic, Idle, RollbackOnly, Prepared}
 use Rattle.xa_manager.specs.Branch.{IsTable, is_in_doubt, is_active, is_joined_by, count_of, state_of, joined_xid, in_doubt_count, with_branch, with_state, without}
 use Rattle.xa_manager.specs.Counts.{weight}
 use Rattle.drda_words.proofs.Precedes.{precedes-trans, precedes_another, precedes_or, same_bytes}
@@ -195,6 +196,7 @@ joined_active c (Active d) e = absurd cc
 joined_active c (Idle d) e = refl
 joined_active c (RollbackOnly d) e = refl
 joined_active c Prepared e = refl
+joined_active c (Heuristic d) e = refl
 
 pub none_joined : (bs : List Branch) (c : ℕ) → count_of is_active bs ≡ 0 → joined_xid bs c ≡ None
 none_joined [] c e = refl
@@ -233,6 +235,17 @@ table_state bs x s old t is room =
       rising = rising (with_state bs x s) (rises_state x s bs r);
       known = rw (length-with_state bs x s) t.known;
       in_doubt = omega arith;
+    }
+
+-- a prepared branch that is decided heuristically is in doubt as before
+pub table_decided : (bs : List Branch) (x : List ℕ) (d : Decision) → IsTable bs → state_of bs x ≡ Some Prepared → IsTable (with_state bs x (Heuristic d))
+table_decided bs x d t is =
+    let r = rises bs t.rising in
+    let count = count_of-with_state is_in_doubt bs x (Heuristic d) Prepared r is in
+    record {
+      rising = rising (with_state bs x (Heuristic d)) (rises_state x (Heuristic d) bs r);
+      known = rw (length-with_state bs x (Heuristic d)) t.known;
+      in_doubt = omega (arith, count, t.in_doubt);
     }
 
 pub table_branch : (bs : List Branch) (new : Branch) → IsTable bs → state_of bs new.xid ≡ None → length bs < 1024 → (is_in_doubt new.state ≡ true → in_doubt_count bs < 256) → IsTable (with_branch bs new)

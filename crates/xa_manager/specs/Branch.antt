@@ -2,8 +2,9 @@
 use Rattle.std.specs.Prelude.{◌≤◌, ℕ, Bool, true, false, not, ◌==◌, bytes_eq, List, [], ◌∷◌, length, map, filter, find, count_by, Option, Some, None, option_map, if◌then◌else◌}
 use Rattle.drda_words.specs.Order.{precedes, IsRising}
 use Rattle.xa_manager.specs.declared.branch.Branch.{Branch}
+use Rattle.xa_manager.specs.declared.due.Decision.{Decision}
 use Rattle.xa_manager.specs.declared.branch.BranchState.{BranchState}
-use Rattle.xa_manager.specs.declared.branch.BranchState.TheVariants.{Active, Idle, RollbackOnly, Prepared}
+use Rattle.xa_manager.specs.declared.branch.BranchState.TheVariants.{Active, Heuristic, Idle, RollbackOnly, Prepared}
 
 -- ---- one branch
 
@@ -13,6 +14,7 @@ is_joined_by conversation (Active joined) = joined == conversation
 is_joined_by conversation (Idle _) = false
 is_joined_by conversation (RollbackOnly _) = false
 is_joined_by conversation Prepared = false
+is_joined_by conversation (Heuristic _) = false
 
 -- some conversation is joined to it
 abbrev pub is_active : BranchState → Bool
@@ -20,20 +22,36 @@ is_active (Active _) = true
 is_active (Idle _) = false
 is_active (RollbackOnly _) = false
 is_active Prepared = false
+is_active (Heuristic _) = false
 
--- the conversation was the last to start or join it, and it is not prepared
+-- the conversation was the last to start or join it, and it is neither prepared nor decided heuristically
 abbrev pub is_lost_with : ℕ → BranchState → Bool
 is_lost_with conversation (Active last) = last == conversation
 is_lost_with conversation (Idle last) = last == conversation
 is_lost_with conversation (RollbackOnly last) = last == conversation
 is_lost_with conversation Prepared = false
+is_lost_with conversation (Heuristic _) = false
 
--- it waits for a decision
+-- it waits for its transaction manager, which decides it, or forgets it where it was decided heuristically
 abbrev pub is_in_doubt : BranchState → Bool
 is_in_doubt (Active _) = false
 is_in_doubt (Idle _) = false
 is_in_doubt (RollbackOnly _) = false
 is_in_doubt Prepared = true
+is_in_doubt (Heuristic _) = true
+
+-- it waits for its decision
+abbrev pub is_undecided : BranchState → Bool
+is_undecided (Active _) = false
+is_undecided (Idle _) = false
+is_undecided (RollbackOnly _) = false
+is_undecided Prepared = true
+is_undecided (Heuristic _) = false
+
+-- how a branch stands that was found in doubt: prepared, or decided heuristically so
+abbrev pub found_state : Option Decision → BranchState
+found_state None = Prepared
+found_state (Some d) = Heuristic d
 
 -- ---- the table
 

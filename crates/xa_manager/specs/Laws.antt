@@ -4,15 +4,16 @@ use Rattle.std.specs.Prelude.{◌≡◌, ◌⊎◌, ◌<◌, ◌≤◌, ℕ, Boo
 use Rattle.drda_words.specs.Order.{IsRising}
 use Rattle.xa_manager.specs.declared.branch.Branch.{Branch}
 use Rattle.xa_manager.specs.declared.branch.BranchState.{BranchState}
-use Rattle.xa_manager.specs.declared.branch.BranchState.TheVariants.{Active, Idle, RollbackOnly, Prepared}
+use Rattle.xa_manager.specs.declared.branch.BranchState.TheVariants.{Active, Heuristic, Idle, RollbackOnly, Prepared}
 use Rattle.xa_calls.specs.declared.code.XaCode.{XaCode}
 use Rattle.xa_calls.specs.declared.code.XaCode.TheVariants as code
 use Rattle.xa_calls.specs.declared.request.Verb.{Verb}
 use Rattle.xa_manager.specs.declared.due.Action.{Action}
+use Rattle.xa_manager.specs.declared.due.Decision.{Decision}
 use Rattle.xa_manager.specs.declared.due.Action.TheVariants as action
 use Rattle.xa_manager.specs.declared.due.Work.{Work}
 use Rattle.xa_manager.specs.declared.due.Facts.{Facts}
-use Rattle.xa_manager.specs.Branch.{state_of, joined_xid, is_joined_by, count_of, without_those_of}
+use Rattle.xa_manager.specs.Branch.{state_of, joined_xid, is_joined_by, count_of, with_state, without_those_of}
 use Rattle.xa_manager.specs.Due.{due_of, facts_of, next_state, after}
 
 -- what is due is the branch's decision
@@ -22,10 +23,11 @@ is_decision action.Nothing = false
 is_decision action.Start = false
 is_decision action.Join = false
 is_decision (action.End _) = false
-is_decision action.Forget = false
+is_decision action.EndUnchanged = false
 is_decision action.Prepare = false
 is_decision action.CommitOnePhase = false
 is_decision action.RollBack = false
+is_decision action.Forget = false
 
 -- what a conversation makes due by asking this of an XID
 abbrev pub action_of : List Branch → ℕ → Verb → List ℕ → Work → Action
@@ -35,6 +37,8 @@ action_of bs conversation v xid work = (due_of bs conversation v xid work).actio
 abbrev pub is_refusal : XaCode → Bool
 is_refusal code.Done = false
 is_refusal code.ReadOnly = false
+is_refusal code.HeuristicallyRolledBack = false
+is_refusal code.HeuristicallyCommitted = false
 is_refusal code.RolledBack = false
 is_refusal code.Limit = true
 is_refusal code.Unknown = true
@@ -58,11 +62,12 @@ FitsAction action.Nothing s f = Unit {0}
 FitsAction action.Start s f = (s ≡ None) × (f.is_joined ≡ false) × (f.known < 1024)
 FitsAction action.Join s f = IsIdle s × (f.is_joined ≡ false)
 FitsAction (action.End _) s f = (s ≡ Some (Active f.conversation)) ⊎ (s ≡ Some (Idle f.conversation))
-FitsAction action.Forget s f = IsIdle s
+FitsAction action.EndUnchanged s f = IsIdle s
 FitsAction action.Prepare s f = IsIdle s × (f.in_doubt < 256)
 FitsAction action.CommitOnePhase s f = IsIdle s
 FitsAction (action.Decide _) s f = s ≡ Some Prepared
 FitsAction action.RollBack s f = IsIdle s ⊎ ((last : ℕ) × (s ≡ Some (RollbackOnly last)))
+FitsAction action.Forget s f = (d : Decision) × (s ≡ Some (Heuristic d))
 
 -- each action is due only of a branch that stands so
 abbrev pub ActionsFit : Type 0
@@ -92,6 +97,24 @@ PreparedOutlives =
 abbrev pub OnlyPreparedDecided : Type 0
 OnlyPreparedDecided =
     (bs : List Branch) (conversation : ℕ) (v : Verb) (xid : List ℕ) (work : Work) → IsTrue (is_decision (action_of bs conversation v xid work)) → state_of bs xid ≡ Some Prepared
+
+-- a branch that was decided heuristically stays so over each call, until it is forgotten
+abbrev pub HeuristicStays : Type 0
+HeuristicStays =
+    (bs : List Branch) (conversation : ℕ) (v : Verb) (asked xid : List ℕ) (work : Work) (d : Decision) → state_of bs xid ≡ Some (Heuristic d)
+    → (state_of (after bs conversation asked (action_of bs conversation v asked work)) xid ≡ Some (Heuristic d))
+    ⊎ ((asked ≡ xid) × (action_of bs conversation v asked work ≡ action.Forget))
+
+-- and over the loss of a conversation
+abbrev pub HeuristicOutlives : Type 0
+HeuristicOutlives =
+    (bs : List Branch) (conversation : ℕ) (xid : List ℕ) (d : Decision) → state_of bs xid ≡ Some (Heuristic d) → state_of (without_those_of bs conversation) xid ≡ Some (Heuristic d)
+
+-- a heuristic decision of a prepared branch leaves every other where it stands
+abbrev pub DecidesOne : Type 0
+DecidesOne =
+    (bs : List Branch) (asked : List ℕ) (d : Decision) (xid : List ℕ) → state_of bs asked ≡ Some Prepared
+    → state_of (with_state bs asked (Heuristic d)) xid ≡ (if bytes_eq asked xid then Some (Heuristic d) else state_of bs xid)
 
 -- the branch that a conversation is joined to is active
 abbrev pub JoinedIsActive : Type 0

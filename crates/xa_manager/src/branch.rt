@@ -3,6 +3,7 @@
 ghost use Rattle.std.specs.Prelude.{◌≡◌};
 ghost use Rattle.xa_manager.specs.Branch.{is_joined_by, is_active, is_lost_with, is_in_doubt};
 
+use crate::due::Decision;
 use xa_calls::Xid;
 
 /// Where a branch stands (C193 chapter 6, the table of states of transaction branches). A
@@ -17,6 +18,9 @@ pub enum BranchState {
     RollbackOnly(u64),
     /// Prepared: in doubt until it is decided. It belongs to no conversation.
     Prepared,
+    /// Decided heuristically, by who runs the server and not by its transaction manager, which is told so until
+    /// it forgets the branch. It belongs to no conversation, and its unit has ended.
+    Heuristic(Decision),
 }
 
 impl BranchState {
@@ -26,7 +30,10 @@ impl BranchState {
     {
         match self {
             BranchState::Active(joined) => joined == conversation,
-            BranchState::Idle(_) | BranchState::RollbackOnly(_) | BranchState::Prepared => false,
+            BranchState::Idle(_)
+            | BranchState::RollbackOnly(_)
+            | BranchState::Prepared
+            | BranchState::Heuristic(_) => false,
         }
     }
 
@@ -36,12 +43,15 @@ impl BranchState {
     {
         match self {
             BranchState::Active(_) => true,
-            BranchState::Idle(_) | BranchState::RollbackOnly(_) | BranchState::Prepared => false,
+            BranchState::Idle(_)
+            | BranchState::RollbackOnly(_)
+            | BranchState::Prepared
+            | BranchState::Heuristic(_) => false,
         }
     }
 
     /// Whether the branch lives as long as the conversation: it was the last to start or join it,
-    /// and the branch is not prepared.
+    /// and the branch is neither prepared nor decided heuristically.
     pub fn is_lost_with(self, conversation: u64) -> bool
         ensures { result ≡ is_lost_with conversation self }
     {
@@ -49,16 +59,17 @@ impl BranchState {
             BranchState::Active(last) => last == conversation,
             BranchState::Idle(last) => last == conversation,
             BranchState::RollbackOnly(last) => last == conversation,
-            BranchState::Prepared => false,
+            BranchState::Prepared | BranchState::Heuristic(_) => false,
         }
     }
 
-    /// Whether the branch is in doubt: it waits for a decision, and survives its conversation.
+    /// Whether the branch is in doubt: it waits for its transaction manager, which decides or forgets it, and
+    /// survives its conversation.
     pub fn is_in_doubt(self) -> bool
         ensures { result ≡ is_in_doubt self }
     {
         match self {
-            BranchState::Prepared => true,
+            BranchState::Prepared | BranchState::Heuristic(_) => true,
             BranchState::Active(_) | BranchState::Idle(_) | BranchState::RollbackOnly(_) => false,
         }
     }

@@ -1,7 +1,7 @@
 //! What a call is answered, and what is then due.
 
 ghost use Rattle.std.specs.Prelude.{◌≡◌};
-ghost use Rattle.xa_manager.specs.Due.{due_at, due_of_new, due_of_join, due_of_end, due_of_prepare, due_of_commit, due_of_one_phase, due_of_roll_back};
+ghost use Rattle.xa_manager.specs.Due.{due_at, due_of_new, due_of_join, due_of_end, due_of_prepare, due_of_commit, due_of_one_phase, due_of_roll_back, due_of_forget, heuristic_code};
 
 use crate::branch::BranchState;
 use xa_calls::{Ending, MAX_IN_DOUBT, Verb, XaCode};
@@ -18,6 +18,18 @@ pub enum Decision {
     RollBack,
 }
 
+impl Decision {
+    // What a transaction manager is told that comes to decide a branch of which this was decided heuristically.
+    fn heuristic_code(self) -> XaCode
+        ensures { result ≡ heuristic_code self }
+    {
+        match self {
+            Decision::Commit => XaCode::HeuristicallyCommitted,
+            Decision::RollBack => XaCode::HeuristicallyRolledBack,
+        }
+    }
+}
+
 /// What a call makes due of its branch, and what the caller first records on its journal, if
 /// anything; then `XaTable::settle` brings the table up to date.
 #[derive(Clone, Copy, Debug, PartialEq, Eq)]
@@ -31,7 +43,7 @@ pub enum Action {
     /// The conversation leaves the branch.
     End(Ending),
     /// The branch changed nothing and ends, with nothing to record.
-    Forget,
+    EndUnchanged,
     /// A Prepare record is due; then the branch is in doubt.
     Prepare,
     /// The branch is committed in one phase, with a Commit record where it has changes.
@@ -40,6 +52,8 @@ pub enum Action {
     Decide(Decision),
     /// The branch is rolled back, with nothing to record.
     RollBack,
+    /// A Forget record is due; then the branch, which was decided heuristically, is no longer known.
+    Forget,
 }
 
 /// The answer to a call, and what it makes due.
@@ -90,7 +104,7 @@ impl Due {
             (Verb::Commit, Some(state)) => Due::of_commit(state),
             (Verb::CommitOnePhase, Some(state)) => Due::of_one_phase(state),
             (Verb::RollBack, Some(state)) => Due::of_roll_back(state),
-            (Verb::Forget, Some(_)) => Due::refused(XaCode::Protocol),
+            (Verb::Forget, Some(state)) => Due::of_forget(state),
         }
     }
 
@@ -151,7 +165,9 @@ impl Due {
         }
         match state {
             BranchState::RollbackOnly(_) => Due::refused(XaCode::RolledBack),
-            BranchState::Active(_) | BranchState::Prepared => Due::refused(XaCode::Protocol),
+            BranchState::Active(_) | BranchState::Prepared | BranchState::Heuristic(_) => {
+                Due::refused(XaCode::Protocol)
+            }
             BranchState::Idle(_) => Due::done(Action::Join),
         }
     }
@@ -167,7 +183,8 @@ impl Due {
             BranchState::Active(_)
             | BranchState::Idle(_)
             | BranchState::RollbackOnly(_)
-            | BranchState::Prepared => Due::refused(XaCode::Protocol),
+            | BranchState::Prepared
+            | BranchState::Heuristic(_) => Due::refused(XaCode::Protocol),
         }
     }
 
@@ -176,11 +193,13 @@ impl Due {
         ensures { result ≡ due_of_prepare state facts.now }
     {
         match state {
-            BranchState::Active(_) | BranchState::Prepared => Due::refused(XaCode::Protocol),
+            BranchState::Active(_) | BranchState::Prepared | BranchState::Heuristic(_) => {
+                Due::refused(XaCode::Protocol)
+            }
             BranchState::RollbackOnly(_) => Due::undone(),
             BranchState::Idle(_) if !facts.work.has_changes => Due {
                 code: XaCode::ReadOnly,
-                action: Action::Forget,
+                action: Action::EndUnchanged,
             },
             BranchState::Idle(_) if facts.in_doubt >= MAX_IN_DOUBT => Due::refused(XaCode::Limit),
             BranchState::Idle(_) => Due::done(Action::Prepare),
@@ -193,6 +212,7 @@ impl Due {
     {
         match state {
             BranchState::Prepared => Due::done(Action::Decide(Decision::Commit)),
+            BranchState::Heuristic(decision) => Due::refused(decision.heuristic_code()),
             BranchState::Active(_) | BranchState::Idle(_) | BranchState::RollbackOnly(_) => {
                 Due::refused(XaCode::Protocol)
             }
@@ -204,7 +224,9 @@ impl Due {
         ensures { result ≡ due_of_one_phase state }
     {
         match state {
-            BranchState::Active(_) | BranchState::Prepared => Due::refused(XaCode::Protocol),
+            BranchState::Active(_) | BranchState::Prepared | BranchState::Heuristic(_) => {
+                Due::refused(XaCode::Protocol)
+            }
             BranchState::RollbackOnly(_) => Due::undone(),
             BranchState::Idle(_) => Due::done(Action::CommitOnePhase),
         }
@@ -218,6 +240,20 @@ impl Due {
             BranchState::Active(_) => Due::refused(XaCode::Protocol),
             BranchState::Prepared => Due::done(Action::Decide(Decision::RollBack)),
             BranchState::Idle(_) | BranchState::RollbackOnly(_) => Due::done(Action::RollBack),
+            BranchState::Heuristic(decision) => Due::refused(decision.heuristic_code()),
+        }
+    }
+
+    // The branch is to be forgotten.
+    fn of_forget(state: BranchState) -> Due
+        ensures { result ≡ due_of_forget state }
+    {
+        match state {
+            BranchState::Heuristic(_) => Due::done(Action::Forget),
+            BranchState::Active(_)
+            | BranchState::Idle(_)
+            | BranchState::RollbackOnly(_)
+            | BranchState::Prepared => Due::refused(XaCode::Protocol),
         }
     }
 }

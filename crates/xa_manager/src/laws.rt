@@ -1,6 +1,6 @@
 //! What holds over all calls of a table.
 
-ghost use Rattle.xa_manager.specs.Laws.{RefusalsDoNothing, ActionsFit, MovesOne, PreparedStays, PreparedOutlives, OnlyPreparedDecided, JoinedIsActive, OneEachStays, OneEachOutlives};
+ghost use Rattle.xa_manager.specs.Laws.{RefusalsDoNothing, ActionsFit, MovesOne, PreparedStays, PreparedOutlives, OnlyPreparedDecided, HeuristicStays, HeuristicOutlives, DecidesOne, JoinedIsActive, OneEachStays, OneEachOutlives};
 
 /// A call that is refused, by one of the codes below 0, makes nothing due.
 pub fn refusals_do_nothing()
@@ -24,6 +24,14 @@ pub fn prepared_until_decided()
     ensures stays { PreparedStays }
     ensures outlives { PreparedOutlives }
     ensures decided { OnlyPreparedDecided }
+{}
+
+/// A branch that was decided heuristically stays so over each call and over the loss of each conversation,
+/// until it is forgotten; and such a decision moves no other branch.
+pub fn heuristic_until_forgotten()
+    ensures stays { HeuristicStays }
+    ensures outlives { HeuristicOutlives }
+    ensures one { DecidesOne }
 {}
 
 /// The branch that a conversation is joined to is active, so it works in no prepared one.

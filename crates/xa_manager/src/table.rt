@@ -1,13 +1,13 @@
 //! The table of branches.
 
 ghost use Rattle.std.specs.Prelude.{◌≡◌, ◌<◌, ◌≤◌, [], List, length, None, Some, true, IfOk, OnOk, OnErr, option_copied};
-ghost use Rattle.xa_manager.specs.Branch.{IsTable, is_in_doubt, state_of, joined_xid, in_doubt_count, in_doubt_xids, with_branch, with_state, without, without_those_of};
+ghost use Rattle.xa_manager.specs.Branch.{IsTable, found_state, is_in_doubt, state_of, joined_xid, in_doubt_count, in_doubt_xids, with_branch, with_state, without, without_those_of};
 ghost use Rattle.xa_manager.specs.Due.{IsDue, due_of, after};
 ghost use Rattle.xa_manager.specs.Place.{Restores};
 
 use crate::branch::{Branch, BranchState};
 use crate::counts::Counts;
-use crate::due::{Action, Due, Facts, MAX_BRANCHES, Work};
+use crate::due::{Action, Decision, Due, Facts, MAX_BRANCHES, Work};
 use crate::search::place;
 use crate::xids::xids_in_doubt;
 use std::alloc::{AllocError, Global};
@@ -143,9 +143,11 @@ impl XaTable {
             Action::End(Ending::Kept) => self.set(xid, BranchState::Idle(conversation)),
             Action::End(Ending::Failed) => self.set(xid, BranchState::RollbackOnly(conversation)),
             Action::Prepare => self.set(xid, BranchState::Prepared),
-            Action::Forget | Action::CommitOnePhase | Action::Decide(_) | Action::RollBack => {
-                self.remove(xid)
-            }
+            Action::EndUnchanged
+            | Action::CommitOnePhase
+            | Action::Decide(_)
+            | Action::RollBack
+            | Action::Forget => self.remove(xid),
         }
         Ok(())
     }
@@ -158,7 +160,7 @@ impl XaTable {
     }
 
     /// The conversation is lost: every branch that it was the last to start or join, and that is not
-    /// prepared, has been rolled back (`BranchState::is_lost_with` tells which).
+    /// in doubt, has been rolled back (`BranchState::is_lost_with` tells which).
     pub fn lost(&mut self, conversation: u64)
         ensures { self.new ≡ without_those_of self.old conversation }
     {
@@ -166,11 +168,28 @@ impl XaTable {
         self.counts = Counts::of(&self.branches);
     }
 
-    /// Adds a branch that was found in doubt where the caller's journal was read: it is prepared. On an
-    /// error nothing changes. Each error comes exactly where it is so, `Known` first; memory may be
-    /// refused where the branch could be added.
-    pub fn restore(&mut self, xid: &Xid) -> Result<(), RestoreError>
-        ensures ok { OnOk result (self.new ≡ with_branch self.old (record { xid = xid.now; state = BranchState.Prepared })) }
+    /// Decides a prepared branch heuristically: without its transaction manager, which is told so from now on,
+    /// until it forgets the branch. Takes no memory.
+    pub fn decide(&mut self, xid: &Xid, decision: Decision)
+        requires { state_of self.old xid.now ≡ Some BranchState.Prepared }
+        ensures { self.new ≡ with_state self.old xid.now (BranchState.Heuristic decision) }
+    {
+        match place(&self.branches, xid) {
+            Ok(at) => {
+                self.branches[at] = Branch {
+                    xid: *xid,
+                    state: BranchState::Heuristic(decision),
+                };
+            }
+            Err(_) => unreachable!(),
+        }
+    }
+
+    /// Adds a branch that was found in doubt where the caller's journal was read: it is prepared, or was decided
+    /// heuristically so. On an error nothing changes. Each error comes exactly where it is so, `Known` first;
+    /// memory may be refused where the branch could be added.
+    pub fn restore(&mut self, xid: &Xid, decided: Option<Decision>) -> Result<(), RestoreError>
+        ensures ok { OnOk result (self.new ≡ with_branch self.old (record { xid = xid.now; state = found_state decided })) }
         ensures err { OnErr result (self.new ≡ self.old) }
         ensures exact { Restores result self.old xid.now }
     {
@@ -180,10 +199,11 @@ impl XaTable {
         if self.branches.len() >= MAX_BRANCHES || self.counts.in_doubt >= MAX_IN_DOUBT {
             return Err(RestoreError::Full);
         }
-        self.add(Branch {
-            xid: *xid,
-            state: BranchState::Prepared,
-        })?;
+        let state = match decided {
+            None => BranchState::Prepared,
+            Some(decision) => BranchState::Heuristic(decision),
+        };
+        self.add(Branch { xid: *xid, state })?;
         Ok(())
     }
 

@@ -1,9 +1,9 @@
 //! What is asked, a line each.
 
-use crate::calls::{Call, call_of, number_of, xid_of};
+use crate::calls::{Call, call_of, decision_of, number_of, xid_of};
 use std::alloc::{AllocError, Global};
 use xa_calls::Xid;
-use xa_manager::{RestoreError, XaTable};
+use xa_manager::{BranchState, Decision, RestoreError, XaTable};
 
 fn settle(table: &mut XaTable, call: Call, told: &mut String) -> Result<(), AllocError> {
     let (conversation, verb, xid, work) = call;
@@ -51,12 +51,23 @@ fn tell_doubts(alloc: Global, table: &XaTable, told: &mut String) -> Result<(), 
     Ok(())
 }
 
-fn said_restored(table: &mut XaTable, xid: &Xid) -> &'static str {
-    match table.restore(xid) {
+fn said_restored(table: &mut XaTable, xid: &Xid, decided: Option<Decision>) -> &'static str {
+    match table.restore(xid, decided) {
         Ok(()) => "restored",
         Err(RestoreError::Known) => "known",
         Err(RestoreError::Full) => "full",
         Err(RestoreError::NoMemory) => "no memory",
+    }
+}
+
+// A branch is decided heuristically, where it is prepared.
+fn said_decided(table: &mut XaTable, xid: &Xid, decided: Option<Decision>) -> &'static str {
+    match (table.state(xid), decided) {
+        (Some(BranchState::Prepared), Some(decision)) => {
+            table.decide(xid, decision);
+            "decided"
+        }
+        _ => "not in doubt",
     }
 }
 
@@ -67,7 +78,7 @@ fn tell_state(table: &XaTable, xid: &Xid, told: &mut String) -> Result<(), Alloc
     }
 }
 
-// A look at the table, or a branch that is found in doubt.
+// A look at the table, a branch that is found in doubt, or one that is decided heuristically, as the word behind it says.
 fn look(
     table: &mut XaTable,
     verb: &str,
@@ -75,10 +86,13 @@ fn look(
     number: u32,
     told: &mut String,
 ) -> Result<(), AllocError> {
-    match (verb, call_of(rest, number), xid_of(rest, number)) {
+    let (branch, word) = rest.split_once(' ').unwrap_or((rest, ""));
+    let decided = decision_of(word);
+    match (verb, call_of(rest, number), xid_of(branch, number)) {
         ("due", Some(call), _) => tell_due(table, call, told),
         ("joined", _, _) => tell_xid(table.joined(rest.parse::<u64>().unwrap_or(0)), told),
-        ("restore", _, Some(xid)) => told.push_str(said_restored(table, &xid)),
+        ("restore", _, Some(xid)) => told.push_str(said_restored(table, &xid, decided)),
+        ("decide", _, Some(xid)) => told.push_str(said_decided(table, &xid, decided)),
         ("state", _, Some(xid)) => tell_state(table, &xid, told),
         _ => told.push_str("nothing is asked"),
     }

@@ -1,7 +1,7 @@
 //! Calls, and the XIDs that they name.
 
 use xa_calls::{Ending, Verb, Xid};
-use xa_manager::Work;
+use xa_manager::{Decision, Work};
 
 /// The conversation that asks, what it asks of which branch, and what the caller knows of the units.
 pub type Call = (u64, Verb, Xid, Work);
@@ -36,6 +36,15 @@ fn verb_of(word: &str) -> Option<Verb> {
         "one-phase" => Some(Verb::CommitOnePhase),
         "rollback" => Some(Verb::RollBack),
         "forget" => Some(Verb::Forget),
+        _ => None,
+    }
+}
+
+/// The decision that a word names.
+pub fn decision_of(word: &str) -> Option<Decision> {
+    match word {
+        "committed" => Some(Decision::Commit),
+        "rolledback" => Some(Decision::RollBack),
         _ => None,
     }
 }

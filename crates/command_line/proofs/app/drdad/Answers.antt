@@ -1,7 +1,7 @@
 use Rattle.std.proofs.Common.{true, refl, ap, ◌≡◌, ◌∙◌}
 use Rattle.std.proofs.lemmas.Result.{IfOk-weaker}
 use Rattle.clap.specs.Words.{App, app_of, with_subcommand}
-use Rattle.command_line.specs.Grammar.{init, pipe, serve, in_doubt, room, check, version}
+use Rattle.command_line.specs.Grammar.{init, pipe, serve, in_doubt, decide, room, check, version}
 use Rattle.command_line.proofs.app.drdad.Goals as goal
 
 pub returns : goal.returns
@@ -13,6 +13,7 @@ returns c =
     let second = c.in_ok-program-2.ensures pipe c.pipe.ensures ∙ ap (λ (a : App). with_subcommand a pipe.top) first in
     let third = c.in_ok-program-3.ensures serve c.serve.ensures ∙ ap (λ (a : App). with_subcommand a serve.top) second in
     let fourth = c.in_ok-program-4.ensures in_doubt c.in_doubt.ensures ∙ ap (λ (a : App). with_subcommand a in_doubt.top) third in
-    let fifth = c.in_ok-program-5.ensures room c.room.ensures ∙ ap (λ (a : App). with_subcommand a room.top) fourth in
-    let sixth = c.in_ok-program-6.ensures check c.check.ensures ∙ ap (λ (a : App). with_subcommand a check.top) fifth in
-    IfOk-weaker c.with_one-7.result _ _ (λ r is. is ∙ ap (λ (a : App). with_subcommand a version.top) sixth) (c.with_one-7.ensures version c.version.ensures)
+    let fifth = c.in_ok-program-5.ensures decide c.decide.ensures ∙ ap (λ (a : App). with_subcommand a decide.top) fourth in
+    let sixth = c.in_ok-program-6.ensures room c.room.ensures ∙ ap (λ (a : App). with_subcommand a room.top) fifth in
+    let seventh = c.in_ok-program-7.ensures check c.check.ensures ∙ ap (λ (a : App). with_subcommand a check.top) sixth in
+    IfOk-weaker c.with_one-8.result _ _ (λ r is. is ∙ ap (λ (a : App). with_subcommand a version.top) seventh) (c.with_one-8.ensures version c.version.ensures)

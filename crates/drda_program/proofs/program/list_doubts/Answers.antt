@@ -1,5 +1,5 @@
-use Rattle.std.proofs.Common.{rules}
-use Rattle.rdb_core.specs.InDoubt.{xids_left}
+use Rattle.std.proofs.Common.{refl, rules}
+use Rattle.drda_program.specs.Doubts.{listed_in}
 use Rattle.drda_program.specs.Program.{IsOfDoubts}
 use Rattle.drda_program.proofs.Doubted.{are_doubts}
 use Rattle.drda_program.proofs.Ran.{found}
@@ -9,6 +9,7 @@ use Rattle.drda_program.proofs.program.list_doubts.Goals as goal
 pub returns : goal.returns
 returns g c =
     let there = found g.F.Disk.Disk.is_modelled g.F.Disk.Disk.life g.F.StoreFiles.calls c.args.files.now c.args.path.now c.in_ok-core.core c.open_file.new.files c.in_ok-core.ensures in
+    let doubts = listed_in c.in_ok-core.core.state.branches in
     told g.F.Disk.Disk.is_modelled g.F.Disk.Disk.life g.F.StoreFiles.calls (IsOfDoubts g.F.Disk.Disk.is_modelled g.F.Disk.Disk.life) c.args.path.now c.args.files.now c.open_file.new.files there.0 there.1 c.deref.result.now _ _ c.tell.result
-    (xids_left c.in_doubt.result, search rules, λ modelled. are_doubts (g.F.Disk.Disk.life there.0).seen c.in_ok-core.core (xids_left c.in_doubt.result) c.records_lead_to_sound_states.ensures c.checkpoints_are_known.ensures.stores (there.2.stood modelled) c.in_doubt.ensures)
+    (doubts, search rules, λ modelled. are_doubts (g.F.Disk.Disk.life there.0).seen c.in_ok-core.core doubts c.records_lead_to_sound_states.ensures c.checkpoints_are_known.ensures.stores c.openings_are_kept.ensures (there.2.stood modelled) refl)
     c.tell.ensures.told c.tell.ensures.cause

@@ -8,7 +8,7 @@ use Rattle.durable_core.proofs.holding.hold_all.Given as goal
 abbrev pub invariant-loop-left : goal.invariant-loop-left
 invariant-loop-left l =
     record {
-      all : held_of l.journal + held_for (doubts_in l.left) ≡ held_of l.fn.journal + held_for (doubts_in l.units);
+      all : held_of l.journal + held_for l.layout (doubts_in l.left) ≡ held_of l.fn.journal + held_for l.layout (doubts_in l.units);
       low : held_of l.fn.journal ≤ held_of l.journal;
       region : region_of l.journal ≡ region_of l.fn.journal;
       next : next_of l.journal ≡ next_of l.fn.journal;

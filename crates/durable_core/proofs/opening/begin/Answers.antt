@@ -2,7 +2,7 @@ use Rattle.std.proofs.Common.{◌≡◌, ◌∙◌, ap}
 use Rattle.recovery.specs.Replay.{doubts_in}
 use Rattle.core_model.specs.Step.{CoreState}
 use Rattle.recovery.specs.Part.{opened}
-use Rattle.journal_recorder.specs.Recording.{disk_of, journal_of}
+use Rattle.journal_recorder.specs.Recording.{disk_of, journal_of, layout_of}
 use Rattle.journal_recorder.specs.declared.recorder.DiskRecorder.{DiskRecorder}
 use Rattle.rdb_core.specs.State.{recorder_of, state_of}
 use Rattle.durable_core.proofs.Opened.{is_recorded}
@@ -16,3 +16,4 @@ invariant_of-result g c =
     (c.in-Ok.ensures.restored ∙ ap (λ (s : CoreState). opened (record { store = s.base.store; doubts = doubts_in c.args.found.units.items })) c.restored-core.ensures.state)
     (ap (λ (r : DiskRecorder g.row.D.Denot). disk_of r) recorder ∙ c.new-recorder.ensures.disk)
     (ap (λ (r : DiskRecorder g.row.D.Denot). journal_of r) recorder ∙ c.new-recorder.ensures.journal)
+    (ap (λ (r : DiskRecorder g.row.D.Denot). layout_of r) recorder ∙ c.new-recorder.ensures.layout)

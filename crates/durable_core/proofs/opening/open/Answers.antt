@@ -8,4 +8,4 @@ returns-in-Ok-clause-opens g c name d is opens =
 
 pub returns-in-Ok-clause-found : goal.returns-in-Ok-clause-found
 returns-in-Ok-clause-found g c is =
-    stood g.D.Disk.is_modelled (g.D.Disk.life c.read_store.new.disk) (g.D.Disk.life c.args.disk).seen c.in-Ok.ensures.stays.same c.in-Ok.found c.in-Ok.ensures.found is c.begin.result c.begin.ensures.ok c.begin.ensures.room
+    stood g.D.Disk.is_modelled (g.D.Disk.life c.read_store.new.disk) (g.D.Disk.life c.args.disk).seen c.in-Ok.ensures.stays.same c.in-Ok.found c.in-Ok.ensures.found is c.begin.result c.begin.ensures.ok c.begin.ensures.room c.begin.ensures.layout

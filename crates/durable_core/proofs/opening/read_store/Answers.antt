@@ -8,10 +8,11 @@ use Rattle.store_check.specs.Half.{BreaksHalf, pages_of}
 use Rattle.table_store.specs.TableStore.{store_in}
 use Rattle.recovery.specs.Durable.{Doubts, at_checkpoint}
 use Rattle.recovery.specs.Journal.{Leads, StopsAt}
+use Rattle.recovery.specs.Known.{AreKnown}
 use Rattle.recovery.specs.Laws.{held_for}
 use Rattle.recovery.specs.Replay.{doubts_in, durable_of}
 use Rattle.recovery.specs.declared.prepared.PreparedUnit.{PreparedUnit}
-use Rattle.durable_core.specs.Prepares.{TellsLast}
+use Rattle.durable_core.specs.Holders.{TellsLast}
 use Rattle.durable_core.specs.Reads.{TellsDamage}
 use Rattle.durable_core.proofs.Parts.{found_all, held_plain, journal_plain, passed_on, settled_on, tables_plain, units_plain}
 use Rattle.durable_core.proofs.Telling.{bad_page, handed_on, is_short, misplaced, no_record, no_room, told}
@@ -64,7 +65,7 @@ returns-in_err-read_units-clause-opens g c name d is opens =
     let stands = subst (λ (i : List ℕ). Stands active.region records i) (c.in_ok-tables.ensures.stays.same ∙ c.in_ok-active.ensures.stays.same) (c.in_ok-journal.ensures.stand is) in
     passed_on c.read_units.result c.in_err-read_units.field-0.0 c.from_residual-in_err-read_units.result (search rules) (search rules)
     (units_plain image name d opens c.images_open_there.ensures active (c.in_ok-active.ensures.head is) c.checkpoints_are_known.ensures.one c.a_region_has_one_reading.ensures tables laid records stands c.read_units.result
-    (λ e leads. c.read_units.ensures.opens e (subst (λ (rs : List Record). Leads (at_checkpoint tables) (entries_of rs) e) (sym c.as_slice.ensures.value) leads)))
+    (λ e known leads. c.read_units.ensures.opens e (subst (λ (rs : List Record). AreKnown active.layout (entries_of rs)) (sym c.as_slice.ensures.value) known) (subst (λ (rs : List Record). Leads (at_checkpoint tables) (entries_of rs) e) (sym c.as_slice.ensures.value) leads)))
 
 pub returns-in_err-read_units-clause-tells : goal.returns-in_err-read_units-clause-tells
 returns-in_err-read_units-clause-tells g c is =
@@ -75,9 +76,9 @@ returns-in_err-read_units-clause-tells g c is =
     let records = c.in_ok-journal.records.items in
     let stands = subst (λ (i : List ℕ). Stands active.region (entries_of records) i) (c.in_ok-tables.ensures.stays.same ∙ c.in_ok-active.ensures.stays.same) (c.in_ok-journal.ensures.stand is) in
     handed_on image c.read_units.result c.in_err-read_units.field-0.0 c.from_residual-in_err-read_units.result (search rules) (search rules)
-    (told image (λ at. StopsAt (at_checkpoint tables) records at)
+    (told image (λ at. StopsAt active.layout (at_checkpoint tables) records at)
     (λ at there. misplaced image active (c.in_ok-active.ensures.head is) tables laid records stands (c.in_ok-journal.ensures.records is).places at there)
-    c.read_units.result (subst (λ (rs : List Record). TellsDamage c.read_units.result (λ at. StopsAt (at_checkpoint tables) rs at)) c.as_slice.ensures.value c.read_units.ensures.tells))
+    c.read_units.result (subst (λ (rs : List Record). TellsDamage c.read_units.result (λ at. StopsAt active.layout (at_checkpoint tables) rs at)) c.as_slice.ensures.value c.read_units.ensures.tells))
 
 pub returns-in_err-hold_all-clause-opens : goal.returns-in_err-hold_all-clause-opens
 returns-in_err-hold_all-clause-opens g c name d is opens =
@@ -105,13 +106,14 @@ returns-in_err-hold_all-clause-tells g c is =
     let d = durable_of c.in_ok-read_units.field-0 in
     let journal = c.in_ok-journal.journal in
     let leads = subst (λ (rs : List Record). Leads (at_checkpoint tables) (entries_of rs) d) c.as_slice.ensures.value c.in_ok-read_units.ensures.leads in
+    let known = subst (λ (rs : List Record). AreKnown active.layout (entries_of rs)) c.as_slice.ensures.value c.in_ok-read_units.ensures.known in
     let same : doubts_in c.as_slice-3.result.now ≡ d.doubts = ap (λ (us : List PreparedUnit). doubts_in us) c.as_slice-3.ensures.value ∙ c.into_parts-store.ensures.units in
-    let tells = subst (λ (ds : Doubts). TellsDamage c.hold_all.result (λ at. (room_of journal < held_for ds) × TellsLast ds records at)) same
-    (subst (λ (rs : List Record). TellsDamage c.hold_all.result (λ at. (room_of journal < held_for (doubts_in c.as_slice-3.result.now)) × TellsLast (doubts_in c.as_slice-3.result.now) rs at)) c.as_slice-2.ensures.value c.hold_all.ensures.tells) in
+    let tells = subst (λ (ds : Doubts). TellsDamage c.hold_all.result (λ at. (room_of journal < held_for active.layout ds) × TellsLast ds records at)) same
+    (subst (λ (rs : List Record). TellsDamage c.hold_all.result (λ at. (room_of journal < held_for active.layout (doubts_in c.as_slice-3.result.now)) × TellsLast (doubts_in c.as_slice-3.result.now) rs at)) c.as_slice-2.ensures.value c.hold_all.ensures.tells) in
     handed_on image c.hold_all.result c.in_err-hold_all.field-0.0 c.from_residual-in_err-hold_all.result (search rules) (search rules)
-    (told image (λ at. (room_of journal < held_for d.doubts) × TellsLast d.doubts records at)
-    (λ at there. no_room image active (c.in_ok-active.ensures.head is) tables laid records stands (c.in_ok-journal.ensures.records is).places d leads
-    (is_short active.region journal (entries_of records) (held_for d.doubts) c.in_ok-journal.ensures.region.0 c.in_ok-journal.ensures.region.1 (c.in_ok-journal.ensures.records is).settled.next there.0) at there.1)
+    (told image (λ at. (room_of journal < held_for active.layout d.doubts) × TellsLast d.doubts records at)
+    (λ at there. no_room image active (c.in_ok-active.ensures.head is) tables laid records stands (c.in_ok-journal.ensures.records is).places d known leads
+    (is_short active.region journal (entries_of records) (held_for active.layout d.doubts) c.in_ok-journal.ensures.region.0 c.in_ok-journal.ensures.region.1 (c.in_ok-journal.ensures.records is).settled.next there.0) at there.1)
     c.hold_all.result tells)
 
 pub returns-clause-found : goal.returns-clause-found
@@ -124,12 +126,13 @@ returns-clause-found g c =
     let d = durable_of c.in_ok-read_units.field-0 in
     let tables_seen = c.in_ok-tables.ensures.stays.same ∙ c.in_ok-active.ensures.stays.same in
     let leads = subst (λ (rs : List Record). Leads (at_checkpoint tables) (entries_of rs) d) c.as_slice.ensures.value c.in_ok-read_units.ensures.leads in
+    let known = subst (λ (rs : List Record). AreKnown active.layout (entries_of rs)) c.as_slice.ensures.value c.in_ok-read_units.ensures.known in
     let units : List PreparedUnit = c.into_parts-store.result.1.items in
-    let held : held_of c.hold_all.new.journal ≡ held_for (doubts_in units) =
-    omega (arith, c.in_ok-hold_all.ensures.held, c.in_ok-journal.ensures.region.1, ap (λ (us : List PreparedUnit). held_for (doubts_in us)) c.as_slice-3.ensures.value) in
-    found_all g.D.Disk.is_modelled (life c.read_journal.new.disk) image active tables records d _ (c.in_ok-journal.ensures.stays.same ∙ tables_seen) leads
+    let held : held_of c.hold_all.new.journal ≡ held_for active.layout (doubts_in units) =
+    omega (arith, c.in_ok-hold_all.ensures.held, c.in_ok-journal.ensures.region.1, ap (λ (us : List PreparedUnit). held_for active.layout (doubts_in us)) c.as_slice-3.ensures.value) in
+    found_all g.D.Disk.is_modelled (life c.read_journal.new.disk) image active tables records d _ (c.in_ok-journal.ensures.stays.same ∙ tables_seen) known leads
     (λ i. record { store = c.into_parts-store.ensures.store i; doubts = c.into_parts-store.ensures.units i })
-    (c.in_ok-hold_all.ensures.same.0 ∙ c.in_ok-journal.ensures.region.0) held refl
+    (c.in_ok-hold_all.ensures.same.0 ∙ c.in_ok-journal.ensures.region.0) refl held refl
     c.records_lead_to_sound_states.ensures c.in_ok-tables.ensures.store c.in_ok-active.ensures.journal c.in_ok-active.ensures.head
     (λ is. subst (λ (i : List ℕ). HasCheckpoint i (pages_of active) tables) c.in_ok-active.ensures.stays.same (c.in_ok-tables.ensures.laid is))
     (λ is. settled_on g.D.Disk.is_modelled (life c.read_journal.new.disk) records c.in_ok-journal.journal c.hold_all.new.journal c.in_ok-hold_all.ensures.same (c.in_ok-journal.ensures.records is).settled)

@@ -5,16 +5,18 @@ use Rattle.unit_journal.specs.declared.record.Record.{Record}
 use Rattle.unit_records.proofs.Lengths.{first_left}
 use Rattle.table_store.specs.TableStore.{store_in}
 use Rattle.recovery.specs.Durable.{Durable}
+use Rattle.recovery.specs.Known.{AreKnown}
 use Rattle.recovery.specs.Replay.{durable_of}
-use Rattle.recovery.specs.Journal.{Leads, StopsAt}
+use Rattle.recovery.specs.Journal.{Leads, Replays, StopsAt}
 use Rattle.recovery.specs.declared.journal.ReplayError.TheVariants.{Damaged}
-use Rattle.recovery.proofs.Leading.{finds, leads_nowhere, stops_behind, stops_here}
+use Rattle.recovery.proofs.Leading.{finds, known_nowhere, leads_nowhere, stops_behind, stops_here}
 use Rattle.recovery.proofs.journal.replay.Goals as goal
 
 pub loop-left-init : goal.loop-left-init
 loop-left-init c = record {
+  known = λ here. here;
   leads = λ d here. subst (λ (s : Durable). Leads s (entries_of c.args.records.now) d) c.over-state.ensures here;
-  stops = λ at here. subst (λ (s : Durable). StopsAt s c.args.records.now at) c.over-state.ensures here;
+  stops = λ at here. subst (λ (s : Durable). StopsAt c.args.layout s c.args.records.now at) c.over-state.ensures here;
 }
 
 pub loop-left-preserved : goal.loop-left-preserved
@@ -23,8 +25,9 @@ loop-left-preserved c =
     let old = durable_of c.loop-left.state in
     let new = durable_of c.read_and_step.new.state in
     record {
-      leads = λ d rest. c.loop-left.invariant.leads d (subst (λ (l : List Record). Leads old (entries_of l) d) (sym first) (new, c.in-Ok.ensures, rest));
-      stops = λ at rest. c.loop-left.invariant.stops at (subst (λ (l : List Record). StopsAt old l at) (sym first) (stops_behind old new c.entry-item.result _ at c.in-Ok.ensures rest));
+      known = λ rest. c.loop-left.invariant.known (subst (λ (l : List Record). AreKnown c.args.layout (entries_of l)) (sym first) (c.in-Ok.ensures.0, rest));
+      leads = λ d rest. c.loop-left.invariant.leads d (subst (λ (l : List Record). Leads old (entries_of l) d) (sym first) (new, c.in-Ok.ensures.1, rest));
+      stops = λ at rest. c.loop-left.invariant.stops at (subst (λ (l : List Record). StopsAt c.args.layout old l at) (sym first) (stops_behind c.args.layout old new c.entry-item.result _ at c.in-Ok.ensures.0 c.in-Ok.ensures.1 rest));
     }
 
 pub returns-in-Err-Damaged-clause-replays : goal.returns-in-Err-Damaged-clause-replays
@@ -33,7 +36,7 @@ returns-in-Err-Damaged-clause-replays c =
     let old = durable_of c.loop-left.state in
     let at = c.entry-item.result.at in
     let none = rw c.in-Err-Damaged.field-0-is at c.in-Err-Damaged.ensures in
-    c.loop-left.invariant.stops at (subst (λ (l : List Record). StopsAt old l at) (sym first) (stops_here old c.entry-item.result _ none))
+    c.loop-left.invariant.stops at (subst (λ (l : List Record). StopsAt c.args.layout old l at) (sym first) (stops_here c.args.layout old c.entry-item.result _ none))
 
 pub returns-in-Err-Damaged-clause-finds : goal.returns-in-Err-Damaged-clause-finds
 returns-in-Err-Damaged-clause-finds c =
@@ -41,13 +44,19 @@ returns-in-Err-Damaged-clause-finds c =
     let old = durable_of c.loop-left.state in
     let at = c.entry-item.result.at in
     let none = rw c.in-Err-Damaged.field-0-is at c.in-Err-Damaged.ensures in
-    let told = c.loop-left.invariant.stops at (subst (λ (l : List Record). StopsAt old l at) (sym first) (stops_here old c.entry-item.result _ none)) in
-    finds c.records_lead_one_way.ensures.one c.records_lead_one_way.ensures.damage (store_in c.args.checkpoint) c.args.records.now (Err (Damaged at)) told
+    let told = c.loop-left.invariant.stops at (subst (λ (l : List Record). StopsAt c.args.layout old l at) (sym first) (stops_here c.args.layout old c.entry-item.result _ none)) in
+    finds c.records_lead_one_way.ensures.one c.records_lead_one_way.ensures.damage c.args.layout (store_in c.args.checkpoint) c.args.records.now (Err (Damaged at)) told
 
 pub returns-clause-replays : goal.returns-clause-replays
-returns-clause-replays c = c.loop-left.invariant.leads (durable_of c.loop-left.state) (leads_nowhere (durable_of c.loop-left.state) c.loop-left.left.now c.in_default.len_below)
+returns-clause-replays c = (
+  c.loop-left.invariant.known (known_nowhere c.args.layout c.loop-left.left.now c.in_default.len_below),
+  c.loop-left.invariant.leads (durable_of c.loop-left.state) (leads_nowhere (durable_of c.loop-left.state) c.loop-left.left.now c.in_default.len_below),
+)
 
 pub returns-clause-finds : goal.returns-clause-finds
 returns-clause-finds c =
-    let told = c.loop-left.invariant.leads (durable_of c.loop-left.state) (leads_nowhere (durable_of c.loop-left.state) c.loop-left.left.now c.in_default.len_below) in
-    finds c.records_lead_one_way.ensures.one c.records_lead_one_way.ensures.damage (store_in c.args.checkpoint) c.args.records.now (Ok c.loop-left.state) told
+    let told : Replays c.args.layout (store_in c.args.checkpoint) c.args.records.now (Ok c.loop-left.state) = (
+      c.loop-left.invariant.known (known_nowhere c.args.layout c.loop-left.left.now c.in_default.len_below),
+      c.loop-left.invariant.leads (durable_of c.loop-left.state) (leads_nowhere (durable_of c.loop-left.state) c.loop-left.left.now c.in_default.len_below),
+    ) in
+    finds c.records_lead_one_way.ensures.one c.records_lead_one_way.ensures.damage c.args.layout (store_in c.args.checkpoint) c.args.records.now (Ok c.loop-left.state) told

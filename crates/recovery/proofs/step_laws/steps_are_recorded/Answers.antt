@@ -1,6 +1,7 @@
 use Rattle.recovery.proofs.KeptSteps.{steps_keep}
 use Rattle.recovery.proofs.DueRecords.{decisions_are_of_doubts, records_lead}
 use Rattle.recovery.proofs.Silent.{silent_steps_stay}
+use Rattle.recovery.proofs.DueKinds.{due_are_known}
 use Rattle.recovery.proofs.step_laws.steps_are_recorded.Goals as goal
 
 pub returns-clause-keep : goal.returns-clause-keep
@@ -17,3 +18,6 @@ returns-clause-lead c = records_lead c.actions_fit_states.ensures
 
 pub returns-clause-decisions : goal.returns-clause-decisions
 returns-clause-decisions c = decisions_are_of_doubts c.doubts_hold_their_decisions.ensures c.actions_fit_states.ensures
+
+pub returns-clause-known : goal.returns-clause-known
+returns-clause-known c = due_are_known c.actions_fit_states.ensures

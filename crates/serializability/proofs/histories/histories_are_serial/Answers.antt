@@ -21,4 +21,5 @@ returns c =
       theirs = events_are_theirs;
       core = core_serializability laws;
       histories = serial.histories_are_serial laws c.units_in_doubt_wait.ensures c.actions_fit_states.ensures;
+      decided = serial.decided_histories_are_serial laws c.units_in_doubt_wait.ensures c.actions_fit_states.ensures;
     }

@@ -1,4 +1,4 @@
-use Rattle.std.proofs.Common.{rules, ◌≡◌, ◌∙◌, true, false, List, map, refl, ap, subst, string_bytes}
+use Rattle.std.proofs.Common.{rules, arith, ◌≡◌, ◌∙◌, true, false, List, map, refl, ap, subst, string_bytes}
 use Rattle.unit_journal.specs.Record.{entries_of}
 use Rattle.unit_journal.specs.declared.record.Record.{Record}
 use Rattle.tables.specs.Tables.{Store as Tables}
@@ -6,8 +6,9 @@ use Rattle.core_model.specs.Step.{CoreState}
 use Rattle.rdb_core.specs.State.{recorder_of, state_of}
 use Rattle.journal_recorder.specs.Recording.{has_failed}
 use Rattle.table_store.specs.TableStore.{store_in}
+use Rattle.recovery.proofs.Doubts.{xids_count}
 use Rattle.recovery.specs.Journal.{AreGood}
-use Rattle.recovery.specs.Laying.{prepares_of}
+use Rattle.recovery.specs.Laying.{records_of}
 use Rattle.unit_records.specs.Records.{entry_of}
 use Rattle.recovery.specs.Journaled.{Journaled, OnDisk, shown_on}
 use Rattle.recovery.specs.Part.{durable_part}
@@ -15,6 +16,11 @@ use Rattle.durable_core.specs.Recorded.{core_on}
 use Rattle.durable_core.proofs.Recording.{stays_failed}
 use Rattle.durable_core.proofs.Switching.{Laws, kept_journaled, kept_so, open_journaled, switched_journaled, switched_so, untouched_journaled}
 use Rattle.durable_core.proofs.durable.DurableCore.checkpoint.Goals as goal
+
+pub held_in-held-requires : goal.held_in-held-requires
+held_in-held-requires g c =
+    let count = xids_count (state_of c.self.inside.core).branches in
+    record { few = omega (arith, count, c.self.invariant.kept.table.in_doubt) }
 
 pub returns-then-is_failed-clause-journaled : goal.returns-then-is_failed-clause-journaled
 returns-then-is_failed-clause-journaled g c =
@@ -51,9 +57,9 @@ invariant_of-self-in-Ok-checkpoint g c =
     let t : CoreState = record s { base = record s.base { store = T } } in
     let same : t ≡ s = ap (λ (x : Tables). let y : CoreState = record s { base = record s.base { store = x } } in y) c.in-Ok-find_places.ensures.store in
     let laws : Laws = record { moments = c.moments_hold.ensures; laid = c.doubts_are_laid.ensures; sound = c.records_lead_to_sound_states.ensures; stores = c.checkpoints_are_known.ensures.stores } in
-    let are : entries_of c.as_slice-2.result.now ≡ map entry_of (prepares_of (durable_part s).doubts) = ap (λ (l : List Record). entries_of l) c.as_slice-2.ensures.value ∙ c.in-Ok.ensures in
-    let placed = λ (good : AreGood (prepares_of (durable_part s).doubts)). c.in-Ok-find_places.ensures.placed (durable_part s).doubts good (ap (λ (l : List Record). entries_of l) c.as_slice.ensures.value ∙ c.in-Ok.ensures) in
-    switched_so modelled life name laws s r c.self.invariant going (entries_of c.as_slice-2.result.now) are placed T c.in-Ok-find_places.ensures.store t same c.checkpoint.new.self c.in-Ok-checkpoint.ensures
+    let are : entries_of c.as_slice-2.result.now ≡ map entry_of (records_of (durable_part s).doubts) = ap (λ (l : List Record). entries_of l) c.as_slice-2.ensures.value ∙ c.in-Ok.ensures in
+    let placed = λ (good : AreGood (records_of (durable_part s).doubts)). c.in-Ok-find_places.ensures.placed (durable_part s).doubts good (ap (λ (l : List Record). entries_of l) c.as_slice.ensures.value ∙ c.in-Ok.ensures) in
+    switched_so modelled life name laws s r c.self.invariant going (entries_of c.as_slice-2.result.now) are placed c.held_in-held.result c.held_in-held.ensures T c.in-Ok-find_places.ensures.store t same c.checkpoint.new.self c.in-Ok-checkpoint.ensures
 
 pub returns-in-Ok-checkpoint-clause-journaled : goal.returns-in-Ok-checkpoint-clause-journaled
 returns-in-Ok-checkpoint-clause-journaled g c =
@@ -67,10 +73,10 @@ returns-in-Ok-checkpoint-clause-journaled g c =
     let t : CoreState = record s { base = record s.base { store = T } } in
     let same : t ≡ s = ap (λ (x : Tables). let y : CoreState = record s { base = record s.base { store = x } } in y) c.in-Ok-find_places.ensures.store in
     let laws : Laws = record { moments = c.moments_hold.ensures; laid = c.doubts_are_laid.ensures; sound = c.records_lead_to_sound_states.ensures; stores = c.checkpoints_are_known.ensures.stores } in
-    let are : entries_of c.as_slice-2.result.now ≡ map entry_of (prepares_of (durable_part s).doubts) = ap (λ (l : List Record). entries_of l) c.as_slice-2.ensures.value ∙ c.in-Ok.ensures in
-    let placed = λ (good : AreGood (prepares_of (durable_part s).doubts)). c.in-Ok-find_places.ensures.placed (durable_part s).doubts good (ap (λ (l : List Record). entries_of l) c.as_slice.ensures.value ∙ c.in-Ok.ensures) in
+    let are : entries_of c.as_slice-2.result.now ≡ map entry_of (records_of (durable_part s).doubts) = ap (λ (l : List Record). entries_of l) c.as_slice-2.ensures.value ∙ c.in-Ok.ensures in
+    let placed = λ (good : AreGood (records_of (durable_part s).doubts)). c.in-Ok-find_places.ensures.placed (durable_part s).doubts good (ap (λ (l : List Record). entries_of l) c.as_slice.ensures.value ∙ c.in-Ok.ensures) in
     subst (λ (old : OnDisk g.row.D.Denot). Journaled modelled (shown_on life old) (shown_on life (core_on name t c.checkpoint.new.self))) c.self.view_is
-    (switched_journaled modelled life name laws s r c.self.invariant going (entries_of c.as_slice-2.result.now) are placed T c.in-Ok-find_places.ensures.store t same c.checkpoint.new.self c.in-Ok-checkpoint.ensures)
+    (switched_journaled modelled life name laws s r c.self.invariant going (entries_of c.as_slice-2.result.now) are placed c.held_in-held.result c.held_in-held.ensures T c.in-Ok-find_places.ensures.store t same c.checkpoint.new.self c.in-Ok-checkpoint.ensures)
 
 pub invariant_of-self-in-Err-NoMemory : goal.invariant_of-self-in-Err-NoMemory
 invariant_of-self-in-Err-NoMemory g c =
@@ -84,9 +90,9 @@ invariant_of-self-in-Err-NoMemory g c =
     let t : CoreState = record s { base = record s.base { store = T } } in
     let same : t ≡ s = ap (λ (x : Tables). let y : CoreState = record s { base = record s.base { store = x } } in y) c.in-Ok-find_places.ensures.store in
     let laws : Laws = record { moments = c.moments_hold.ensures; laid = c.doubts_are_laid.ensures; sound = c.records_lead_to_sound_states.ensures; stores = c.checkpoints_are_known.ensures.stores } in
-    let are : entries_of c.as_slice-2.result.now ≡ map entry_of (prepares_of (durable_part s).doubts) = ap (λ (l : List Record). entries_of l) c.as_slice-2.ensures.value ∙ c.in-Ok.ensures in
-    let placed = λ (good : AreGood (prepares_of (durable_part s).doubts)). c.in-Ok-find_places.ensures.placed (durable_part s).doubts good (ap (λ (l : List Record). entries_of l) c.as_slice.ensures.value ∙ c.in-Ok.ensures) in
-    kept_so modelled life name laws s r c.self.invariant going (entries_of c.as_slice-2.result.now) are placed T c.in-Ok-find_places.ensures.store t same c.checkpoint.new.self (rw c.in-Err-NoMemory.field-0-is at c.in-Err-NoMemory.ensures)
+    let are : entries_of c.as_slice-2.result.now ≡ map entry_of (records_of (durable_part s).doubts) = ap (λ (l : List Record). entries_of l) c.as_slice-2.ensures.value ∙ c.in-Ok.ensures in
+    let placed = λ (good : AreGood (records_of (durable_part s).doubts)). c.in-Ok-find_places.ensures.placed (durable_part s).doubts good (ap (λ (l : List Record). entries_of l) c.as_slice.ensures.value ∙ c.in-Ok.ensures) in
+    kept_so modelled life name laws s r c.self.invariant going (entries_of c.as_slice-2.result.now) are placed c.held_in-held.result c.held_in-held.ensures T c.in-Ok-find_places.ensures.store t same c.checkpoint.new.self (rw c.in-Err-NoMemory.field-0-is at c.in-Err-NoMemory.ensures)
 
 pub returns-in-Err-NoMemory-clause-journaled : goal.returns-in-Err-NoMemory-clause-journaled
 returns-in-Err-NoMemory-clause-journaled g c =
@@ -100,10 +106,10 @@ returns-in-Err-NoMemory-clause-journaled g c =
     let t : CoreState = record s { base = record s.base { store = T } } in
     let same : t ≡ s = ap (λ (x : Tables). let y : CoreState = record s { base = record s.base { store = x } } in y) c.in-Ok-find_places.ensures.store in
     let laws : Laws = record { moments = c.moments_hold.ensures; laid = c.doubts_are_laid.ensures; sound = c.records_lead_to_sound_states.ensures; stores = c.checkpoints_are_known.ensures.stores } in
-    let are : entries_of c.as_slice-2.result.now ≡ map entry_of (prepares_of (durable_part s).doubts) = ap (λ (l : List Record). entries_of l) c.as_slice-2.ensures.value ∙ c.in-Ok.ensures in
-    let placed = λ (good : AreGood (prepares_of (durable_part s).doubts)). c.in-Ok-find_places.ensures.placed (durable_part s).doubts good (ap (λ (l : List Record). entries_of l) c.as_slice.ensures.value ∙ c.in-Ok.ensures) in
+    let are : entries_of c.as_slice-2.result.now ≡ map entry_of (records_of (durable_part s).doubts) = ap (λ (l : List Record). entries_of l) c.as_slice-2.ensures.value ∙ c.in-Ok.ensures in
+    let placed = λ (good : AreGood (records_of (durable_part s).doubts)). c.in-Ok-find_places.ensures.placed (durable_part s).doubts good (ap (λ (l : List Record). entries_of l) c.as_slice.ensures.value ∙ c.in-Ok.ensures) in
     subst (λ (old : OnDisk g.row.D.Denot). Journaled modelled (shown_on life old) (shown_on life (core_on name t c.checkpoint.new.self))) c.self.view_is
-    (kept_journaled modelled life name laws s r c.self.invariant going (entries_of c.as_slice-2.result.now) are placed T c.in-Ok-find_places.ensures.store t same c.checkpoint.new.self (rw c.in-Err-NoMemory.field-0-is at c.in-Err-NoMemory.ensures))
+    (kept_journaled modelled life name laws s r c.self.invariant going (entries_of c.as_slice-2.result.now) are placed c.held_in-held.result c.held_in-held.ensures T c.in-Ok-find_places.ensures.store t same c.checkpoint.new.self (rw c.in-Err-NoMemory.field-0-is at c.in-Err-NoMemory.ensures))
 
 pub invariant_of-self-in-Err-Full : goal.invariant_of-self-in-Err-Full
 invariant_of-self-in-Err-Full g c =
@@ -117,9 +123,9 @@ invariant_of-self-in-Err-Full g c =
     let t : CoreState = record s { base = record s.base { store = T } } in
     let same : t ≡ s = ap (λ (x : Tables). let y : CoreState = record s { base = record s.base { store = x } } in y) c.in-Ok-find_places.ensures.store in
     let laws : Laws = record { moments = c.moments_hold.ensures; laid = c.doubts_are_laid.ensures; sound = c.records_lead_to_sound_states.ensures; stores = c.checkpoints_are_known.ensures.stores } in
-    let are : entries_of c.as_slice-2.result.now ≡ map entry_of (prepares_of (durable_part s).doubts) = ap (λ (l : List Record). entries_of l) c.as_slice-2.ensures.value ∙ c.in-Ok.ensures in
-    let placed = λ (good : AreGood (prepares_of (durable_part s).doubts)). c.in-Ok-find_places.ensures.placed (durable_part s).doubts good (ap (λ (l : List Record). entries_of l) c.as_slice.ensures.value ∙ c.in-Ok.ensures) in
-    kept_so modelled life name laws s r c.self.invariant going (entries_of c.as_slice-2.result.now) are placed T c.in-Ok-find_places.ensures.store t same c.checkpoint.new.self (rw c.in-Err-Full.field-0-is at c.in-Err-Full.ensures).0
+    let are : entries_of c.as_slice-2.result.now ≡ map entry_of (records_of (durable_part s).doubts) = ap (λ (l : List Record). entries_of l) c.as_slice-2.ensures.value ∙ c.in-Ok.ensures in
+    let placed = λ (good : AreGood (records_of (durable_part s).doubts)). c.in-Ok-find_places.ensures.placed (durable_part s).doubts good (ap (λ (l : List Record). entries_of l) c.as_slice.ensures.value ∙ c.in-Ok.ensures) in
+    kept_so modelled life name laws s r c.self.invariant going (entries_of c.as_slice-2.result.now) are placed c.held_in-held.result c.held_in-held.ensures T c.in-Ok-find_places.ensures.store t same c.checkpoint.new.self (rw c.in-Err-Full.field-0-is at c.in-Err-Full.ensures).0
 
 pub returns-in-Err-Full-clause-journaled : goal.returns-in-Err-Full-clause-journaled
 returns-in-Err-Full-clause-journaled g c =
@@ -133,10 +139,10 @@ returns-in-Err-Full-clause-journaled g c =
     let t : CoreState = record s { base = record s.base { store = T } } in
     let same : t ≡ s = ap (λ (x : Tables). let y : CoreState = record s { base = record s.base { store = x } } in y) c.in-Ok-find_places.ensures.store in
     let laws : Laws = record { moments = c.moments_hold.ensures; laid = c.doubts_are_laid.ensures; sound = c.records_lead_to_sound_states.ensures; stores = c.checkpoints_are_known.ensures.stores } in
-    let are : entries_of c.as_slice-2.result.now ≡ map entry_of (prepares_of (durable_part s).doubts) = ap (λ (l : List Record). entries_of l) c.as_slice-2.ensures.value ∙ c.in-Ok.ensures in
-    let placed = λ (good : AreGood (prepares_of (durable_part s).doubts)). c.in-Ok-find_places.ensures.placed (durable_part s).doubts good (ap (λ (l : List Record). entries_of l) c.as_slice.ensures.value ∙ c.in-Ok.ensures) in
+    let are : entries_of c.as_slice-2.result.now ≡ map entry_of (records_of (durable_part s).doubts) = ap (λ (l : List Record). entries_of l) c.as_slice-2.ensures.value ∙ c.in-Ok.ensures in
+    let placed = λ (good : AreGood (records_of (durable_part s).doubts)). c.in-Ok-find_places.ensures.placed (durable_part s).doubts good (ap (λ (l : List Record). entries_of l) c.as_slice.ensures.value ∙ c.in-Ok.ensures) in
     subst (λ (old : OnDisk g.row.D.Denot). Journaled modelled (shown_on life old) (shown_on life (core_on name t c.checkpoint.new.self))) c.self.view_is
-    (kept_journaled modelled life name laws s r c.self.invariant going (entries_of c.as_slice-2.result.now) are placed T c.in-Ok-find_places.ensures.store t same c.checkpoint.new.self (rw c.in-Err-Full.field-0-is at c.in-Err-Full.ensures).0)
+    (kept_journaled modelled life name laws s r c.self.invariant going (entries_of c.as_slice-2.result.now) are placed c.held_in-held.result c.held_in-held.ensures T c.in-Ok-find_places.ensures.store t same c.checkpoint.new.self (rw c.in-Err-Full.field-0-is at c.in-Err-Full.ensures).0)
 
 pub returns-clause-journaled : goal.returns-clause-journaled
 returns-clause-journaled g c =
@@ -150,7 +156,7 @@ returns-clause-journaled g c =
     let t : CoreState = record s { base = record s.base { store = T } } in
     let same : t ≡ s = ap (λ (x : Tables). let y : CoreState = record s { base = record s.base { store = x } } in y) c.in-Ok-find_places.ensures.store in
     let laws : Laws = record { moments = c.moments_hold.ensures; laid = c.doubts_are_laid.ensures; sound = c.records_lead_to_sound_states.ensures; stores = c.checkpoints_are_known.ensures.stores } in
-    let are : entries_of c.as_slice-2.result.now ≡ map entry_of (prepares_of (durable_part s).doubts) = ap (λ (l : List Record). entries_of l) c.as_slice-2.ensures.value ∙ c.in-Ok.ensures in
-    let placed = λ (good : AreGood (prepares_of (durable_part s).doubts)). c.in-Ok-find_places.ensures.placed (durable_part s).doubts good (ap (λ (l : List Record). entries_of l) c.as_slice.ensures.value ∙ c.in-Ok.ensures) in
+    let are : entries_of c.as_slice-2.result.now ≡ map entry_of (records_of (durable_part s).doubts) = ap (λ (l : List Record). entries_of l) c.as_slice-2.ensures.value ∙ c.in-Ok.ensures in
+    let placed = λ (good : AreGood (records_of (durable_part s).doubts)). c.in-Ok-find_places.ensures.placed (durable_part s).doubts good (ap (λ (l : List Record). entries_of l) c.as_slice.ensures.value ∙ c.in-Ok.ensures) in
     subst (λ (old : OnDisk g.row.D.Denot). Journaled modelled (shown_on life old) (shown_on life (core_on name t c.checkpoint.new.self))) c.self.view_is
-    (open_journaled modelled life name laws s r c.self.invariant going (entries_of c.as_slice-2.result.now) are placed T c.in-Ok-find_places.ensures.store t same c.checkpoint.new.self (rw c.in-Err-DeviceFailed.field-0-is at c.in-Err-DeviceFailed.ensures))
+    (open_journaled modelled life name laws s r c.self.invariant going (entries_of c.as_slice-2.result.now) are placed c.held_in-held.result c.held_in-held.ensures T c.in-Ok-find_places.ensures.store t same c.checkpoint.new.self (rw c.in-Err-DeviceFailed.field-0-is at c.in-Err-DeviceFailed.ensures))

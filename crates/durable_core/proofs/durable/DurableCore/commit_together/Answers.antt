@@ -16,6 +16,7 @@ returns-then-not-may_go_together-clause-journaled g c =
       keep = c.commits_are_recorded.ensures.keep;
       silent = c.commits_are_recorded.ensures.silent;
       lead = c.commits_are_recorded.ensures.lead;
+      known = c.commits_are_recorded.ensures.known;
       laws = record { held_for_doubts = c.doubts_hold_their_decisions.ensures; records_stay = c.records_stay.ensures; calls_made = c.calls_make_records.ensures };
     })
     (state_of c.self.inside.core) (recorder_of c.self.inside.core) c.self.invariant going).journaled
@@ -30,6 +31,7 @@ invariant_of-self g c =
       keep = c.commits_are_recorded.ensures.keep;
       silent = c.commits_are_recorded.ensures.silent;
       lead = c.commits_are_recorded.ensures.lead;
+      known = c.commits_are_recorded.ensures.known;
       laws = record { held_for_doubts = c.doubts_hold_their_decisions.ensures; records_stay = c.records_stay.ensures; calls_made = c.calls_make_records.ensures };
     })
     (state_of c.self.inside.core) (recorder_of c.self.inside.core) c.self.invariant going c.args.conversations.now (record { apart = apart; local = local }) c.commit_together.result (state_of c.commit_together.new.self) (recorder_of c.commit_together.new.self)
@@ -46,6 +48,7 @@ returns-clause-journaled g c =
       keep = c.commits_are_recorded.ensures.keep;
       silent = c.commits_are_recorded.ensures.silent;
       lead = c.commits_are_recorded.ensures.lead;
+      known = c.commits_are_recorded.ensures.known;
       laws = record { held_for_doubts = c.doubts_hold_their_decisions.ensures; records_stay = c.records_stay.ensures; calls_made = c.calls_make_records.ensures };
     })
     (state_of c.self.inside.core) (recorder_of c.self.inside.core) c.self.invariant going c.args.conversations.now (record { apart = apart; local = local }) c.commit_together.result (state_of c.commit_together.new.self) (recorder_of c.commit_together.new.self)

@@ -4,7 +4,7 @@ use Rattle.journal_recorder.specs.Recording.{has_failed}
 use Rattle.unit_records.specs.Phases.{may_go_through}
 use Rattle.recovery.specs.Journaled.{JournaledBy, OnDisk, shown_on}
 use Rattle.durable_core.specs.Recorded.{core_on}
-use Rattle.durable_core.proofs.Phasing.{left_by, same_left}
+use Rattle.durable_core.proofs.Phasing.{allowed, left_by, same_left}
 use Rattle.durable_core.proofs.durable.DurableCore.go_through.Goals as goal
 
 pub returns-then-not-may_go_through-clause-journaled : goal.returns-then-not-may_go_through-clause-journaled
@@ -15,6 +15,8 @@ returns-then-not-may_go_through-clause-journaled g c =
     (record {
       keep = c.phases_are_recorded.ensures.keep;
       lead = c.phases_are_recorded.ensures.lead;
+      of_doubts = c.phases_are_recorded.ensures.decisions;
+      known = c.phases_are_recorded.ensures.known;
       held = c.decisions_of_all_are_held.ensures;
       stay = c.groups_stay.ensures;
       calls = c.calls_make_records.ensures;
@@ -22,6 +24,24 @@ returns-then-not-may_go_through-clause-journaled g c =
       go_on = c.groups_go_on.ensures;
     })
     (state_of c.self.inside.core) (recorder_of c.self.inside.core) c.self.invariant going (length c.args.calls.now)).journaled
+
+pub go_through-requires-clause-allowed : goal.go_through-requires-clause-allowed
+go_through-requires-clause-allowed g c =
+    let going : has_failed (recorder_of c.self.inside.core) ≡ false = search rules in
+    let may : may_go_through c.args.phase (state_of c.self.inside.core) c.args.calls.now ≡ true = search rules in
+    allowed g.D.Disk.is_modelled g.D.Disk.life (string_bytes c.self.inside.name)
+    (record {
+      keep = c.phases_are_recorded.ensures.keep;
+      lead = c.phases_are_recorded.ensures.lead;
+      of_doubts = c.phases_are_recorded.ensures.decisions;
+      known = c.phases_are_recorded.ensures.known;
+      held = c.decisions_of_all_are_held.ensures;
+      stay = c.groups_stay.ensures;
+      calls = c.calls_make_records.ensures;
+      groups = c.calls_make_groups.ensures;
+      go_on = c.groups_go_on.ensures;
+    })
+    (state_of c.self.inside.core) (recorder_of c.self.inside.core) c.self.invariant going c.args.phase c.args.calls.now may
 
 pub invariant_of-self : goal.invariant_of-self
 invariant_of-self g c =
@@ -31,6 +51,8 @@ invariant_of-self g c =
     (record {
       keep = c.phases_are_recorded.ensures.keep;
       lead = c.phases_are_recorded.ensures.lead;
+      of_doubts = c.phases_are_recorded.ensures.decisions;
+      known = c.phases_are_recorded.ensures.known;
       held = c.decisions_of_all_are_held.ensures;
       stay = c.groups_stay.ensures;
       calls = c.calls_make_records.ensures;
@@ -49,6 +71,8 @@ returns-clause-journaled g c =
     (record {
       keep = c.phases_are_recorded.ensures.keep;
       lead = c.phases_are_recorded.ensures.lead;
+      of_doubts = c.phases_are_recorded.ensures.decisions;
+      known = c.phases_are_recorded.ensures.known;
       held = c.decisions_of_all_are_held.ensures;
       stay = c.groups_stay.ensures;
       calls = c.calls_make_records.ensures;

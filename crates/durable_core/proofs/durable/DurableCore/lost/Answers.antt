@@ -18,6 +18,7 @@ invariant_of-self g c =
       silent = c.steps_are_recorded.ensures.silent;
       lead = c.steps_are_recorded.ensures.lead;
       of_doubts = c.steps_are_recorded.ensures.decisions;
+      known = c.steps_are_recorded.ensures.known;
       laws = record { held_for_doubts = c.doubts_hold_their_decisions.ensures; records_stay = c.records_stay.ensures; calls_made = c.calls_make_records.ensures };
     })
     (state_of c.self.inside.core) (recorder_of c.self.inside.core) c.self.invariant going c.args.conversation lost (answer_of c.lost.result) (state_of c.lost.new.self) (recorder_of c.lost.new.self) c.lost.ensures).recorded
@@ -32,6 +33,7 @@ returns-clause-journaled g c =
       silent = c.steps_are_recorded.ensures.silent;
       lead = c.steps_are_recorded.ensures.lead;
       of_doubts = c.steps_are_recorded.ensures.decisions;
+      known = c.steps_are_recorded.ensures.known;
       laws = record { held_for_doubts = c.doubts_hold_their_decisions.ensures; records_stay = c.records_stay.ensures; calls_made = c.calls_make_records.ensures };
     })
     (state_of c.self.inside.core) (recorder_of c.self.inside.core) c.self.invariant going c.args.conversation lost (answer_of c.lost.result) (state_of c.lost.new.self) (recorder_of c.lost.new.self) c.lost.ensures).journaled

@@ -20,6 +20,7 @@ step-requires g c =
             silent = c.steps_are_recorded.ensures.silent;
             lead = c.steps_are_recorded.ensures.lead;
             of_doubts = c.steps_are_recorded.ensures.decisions;
+            known = c.steps_are_recorded.ensures.known;
             laws = record { held_for_doubts = c.doubts_hold_their_decisions.ensures; records_stay = c.records_stay.ensures; calls_made = c.calls_make_records.ensures };
           })
           (state_of c.self.inside.core) (recorder_of c.self.inside.core) c.self.invariant going c.args.conversation (call_of c.args.call.now);
@@ -34,6 +35,7 @@ invariant_of-self g c =
       silent = c.steps_are_recorded.ensures.silent;
       lead = c.steps_are_recorded.ensures.lead;
       of_doubts = c.steps_are_recorded.ensures.decisions;
+      known = c.steps_are_recorded.ensures.known;
       laws = record { held_for_doubts = c.doubts_hold_their_decisions.ensures; records_stay = c.records_stay.ensures; calls_made = c.calls_make_records.ensures };
     })
     (state_of c.self.inside.core) (recorder_of c.self.inside.core) c.self.invariant going c.args.conversation (call_of c.args.call.now) (answer_of c.step.result) (state_of c.step.new.self) (recorder_of c.step.new.self) c.step.ensures.sure c.step.ensures.step).recorded
@@ -48,6 +50,7 @@ returns-clause-step g c =
       silent = c.steps_are_recorded.ensures.silent;
       lead = c.steps_are_recorded.ensures.lead;
       of_doubts = c.steps_are_recorded.ensures.decisions;
+      known = c.steps_are_recorded.ensures.known;
       laws = record { held_for_doubts = c.doubts_hold_their_decisions.ensures; records_stay = c.records_stay.ensures; calls_made = c.calls_make_records.ensures };
     })
     (state_of c.self.inside.core) (recorder_of c.self.inside.core) c.self.invariant going c.args.conversation (call_of c.args.call.now) (answer_of c.step.result) (state_of c.step.new.self) (recorder_of c.step.new.self) c.step.ensures.sure c.step.ensures.step).steps
@@ -62,6 +65,7 @@ returns-clause-journaled g c =
       silent = c.steps_are_recorded.ensures.silent;
       lead = c.steps_are_recorded.ensures.lead;
       of_doubts = c.steps_are_recorded.ensures.decisions;
+      known = c.steps_are_recorded.ensures.known;
       laws = record { held_for_doubts = c.doubts_hold_their_decisions.ensures; records_stay = c.records_stay.ensures; calls_made = c.calls_make_records.ensures };
     })
     (state_of c.self.inside.core) (recorder_of c.self.inside.core) c.self.invariant going c.args.conversation (call_of c.args.call.now) (answer_of c.step.result) (state_of c.step.new.self) (recorder_of c.step.new.self) c.step.ensures.sure c.step.ensures.step).journaled

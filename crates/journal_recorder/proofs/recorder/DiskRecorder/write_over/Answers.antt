@@ -1,16 +1,14 @@
-use Rattle.std.proofs.Common.{ℕ, ◌≤◌, length, List, refl, ◌∙◌, subst}
+use Rattle.std.proofs.Common.{ℕ, refl, subst}
 use Rattle.half_store.specs.Active.{Store}
-use Rattle.half_store.specs.Layout.{half_len}
+use Rattle.half_store.specs.declared.header.Layout.TheVariants.{Two}
 use Rattle.tables.specs.Tables.{Store as Tables}
 use Rattle.drda_disk.specs.Disk.{LeavesOnly}
-use Rattle.unit_journal.specs.Journal.{held_of}
 use Rattle.unit_journal.specs.Record.{entries_of}
 use Rattle.journal_recorder.specs.declared.recorder.DiskRecorder.{DiskRecorder}
 use Rattle.half_store.specs.Opened.{store_of}
 use Rattle.checkpoints.specs.Moment.{Moment}
-use Rattle.checkpoints.specs.Room.{need_of}
 use Rattle.journal_recorder.specs.Checkpointing.{IsSwitched, Switches}
-use Rattle.journal_recorder.specs.Recording.{disk_of, journal_of}
+use Rattle.journal_recorder.specs.Recording.{disk_of}
 use Rattle.journal_recorder.proofs.Switching.{of_store, to_switched}
 use Rattle.journal_recorder.proofs.recorder.DiskRecorder.write_over.Goals as goal
 
@@ -23,18 +21,18 @@ returns-in-Ok g c =
     let disk = life c.write_checkpoint.new.disk in
     let es = entries_of c.args.records.now in
     let active = c.args.active.now in
+    let hold : ℕ = c.args.held in
     let told = c.in-Ok.ensures in
-    let new : DiskRecorder g.row.D.Denot = record old { disk = c.write_checkpoint.new.disk; journal = c.in-Ok.switched.journal } in
-    let held : ℕ = held_of (journal_of old) in
-    subst (λ (t : Tables). Switches modelled life old t es new) c.lend-left.ensures (record {
-      stays = record { size = told.size; held = told.held ∙ c.held-held.ensures; made = refl };
-      moments = of_store modelled life old active c.requires.active (λ (s : Store). LeavesOnly (life (disk_of old)) disk (Moment base s c.lend-left.result es held))
-          (λ rests. subst (λ (n : ℕ). LeavesOnly (life (disk_of old)) disk (Moment base (store_of active) c.lend-left.result es n)) c.held-held.ensures (told.any_moment rests));
-      switched = of_store modelled life old active c.requires.active (λ (s : Store). IsSwitched modelled disk base s c.lend-left.result es held c.in-Ok.switched.journal)
-          (λ rests. subst (λ (n : ℕ). IsSwitched modelled disk base (store_of active) c.lend-left.result es n c.in-Ok.switched.journal) c.held-held.ensures
-          (to_switched modelled disk base (store_of active) c.lend-left.result es c.held-held.result c.in-Ok.switched (told.done rests)));
+    let new : DiskRecorder g.row.D.Denot = record old { disk = c.write_checkpoint.new.disk; journal = c.in-Ok.switched.journal; layout = Two } in
+    subst (λ (t : Tables). Switches modelled life old t es hold new) c.lend-left.ensures (record {
+      stays = record { size = told.size; made = refl };
+      moments = of_store modelled life old active c.requires.active (λ (s : Store). LeavesOnly (life (disk_of old)) disk (Moment base s c.lend-left.result es hold)) told.any_moment;
+      switched = of_store modelled life old active c.requires.active (λ (s : Store). IsSwitched modelled disk base s c.lend-left.result es hold c.in-Ok.switched.journal)
+          (λ rests. to_switched modelled disk base (store_of active) c.lend-left.result es hold c.in-Ok.switched (told.done rests));
+      held = told.held;
+      layout = refl;
       inside = told.inside;
-      fits = subst (λ (n : ℕ). need_of c.lend-left.result es n ≤ half_len (length base)) c.held-held.ensures told.full;
+      fits = told.full;
       faults = told.cause;
       going = c.requires.going;
     })
