@@ -89,9 +89,21 @@ class Manager:
                 if unit.format_id == FORMAT:
                     number = int.from_bytes(unit.global_transaction_id, "big")
                     is_committed = number in self.log.committed
-                    (store.connection.tpc_commit if is_committed else store.connection.tpc_rollback)(unit)
+                    try:
+                        (store.connection.tpc_commit if is_committed else store.connection.tpc_rollback)(unit)
+                    except drdad.HeuristicError as told:
+                        self.note_heuristic(store, number, is_committed, told)
+                        store.connection.tpc_forget(unit)
+                        is_committed = told.is_committed
                     decided.append((store.name, number, is_committed))
         return decided
+
+    @staticmethod
+    def note_heuristic(store, number, is_committed, told):
+        """Somebody ran `drdad decide` in our place. Where that was the other way round, the store differs from the other one, and it
+        is for people to mend."""
+        if told.is_committed != is_committed:
+            print(f"move {number} differs at store {store.name}: {told}", file=sys.stderr, flush=True)
 
     def move(self, source, from_account, target, to_account, amount):
         """Moves an amount from an account of one store to one of the other. The number of the move; None where it was not made."""

@@ -2,7 +2,7 @@
 from .connection import Connection
 from .cursor import Cursor
 from .errors import (
-    DatabaseError, DataError, Error, IntegrityError, InterfaceError, InternalError, NotSupportedError, OperationalError,
+    DatabaseError, DataError, Error, HeuristicError, IntegrityError, InterfaceError, InternalError, NotSupportedError, OperationalError,
     ProgrammingError, Warning,
 )
 from .type_objects import (

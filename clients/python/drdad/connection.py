@@ -305,8 +305,13 @@ class Connection:
         self._branch = None
         self._sections.forget()
 
+    def tpc_forget(self, xid):
+        """Ends what is known of a branch that was decided heuristically: tpc_commit(xid) and tpc_rollback(xid) have told so, by
+        HeuristicError."""
+        self._decide(wire.FORGET, xid, "tpc_forget(xid)")
+
     def tpc_recover(self):
-        """The transaction IDs of all global units that are prepared and wait for a decision."""
+        """The transaction IDs of all global units that are in doubt: prepared, or decided heuristically and not yet forgotten."""
         self._check_open()
         listed = self._sync((wire.RECOVER, wire.TMSTARTRSCAN | wire.TMENDRSCAN))[1]
         with self._judged():
@@ -351,7 +356,7 @@ class Connection:
         return code
 
     def _decide(self, call, xid, what):
-        """Decides the prepared branch of a transaction ID."""
+        """Decides the branch in doubt of a transaction ID, or forgets it."""
         self._check_outside(what)
         if self._has_work:
             raise ProgrammingError(f"{what} comes behind a commit or a rollback")

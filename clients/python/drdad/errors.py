@@ -33,6 +33,15 @@ class OperationalError(DatabaseError):
     """The database, or the way to it, can't do it now."""
 
 
+class HeuristicError(OperationalError):
+    """The branch was decided without its transaction manager, which is told how: `is_committed`. The branch stays in doubt until
+    tpc_forget."""
+
+    @property
+    def is_committed(self):
+        return self.xacode == wire.XA_HEURCOM
+
+
 class IntegrityError(DatabaseError):
     """A key is there already, or a NULL where none is taken."""
 
@@ -83,6 +92,8 @@ MESSAGES = {
 }
 
 SAID_OF_XA = {
+    wire.XA_HEURRB: (HeuristicError, "the branch was rolled back heuristically, and is known until it is forgotten"),
+    wire.XA_HEURCOM: (HeuristicError, "the branch was committed heuristically, and is known until it is forgotten"),
     wire.XA_RBROLLBACK: (OperationalError, "the branch was rolled back"),
     wire.XAER_RMERR: (OperationalError, "a limit of the server is reached"),
     wire.XAER_NOTA: (ProgrammingError, "the transaction ID is not known"),

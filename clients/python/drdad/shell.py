@@ -11,7 +11,8 @@ HELP = r"""Statements go over lines and end with ;   A line that begins with -- 
 \prepare                prepares it (and ends the work in it)
 \commit [XID]           commits the unit under way, or the prepared one of an XID
 \rollback [XID]         rolls it back
-\recover                lists the XIDs of the global units that are prepared and wait for a decision
+\forget XID             ends what is known of a global unit that was decided heuristically (drdad decide)
+\recover                lists the XIDs of the global units in doubt: they wait for a decision, or to be forgotten
 \autocommit [on|off]    whether each statement is a unit of its own
 \timing [on|off]        whether it is said how long each thing took
 \d [TABLE]              the columns of a table
@@ -156,8 +157,8 @@ class Shell:
         self._splitter, self.has_failed, self._is_timed = Splitter(), False, True
         self._commands = {
             "begin": self._begin, "end": self._end, "prepare": self._prepare, "commit": self._commit, "rollback": self._roll_back,
-            "recover": self._recover, "autocommit": self._set_autocommit, "timing": self._set_timing, "d": self._describe,
-            "copy": self._copy, "?": self._help,
+            "forget": self._forget, "recover": self._recover, "autocommit": self._set_autocommit, "timing": self._set_timing,
+            "d": self._describe, "copy": self._copy, "?": self._help,
         }
 
     def prompt(self):
@@ -248,6 +249,10 @@ class Shell:
         else:
             connection.rollback()
         return "rolled back"
+
+    def _forget(self, text):
+        self._connection.tpc_forget(Xid.parse(text))
+        return "forgotten"
 
     def _recover(self, _):
         listed = self._connection.tpc_recover()

@@ -119,6 +119,18 @@ class Scripts(OfAShell):
         self.assertIn("0 in doubt", out)
         self.assertIn("in doubt\n1 row", out)
 
+    def test_a_global_unit_that_was_decided_heuristically(self):
+        self.assertEqual(self.ran(CREATE + "\\begin 1:6761:62\nINSERT INTO T VALUES (1, 'decided', NULL);\n\\prepare\n")[0], 0)
+        self.server.kill()
+        self.assertEqual(self.server.done("decide", self.server.store, "1", "6761", "62", "commit").returncode, 0)
+        self.server.start()
+        status, out, errors = self.ran("\\rollback 1:6761:62\n\\forget 1:6761:62\n\\recover\nSELECT V FROM T;\n")
+        self.assertEqual(status, 1)
+        self.assertIn("XA 7: the branch was committed heuristically", errors)
+        self.assertIn("forgotten", out)
+        self.assertIn("0 in doubt", out)
+        self.assertIn("decided\n1 row", out)
+
     def test_text_that_is_no_utf_8(self):
         status, _, errors = self.ran(CREATE.encode() + b"INSERT INTO T VALUES (1, '\xff', NULL);\nINSERT INTO T VALUES (2, 'x', NULL);\n")
         self.assertEqual(status, 1)

@@ -81,6 +81,39 @@ class TwoPhase(OverAServer):
         self.assertEqual(again.tpc_recover(), [])
         self.assertEqual(self.keys(again.cursor()), [0, 2])
 
+    def test_a_unit_that_was_decided_heuristically(self):
+        for word, is_committed, keys in (("commit", True, [0, 2]), ("rollback", False, [0, 1, 2])):
+            with self.subTest(word):
+                self.setUp()
+                connection, _ = self.begun()
+                connection.tpc_prepare()
+                self.server.kill()
+                words = str(UNIT.format_id), UNIT.global_transaction_id.hex(), UNIT.branch_qualifier.hex()
+                self.assertEqual(self.server.done("decide", self.server.store, *words, word).stdout, "decided\n")
+                self.server.start()
+                again = self.connect()
+                self.assertEqual(again.tpc_recover(), [UNIT])
+                for call in (again.tpc_commit, again.tpc_rollback):
+                    with self.assertRaises(drdad.HeuristicError) as raised:
+                        call(UNIT)
+                    self.assertEqual(raised.exception.is_committed, is_committed)
+                self.assertEqual(self.keys(again.cursor()), keys)
+                again.commit()
+                again.tpc_forget(UNIT)
+                self.assertEqual(again.tpc_recover(), [])
+                with self.assertRaises(drdad.ProgrammingError) as raised:
+                    again.tpc_forget(UNIT)
+                self.assertEqual(raised.exception.xacode, -4)
+
+    def test_a_unit_that_waits_is_not_forgotten(self):
+        connection, _ = self.begun()
+        connection.tpc_prepare()
+        connection.close()
+        again = self.connect()
+        with self.assertRaises(drdad.ProgrammingError) as raised:
+            again.tpc_forget(UNIT)
+        self.assertEqual((raised.exception.xacode, again.tpc_recover()), (-6, [UNIT]))
+
     def test_a_unit_that_is_not_prepared_is_lost_with_its_connection(self):
         connection, _ = self.begun()
         connection.close()
