@@ -83,6 +83,16 @@ def scans(rows, times):
     return setup, work
 
 
+def tests(rows, times):
+    """SELECT with two tests over so many rows of 96 bytes, none of which is found."""
+    setup, work = filled(rows, 80), drda.Script()
+    setup.add(drda.prepare("SELECT K FROM T WHERE V IS NOT NULL AND W > 5"), "SQLCARD null")
+    for _ in range(times):
+        work.add(drda.request(wire.OPNQRY, drda.section() + drda.block_size(32_767)), "OPNQRYRM", "QRYDSC", "ENDQRYRM", "SQLCARD 100")
+        work.commit()
+    return setup, work
+
+
 def branches(count):
     """XA start, INSERT by literals, end, prepare and commit, one row a branch."""
     work = drda.Script()

@@ -1,6 +1,6 @@
 /* sqlite WORD COUNT: what bench/counts/measure asks of drdad, in SQLite in memory with prepared statements: COUNT rows put in,
    each in a transaction of its own (insert) or 1,000 a transaction (batch); COUNT look-ups by key among 10,000 rows, each in a
-   transaction of its own up to 1,000 (point); COUNT rows of 96 bytes read from a table of 8,000 (scan). */
+   transaction of its own up to 1,000 (point); COUNT rows of 96 bytes read from a table of 8,000 (scan), or tested there and none found (test). */
 #include <sqlite3.h>
 #include <stdio.h>
 #include <stdlib.h>
@@ -92,6 +92,15 @@ static void scan(long count)
     }
 }
 
+static void test(long count)
+{
+    sqlite3_stmt *statement = prepared("SELECT k FROM t WHERE v IS NOT NULL AND w > 5");
+    for (long seen = 0; seen < count; seen += 8000) {
+        check(sqlite3_step(statement), SQLITE_DONE);
+        check(sqlite3_reset(statement), SQLITE_OK);
+    }
+}
+
 int main(int argc, char **words)
 {
     long count = argc == 3 ? atol(words[2]) : 0;
@@ -107,8 +116,11 @@ int main(int argc, char **words)
     } else if (argc == 3 && strcmp(words[1], "scan") == 0) {
         fill(8000, 88);
         scan(count);
+    } else if (argc == 3 && strcmp(words[1], "test") == 0) {
+        fill(8000, 80);
+        test(count);
     } else {
-        fprintf(stderr, "sqlite insert|batch|point|scan COUNT\n");
+        fprintf(stderr, "sqlite insert|batch|point|scan|test COUNT\n");
         return 2;
     }
     return 0;

@@ -40,6 +40,18 @@ one_counted wanted start list new rows i row same at so added =
 pub same_schema : (start new : RowList) (rows : List (List ℕ)) → new ≡ record start { rows = rows } → new.schema ≡ start.schema
 same_schema start new rows is = ap (λ (l : RowList). l.schema) is
 
+certain : (b : Bool) → (b ≡ false → ⊥) → b ≡ true
+certain true not_false = refl
+certain false not_false = absurd (not_false refl)
+
+never : true ≡ false → ⊥
+never e = cc
+
+-- where all rows pass, each one does
+pub row_passes : (p : List ℕ → Bool) (rows : List (List ℕ)) (i : ℕ) (row : List ℕ) → list_all p rows ≡ true → slice_get rows i ≡ Some row → p row ≡ true
+row_passes p rows i row all at =
+    certain (p row) (λ fails. never (sym all ∙ list_all_at p rows i row (slice_get_within rows i row at) (ap p (get_or_from_slice_get rows i row row at) ∙ fails)))
+
 alone : (schema : Schema) (row : List ℕ) (b : Bool) → is_row schema row ≡ b → list_all (is_row schema) (row ∷ []) ≡ false → b ≡ false
 alone schema row true is bad = sym (ap (λ (b : Bool). b && true) is) ∙ bad
 alone schema row false is bad = refl

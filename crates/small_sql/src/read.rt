@@ -20,21 +20,33 @@ use std::sync::Arc;
 use tables::laws::stores_hold_tables;
 use tables::{RowList, Rows, TableView};
 
-// Whether a row matches. Bytes that are no row of the schema are damaged.
-fn matches(schema: &Schema, row: &[u8], filter: &Filter) -> Result<bool, Damaged>
+// Whether a row matches. Bytes that are no row of the schema are damaged; a row of a view that is
+// trusted is not judged.
+fn matches(schema: &Schema, row: &[u8], filter: &Filter, is_trusted: bool) -> Result<bool, Damaged>
+    requires { is_trusted ≡ true → is_row schema.now row.now ≡ true }
     ensures matches { IfOk result (λ b. b ≡ passes filter.now (values_in schema.now row.now)) }
     ensures judged { is_ok result ≡ is_row schema.now row.now }
 {
-    let row = RowRef::parse(schema, row)?;
+    let row = if is_trusted {
+        RowRef::of_row(schema, row)
+    } else {
+        RowRef::parse(schema, row)?
+    };
     Ok(filter.matches(&row))
 }
 
 // Adds the row where it matches. Bytes that are no row of the schema are damaged.
-fn add_counted(list: &mut RowList, row: &[u8], wanted: &Filter) -> Result<(), ReadError>
+fn add_counted(
+    list: &mut RowList,
+    row: &[u8],
+    wanted: &Filter,
+    is_trusted: bool,
+) -> Result<(), ReadError>
+    requires { is_trusted ≡ true → is_row list.old.schema row.now ≡ true }
     ensures added { OnOk result (list.new ≡ (if passes wanted.now (values_in list.old.schema row.now) then record list.old { rows = list.old.rows ++ row.now ∷ [] } else list.old)) }
     ensures damaged { DamagedBy list.old.schema (row.now ∷ []) result }
 {
-    match matches(list.schema(), row, wanted) {
+    match matches(list.schema(), row, wanted, is_trusted) {
         Ok(true) => list.push(row)?,
         Ok(false) => {}
         Err(Damaged) => return Err(ReadError::Damaged),
@@ -43,14 +55,20 @@ fn add_counted(list: &mut RowList, row: &[u8], wanted: &Filter) -> Result<(), Re
 }
 
 // The rows that count.
-fn counted(list: RowList, rows: &Rows, wanted: &Filter) -> Result<RowList, ReadError>
-    requires { list.rows ≡ [] }
+fn counted(
+    list: RowList,
+    rows: &Rows,
+    wanted: &Filter,
+    is_trusted: bool,
+) -> Result<RowList, ReadError>
+    requires fresh { list.rows ≡ [] }
+    requires trusted { is_trusted ≡ true → list_all (is_row list.schema) rows.now ≡ true }
     ensures found { IfOk result (λ found. found ≡ record list { rows = filter (λ row. passes wanted.now (values_in list.schema row)) rows.now }) }
     ensures damaged { DamagedBy list.schema rows.now result }
 {
     let mut list = list;
     for i in 0..rows.len() {
-        add_counted(&mut list, rows.row(i), wanted)?;
+        add_counted(&mut list, rows.row(i), wanted, is_trusted)?;
     }
     Ok(list)
 }
@@ -113,7 +131,7 @@ pub(crate) fn rows_found<V: TableView>(
 {
     stores_hold_tables();
     let rows = looked_up(alloc, view, table, scope)?;
-    match counted(list, &rows, wanted) {
+    match counted(list, &rows, wanted, view.is_trusted()) {
         Ok(found) => Ok(found),
         Err(ReadError::Damaged) => Err(view.damaged()),
         Err(ReadError::NoMemory) => Err(no_memory::<V>()),

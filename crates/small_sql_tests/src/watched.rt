@@ -63,6 +63,10 @@ impl TableView for Watched {
         self.view.scan(alloc, table)
     }
 
+    fn is_trusted(&self) -> bool {
+        true
+    }
+
     fn damaged(&self) -> PlainFault {
         PlainFault::Damaged
     }

@@ -61,6 +61,10 @@ impl<'a> TableView for StoreView<'a> {
         Ok(copied_rows(&store.tables, alloc, table)?)
     }
 
+    fn is_trusted(&self) -> bool {
+        true
+    }
+
     fn damaged(&self) -> PlainFault {
         PlainFault::Damaged
     }

@@ -126,6 +126,10 @@ impl TableView for PlainView {
         Ok(copied_rows(self.tables.as_slice(), alloc, table)?)
     }
 
+    fn is_trusted(&self) -> bool {
+        true
+    }
+
     fn damaged(&self) -> PlainFault {
         PlainFault::Damaged
     }

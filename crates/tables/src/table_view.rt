@@ -60,6 +60,11 @@ pub trait TableView {
         ensures fault { IfErr result (λ fault. IsTrue is_faithful → tells_damage fault ≡ false) }
         ensures store { store self.new ≡ store self.old };
 
+    /// Whether the view is faithful. The rows that it gives are then rows of their table's schema, and
+    /// need not be judged.
+    fn is_trusted(&self) -> bool
+        ensures { result ≡ is_faithful };
+
     /// The fault of a row that is none of its table's schema, which only a view that is not
     /// faithful can meet.
     fn damaged(&self) -> Self::Fault

@@ -201,6 +201,10 @@ impl<'a, V: TableView> TableView for UnitView<'a, V> {
         rows_under(&mut *self.base, self.changes, alloc, table)
     }
 
+    fn is_trusted(&self) -> bool {
+        self.base.is_trusted()
+    }
+
     fn damaged(&self) -> V::Fault {
         self.base.damaged()
     }

@@ -1,7 +1,9 @@
-use Rattle.std.proofs.Common.{List, ℕ, ap, rules, ◌∙◌}
+use Rattle.std.proofs.Common.{List, ℕ, ap, rules, sym, true, ◌≡◌, ◌∙◌}
+use Rattle.std.specs.List.{list_all}
+use Rattle.row_values.specs.Row.{is_row}
 use Rattle.small_sql.specs.Scope.{scope_of}
 use Rattle.small_sql.specs.Task.{matching}
-use Rattle.small_sql.proofs.Stored.{damage_is, never_damaged}
+use Rattle.small_sql.proofs.Stored.{covered_are_rows, damage_is, never_damaged}
 use Rattle.small_sql.proofs.read.rows_found.Goals as goal
 
 pub returns-in-Ok-clause-rows : goal.returns-in-Ok-clause-rows
@@ -13,3 +15,10 @@ pub returns-in-Err-Damaged-clause-fault : goal.returns-in-Err-Damaged-clause-fau
 returns-in-Err-Damaged-clause-fault g c = λ told.
     never_damaged c.stores_hold_tables.ensures.tables c.stores_hold_tables.ensures.rows (g.V.TableView.store c.args.view.now) c.args.table.now c.args.list.schema (scope_of c.args.scope.now) c.in_ok-rows.rows _
     (c.requires.good told) (c.requires.schema told) (c.in_ok-rows.ensures.rows told) (damage_is c.args.list.schema c.in_ok-rows.rows c.in-Err-Damaged.field-0 (search rules) c.in-Err-Damaged.ensures.damaged)
+
+pub counted-requires-clause-trusted : goal.counted-requires-clause-trusted
+counted-requires-clause-trusted g c = λ trusted.
+    let told : g.V.TableView.is_faithful ≡ true = sym c.is_trusted.ensures ∙ trusted in
+    ap (list_all (is_row c.args.list.schema)) (c.in_ok-rows.ensures.rows told)
+    ∙ covered_are_rows c.stores_hold_tables.ensures.tables c.stores_hold_tables.ensures.rows (g.V.TableView.store c.args.view.now) c.args.table.now c.args.list.schema (scope_of c.args.scope.now)
+    (c.requires.good told) (c.requires.schema told)
