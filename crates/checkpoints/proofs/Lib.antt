@@ -1,7 +1,7 @@
-mod Placing
-mod Listing
-mod Moving
+pub mod Placing
+pub mod Listing
+pub mod Moving
 mod Holding
-mod Ending
-mod ReadBack
-mod Left
+pub mod Ending
+pub mod ReadBack
+pub mod Left

@@ -69,7 +69,7 @@ never_damaged S T P e result none told ends = subst (λ (r : Result T CheckError
 -- ---- a table
 
 -- its pages stand where its map has them
-pub stored_there : WholeIsStored → (file : List ℕ) (first : ℕ) (c : CheckedTable) (t : TableRows) → told_of c ≡ placed forms first t → IsTable forms file first t → IsStored (forms c.table.schema) c.pages t.pages file
+pub stored_there : WholeIsStored → (file : List ℕ) (first : ℕ) (c : CheckedTable) (t : TableRows) → told_of c ≡ placed forms first t → IsTable forms file first t → IsStored (forms c.table.schema) c.pages.pages t.pages file
 stored_there law file first c t told is =
     subst (λ (p : Entry × Places). IsStored (forms p.0.schema) p.1 t.pages file) (sym told) (law t.entry.schema (forms t.entry.schema) file (page_at first t.entry.first_page) t.entry.pages t.pages is)
 

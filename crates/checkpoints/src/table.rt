@@ -69,7 +69,7 @@ fn read_table<D: Disk>(
     whole_is_stored();
     let CheckedTable { table, pages } = checked;
     let at = at + PAGE_BYTES * table.first_page as usize;
-    let rows = read_rows(alloc, cache, disk, at, &table.schema, pages)?;
+    let rows = read_rows(alloc, cache, disk, at, &table.schema, pages.pages)?;
     add_table(store, alloc, at, &table, &rows)
 }
 

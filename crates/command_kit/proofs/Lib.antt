@@ -1,3 +1,4 @@
 pub mod Sums
-pub mod Texts
+pub mod Adding
 pub mod Sent
+pub mod Texts

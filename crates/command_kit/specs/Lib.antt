@@ -1,4 +1,6 @@
 pub mod Reply
+pub mod Card
+pub mod Replies
 pub mod Sizes
 pub mod Text
 pub mod Values

@@ -4,15 +4,25 @@
 
 mod answer;
 mod ask;
-mod reply;
+mod card;
+mod description;
+mod head;
+mod message;
+mod replies;
+mod reply_list;
+mod reply_text;
 mod sizes;
 mod statements;
 mod text;
 mod values;
 
-pub use answer::{add, not_done, refuse};
+pub use answer::{add_not_done, refuse};
 pub use ask::Ask;
-pub use reply::Reply;
+pub use card::Card;
+pub use description::{ColumnDescription, SelectionDescription};
+pub use replies::Replies;
+pub use reply_list::{ReplyList, ReplyRef};
+pub use reply_text::ReplyText;
 pub use sizes::replies_add_up;
 pub use statements::Statements;
 pub use text::{is_select, statement_of};

@@ -11,7 +11,11 @@ use Rattle.std.specs.Prelude.{◌≡◌, true, false, List, [], ◌∷◌, Optio
 use Rattle.clap.specs.declared.builder.action.ArgAction.TheVariants.{SetTrue}
 use Rattle.clap.specs.declared.builder.arg.Arg.{Arg}
 use Rattle.clap.specs.declared.builder.command.Command.{Command}
-use Rattle.clap.specs.Words.{AddsSubcommand, App, Kinds, Row, Rule, Text, app_of, fault_of, new_app, new_rule, subcommand_of, with_rule, with_subcommand}
+use Rattle.command_line.specs.declared.word.Kind.{Kind as CodeKind}
+use Rattle.command_line.specs.declared.word.Kind.TheVariants as kind
+use Rattle.command_line.specs.declared.word.Word.{Word}
+use Rattle.command_line.specs.declared.app.Subcommand.{Subcommand}
+use Rattle.clap.specs.Words.{AddsArg, AddsInTurn, AddsSubcommand, App, Kinds, Row, Rule, Text, app_of, fault_of, new_app, new_rule, rule_of, subcommand_of, with_rule, with_subcommand}
 
 -- a word that stands for itself
 abbrev pub word_rule : Text → Rule
@@ -79,10 +83,44 @@ given words = subcommand_of drdad words
 
 -- ---- in code
 
--- an argument of its own subcommand
-abbrev pub IsOwn : Arg → Type 0
-IsOwn arg = arg.global ≡ false
+-- the rule of a word
+abbrev pub rule_by : Text → CodeKind → Rule
+rule_by id kind.Word = word_rule id
+rule_by id kind.NeededWord = needed_word id
+rule_by id (kind.Option value) = option_rule id
+rule_by id (kind.NeededOption value) = needed_option id
+rule_by id (kind.OptionOr value default) = default_option id default.now
+rule_by id kind.Flag = flag_rule id
 
--- a subcommand with such arguments alone is added as it is
+abbrev pub rule_for : Word → Rule
+rule_for word = rule_by word.id.now word.kind
+
+-- with these words, from the first on
+unfoldable pub with_words : App → List Word → App
+with_words app [] = app
+with_words app (word ∷ words) = with_words (with_rule app (rule_for word)) words
+
+abbrev pub app_for : Subcommand → App
+app_for subcommand = with_words (new_app subcommand.name.now) subcommand.words.now
+
+-- with these subcommands, from the first on
+unfoldable pub with_all : App → List Subcommand → App
+with_all app [] = app
+with_all app (subcommand ∷ subcommands) = with_all (with_subcommand app (app_for subcommand).top) subcommands
+
+-- an argument of this rule, of its own subcommand
+abbrev pub IsWord : Rule → Arg → Type 0
+IsWord rule arg = (rule_of arg ≡ rule) × (arg.global ≡ false)
+
+-- a subcommand that is added as it is
 abbrev pub AddsItself : Command → Type 0
 AddsItself sub = (old new : Command) → AddsSubcommand old sub new → app_of new ≡ with_subcommand (app_of old) (app_of sub).top
+
+-- arguments of their own subcommand
+abbrev pub AreOwn : List Arg → Type 0
+AreOwn [] = Unit {0}
+AreOwn (arg ∷ args) = (arg.global ≡ false) × AreOwn args
+
+-- a command of this grammar, which with further arguments of its own alone is added as it is
+abbrev pub IsCommand : App → Command → Type 0
+IsCommand app command = (app_of command ≡ app) × ((args : List Arg) (whole : Command) → AreOwn args → AddsInTurn AddsArg command args whole → AddsItself whole)

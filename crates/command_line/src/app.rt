@@ -1,233 +1,206 @@
 //! The grammar of the words.
 
-ghost use Rattle.std.specs.Prelude.{◌≡◌, IfOk, codes};
-ghost use Rattle.clap.specs.Words.{App, app_of, rule_of, with_subcommand};
+ghost use Rattle.std.specs.Prelude.{◌≡◌, IfOk};
+ghost use Rattle.clap.specs.Words.{app_of};
 ghost use Rattle.command_line.specs.Grammar as grammar;
 
-use clap::{Arg, ArgAction, Command};
+use crate::word::{Kind, Word, arg_of};
+use clap::Command;
 use std::alloc::{AllocError, Global};
 
-const STORE_FILE: &str = "The file of the store";
+/// A subcommand.
+#[derive(Clone, Copy)]
+struct Subcommand<'a, 'w> {
+    name: &'a str,
+    /// What help tells of it.
+    about: &'a str,
+    words: &'w [Word<'a>],
+}
 
 const STORE_NAME: &str = "The name of the database: 1 to 18 printable characters without blanks";
 
-fn needed_word<'a>(alloc: Global, id: &'a str, help: &'a str) -> Arg<'a>
-    ensures rule { rule_of result ≡ grammar.needed_word id.entry.now }
-    ensures own { grammar.IsOwn result }
-{
-    Arg::new(alloc, id).required(true).help(help)
-}
+const STORE: Word<'static> = Word {
+    id: "path",
+    kind: Kind::NeededWord,
+    help: "The file of the store",
+};
 
-fn word<'a>(alloc: Global, id: &'a str, help: &'a str) -> Arg<'a>
-    ensures rule { rule_of result ≡ grammar.word_rule id.entry.now }
-    ensures own { grammar.IsOwn result }
-{
-    Arg::new(alloc, id).help(help)
-}
+const USER: Word<'static> = Word {
+    id: "user",
+    kind: Kind::Option("U:P"),
+    help: "The user and the password, split at the first colon; other users of this machine can read it: better --user-file",
+};
 
-fn option<'a>(alloc: Global, id: &'a str, value: &'a str, help: &'a str) -> Arg<'a>
-    ensures rule { rule_of result ≡ grammar.option_rule id.entry.now }
-    ensures own { grammar.IsOwn result }
-{
-    Arg::new(alloc, id).long(id).value_name(value).help(help)
-}
+const USER_FILE: Word<'static> = Word {
+    id: "user-file",
+    kind: Kind::Option("FILE"),
+    help: "A file whose one line is U:P, on which nobody but its owner has rights; in place of --user",
+};
 
-fn needed_option<'a>(alloc: Global, id: &'a str, value: &'a str, help: &'a str) -> Arg<'a>
-    ensures rule { rule_of result ≡ grammar.needed_option id.entry.now }
-    ensures own { grammar.IsOwn result }
-{
-    Arg::new(alloc, id)
-        .long(id)
-        .value_name(value)
-        .required(true)
-        .help(help)
-}
+static INIT: [Word<'static>; 3] = [
+    Word {
+        id: "path",
+        kind: Kind::NeededWord,
+        help: "The file that is made; none may be there",
+    },
+    Word {
+        id: "size",
+        kind: Kind::NeededOption("N"),
+        help: "Its bytes, 2097152 to 1073741824",
+    },
+    Word {
+        id: "rdb",
+        kind: Kind::NeededOption("NAME"),
+        help: STORE_NAME,
+    },
+];
 
-fn flag<'a>(alloc: Global, id: &'a str, help: &'a str) -> Arg<'a>
-    ensures rule { rule_of result ≡ grammar.flag_rule id.entry.now }
-    ensures own { grammar.IsOwn result }
-{
-    Arg::new(alloc, id)
-        .long(id)
-        .action(ArgAction::SetTrue)
-        .help(help)
-}
+static PIPE: [Word<'static>; 4] = [
+    Word {
+        id: "path",
+        kind: Kind::Word,
+        help: "The file of the store; without it, a new store in memory",
+    },
+    Word {
+        id: "rdb",
+        kind: Kind::OptionOr("NAME", "RDB"),
+        help: STORE_NAME,
+    },
+    USER,
+    USER_FILE,
+];
 
-fn rdb_option<'a>(alloc: Global) -> Arg<'a>
-    ensures rule { rule_of result ≡ grammar.default_option (codes "rdb") (codes "RDB") }
-    ensures own { grammar.IsOwn result }
-{
-    Arg::new(alloc, "rdb")
-        .long("rdb")
-        .value_name("NAME")
-        .default_value("RDB")
-        .help(STORE_NAME)
-}
+static SERVE: [Word<'static>; 7] = [
+    STORE,
+    Word {
+        id: "port",
+        kind: Kind::NeededOption("N"),
+        help: "The port of 127.0.0.1, 0 to 65535; 0 lets the system pick one",
+    },
+    USER,
+    USER_FILE,
+    Word {
+        id: "count",
+        kind: Kind::Option("N"),
+        help: "Ends after so many conversations, 0 to 18446744073709551615",
+    },
+    Word {
+        id: "idle",
+        kind: Kind::Option("N"),
+        help: "Closes a connection that has sent nothing for so many seconds, 1 to 4294967",
+    },
+    Word {
+        id: "log",
+        kind: Kind::Flag,
+        help: "Tells on standard error what becomes of conversations, a line each",
+    },
+];
 
-fn user_option<'a>(alloc: Global) -> Arg<'a>
-    ensures rule { rule_of result ≡ grammar.option_rule (codes "user") }
-    ensures own { grammar.IsOwn result }
-{
-    option(
-        alloc,
-        "user",
-        "U:P",
-        "The user and the password, split at the first colon; other users of this machine can read it: better --user-file",
-    )
-}
+static STORE_ALONE: [Word<'static>; 1] = [STORE];
 
-fn user_file_option<'a>(alloc: Global) -> Arg<'a>
-    ensures rule { rule_of result ≡ grammar.option_rule (codes "user-file") }
-    ensures own { grammar.IsOwn result }
-{
-    option(
-        alloc,
-        "user-file",
-        "FILE",
-        "A file whose one line is U:P, on which nobody but its owner has rights; in place of --user",
-    )
-}
+static NOTHING: [Word<'static>; 0] = [];
 
-fn init<'a>(alloc: Global) -> Result<Command<'a>, AllocError>
-    ensures { IfOk result (λ c. (app_of c ≡ grammar.init) × grammar.AddsItself c) }
-{
-    Command::new(alloc, "init")
-        .about("Makes a store")
-        .arg(needed_word(alloc, "path", "The file that is made; none may be there"))?
-        .arg(needed_option(alloc, "size", "N", "Its bytes, 2097152 to 1073741824"))?
-        .arg(needed_option(alloc, "rdb", "NAME", STORE_NAME))
-}
+static DECIDE: [Word<'static>; 5] = [
+    STORE,
+    Word {
+        id: "format",
+        kind: Kind::NeededWord,
+        help: "The format number of its XID, as indoubt prints it",
+    },
+    Word {
+        id: "global",
+        kind: Kind::NeededWord,
+        help: "The global part of its XID, as indoubt prints it",
+    },
+    Word {
+        id: "branch",
+        kind: Kind::NeededWord,
+        help: "The branch part of its XID, as indoubt prints it",
+    },
+    Word {
+        id: "decision",
+        kind: Kind::NeededWord,
+        help: "commit or rollback",
+    },
+];
 
-fn pipe<'a>(alloc: Global) -> Result<Command<'a>, AllocError>
-    ensures { IfOk result (λ c. (app_of c ≡ grammar.pipe) × grammar.AddsItself c) }
+fn command<'a>(alloc: Global, subcommand: &Subcommand<'a, '_>) -> Result<Command<'a>, AllocError>
+    ensures { IfOk result (grammar.IsCommand (grammar.app_for subcommand.now)) }
 {
-    Command::new(alloc, "pipe")
-        .about("Serves event records from standard input to standard output")
-        .arg(word(
-            alloc,
-            "path",
-            "The file of the store; without it, a new store in memory",
-        ))?
-        .arg(rdb_option(alloc))?
-        .arg(user_option(alloc))?
-        .arg(user_file_option(alloc))
-}
-
-fn serve<'a>(alloc: Global) -> Result<Command<'a>, AllocError>
-    ensures { IfOk result (λ c. (app_of c ≡ grammar.serve) × grammar.AddsItself c) }
-{
-    Command::new(alloc, "serve")
-        .about("Serves conversations on a port of this machine")
-        .arg(needed_word(alloc, "path", STORE_FILE))?
-        .arg(needed_option(
-            alloc,
-            "port",
-            "N",
-            "The port of 127.0.0.1, 0 to 65535; 0 lets the system pick one",
-        ))?
-        .arg(user_option(alloc))?
-        .arg(user_file_option(alloc))?
-        .arg(option(
-            alloc,
-            "count",
-            "N",
-            "Ends after so many conversations, 0 to 18446744073709551615",
-        ))?
-        .arg(option(
-            alloc,
-            "idle",
-            "N",
-            "Closes a connection that has sent nothing for so many seconds, 1 to 4294967",
-        ))?
-        .arg(flag(
-            alloc,
-            "log",
-            "Tells on standard error what becomes of conversations, a line each",
-        ))
-}
-
-fn in_doubt<'a>(alloc: Global) -> Result<Command<'a>, AllocError>
-    ensures { IfOk result (λ c. (app_of c ≡ grammar.in_doubt) × grammar.AddsItself c) }
-{
-    Command::new(alloc, "indoubt")
-        .about("Lists the units in doubt of a store")
-        .arg(needed_word(alloc, "path", STORE_FILE))
-}
-
-fn decide<'a>(alloc: Global) -> Result<Command<'a>, AllocError>
-    ensures { IfOk result (λ c. (app_of c ≡ grammar.decide) × grammar.AddsItself c) }
-{
-    Command::new(alloc, "decide")
-        .about("Decides a unit in doubt of a store, in the place of its transaction manager")
-        .arg(needed_word(alloc, "path", STORE_FILE))?
-        .arg(needed_word(
-            alloc,
-            "format",
-            "The format number of its XID, as indoubt prints it",
-        ))?
-        .arg(needed_word(
-            alloc,
-            "global",
-            "The global part of its XID, as indoubt prints it",
-        ))?
-        .arg(needed_word(
-            alloc,
-            "branch",
-            "The branch part of its XID, as indoubt prints it",
-        ))?
-        .arg(needed_word(alloc, "decision", "commit or rollback"))
-}
-
-fn room<'a>(alloc: Global) -> Result<Command<'a>, AllocError>
-    ensures { IfOk result (λ c. (app_of c ≡ grammar.room) × grammar.AddsItself c) }
-{
-    Command::new(alloc, "room")
-        .about(
-            "Tells the name and the size of a store, the bytes that it has left for records, and how many units are in doubt",
-        )
-        .arg(needed_word(alloc, "path", STORE_FILE))
-}
-
-fn check<'a>(alloc: Global) -> Result<Command<'a>, AllocError>
-    ensures { IfOk result (λ c. (app_of c ≡ grammar.check) × grammar.AddsItself c) }
-{
-    Command::new(alloc, "check")
-        .about("Tells whether a store is whole")
-        .arg(needed_word(alloc, "path", STORE_FILE))
-}
-
-fn version<'a>(alloc: Global) -> Result<Command<'a>, AllocError>
-    ensures { IfOk result (λ c. (app_of c ≡ grammar.version) × grammar.AddsItself c) }
-{
-    Ok(Command::new(alloc, "version").about("Tells the version of the program"))
-}
-
-// The program with one more subcommand.
-fn with_one<'a>(
-    program: Command<'a>,
-    subcommand: Result<Command<'a>, AllocError>,
-) -> Result<Command<'a>, AllocError>
-    ensures { (app : App) → IfOk subcommand.entry (λ c. (app_of c ≡ app) × grammar.AddsItself c) → IfOk result (λ c. app_of c ≡ with_subcommand (app_of program.entry) app.top) }
-{
-    match subcommand {
-        Ok(subcommand) => program.subcommand(subcommand),
-        Err(error) => Err(error),
+    let mut command = Command::new(alloc, subcommand.name).about(subcommand.about);
+    for word in subcommand.words {
+        command = command.arg(arg_of(alloc, word))?;
     }
+    Ok(command)
+}
+
+// The program with these subcommands.
+fn with_all<'a>(
+    alloc: Global,
+    program: Command<'a>,
+    subcommands: &[Subcommand<'a, '_>],
+) -> Result<Command<'a>, AllocError>
+    ensures { IfOk result (λ c. app_of c ≡ grammar.with_all (app_of program.entry) subcommands.now) }
+{
+    let mut program = program;
+    for subcommand in subcommands {
+        program = program.subcommand(command(alloc, subcommand)?)?;
+    }
+    Ok(program)
 }
 
 /// The grammar.
+#[tactic(auto, unfolding(crate::specs::Grammar::with_all, crate::specs::Grammar::with_words))]
 pub(crate) fn drdad<'a>(alloc: Global) -> Result<Command<'a>, AllocError>
     ensures { IfOk result (λ c. app_of c ≡ grammar.drdad) }
 {
     let program = Command::new(alloc, "drdad")
         .about("A DRDA application server")
         .subcommand_required(true);
-    let program = with_one(program, init(alloc))?;
-    let program = with_one(program, pipe(alloc))?;
-    let program = with_one(program, serve(alloc))?;
-    let program = with_one(program, in_doubt(alloc))?;
-    let program = with_one(program, decide(alloc))?;
-    let program = with_one(program, room(alloc))?;
-    let program = with_one(program, check(alloc))?;
-    with_one(program, version(alloc))
+    with_all(
+        alloc,
+        program,
+        &[
+            Subcommand {
+                name: "init",
+                about: "Makes a store",
+                words: &INIT,
+            },
+            Subcommand {
+                name: "pipe",
+                about: "Serves event records from standard input to standard output",
+                words: &PIPE,
+            },
+            Subcommand {
+                name: "serve",
+                about: "Serves conversations on a port of this machine",
+                words: &SERVE,
+            },
+            Subcommand {
+                name: "indoubt",
+                about: "Lists the units in doubt of a store",
+                words: &STORE_ALONE,
+            },
+            Subcommand {
+                name: "decide",
+                about: "Decides a unit in doubt of a store, in the place of its transaction manager",
+                words: &DECIDE,
+            },
+            Subcommand {
+                name: "room",
+                about: "Tells the name and the size of a store, the bytes that it has left for records, and how many units are in doubt",
+                words: &STORE_ALONE,
+            },
+            Subcommand {
+                name: "check",
+                about: "Tells whether a store is whole",
+                words: &STORE_ALONE,
+            },
+            Subcommand {
+                name: "version",
+                about: "Tells the version of the program",
+                words: &NOTHING,
+            },
+        ],
+    )
 }

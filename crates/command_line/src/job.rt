@@ -4,7 +4,7 @@ use xa_calls::Xid;
 use xa_manager::Decision;
 
 /// Who may open the database.
-#[derive(Clone, Copy, Debug)]
+#[derive(Clone, Copy)]
 pub struct Login<'a> {
     /// What stands before the first colon of U:P.
     pub user: &'a str,
@@ -13,7 +13,7 @@ pub struct Login<'a> {
 }
 
 /// Where it stands who may open the database.
-#[derive(Clone, Copy, Debug)]
+#[derive(Clone, Copy)]
 pub enum LoginSource<'a> {
     /// `--user U:P`: in the words.
     Words(Login<'a>),
@@ -22,7 +22,7 @@ pub enum LoginSource<'a> {
 }
 
 /// How conversations are served.
-#[derive(Clone, Copy, Debug)]
+#[derive(Clone, Copy)]
 pub struct ServeOptions {
     /// `--count N`: how many, or without end.
     pub count: Option<u64>,
@@ -33,7 +33,7 @@ pub struct ServeOptions {
 }
 
 /// What the words ask for. Contracts see it by `plain_job`.
-#[derive(Clone, Copy, Debug)]
+#[derive(Clone, Copy)]
 pub enum Job<'a> {
     /// `init PATH --size N --rdb NAME`: a new store of so many bytes.
     Init {

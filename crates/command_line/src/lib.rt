@@ -7,6 +7,7 @@ mod logins;
 mod numbers;
 mod spelling;
 mod texts;
+mod word;
 mod words;
 
 pub use job::{Job, Login, LoginSource, ServeOptions};

@@ -1,13 +1,14 @@
 //! Chains of commands, and the DSSs of replies.
 
-ghost use Rattle.std.specs.Prelude.{◌≡◌, ◌≤◌, ◌+◌, ◌++◌, ◌∷◌, [], length, vec_capacity, vec_len};
+ghost use Rattle.std.specs.Prelude.{◌≡◌, ◌≤◌, ◌+◌, ◌++◌, [], length, vec_capacity, vec_len};
 ghost use Rattle.dss_frames.specs.Group.{command_of, dss_of};
 ghost use Rattle.dss_frames.specs.Writing.{written, written_length};
 ghost use Rattle.sqlam_replies.specs.Kind.{dss_type_of};
+ghost use Rattle.command_kit.specs.Replies.{replies_in};
 ghost use Rattle.command_kit.specs.Sizes.{written_lengths};
 ghost use Rattle.conversation.specs.Exchange as spec;
 
-use command_kit::Reply;
+use command_kit::ReplyList;
 use dss_frames::{Dss, Format, Group, write_dss, written_dss_is_read};
 use session_commands::Session;
 use sqlam_replies::ReplyKind;
@@ -75,35 +76,51 @@ pub(crate) fn behind(session: Session, link: Link, severity: u16) -> Session
 }
 
 /// The greatest severity of some replies.
-pub(crate) fn worst(replies: &[Reply]) -> u16
-    ensures { result ≡ spec.worst replies.now }
+pub(crate) fn worst(replies: ReplyList<'_>) -> u16
+    ensures { result ≡ spec.worst (replies_in replies.entry) }
 {
     let mut worst = 0;
     let mut left = replies;
-    'replies: while let [reply, others @ ..] = left {
-        worst = reply.severity().max(worst);
+    'replies: while let Some((reply, others)) = left.split_first() {
+        worst = reply.severity.max(worst);
         left = others;
     }
     worst
 }
 
-/// The format of a reply before these others of its command.
+/// The number of a reply's kind (DSS type).
 #[inline(always)]
-pub(crate) fn format_before(others: &[Reply], kind: ReplyKind, is_chained: bool) -> Format
-    ensures { result.byte ≡ spec.chain_bits is_chained others.now + dss_type_of kind }
+fn number_of(kind: ReplyKind) -> u8
+    ensures number { result ≡ dss_type_of kind }
+    ensures small { result ≤ 3 }
 {
-    let number = match kind {
+    match kind {
         ReplyKind::Message => 2,
         ReplyKind::Object => 3,
-    };
+    }
+}
+
+/// The format of the last reply of a command.
+#[inline(always)]
+pub(crate) fn last_format(kind: ReplyKind, is_chained: bool) -> Format
+    ensures { result.byte ≡ spec.chain_bits is_chained [] + dss_type_of kind }
+{
+    let number = number_of(kind);
     Format {
-        byte: if !others.is_empty() {
-            0x50 + number
-        } else if is_chained {
-            0x40 + number
-        } else {
-            number
+        byte: if is_chained { 0x40 + number } else { number },
+    }
+}
+
+/// The format of a reply before these others of its command.
+#[inline(always)]
+fn format_before(others: ReplyList<'_>, kind: ReplyKind, is_chained: bool) -> Format
+    ensures { result.byte ≡ spec.chain_bits is_chained (replies_in others.entry) + dss_type_of kind }
+{
+    match others.split_first() {
+        Some(_) => Format {
+            byte: 0x50 + number_of(kind),
         },
+        None => last_format(kind, is_chained),
     }
 }
 
@@ -126,15 +143,15 @@ pub(crate) fn append_replies(
     out: &mut Vec<u8>,
     correlator: u16,
     is_chained: bool,
-    replies: &[Reply],
+    replies: ReplyList<'_>,
 )
-    requires { vec_len out.old + written_lengths replies.now ≤ vec_capacity out.old }
-    ensures { out.new.items ≡ out.old.items ++ spec.in_dsss correlator is_chained replies.now }
+    requires { vec_len out.old + written_lengths (replies_in replies) ≤ vec_capacity out.old }
+    ensures { out.new.items ≡ out.old.items ++ spec.in_dsss correlator is_chained (replies_in replies.entry) }
 {
     let mut left = replies;
-    'replies: while let [reply, others @ ..] = left {
-        let format = format_before(others, reply.kind(), is_chained);
-        append_dss(out, format, correlator, reply.text());
+    'replies: while let Some((reply, others)) = left.split_first() {
+        let format = format_before(others, reply.kind, is_chained);
+        append_dss(out, format, correlator, reply.text);
         left = others;
     }
 }

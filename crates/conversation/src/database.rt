@@ -8,7 +8,7 @@ ghost use Rattle.command_kit.specs.Sizes.{written_lengths};
 ghost use Rattle.conversation.specs.Commands as commands;
 ghost use Rattle.conversation.specs.Sizes as sizes;
 
-use command_kit::{Ask, Reply, Statements};
+use command_kit::{Ask, Replies, Statements};
 use drda_commands::{Accepted, Command};
 use std::alloc::{AllocError, Global};
 
@@ -23,23 +23,21 @@ pub(crate) fn do_on_database<A: Ask>(
     unicode: bool,
     statements: &mut Statements,
     asker: &mut A,
-    replies: &mut Vec<Reply>,
+    replies: &mut Replies,
 ) -> Result<(), AllocError>
     requires rdb { length rdb.now ≤ 791 }
     requires brings { Needs accepted.command (given_of accepted.given) }
-    ensures ok { OnOk result (WasDone A.asks (commands.doing unicode rdb.now accepted.entry.command (given_of accepted.entry.given) statements.old) asker.old asker.new statements.new replies.old.items replies.new.items) }
-    ensures size { OnOk result (written_lengths replies.new.items ≤ written_lengths replies.old.items + sizes.most_length accepted.entry.command (given_of accepted.entry.given) statements.old) }
+    ensures ok { OnOk result (WasDone A.asks (commands.doing unicode rdb.now accepted.entry.command (given_of accepted.entry.given) statements.old) asker.old asker.new statements.new replies.old.list replies.new.list) }
+    ensures size { OnOk result (written_lengths replies.new.list ≤ written_lengths replies.old.list + sizes.most_length accepted.entry.command (given_of accepted.entry.given) statements.old) }
     ensures asker { OnErr result (asker.new ≡ asker.old) }
     ensures statements { OnErr result (statements.new ≡ statements.old) }
-    ensures replies { OnErr result (replies.new.items ≡ replies.old.items) }
+    ensures replies { OnErr result (replies.new.list ≡ replies.old.list) }
 {
     match accepted.command {
         Command::Opnqry | Command::Cntqry | Command::Clsqry => {
             cursor_commands::do_command(alloc, accepted, rdb, statements, asker, replies)
         }
-        Command::Syncctl => {
-            sql_commands::do_sync_control(alloc, accepted, statements, asker, replies)
-        }
+        Command::Syncctl => { sql_commands::do_sync_control(accepted, statements, asker, replies) }
         _ => sql_commands::do_command(alloc, accepted, rdb, unicode, statements, asker, replies),
     }
 }

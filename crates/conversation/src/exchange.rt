@@ -12,7 +12,7 @@ ghost use Rattle.session_commands.specs.Views.{answer_of};
 ghost use Rattle.conversation.specs.Exchange as spec;
 ghost use Rattle.conversation.specs.Views.{standing_of, verdict_of, Appends, ComesTo};
 
-use crate::chain::{Link, append_replies, behind, format_before, link_of, worst};
+use crate::chain::{Link, append_replies, behind, last_format, link_of, worst};
 use crate::database::do_on_database;
 use crate::sizes::most_length;
 use crate::state::State;
@@ -78,7 +78,7 @@ fn send_one(
 {
     let session = behind(answer.session, link, answer.severity);
     let is_chained = link.is_chained && !session.is_broken;
-    let format = format_before(&[], answer.kind, is_chained);
+    let format = last_format(answer.kind, is_chained);
     close_dss(out, dss, format, link.correlator)?;
     state.session = session;
     Ok(())
@@ -127,10 +127,12 @@ fn run<A: Ask>(
         asker,
         &mut state.replies,
     )?;
-    let session = behind(state.session, link, worst(&state.replies));
+    let replies = state.replies.as_list();
+    let session = behind(state.session, link, worst(replies));
     let is_chained = link.is_chained && !session.is_broken;
-    append_replies(out, link.correlator, is_chained, &state.replies);
+    append_replies(out, link.correlator, is_chained, replies);
     state.session = session;
+    state.replies.clear();
     Ok(())
 }
 
@@ -239,7 +241,7 @@ pub(crate) fn do_command<A: Ask>(
         Err(AllocError) => {
             state.session = behind(session, link, 8);
             let is_chained = link.is_chained && !state.session.is_broken;
-            let format = format_before(&[], ReplyKind::Message, is_chained);
+            let format = last_format(ReplyKind::Message, is_chained);
             Exchanged::Short(no_memory(format, link.correlator))
         }
     }

@@ -2,7 +2,7 @@
 
 use crate::exchange::{Exchanged, do_command};
 use crate::state::State;
-use command_kit::{Ask, Statements};
+use command_kit::{Ask, Replies, Statements};
 use dss_frames::{Format, FrameFault, Segments, write_dss};
 use session_commands::{Session, Settings, fresh_session};
 use sqlam_replies::syntax_message;
@@ -148,7 +148,7 @@ fn fresh_state(alloc: Global) -> State
         session: fresh_session(),
         statements: Statements::new(alloc),
         database_name: Vec::new(alloc),
-        replies: Vec::new(alloc),
+        replies: Replies::new(alloc),
     }
 }
 

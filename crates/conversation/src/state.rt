@@ -1,6 +1,6 @@
 //! What the commands of a conversation work on.
 
-use command_kit::{Reply, Statements};
+use command_kit::{Replies, Statements};
 use session_commands::Session;
 
 /// What is remembered of a conversation, and room for its replies.
@@ -10,5 +10,5 @@ pub(crate) struct State {
     pub statements: Statements,
     /// The database's name as it is answered.
     pub database_name: Vec<u8>,
-    pub replies: Vec<Reply>,
+    pub replies: Replies,
 }

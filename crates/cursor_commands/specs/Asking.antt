@@ -1,5 +1,5 @@
 -- A query that was asked of the core.
-use Rattle.std.specs.Prelude.{◌≡◌, List, Result, Ok, Err}
+use Rattle.std.specs.Prelude.{List, Result, Ok, Err}
 use Rattle.sql_text.specs.declared.tree.Statement.{Statement}
 use Rattle.row_values.specs.Value.{Value}
 use Rattle.core_calls.specs.Answer.{Answer}

@@ -1,5 +1,5 @@
 -- What each command on a cursor does (DRDA V5 volume 3: OPNQRY, CNTQRY, CLSQRY).
-use Rattle.std.specs.Prelude.{ℕ, ◌+◌, ◌==◌, nat_le, Bool, true, false, List, [], ◌∷◌, ◌++◌, length, Option, Some, None, unwrap_or, Result, Ok, Err, if◌then◌else◌}
+use Rattle.std.specs.Prelude.{ℕ, ◌+◌, ◌==◌, nat_le, Bool, false, List, [], ◌∷◌, ◌++◌, length, Option, Some, None, unwrap_or, Result, Ok, Err, if◌then◌else◌}
 use Rattle.row_values.specs.Value.{Value}
 use Rattle.tables.specs.RowList.{RowList}
 use Rattle.sql_text.specs.declared.tree.Statement.{Statement}

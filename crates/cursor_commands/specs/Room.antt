@@ -1,16 +1,19 @@
--- Room for the replies to OPNQRY, made before the core is asked: five lists of no bytes.
-use Rattle.std.specs.Prelude.{◌≡◌, ◌≤◌, ℕ, ◌+◌, [], max, vec_capacity}
-use Rattle.cursor_commands.specs.declared.opening.Room.{Room}
+-- Room for the replies to a command, made before the core is asked.
+use Rattle.std.specs.Prelude.{ℕ, ◌≤◌, ◌+◌, max}
+use Rattle.command_kit.specs.Replies.{Replies}
 
--- for a reply message, the description of rows, a block of this size, a reply message and an SQLCARD
-pub record IsRoom (size : ℕ) (room : Room) : Type 0 where
-  pub first : room.first.items ≡ []
-  pub first_room : 2395 ≤ vec_capacity room.first
-  pub description : room.description.items ≡ []
-  pub description_room : 222 ≤ vec_capacity room.description
-  pub rows : room.rows.items ≡ []
-  pub rows_room : max size 128194 + 12 ≤ vec_capacity room.rows
-  pub end : room.end.items ≡ []
-  pub end_room : 2395 ≤ vec_capacity room.end
-  pub card : room.card.items ≡ []
-  pub card_room : 65 ≤ vec_capacity room.card
+-- for so many replies, and for so many bytes of their texts
+pub record HasRoom (count bytes : ℕ) (replies : Replies) : Type 0 where
+  pub text_fits : bytes ≤ replies.text_room
+  pub count_fits : count ≤ replies.count_room
+
+-- the most bytes of a reply message and an SQLCARD, of a block of this size with both behind it, and of a reply message
+-- and the description of rows in front of them
+abbrev pub ending_text : ℕ
+ending_text = 2395 + 65
+
+abbrev pub block_text : ℕ → ℕ
+block_text size = (max size 128194 + 12) + ending_text
+
+abbrev pub opening_text : ℕ → ℕ
+opening_text size = 2395 + 222 + block_text size

@@ -11,7 +11,7 @@ ghost use Rattle.command_kit.specs.Sizes.{written_lengths};
 use crate::closing::close;
 use crate::fetching::fetch;
 use crate::opening::open;
-use command_kit::{Ask, Reply, Statements};
+use command_kit::{Ask, Replies, Statements};
 use drda_commands::{Accepted, Command};
 use std::alloc::{AllocError, Global};
 
@@ -25,20 +25,20 @@ pub fn do_command<A: Ask>(
     rdb: &[u8],
     statements: &mut Statements,
     asker: &mut A,
-    replies: &mut Vec<Reply>,
+    replies: &mut Replies,
 ) -> Result<(), AllocError>
     requires rdb { length rdb.now ≤ 791 }
     requires brings { Needs accepted.command (given_of accepted.given) }
-    ensures ok { OnOk result (WasDone A.asks (commands.doing rdb.now accepted.entry.command (given_of accepted.entry.given) statements.old) asker.old asker.new statements.new replies.old.items replies.new.items) }
-    ensures size { OnOk result (written_lengths replies.new.items ≤ written_lengths replies.old.items + most_length accepted.entry.command (given_of accepted.entry.given) statements.old) }
+    ensures ok { OnOk result (WasDone A.asks (commands.doing rdb.now accepted.entry.command (given_of accepted.entry.given) statements.old) asker.old asker.new statements.new replies.old.list replies.new.list) }
+    ensures size { OnOk result (written_lengths replies.new.list ≤ written_lengths replies.old.list + most_length accepted.entry.command (given_of accepted.entry.given) statements.old) }
     ensures asker { OnErr result (asker.new ≡ asker.old) }
     ensures statements { OnErr result (statements.new ≡ statements.old) }
-    ensures replies { OnErr result (replies.new.items ≡ replies.old.items) }
+    ensures replies { OnErr result (replies.new.list ≡ replies.old.list) }
 {
     match accepted.command {
         Command::Opnqry => open(alloc, accepted, rdb, statements, asker, replies),
-        Command::Cntqry => fetch(alloc, accepted, rdb, statements, replies),
-        Command::Clsqry => close(alloc, accepted, rdb, statements, replies),
+        Command::Cntqry => fetch(accepted, rdb, statements, replies),
+        Command::Clsqry => close(accepted, rdb, statements, replies),
         _ => Ok(()),
     }
 }

@@ -12,47 +12,38 @@ ghost use Rattle.command_kit.specs.Sizes.{written_lengths};
 ghost use Rattle.sections.specs.Cursors.{meant_cursor};
 ghost use Rattle.sections.specs.Room.{IsShort};
 
-use crate::replies::{add_end, add_rows, add_short, not_open, section_name};
-use command_kit::{Reply, Statements};
+use crate::replies::{BlockRows, add_end, section_name};
+use crate::room::block_text;
+use command_kit::{Replies, Statements};
 use drda_commands::Accepted;
 use sections::Block;
-use sqlam_replies::{MAX_MESSAGE_LENGTH, SQLCARD_LENGTH, qrydta};
-use std::alloc::{AllocError, Global};
+use sqlam_replies::{MAX_MESSAGE_LENGTH, ReplyMessage};
+use std::alloc::AllocError;
 
 // Adds QRYDTA with the rows of a block, and the end of the query where no row remains.
-fn add_block(alloc: Global, block: &Block<'_>, replies: &mut Vec<Reply>) -> Result<(), AllocError>
+fn add_block(block: &Block<'_>, replies: &mut Replies) -> Result<(), AllocError>
     requires within { block.now.start + block.now.count ≤ length block.now.rows.now.rows }
     requires short { IsShort block.now }
-    ensures ok { OnOk result (replies.new.items ≡ replies.old.items ++ (spec.some_rows block.now.rows.now block.now.start block.now.count ∷ commands.ending block.now.is_last)) }
-    ensures size { OnOk result (written_lengths replies.new.items ≤ written_lengths replies.old.items + sizes.block_length block.now.size) }
-    ensures err { OnErr result (replies.new.items ≡ replies.old.items) }
+    ensures ok { OnOk result (replies.new.list ≡ replies.old.list ++ (spec.some_rows block.now.rows.now block.now.start block.now.count ∷ commands.ending block.now.is_last)) }
+    ensures size { OnOk result (written_lengths replies.new.list ≤ written_lengths replies.old.list + sizes.block_length block.now.size) }
+    ensures err { OnErr result (replies.new.list ≡ replies.old.list) }
 {
-    let mut text: Vec<u8> = Vec::new(alloc);
-    qrydta(&mut text, block.rows, block.start, block.count)?;
-    let message: Vec<u8> = Vec::with_capacity(alloc, MAX_MESSAGE_LENGTH)?;
-    let card: Vec<u8> = Vec::with_capacity(alloc, SQLCARD_LENGTH)?;
-    replies.reserve(3)?;
-    add_rows(replies, Reply::of_object(text), block.size);
-    add_end(block.is_last, message, card, replies);
+    replies.reserve(3, block_text(block.size))?;
+    replies.add(&BlockRows { block: *block });
+    add_end(block.is_last, replies);
     Ok(())
 }
 
 // Adds QRYNOPRM.
-fn refuse_fetch(
-    alloc: Global,
-    rdb: &[u8],
-    name: &[u8],
-    replies: &mut Vec<Reply>,
-) -> Result<(), AllocError>
+fn refuse_fetch(rdb: &[u8], name: &[u8], replies: &mut Replies) -> Result<(), AllocError>
     requires rdb { length rdb.now ≤ 791 }
     requires name { length name.now ≤ 791 }
-    ensures ok { OnOk result (replies.new.items ≡ replies.old.items ++ spec.query_not_open rdb.now name.now ∷ []) }
-    ensures size { OnOk result (written_lengths replies.new.items ≤ written_lengths replies.old.items + sizes.message_length) }
-    ensures err { OnErr result (replies.new.items ≡ replies.old.items) }
+    ensures ok { OnOk result (replies.new.list ≡ replies.old.list ++ spec.query_not_open rdb.now name.now ∷ []) }
+    ensures size { OnOk result (written_lengths replies.new.list ≤ written_lengths replies.old.list + sizes.message_length) }
+    ensures err { OnErr result (replies.new.list ≡ replies.old.list) }
 {
-    let text: Vec<u8> = Vec::with_capacity(alloc, MAX_MESSAGE_LENGTH)?;
-    replies.reserve(1)?;
-    add_short(replies, not_open(text, rdb, name));
+    replies.reserve(1, MAX_MESSAGE_LENGTH)?;
+    replies.add(&ReplyMessage::QueryNotOpen { rdb, section: name });
     Ok(())
 }
 
@@ -62,27 +53,26 @@ fn refuse_fetch(
 /// or another one. `rdb` is the database's name as it is answered, of at most 791 bytes. Out of memory, nothing
 /// changes.
 pub fn fetch(
-    alloc: Global,
     accepted: Accepted<'_>,
     rdb: &[u8],
     statements: &mut Statements,
-    replies: &mut Vec<Reply>,
+    replies: &mut Replies,
 ) -> Result<(), AllocError>
     requires rdb { length rdb.now ≤ 791 }
     requires section { HasSection (given_of accepted.given) }
-    ensures ok { OnOk result (IsAnswered (commands.fetched rdb.now statements.old (given_of accepted.entry.given)) statements.new replies.old.items replies.new.items) }
-    ensures size { OnOk result (written_lengths replies.new.items ≤ written_lengths replies.old.items + sizes.block_length (sizes.next_size (block_size_in (given_of accepted.entry.given)) (meant_cursor (commands.name_in (given_of accepted.entry.given)) (query_instance_in (given_of accepted.entry.given)) statements.old.sections))) }
+    ensures ok { OnOk result (IsAnswered (commands.fetched rdb.now statements.old (given_of accepted.entry.given)) statements.new replies.old.list replies.new.list) }
+    ensures size { OnOk result (written_lengths replies.new.list ≤ written_lengths replies.old.list + sizes.block_length (sizes.next_size (block_size_in (given_of accepted.entry.given)) (meant_cursor (commands.name_in (given_of accepted.entry.given)) (query_instance_in (given_of accepted.entry.given)) statements.old.sections))) }
     ensures statements { OnErr result (statements.new ≡ statements.old) }
-    ensures replies { OnErr result (replies.new.items ≡ replies.old.items) }
+    ensures replies { OnErr result (replies.new.list ≡ replies.old.list) }
 {
     let name = section_name(&accepted);
     let Ok(block) = statements
         .sections
         .next_block(name, accepted.query_instance(), accepted.block_size())
     else {
-        return refuse_fetch(alloc, rdb, name, replies);
+        return refuse_fetch(rdb, name, replies);
     };
-    add_block(alloc, &block, replies)?;
+    add_block(&block, replies)?;
     let (count, size) = (block.count, block.size);
     statements.sections.advance(name, count, size);
     Ok(())

@@ -9,6 +9,7 @@ mod laws;
 mod opening;
 mod query;
 mod replies;
+mod room;
 mod sizes;
 
 pub use closing::close;

@@ -1,13 +1,13 @@
 //! OPNQRY.
 
-ghost use Rattle.std.specs.Prelude.{◌≡◌, ◌≤◌, ◌+◌, ◌++◌, ◌∷◌, ◌==◌, [], IfOk, None, OnErr, OnOk, if◌then◌else◌, length, option_map, unwrap_or, vec_capacity, vec_len};
+ghost use Rattle.std.specs.Prelude.{◌≡◌, ◌≤◌, ◌+◌, ◌++◌, ◌∷◌, ◌==◌, [], None, OnErr, OnOk, if◌then◌else◌, length, option_map, unwrap_or};
 ghost use Rattle.core_calls.specs.Answer.{answer_of};
 ghost use Rattle.drda_commands.specs.Needs.{HasSection};
 ghost use Rattle.drda_commands.specs.Views.{described_of, given_of};
 ghost use Rattle.cursor_commands.specs.Blocks.{rows_in_block};
 ghost use Rattle.cursor_commands.specs.Commands as commands;
 ghost use Rattle.cursor_commands.specs.Replies as spec;
-ghost use Rattle.cursor_commands.specs.Room.{IsRoom};
+ghost use Rattle.cursor_commands.specs.Room.{HasRoom, opening_text};
 ghost use Rattle.cursor_commands.specs.Sizes as sizes;
 ghost use Rattle.drda_commands.specs.Values.{block_size_in};
 ghost use Rattle.command_kit.specs.Done.{IsAnswered, WasDone};
@@ -16,161 +16,101 @@ ghost use Rattle.sections.specs.Cursors.{opening_fault, section_of};
 ghost use Rattle.sections.specs.Room.{IsShort};
 
 use crate::query::ask_section;
-use crate::replies::{
-    add_end, add_failed, add_rows, add_short, of_description, of_rows, query_open, section_name,
-};
-use command_kit::{Ask, Reply, Statements, not_done};
+use crate::replies::{BlockRows, RowsDescription, add_end, add_failed, section_name};
+use crate::room::opening_text;
+use command_kit::{Ask, Replies, Statements, add_not_done};
 use core_calls::{Answer, SqlFault, StatementError};
 use drda_commands::{Accepted, DescribedData};
-use sections::{Block, MAX_ANSWER_ROW_LENGTH, MAX_QRYDSC_LENGTH, MAX_QRYDTA_HEADING, OpenFault};
+use sections::{Block, OpenFault};
 use sqlam_replies::{MAX_MESSAGE_LENGTH, ReplyMessage, SQLCARD_LENGTH};
 use std::alloc::{AllocError, Global};
 use tables::RowList;
 
-// Room for the replies, in lists of no bytes.
-#[derive(Drop)]
-struct Room {
-    first: Vec<u8>,
-    description: Vec<u8>,
-    rows: Vec<u8>,
-    end: Vec<u8>,
-    card: Vec<u8>,
-}
-
-impl Room {
-    // Room for the replies with a block of this size.
-    fn new(alloc: Global, size: u32) -> Result<Room, AllocError>
-        ensures { IfOk result (IsRoom size) }
-    {
-        let longest = (size as usize).max(MAX_ANSWER_ROW_LENGTH);
-        Ok(Room {
-            first: Vec::with_capacity(alloc, MAX_MESSAGE_LENGTH)?,
-            description: Vec::with_capacity(alloc, MAX_QRYDSC_LENGTH)?,
-            rows: Vec::with_capacity(alloc, longest + MAX_QRYDTA_HEADING)?,
-            end: Vec::with_capacity(alloc, MAX_MESSAGE_LENGTH)?,
-            card: Vec::with_capacity(alloc, SQLCARD_LENGTH)?,
-        })
-    }
-}
-
 // Adds the replies to a query that was opened, with its first block.
-fn add_opened(room: Room, instance: u64, block: &Block<'_>, replies: &mut Vec<Reply>)
-    requires room { IsRoom block.now.size room }
+fn add_opened(instance: u64, block: &Block<'_>, replies: &mut Replies)
+    requires room { HasRoom 5 (opening_text block.now.size) replies.old }
     requires short { IsShort block.now }
     requires within { block.now.start + block.now.count ≤ length block.now.rows.now.rows }
-    requires capacity { vec_len replies.old + 5 ≤ vec_capacity replies.old }
-    ensures items { replies.new.items ≡ replies.old.items ++ (spec.query_opened block.now.is_held instance ∷ spec.rows_description block.now.rows.now ∷ (if block.now.count == 0 then [] else spec.some_rows block.now.rows.now block.now.start block.now.count ∷ []) ++ commands.ending block.now.is_last) }
-    ensures size { written_lengths replies.new.items ≤ written_lengths replies.old.items + sizes.opening_length block.now.size }
+    ensures list { replies.new.list ≡ replies.old.list ++ (spec.query_opened block.now.is_held instance ∷ spec.rows_description block.now.rows.now ∷ (if block.now.count == 0 then [] else spec.some_rows block.now.rows.now block.now.start block.now.count ∷ []) ++ commands.ending block.now.is_last) }
+    ensures size { written_lengths replies.new.list ≤ written_lengths replies.old.list + sizes.opening_length block.now.size }
 {
-    let Room {
-        first,
-        description,
-        rows,
-        end,
-        card,
-    } = room;
-    let opened = ReplyMessage::QueryOpened {
+    replies.add(&ReplyMessage::QueryOpened {
         is_held: block.is_held,
         instance,
-    };
-    add_short(replies, Reply::of_message(first, opened));
-    add_short(replies, of_description(description, block.rows));
+    });
+    replies.add(&RowsDescription { block: *block });
     if block.count > 0 {
-        let block_rows = of_rows(rows, block.rows, block.start, block.count);
-        add_rows(replies, block_rows, block.size);
+        replies.add(&BlockRows { block: *block });
     }
-    add_end(block.is_last, end, card, replies);
+    add_end(block.is_last, replies);
 }
 
 // Opens a cursor over these rows, and sends its first block.
 fn open_cursor(
-    room: Room,
     name: &[u8],
     size: u32,
     rows: RowList,
     statements: &mut Statements,
-    replies: &mut Vec<Reply>,
+    replies: &mut Replies,
 )
     requires free { opening_fault name.now statements.old.sections ≡ None }
-    requires room { IsRoom size room }
-    requires capacity { vec_len replies.old + 5 ≤ vec_capacity replies.old }
-    ensures done { IsAnswered (commands.opened_with statements.old name.now size rows (rows_in_block rows 0 size)) statements.new replies.old.items replies.new.items }
-    ensures size { written_lengths replies.new.items ≤ written_lengths replies.old.items + sizes.opening_length size }
+    requires room { HasRoom 5 (opening_text size) replies.old }
+    ensures done { IsAnswered (commands.opened_with statements.old name.now size rows (rows_in_block rows 0 size)) statements.new replies.old.list replies.new.list }
+    ensures size { written_lengths replies.new.list ≤ written_lengths replies.old.list + sizes.opening_length size }
 {
     let instance = statements.sections.open_reserved(name, rows, size);
     let Ok(block) = statements.sections.next_block(name, None, None) else {
         unreachable!()
     };
-    add_opened(room, instance, &block, replies);
+    add_opened(instance, &block, replies);
     let count = block.count;
     statements.sections.advance(name, count, size);
 }
 
 // What a query's answer makes of the section.
 fn conclude(
-    room: Room,
     rdb: &[u8],
     name: &[u8],
     size: u32,
     answer: Answer,
     statements: &mut Statements,
-    replies: &mut Vec<Reply>,
+    replies: &mut Replies,
 )
     requires free { opening_fault name.now statements.old.sections ≡ None }
-    requires room { IsRoom size room }
+    requires room { HasRoom 5 (opening_text size) replies.old }
     requires rdb { length rdb.now ≤ 791 }
-    requires capacity { vec_len replies.old + 5 ≤ vec_capacity replies.old }
-    ensures done { IsAnswered (commands.after_query rdb.now statements.old name.now size (answer_of answer)) statements.new replies.old.items replies.new.items }
-    ensures size { written_lengths replies.new.items ≤ written_lengths replies.old.items + sizes.opening_length size }
+    ensures done { IsAnswered (commands.after_query rdb.now statements.old name.now size (answer_of answer)) statements.new replies.old.list replies.new.list }
+    ensures size { written_lengths replies.new.list ≤ written_lengths replies.old.list + sizes.opening_length size }
 {
     match answer {
-        Answer::Rows(rows) => open_cursor(room, name, size, rows, statements, replies),
-        Answer::Refused(refusal) => add_failed(
-            room.first,
-            room.card,
-            rdb,
-            refusal.fault(),
-            replies,
-        ),
-        answer => add_short(replies, not_done(answer, room.first)),
+        Answer::Rows(rows) => open_cursor(name, size, rows, statements, replies),
+        Answer::Refused(refusal) => add_failed(rdb, refusal.fault(), replies),
+        answer => add_not_done(answer, replies),
     }
 }
 
 // Refuses to open a query.
-fn refuse_open(
-    alloc: Global,
-    rdb: &[u8],
-    fault: SqlFault,
-    replies: &mut Vec<Reply>,
-) -> Result<(), AllocError>
+fn refuse_open(rdb: &[u8], fault: SqlFault, replies: &mut Replies) -> Result<(), AllocError>
     requires rdb { length rdb.now ≤ 791 }
-    ensures ok { OnOk result (replies.new.items ≡ replies.old.items ++ spec.open_failed rdb.now fault) }
-    ensures size { OnOk result (written_lengths replies.new.items ≤ written_lengths replies.old.items + sizes.ending_length) }
-    ensures err { OnErr result (replies.new.items ≡ replies.old.items) }
+    ensures ok { OnOk result (replies.new.list ≡ replies.old.list ++ spec.open_failed rdb.now fault) }
+    ensures size { OnOk result (written_lengths replies.new.list ≤ written_lengths replies.old.list + sizes.ending_length) }
+    ensures err { OnErr result (replies.new.list ≡ replies.old.list) }
 {
-    let message: Vec<u8> = Vec::with_capacity(alloc, MAX_MESSAGE_LENGTH)?;
-    let card: Vec<u8> = Vec::with_capacity(alloc, SQLCARD_LENGTH)?;
-    replies.reserve(2)?;
-    add_failed(message, card, rdb, fault, replies);
+    replies.reserve(2, MAX_MESSAGE_LENGTH + SQLCARD_LENGTH)?;
+    add_failed(rdb, fault, replies);
     Ok(())
 }
 
 // QRYPOPRM.
-fn refuse_open_query(
-    alloc: Global,
-    rdb: &[u8],
-    name: &[u8],
-    replies: &mut Vec<Reply>,
-) -> Result<(), AllocError>
+fn refuse_open_query(rdb: &[u8], name: &[u8], replies: &mut Replies) -> Result<(), AllocError>
     requires rdb { length rdb.now ≤ 791 }
     requires name { length name.now ≤ 791 }
-    ensures ok { OnOk result (replies.new.items ≡ replies.old.items ++ spec.query_open rdb.now name.now ∷ []) }
-    ensures size { OnOk result (written_lengths replies.new.items ≤ written_lengths replies.old.items + sizes.message_length) }
-    ensures err { OnErr result (replies.new.items ≡ replies.old.items) }
+    ensures ok { OnOk result (replies.new.list ≡ replies.old.list ++ spec.query_open rdb.now name.now ∷ []) }
+    ensures size { OnOk result (written_lengths replies.new.list ≤ written_lengths replies.old.list + sizes.message_length) }
+    ensures err { OnErr result (replies.new.list ≡ replies.old.list) }
 {
-    let text: Vec<u8> = Vec::with_capacity(alloc, MAX_MESSAGE_LENGTH)?;
-    replies.reserve(1)?;
-    add_short(replies, query_open(text, rdb, name));
+    replies.reserve(1, MAX_MESSAGE_LENGTH)?;
+    replies.add(&ReplyMessage::QueryOpen { rdb, section: name });
     Ok(())
 }
 
@@ -183,23 +123,20 @@ fn open_section<A: Ask>(
     parameters: Option<DescribedData<'_>>,
     statements: &mut Statements,
     asker: &mut A,
-    replies: &mut Vec<Reply>,
+    replies: &mut Replies,
 ) -> Result<(), AllocError>
     requires free { opening_fault name.now statements.old.sections ≡ None }
     requires rdb { length rdb.now ≤ 791 }
-    ensures ok { OnOk result (WasDone A.asks (commands.asked rdb.now statements.old name.now size (commands.query_in (option_map described_of parameters.entry) (section_of name.now statements.old.sections))) asker.old asker.new statements.new replies.old.items replies.new.items) }
-    ensures size { OnOk result (written_lengths replies.new.items ≤ written_lengths replies.old.items + sizes.opening_length size) }
+    ensures ok { OnOk result (WasDone A.asks (commands.asked rdb.now statements.old name.now size (commands.query_in (option_map described_of parameters.entry) (section_of name.now statements.old.sections))) asker.old asker.new statements.new replies.old.list replies.new.list) }
+    ensures size { OnOk result (written_lengths replies.new.list ≤ written_lengths replies.old.list + sizes.opening_length size) }
     ensures asker { OnErr result (asker.new ≡ asker.old) }
     ensures statements { OnErr result (statements.new ≡ statements.old) }
-    ensures replies { OnErr result (replies.new.items ≡ replies.old.items) }
+    ensures replies { OnErr result (replies.new.list ≡ replies.old.list) }
 {
-    let room = Room::new(alloc, size)?;
-    replies.reserve(5)?;
+    replies.reserve(5, opening_text(size))?;
     match ask_section(alloc, &statements.sections, name, parameters, asker) {
-        Ok(answer) => conclude(room, rdb, name, size, answer, statements, replies),
-        Err(StatementError::Fault(fault)) => {
-            add_failed(room.first, room.card, rdb, fault, replies);
-        }
+        Ok(answer) => conclude(rdb, name, size, answer, statements, replies),
+        Err(StatementError::Fault(fault)) => add_failed(rdb, fault, replies),
         Err(StatementError::NoMemory) => return Err(AllocError),
     }
     Ok(())
@@ -216,15 +153,15 @@ pub fn open<A: Ask>(
     rdb: &[u8],
     statements: &mut Statements,
     asker: &mut A,
-    replies: &mut Vec<Reply>,
+    replies: &mut Replies,
 ) -> Result<(), AllocError>
     requires rdb { length rdb.now ≤ 791 }
     requires section { HasSection (given_of accepted.given) }
-    ensures ok { OnOk result (WasDone A.asks (commands.opening rdb.now statements.old (given_of accepted.entry.given)) asker.old asker.new statements.new replies.old.items replies.new.items) }
-    ensures size { OnOk result (written_lengths replies.new.items ≤ written_lengths replies.old.items + sizes.opening_length (unwrap_or (block_size_in (given_of accepted.entry.given)) 0)) }
+    ensures ok { OnOk result (WasDone A.asks (commands.opening rdb.now statements.old (given_of accepted.entry.given)) asker.old asker.new statements.new replies.old.list replies.new.list) }
+    ensures size { OnOk result (written_lengths replies.new.list ≤ written_lengths replies.old.list + sizes.opening_length (unwrap_or (block_size_in (given_of accepted.entry.given)) 0)) }
     ensures asker { OnErr result (asker.new ≡ asker.old) }
     ensures statements { OnErr result (statements.new ≡ statements.old) }
-    ensures replies { OnErr result (replies.new.items ≡ replies.old.items) }
+    ensures replies { OnErr result (replies.new.list ≡ replies.old.list) }
 {
     let name = section_name(&accepted);
     let size = accepted.block_size().unwrap_or(0);
@@ -239,8 +176,8 @@ pub fn open<A: Ask>(
             asker,
             replies,
         ),
-        Err(OpenFault::NotPrepared) => refuse_open(alloc, rdb, SqlFault::NotPrepared, replies),
-        Err(OpenFault::QueryOpen) => refuse_open_query(alloc, rdb, name, replies),
-        Err(OpenFault::NoInstance) => refuse_open(alloc, rdb, SqlFault::LimitReached, replies),
+        Err(OpenFault::NotPrepared) => refuse_open(rdb, SqlFault::NotPrepared, replies),
+        Err(OpenFault::QueryOpen) => refuse_open_query(rdb, name, replies),
+        Err(OpenFault::NoInstance) => refuse_open(rdb, SqlFault::LimitReached, replies),
     }
 }

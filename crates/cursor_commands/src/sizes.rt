@@ -8,18 +8,18 @@ ghost use Rattle.cursor_commands.specs.Commands.{name_in};
 ghost use Rattle.cursor_commands.specs.Sizes as spec;
 
 use crate::replies::section_name;
+use crate::room::rows_text;
 use command_kit::Statements;
 use drda_commands::{Accepted, Command};
 use dss_frames::written_length;
-use sections::{MAX_ANSWER_ROW_LENGTH, MAX_QRYDSC_LENGTH, MAX_QRYDTA_HEADING};
+use sections::MAX_QRYDSC_LENGTH;
 use sqlam_replies::{MAX_MESSAGE_LENGTH, SQLCARD_LENGTH};
 
 fn block_length(size: u32) -> usize
     ensures { result ≡ spec.block_length size }
 {
-    let longest = (size as usize).max(MAX_ANSWER_ROW_LENGTH) + MAX_QRYDTA_HEADING;
     let ending = written_length(MAX_MESSAGE_LENGTH) + written_length(SQLCARD_LENGTH);
-    written_length(longest) + ending
+    written_length(rows_text(size)) + ending
 }
 
 fn opening_length(size: u32) -> usize

@@ -1,6 +1,7 @@
 //! OPNQRY, CNTQRY and CLSQRY, one after the other.
 
 use crate::fixtures::{Asked, Script, Scripted, Told, are_told, ask, prepared};
+use command_kit::Replies;
 use core_calls::SqlFault;
 use ddm_objects::code_point::{
     AGNPRMRM, CLSQRY, CNTQRY, ENDQRYRM, OPNQFLRM, OPNQRY, OPNQRYRM, QRYDSC, QRYDTA, QRYNOPRM,
@@ -145,13 +146,13 @@ fn are_replied(
         script,
         asked: 0,
     };
-    let mut replies = Vec::new(alloc);
+    let mut replies = Replies::new(alloc);
     for command in commands {
         if !ask(alloc, *command, &mut statements, &mut asker, &mut replies)? {
             return Ok(false);
         }
     }
-    Ok(asker.asked == asked && are_told(&replies, expected))
+    Ok(asker.asked == asked && are_told(replies.as_list(), expected))
 }
 
 #[test]

@@ -2,7 +2,7 @@
 
 ghost use Rattle.std.specs.Prelude.{⊤};
 
-use command_kit::{Ask, Reply, Statements};
+use command_kit::{Ask, Replies, ReplyList, Statements};
 use core_calls::{Answer, CoreCall, Refusal, SqlFault};
 use cursor_commands::{do_command, most_length};
 use ddm_objects::{code_point, put};
@@ -96,8 +96,8 @@ fn rows(alloc: Global, lengths: &[u16]) -> Option<RowList> {
 /// A reply: its code point, and of an SQLCARD its SQLCODE, of QRYDTA its length, 0 of any other.
 pub type Told = (u16, i32);
 
-fn told(reply: &Reply) -> Option<Told> {
-    match reply.text() {
+fn told(text: &[u8]) -> Option<Told> {
+    match text {
         [high, low, 0x24, 0x1B, ..] => Some((
             code_point::QRYDTA,
             i32::from_be_bytes([0, 0, *high, *low]),
@@ -112,16 +112,18 @@ fn told(reply: &Reply) -> Option<Told> {
 }
 
 /// Whether these are the replies.
-pub fn are_told(replies: &[Reply], expected: &[Told]) -> bool {
-    if replies.len() != expected.len() {
-        return false;
-    }
-    for (reply, expected) in replies.iter().zip(expected) {
-        if told(reply) != Some(*expected) {
+pub fn are_told(replies: ReplyList<'_>, expected: &[Told]) -> bool {
+    let mut left = replies;
+    for expected in expected {
+        let Some((reply, others)) = left.split_first() else {
+            return false;
+        };
+        if told(reply.text) != Some(*expected) {
             return false;
         }
+        left = others;
     }
-    true
+    left.split_first().is_none()
 }
 
 /// A command: its code point, QRYBLKSZ and QRYINSID where they come.
@@ -160,10 +162,12 @@ pub fn prepared(alloc: Global, text: &str, is_held: bool) -> Result<Statements, 
 }
 
 // The bytes that replies take as DSSs.
-fn written(replies: &[Reply]) -> usize {
+fn written(replies: ReplyList<'_>) -> usize {
     let mut length: usize = 0;
-    for reply in replies {
-        length = length.saturating_add(written_length(reply.text().len().min(20_000_000)));
+    let mut left = replies;
+    'replies: while let Some((reply, others)) = left.split_first() {
+        length = length.saturating_add(written_length(reply.text.len().min(20_000_000)));
+        left = others;
     }
     length
 }
@@ -174,7 +178,7 @@ pub fn ask(
     asked: Asked,
     statements: &mut Statements,
     asker: &mut Scripted,
-    replies: &mut Vec<Reply>,
+    replies: &mut Replies,
 ) -> Result<bool, AllocError> {
     let mut segments = Segments::new(alloc);
     let bytes = command(alloc, asked)?;
@@ -183,9 +187,9 @@ pub fn ask(
         && let Some((request, objects)) = group.split_first()
         && let Ok(accepted) = judge(Stage::Opened, false, request.contents, objects)
     {
-        let room = most_length(&accepted, statements).saturating_add(written(replies));
+        let room = most_length(&accepted, statements).saturating_add(written(replies.as_list()));
         do_command(alloc, accepted, b"DRDADB", statements, asker, replies)?;
-        return Ok(written(replies) <= room);
+        return Ok(written(replies.as_list()) <= room);
     }
     Ok(false)
 }

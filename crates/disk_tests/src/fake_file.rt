@@ -22,6 +22,17 @@ pub struct FakeFile {
     pub syncs: u32,
 }
 
+// Copies so many bytes from a place to another one, or as many as there are on both sides.
+fn copy(into: &mut [u8], to: usize, from: &[u8], at: usize, count: usize) {
+    for (byte, new) in into
+        .iter_mut()
+        .skip(to)
+        .zip(from.iter().skip(at).take(count))
+    {
+        *byte = *new;
+    }
+}
+
 impl FakeFile {
     /// A file that does all that it is asked at once, but for its syncs if they are to fail.
     pub fn new(fails_to_sync: bool) -> FakeFile {
@@ -78,17 +89,13 @@ impl PositionalFile for FakeFile {
 
     fn read_some(&mut self, at: usize, into: &mut [u8]) -> io::Result<usize> {
         let n = self.begin(into.len())?;
-        for (byte, old) in into.iter_mut().take(n).zip(self.bytes.iter().skip(at)) {
-            *byte = *old;
-        }
+        copy(into, 0, &self.bytes, at, n);
         Ok(n)
     }
 
     fn write_some(&mut self, at: usize, bytes: &[u8]) -> io::Result<usize> {
         let n = self.begin(bytes.len())?;
-        for (byte, new) in self.bytes.iter_mut().skip(at).zip(bytes.iter().take(n)) {
-            *byte = *new;
-        }
+        copy(&mut self.bytes, at, bytes, 0, n);
         Ok(n)
     }
 

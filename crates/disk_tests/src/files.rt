@@ -1,6 +1,6 @@
 //! Files as disks: real ones, and one that takes a part of what it is asked, is interrupted, and fails.
 
-use crate::calls::{number_in, tell_call};
+use crate::calls::{number_in, numbers_in, tell, tell_both, tell_call, tell_is, tell_text};
 use crate::fake_file::{FakeFile, FakePlace};
 use drda_disk::{FileDisk, FileFault, FilePath, FilePlace, PositionalFile, SystemFile};
 use std::alloc::{AllocError, Global};
@@ -15,16 +15,12 @@ pub struct Files {
     real: Option<FileDisk<SystemFile>>,
 }
 
-// The path of a name in the folder for temporary files; of a dot, that folder's.
+// The path of a name in the folder for temporary files.
 fn path_of(rt: &HostRuntime, name: &str) -> Result<String, AllocError> {
-    let folder = match std::env::temp_dir(rt) {
-        Ok(folder) => folder,
-        Err(_) => return Err(AllocError),
-    };
     let id = process::id(rt.process());
-    match name {
-        "." => format!(in rt.alloc(); "{}/.", folder.as_str()),
-        _ => format!(in rt.alloc(); "{}/drda_disk-{id}-{name}", folder.as_str()),
+    match std::env::temp_dir(rt) {
+        Ok(folder) => format!(in rt.alloc(); "{}/drda_disk-{id}-{name}", folder.as_str()),
+        Err(_) => Err(AllocError),
     }
 }
 
@@ -42,13 +38,10 @@ fn take<F: PositionalFile + Drop, P: FilePlace<File = F>>(
     match made {
         Ok(made) => {
             *disk = Some(made);
-            writeln!(out, "  opened")
+            tell_text(out, "opened")
         }
-        Err(FileFault::Io(error)) => {
-            let kind = error.kind();
-            writeln!(out, "  refused as {kind:?}")
-        }
-        Err(FileFault::InUse) => writeln!(out, "  in use"),
+        Err(FileFault::Io(error)) => tell(out, &error.kind()),
+        Err(FileFault::InUse) => tell_text(out, "in use"),
     }
 }
 
@@ -56,20 +49,24 @@ fn take<F: PositionalFile + Drop, P: FilePlace<File = F>>(
 fn tell_step<F: PositionalFile>(
     alloc: Global,
     disk: &mut Option<FileDisk<F>>,
-    step: &str,
+    verb: &str,
+    rest: &str,
     out: &mut String,
 ) -> Result<(), AllocError> {
     match disk {
-        Some(disk) if step == "why" => match disk.last_fault() {
-            Some(fault) => writeln!(out, "  {fault}"),
-            None => writeln!(out, "  no fault"),
-        },
-        Some(disk) => tell_call(alloc, disk, step, out),
-        None => writeln!(out, "  no disk"),
+        Some(disk) if verb == "why" => tell_fault(disk, out),
+        Some(disk) => tell_call(alloc, disk, verb, rest, out),
+        None => tell_text(out, "no disk"),
     }
 }
 
-// Somebody cuts a file off behind its disk's back.
+fn tell_fault<F: PositionalFile>(disk: &FileDisk<F>, out: &mut String) -> Result<(), AllocError> {
+    match disk.last_fault() {
+        Some(fault) => writeln!(out, "  {fault}"),
+        None => tell_text(out, "no fault"),
+    }
+}
+
 fn cut(rt: &HostRuntime, path: &str, length: usize) -> io::Result<()> {
     let file = OpenOptions::new().write(true).open(rt, path)?;
     file.set_len(length as u64)
@@ -90,6 +87,15 @@ fn is_refused(opened: Result<FileDisk<SystemFile>, FileFault>) -> bool {
     }
 }
 
+// Cuts a file off behind its disk's back, locks it, or removes it: whether that was done.
+fn is_done(rt: &HostRuntime, verb: &str, path: &str, length: usize) -> bool {
+    match verb {
+        "cut" => cut(rt, path, length).is_ok(),
+        "lock" => lock(rt, path).is_ok(),
+        _ => fs::remove_file(rt, path).is_ok(),
+    }
+}
+
 impl Files {
     /// No file.
     pub fn new() -> Files {
@@ -101,10 +107,8 @@ impl Files {
 
     // A file of which a call takes at most so many bytes, of every so many calls of which one is interrupted, and one call of which fails.
     fn lay_fake(&mut self, asked: &str) {
-        let (most, asked) = number_in(asked);
-        let (every, asked) = number_in(asked);
-        let (failing, syncs) = number_in(asked);
-        let mut file = FakeFile::new(syncs == "fail");
+        let [most, every, failing, _] = numbers_in(asked);
+        let mut file = FakeFile::new(asked.ends_with("fail"));
         file.most = most;
         file.interrupted_every = every;
         file.failing_call = failing;
@@ -121,7 +125,7 @@ impl Files {
         self.fake = None;
         take(&mut self.fake, &mut place, Some(16), out)?;
         let (syncs, removed) = (place.folder_syncs, place.removed);
-        writeln!(out, "  {syncs} syncs of its folder, {removed} taken away")
+        tell_both(out, ("syncs of its folder", syncs), ("taken away", removed))
     }
 
     /// Does a step with a file that is none, and tells what it comes to: `over` and `place` make one, `calls` tells how many there were of it,
@@ -129,10 +133,10 @@ impl Files {
     pub fn answer_fake(
         &mut self,
         alloc: Global,
-        step: &str,
+        verb: &str,
+        rest: &str,
         out: &mut String,
     ) -> Result<(), AllocError> {
-        let (verb, rest) = step.split_once(' ').unwrap_or((step, ""));
         match (verb, &self.fake) {
             ("over", _) => {
                 self.lay_fake(rest);
@@ -140,49 +144,57 @@ impl Files {
             }
             ("place", _) => self.tell_place(rest, out),
             ("calls", Some(disk)) => {
-                let (calls, syncs) = (disk.file().calls, disk.file().syncs);
-                writeln!(out, "  {calls} calls, {syncs} syncs")
+                let (calls, syncs) = (disk.file().calls as u64, disk.file().syncs);
+                tell_both(out, ("calls", calls), ("syncs", u64::from(syncs)))
             }
-            _ => tell_step(alloc, &mut self.fake, step, out),
+            _ => tell_step(alloc, &mut self.fake, verb, rest, out),
         }
     }
 
     /// Does a step with a real file, and tells what it comes to. `create`, `open`, `cut`, `lock`, `locked` and `remove` have a file's name
-    /// behind them; `close` closes the disk, and else it is a call of it.
+    /// behind them, a dot that of the folder that the program runs in; `close` closes the disk, and else it is a call of it.
     pub fn answer_real(
         &mut self,
         rt: &HostRuntime,
-        step: &str,
+        verb: &str,
+        rest: &str,
         out: &mut String,
     ) -> Result<(), AllocError> {
-        let (verb, rest) = step.split_once(' ').unwrap_or((step, ""));
-        let (name, rest) = rest.split_once(' ').unwrap_or((rest, ""));
-        let (number, _) = number_in(rest);
-        let path = path_of(rt, name)?;
-        let path = path.as_str();
         match verb {
-            "create" => take(
-                &mut self.real,
-                &mut FilePath::new(rt, path),
-                Some(number),
-                out,
-            ),
-            "open" => take(&mut self.real, &mut FilePath::new(rt, path), None, out),
-            "locked" => {
-                let is_refused = is_refused(FileDisk::open(&mut FilePath::new(rt, path)));
-                writeln!(
-                    out,
-                    "  refused, or to a privileged user opened {is_refused}"
-                )
+            "create" | "open" | "cut" | "lock" | "locked" | "remove" => {
+                let (name, number) = rest.split_once(' ').unwrap_or((rest, ""));
+                if name == "." {
+                    return self.answer_at(rt, name, verb, 0, out);
+                }
+                let path = path_of(rt, name)?;
+                self.answer_at(rt, path.as_str(), verb, number_in(number).0, out)
             }
-            "cut" => writeln!(out, "  {}", cut(rt, path, number).is_ok()),
-            "lock" => writeln!(out, "  {}", lock(rt, path).is_ok()),
-            "remove" => writeln!(out, "  {}", fs::remove_file(rt, path).is_ok()),
             "close" => {
                 self.real = None;
                 Ok(())
             }
-            _ => tell_step(rt.alloc(), &mut self.real, step, out),
+            _ => tell_step(rt.alloc(), &mut self.real, verb, rest, out),
+        }
+    }
+
+    fn answer_at(
+        &mut self,
+        rt: &HostRuntime,
+        path: &str,
+        verb: &str,
+        number: usize,
+        out: &mut String,
+    ) -> Result<(), AllocError> {
+        let mut place = FilePath::new(rt, path);
+        match verb {
+            "create" => take(&mut self.real, &mut place, Some(number), out),
+            "open" => take(&mut self.real, &mut place, None, out),
+            "locked" => tell_is(
+                out,
+                "refused, or to a privileged user opened",
+                is_refused(FileDisk::open(&mut place)),
+            ),
+            _ => tell_is(out, "done", is_done(rt, verb, path, number)),
         }
     }
 }

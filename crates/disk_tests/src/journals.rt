@@ -2,7 +2,7 @@
 ghost use Rattle.std.specs.Prelude.{◌^◌, ◌<◌, ◌≤◌, IsTrue, length};
 ghost use Rattle.drda_disk.specs.Region.{end_of};
 
-use crate::calls::number_in;
+use crate::calls::{number_in, tell, tell_both};
 use drda_disk::{Disk, Region};
 use std::alloc::{AllocError, Global};
 use test_bytes::bytes_of;
@@ -51,16 +51,11 @@ pub fn open<D: Disk>(
     Journal::open(alloc, disk, region)
 }
 
-/// Tells how many records a region has, or why they are not found.
-pub fn tell_found<D: Disk>(
-    alloc: Global,
-    disk: &mut D,
-    region: Region,
-    out: &mut String,
-) -> Result<(), AllocError> {
+/// How many records a region has.
+pub fn count<D: Disk>(alloc: Global, disk: &mut D, region: Region) -> Result<usize, OpenError> {
     match open(alloc, disk, region) {
-        Ok((_, records)) => writeln!(out, "  {} records", records.len()),
-        Err(fault) => writeln!(out, "  {fault:?}"),
+        Ok((_, records)) => Ok(records.len()),
+        Err(fault) => Err(fault),
     }
 }
 
@@ -89,7 +84,7 @@ fn laid_record(alloc: Global, kind: &str, body: &str) -> Result<LaidRecord, Allo
 pub fn tell_record(alloc: Global, asked: &str, out: &mut String) -> Result<(), AllocError> {
     let (kind, body) = asked.split_once(' ').unwrap_or((asked, ""));
     let laid = laid_record(alloc, kind, body)?;
-    writeln!(out, "  {:?} {:?}", laid.kind(), laid.body())
+    tell(out, &(laid.kind(), laid.body()))
 }
 
 /// Tells whether a record that was begun is laid: neither call fails whatever memory is refused.
@@ -97,7 +92,7 @@ pub fn tell_begun(alloc: Global, out: &mut String) -> Result<(), AllocError> {
     let mut bytes = LaidRecord::begin(alloc, 3)?;
     let is_extended = bytes.extend_from_slice(&[1, 2, 3]).is_ok();
     let is_laid = LaidRecord::finish(Kind::Commit, bytes).is_ok();
-    writeln!(out, "  extended {is_extended}, laid {is_laid}")
+    tell_both(out, ("extended", is_extended), ("laid", is_laid))
 }
 
 // The group of so many records, the first a commit of one byte and the others prepares of two.

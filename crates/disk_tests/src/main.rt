@@ -13,6 +13,13 @@ use crate::memory::Memory;
 use std::alloc::AllocError;
 use std::io::{self, Write};
 
+/// The disks of the lines so far.
+#[derive(Drop)]
+struct Disks {
+    memory: Memory,
+    files: Files,
+}
+
 fn main(rt: HostRuntime) -> io::Result<()> {
     let text = io::read_to_string(rt.alloc(), rt.stdin())?;
     let mut told = String::new(rt.alloc());
@@ -24,35 +31,49 @@ fn main(rt: HostRuntime) -> io::Result<()> {
 
 // Writes each line down, and what its steps tell.
 fn follow(rt: &HostRuntime, text: &str, out: &mut String) -> Result<(), AllocError> {
-    let mut memory = Memory::new(rt.alloc())?;
-    let mut files = Files::new();
-    let mut done = Ok(());
-    for line in text.lines() {
-        done = answer(rt, line, &mut memory, &mut files, out);
-        if done.is_err() {
-            break;
-        }
-    }
-    done
+    let mut disks = Disks {
+        memory: Memory::new(rt.alloc())?,
+        files: Files::new(),
+    };
+    disks.answer_all(rt, text, out)
 }
 
-// Writes a line down, and what its steps tell. Lines that are empty or begin with # have none.
-fn answer(
-    rt: &HostRuntime,
-    line: &str,
-    memory: &mut Memory,
-    files: &mut Files,
-    out: &mut String,
-) -> Result<(), AllocError> {
-    writeln!(out, "{line}")?;
-    let (subject, steps) = line.split_once(' ').unwrap_or((line, ""));
-    for step in steps.split("; ") {
+impl Disks {
+    fn answer_all(
+        &mut self,
+        rt: &HostRuntime,
+        text: &str,
+        out: &mut String,
+    ) -> Result<(), AllocError> {
+        for line in text.lines() {
+            writeln!(out, "{line}")?;
+            self.answer(rt, line, out)?;
+        }
+        Ok(())
+    }
+
+    // Tells what the steps of a line tell. Lines that are empty or begin with # have none.
+    fn answer(&mut self, rt: &HostRuntime, line: &str, out: &mut String) -> Result<(), AllocError> {
+        let (subject, steps) = line.split_once(' ').unwrap_or((line, ""));
+        for step in steps.split("; ") {
+            self.answer_step(rt, subject, step, out)?;
+        }
+        Ok(())
+    }
+
+    fn answer_step(
+        &mut self,
+        rt: &HostRuntime,
+        subject: &str,
+        step: &str,
+        out: &mut String,
+    ) -> Result<(), AllocError> {
+        let (verb, rest) = step.split_once(' ').unwrap_or((step, ""));
         match subject {
-            "memory" => memory.answer(step, out)?,
-            "fake" => files.answer_fake(rt.alloc(), step, out)?,
-            "file" => files.answer_real(rt, step, out)?,
-            _ => {}
+            "memory" => self.memory.answer(verb, rest, out),
+            "fake" => self.files.answer_fake(rt.alloc(), verb, rest, out),
+            "file" => self.files.answer_real(rt, verb, rest, out),
+            _ => Ok(()),
         }
     }
-    Ok(())
 }

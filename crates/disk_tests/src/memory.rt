@@ -1,7 +1,9 @@
 //! A disk in memory that crashes and fails, and a journal on it.
 
-use crate::calls::{change, image, number_in, tell_call};
-use crate::journals::{add, open, settle, tell_begun, tell_found, tell_record};
+use crate::calls::{
+    change, image, number_in, numbers_in, tell, tell_both, tell_call, tell_is, tell_text,
+};
+use crate::journals::{add, count, open, settle, tell_begun, tell_record};
 use drda_disk::{Disk, FuseDisk, MemDisk, Region};
 use std::alloc::{AllocError, Global};
 use std::mem;
@@ -20,10 +22,9 @@ pub struct Memory {
 
 // A disk of so many zeros, with room set aside for so many writes of so many bytes; its fuse lets each call through.
 fn fresh(alloc: Global, asked: &str) -> Result<FuseDisk<MemDisk>, AllocError> {
-    let (size, aside) = number_in(asked);
-    let (writes, bytes) = number_in(aside);
+    let [size, writes, bytes, _] = numbers_in(asked);
     let mut disk = MemDisk::new(alloc, size)?;
-    disk.set_aside(writes, number_in(bytes).0)?;
+    disk.set_aside(writes, bytes)?;
     Ok(FuseDisk::new(disk, u64::MAX, false))
 }
 
@@ -37,8 +38,7 @@ fn remade(disk: FuseDisk<MemDisk>, verb: &str, number: u64) -> FuseDisk<MemDisk>
 }
 
 fn region_of(asked: &str) -> Region {
-    let (at, length) = number_in(asked);
-    let (length, _) = number_in(length);
+    let [at, length, _, _] = numbers_in(asked);
     if at.checked_add(length).is_none() {
         return Region { at: 0, length: 0 };
     }
@@ -54,6 +54,15 @@ fn place_of(old: u8, new: u8, left: u8) -> usize {
         (false, true, _) => 0,
         (false, false, true) => 1,
         (false, false, false) => 2,
+    }
+}
+
+// Counts the bytes that a crash leaves, each at its place.
+fn count_bytes(counts: &mut [usize; 5], old: &[u8; 16], new: &[u8; 16], left: &[u8; 16]) {
+    for i in 0..16 {
+        if let Some(count) = counts.get_mut(place_of(old[i], new[i], left[i])) {
+            *count = count.saturating_add(1);
+        }
     }
 }
 
@@ -78,17 +87,15 @@ impl Memory {
     // How many records a crash leaves of a copy, or why there are none.
     fn tell_left(&self, pick: u64, out: &mut String) -> Result<(), AllocError> {
         let mut left = self.disk.inner().copy(self.alloc)?.after_crash(pick);
-        tell_found(self.alloc, &mut left, self.region, out)
+        tell(out, &count(self.alloc, &mut left, self.region))
     }
 
     // How many records a copy has with other bytes at a place, or why there are none.
     fn tell_changed(&self, asked: &str, out: &mut String) -> Result<(), AllocError> {
-        let (at, bytes) = number_in(asked);
-        let bytes = bytes_of(self.alloc, &[bytes])?;
         let mut copy = self.disk.inner().copy(self.alloc)?;
-        match change(&mut copy, "put", at, &bytes) {
-            Ok(()) => tell_found(self.alloc, &mut copy, self.region, out),
-            Err(fault) => writeln!(out, "  {fault:?}"),
+        match change(self.alloc, &mut copy, "put", asked)? {
+            Ok(()) => tell(out, &count(self.alloc, &mut copy, self.region)),
+            Err(fault) => tell(out, &fault),
         }
     }
 
@@ -99,26 +106,17 @@ impl Memory {
         let mut counts = [0usize; 5];
         for pick in 2..to {
             let left = self.left(pick)?;
-            for (old, (new, left)) in old.iter().zip(new.iter().zip(left.iter())) {
-                if let Some(count) = counts.get_mut(place_of(*old, *new, *left)) {
-                    *count = count.saturating_add(1);
-                }
-            }
+            count_bytes(&mut counts, &old, &new, &left);
         }
         Ok(counts)
     }
 
     // Whether more bytes than so many are old, new and neither, and how many are changed that were not written.
     fn tell_torn(&self, asked: &str, out: &mut String) -> Result<(), AllocError> {
-        let (to, olds) = number_in(asked);
-        let (olds, news) = number_in(olds);
-        let (news, others) = number_in(news);
+        let [to, olds, news, others] = numbers_in(asked);
         let [old, new, other, outside, _] = self.count_torn(to as u64)?;
-        let (old, new, other) = (old > olds, new > news, other > number_in(others).0);
-        writeln!(
-            out,
-            "  old {old}, new {new}, neither {other}, outside {outside}"
-        )
+        tell_both(out, ("old", old > olds), ("new", new > news))?;
+        tell_both(out, ("neither", other > others), ("outside", outside))
     }
 
     // Whether a crash of one of the picks from 2 on leaves just these bytes.
@@ -129,7 +127,7 @@ impl Memory {
         for pick in 2..to {
             is_seen = is_seen || self.left(pick as u64)?.iter().eq(bytes.iter());
         }
-        writeln!(out, "  seen {is_seen}")
+        tell_is(out, "seen", is_seen)
     }
 
     fn remake(&mut self, verb: &str, number: usize) -> Result<(), AllocError> {
@@ -157,13 +155,23 @@ impl Memory {
         match settled {
             Ok(journal) => {
                 self.journal = Some(journal);
-                writeln!(out, "  settled")
+                tell_text(out, "settled")
             }
             Err(fault) => {
                 self.journal = None;
-                writeln!(out, "  {fault:?}")
+                tell(out, &fault)
             }
         }
+    }
+
+    fn begin(&mut self, asked: &str, out: &mut String) -> Result<(), AllocError> {
+        self.region = region_of(asked);
+        self.settle(None, 0, out)
+    }
+
+    fn lay_found(&mut self, asked: &str, out: &mut String) -> Result<(), AllocError> {
+        let [count, held, _, _] = numbers_in(asked);
+        self.settle(Some(count), held, out)
     }
 
     // What stands in the region.
@@ -172,82 +180,87 @@ impl Memory {
             Ok((journal, records)) => {
                 self.journal = Some(journal);
                 self.records = records;
-                writeln!(out, "  {:?}", self.records)
+                tell(out, &self.records)
             }
-            Err(fault) => writeln!(out, "  {fault:?}"),
+            Err(fault) => tell(out, &fault),
         }
     }
 
     // Adds to the journal or holds bytes back. A journal whose device failed is not used again.
-    fn add(&mut self, verb: &str, asked: &str, out: &mut String) -> Result<(), AllocError> {
+    fn add(&mut self, asked: &str, out: &mut String) -> Result<(), AllocError> {
+        let (verb, asked) = asked.split_once(' ').unwrap_or((asked, ""));
         let Some(journal) = &mut self.journal else {
-            return writeln!(out, "  no journal");
+            return tell_text(out, "no journal");
         };
         let told = add(self.alloc, journal, &mut self.disk, verb, asked)?;
         if told == Err(AppendError::DeviceFailed) {
             self.journal = None;
         }
-        writeln!(out, "  {told:?}")
+        tell(out, &told)
     }
 
     fn tell_room(&self, out: &mut String) -> Result<(), AllocError> {
         match &self.journal {
-            Some(journal) => {
-                let (room, held) = (journal.room(), journal.held());
-                writeln!(out, "  room {room}, held {held}")
-            }
-            None => writeln!(out, "  no journal"),
+            Some(journal) => { tell_both(out, ("room", journal.room()), ("held", journal.held())) }
+            None => tell_text(out, "no journal"),
         }
+    }
+
+    // A fresh disk in the place of this one.
+    fn lay(&mut self, asked: &str) -> Result<(), AllocError> {
+        self.disk = fresh(self.alloc, asked)?;
+        Ok(())
+    }
+
+    fn tell_first_bytes(&self, pick: u64, out: &mut String) -> Result<(), AllocError> {
+        tell(out, &self.left(pick)?)
+    }
+
+    fn tell_calls(&self, out: &mut String) -> Result<(), AllocError> {
+        let behind = self.disk.inner().failures();
+        tell_both(
+            out,
+            ("calls", self.disk.calls()),
+            ("failures behind", behind),
+        )
     }
 
     /// Does a step, and tells what it comes to. `disk` is a fresh one; `crash` leaves of it what it may, and `once` and `always` change its
     /// fuse. `left` tells the first bytes that a crash leaves of a copy, `seen` and `torn` what crashes of many picks leave.
-    pub fn answer(&mut self, step: &str, out: &mut String) -> Result<(), AllocError> {
-        let (verb, rest) = step.split_once(' ').unwrap_or((step, ""));
+    pub fn answer(&mut self, verb: &str, rest: &str, out: &mut String) -> Result<(), AllocError> {
         let (number, _) = number_in(rest);
         match verb {
-            "disk" => {
-                self.disk = fresh(self.alloc, rest)?;
-                Ok(())
-            }
+            "disk" => self.lay(rest),
             "crash" | "once" | "always" => self.remake(verb, number),
-            "left" => writeln!(out, "  {:?}", self.left(number as u64)?),
+            "left" => self.tell_first_bytes(number as u64, out),
             "torn" => self.tell_torn(rest, out),
             "seen" => self.tell_seen(rest, out),
-            "calls" => {
-                let (calls, behind) = (self.disk.calls(), self.disk.inner().failures());
-                writeln!(out, "  {calls} calls, {behind} failures behind")
-            }
-            "put" | "through" | "try" | "sync" | "read" | "size" => {
-                tell_call(self.alloc, &mut self.disk, step, out)
-            }
+            "calls" => self.tell_calls(out),
+            "add" => self.add(rest, out),
             _ => self.answer_of_journal(verb, rest, out),
         }
     }
 
     // `journal` begins one in a region; `start`, `lay`, `open` and others concern it. `found` tells how many records a crash leaves of a copy,
-    // and `with` how many are there with another byte.
+    // and `with` how many are there with another byte. All else is a call of the disk.
     fn answer_of_journal(
         &mut self,
         verb: &str,
         rest: &str,
         out: &mut String,
     ) -> Result<(), AllocError> {
-        let (number, second) = number_in(rest);
+        let (number, _) = number_in(rest);
         match verb {
-            "journal" => {
-                self.region = region_of(rest);
-                self.settle(None, 0, out)
-            }
+            "journal" => self.begin(rest, out),
             "start" => self.settle(None, 0, out),
-            "lay" => self.settle(Some(number), number_in(second).0, out),
+            "lay" => self.lay_found(rest, out),
             "open" => self.open(out),
             "room" => self.tell_room(out),
             "found" => self.tell_left(number as u64, out),
             "with" => self.tell_changed(rest, out),
             "begun" => tell_begun(self.alloc, out),
             "record" => tell_record(self.alloc, rest, out),
-            _ => self.add(verb, rest, out),
+            _ => tell_call(self.alloc, &mut self.disk, verb, rest, out),
         }
     }
 }

@@ -20,6 +20,9 @@ use std::alloc::Global;
 /// The bytes of a store in memory.
 const MEMORY_SIZE: usize = 2_097_152;
 
+/// More writes than a store in memory makes between two syncs: a checkpoint of 127 pages makes most.
+const WRITES_AT_ONCE: usize = 256;
+
 /// Makes a store of this name on a disk. A disk that has no store's size is reported as a fault of the
 /// device: it was made with another one.
 fn make<D: Disk>(alloc: Global, disk: &mut D, rdb: &str) -> Result<(), Fault>
@@ -98,7 +101,8 @@ pub(crate) fn open_file<F: StoreFiles>(
     }
 }
 
-/// The core over a store in memory that is just made. A name that no store has is refused first.
+/// The core over a store in memory that is just made. A name that no store has is refused first. The memory
+/// that its device takes is asked for here, so that none of its writes fails.
 pub(crate) fn fresh(alloc: Global, rdb: &str) -> Result<DurableCore<MemDisk>, Fault>
     ensures { BeginsFresh rdb.now result }
 {
@@ -107,6 +111,7 @@ pub(crate) fn fresh(alloc: Global, rdb: &str) -> Result<DurableCore<MemDisk>, Fa
     }
     fresh_stores_open();
     let mut disk = MemDisk::new(alloc, MEMORY_SIZE)?;
+    disk.set_aside(WRITES_AT_ONCE, MEMORY_SIZE)?;
     match make(alloc, &mut disk, rdb) {
         Ok(()) => open_disk(alloc, disk),
         Err(fault) => Err(fault),

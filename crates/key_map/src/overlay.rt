@@ -1,8 +1,8 @@
 //! The changes of a table since its pages were written.
 
-ghost use Rattle.std.specs.Prelude.{◌≡◌, ◌<◌, ℕ, List, [], Some, None, OnOk, length, map, option_map};
+ghost use Rattle.std.specs.Prelude.{◌≡◌, ◌<◌, ℕ, List, [], Some, None, OnOk, false, length, map, option_map};
 ghost use Rattle.std.specs.BTreeMap.{insert_entry};
-ghost use Rattle.key_map.specs.Slots.{HasRoom, by_bytes};
+ghost use Rattle.key_map.specs.Slots.{HasRoom, by_bytes, by_key};
 ghost use Rattle.key_map.specs.Walk.{rows_left};
 ghost use Rattle.key_map.specs.Merging.{InOrder, Rows, changed, merged, over, row_at};
 ghost use Rattle.key_map.specs.Overlay.{change_of, changes_of, said, seen};
@@ -68,6 +68,15 @@ impl Overlay {
         ensures room { (q : List ℕ) → HasRoom q self.old → HasRoom q self.new }
     {
         self.entries.put_reserved(key, Vec::new(alloc));
+    }
+
+    /// Gives up the room of a key of which there is no change. A change that is there stays: a row that
+    /// was put, or the mark of one that was taken out.
+    pub fn release(&mut self, key: &[u8])
+        ensures changes { changes_of self.new ≡ changes_of self.old }
+        ensures room { (q : List ℕ) → by_key key.now q ≡ false → HasRoom q self.old → HasRoom q self.new }
+    {
+        self.entries.release(key);
     }
 
     /// What the changes say of a key: the row that was put there, that the row was taken out

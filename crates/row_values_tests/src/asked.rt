@@ -71,6 +71,7 @@ impl Asked {
             "damage" => tell_damage(self.alloc, words, &mut self.written),
             "parts-of-change" => tell_parts_of_change(self.alloc, words, &mut self.written),
             "pushes" => tell_pushes(self.alloc, words, &mut self.written),
+            "keep-key" => self.keep_key(words),
             _ => self.answer_with_schema(verb, words),
         }
     }
@@ -81,6 +82,13 @@ impl Asked {
             Some(schema) => tell_schema(self.alloc, schema, &mut self.written),
             None => self.written.extend_from_slice(b"  no schema\n").ok(),
         }
+    }
+
+    fn keep_key(&mut self, words: &[&str]) -> Option<()> {
+        let Some(schema) = &self.schema else {
+            return None;
+        };
+        self.keys.push(key_of(self.alloc, schema, words)?).ok()
     }
 
     fn answer_with_schema(&mut self, verb: &str, words: &[&str]) -> Option<()> {
@@ -94,7 +102,6 @@ impl Asked {
             "row" => tell_bytes(self.alloc, schema, words, out),
             "key" => tell_key(self.alloc, schema, words, out),
             "parts-of-key" => tell_parts(self.alloc, schema, words, out),
-            "keep-key" => self.keys.push(key_of(self.alloc, schema, words)?).ok(),
             "order" => tell_order(schema, &self.keys, out),
             "list" => tell_list(self.alloc, schema, words, out),
             _ => self.views.answer(schema, verb, words, out),

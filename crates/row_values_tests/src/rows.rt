@@ -103,12 +103,15 @@ pub fn tell_bytes(alloc: Global, schema: &Schema, words: &[&str], out: &mut Vec<
     let Ok(row) = RowRef::parse(schema, &bytes) else {
         return say(out, "no row");
     };
-    let key = row.key(alloc).ok()?;
     tell(alloc, out, "a row:", row.bytes())?;
+    tell_columns(alloc, row, out)?;
+    tell(alloc, out, "its key", &row.key(alloc).ok()?)
+}
+
+fn tell_columns(alloc: Global, row: RowRef<'_>, out: &mut Vec<u8>) -> Option<()> {
     let columns = row.schema().columns().len();
     let told = format!(in alloc; "of {columns} columns, the key:").ok()?;
-    tell(alloc, out, &told, row.schema().key())?;
-    tell(alloc, out, "its key", &key)
+    tell(alloc, out, &told, row.schema().key())
 }
 
 /// Whether these bytes are a key.

@@ -31,15 +31,30 @@ pub fn tell_pushes(alloc: Global, words: &[&str], out: &mut Vec<u8>) -> Option<(
     tell_rows(alloc, &rows, out)
 }
 
-/// A list of one row, of which no column is asked for.
-pub fn tell_list(alloc: Global, schema: &Schema, words: &[&str], out: &mut Vec<u8>) -> Option<()> {
-    let bytes = bytes_of(alloc, words).ok()?;
-    let schema = Arc::new(alloc, schema.copy(alloc).ok()?).ok()?;
-    if RowRef::parse(&schema, &bytes).is_err() {
+fn shared_copy(alloc: Global, schema: &Schema) -> Option<Arc<Schema>> {
+    Arc::new(alloc, schema.copy(alloc).ok()?).ok()
+}
+
+// A list of one row, of which no column is asked for. None where these bytes are no row.
+fn list_of(alloc: Global, schema: Arc<Schema>, bytes: &[u8]) -> Option<RowList> {
+    if RowRef::parse(&schema, bytes).is_err() {
         return None;
     }
     let mut rows = RowList::new(alloc, schema, Vec::new(alloc));
-    rows.push(&bytes).ok()?;
+    match rows.push(bytes) {
+        Ok(()) => Some(rows),
+        Err(_) => None,
+    }
+}
+
+/// A list of one row, of which no column is asked for.
+pub fn tell_list(alloc: Global, schema: &Schema, words: &[&str], out: &mut Vec<u8>) -> Option<()> {
+    let bytes = bytes_of(alloc, words).ok()?;
+    let rows = list_of(alloc, shared_copy(alloc, schema)?, &bytes)?;
+    tell_listed(alloc, &rows, out)
+}
+
+fn tell_listed(alloc: Global, rows: &RowList, out: &mut Vec<u8>) -> Option<()> {
     let (count, is_empty) = (rows.len(), rows.is_empty());
     let (columns, selected) = (rows.schema().columns().len(), rows.selected().len());
     let told = format!(in alloc;
@@ -50,6 +65,15 @@ pub fn tell_list(alloc: Global, schema: &Schema, words: &[&str], out: &mut Vec<u
         return None;
     }
     tell(alloc, out, "-", rows.row(0).bytes())
+}
+
+// The row or the key that a verb has behind it, as values or as bytes.
+fn named_bytes(alloc: Global, schema: &Schema, verb: &str, words: &[&str]) -> Option<Vec<u8>> {
+    match verb {
+        "put" => row_of(alloc, schema, words),
+        "remove" | "get" => key_of(alloc, schema, words),
+        _ => bytes_of(alloc, words).ok(),
+    }
 }
 
 /// Tables in memory.
@@ -81,15 +105,35 @@ impl Views {
         };
         match verb {
             "create" => self.create(schema, name),
-            "put" => self.put(name, row_of(self.alloc, schema, words)?),
-            "put-bytes" => self.put(name, bytes_of(self.alloc, words).ok()?),
-            "remove" => self.remove(name, key_of(self.alloc, schema, words)?),
-            "get" => self.get(name, &key_of(self.alloc, schema, words)?, out),
-            "get-bytes" => self.get(name, &bytes_of(self.alloc, words).ok()?, out),
-            "scan" => tell_rows(self.alloc, &self.view.scan(self.alloc, name).ok()?, out),
+            "scan" => self.tell_scan(name, out),
             "shape" => self.tell_shape(schema, name, out),
+            _ => self.answer_with(
+                verb,
+                name,
+                named_bytes(self.alloc, schema, verb, words)?,
+                out,
+            ),
+        }
+    }
+
+    // `put` a row, `remove` or `get` the one of a key.
+    fn answer_with(
+        &mut self,
+        verb: &str,
+        name: &str,
+        bytes: Vec<u8>,
+        out: &mut Vec<u8>,
+    ) -> Option<()> {
+        match verb {
+            "put" | "put-bytes" => self.put(name, bytes),
+            "remove" => self.remove(name, bytes),
+            "get" | "get-bytes" => self.get(name, &bytes, out),
             _ => None,
         }
+    }
+
+    fn tell_scan(&mut self, name: &str, out: &mut Vec<u8>) -> Option<()> {
+        tell_rows(self.alloc, &self.view.scan(self.alloc, name).ok()?, out)
     }
 
     // `fresh` lets all tables go, `tables` counts them, and `faults` tells damage and want of memory apart.

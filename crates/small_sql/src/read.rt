@@ -8,7 +8,7 @@ ghost use Rattle.tables.specs.Tables.{schema_of};
 ghost use Rattle.tables.specs.View.{is_store};
 ghost use Rattle.sql_semantics.specs.Frame.{rows_covered};
 ghost use Rattle.sql_predicates.specs.Test.{passes};
-ghost use Rattle.small_sql.specs.Reading.{DamagedBy};
+ghost use Rattle.small_sql.specs.Reading.{DamagedBy, rows_given};
 ghost use Rattle.small_sql.specs.Scope.{scope_of};
 ghost use Rattle.small_sql.specs.Task.{matching};
 
@@ -19,6 +19,14 @@ use std::alloc::{AllocError, Global};
 use std::sync::Arc;
 use tables::laws::stores_hold_tables;
 use tables::{RowList, Rows, TableView};
+
+/// The rows that a view gave.
+#[derive(Drop)]
+enum Given {
+    None,
+    One(Vec<u8>),
+    Many(Rows),
+}
 
 // Whether a row matches. Bytes that are no row of the schema are damaged; a row of a view that is
 // trusted is not judged.
@@ -54,8 +62,8 @@ fn add_counted(
     Ok(())
 }
 
-// The rows that count.
-fn counted(
+// The rows that count of many.
+fn counted_of_many(
     list: RowList,
     rows: &Rows,
     wanted: &Filter,
@@ -73,19 +81,34 @@ fn counted(
     Ok(list)
 }
 
+// The rows that count.
+fn counted(
+    list: RowList,
+    given: &Given,
+    wanted: &Filter,
+    is_trusted: bool,
+) -> Result<RowList, ReadError>
+    requires fresh { list.rows ≡ [] }
+    requires trusted { is_trusted ≡ true → list_all (is_row list.schema) (rows_given given.now) ≡ true }
+    ensures found { IfOk result (λ found. found ≡ record list { rows = filter (λ row. passes wanted.now (values_in list.schema row)) (rows_given given.now) }) }
+    ensures damaged { DamagedBy list.schema (rows_given given.now) result }
+{
+    match given {
+        Given::None => Ok(list),
+        Given::One(row) => {
+            let mut list = list;
+            add_counted(&mut list, row.as_slice(), wanted, is_trusted)?;
+            Ok(list)
+        }
+        Given::Many(rows) => counted_of_many(list, rows, wanted, is_trusted),
+    }
+}
+
 /// The fault of want of memory, which tells no damage.
 pub(crate) fn no_memory<V: TableView>() -> V::Fault
     ensures { V.tells_damage result ≡ false }
 {
     V::Fault::from(AllocError)
-}
-
-fn one_row(alloc: Global, row: &[u8]) -> Result<Rows, AllocError>
-    ensures { IfOk result (λ rows. rows ≡ row.now ∷ []) }
-{
-    let mut rows = Rows::new(alloc);
-    rows.push(row)?;
-    Ok(rows)
 }
 
 // The rows in a scope of a table.
@@ -94,20 +117,17 @@ fn looked_up<V: TableView>(
     view: &mut V,
     table: &str,
     scope: &Scope,
-) -> Result<Rows, V::Fault>
-    ensures rows { IfOk result (λ rows. IsTrue V.is_faithful → rows ≡ rows_covered (scope_of scope.now) table.now (V.store view.old)) }
+) -> Result<Given, V::Fault>
+    ensures rows { IfOk result (λ given. IsTrue V.is_faithful → rows_given given ≡ rows_covered (scope_of scope.now) table.now (V.store view.old)) }
     ensures fault { IfErr result (λ fault. IsTrue V.is_faithful → V.tells_damage fault ≡ false) }
     ensures store { V.store view.new ≡ V.store view.old }
 {
     match scope {
-        Scope::Names => Ok(Rows::new(alloc)),
-        Scope::All => view.scan(alloc, table),
+        Scope::Names => Ok(Given::None),
+        Scope::All => Ok(Given::Many(view.scan(alloc, table)?)),
         Scope::One(key) => match view.get(alloc, table, key.bytes.as_slice())? {
-            Some(row) => match one_row(alloc, row.as_slice()) {
-                Ok(rows) => Ok(rows),
-                Err(AllocError) => Err(no_memory::<V>()),
-            },
-            None => Ok(Rows::new(alloc)),
+            Some(row) => Ok(Given::One(row)),
+            None => Ok(Given::None),
         },
     }
 }
@@ -130,8 +150,8 @@ pub(crate) fn rows_found<V: TableView>(
     ensures store { V.store view.new ≡ V.store view.old }
 {
     stores_hold_tables();
-    let rows = looked_up(alloc, view, table, scope)?;
-    match counted(list, &rows, wanted, view.is_trusted()) {
+    let given = looked_up(alloc, view, table, scope)?;
+    match counted(list, &given, wanted, view.is_trusted()) {
         Ok(found) => Ok(found),
         Err(ReadError::Damaged) => Err(view.damaged()),
         Err(ReadError::NoMemory) => Err(no_memory::<V>()),

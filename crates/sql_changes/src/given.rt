@@ -7,9 +7,10 @@ ghost use Rattle.row_values.specs.Column.{column_of};
 ghost use Rattle.row_values.specs.Schema.{is_name, picked};
 ghost use Rattle.row_values.specs.Value.{value_of};
 ghost use Rattle.tables.specs.ChangeView.{change_of};
+ghost use Rattle.sql_semantics.specs.Checked.{if_none};
 ghost use Rattle.sql_semantics.specs.Insert as insert;
 ghost use Rattle.sql_semantics.specs.Keys.{key_of_values};
-ghost use Rattle.sql_semantics.specs.Meaning.{Changes, insert_answer, put_answer};
+ghost use Rattle.sql_semantics.specs.Meaning.{Changes, insert_answer, put_answer, within_room};
 ghost use Rattle.sql_semantics.specs.Values.{literal_value};
 ghost use Rattle.sql_predicates.specs.Constant.{constant_value};
 ghost use Rattle.core_calls.specs.StatementError.{fault_of};
@@ -25,7 +26,7 @@ use std::alloc::{AllocError, Global};
 use tables::Change;
 
 /// The row that an INSERT gives: a value for each column, which may fit it or not.
-#[derive(Debug, Drop)]
+#[derive(Drop)]
 pub struct GivenRow {
     values: Vec<Constant>,
 }
@@ -80,20 +81,34 @@ impl GivenRow {
         requires { is_name table.now ≡ true }
         ensures { (others : List (List ℕ)) → (length others == 0) ≡ is_free → Answers (λ change. Changes (change_of change ∷ []) 1) fault_of result (put_answer left table.now schema.now others (values_given self.now)) }
     {
+        let row = self.row(alloc, schema)?;
+        if !is_free {
+            return Err(StatementError::Fault(SqlFault::KeyExists));
+        }
+        within(left, Change::put(String::from_str(alloc, table)?, row))
+    }
+
+    // The bytes of the row, where its values fit the columns.
+    fn row(&self, alloc: Global, schema: &Schema) -> Result<Vec<u8>, StatementError>
+        ensures exact { Answers (λ row. row.items) fault_of result (if_none (insert.first_misfit schema.now.columns (values_given self.now)) (insert.new_row schema.now (values_given self.now))) }
+        ensures short { IfOk result (λ row. length row.items ≤ 4000) }
+    {
         let values = borrowed(alloc, self.values.as_slice())?;
         if let Some(fault) = first_misfit(schema.columns(), values.as_slice()) {
             return Err(StatementError::Fault(fault));
         }
-        let row = new_row(alloc, schema, values.as_slice())?;
-        if !is_free {
-            return Err(StatementError::Fault(SqlFault::KeyExists));
-        }
-        let change = Change::put(String::from_str(alloc, table)?, row);
-        if change.length() > left {
-            return Err(StatementError::Fault(SqlFault::LimitReached));
-        }
-        Ok(change)
+        new_row(alloc, schema, values.as_slice())
     }
+}
+
+// The change, where so many bytes are left for it.
+fn within(left: usize, change: Change) -> Result<Change, StatementError>
+    ensures { Answers (λ change. Changes (change_of change ∷ []) 1) fault_of result (within_room left (change_of change ∷ []) 1) }
+{
+    if change.length() > left {
+        return Err(StatementError::Fault(SqlFault::LimitReached));
+    }
+    Ok(change)
 }
 
 /// The change that an INSERT makes, or its first fault. The table's name is in capitals; its key is

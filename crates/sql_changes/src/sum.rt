@@ -20,14 +20,14 @@ use std::alloc::Global;
 const NUMBERS: u8 = 1;
 
 /// A further term of a sum, with a place for its name or a value for its literal.
-#[derive(Debug, Drop)]
+#[derive(Drop)]
 pub(crate) struct BoundAddend {
     pub(crate) operation: Operation,
     pub(crate) operand: Operand,
 }
 
 /// A sum, with places for its names and values for its literals.
-#[derive(Debug, Drop)]
+#[derive(Drop)]
 pub(crate) struct BoundSum {
     pub(crate) first: Operand,
     pub(crate) rest: Vec<BoundAddend>,

@@ -18,7 +18,7 @@ use sql_text::Assignment;
 use std::alloc::Global;
 
 /// A column by its place, and the sum that becomes its value.
-#[derive(Debug, Drop)]
+#[derive(Drop)]
 pub(crate) struct Target {
     pub(crate) place: usize,
     pub(crate) sum: BoundSum,
@@ -26,7 +26,7 @@ pub(crate) struct Target {
 
 /// What an UPDATE assigns: its assignments, with places for the names of columns and values for
 /// literals and markers. Contracts see it by `StandFor`, which says what it makes of every row.
-#[derive(Debug, Drop)]
+#[derive(Drop)]
 pub struct Targets {
     pub(crate) targets: Vec<Target>,
 }

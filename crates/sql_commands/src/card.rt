@@ -1,31 +1,41 @@
 //! SYNCCRD.
 
-ghost use Rattle.std.specs.Prelude.{◌≡◌, ◌≤◌, [], length, nat_le, true, vec_capacity};
+ghost use Rattle.std.specs.Prelude.{◌≡◌, length, nat_le, true};
 ghost use Rattle.std.specs.List.{list_all};
 ghost use Rattle.sql_commands.specs.SyncControl as spec;
 
-use command_kit::Reply;
-use sqlam_replies::{synccrd, synccrd_with};
+use command_kit::ReplyText;
+use sqlam_replies::{ReplyKind, synccrd, synccrd_with};
+use std::alloc::AllocError;
 use xa_calls::{XaCode, Xid, Xids};
-
-/// How many bytes a SYNCCRD without a list of branches has.
-pub(crate) const CARD_LENGTH: usize = 12;
 
 /// The most bytes that a SYNCCRD has: it lists at most 256 branches, whose XIDs have at most 140 bytes.
 pub(crate) const MAX_CARD_LENGTH: usize = 36_894;
 
-/// The SYNCCRD of a code, in a list of no bytes that has room for it.
-#[tactic(auto, using(crate::proofs::CardLengths::code_card_length))]
-pub(crate) fn code_card(text: Vec<u8>, code: XaCode) -> Reply
-    requires empty { text.items ≡ [] }
-    requires room { CARD_LENGTH ≤ vec_capacity text }
-    ensures reply { result ≡ spec.code_card code }
-    ensures short { length result.text ≤ CARD_LENGTH }
-{
-    let mut text = text;
-    match synccrd(&mut text, code.number()) {
-        Ok(()) => Reply::of_object(text),
-        Err(_) => unreachable!(),
+/// The SYNCCRD of a code, of 12 bytes.
+#[derive(Clone, Copy)]
+pub(crate) struct CodeCard {
+    pub(crate) code: XaCode,
+}
+
+impl ReplyText for CodeCard {
+    ghost reply = { λ c. spec.code_card c.code };
+
+    ghost most = { λ _. 12 };
+
+    ghost can_write = { λ _. Unit {0} };
+
+    fn kind(&self) -> ReplyKind {
+        ReplyKind::Object
+    }
+
+    fn severity(&self) -> u16 {
+        0
+    }
+
+    #[tactic(auto, using(crate::proofs::CardLengths::code_card_length))]
+    fn write(&self, out: &mut Vec<u8>) -> Result<(), AllocError> {
+        synccrd(out, self.code.number())
     }
 }
 
@@ -39,19 +49,31 @@ fn xids_are_short(xids: &[Xid])
     }
 }
 
-/// The SYNCCRD with the branches in doubt, in a list of no bytes that has room for it.
-#[tactic(auto, using(crate::proofs::CardLengths::in_doubt_card_length))]
-pub(crate) fn in_doubt_card(text: Vec<u8>, xids: &Xids) -> Reply
-    requires empty { text.items ≡ [] }
-    requires room { MAX_CARD_LENGTH ≤ vec_capacity text }
-    ensures reply { result ≡ spec.in_doubt_card xids.now }
-    ensures short { length result.text ≤ MAX_CARD_LENGTH }
-{
-    let mut text = text;
-    let xids = xids.as_slice();
-    xids_are_short(xids);
-    match synccrd_with(&mut text, XaCode::Done.number(), xids) {
-        Ok(()) => Reply::of_object(text),
-        Err(_) => unreachable!(),
+/// The SYNCCRD with the branches in doubt, of at most `MAX_CARD_LENGTH` bytes.
+#[derive(Clone, Copy)]
+pub(crate) struct InDoubtCard<'a> {
+    pub(crate) xids: &'a Xids,
+}
+
+impl<'a> ReplyText for InDoubtCard<'a> {
+    ghost reply = { λ c. spec.in_doubt_card c.xids.now };
+
+    ghost most = { λ _. 36894 };
+
+    ghost can_write = { λ _. Unit {0} };
+
+    fn kind(&self) -> ReplyKind {
+        ReplyKind::Object
+    }
+
+    fn severity(&self) -> u16 {
+        0
+    }
+
+    #[tactic(auto, using(crate::proofs::CardLengths::in_doubt_card_length))]
+    fn write(&self, out: &mut Vec<u8>) -> Result<(), AllocError> {
+        let xids = self.xids.as_slice();
+        xids_are_short(xids);
+        synccrd_with(out, XaCode::Done.number(), xids)
     }
 }

@@ -12,7 +12,7 @@ use crate::executing::execute;
 use crate::preparing::prepare;
 use crate::replying::MAX_REPLIES_LENGTH;
 use crate::running::execute_immediate;
-use command_kit::{Ask, Reply, Statements};
+use command_kit::{Ask, Replies, Statements};
 use drda_commands::{Accepted, Command};
 use sqlam_replies::UnitEnd;
 use std::alloc::{AllocError, Global};
@@ -28,22 +28,22 @@ pub fn do_command<A: Ask>(
     unicode: bool,
     statements: &mut Statements,
     asker: &mut A,
-    replies: &mut Vec<Reply>,
+    replies: &mut Replies,
 ) -> Result<(), AllocError>
     requires { length rdb.now ≤ 791 }
-    ensures ok { OnOk result (WasDone A.asks (commands.doing unicode rdb.now accepted.entry.command (given_of accepted.entry.given) statements.old) asker.old asker.new statements.new replies.old.items replies.new.items) }
-    ensures size { OnOk result (written_lengths replies.new.items ≤ written_lengths replies.old.items + MAX_REPLIES_LENGTH) }
+    ensures ok { OnOk result (WasDone A.asks (commands.doing unicode rdb.now accepted.entry.command (given_of accepted.entry.given) statements.old) asker.old asker.new statements.new replies.old.list replies.new.list) }
+    ensures size { OnOk result (written_lengths replies.new.list ≤ written_lengths replies.old.list + MAX_REPLIES_LENGTH) }
     ensures asker { OnErr result (asker.new ≡ asker.old) }
     ensures statements { OnErr result (statements.new ≡ statements.old) }
-    ensures replies { OnErr result (replies.new.items ≡ replies.old.items) }
+    ensures replies { OnErr result (replies.new.list ≡ replies.old.list) }
 {
     match accepted.command {
         Command::Excsqlimm => execute_immediate(alloc, accepted, rdb, statements, asker, replies),
         Command::Prpsqlstt => prepare(alloc, accepted, unicode, statements, asker, replies),
         Command::Dscsqlstt => describe(alloc, accepted, unicode, statements, asker, replies),
         Command::Excsqlstt => execute(alloc, accepted, rdb, statements, asker, replies),
-        Command::Rdbcmm => end_unit(alloc, UnitEnd::Committed, rdb, statements, asker, replies),
-        Command::Rdbrllbck => end_unit(alloc, UnitEnd::RolledBack, rdb, statements, asker, replies),
+        Command::Rdbcmm => end_unit(UnitEnd::Committed, rdb, statements, asker, replies),
+        Command::Rdbrllbck => end_unit(UnitEnd::RolledBack, rdb, statements, asker, replies),
         _ => Ok(()),
     }
 }

@@ -1,6 +1,6 @@
 //! DSCSQLSTT, and what describes the statement of PRPSQLSTT.
 
-ghost use Rattle.std.specs.Prelude.{◌≡◌, ◌≤◌, ◌+◌, [], OnErr, OnOk, if◌then◌else◌, length, map, true, vec_capacity, vec_len};
+ghost use Rattle.std.specs.Prelude.{◌≡◌, ◌≤◌, ◌+◌, [], OnErr, OnOk, if◌then◌else◌, length, map, true, vec_capacity};
 ghost use Rattle.row_values.specs.Column.{column_of};
 ghost use Rattle.drda_commands.specs.Views.{given_of};
 ghost use Rattle.sql_commands.specs.Commands as commands;
@@ -12,8 +12,11 @@ ghost use Rattle.sections.specs.Cursors.{section_of};
 ghost use Rattle.command_kit.specs.Text.{statement_of};
 
 use crate::brought::{section_name, side_for};
-use crate::replying::{MAX_REPLIES_LENGTH, add_short};
-use command_kit::{Ask, Reply, Statements, not_done, refuse, statement_of};
+use crate::replying::MAX_REPLIES_LENGTH;
+use command_kit::{
+    Ask, ColumnDescription, Replies, SelectionDescription, Statements, add_not_done, refuse,
+    statement_of,
+};
 use core_calls::{Answer, CoreCall, MAX_PARAMETERS, ParameterType, Side, SqlFault, StatementError};
 use drda_commands::Accepted;
 use row_values::Column;
@@ -61,42 +64,49 @@ fn parameter_columns(alloc: Global, types: &[ParameterType], columns: Vec<Column
     columns
 }
 
-// Describes the columns or the parameters of a statement, by lists of no bytes and of no columns that have room
-// for any; whether it was described.
+// Describes the columns or the parameters of a statement, by a list of no columns that has room for any; whether it
+// was described. There is room for an SQLDARD.
 pub(crate) fn describe_statement<A: Ask>(
     alloc: Global,
     statement: &Statement<'_>,
     side: Side,
     unicode: bool,
-    text: Vec<u8>,
     columns: Vec<Column>,
     asker: &mut A,
-    replies: &mut Vec<Reply>,
+    replies: &mut Replies,
 ) -> bool
-    requires text { text.items ≡ [] }
-    requires text_room { MAX_SQLDARD_LENGTH ≤ vec_capacity text }
     requires columns { columns.items ≡ [] }
     requires columns_room { MAX_PARAMETERS ≤ vec_capacity columns }
-    requires room { vec_len replies.old + 1 ≤ vec_capacity replies.old }
-    ensures done { (k prepared : kept.Statements) → WasDone A.asks (commands.describing unicode k prepared statement.now side) asker.old asker.new (if result then prepared else k) replies.old.items replies.new.items }
-    ensures size { written_lengths replies.new.items ≤ written_lengths replies.old.items + MAX_REPLIES_LENGTH }
+    requires text { MAX_SQLDARD_LENGTH ≤ replies.old.text_room }
+    requires count { 1 ≤ replies.old.count_room }
+    ensures done { (k prepared : kept.Statements) → WasDone A.asks (commands.describing unicode k prepared statement.now side) asker.old asker.new (if result then prepared else k) replies.old.list replies.new.list }
+    ensures size { written_lengths replies.new.list ≤ written_lengths replies.old.list + MAX_REPLIES_LENGTH }
 {
     if is_create(&statement.command) {
-        add_short(replies, Reply::of_columns(text, unicode, &[]));
+        replies.add(&ColumnDescription {
+            unicode,
+            columns: &[],
+        });
         return true;
     }
     match asker.ask(&CoreCall::Describe { statement, side }) {
         Answer::Output(selection) => {
-            add_short(replies, Reply::of_selection(text, unicode, &selection));
+            replies.add(&SelectionDescription {
+                unicode,
+                columns: &selection,
+            });
             true
         }
         Answer::Input(types) => {
             let columns = parameter_columns(alloc, types.as_slice(), columns);
-            add_short(replies, Reply::of_columns(text, unicode, &columns));
+            replies.add(&ColumnDescription {
+                unicode,
+                columns: &columns,
+            });
             true
         }
         answer => {
-            add_short(replies, not_done(answer, text));
+            add_not_done(answer, replies);
             false
         }
     }
@@ -109,19 +119,16 @@ fn describe_prepared<A: Ask>(
     unicode: bool,
     statements: &Statements,
     asker: &mut A,
-    replies: &mut Vec<Reply>,
+    replies: &mut Replies,
 ) -> Result<(), AllocError>
-    ensures ok { OnOk result (WasDone A.asks (commands.describing unicode statements.now statements.now statement.now side) asker.old asker.new statements.now replies.old.items replies.new.items) }
-    ensures size { OnOk result (written_lengths replies.new.items ≤ written_lengths replies.old.items + MAX_REPLIES_LENGTH) }
+    ensures ok { OnOk result (WasDone A.asks (commands.describing unicode statements.now statements.now statement.now side) asker.old asker.new statements.now replies.old.list replies.new.list) }
+    ensures size { OnOk result (written_lengths replies.new.list ≤ written_lengths replies.old.list + MAX_REPLIES_LENGTH) }
     ensures asker { OnErr result (asker.new ≡ asker.old) }
-    ensures replies { OnErr result (replies.new.items ≡ replies.old.items) }
+    ensures replies { OnErr result (replies.new.list ≡ replies.old.list) }
 {
-    let text: Vec<u8> = Vec::with_capacity(alloc, MAX_SQLDARD_LENGTH)?;
+    replies.reserve(1, MAX_SQLDARD_LENGTH)?;
     let columns: Vec<Column> = Vec::with_capacity(alloc, MAX_PARAMETERS)?;
-    replies.reserve(1)?;
-    describe_statement(
-        alloc, statement, side, unicode, text, columns, asker, replies,
-    );
+    describe_statement(alloc, statement, side, unicode, columns, asker, replies);
     Ok(())
 }
 
@@ -132,12 +139,12 @@ fn describe_text<A: Ask>(
     unicode: bool,
     statements: &Statements,
     asker: &mut A,
-    replies: &mut Vec<Reply>,
+    replies: &mut Replies,
 ) -> Result<(), AllocError>
-    ensures ok { OnOk result (WasDone A.asks (commands.described_as unicode statements.now side (statement_of text.now)) asker.old asker.new statements.now replies.old.items replies.new.items) }
-    ensures size { OnOk result (written_lengths replies.new.items ≤ written_lengths replies.old.items + MAX_REPLIES_LENGTH) }
+    ensures ok { OnOk result (WasDone A.asks (commands.described_as unicode statements.now side (statement_of text.now)) asker.old asker.new statements.now replies.old.list replies.new.list) }
+    ensures size { OnOk result (written_lengths replies.new.list ≤ written_lengths replies.old.list + MAX_REPLIES_LENGTH) }
     ensures asker { OnErr result (asker.new ≡ asker.old) }
-    ensures replies { OnErr result (replies.new.items ≡ replies.old.items) }
+    ensures replies { OnErr result (replies.new.list ≡ replies.old.list) }
 {
     match statement_of(alloc, text) {
         Ok(statement) => {
@@ -147,7 +154,7 @@ fn describe_text<A: Ask>(
             drop(statement);
             done
         }
-        Err(StatementError::Fault(fault)) => refuse(alloc, fault, replies),
+        Err(StatementError::Fault(fault)) => refuse(fault, replies),
         Err(StatementError::NoMemory) => Err(AllocError),
     }
 }
@@ -159,12 +166,12 @@ fn describe_section<A: Ask>(
     unicode: bool,
     statements: &Statements,
     asker: &mut A,
-    replies: &mut Vec<Reply>,
+    replies: &mut Replies,
 ) -> Result<(), AllocError>
-    ensures ok { OnOk result (WasDone A.asks (commands.described_in unicode statements.now side (section_of name.now statements.now.sections)) asker.old asker.new statements.now replies.old.items replies.new.items) }
-    ensures size { OnOk result (written_lengths replies.new.items ≤ written_lengths replies.old.items + MAX_REPLIES_LENGTH) }
+    ensures ok { OnOk result (WasDone A.asks (commands.described_in unicode statements.now side (section_of name.now statements.now.sections)) asker.old asker.new statements.now replies.old.list replies.new.list) }
+    ensures size { OnOk result (written_lengths replies.new.list ≤ written_lengths replies.old.list + MAX_REPLIES_LENGTH) }
     ensures asker { OnErr result (asker.new ≡ asker.old) }
-    ensures replies { OnErr result (replies.new.items ≡ replies.old.items) }
+    ensures replies { OnErr result (replies.new.list ≡ replies.old.list) }
 {
     match statements.sections.statement(name) {
         Ok(text) => describe_text(
@@ -176,7 +183,7 @@ fn describe_section<A: Ask>(
             asker,
             replies,
         ),
-        Err(NotPrepared) => refuse(alloc, SqlFault::NotPrepared, replies),
+        Err(NotPrepared) => refuse(SqlFault::NotPrepared, replies),
     }
 }
 
@@ -189,12 +196,12 @@ pub fn describe<A: Ask>(
     unicode: bool,
     statements: &Statements,
     asker: &mut A,
-    replies: &mut Vec<Reply>,
+    replies: &mut Replies,
 ) -> Result<(), AllocError>
-    ensures ok { OnOk result (WasDone A.asks (commands.describing_section unicode statements.now (given_of accepted.entry.given)) asker.old asker.new statements.now replies.old.items replies.new.items) }
-    ensures size { OnOk result (written_lengths replies.new.items ≤ written_lengths replies.old.items + MAX_REPLIES_LENGTH) }
+    ensures ok { OnOk result (WasDone A.asks (commands.describing_section unicode statements.now (given_of accepted.entry.given)) asker.old asker.new statements.now replies.old.list replies.new.list) }
+    ensures size { OnOk result (written_lengths replies.new.list ≤ written_lengths replies.old.list + MAX_REPLIES_LENGTH) }
     ensures asker { OnErr result (asker.new ≡ asker.old) }
-    ensures replies { OnErr result (replies.new.items ≡ replies.old.items) }
+    ensures replies { OnErr result (replies.new.list ≡ replies.old.list) }
 {
     let name = section_name(&accepted);
     let side = side_for(accepted.side());

@@ -6,13 +6,11 @@ ghost use Rattle.sql_commands.specs.Commands as commands;
 ghost use Rattle.command_kit.specs.Done.{WasDone};
 ghost use Rattle.command_kit.specs.Sizes.{written_lengths};
 
-use crate::replying::{MAX_REPLIES_LENGTH, add_short};
-use command_kit::{Ask, Reply, Statements, not_done};
+use crate::replying::MAX_REPLIES_LENGTH;
+use command_kit::{Ask, Card, Replies, Statements, add_not_done};
 use core_calls::{Answer, CoreCall};
-use sqlam_replies::{
-    MAX_MESSAGE_LENGTH, NULL_SQLCARD_LENGTH, ReplyMessage, UnitEnd, texts_have_lengths,
-};
-use std::alloc::{AllocError, Global};
+use sqlam_replies::{MAX_MESSAGE_LENGTH, ReplyMessage, SQLCARD_LENGTH, UnitEnd};
+use std::alloc::AllocError;
 
 fn keeps_held(end: UnitEnd) -> bool
     ensures { result ≡ commands.keeps_held end }
@@ -36,39 +34,29 @@ fn call_of(end: UnitEnd) -> CoreCall<'static, 'static>
 /// are closed. In a global unit it is a violation, and nothing changes. `rdb` is the database's name as it is
 /// answered, of at most 791 bytes. Out of memory, nothing is asked.
 pub fn end_unit<A: Ask>(
-    alloc: Global,
     end: UnitEnd,
     rdb: &[u8],
     statements: &mut Statements,
     asker: &mut A,
-    replies: &mut Vec<Reply>,
+    replies: &mut Replies,
 ) -> Result<(), AllocError>
     requires { length rdb.now ≤ 791 }
-    ensures ok { OnOk result (WasDone A.asks (commands.ending rdb.now end statements.old) asker.old asker.new statements.new replies.old.items replies.new.items) }
-    ensures size { OnOk result (written_lengths replies.new.items ≤ written_lengths replies.old.items + MAX_REPLIES_LENGTH) }
+    ensures ok { OnOk result (WasDone A.asks (commands.ending rdb.now end statements.old) asker.old asker.new statements.new replies.old.list replies.new.list) }
+    ensures size { OnOk result (written_lengths replies.new.list ≤ written_lengths replies.old.list + MAX_REPLIES_LENGTH) }
     ensures asker { OnErr result (asker.new ≡ asker.old) }
     ensures statements { OnErr result (statements.new ≡ statements.old) }
-    ensures replies { OnErr result (replies.new.items ≡ replies.old.items) }
+    ensures replies { OnErr result (replies.new.list ≡ replies.old.list) }
 {
-    texts_have_lengths();
-    let first: Vec<u8> = Vec::with_capacity(alloc, MAX_MESSAGE_LENGTH)?;
-    let second: Vec<u8> = Vec::with_capacity(alloc, NULL_SQLCARD_LENGTH)?;
-    replies.reserve(2)?;
+    replies.reserve(2, MAX_MESSAGE_LENGTH + SQLCARD_LENGTH)?;
     let answer = asker.ask(&call_of(end));
     match answer {
         Answer::Done => {
             statements.end_unit(keeps_held(end));
-            add_short(
-                replies,
-                Reply::of_message(first, ReplyMessage::UnitEnded(end)),
-            );
-            add_short(replies, Reply::of_null_card(second));
+            replies.add(&ReplyMessage::UnitEnded(end));
+            replies.add(&Card::Null);
         }
-        Answer::InGlobal => add_short(
-            replies,
-            Reply::of_message(first, ReplyMessage::CommandViolation(rdb)),
-        ),
-        answer => add_short(replies, not_done(answer, first)),
+        Answer::InGlobal => replies.add(&ReplyMessage::CommandViolation(rdb)),
+        answer => add_not_done(answer, replies),
     }
     Ok(())
 }

@@ -11,7 +11,7 @@ ghost use Rattle.command_kit.specs.Text.{statement_of, values_of};
 use crate::brought::section_name;
 use crate::replying::MAX_REPLIES_LENGTH;
 use crate::running::{refuse_run, run};
-use command_kit::{Ask, Reply, Statements, is_select, read_values, statement_of};
+use command_kit::{Ask, Replies, Statements, is_select, read_values, statement_of};
 use core_calls::{SqlFault, StatementError};
 use drda_commands::{Accepted, DescribedData};
 use fdoca::DescriptorFault;
@@ -27,20 +27,19 @@ fn execute_with<'t, A: Ask>(
     rdb: &[u8],
     statements: &Statements,
     asker: &mut A,
-    replies: &mut Vec<Reply>,
+    replies: &mut Replies,
 ) -> Result<bool, AllocError>
     requires { length rdb.now ≤ 791 }
-    ensures ok { IfOk result (λ is_told. WasDone A.asks (commands.executed_with rdb.now statements.now statement.now (values_of (Some (described_of sent.entry)))) asker.old asker.new (commands.with_told is_told statements.now) replies.old.items replies.new.items) }
-    ensures size { OnOk result (written_lengths replies.new.items ≤ written_lengths replies.old.items + MAX_REPLIES_LENGTH) }
+    ensures ok { IfOk result (λ is_told. WasDone A.asks (commands.executed_with rdb.now statements.now statement.now (values_of (Some (described_of sent.entry)))) asker.old asker.new (commands.with_told is_told statements.now) replies.old.list replies.new.list) }
+    ensures size { OnOk result (written_lengths replies.new.list ≤ written_lengths replies.old.list + MAX_REPLIES_LENGTH) }
     ensures asker { OnErr result (asker.new ≡ asker.old) }
-    ensures replies { OnErr result (replies.new.items ≡ replies.old.items) }
+    ensures replies { OnErr result (replies.new.list ≡ replies.old.list) }
 {
     let (Some(description), Some(row)) = (sent.description, sent.values) else {
-        return refuse_run(alloc, SqlFault::ParameterMismatch, statements, replies);
+        return refuse_run(SqlFault::ParameterMismatch, statements, replies);
     };
     match read_values(alloc, description, row) {
         Ok(values) => run(
-            alloc,
             statement,
             values.as_slice(),
             rdb,
@@ -50,7 +49,7 @@ fn execute_with<'t, A: Ask>(
         ),
         Err(DescriptorFault::NoMemory) => Err(AllocError),
         Err(DescriptorFault::Malformed | DescriptorFault::TooManyFields) => {
-            refuse_run(alloc, SqlFault::ParameterMismatch, statements, replies)
+            refuse_run(SqlFault::ParameterMismatch, statements, replies)
         }
     }
 }
@@ -62,19 +61,19 @@ fn execute_statement<'t, A: Ask>(
     rdb: &[u8],
     statements: &Statements,
     asker: &mut A,
-    replies: &mut Vec<Reply>,
+    replies: &mut Replies,
 ) -> Result<bool, AllocError>
     requires { length rdb.now ≤ 791 }
-    ensures ok { IfOk result (λ is_told. WasDone A.asks (commands.executed_as rdb.now statements.now (option_map described_of sent.entry) statement.now) asker.old asker.new (commands.with_told is_told statements.now) replies.old.items replies.new.items) }
-    ensures size { OnOk result (written_lengths replies.new.items ≤ written_lengths replies.old.items + MAX_REPLIES_LENGTH) }
+    ensures ok { IfOk result (λ is_told. WasDone A.asks (commands.executed_as rdb.now statements.now (option_map described_of sent.entry) statement.now) asker.old asker.new (commands.with_told is_told statements.now) replies.old.list replies.new.list) }
+    ensures size { OnOk result (written_lengths replies.new.list ≤ written_lengths replies.old.list + MAX_REPLIES_LENGTH) }
     ensures asker { OnErr result (asker.new ≡ asker.old) }
-    ensures replies { OnErr result (replies.new.items ≡ replies.old.items) }
+    ensures replies { OnErr result (replies.new.list ≡ replies.old.list) }
 {
     if is_select(&statement.command) {
-        return refuse_run(alloc, SqlFault::NotPrepared, statements, replies);
+        return refuse_run(SqlFault::NotPrepared, statements, replies);
     }
     match sent {
-        None => run(alloc, statement, &[], rdb, statements, asker, replies),
+        None => run(statement, &[], rdb, statements, asker, replies),
         Some(sent) => execute_with(alloc, statement, sent, rdb, statements, asker, replies),
     }
 }
@@ -86,13 +85,13 @@ fn execute_text<A: Ask>(
     rdb: &[u8],
     statements: &Statements,
     asker: &mut A,
-    replies: &mut Vec<Reply>,
+    replies: &mut Replies,
 ) -> Result<bool, AllocError>
     requires { length rdb.now ≤ 791 }
-    ensures ok { IfOk result (λ is_told. WasDone A.asks (commands.executed_by rdb.now statements.now (option_map described_of sent.entry) (statement_of text.now)) asker.old asker.new (commands.with_told is_told statements.now) replies.old.items replies.new.items) }
-    ensures size { OnOk result (written_lengths replies.new.items ≤ written_lengths replies.old.items + MAX_REPLIES_LENGTH) }
+    ensures ok { IfOk result (λ is_told. WasDone A.asks (commands.executed_by rdb.now statements.now (option_map described_of sent.entry) (statement_of text.now)) asker.old asker.new (commands.with_told is_told statements.now) replies.old.list replies.new.list) }
+    ensures size { OnOk result (written_lengths replies.new.list ≤ written_lengths replies.old.list + MAX_REPLIES_LENGTH) }
     ensures asker { OnErr result (asker.new ≡ asker.old) }
-    ensures replies { OnErr result (replies.new.items ≡ replies.old.items) }
+    ensures replies { OnErr result (replies.new.list ≡ replies.old.list) }
 {
     match statement_of(alloc, text) {
         Ok(statement) => {
@@ -100,7 +99,7 @@ fn execute_text<A: Ask>(
             drop(statement);
             done
         }
-        Err(StatementError::Fault(fault)) => refuse_run(alloc, fault, statements, replies),
+        Err(StatementError::Fault(fault)) => refuse_run(fault, statements, replies),
         Err(StatementError::NoMemory) => Err(AllocError),
     }
 }
@@ -112,13 +111,13 @@ fn execute_section<A: Ask>(
     rdb: &[u8],
     statements: &Statements,
     asker: &mut A,
-    replies: &mut Vec<Reply>,
+    replies: &mut Replies,
 ) -> Result<bool, AllocError>
     requires { length rdb.now ≤ 791 }
-    ensures ok { IfOk result (λ is_told. WasDone A.asks (commands.executed_in rdb.now statements.now (option_map described_of sent.entry) (section_of name.now statements.now.sections)) asker.old asker.new (commands.with_told is_told statements.now) replies.old.items replies.new.items) }
-    ensures size { OnOk result (written_lengths replies.new.items ≤ written_lengths replies.old.items + MAX_REPLIES_LENGTH) }
+    ensures ok { IfOk result (λ is_told. WasDone A.asks (commands.executed_in rdb.now statements.now (option_map described_of sent.entry) (section_of name.now statements.now.sections)) asker.old asker.new (commands.with_told is_told statements.now) replies.old.list replies.new.list) }
+    ensures size { OnOk result (written_lengths replies.new.list ≤ written_lengths replies.old.list + MAX_REPLIES_LENGTH) }
     ensures asker { OnErr result (asker.new ≡ asker.old) }
-    ensures replies { OnErr result (replies.new.items ≡ replies.old.items) }
+    ensures replies { OnErr result (replies.new.list ≡ replies.old.list) }
 {
     match statements.sections.statement(name) {
         Ok(text) => execute_text(
@@ -130,7 +129,7 @@ fn execute_section<A: Ask>(
             asker,
             replies,
         ),
-        Err(NotPrepared) => refuse_run(alloc, SqlFault::NotPrepared, statements, replies),
+        Err(NotPrepared) => refuse_run(SqlFault::NotPrepared, statements, replies),
     }
 }
 
@@ -145,14 +144,14 @@ pub fn execute<A: Ask>(
     rdb: &[u8],
     statements: &mut Statements,
     asker: &mut A,
-    replies: &mut Vec<Reply>,
+    replies: &mut Replies,
 ) -> Result<(), AllocError>
     requires { length rdb.now ≤ 791 }
-    ensures ok { OnOk result (WasDone A.asks (commands.executed rdb.now statements.old (given_of accepted.entry.given)) asker.old asker.new statements.new replies.old.items replies.new.items) }
-    ensures size { OnOk result (written_lengths replies.new.items ≤ written_lengths replies.old.items + MAX_REPLIES_LENGTH) }
+    ensures ok { OnOk result (WasDone A.asks (commands.executed rdb.now statements.old (given_of accepted.entry.given)) asker.old asker.new statements.new replies.old.list replies.new.list) }
+    ensures size { OnOk result (written_lengths replies.new.list ≤ written_lengths replies.old.list + MAX_REPLIES_LENGTH) }
     ensures asker { OnErr result (asker.new ≡ asker.old) }
     ensures statements { OnErr result (statements.new ≡ statements.old) }
-    ensures replies { OnErr result (replies.new.items ≡ replies.old.items) }
+    ensures replies { OnErr result (replies.new.list ≡ replies.old.list) }
 {
     let name = section_name(&accepted);
     let sent = accepted.described_data();

@@ -13,13 +13,13 @@ ghost use Rattle.sql_commands.specs.Sent.{preparation_of};
 use crate::attributes::is_held;
 use crate::brought::{section_name, statement_text, wanted_side};
 use crate::describing::describe_statement;
-use crate::replying::{MAX_REPLIES_LENGTH, add_short};
-use command_kit::{Ask, Reply, Statements, refuse, statement_of};
+use crate::replying::MAX_REPLIES_LENGTH;
+use command_kit::{Ask, Card, Replies, Statements, refuse, statement_of};
 use core_calls::{MAX_PARAMETERS, Side, StatementError};
 use drda_commands::Accepted;
 use row_values::Column;
 use sql_text::Statement;
-use sqlam_replies::{MAX_SQLDARD_LENGTH, NULL_SQLCARD_LENGTH, texts_have_lengths};
+use sqlam_replies::{MAX_SQLDARD_LENGTH, SQLCARD_LENGTH};
 use std::alloc::{AllocError, Global};
 
 /// What is to be prepared.
@@ -43,24 +43,21 @@ fn utf8_of(text: &[u8]) -> &str
 
 // Prepares a text, of which nothing is to be told.
 fn prepare_alone(
-    alloc: Global,
     preparing: Preparing<'_>,
     statements: &mut Statements,
-    replies: &mut Vec<Reply>,
+    replies: &mut Replies,
 ) -> Result<(), AllocError>
     ensures statements { OnOk result (statements.new ≡ commands.with_prepared statements.old (preparation_of preparing.entry)) }
-    ensures replies { OnOk result (replies.new.items ≡ replies.old.items ++ null_card ∷ []) }
-    ensures size { OnOk result (written_lengths replies.new.items ≤ written_lengths replies.old.items + MAX_REPLIES_LENGTH) }
+    ensures replies { OnOk result (replies.new.list ≡ replies.old.list ++ null_card ∷ []) }
+    ensures size { OnOk result (written_lengths replies.new.list ≤ written_lengths replies.old.list + MAX_REPLIES_LENGTH) }
     ensures kept_statements { OnErr result (statements.new ≡ statements.old) }
-    ensures kept_replies { OnErr result (replies.new.items ≡ replies.old.items) }
+    ensures kept_replies { OnErr result (replies.new.list ≡ replies.old.list) }
 {
-    texts_have_lengths();
-    let card: Vec<u8> = Vec::with_capacity(alloc, NULL_SQLCARD_LENGTH)?;
-    replies.reserve(1)?;
+    replies.reserve(1, SQLCARD_LENGTH)?;
     statements
         .sections
         .prepare(preparing.name, preparing.text, preparing.is_held)?;
-    add_short(replies, Reply::of_null_card(card));
+    replies.add(&Card::Null);
     Ok(())
 }
 
@@ -73,23 +70,20 @@ fn prepare_described<A: Ask>(
     unicode: bool,
     statements: &mut Statements,
     asker: &mut A,
-    replies: &mut Vec<Reply>,
+    replies: &mut Replies,
 ) -> Result<(), AllocError>
-    ensures ok { OnOk result (WasDone A.asks (commands.prepared_as unicode statements.old (preparation_of preparing.entry) (Some side) statement.now) asker.old asker.new statements.new replies.old.items replies.new.items) }
-    ensures size { OnOk result (written_lengths replies.new.items ≤ written_lengths replies.old.items + MAX_REPLIES_LENGTH) }
+    ensures ok { OnOk result (WasDone A.asks (commands.prepared_as unicode statements.old (preparation_of preparing.entry) (Some side) statement.now) asker.old asker.new statements.new replies.old.list replies.new.list) }
+    ensures size { OnOk result (written_lengths replies.new.list ≤ written_lengths replies.old.list + MAX_REPLIES_LENGTH) }
     ensures asker { OnErr result (asker.new ≡ asker.old) }
     ensures statements { OnErr result (statements.new ≡ statements.old) }
-    ensures replies { OnErr result (replies.new.items ≡ replies.old.items) }
+    ensures replies { OnErr result (replies.new.list ≡ replies.old.list) }
 {
-    let text: Vec<u8> = Vec::with_capacity(alloc, MAX_SQLDARD_LENGTH)?;
+    replies.reserve(1, MAX_SQLDARD_LENGTH)?;
     let columns: Vec<Column> = Vec::with_capacity(alloc, MAX_PARAMETERS)?;
-    replies.reserve(1)?;
     statements
         .sections
         .reserve_prepare(preparing.name, preparing.text, preparing.is_held)?;
-    let is_described = describe_statement(
-        alloc, statement, side, unicode, text, columns, asker, replies,
-    );
+    let is_described = describe_statement(alloc, statement, side, unicode, columns, asker, replies);
     if is_described {
         statements.sections.prepare_reserved();
     } else {
@@ -106,16 +100,16 @@ fn prepare_statement<A: Ask>(
     unicode: bool,
     statements: &mut Statements,
     asker: &mut A,
-    replies: &mut Vec<Reply>,
+    replies: &mut Replies,
 ) -> Result<(), AllocError>
-    ensures ok { OnOk result (WasDone A.asks (commands.prepared_as unicode statements.old (preparation_of preparing.entry) wanted statement.now) asker.old asker.new statements.new replies.old.items replies.new.items) }
-    ensures size { OnOk result (written_lengths replies.new.items ≤ written_lengths replies.old.items + MAX_REPLIES_LENGTH) }
+    ensures ok { OnOk result (WasDone A.asks (commands.prepared_as unicode statements.old (preparation_of preparing.entry) wanted statement.now) asker.old asker.new statements.new replies.old.list replies.new.list) }
+    ensures size { OnOk result (written_lengths replies.new.list ≤ written_lengths replies.old.list + MAX_REPLIES_LENGTH) }
     ensures asker { OnErr result (asker.new ≡ asker.old) }
     ensures statements { OnErr result (statements.new ≡ statements.old) }
-    ensures replies { OnErr result (replies.new.items ≡ replies.old.items) }
+    ensures replies { OnErr result (replies.new.list ≡ replies.old.list) }
 {
     match wanted {
-        None => prepare_alone(alloc, preparing, statements, replies),
+        None => prepare_alone(preparing, statements, replies),
         Some(side) => prepare_described(
             alloc, preparing, statement, side, unicode, statements, asker, replies,
         ),
@@ -131,13 +125,13 @@ fn prepare_text<A: Ask>(
     unicode: bool,
     statements: &mut Statements,
     asker: &mut A,
-    replies: &mut Vec<Reply>,
+    replies: &mut Replies,
 ) -> Result<(), AllocError>
-    ensures ok { OnOk result (WasDone A.asks (commands.prepared_by unicode statements.old (record { name = name.now; text = text.now; is_held = is_held }) wanted (statement_of text.now)) asker.old asker.new statements.new replies.old.items replies.new.items) }
-    ensures size { OnOk result (written_lengths replies.new.items ≤ written_lengths replies.old.items + MAX_REPLIES_LENGTH) }
+    ensures ok { OnOk result (WasDone A.asks (commands.prepared_by unicode statements.old (record { name = name.now; text = text.now; is_held = is_held }) wanted (statement_of text.now)) asker.old asker.new statements.new replies.old.list replies.new.list) }
+    ensures size { OnOk result (written_lengths replies.new.list ≤ written_lengths replies.old.list + MAX_REPLIES_LENGTH) }
     ensures asker { OnErr result (asker.new ≡ asker.old) }
     ensures statements { OnErr result (statements.new ≡ statements.old) }
-    ensures replies { OnErr result (replies.new.items ≡ replies.old.items) }
+    ensures replies { OnErr result (replies.new.list ≡ replies.old.list) }
 {
     match statement_of(alloc, text) {
         Ok(statement) => {
@@ -152,7 +146,7 @@ fn prepare_text<A: Ask>(
             drop(statement);
             done
         }
-        Err(StatementError::Fault(fault)) => refuse(alloc, fault, replies),
+        Err(StatementError::Fault(fault)) => refuse(fault, replies),
         Err(StatementError::NoMemory) => Err(AllocError),
     }
 }
@@ -167,13 +161,13 @@ pub fn prepare<A: Ask>(
     unicode: bool,
     statements: &mut Statements,
     asker: &mut A,
-    replies: &mut Vec<Reply>,
+    replies: &mut Replies,
 ) -> Result<(), AllocError>
-    ensures ok { OnOk result (WasDone A.asks (commands.preparing unicode statements.old (given_of accepted.entry.given)) asker.old asker.new statements.new replies.old.items replies.new.items) }
-    ensures size { OnOk result (written_lengths replies.new.items ≤ written_lengths replies.old.items + MAX_REPLIES_LENGTH) }
+    ensures ok { OnOk result (WasDone A.asks (commands.preparing unicode statements.old (given_of accepted.entry.given)) asker.old asker.new statements.new replies.old.list replies.new.list) }
+    ensures size { OnOk result (written_lengths replies.new.list ≤ written_lengths replies.old.list + MAX_REPLIES_LENGTH) }
     ensures asker { OnErr result (asker.new ≡ asker.old) }
     ensures statements { OnErr result (statements.new ≡ statements.old) }
-    ensures replies { OnErr result (replies.new.items ≡ replies.old.items) }
+    ensures replies { OnErr result (replies.new.list ≡ replies.old.list) }
 {
     let name = section_name(&accepted);
     let text = statement_text(&accepted);

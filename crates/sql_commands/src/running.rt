@@ -1,17 +1,18 @@
 //! EXCSQLIMM, and what runs the statement of EXCSQLSTT.
 
-ghost use Rattle.std.specs.Prelude.{◌≡◌, ◌≤◌, ◌+◌, ◌++◌, ◌∷◌, [], IfOk, OnErr, OnOk, if◌then◌else◌, length, map, vec_capacity, vec_len};
+ghost use Rattle.std.specs.Prelude.{◌≡◌, ◌≤◌, ◌+◌, ◌++◌, ◌∷◌, [], IfOk, OnErr, OnOk, if◌then◌else◌, length, map};
 ghost use Rattle.row_values.specs.Value.{value_of};
 ghost use Rattle.drda_commands.specs.Views.{given_of};
 ghost use Rattle.sql_commands.specs.Commands as commands;
 ghost use Rattle.command_kit.specs.Done.{WasDone};
-ghost use Rattle.command_kit.specs.Reply.{fault_card};
+ghost use Rattle.command_kit.specs.Card.{card_reply};
+ghost use Rattle.command_kit.specs.Reply.{fault_card, rdb_updated};
 ghost use Rattle.command_kit.specs.Sizes.{written_lengths};
 ghost use Rattle.command_kit.specs.Text.{statement_of};
 
 use crate::brought::statement_text;
-use crate::replying::{MAX_REPLIES_LENGTH, add_short};
-use command_kit::{Ask, Reply, Statements, not_done, refuse, statement_of};
+use crate::replying::MAX_REPLIES_LENGTH;
+use command_kit::{Ask, Card, Replies, Statements, add_not_done, refuse, statement_of};
 use core_calls::{Answer, CoreCall, SqlFault, StatementError};
 use drda_commands::Accepted;
 use row_values::Value;
@@ -29,38 +30,35 @@ fn is_search(command: &Command<'_>) -> bool
 }
 
 // Tells of a change by its SQLCARD, behind RDBUPDRM where none was told before.
-fn tell(is_told: bool, updated: Reply, card: Reply, replies: &mut Vec<Reply>)
-    requires room { vec_len replies.old + 2 ≤ vec_capacity replies.old }
-    requires updated { length updated.text ≤ MAX_MESSAGE_LENGTH }
-    requires card { length card.text ≤ SQLCARD_LENGTH }
-    ensures replies { replies.new.items ≡ replies.old.items ++ (if is_told then card ∷ [] else updated ∷ card ∷ []) }
-    ensures size { written_lengths replies.new.items ≤ written_lengths replies.old.items + MAX_REPLIES_LENGTH }
+fn tell(is_told: bool, rdb: &[u8], card: Card, replies: &mut Replies)
+    requires rdb { length rdb.now ≤ 791 }
+    requires text { MAX_MESSAGE_LENGTH + SQLCARD_LENGTH ≤ replies.old.text_room }
+    requires count { 2 ≤ replies.old.count_room }
+    ensures replies { replies.new.list ≡ replies.old.list ++ (if is_told then card_reply card ∷ [] else rdb_updated rdb.now ∷ card_reply card ∷ []) }
+    ensures size { written_lengths replies.new.list ≤ written_lengths replies.old.list + MAX_REPLIES_LENGTH }
 {
     if !is_told {
-        add_short(replies, updated);
+        replies.add(&ReplyMessage::RdbUpdated(rdb));
     }
-    add_short(replies, card);
+    replies.add(&card);
 }
 
 // Runs a statement with these values for its markers; whether a change is told then.
 pub(crate) fn run<'t, A: Ask>(
-    alloc: Global,
     statement: &Statement<'t>,
     parameters: &[Value<'t>],
     rdb: &[u8],
     statements: &Statements,
     asker: &mut A,
-    replies: &mut Vec<Reply>,
+    replies: &mut Replies,
 ) -> Result<bool, AllocError>
     requires { length rdb.now ≤ 791 }
-    ensures ok { IfOk result (λ is_told. WasDone A.asks (commands.running rdb.now statements.now statement.now (map value_of parameters.now)) asker.old asker.new (commands.with_told is_told statements.now) replies.old.items replies.new.items) }
-    ensures size { OnOk result (written_lengths replies.new.items ≤ written_lengths replies.old.items + MAX_REPLIES_LENGTH) }
+    ensures ok { IfOk result (λ is_told. WasDone A.asks (commands.running rdb.now statements.now statement.now (map value_of parameters.now)) asker.old asker.new (commands.with_told is_told statements.now) replies.old.list replies.new.list) }
+    ensures size { OnOk result (written_lengths replies.new.list ≤ written_lengths replies.old.list + MAX_REPLIES_LENGTH) }
     ensures asker { OnErr result (asker.new ≡ asker.old) }
-    ensures replies { OnErr result (replies.new.items ≡ replies.old.items) }
+    ensures replies { OnErr result (replies.new.list ≡ replies.old.list) }
 {
-    let first: Vec<u8> = Vec::with_capacity(alloc, MAX_MESSAGE_LENGTH)?;
-    let second: Vec<u8> = Vec::with_capacity(alloc, SQLCARD_LENGTH)?;
-    replies.reserve(2)?;
+    replies.reserve(2, MAX_MESSAGE_LENGTH + SQLCARD_LENGTH)?;
     let is_told = statements.is_change_told;
     let call = CoreCall::Run {
         statement,
@@ -68,13 +66,15 @@ pub(crate) fn run<'t, A: Ask>(
     };
     match asker.ask(&call) {
         Answer::Count(count) => {
-            let updated = Reply::of_message(first, ReplyMessage::RdbUpdated(rdb));
-            let card = Reply::of_count(second, is_search(&statement.command), count);
-            tell(is_told, updated, card, replies);
+            let card = Card::Count {
+                is_search: is_search(&statement.command),
+                count,
+            };
+            tell(is_told, rdb, card, replies);
             Ok(true)
         }
         answer => {
-            add_short(replies, not_done(answer, first));
+            add_not_done(answer, replies);
             Ok(is_told)
         }
     }
@@ -82,17 +82,16 @@ pub(crate) fn run<'t, A: Ask>(
 
 // The SQLCARD of a fault; whether a change is told then.
 pub(crate) fn refuse_run(
-    alloc: Global,
     fault: SqlFault,
     statements: &Statements,
-    replies: &mut Vec<Reply>,
+    replies: &mut Replies,
 ) -> Result<bool, AllocError>
     ensures told { IfOk result (λ is_told. commands.with_told is_told statements.now ≡ statements.now) }
-    ensures ok { OnOk result (replies.new.items ≡ replies.old.items ++ fault_card fault ∷ []) }
-    ensures size { OnOk result (written_lengths replies.new.items ≤ written_lengths replies.old.items + MAX_REPLIES_LENGTH) }
-    ensures err { OnErr result (replies.new.items ≡ replies.old.items) }
+    ensures ok { OnOk result (replies.new.list ≡ replies.old.list ++ fault_card fault ∷ []) }
+    ensures size { OnOk result (written_lengths replies.new.list ≤ written_lengths replies.old.list + MAX_REPLIES_LENGTH) }
+    ensures err { OnErr result (replies.new.list ≡ replies.old.list) }
 {
-    refuse(alloc, fault, replies)?;
+    refuse(fault, replies)?;
     Ok(statements.is_change_told)
 }
 
@@ -102,21 +101,21 @@ fn run_text<A: Ask>(
     rdb: &[u8],
     statements: &Statements,
     asker: &mut A,
-    replies: &mut Vec<Reply>,
+    replies: &mut Replies,
 ) -> Result<bool, AllocError>
     requires { length rdb.now ≤ 791 }
-    ensures ok { IfOk result (λ is_told. WasDone A.asks (commands.immediate_by rdb.now statements.now (statement_of text.now)) asker.old asker.new (commands.with_told is_told statements.now) replies.old.items replies.new.items) }
-    ensures size { OnOk result (written_lengths replies.new.items ≤ written_lengths replies.old.items + MAX_REPLIES_LENGTH) }
+    ensures ok { IfOk result (λ is_told. WasDone A.asks (commands.immediate_by rdb.now statements.now (statement_of text.now)) asker.old asker.new (commands.with_told is_told statements.now) replies.old.list replies.new.list) }
+    ensures size { OnOk result (written_lengths replies.new.list ≤ written_lengths replies.old.list + MAX_REPLIES_LENGTH) }
     ensures asker { OnErr result (asker.new ≡ asker.old) }
-    ensures replies { OnErr result (replies.new.items ≡ replies.old.items) }
+    ensures replies { OnErr result (replies.new.list ≡ replies.old.list) }
 {
     match statement_of(alloc, text) {
         Ok(statement) => {
-            let done = run(alloc, &statement, &[], rdb, statements, asker, replies);
+            let done = run(&statement, &[], rdb, statements, asker, replies);
             drop(statement);
             done
         }
-        Err(StatementError::Fault(fault)) => refuse_run(alloc, fault, statements, replies),
+        Err(StatementError::Fault(fault)) => refuse_run(fault, statements, replies),
         Err(StatementError::NoMemory) => Err(AllocError),
     }
 }
@@ -131,14 +130,14 @@ pub fn execute_immediate<A: Ask>(
     rdb: &[u8],
     statements: &mut Statements,
     asker: &mut A,
-    replies: &mut Vec<Reply>,
+    replies: &mut Replies,
 ) -> Result<(), AllocError>
     requires { length rdb.now ≤ 791 }
-    ensures ok { OnOk result (WasDone A.asks (commands.immediate rdb.now statements.old (given_of accepted.entry.given)) asker.old asker.new statements.new replies.old.items replies.new.items) }
-    ensures size { OnOk result (written_lengths replies.new.items ≤ written_lengths replies.old.items + MAX_REPLIES_LENGTH) }
+    ensures ok { OnOk result (WasDone A.asks (commands.immediate rdb.now statements.old (given_of accepted.entry.given)) asker.old asker.new statements.new replies.old.list replies.new.list) }
+    ensures size { OnOk result (written_lengths replies.new.list ≤ written_lengths replies.old.list + MAX_REPLIES_LENGTH) }
     ensures asker { OnErr result (asker.new ≡ asker.old) }
     ensures statements { OnErr result (statements.new ≡ statements.old) }
-    ensures replies { OnErr result (replies.new.items ≡ replies.old.items) }
+    ensures replies { OnErr result (replies.new.list ≡ replies.old.list) }
 {
     let text = statement_text(&accepted);
     let is_told = run_text(alloc, text, rdb, statements, asker, replies)?;

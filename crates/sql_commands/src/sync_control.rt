@@ -10,14 +10,14 @@ ghost use Rattle.command_kit.specs.Sizes.{written_lengths};
 ghost use Rattle.xa_calls.specs.declared.request.Request.TheVariants.{Recover};
 ghost use Rattle.sql_commands.specs.SyncControl as spec;
 
-use crate::card::{MAX_CARD_LENGTH, code_card, in_doubt_card};
+use crate::card::{CodeCard, InDoubtCard, MAX_CARD_LENGTH};
 use crate::kept::call_behind;
 use crate::request::request_of;
-use command_kit::{Ask, Reply, Statements, add, not_done};
+use command_kit::{Ask, Replies, Statements, add_not_done};
 use core_calls::{Answer, CoreCall};
 use drda_commands::Accepted;
 use sqlam_replies::MAX_MESSAGE_LENGTH;
-use std::alloc::{AllocError, Global};
+use std::alloc::AllocError;
 use xa_calls::{InvalidRequest, Request};
 
 /// The most bytes that the reply to a SYNCCTL takes as a DSS.
@@ -25,47 +25,43 @@ pub const MAX_SYNC_REPLY_LENGTH: usize = 36_902;
 
 // Asks which branches are in doubt.
 fn recover<A: Ask>(
-    alloc: Global,
     statements: &Statements,
     asker: &mut A,
-    replies: &mut Vec<Reply>,
+    replies: &mut Replies,
 ) -> Result<(), AllocError>
-    ensures ok { OnOk result (WasDone A.asks (asking (call.xa (Some Recover)) (spec.after_recover statements.now)) asker.old asker.new statements.now replies.old.items replies.new.items) }
-    ensures size { OnOk result (written_lengths replies.new.items ≤ written_lengths replies.old.items + MAX_SYNC_REPLY_LENGTH) }
+    ensures ok { OnOk result (WasDone A.asks (asking (call.xa (Some Recover)) (spec.after_recover statements.now)) asker.old asker.new statements.now replies.old.list replies.new.list) }
+    ensures size { OnOk result (written_lengths replies.new.list ≤ written_lengths replies.old.list + MAX_SYNC_REPLY_LENGTH) }
     ensures asker { OnErr result (asker.new ≡ asker.old) }
-    ensures replies { OnErr result (replies.new.items ≡ replies.old.items) }
+    ensures replies { OnErr result (replies.new.list ≡ replies.old.list) }
 {
-    let text: Vec<u8> = Vec::with_capacity(alloc, MAX_CARD_LENGTH)?;
-    replies.reserve(1)?;
+    replies.reserve(1, MAX_CARD_LENGTH)?;
     match asker.ask(&CoreCall::Xa(Ok(Request::Recover))) {
-        Answer::InDoubt(xids) => add(replies, in_doubt_card(text, &xids)),
-        answer => add(replies, not_done(answer, text)),
+        Answer::InDoubt(xids) => replies.add(&InDoubtCard { xids: &xids }),
+        answer => add_not_done(answer, replies),
     }
     Ok(())
 }
 
 // Asks for any other call, or for one that is none.
 fn call<A: Ask>(
-    alloc: Global,
     request: Result<Request, InvalidRequest>,
     statements: &mut Statements,
     asker: &mut A,
-    replies: &mut Vec<Reply>,
+    replies: &mut Replies,
 ) -> Result<(), AllocError>
-    ensures ok { OnOk result (WasDone A.asks (asking (call.xa (result_ok request)) (spec.after_call (result_ok request) statements.old)) asker.old asker.new statements.new replies.old.items replies.new.items) }
-    ensures size { OnOk result (written_lengths replies.new.items ≤ written_lengths replies.old.items + MAX_SYNC_REPLY_LENGTH) }
+    ensures ok { OnOk result (WasDone A.asks (asking (call.xa (result_ok request)) (spec.after_call (result_ok request) statements.old)) asker.old asker.new statements.new replies.old.list replies.new.list) }
+    ensures size { OnOk result (written_lengths replies.new.list ≤ written_lengths replies.old.list + MAX_SYNC_REPLY_LENGTH) }
     ensures asker { OnErr result (asker.new ≡ asker.old) }
     ensures statements { OnErr result (statements.new ≡ statements.old) }
-    ensures replies { OnErr result (replies.new.items ≡ replies.old.items) }
+    ensures replies { OnErr result (replies.new.list ≡ replies.old.list) }
 {
-    let text: Vec<u8> = Vec::with_capacity(alloc, MAX_MESSAGE_LENGTH)?;
-    replies.reserve(1)?;
+    replies.reserve(1, MAX_MESSAGE_LENGTH)?;
     match asker.ask(&CoreCall::Xa(request)) {
         Answer::Xa(code) => {
             call_behind(&request, code, statements);
-            add(replies, code_card(text, code));
+            replies.add(&CodeCard { code });
         }
-        answer => add(replies, not_done(answer, text)),
+        answer => add_not_done(answer, replies),
     }
     Ok(())
 }
@@ -75,21 +71,20 @@ fn call<A: Ask>(
 /// A start and an end that are answered 0 begin the telling of changes anew, and such an end closes all
 /// cursors. Out of memory, nothing is asked and nothing changes.
 pub fn do_sync_control<A: Ask>(
-    alloc: Global,
     accepted: Accepted<'_>,
     statements: &mut Statements,
     asker: &mut A,
-    replies: &mut Vec<Reply>,
+    replies: &mut Replies,
 ) -> Result<(), AllocError>
-    ensures ok { OnOk result (WasDone A.asks (spec.doing (given_of accepted.entry.given) statements.old) asker.old asker.new statements.new replies.old.items replies.new.items) }
-    ensures size { OnOk result (written_lengths replies.new.items ≤ written_lengths replies.old.items + MAX_SYNC_REPLY_LENGTH) }
+    ensures ok { OnOk result (WasDone A.asks (spec.doing (given_of accepted.entry.given) statements.old) asker.old asker.new statements.new replies.old.list replies.new.list) }
+    ensures size { OnOk result (written_lengths replies.new.list ≤ written_lengths replies.old.list + MAX_SYNC_REPLY_LENGTH) }
     ensures asker { OnErr result (asker.new ≡ asker.old) }
     ensures statements { OnErr result (statements.new ≡ statements.old) }
-    ensures replies { OnErr result (replies.new.items ≡ replies.old.items) }
+    ensures replies { OnErr result (replies.new.list ≡ replies.old.list) }
 {
     let request = request_of(&accepted);
     match request {
-        Ok(Request::Recover) => recover(alloc, statements, asker, replies),
-        request => call(alloc, request, statements, asker, replies),
+        Ok(Request::Recover) => recover(statements, asker, replies),
+        request => call(request, statements, asker, replies),
     }
 }

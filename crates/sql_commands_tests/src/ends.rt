@@ -1,7 +1,7 @@
 //! RDBCMM and RDBRLLBCK.
 
 use crate::fixtures::{Script, Scripted, Told, are_told};
-use command_kit::Statements;
+use command_kit::{Replies, Statements};
 use ddm_objects::code_point::{AGNPRMRM, CMDVLTRM, ENDUOWRM, RSCLMTRM, SQLCARD};
 use sql_commands::end_unit;
 use sqlam_replies::UnitEnd;
@@ -35,16 +35,9 @@ fn is_ended(
 ) -> Result<bool, AllocError> {
     let mut asker = Scripted::new(alloc, script);
     let mut statements = Statements::new(alloc);
-    let mut replies = Vec::new(alloc);
-    end_unit(
-        alloc,
-        end,
-        b"DRDADB",
-        &mut statements,
-        &mut asker,
-        &mut replies,
-    )?;
-    Ok(asker.asked == 1 && are_told(&replies, expected))
+    let mut replies = Replies::new(alloc);
+    end_unit(end, b"DRDADB", &mut statements, &mut asker, &mut replies)?;
+    Ok(asker.asked == 1 && are_told(replies.as_list(), expected))
 }
 
 #[test]

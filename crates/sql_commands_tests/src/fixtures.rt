@@ -2,7 +2,7 @@
 
 ghost use Rattle.std.specs.Prelude.{⊤};
 
-use command_kit::{Ask, Reply};
+use command_kit::{Ask, ReplyList};
 use core_calls::{Answer, CoreCall, ParameterTypes, Refusal, SqlFault};
 use ddm_objects::put;
 use row_values::Value;
@@ -89,8 +89,8 @@ impl Ask for Scripted {
 /// A reply: its code point, and of an SQLCARD its SQLCODE, 0 where it has none.
 pub type Told = (u16, i32);
 
-fn told(reply: &Reply) -> Option<Told> {
-    match reply.text() {
+fn told(text: &[u8]) -> Option<Told> {
+    match text {
         [_, _, c1, c2, 0x00, n1, n2, n3, n4, ..] if *c1 == 0x24 => Some((
             u16::from_be_bytes([*c1, *c2]),
             i32::from_be_bytes([*n1, *n2, *n3, *n4]),
@@ -101,14 +101,16 @@ fn told(reply: &Reply) -> Option<Told> {
 }
 
 /// Whether these are the replies.
-pub fn are_told(replies: &[Reply], expected: &[Told]) -> bool {
-    if replies.len() != expected.len() {
-        return false;
-    }
-    for (reply, expected) in replies.iter().zip(expected) {
-        if told(reply) != Some(*expected) {
+pub fn are_told(replies: ReplyList<'_>, expected: &[Told]) -> bool {
+    let mut left = replies;
+    for expected in expected {
+        let Some((reply, others)) = left.split_first() else {
+            return false;
+        };
+        if told(reply.text) != Some(*expected) {
             return false;
         }
+        left = others;
     }
-    true
+    left.split_first().is_none()
 }

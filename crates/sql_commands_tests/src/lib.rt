@@ -8,4 +8,6 @@ mod fixtures;
 #[cfg(test)]
 mod prepared;
 #[cfg(test)]
+mod replies;
+#[cfg(test)]
 mod texts;

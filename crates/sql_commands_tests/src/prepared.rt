@@ -1,7 +1,7 @@
 //! PRPSQLSTT, DSCSQLSTT and EXCSQLSTT, one after the other in one section.
 
 use crate::fixtures::{Script, Scripted, Told, are_told, text_object};
-use command_kit::{Reply, Statements};
+use command_kit::{Replies, Statements};
 use core_calls::SqlFault;
 use ddm_objects::code_point::{RDBUPDRM, SQLCARD, SQLDARD};
 use ddm_objects::{code_point, put};
@@ -109,7 +109,7 @@ fn do_step(
     step: Step,
     statements: &mut Statements,
     asker: &mut Scripted,
-    replies: &mut Vec<Reply>,
+    replies: &mut Replies,
 ) -> Result<bool, AllocError> {
     let mut segments = Segments::new(alloc);
     let bytes = command(alloc, step)?;
@@ -137,13 +137,13 @@ fn are_done(
 ) -> Result<bool, AllocError> {
     let mut asker = Scripted::new(alloc, script);
     let mut statements = Statements::new(alloc);
-    let mut replies = Vec::new(alloc);
+    let mut replies = Replies::new(alloc);
     for step in steps {
         if !do_step(alloc, *step, &mut statements, &mut asker, &mut replies)? {
             return Ok(false);
         }
     }
-    Ok(asker.asked == asked && asker.seen == seen && are_told(&replies, expected))
+    Ok(asker.asked == asked && asker.seen == seen && are_told(replies.as_list(), expected))
 }
 
 /// Commands, what the core answers, what is replied, how often the core is asked, and the digits that it is

@@ -1,7 +1,7 @@
 //! EXCSQLIMM.
 
 use crate::fixtures::{Script, Scripted, Told, are_told, text_object};
-use command_kit::{Reply, Statements};
+use command_kit::{Replies, Statements};
 use core_calls::SqlFault;
 use ddm_objects::code_point::{RDBUPDRM, RSCLMTRM, SQLCARD};
 use ddm_objects::{code_point, put};
@@ -34,7 +34,7 @@ fn run(
     text: &[u8],
     statements: &mut Statements,
     asker: &mut Scripted,
-    replies: &mut Vec<Reply>,
+    replies: &mut Replies,
 ) -> Result<bool, AllocError> {
     let mut segments = Segments::new(alloc);
     let bytes = command(alloc, text)?;
@@ -59,10 +59,10 @@ fn is_run_twice(
 ) -> Result<bool, AllocError> {
     let mut asker = Scripted::new(alloc, script);
     let mut statements = Statements::new(alloc);
-    let mut replies = Vec::new(alloc);
+    let mut replies = Replies::new(alloc);
     let first = run(alloc, text, &mut statements, &mut asker, &mut replies)?;
     let second = run(alloc, text, &mut statements, &mut asker, &mut replies)?;
-    Ok(first && second && asker.asked == asked && are_told(&replies, expected))
+    Ok(first && second && asker.asked == asked && are_told(replies.as_list(), expected))
 }
 
 /// A statement, what the core answers, what is replied where it is run twice, and how often the core is asked.

@@ -1,8 +1,8 @@
 //! The key that a predicate fixes.
 
-ghost use Rattle.std.specs.Prelude.{◌≡◌, ◌≤◌, IfOk, IfSome, Some, length, map, option_map};
+ghost use Rattle.std.specs.Prelude.{◌≡◌, ◌≤◌, ◌∷◌, [], IfOk, IfSome, Some, length, map, option_map};
 ghost use Rattle.std.specs.List.{list_all};
-ghost use Rattle.std.specs.Option.{option_copied};
+ghost use Rattle.std.specs.Option.{option_and_then, option_copied};
 ghost use Rattle.row_values.specs.Column.{column_of};
 ghost use Rattle.row_values.specs.Value.{value_of};
 ghost use Rattle.sql_predicates.specs.Constant.{constant_value};
@@ -181,6 +181,24 @@ fn borrowed(alloc: Global, constants: &[Constant]) -> Result<Vec<Value<'_>>, All
     Ok(values)
 }
 
+// The key that the parts fix, which is the one column of this place.
+fn key_of_one(
+    alloc: Global,
+    schema: &Schema,
+    place: u8,
+    parts: &[Predicate<'_>],
+    params: &[Value<'_>],
+) -> Result<Option<Vec<u8>>, AllocError>
+    ensures key { IfOk result (λ found. option_map (λ key. key.items) found ≡ option_and_then (key_of_values schema.now) (scope.all_fixed (map value_of params.now) schema.now.columns (place ∷ []) parts.now)) }
+    ensures short { IfOk result (λ found. IfSome found (λ key. length key.items ≤ 8012)) }
+{
+    let found = fixed(alloc, schema.columns(), params, usize::from(place), parts)?;
+    match found {
+        Some(constant) => key_of_values(alloc, schema, &[constant.value()]),
+        None => Ok(None),
+    }
+}
+
 #[tactic(auto, unfolding(sql_semantics::specs::Scope::fixed_key))]
 fn predicate_key(
     alloc: Global,
@@ -192,6 +210,9 @@ fn predicate_key(
     ensures short { IfOk result (λ found. IfSome found (λ key. length key.items ≤ 8012)) }
 {
     let parts = conjuncts(predicate);
+    if let [place] = schema.key() {
+        return key_of_one(alloc, schema, *place, parts, params);
+    }
     let found = all_fixed(alloc, schema.columns(), params, schema.key(), parts)?;
     let Some(constants) = found else {
         return Ok(None);

@@ -1,5 +1,5 @@
 -- What a text is answered, by what it is in the grammar.
-use Rattle.std.proofs.Common.{◌≡◌, ℕ, ◌≤◌, List, length, Ok, Err, Result, Option, Some, None, IfOk, refl, sym, ap, subst, ◌∙◌, arith}
+use Rattle.std.proofs.Common.{◌≡◌, ℕ, ◌≤◌, List, length, Ok, Err, Result, IfOk, refl, sym, ap, subst, ◌∙◌, arith}
 use Rattle.drda_words.specs.Excuse.{Answers}
 use Rattle.sql_lex.specs.Markers.{markers_in, markers_of}
 use Rattle.sql_lex.specs.Tokens.{Lexeme, tokens, tokens_ahead}
@@ -12,7 +12,6 @@ use Rattle.sql_text.specs.Text.{but_memory, refusal_error, fault_error, answer, 
 use Rattle.sql_text.specs.declared.check.Refusal.{Refusal}
 use Rattle.sql_text.specs.declared.check.Refusal.TheVariants as refusal
 use Rattle.sql_text.specs.declared.error.SqlError.{SqlError}
-use Rattle.sql_text.specs.declared.error.SqlError.TheVariants as error
 use Rattle.sql_text.specs.declared.fault.Fault.{Fault}
 use Rattle.sql_text.specs.declared.fault.Fault.TheVariants as fault
 use Rattle.sql_text.specs.declared.draft.Draft.{Draft}

@@ -1,12 +1,11 @@
 -- What holds of the tokens of a text holds of the statement that they are.
-use Rattle.std.proofs.Common.{◌≡◌, inl, inr, ◌⊎◌, ℕ, zero, suc, ◌+◌, ◌-◌, ◌≤◌, ◌<◌, ◌^◌, Bool, true, false, List, [], ◌∷◌, ◌++◌, length, drop, map, Option, Some, None, refl, sym, ap, ◌∙◌, subst, arith}
-use Rattle.std.specs.Prelude.{slice_index_or, nat_lt, nat_le}
+use Rattle.std.proofs.Common.{◌≡◌, inl, inr, ℕ, zero, suc, ◌+◌, ◌-◌, ◌≤◌, ◌<◌, ◌^◌, Bool, true, false, List, [], ◌∷◌, length, drop, Option, Some, None, sym, ap, ◌∙◌, subst, arith}
+use Rattle.std.specs.Prelude.{nat_le}
 use Rattle.std.specs.List.{All}
-use Rattle.std.specs.Str.{IsUtf8}
 use Rattle.std.proofs.lemmas.Bool.Decides.{nat_tests}
 use Rattle.std.proofs.lemmas.List.Elements.{All-cons, All-nil}
 use Rattle.sql_lex.specs.Markers.{markers_in, HasNumber, AreNumbered}
-use Rattle.sql_lex.specs.Spelling.{IsName, AreDigits, ArePairs, doubled, IsSpelled, AllSpelled, IsReadable, AllReadable}
+use Rattle.sql_lex.specs.Spelling.{IsName, AreDigits, ArePairs, IsSpelled, AllSpelled, IsReadable, AllReadable}
 use Rattle.sql_lex.specs.Tokens.{Lexeme, tokens, counted}
 use Rattle.sql_lex.specs.declared.terminal.Terminal.{Terminal}
 use Rattle.sql_lex.specs.declared.terminal.Terminal.TheVariants as w
@@ -32,7 +31,6 @@ use Rattle.sql_text.specs.declared.tree.Operation.TheVariants as operation
 use Rattle.sql_text.specs.declared.tree.Addend.{Addend}
 use Rattle.sql_text.specs.declared.tree.Sum.{Sum}
 use Rattle.sql_text.specs.declared.tree.Predicate.{Predicate}
-use Rattle.sql_text.specs.declared.tree.Predicate.TheVariants as predicate
 use Rattle.sql_text.specs.declared.tree.Assignment.{Assignment}
 
 -- ---- what is known of a token

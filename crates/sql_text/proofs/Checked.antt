@@ -1,13 +1,13 @@
 -- A table that no check refuses.
-use Rattle.std.proofs.Common.{◌≡◌, ◌≢◌, ℕ, zero, suc, ◌+◌, ◌≤◌, ◌<◌, Bool, true, false, cond, not, ◌||◌, List, [], ◌∷◌, ◌++◌, length, map, Option, Some, None, refl, sym, ap, ◌∙◌, subst, arith}
-use Rattle.std.specs.Prelude.{◌==◌, nat_lt, slice_index_or}
+use Rattle.std.proofs.Common.{◌≡◌, ◌≢◌, ℕ, zero, suc, ◌≤◌, Bool, true, false, cond, not, ◌||◌, List, [], ◌∷◌, ◌++◌, length, map, Option, Some, None, refl, arith}
+use Rattle.std.specs.Prelude.{◌==◌, nat_lt}
 use Rattle.std.specs.List.{All, Contains, list_any}
 use Rattle.std.proofs.lemmas.Bool.Decides.{nat_tests}
 use Rattle.std.proofs.lemmas.List.Elements.{All-cons, All-nil, All-head, All-tail}
 use Rattle.sql_lex.specs.Spelling.{capitals}
 use Rattle.sql_text.specs.Checks.{same_name, is_too_long, is_too_large, empty_at, or_else, first_empty, first_repeat, repeated_column, repeated_key, is_column, has_unknown, wrong_at, table_refusal, command_refusal, refusal_of}
 use Rattle.sql_text.specs.Plain as plain
-use Rattle.sql_text.specs.Valid.{IsValidType, AreDifferent, column_names, key_names}
+use Rattle.sql_text.specs.Valid.{IsValidType, AreDifferent}
 use Rattle.sql_text.specs.declared.check.Refusal.{Refusal}
 use Rattle.sql_text.specs.declared.check.Refusal.TheVariants as refusal
 use Rattle.sql_text.specs.declared.draft.DraftType.{DraftType}

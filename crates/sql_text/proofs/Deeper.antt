@@ -1,5 +1,5 @@
 -- A statement whose parentheses and NOTs are nested 65 deep is read up to one that is too deep, or whole.
-use Rattle.std.proofs.Common.{◌≡◌, ◌⊎◌, inl, inr, ℕ, zero, suc, ◌+◌, ◌≤◌, ◌<◌, Bool, true, false, cond, List, [], ◌∷◌, ◌++◌, length, refl, sym, ap, ◌∙◌, subst, arith, Ok, Err, Option, Some, None, append_assoc}
+use Rattle.std.proofs.Common.{◌≡◌, ◌⊎◌, inl, inr, ℕ, zero, suc, ◌≤◌, ◌<◌, true, false, cond, List, [], ◌∷◌, ◌++◌, length, refl, sym, ap, ◌∙◌, arith, Ok, Err, Option, Some, None, append_assoc}
 use Rattle.sql_lex.specs.declared.terminal.Terminal.{Terminal}
 use Rattle.sql_lex.specs.declared.terminal.Terminal.TheVariants as w
 use Rattle.sql_lex.specs.declared.token.Token.TheVariants as t
@@ -8,7 +8,6 @@ use Rattle.sql_text.specs.declared.draft.Draft.{Draft}
 use Rattle.sql_text.specs.declared.draft.Draft.TheVariants as draft
 use Rattle.sql_text.specs.declared.fault.Fault.TheVariants as fault
 use Rattle.sql_text.specs.declared.token.Verb.TheVariants as verb
-use Rattle.sql_text.specs.declared.tree.Columns.TheVariants as columns
 use Rattle.sql_text.specs.declared.tree.Predicate.{Predicate}
 use Rattle.sql_text.specs.declared.tree.Predicate.TheVariants as predicate
 use Rattle.sql_text.specs.Grammar as g
@@ -16,7 +15,7 @@ use Rattle.sql_text.specs.Grammar.{◌⨾◌, The, IsList, IsAll, IsAny, IsPrima
 use Rattle.sql_text.specs.Reading.{Parser, Parsed, and_then, ◌>>=◌, pure, as_verb, expect_fixed, take_fixed, verb_at, end_at}
 use Rattle.sql_text.specs.Rules.{longest, items_from, items, all_at, any_at, group, negation, level, neg_at, predicate_at, filter_at, update_at, delete_at, select_at, command_at}
 use Rattle.sql_text.proofs.Only.{again, the_again, may_again, name_again, Lacks, lacks, lacks_nil, is_length, list_length, list_shorter}
-use Rattle.sql_text.proofs.OnlyRules.{is_apart, all_shorter, nested_shorter, level_only, command_only, end_only, name_shorter, assignment_shorter, assignments_only, selected_only, selected_shorter, no_filter_sign, no_filter_comma}
+use Rattle.sql_text.proofs.OnlyRules.{is_apart, all_shorter, nested_shorter, level_only, command_only, end_only, assignment_shorter, assignments_only, selected_only, selected_shorter, no_filter_sign, no_filter_comma}
 
 -- read so, or found too deep
 abbrev pub ReadOrDeep : {A : Type 0} → Parsed A → A × List Lexeme → Type 0

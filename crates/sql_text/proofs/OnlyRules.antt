@@ -31,7 +31,7 @@ use Rattle.sql_text.specs.declared.tree.Columns.{Columns}
 use Rattle.sql_text.specs.declared.tree.Columns.TheVariants as columns
 use Rattle.sql_text.specs.declared.draft.Draft.{Draft}
 use Rattle.sql_text.specs.declared.draft.Draft.TheVariants as draft
-use Rattle.sql_text.specs.Reading.{Parser, is_fixed, as_name, as_start, as_value_term, as_term, as_type, as_verb, take_fixed, name_at, operation_at, start_at, term_start_at, type_word_at, verb_at, end_at}
+use Rattle.sql_text.specs.Reading.{Parser, is_fixed, as_start, as_value_term, as_term, as_type, as_verb, take_fixed, name_at, operation_at, start_at, term_start_at, type_word_at, verb_at, end_at}
 use Rattle.sql_text.specs.Rules.{longest, value_at, term_at, addends_from, addends_at, sum_at, Else, opening_of, compared, null_test, named, comparison, all_at, any_at, group, negation, level, neg_at, predicate_at, names_at, values_at, key_column_at, key_at, assignment_at, assignments_at, length_within, type_at, nullable_at, definition_at, another, definitions_at, listed_at, selected_at, filter_at, create_at, insert_at, update_at, delete_at, select_at, command_at}
 use Rattle.sql_text.specs.Grammar as g
 use Rattle.sql_text.specs.Grammar.{◌⨾◌, Nothing, At, Is, The, IsList, IsName, IsNumber, IsValue, IsTerm, IsOperation, AreAddends, IsSum, IsAll, IsAny, IsPrimary, IsNested, IsPredicate, IsLength, IsType, IsNullable, IsDefinition, IsKeyColumn, IsAssignment, AreNames, AreListed, AreSelected, IsFilter, IsFilterUnder, IsCommand, IsStatement}

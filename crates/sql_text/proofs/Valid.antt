@@ -1,8 +1,7 @@
 -- A statement that is parsed is what plain words say.
-use Rattle.std.proofs.Common.{◌≡◌, ℕ, suc, ◌≤◌, List, [], ◌∷◌, length, map, Option, Some, None, Result, Ok, Err, IfOk, refl, sym, ap, ◌∙◌, subst, arith}
+use Rattle.std.proofs.Common.{◌≡◌, ℕ, suc, ◌≤◌, List, [], ◌∷◌, length, map, Option, Some, None, Result, Ok, Err, IfOk, refl, ap, subst, arith}
 use Rattle.std.specs.List.{All, Contains}
-use Rattle.std.specs.Str.{IsUtf8}
-use Rattle.std.proofs.lemmas.List.Elements.{All-map, All-cons, All-nil, All-head, All-tail}
+use Rattle.std.proofs.lemmas.List.Elements.{All-map}
 use Rattle.sql_lex.specs.Markers.{markers_in, AreNumbered}
 use Rattle.sql_lex.specs.Spelling.{capitals, IsName, AllSpelled, AllReadable}
 use Rattle.sql_lex.specs.Tokens.{Lexeme, tokens}
@@ -23,7 +22,7 @@ use Rattle.sql_text.specs.declared.error.SqlError.{SqlError}
 use Rattle.sql_text.specs.declared.tree.Columns.{Columns}
 use Rattle.sql_text.specs.declared.tree.Columns.TheVariants as columns
 use Rattle.sql_text.specs.declared.tree.Statement.{Statement}
-use Rattle.sql_text.proofs.Carried.{AreGood, good_tokens, is_carry, list_carry, the_carry, value_carry, filter_carry, definition_carry, key_carry, name_carry, assignment_carry}
+use Rattle.sql_text.proofs.Carried.{AreGood, good_tokens, list_carry, the_carry, value_carry, filter_carry, definition_carry, key_carry, name_carry, assignment_carry}
 use Rattle.sql_text.proofs.Checked.{Passed, IsPassed, all_passed}
 
 -- ---- a list without the places

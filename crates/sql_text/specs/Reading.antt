@@ -218,6 +218,12 @@ Passes outcome (Ok x) = outcome ≡ Ok (tt, tokens_ahead x)
 Passes outcome (Err fault.Memory) = Unit {0}
 Passes outcome (Err e) = outcome ≡ Err e
 
+-- the same where this was read before
+abbrev pub Follows : {A : Type 0} → A → Parsed (Unit {0}) → Result (A × (ℕ × List ℕ)) Fault → Type 0
+Follows found outcome (Ok x) = (outcome ≡ Ok (tt, tokens_ahead x.1)) × (x.0 ≡ found)
+Follows found outcome (Err fault.Memory) = Unit {0}
+Follows found outcome (Err e) = outcome ≡ Err e
+
 -- no marker of the text is lost or made: those before the place and those to come are as many as before
 abbrev pub Keeps : {A : Type 0} → ℕ × List ℕ → Result (A × (ℕ × List ℕ)) Fault → Type 0
 Keeps cursor result = IfOk result (λ x. markers_of x.1 ≡ markers_of cursor)

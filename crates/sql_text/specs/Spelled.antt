@@ -1,5 +1,5 @@
 -- What the parts of a statement stand for.
-use Rattle.std.specs.Prelude.{◌≡◌, ◌≤◌, ◌<◌, ℕ, ◌+◌, ◌-◌, ◌*◌, ◌/◌, ◌%◌, ◌==◌, nat_lt, if◌then◌else◌, List, [], ◌∷◌, length, slice_index, ℤ, pos, neg_ℤ}
+use Rattle.std.specs.Prelude.{◌≡◌, ℕ, ◌+◌, ◌-◌, ◌*◌, ◌/◌, ◌%◌, ◌==◌, nat_lt, if◌then◌else◌, List, [], ◌∷◌, length, slice_index, ℤ, pos, neg_ℤ}
 use Rattle.sql_lex.specs.Spelling.{AreDigits}
 use Rattle.sql_text.specs.Number.{number_of}
 use Rattle.sql_text.specs.declared.tree.Literal.{Literal}

@@ -20,7 +20,7 @@ const MAX_SELECTED: usize = 64;
 const MAX_LENGTH: usize = 2_000;
 
 /// Why a statement of the grammar is refused.
-#[derive(Clone, Copy, Debug, PartialEq, Eq)]
+#[derive(Clone, Copy)]
 pub(crate) enum Refusal {
     /// A limit of markers, columns, key columns, selected names or lengths.
     Limit,

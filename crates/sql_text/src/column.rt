@@ -7,7 +7,7 @@ ghost use Rattle.sql_text.specs.Rules as spec;
 
 use crate::draft::{DraftColumn, DraftType};
 use crate::fault::Fault;
-use crate::token::{TypeWord, expect, length, placed_name, take, type_word};
+use crate::token::{TypeWord, before, expect, length, placed_name, take, type_word};
 use sql_lex::{Cursor, Terminal};
 
 /// A length in parentheses, and its place.
@@ -20,8 +20,7 @@ pub(crate) fn length_in_parentheses<'a>(
 {
     let rest = expect(Terminal::Open, cursor)?;
     let (length, rest) = length(rest)?;
-    let rest = expect(Terminal::Close, rest)?;
-    Ok((length, rest))
+    before(Terminal::Close, length, rest)
 }
 
 #[tactic(auto, unfolding(crate::specs::Rules::type_at))]
@@ -53,8 +52,7 @@ pub(crate) fn nullable<'a>(cursor: Cursor<'a>) -> Result<(bool, Cursor<'a>), Fau
     if !bars {
         return Ok((true, rest));
     }
-    let rest = expect(Terminal::Null, rest)?;
-    Ok((false, rest))
+    before(Terminal::Null, false, rest)
 }
 
 #[tactic(auto, unfolding(crate::specs::Rules::definition_at))]

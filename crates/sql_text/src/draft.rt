@@ -2,6 +2,7 @@
 
 ghost use Rattle.std.specs.Prelude.{◌≡◌, map, IfOk};
 ghost use Rattle.sql_text.specs.Plain as plain;
+ghost use Rattle.sql_text.specs.declared.draft.Draft.TheVariants as drafts;
 
 use crate::tree::{
     Assignment, ColumnType, Columns, Command, Definition, KeyColumn, Literal, Predicate,
@@ -11,7 +12,7 @@ use sqlite_items::Items;
 use std::alloc::{AllocError, Global};
 
 /// The type of a column.
-#[derive(Clone, Copy, Debug, PartialEq, Eq)]
+#[derive(Clone, Copy)]
 pub(crate) enum DraftType {
     SmallInt,
     Integer,
@@ -125,6 +126,23 @@ fn key_columns<'a>(alloc: Global, key: &[DraftKey<'a>]) -> Result<Items<KeyColum
     Ok(made)
 }
 
+fn creation<'a>(
+    alloc: Global,
+    table: Part<'a>,
+    columns: Items<DraftColumn<'a>>,
+    key: Items<DraftKey<'a>>,
+) -> Result<Command<'a>, AllocError>
+    ensures { IfOk result (λ c. c ≡ plain.command (drafts.Create table.entry columns.entry key.entry)) }
+{
+    let columns = definitions(alloc, columns.as_slice())?;
+    let key = key_columns(alloc, key.as_slice())?;
+    Ok(Command::Create {
+        table,
+        columns,
+        key,
+    })
+}
+
 /// The statement without the places.
 pub(crate) fn command<'a>(alloc: Global, draft: Draft<'a>) -> Result<Command<'a>, AllocError>
     ensures { IfOk result (λ c. c ≡ plain.command draft.entry) }
@@ -134,15 +152,7 @@ pub(crate) fn command<'a>(alloc: Global, draft: Draft<'a>) -> Result<Command<'a>
             table,
             columns,
             key,
-        } => {
-            let columns = definitions(alloc, columns.as_slice())?;
-            let key = key_columns(alloc, key.as_slice())?;
-            Ok(Command::Create {
-                table,
-                columns,
-                key,
-            })
-        }
+        } => creation(alloc, table, columns, key),
         Draft::Insert {
             table,
             columns,

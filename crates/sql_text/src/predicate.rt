@@ -8,7 +8,7 @@ ghost use Rattle.sql_text.specs.Rules as spec;
 use crate::fault::Fault;
 use crate::list::longest;
 use crate::sum::{term, value};
-use crate::token::{comparison, expect, take};
+use crate::token::{before, comparison, take};
 use crate::tree::{Predicate, Term};
 use sql_lex::{Cursor, Part, Terminal, Token};
 use sqlite_items::{Boxed, Items};
@@ -38,8 +38,7 @@ pub(crate) fn null_test<'a>(
     ensures markers { Keeps cursor.entry result }
 {
     let (negated, rest) = take(Terminal::Not, cursor);
-    let rest = expect(Terminal::Null, rest)?;
-    Ok((Predicate::IsNull(name, negated), rest))
+    before(Terminal::Null, Predicate::IsNull(name, negated), rest)
 }
 
 /// What goes on behind a name.
@@ -142,7 +141,7 @@ pub(crate) fn level<'a>(
         }
         Token::Fixed(Terminal::Open) => {
             let (part, rest) = any(alloc, depth, rest)?;
-            let rest = expect(Terminal::Close, rest)?;
+            let (part, rest) = before(Terminal::Close, part, rest)?;
             Ok((Predicate::Group(Boxed::new(alloc, part)?), rest))
         }
         Token::Name(name) => named(name, rest),

@@ -9,7 +9,7 @@ use crate::draft::{Draft, DraftColumn, DraftKey};
 use crate::fault::Fault;
 use crate::list::items;
 use crate::predicate::whole_predicate;
-use crate::token::{Verb, end, expect, first_word, name, take};
+use crate::token::{Verb, at_end, before, expect, first_word, name, take};
 use crate::tree::{Assignment, Columns, Literal, Predicate};
 use sql_lex::{Cursor, Part, Terminal};
 use std::alloc::Global;
@@ -28,8 +28,7 @@ pub(crate) fn listed<'a>(
         return Ok((Columns::All, rest));
     }
     let (names, rest) = items::<Part<'a>>(alloc, rest)?;
-    let rest = expect(Terminal::Close, rest)?;
-    Ok((Columns::Named(names), rest))
+    before(Terminal::Close, Columns::Named(names), rest)
 }
 
 /// The columns that a SELECT asks for.
@@ -81,16 +80,13 @@ pub(crate) fn create<'a>(
     let rest = expect(Terminal::Key, rest)?;
     let rest = expect(Terminal::Open, rest)?;
     let (key, rest) = items::<DraftKey<'a>>(alloc, rest)?;
-    let rest = expect(Terminal::Close, rest)?;
-    let rest = expect(Terminal::Close, rest)?;
-    Ok((
-        Draft::Create {
-            table,
-            columns,
-            key,
-        },
-        rest,
-    ))
+    let draft = Draft::Create {
+        table,
+        columns,
+        key,
+    };
+    let (draft, rest) = before(Terminal::Close, draft, rest)?;
+    before(Terminal::Close, draft, rest)
 }
 
 #[tactic(auto, unfolding(crate::specs::Rules::insert_at, crate::specs::Rules::values_at))]
@@ -104,18 +100,15 @@ pub(crate) fn insert<'a>(
     let rest = expect(Terminal::Into, cursor)?;
     let (table, rest) = name(rest)?;
     let (columns, rest) = listed(alloc, rest)?;
-    let rest = expect(Terminal::Values, rest)?;
-    let rest = expect(Terminal::Open, rest)?;
+    let (columns, rest) = before(Terminal::Values, columns, rest)?;
+    let (columns, rest) = before(Terminal::Open, columns, rest)?;
     let (values, rest) = items::<Literal<'a>>(alloc, rest)?;
-    let rest = expect(Terminal::Close, rest)?;
-    Ok((
-        Draft::Insert {
-            table,
-            columns,
-            values,
-        },
-        rest,
-    ))
+    let draft = Draft::Insert {
+        table,
+        columns,
+        values,
+    };
+    before(Terminal::Close, draft, rest)
 }
 
 #[tactic(auto, unfolding(crate::specs::Rules::update_at, crate::specs::Rules::assignments_at))]
@@ -205,6 +198,5 @@ pub(crate) fn whole_command<'a>(
 {
     let (verb, rest) = first_word(cursor)?;
     let (command, rest) = by_verb(alloc, verb, rest)?;
-    let rest = end(rest)?;
-    Ok((command, rest))
+    at_end(command, rest)
 }

@@ -62,7 +62,10 @@ fn judged<'a>(
             let command = command(alloc, draft)?;
             Ok(Statement { command, markers })
         }
-        Some(refusal) => Err(refusal_error(length, refusal)),
+        Some(refusal) => {
+            drop(draft);
+            Err(refusal_error(length, refusal))
+        }
     }
 }
 

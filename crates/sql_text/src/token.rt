@@ -4,7 +4,7 @@ ghost use Rattle.std.specs.Prelude.{◌≡◌, Ok, IfOk};
 ghost use Rattle.sql_lex.specs.Markers.{markers_of};
 ghost use Rattle.sql_lex.specs.Tokens.{tokens_ahead};
 ghost use Rattle.sql_text.specs.Reading as spec;
-ghost use Rattle.sql_text.specs.Reading.{Yields, Passes, Keeps};
+ghost use Rattle.sql_text.specs.Reading.{Yields, Passes, Follows, Keeps};
 
 use crate::draft::DraftType;
 use crate::fault::Fault;
@@ -70,6 +70,19 @@ pub(crate) fn expect<'a>(want: Terminal, cursor: Cursor<'a>) -> Result<Cursor<'a
         Token::Fixed(found) if found.is(want) => Ok(rest),
         _ => Err(Fault::Unexpected(left)),
     }
+}
+
+/// What was read, where this token comes next, which is then taken.
+pub(crate) fn before<'a, T: Drop>(
+    want: Terminal,
+    found: T,
+    cursor: Cursor<'a>,
+) -> Result<(T, Cursor<'a>), Fault>
+    ensures value { Follows found (spec.expect_fixed want (tokens_ahead cursor.entry)) result }
+    ensures markers { Keeps cursor.entry result }
+{
+    let rest = expect(want, cursor)?;
+    Ok((found, rest))
 }
 
 /// Whether this token comes next, which is then taken.
@@ -292,14 +305,14 @@ pub(crate) fn first_word<'a>(cursor: Cursor<'a>) -> Result<(Verb, Cursor<'a>), F
     }
 }
 
-/// The end of the text.
+/// What was read, where the text ends behind it.
 #[tactic(auto, unfolding(crate::specs::Reading::end_at))]
-pub(crate) fn end<'a>(cursor: Cursor<'a>) -> Result<Cursor<'a>, Fault>
-    ensures value { Passes (spec.end_at (tokens_ahead cursor.entry)) result }
-    ensures markers { IfOk result (λ rest. markers_of rest ≡ markers_of cursor.entry) }
+pub(crate) fn at_end<'a, T: Drop>(found: T, cursor: Cursor<'a>) -> Result<(T, Cursor<'a>), Fault>
+    ensures value { Follows found (spec.end_at (tokens_ahead cursor.entry)) result }
+    ensures markers { Keeps cursor.entry result }
 {
     match cursor.next() {
-        None => Ok(cursor),
+        None => Ok((found, cursor)),
         Some((_, left, _)) => Err(Fault::Unexpected(left)),
     }
 }

@@ -1,5 +1,6 @@
 mod Rising
 mod Standing
+mod Behind
 mod Whole
 mod Judged
 mod Listed

@@ -32,6 +32,10 @@ pub all_more : {X : Type 0} (P : X → Type 0) (front : List X) (x : X) → AllB
 all_more P [] x all is = (is, tt)
 all_more P (y ∷ front) x all is = (all.0, all_more P front x all.1 is)
 
+pub all_joined : {X : Type 0} (P : X → Type 0) (front more : List X) → AllByRecursion P front → AllByRecursion P more → AllByRecursion P (front ++ more)
+all_joined P [] more all then = then
+all_joined P (y ∷ front) more all then = (all.0, all_joined P front more all.1 then)
+
 pub all_last : {X : Type 0} (P : X → Type 0) (front : List X) (x : X) → AllByRecursion P (front ++ x ∷ []) → P x
 all_last P [] x all = all.0
 all_last P (y ∷ front) x all = all_last P front x all.1

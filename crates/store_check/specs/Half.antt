@@ -3,13 +3,14 @@ use Rattle.std.specs.Prelude.{◌≡◌, ◌≢◌, ◌⊎◌, ◌≤◌, ◌+�
 use Rattle.std.specs.List.{AllByRecursion}
 use Rattle.std.specs.Global.{Vec}
 use Rattle.row_values.specs.Schema.{Schema}
+use Rattle.row_pages.specs.Laying.{rows_over}
 use Rattle.table_map.specs.Keyed.{first_keys}
 use Rattle.table_map.specs.Stored.{Places}
 use Rattle.half_store.specs.declared.active.Active.{Active}
 use Rattle.checkpoint_writer.specs.Catalogue.{Entry, entry_of}
 use Rattle.store_check.specs.Breaking.{BreaksAt}
 use Rattle.store_check.specs.Listed.{AreListed, IsListing, entries_over}
-use Rattle.store_check.specs.Whole.{IsFirstBad, IsWhole}
+use Rattle.store_check.specs.Whole.{AreRows, IsFirstBad, IsWhole}
 use Rattle.store_check.specs.declared.half.CheckedTable.{CheckedTable}
 use Rattle.store_check.specs.declared.errors.CheckError.{CheckError}
 use Rattle.store_check.specs.declared.errors.CheckError.TheVariants.{NoMemory, DeviceFailed, Damaged}
@@ -117,7 +118,7 @@ BreaksHalf key_of file half here = BreaksAtEnd half here ⊎ (BreaksInCatalogue 
 -- ---- what is told
 
 abbrev pub told_of : CheckedTable → Entry × Places
-told_of checked = (entry_of checked.table, checked.pages)
+told_of checked = (entry_of checked.table, checked.pages.pages)
 
 -- a table, where its pages lie, and the key of each one's first row
 abbrev pub placed : KeysBySchema → ℕ → TableRows → Entry × Places
@@ -125,11 +126,30 @@ placed key_of at t = (t.entry, record { at = page_at at t.entry.first_page; keys
 
 -- a table's pages end here at the latest
 abbrev pub LiesBelow : ℕ → CheckedTable → Type 0
-LiesBelow end checked = checked.pages.at + 8192 * length checked.pages.keys ≤ end
+LiesBelow end checked = checked.pages.pages.at + 8192 * length checked.pages.pages.keys ≤ end
 
--- a check of a half tells its tables, where it is whole, or its first bad page
+-- they begin here at the earliest
+abbrev pub LiesBehind : ℕ → CheckedTable → Type 0
+LiesBehind begin checked = begin ≤ checked.pages.pages.at
+
+-- the rows of a table that were noted, and those that its pages have
+abbrev pub noted_in : CheckedTable → List (List ℕ)
+noted_in checked = checked.pages.rows.listed.value
+
+abbrev pub rows_in : TableRows → List (List ℕ)
+rows_in t = rows_over t.pages
+
+-- the rows that were noted of a table are rows of its schema, and their keys rise
+abbrev pub NotesTable : KeysBySchema → CheckedTable → Type 0
+NotesTable key_of checked = AreRows checked.table.schema (key_of checked.table.schema) (noted_in checked)
+
+-- a table in the catalogue
+abbrev pub entry_in : CheckedTable → Entry
+entry_in checked = entry_of checked.table
+
+-- a check of a half tells its tables, where it is whole, and notes their rows; or it tells its first bad page
 abbrev pub ChecksHalf : KeysBySchema → List ℕ → HalfPages → Result (Vec CheckedTable) CheckError → Type 0
-ChecksHalf key_of file half (Ok checked) = (tables : List TableRows) × IsWholeHalf key_of file half tables × (map told_of checked.items ≡ map (placed key_of half.at) tables)
+ChecksHalf key_of file half (Ok checked) = (tables : List TableRows) × IsWholeHalf key_of file half tables × (map told_of checked.items ≡ map (placed key_of half.at) tables) × (map noted_in checked.items ≡ map rows_in tables)
 ChecksHalf key_of file half (Err (Damaged here)) = BreaksHalf key_of file half here
 ChecksHalf key_of file half (Err NoMemory) = Unit {0}
 ChecksHalf key_of file half (Err DeviceFailed) = Unit {0}

@@ -3,7 +3,7 @@ use Rattle.std.specs.Prelude.{◌≡◌, ◌⊎◌, ℕ, List, map, Result, Ok, 
 use Rattle.std.specs.Global.{Vec}
 use Rattle.checkpoint_writer.specs.Catalogue.{Entry, entry_of}
 use Rattle.checkpoint_writer.specs.declared.entry.StoredTable.{StoredTable}
-use Rattle.store_check.specs.Half.{AreTables, BreaksAmong, BreaksAtEnd, BreaksInCatalogue, HalfPages, IsCatalogue, KeysBySchema, TableRows, entries_of, pages_over, placed, told_of}
+use Rattle.store_check.specs.Half.{AreTables, BreaksAmong, BreaksAtEnd, BreaksInCatalogue, HalfPages, IsCatalogue, KeysBySchema, TableRows, entries_of, noted_in, pages_over, placed, rows_in, told_of}
 use Rattle.store_check.specs.declared.half.CheckedTable.{CheckedTable}
 use Rattle.store_check.specs.declared.errors.CheckError.{CheckError}
 use Rattle.store_check.specs.declared.errors.CheckError.TheVariants.{NoMemory, DeviceFailed, Damaged}
@@ -17,7 +17,7 @@ ListsHalf file half (Err DeviceFailed) = Unit {0}
 
 -- what is told of the pages in front of a catalogue that has these tables and begins with this page
 abbrev pub ChecksRows : KeysBySchema → List ℕ → ℕ → ℕ → List Entry → Result (Vec CheckedTable) CheckError → Type 0
-ChecksRows key_of file at first entries (Ok checked) = (tables : List TableRows) × (entries ≡ entries_of tables) × AreTables key_of file at tables × (pages_over entries ≡ first) × (map told_of checked.items ≡ map (placed key_of at) tables)
+ChecksRows key_of file at first entries (Ok checked) = (tables : List TableRows) × (entries ≡ entries_of tables) × AreTables key_of file at tables × (pages_over entries ≡ first) × (map told_of checked.items ≡ map (placed key_of at) tables) × (map noted_in checked.items ≡ map rows_in tables)
 ChecksRows key_of file at first entries (Err (Damaged here)) = BreaksAmong key_of file at first entries here
 ChecksRows key_of file at first entries (Err NoMemory) = Unit {0}
 ChecksRows key_of file at first entries (Err DeviceFailed) = Unit {0}

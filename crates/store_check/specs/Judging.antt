@@ -1,7 +1,9 @@
 -- Judging a table's pages one by one.
 use Rattle.std.specs.Prelude.{◌≡◌, ℕ, Bool, true, false, ◌&&◌, List, [], ◌∷◌, ◌++◌, map, Option, Some, None, Result, Ok, Err}
 use Rattle.std.specs.Global.{Vec}
+use Rattle.std.specs.List.{AllByRecursion}
 use Rattle.std.specs.Ordering.{match_ordering}
+use Rattle.drda_words.specs.Bytes.{AreBytes}
 use Rattle.key_map.specs.Slots.{by_bytes}
 use Rattle.row_values.specs.Schema.{Schema}
 use Rattle.row_values.specs.Row.{is_row}
@@ -34,6 +36,14 @@ last_key key_of last (row ∷ rows) = last_key key_of (Some (key_of row)) rows
 pub record GoesOn (schema : Schema) (key_of : List ℕ → List ℕ) (last : Option (List ℕ)) (rows : List (List ℕ)) : Type 0 where
   pub some : HasSome rows
   pub rising : go_on schema key_of last rows ≡ true
+
+-- rows that go on behind a key are noted behind others, bytes each, and the key of the last of them is the new one
+pub record NotesRows (schema : Schema) (key_of : List ℕ → List ℕ) (old new : Option (List ℕ)) (noted more : List (List ℕ)) : Type 0 where
+  pub rows : List (List ℕ)
+  pub rising : go_on schema key_of old rows ≡ true
+  pub bytes : AllByRecursion AreBytes rows
+  pub last : new ≡ last_key key_of old rows
+  pub same : more ≡ noted ++ rows
 
 -- what is told of the page at an offset: the key of its first row, or that it is none that goes on
 abbrev pub JudgesPage : Schema → (List ℕ → List ℕ) → ℕ → Page → Option (Vec ℕ) → Result (Vec ℕ) CheckError → Option (Vec ℕ) → Type 0

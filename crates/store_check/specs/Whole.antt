@@ -1,6 +1,7 @@
 -- A table's pages: whole, or damaged from a page on.
 use Rattle.std.specs.Prelude.{◌≡◌, ℕ, true, List, length, Result, Ok, Err}
 use Rattle.std.specs.List.{AllByRecursion}
+use Rattle.drda_words.specs.Bytes.{AreBytes}
 use Rattle.row_values.specs.Schema.{Schema}
 use Rattle.row_values.specs.Row.{is_row}
 use Rattle.row_pages.specs.Laying.{HasSome, rows_over}
@@ -11,6 +12,12 @@ use Rattle.table_map.specs.declared.noted.NotedPages.{NotedPages}
 use Rattle.store_check.specs.Breaking.{BreaksAt}
 use Rattle.store_check.specs.declared.errors.CheckError.{CheckError}
 use Rattle.store_check.specs.declared.errors.CheckError.TheVariants.{NoMemory, DeviceFailed, Damaged}
+
+-- each row is one of the schema, and their keys rise
+pub record AreRows (schema : Schema) (key_of : List ℕ → List ℕ) (rows : List (List ℕ)) : Type 0 where
+  pub fit : AllByRecursion (λ row. is_row schema row ≡ true) rows
+  pub bytes : AllByRecursion AreBytes rows
+  pub order : InOrder (keyed_rows key_of rows)
 
 -- these pages of rows stand from an offset on, none is without rows, each row is one of the schema, and the keys of all
 -- rows rise, over the borders of pages too

@@ -3,11 +3,12 @@ ghost use Rattle.std.specs.Prelude.{◌≡◌, ◌+◌, ◌*◌, ◌^◌, ◌≤
 ghost use Rattle.std.specs.List.{AllByRecursion};
 ghost use Rattle.drda_disk.specs.Disk.{Stays};
 ghost use Rattle.row_pages.specs.Keeping.{AreRead};
+ghost use Rattle.row_pages.specs.Laying.{rows_over};
 ghost use Rattle.checkpoint_writer.specs.Catalogue.{entry_of};
 ghost use Rattle.store_check.specs.Errors.{CountsCheck};
-ghost use Rattle.store_check.specs.Whole.{ChecksTable};
+ghost use Rattle.store_check.specs.Whole.{AreRows, ChecksTable, IsWhole, places_in};
 ghost use Rattle.store_check.specs.Listed.{are_listed};
-ghost use Rattle.store_check.specs.Half.{ChecksHalf, LiesBelow, catalogue_end, page_at, pages_of};
+ghost use Rattle.store_check.specs.Half.{ChecksHalf, LiesBehind, LiesBelow, NotesTable, catalogue_end, entry_in, page_at, pages_of};
 ghost use Rattle.store_check.specs.Halving.{ChecksRows, ListsHalf};
 ghost use Rattle.store_check.specs.declared.errors.CheckError.TheVariants.{NoMemory};
 
@@ -18,13 +19,14 @@ use drda_disk::Disk;
 use half_store::Active;
 use row_pages::{PAGE_BYTES, PageCache};
 use std::alloc::Global;
-use table_map::TablePages;
+use table_map::NotedPages;
 
-/// A table of a half that was checked, and where its pages lie, with the key of each one's first row.
+/// A table of a half that was checked, and where its pages lie, with the key of each one's first row. The
+/// rows that they have are noted for clauses alone.
 #[derive(Drop)]
 pub struct CheckedTable {
     pub table: StoredTable,
-    pub pages: TablePages,
+    pub pages: NotedPages,
 }
 
 /// The offset of a half's first page.
@@ -71,18 +73,21 @@ fn check_stored<K: KeysBySchema, D: Disk>(
     disk: &mut D,
     at: usize,
     table: &StoredTable,
-) -> Result<TablePages, CheckError>
+) -> Result<NotedPages, CheckError>
     requires small { at + 8192 * (table.now.first_page + table.now.pages) ≤ 2 ^ 40 }
     requires inside { at + 8192 * (table.now.first_page + table.now.pages) ≤ length (D.life disk.old).seen }
-    ensures at { IfOk result (λ pages. pages.at ≡ page_at at table.now.first_page) }
-    ensures count { IfOk result (λ pages. length pages.keys ≡ table.now.pages) }
-    ensures told { IsTrue D.is_modelled → AreRead cache.old (D.life disk.old).seen → ChecksTable table.now.schema (K.key_of keys.now table.now.schema) (D.life disk.old).seen (page_at at table.now.first_page) table.now.pages result }
+    ensures at { IfOk result (λ pages. pages.pages.at ≡ page_at at table.now.first_page) }
+    ensures count { IfOk result (λ pages. length pages.pages.keys ≡ table.now.pages) }
+    ensures told { IsTrue D.is_modelled → AreRead cache.old (D.life disk.old).seen → ChecksTable table.now.schema (K.key_of keys.now table.now.schema) (D.life disk.old).seen (page_at at table.now.first_page) table.now.pages (places_in result) }
+    ensures rows { (pages : List (List (List ℕ))) → IsTrue D.is_modelled → AreRead cache.old (D.life disk.old).seen → IsWhole table.now.schema (K.key_of keys.now table.now.schema) (D.life disk.old).seen (page_at at table.now.first_page) table.now.pages pages
+        → IfOk result (λ table. table.rows.listed.value ≡ rows_over pages) }
+    ensures good { IfOk result (λ checked. AreRows table.now.schema (K.key_of keys.now table.now.schema) checked.rows.listed.value) }
     ensures kept { IsTrue D.is_modelled → AreRead cache.old (D.life disk.old).seen → AreRead cache.new (D.life disk.new).seen }
     ensures stays { Stays (D.life disk.old) (D.life disk.new) }
     ensures cause { CountsCheck result (D.life disk.old).faults (D.life disk.new).faults }
 {
     let schema = &table.schema;
-    let checked = check_table(
+    check_table(
         alloc,
         &KeysOf { keys, schema },
         schema,
@@ -90,8 +95,7 @@ fn check_stored<K: KeysBySchema, D: Disk>(
         disk,
         at + PAGE_BYTES * table.first_page as usize,
         table.pages as usize,
-    )?;
-    Ok(checked.pages)
+    )
 }
 
 /// Puts a table behind others.
@@ -120,6 +124,9 @@ fn check_rows<K: KeysBySchema, D: Disk>(
     requires small { at + 8192 * first ≤ 2 ^ 40 }
     requires inside { at + 8192 * first ≤ length (D.life disk.old).seen }
     ensures inside { IfOk result (λ checked. AllByRecursion (LiesBelow (page_at at first)) checked.items) }
+    ensures behind { IfOk result (λ checked. AllByRecursion (LiesBehind at) checked.items) }
+    ensures good { IfOk result (λ checked. AllByRecursion (NotesTable (K.key_of keys.now)) checked.items) }
+    ensures same { IfOk result (λ checked. map entry_in checked.items ≡ map entry_of tables.items) }
     ensures told { IsTrue D.is_modelled → AreRead cache.old (D.life disk.old).seen → ChecksRows (K.key_of keys.now) (D.life disk.old).seen at first (map entry_of tables.items) result }
     ensures kept { IsTrue D.is_modelled → AreRead cache.old (D.life disk.old).seen → AreRead cache.new (D.life disk.new).seen }
     ensures stays { Stays (D.life disk.old) (D.life disk.new) }
@@ -142,7 +149,9 @@ fn check_rows<K: KeysBySchema, D: Disk>(
 
 /// Checks all pages of the active half of a store: its last ones are those of a catalogue
 /// (`check_catalogue`), and those in front of it are the pages of the catalogue's tables
-/// (`check_table`), each by the keys of its schema. The tables are returned in their order.
+/// (`check_table`), each by the keys of its schema. The tables are returned in their order, with their
+/// rows noted. Whatever the device, the names of the tables rise, and what is noted of each are rows of
+/// its schema whose keys rise.
 ///
 /// `Damaged` comes exactly where the half is not so, and tells where its first bad page lies. Where
 /// the catalogue does not end with the half, that is the first page that lies in front of one of the
@@ -159,6 +168,9 @@ pub fn check_half<K: KeysBySchema, D: Disk>(
     requires small { active.now.region.at ≤ 2 ^ 40 }
     requires inside { active.now.region.at ≤ length (D.life disk.old).seen }
     ensures inside { IfOk result (λ checked. AllByRecursion (LiesBelow active.now.region.at) checked.items) }
+    ensures behind { IfOk result (λ checked. AllByRecursion (LiesBehind (pages_of active.now).at) checked.items) }
+    ensures good { IfOk result (λ checked. AllByRecursion (NotesTable (K.key_of keys.now)) checked.items) }
+    ensures listed { IfOk result (λ checked. are_listed active.now.first_catalogue (map entry_in checked.items) ≡ true) }
     ensures told { IsTrue D.is_modelled → AreRead cache.old (D.life disk.old).seen → ChecksHalf (K.key_of keys.now) (D.life disk.old).seen (pages_of active.now) result }
     ensures kept { IsTrue D.is_modelled → AreRead cache.old (D.life disk.old).seen → AreRead cache.new (D.life disk.new).seen }
     ensures stays { Stays (D.life disk.old) (D.life disk.new) }

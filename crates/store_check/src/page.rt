@@ -1,11 +1,14 @@
 //! One page of a table.
 ghost use Rattle.std.specs.Prelude.{◌≡◌, ◌+◌, ◌≤◌, ◌++◌, ℕ, List, IsTrue, OnOk, length};
+ghost use Rattle.std.specs.List.{AllByRecursion};
+ghost use Rattle.drda_words.specs.Bytes.{AreBytes};
 ghost use Rattle.drda_words.specs.Place.{part};
 ghost use Rattle.drda_disk.specs.Disk.{Stays};
 ghost use Rattle.row_pages.specs.Keeping.{AreRead};
 ghost use Rattle.row_pages.specs.Page.{IsPage};
 ghost use Rattle.store_check.specs.Errors.{CountsCheck};
-ghost use Rattle.store_check.specs.Judging.{JudgesBytes, JudgesPage};
+ghost use Rattle.table_map.specs.Keyed.{copied};
+ghost use Rattle.store_check.specs.Judging.{JudgesBytes, JudgesPage, NotesRows};
 
 use crate::CheckError;
 use crate::errors::error_at;
@@ -29,6 +32,7 @@ fn judge<K: RowKeys>(
 ) -> Result<Vec<u8>, CheckError>
     ensures judged { JudgesPage schema.now (K.key_of keys.now) at page.now last.old result last.new }
     ensures noted { OnOk result (noted.new.listed.value ≡ noted.old.listed.value ++ page.now.rows) }
+    ensures bytes { OnOk result (AllByRecursion AreBytes page.now.rows) }
     ensures cause { (n : ℕ) → CountsCheck result n n }
 {
     if page.page_ref().kind() != PageKind::Rows {
@@ -62,6 +66,7 @@ pub(crate) fn check_page<K: RowKeys, D: Disk>(
     ensures judged { IsTrue D.is_modelled → AreRead cache.old (D.life disk.old).seen → JudgesBytes schema.now (K.key_of keys.now) at (part (D.life disk.old).seen at 8192) last.old result last.new }
     ensures noted { (rows : List (List ℕ)) → IsTrue D.is_modelled → AreRead cache.old (D.life disk.old).seen → IsPage (record { kind = PageKind.Rows; rows = rows }) (part (D.life disk.old).seen at 8192)
         → OnOk result (noted.new.listed.value ≡ noted.old.listed.value ++ rows) }
+    ensures goes { OnOk result (NotesRows schema.now (K.key_of keys.now) (copied last.old) (copied last.new) noted.old.listed.value noted.new.listed.value) }
     ensures kept { IsTrue D.is_modelled → AreRead cache.old (D.life disk.old).seen → AreRead cache.new (D.life disk.new).seen }
     ensures stays { Stays (D.life disk.old) (D.life disk.new) }
     ensures cause { CountsCheck result (D.life disk.old).faults (D.life disk.new).faults }

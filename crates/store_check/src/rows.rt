@@ -1,5 +1,7 @@
 //! The rows of one page.
 ghost use Rattle.std.specs.Prelude.{◌≡◌, ◌++◌, Ok, true, IfOk};
+ghost use Rattle.std.specs.List.{AllByRecursion};
+ghost use Rattle.drda_words.specs.Bytes.{AreBytes};
 ghost use Rattle.table_map.specs.Keyed.{copied, first_of};
 ghost use Rattle.store_check.specs.Judging.{go_on, is_behind, last_key};
 
@@ -38,6 +40,15 @@ pub(crate) fn first_in<K: RowKeys>(
     }
 }
 
+/// Reads every byte, so that a proof knows that each is below 256.
+fn see_bytes(bytes: &[u8])
+    ensures { AreBytes bytes.now }
+{
+    for byte in bytes {
+        let _seen = *byte;
+    }
+}
+
 /// Whether the rows of a page are rows of the schema whose keys rise behind the last key, which then
 /// is that of the page's last row. They are noted then.
 pub(crate) fn are_rows<K: RowKeys>(
@@ -50,6 +61,7 @@ pub(crate) fn are_rows<K: RowKeys>(
 ) -> Result<bool, AllocError>
     ensures good { IfOk result (λ good. good ≡ go_on schema.now (K.key_of keys.now) (copied last.old) page.now.rows) }
     ensures last { result ≡ Ok true → copied last.new ≡ last_key (K.key_of keys.now) (copied last.old) page.now.rows }
+    ensures bytes { result ≡ Ok true → AllByRecursion AreBytes page.now.rows }
     ensures noted { result ≡ Ok true → noted.new.listed.value ≡ noted.old.listed.value ++ page.now.rows }
 {
     let mut rows = page.page_ref().rows();
@@ -61,6 +73,7 @@ pub(crate) fn are_rows<K: RowKeys>(
         if !is_behind(last, &key) {
             return Ok(false);
         }
+        see_bytes(row);
         noted.note(row);
         *last = Some(key);
     }

@@ -4,7 +4,7 @@ ghost use Rattle.drda_disk.specs.Disk.{Stays};
 ghost use Rattle.row_pages.specs.Keeping.{AreRead};
 ghost use Rattle.row_pages.specs.Laying.{rows_over};
 ghost use Rattle.store_check.specs.Errors.{CountsCheck};
-ghost use Rattle.store_check.specs.Whole.{ChecksTable, IsWhole, places_in};
+ghost use Rattle.store_check.specs.Whole.{AreRows, ChecksTable, IsWhole, places_in};
 ghost use Rattle.store_check.specs.declared.errors.CheckError.TheVariants.{NoMemory};
 
 use crate::CheckError;
@@ -30,7 +30,8 @@ fn push_bytes(list: &mut Vec<Vec<u8>>, bytes: Vec<u8>) -> Result<(), CheckError>
 /// Checks the pages of a table, so many from an offset on: each is a page of rows and has some, all
 /// rows are rows of the schema, and their keys rise from row to row and from page to page. Where the
 /// pages lie is returned then, with the key of each one's first row, as the table's map asks for it;
-/// all rows are noted beside them.
+/// all rows are noted beside them. Whatever the device, what is noted are rows of the schema whose keys
+/// rise.
 ///
 /// `Damaged` comes exactly where the pages are not so, and tells where the first bad one of them
 /// lies: with the pages in front of it it is not so, and without it it is. Nothing is written.
@@ -50,6 +51,7 @@ pub fn check_table<K: RowKeys, D: Disk>(
     ensures told { IsTrue D.is_modelled → AreRead cache.old (D.life disk.old).seen → ChecksTable schema.now (K.key_of keys.now) (D.life disk.old).seen at count (places_in result) }
     ensures rows { (pages : List (List (List ℕ))) → IsTrue D.is_modelled → AreRead cache.old (D.life disk.old).seen → IsWhole schema.now (K.key_of keys.now) (D.life disk.old).seen at count pages
         → IfOk result (λ table. table.rows.listed.value ≡ rows_over pages) }
+    ensures good { IfOk result (λ table. AreRows schema.now (K.key_of keys.now) table.rows.listed.value) }
     ensures kept { IsTrue D.is_modelled → AreRead cache.old (D.life disk.old).seen → AreRead cache.new (D.life disk.new).seen }
     ensures stays { Stays (D.life disk.old) (D.life disk.new) }
     ensures cause { CountsCheck result (D.life disk.old).faults (D.life disk.new).faults }

@@ -1,10 +1,10 @@
 //! A table's rows: those of its pages with the changes since.
-ghost use Rattle.std.specs.Prelude.{◌≡◌, ◌+◌, ◌*◌, ◌<◌, ◌≤◌, ℕ, List, [], IsTrue, Some, None, OnOk, IfErr, IfOk, length};
+ghost use Rattle.std.specs.Prelude.{◌≡◌, ◌+◌, ◌*◌, ◌<◌, ◌≤◌, ℕ, List, [], IsTrue, Some, None, OnOk, IfErr, IfOk, false, length};
 ghost use Rattle.drda_disk.specs.Disk.{Stays};
 ghost use Rattle.row_pages.specs.Laying.{rows_over};
 ghost use Rattle.row_pages.specs.Keeping.{AreRead, CountsPageFault};
 ghost use Rattle.row_pages.specs.declared.kept.PageFault.TheVariants.{NoMemory};
-ghost use Rattle.key_map.specs.Slots.{HasRoom};
+ghost use Rattle.key_map.specs.Slots.{HasRoom, by_key};
 ghost use Rattle.key_map.specs.Merging.{InOrder, changed, row_at};
 ghost use Rattle.key_map.specs.Overlay.{changes_of};
 ghost use Rattle.table_map.specs.Damage.{DamagedWhere, LacksPage};
@@ -117,5 +117,14 @@ impl TableMap {
         ensures room { (q : List ℕ) → HasRoom q self.old.overlay → HasRoom q self.new.overlay }
     {
         self.overlay.remove_reserved(alloc, key);
+    }
+    /// Gives up the room of a key of which there is no change. A change that is there stays, and so do
+    /// all rows.
+    pub fn release(&mut self, key: &[u8])
+        ensures places { self.new.places ≡ self.old.places }
+        ensures changes { changes_of self.new.overlay ≡ changes_of self.old.overlay }
+        ensures room { (q : List ℕ) → by_key key.now q ≡ false → HasRoom q self.old.overlay → HasRoom q self.new.overlay }
+    {
+        self.overlay.release(key);
     }
 }

@@ -31,6 +31,9 @@ const ONE_KEY: u8 = 1;
 /// The bytes in front of the table's name: what is done, and the length of the name.
 const HEADER_BYTES: usize = 2;
 
+/// The bytes in front of a key: the mark of one key, and its length.
+const SCOPE_HEADER_BYTES: usize = 3;
+
 /// Why no claim was read.
 #[derive(Clone, Copy, Debug, PartialEq, Eq, Error)]
 pub enum ReadError {
@@ -84,7 +87,7 @@ impl Claim {
         requires key { length (key_or_empty (option_map (λ k. k.now) key)) < 2 ^ 16 }
         ensures { IfOk result (λ claim. claim ≡ record { access = access; table = table.now; key = option_map (λ k. k.now) key.entry }) }
     {
-        let mut bytes = Vec::new(alloc);
+        let mut bytes = Vec::with_capacity(alloc, longest_claim(table, key))?;
         put_claim(&mut bytes, access, table, key)?;
         Ok(Claim { bytes })
     }
@@ -171,6 +174,18 @@ fn keys_overlap(one: Option<&[u8]>, other: Option<&[u8]>) -> bool
         (Some(one), Some(other)) => one == other,
         _ => true,
     }
+}
+
+// The bytes of a claim of this table and key, or two more where there is no key: so it takes memory once.
+fn longest_claim(table: &[u8], key: Option<&[u8]>) -> usize
+    requires name { length table.now < 2 ^ 8 }
+    requires key { length (key_or_empty (option_map (λ k. k.now) key)) < 2 ^ 16 }
+{
+    let key = match key {
+        Some(key) => key.len(),
+        None => 0,
+    };
+    HEADER_BYTES + table.len() + SCOPE_HEADER_BYTES + key
 }
 
 // Appends the bytes of a claim, or some of them.

@@ -1,7 +1,7 @@
 //! Calls that are answered by a code.
 
-use crate::fixtures::{Parameters, Scripted, XID, control};
-use command_kit::{Reply, Statements};
+use crate::fixtures::{Parameters, Scripted, XID, control, only_text};
+use command_kit::{Replies, ReplyList, Statements};
 use sections::Sections;
 use std::alloc::{AllocError, Global};
 use std::test::Fail;
@@ -64,10 +64,10 @@ const UNNAMED: [(u8, Option<&'static [u8]>, Option<&'static [u8]>); 4] = [
 ];
 
 // XARETVAL of a SYNCCRD without a list.
-fn code_told(replies: &[Reply]) -> Option<i32> {
-    match replies {
-        [reply] => code_of(reply.text()),
-        _ => None,
+fn code_told(replies: ReplyList<'_>) -> Option<i32> {
+    match only_text(replies) {
+        Some(text) => code_of(text),
+        None => None,
     }
 }
 
@@ -96,9 +96,9 @@ fn told(
         code,
         in_doubt: None,
     };
-    let mut replies = Vec::new(alloc);
+    let mut replies = Replies::new(alloc);
     control(alloc, parameters, &mut statements, &mut asker, &mut replies)?;
-    Ok((code_told(&replies), statements.is_change_told))
+    Ok((code_told(replies.as_list()), statements.is_change_told))
 }
 
 #[test]

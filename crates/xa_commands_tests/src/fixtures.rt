@@ -2,7 +2,7 @@
 
 ghost use Rattle.std.specs.Prelude.{⊤};
 
-use command_kit::{Ask, Reply, Statements};
+use command_kit::{Ask, Replies, ReplyList, Statements};
 use core_calls::{Answer, CoreCall};
 use ddm_objects::{code_point, put};
 use drda_commands::{Stage, judge};
@@ -81,13 +81,21 @@ fn command(alloc: Global, parameters: Parameters) -> Result<Vec<u8>, AllocError>
     Ok(bytes)
 }
 
+/// The text of a reply that is the only one.
+pub fn only_text<'a>(replies: ReplyList<'a>) -> Option<&'a [u8]> {
+    match replies.split_first() {
+        Some((reply, others)) if others.split_first().is_none() => Some(reply.text),
+        _ => None,
+    }
+}
+
 /// Does the command; whether it was accepted.
 pub fn control(
     alloc: Global,
     parameters: Parameters,
     statements: &mut Statements,
     asker: &mut Scripted,
-    replies: &mut Vec<Reply>,
+    replies: &mut Replies,
 ) -> Result<bool, AllocError> {
     let mut segments = Segments::new(alloc);
     let bytes = command(alloc, parameters)?;
@@ -96,7 +104,7 @@ pub fn control(
         && let Some((request, objects)) = group.split_first()
         && let Ok(accepted) = judge(Stage::Opened, false, request.contents, objects)
     {
-        do_sync_control(alloc, accepted, statements, asker, replies)?;
+        do_sync_control(accepted, statements, asker, replies)?;
         return Ok(true);
     }
     Ok(false)

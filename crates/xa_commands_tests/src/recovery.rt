@@ -1,7 +1,7 @@
 //! Recover: which branches are in doubt?
 
-use crate::fixtures::{Parameters, Scripted, XID, control};
-use command_kit::{Reply, Statements};
+use crate::fixtures::{Parameters, Scripted, XID, control, only_text};
+use command_kit::{Replies, Statements};
 use std::alloc::{AllocError, Global};
 use std::test::Fail;
 use xa_calls::{Verb, XaCode, Xid, Xids};
@@ -43,15 +43,11 @@ fn is_replied(alloc: Global, in_doubt: Option<Xids>, expected: &[u8]) -> Result<
         in_doubt,
     };
     let mut statements = Statements::new(alloc);
-    let mut replies = Vec::new(alloc);
+    let mut replies = Replies::new(alloc);
     control(alloc, RECOVER, &mut statements, &mut asker, &mut replies)?;
-    Ok(is_one(&replies, expected))
-}
-
-fn is_one(replies: &[Reply], expected: &[u8]) -> bool {
-    match replies {
-        [reply] => reply.text() == expected,
-        _ => false,
+    match only_text(replies.as_list()) {
+        Some(text) => Ok(text == expected),
+        None => Ok(false),
     }
 }
 

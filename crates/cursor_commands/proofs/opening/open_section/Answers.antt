@@ -10,5 +10,5 @@ pub returns-in-Ok-clause-ok : goal.returns-in-Ok-clause-ok
 returns-in-Ok-clause-ok g c =
     concluded g.A.Ask.asks c.args.rdb.now c.args.statements.now c.args.name.now c.args.size
     (commands.query_in (option_map described_of c.args.parameters) (section_of c.args.name.now c.args.statements.now.sections))
-    (answer_of c.in-Ok.answer) c.args.asker.now c.ask_section.new.asker c.conclude.new.statements c.args.replies.now.items _ c.conclude.new.replies.items
-    c.in-Ok.ensures.ok c.in_ok-reserve.ensures.items c.conclude.ensures.done
+    (answer_of c.in-Ok.answer) c.args.asker.now c.ask_section.new.asker c.conclude.new.statements c.args.replies.now.list _ c.conclude.new.replies.list
+    c.in-Ok.ensures.ok c.in_ok-reserve.ensures.list c.conclude.ensures.done

@@ -6,7 +6,7 @@ use Rattle.sqlam_replies.specs.Sqldard.{are_described}
 use Rattle.sql_commands.proofs.Described.{parameters_described}
 use Rattle.sql_commands.proofs.describing.describe_statement.Goals as goal
 
-pub of_columns-requires-in-Input-clause-few : goal.of_columns-requires-in-Input-clause-few
-of_columns-requires-in-Input-clause-few g c =
+pub add-requires-in-Input-clause-can : goal.add-requires-in-Input-clause-can
+add-requires-in-Input-clause-can g c =
     let few : length c.as_slice.result.now ≤ 128 = subst (λ (ts : List ParameterType). length ts ≤ 128) (sym c.as_slice.ensures.types) c.as_slice.ensures.limit in
     ap are_described (ap (map column_of) c.deref.ensures.value ∙ c.parameter_columns-columns.ensures) ∙ parameters_described c.as_slice.result.now few

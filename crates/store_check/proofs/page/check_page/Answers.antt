@@ -4,6 +4,7 @@ use Rattle.std.specs.Borrow.{Bor}
 use Rattle.drda_words.specs.Place.{part}
 use Rattle.row_pages.specs.Page.{Page}
 use Rattle.store_check.proofs.Judged.{bytes_judged, not_read}
+use Rattle.store_check.proofs.Behind.{rows_noted}
 use Rattle.store_check.proofs.Standing.{a_page}
 use Rattle.store_check.proofs.page.check_page.Goals as goal
 
@@ -20,3 +21,7 @@ returns-in-Ok-clause-noted g c rows honest read is =
     let page = c.in-Ok.page.now in
     let same = c.one_page.ensures page (a_page rows) (part (g.D.Disk.life c.args.disk.now).seen c.args.at 8192) (c.in-Ok.ensures.page honest read) is in
     subst (λ (l : List (List ℕ)). OnOk c.judge.result (c.judge.new.noted.listed.value ≡ c.args.noted.now.listed.value ++ l)) (ap (λ (p : Page). p.rows) same) c.judge.ensures.noted
+
+pub returns-in-Ok-clause-goes : goal.returns-in-Ok-clause-goes
+returns-in-Ok-clause-goes g c =
+    rows_noted c.args.schema.now (g.K.RowKeys.key_of c.args.keys.now) c.args.at c.in-Ok.page.now c.args.last.now c.judge.new.last c.args.noted.now.listed.value c.judge.new.noted.listed.value c.judge.result c.judge.ensures.judged c.judge.ensures.noted c.judge.ensures.bytes

@@ -1,14 +1,17 @@
-use Rattle.std.proofs.Common.{rules, ◌≡◌, ◌+◌, ◌*◌, ◌∙◌, ◌∷◌, [], ℕ, List, Ok, Err, length, length-append, map, refl, sym, ap, subst, arith}
+use Rattle.std.proofs.Common.{rules, ◌≡◌, ◌+◌, ◌*◌, ◌∙◌, ◌∷◌, [], ℕ, List, None, Ok, Err, length, length-append, map, refl, sym, ap, subst, arith}
 use Rattle.std.specs.Global.{Vec}
 use Rattle.std.proofs.lemmas.List.{length-map, map-append}
 use Rattle.table_map.specs.Stored.{Places}
+use Rattle.std.specs.List.{AllByRecursion}
+use Rattle.drda_words.specs.Bytes.{AreBytes}
 use Rattle.drda_words.specs.Place.{part}
 use Rattle.drda_disk.proofs.Moments.{Stays-refl, Stays-trans}
 use Rattle.table_map.specs.Keyed.{copied}
 use Rattle.row_pages.specs.Page.{IsPage}
-use Rattle.store_check.specs.Judging.{JudgesBytes}
+use Rattle.store_check.specs.Judging.{JudgesBytes, go_on, last_key}
 use Rattle.store_check.specs.Whole.{places_in}
 use Rattle.store_check.proofs.Judged.{AreNoted, all_judged, all_noted, none_noted, one_noted, stopped, without_memory}
+use Rattle.store_check.proofs.Behind.{are_rows, bytes_more, last_more, rising_more}
 use Rattle.store_check.proofs.Standing.{a_page}
 use Rattle.store_check.proofs.table.check_table.Goals as goal
 
@@ -34,6 +37,9 @@ loop-page-init g c = record {
   faults = refl;
   kept = λ honest read. read;
   many = search rules;
+  rising = ap (λ (rows : List (List ℕ)). go_on c.args.schema.now (g.K.RowKeys.key_of c.args.keys.now) None rows) c.none-rows.ensures;
+  bytes = subst (λ (rows : List (List ℕ)). AllByRecursion AreBytes rows) (sym c.none-rows.ensures) tt;
+  last = ap (λ (rows : List (List ℕ)). last_key (g.K.RowKeys.key_of c.args.keys.now) None rows) (sym c.none-rows.ensures);
   noted = λ honest read. none_noted c.args.schema.now (g.K.RowKeys.key_of c.args.keys.now) (g.D.Disk.life c.args.disk.now).seen c.args.at c.new-first_keys.result.items c.none-rows.result.listed.value c.new-first_keys.ensures.items c.none-rows.ensures;
 }
 
@@ -51,6 +57,9 @@ loop-page-preserved g c =
       faults = c.in_ok-key.ensures.cause ∙ inv.faults;
       kept = λ honest read. c.check_page.ensures.kept honest (inv.kept honest read);
       many = ap length c.in_ok-push_bytes.ensures.items ∙ omega (arith, length-append c.loop-page.first_keys.items (key ∷ []), inv.many);
+      rising = rising_more c.args.schema.now key_of (copied c.loop-page.last) (copied c.check_page.new.last) c.loop-page.rows.listed.value c.check_page.new.noted.listed.value inv.rising inv.last c.in_ok-key.ensures.goes;
+      bytes = bytes_more c.args.schema.now key_of (copied c.loop-page.last) (copied c.check_page.new.last) c.loop-page.rows.listed.value c.check_page.new.noted.listed.value inv.rising inv.last c.in_ok-key.ensures.goes inv.bytes;
+      last = last_more c.args.schema.now key_of (copied c.loop-page.last) (copied c.check_page.new.last) c.loop-page.rows.listed.value c.check_page.new.noted.listed.value inv.rising inv.last c.in_ok-key.ensures.goes;
       noted = λ honest read.
           subst (λ (keys : List (List ℕ)). AreNoted c.args.schema.now key_of file c.args.at (i + 1) keys (copied c.check_page.new.last) c.check_page.new.noted.listed.value) (sym keys_are)
           (one_noted c.args.schema.now key_of file c.args.at i (map (λ (k : Vec ℕ). k.items) c.loop-page.first_keys.items) key c.loop-page.last c.check_page.new.last c.loop-page.rows.listed.value c.check_page.new.noted.listed.value (inv.noted honest read)
@@ -70,3 +79,6 @@ returns-clause-rows g c pages honest read whole =
 
 pub returns-clause-count : goal.returns-clause-count
 returns-clause-count g c = ap (λ (p : Places). length p.keys) c.new-pages.ensures ∙ simp length-map (omega (arith, c.loop-page.invariant.many, c.loop-page-test.false, c.loop-page.auto.page-end))
+
+pub returns-clause-good : goal.returns-clause-good
+returns-clause-good g c = are_rows c.args.schema.now (g.K.RowKeys.key_of c.args.keys.now) c.loop-page.rows.listed.value c.loop-page.invariant.rising c.loop-page.invariant.bytes

@@ -4,8 +4,15 @@ use Rattle.journal_recorder.specs.Recording.{has_failed}
 use Rattle.unit_records.specs.Together.{are_apart, are_local}
 use Rattle.recovery.specs.Journaled.{Journaled, OnDisk, shown_on}
 use Rattle.durable_core.specs.Recorded.{core_on}
+use Rattle.durable_core.proofs.Recording.{stays_failed}
 use Rattle.durable_core.proofs.Gathering.{left_by, same_left}
 use Rattle.durable_core.proofs.durable.DurableCore.commit_together.Goals as goal
+
+pub returns-then-is_failed-clause-journaled : goal.returns-then-is_failed-clause-journaled
+returns-then-is_failed-clause-journaled g c =
+    let failed : has_failed (recorder_of c.self.inside.core) ≡ true = search rules in
+    subst (λ (s : OnDisk g.row.D.Denot). Journaled g.D.Disk.is_modelled (shown_on g.D.Disk.life s) (shown_on g.D.Disk.life s)) c.self.view_is
+    (stays_failed g.D.Disk.is_modelled g.D.Disk.life c.calls_make_records.ensures (core_on (string_bytes c.self.inside.name) (state_of c.self.inside.core) (recorder_of c.self.inside.core)) failed)
 
 pub returns-then-not-may_go_together-clause-journaled : goal.returns-then-not-may_go_together-clause-journaled
 returns-then-not-may_go_together-clause-journaled g c =

@@ -1,4 +1,4 @@
-use Rattle.std.proofs.Common.{rules, ◌≡◌, false, Some, refl, string_bytes, subst}
+use Rattle.std.proofs.Common.{rules, ◌≡◌, true, false, Some, refl, string_bytes, subst}
 use Rattle.half_store.specs.declared.header.Layout.TheVariants.{Two}
 use Rattle.xa_manager.specs.declared.branch.BranchState.TheVariants.{Prepared}
 use Rattle.xa_manager.specs.Branch.{state_of as branch_of}
@@ -7,8 +7,15 @@ use Rattle.journal_recorder.specs.Recording.{has_failed, layout_of}
 use Rattle.recovery.specs.Journaled.{Journaled, OnDisk, shown_on}
 use Rattle.durable_core.specs.Recorded.{core_on}
 use Rattle.durable_core.proofs.HeuristicSteps.{allowed, left_by}
+use Rattle.durable_core.proofs.Recording.{stays_failed}
 use Rattle.durable_core.proofs.Switching.{untouched_journaled}
 use Rattle.durable_core.proofs.durable.DurableCore.decide.Goals as goal
+
+pub returns-then-is_failed-clause-journaled : goal.returns-then-is_failed-clause-journaled
+returns-then-is_failed-clause-journaled g c =
+    let failed : has_failed (recorder_of c.self.inside.core) ≡ true = search rules in
+    subst (λ (s : OnDisk g.row.D.Denot). Journaled g.D.Disk.is_modelled (shown_on g.D.Disk.life s) (shown_on g.D.Disk.life s)) c.self.view_is
+    (stays_failed g.D.Disk.is_modelled g.D.Disk.life c.calls_make_records.ensures (core_on (string_bytes c.self.inside.name) (state_of c.self.inside.core) (recorder_of c.self.inside.core)) failed)
 
 pub returns-in-One-clause-journaled : goal.returns-in-One-clause-journaled
 returns-in-One-clause-journaled g c =

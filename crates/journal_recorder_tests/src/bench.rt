@@ -1,0 +1,189 @@
+//! A recorder, and what it answers.
+
+use crate::disks::{Recording, recorder_of_layout_1, recorder_over, records_of};
+use crate::recorders::{checkpoint, laid, record, record_three, saying_of};
+use half_store::Layout;
+use journal_recorder::CheckpointError;
+use std::alloc::{AllocError, Global};
+use std::fmt::Debug;
+use table_store::TableStore;
+use test_bytes::bytes_of;
+use unit_journal::{Kind, Record};
+use unit_records::{GroupError, RecordError, UnitRecord};
+
+/// A record of each kind that has one, and a recorder.
+#[derive(Drop)]
+pub struct Bench {
+    alloc: Global,
+    records: Vec<Record>,
+    recorder: Option<Recording>,
+}
+
+fn kind_of(word: &str) -> Kind {
+    match word {
+        "prepare" => Kind::Prepare,
+        "decide" => Kind::Decide,
+        "heuristic" => Kind::Heuristic,
+        "forget" => Kind::Forget,
+        _ => Kind::Commit,
+    }
+}
+
+fn tell<T: Debug>(out: &mut String, answer: &T) -> Option<()> {
+    writeln!(out, "  {answer:?}").ok()
+}
+
+impl Bench {
+    /// No record, and no recorder.
+    pub fn new(alloc: Global) -> Bench {
+        Bench {
+            alloc,
+            records: Vec::new(alloc),
+            recorder: None,
+        }
+    }
+
+    /// Writes each line down, and what it comes to. One that is empty or begins with # asks for nothing. None where one asks for nothing
+    /// that there is, and without memory.
+    pub fn follow(&mut self, text: &str, out: &mut String) -> Option<()> {
+        for line in text.lines() {
+            writeln!(out, "{line}").ok()?;
+            if !line.is_empty() && !line.starts_with('#') {
+                self.answer_line(line, out)?;
+            }
+        }
+        Some(())
+    }
+
+    fn answer_line(&mut self, line: &str, out: &mut String) -> Option<()> {
+        for step in line.split("; ") {
+            self.answer(step, out)?;
+        }
+        Some(())
+    }
+
+    // `body KIND BYTES` lays the record of a kind. `one LENGTH CALLS` and `two LENGTH CALLS` are recorders of a layout with an empty journal of
+    // so many bytes, and `half CALLS` that of a store of layout 1; each device fails behind so many calls. `make KINDS` makes the records of
+    // these kinds up to the first that is not made, `group` three of them together, and `checkpoint HELD` a checkpoint without tables that
+    // holds so many bytes back. `found` tells which records the disk has, and `laid KIND` the record that is laid behind a checkpoint.
+    fn answer(&mut self, step: &str, out: &mut String) -> Option<()> {
+        let (verb, rest) = step.split_once(' ').unwrap_or((step, ""));
+        match verb {
+            "body" => self.lay(rest),
+            "one" | "two" | "half" => self.begin(verb, rest, out),
+            "make" => tell(out, &self.make(rest)?),
+            "group" => tell(out, &self.make_group(rest)?),
+            "checkpoint" => tell(out, &self.checkpoint(rest)?),
+            "state" => self.tell_state(out),
+            "found" => tell(out, &records_of(self.alloc, self.recorder.take()?)?),
+            "laid" => self.tell_laid(rest, out),
+            _ => None,
+        }
+    }
+
+    fn lay(&mut self, asked: &str) -> Option<()> {
+        let (kind, bytes) = asked.split_once(' ')?;
+        let record = Record {
+            at: 0,
+            kind: kind_of(kind),
+            body: bytes_of(self.alloc, &[bytes]).ok()?,
+        };
+        self.records.push(record).ok()
+    }
+
+    fn begin(&mut self, verb: &str, asked: &str, out: &mut String) -> Option<()> {
+        let (length, calls) = asked.split_once(' ').unwrap_or(("0", asked));
+        let (length, calls) = (length.parse::<usize>().ok()?, calls.parse::<u64>().ok()?);
+        self.recorder = match verb {
+            "one" => recorder_over(self.alloc, Layout::One, length, calls),
+            "two" => recorder_over(self.alloc, Layout::Two, length, calls),
+            _ => recorder_of_layout_1(self.alloc, calls),
+        };
+        self.tell_state(out)
+    }
+
+    // The layout, the room, what is held and whether the device has failed.
+    fn tell_state(&self, out: &mut String) -> Option<()> {
+        let Some(recorder) = &self.recorder else {
+            return None;
+        };
+        let (layout, room, held) = (recorder.layout(), recorder.room(), recorder.held());
+        let is_failed = recorder.is_failed();
+        writeln!(
+            out,
+            "  {layout:?}, room {room}, held {held}, failed {is_failed}"
+        )
+        .ok()
+    }
+
+    // The record of a kind.
+    fn read(&self, kind: &str) -> Option<UnitRecord> {
+        let kind = kind_of(kind);
+        for record in &self.records {
+            if record.kind == kind {
+                return UnitRecord::read(self.alloc, kind, &record.body).ok();
+            }
+        }
+        None
+    }
+
+    // Makes the record of a kind.
+    fn make_one(&mut self, kind: &str) -> Option<Result<(), RecordError>> {
+        let read = self.read(kind)?;
+        let Some(recorder) = &mut self.recorder else {
+            return None;
+        };
+        Some(record(recorder, saying_of(&read)))
+    }
+
+    // How many of these are made, in their order, and what becomes of the first that is not.
+    fn make(&mut self, kinds: &str) -> Option<(u64, Result<(), RecordError>)> {
+        let mut made = 0_u64;
+        for kind in kinds.split_ascii_whitespace() {
+            let answer = self.make_one(kind)?;
+            if answer.is_err() {
+                return Some((made, answer));
+            }
+            made = made.saturating_add(1);
+        }
+        Some((made, Ok(())))
+    }
+
+    fn read_all(&self, kinds: &str) -> Option<Vec<UnitRecord>> {
+        let mut read = Vec::new(self.alloc);
+        for kind in kinds.split_ascii_whitespace() {
+            read.push(self.read(kind)?).ok()?;
+        }
+        Some(read)
+    }
+
+    fn make_group(&mut self, kinds: &str) -> Option<Result<(), GroupError>> {
+        let read = self.read_all(kinds)?;
+        let Some(recorder) = &mut self.recorder else {
+            return None;
+        };
+        match read.as_slice() {
+            [first, second, third] => Some(record_three(
+                recorder,
+                saying_of(first),
+                saying_of(second),
+                saying_of(third),
+            )),
+            _ => None,
+        }
+    }
+
+    fn checkpoint(&mut self, held: &str) -> Option<Result<(), CheckpointError>> {
+        let held = held.parse::<usize>().ok()?;
+        let Some(recorder) = &mut self.recorder else {
+            return None;
+        };
+        Some(checkpoint(recorder, &TableStore::new(self.alloc), held))
+    }
+
+    fn tell_laid(&self, kind: &str, out: &mut String) -> Option<()> {
+        let read = self.read(kind)?;
+        let laid = laid(self.alloc, &read).ok()??;
+        tell(out, &laid)
+    }
+}

@@ -1,0 +1,87 @@
+//! Recorders over disks in memory behind a fuse.
+
+ghost use Rattle.std.specs.Prelude.{◌^◌, ◌<◌, ◌≤◌, IsTrue, length};
+ghost use Rattle.drda_disk.specs.Region.{end_of};
+
+use drda_disk::{Disk, FuseDisk, MemDisk, Region};
+use half_store::{Layout, format, open};
+use journal_recorder::DiskRecorder;
+use std::alloc::Global;
+use unit_journal::{Journal, Record};
+
+/// A recorder over such a disk.
+pub type Recording = DiskRecorder<FuseDisk<MemDisk>>;
+
+/// The least store.
+const TWO_MIB: usize = 2_097_152;
+
+/// The last byte of the number of its first half's layout.
+const LAYOUT_AT: usize = 8_216;
+
+fn may_be_a_journal<D: Disk>(disk: &D, region: Region) -> bool
+    ensures some { IsTrue result → 0 < region.length }
+    ensures small { IsTrue result → region.length ≤ 2 ^ 32 }
+    ensures inside { IsTrue result → end_of region ≤ length (D.life disk.now).seen }
+{
+    0 < region.length && region.length <= 1 << 32 && region.end() <= disk.size()
+}
+
+// The journal of a region, and its records.
+fn journal_on(alloc: Global, disk: &mut MemDisk, region: Region) -> Option<(Journal, Vec<Record>)> {
+    if !may_be_a_journal(disk, region) {
+        return None;
+    }
+    Journal::open(alloc, disk, region).ok()
+}
+
+// An empty journal.
+fn journal_in(disk: &mut MemDisk, region: Region) -> Option<Journal> {
+    if !may_be_a_journal(disk, region) {
+        return None;
+    }
+    Journal::start(disk, region).ok()
+}
+
+/// A recorder of a layout with an empty journal of so many bytes at 3 of a disk of 192, over a fuse of so many calls.
+pub fn recorder_over(
+    alloc: Global,
+    layout: Layout,
+    length: usize,
+    calls: u64,
+) -> Option<Recording> {
+    let mut disk = MemDisk::new(alloc, 192).ok()?;
+    if length > disk.size() {
+        return None;
+    }
+    let journal = journal_in(&mut disk, Region { at: 3, length })?;
+    let disk = FuseDisk::new(disk, calls, false);
+    Some(DiskRecorder::new(alloc, disk, journal, layout))
+}
+
+// A store without tables whose active half has layout 1.
+fn store_of_layout_1(alloc: Global) -> Option<MemDisk> {
+    let mut disk = MemDisk::new(alloc, TWO_MIB).ok()?;
+    format(alloc, &mut disk, "RDB").ok()?;
+    if LAYOUT_AT >= disk.size() {
+        return None;
+    }
+    disk.write_at(LAYOUT_AT, &[0]).ok()?;
+    Some(disk)
+}
+
+/// The recorder of a store without tables whose active half has layout 1, over a fuse of so many calls.
+pub fn recorder_of_layout_1(alloc: Global, calls: u64) -> Option<Recording> {
+    let mut disk = store_of_layout_1(alloc)?;
+    let active = open(alloc, &mut disk).ok()?;
+    let (journal, _) = journal_on(alloc, &mut disk, active.region)?;
+    let disk = FuseDisk::new(disk, calls, false);
+    Some(DiskRecorder::new(alloc, disk, journal, active.layout))
+}
+
+/// The records that a recorder's disk has in the recorder's region.
+pub fn records_of(alloc: Global, recorder: Recording) -> Option<Vec<Record>> {
+    let region = recorder.region();
+    let mut disk = recorder.into_disk().into_inner();
+    let (_, records) = journal_on(alloc, &mut disk, region)?;
+    Some(records)
+}

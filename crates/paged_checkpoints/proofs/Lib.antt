@@ -1,0 +1,6 @@
+mod Noted
+mod Behind
+mod Beside
+mod Anew
+mod Laid
+mod Framed

@@ -1,0 +1,145 @@
+//! Writing tables one behind another.
+ghost use Rattle.std.specs.Prelude.{◌≡◌, ◌+◌, ◌*◌, ◌≤◌, ◌++◌, ◌∷◌, ◌==◌, [], ℕ, List, true, IsTrue, OnOk, IfOk, IfErr, length, map, if◌then◌else◌};
+ghost use Rattle.std.specs.List.{AllByRecursion};
+ghost use Rattle.row_pages.specs.Keeping.{AreRead};
+ghost use Rattle.half_store.specs.Writing.{from_of, half_bytes_of, next_of, pages_of};
+ghost use Rattle.tables.specs.View.{is_store};
+ghost use Rattle.checkpoint_writer.specs.Adding.{AddsPages, end_of_half};
+ghost use Rattle.checkpoint_writer.specs.Catalogue.{HaveNames, place_of};
+ghost use Rattle.checkpoint_writer.specs.Errors.{CountsImage, DamagedWhere, TellsFull};
+ghost use Rattle.checkpoint_writer.specs.declared.errors.ImageError.TheVariants.{NoMemory};
+ghost use Rattle.store_check.specs.Checkpoint.{forms};
+ghost use Rattle.store_check.specs.Written.{IsWritten};
+ghost use Rattle.checkpoints.specs.Laying.{IsGood, laid_from};
+ghost use Rattle.checkpoints.specs.Room.{entries_from, pages_of_table, pages_of_tables};
+ghost use Rattle.paged_tables.specs.Lending.{IsLent};
+ghost use Rattle.paged_tables.specs.Stored.{Stored, table_in};
+ghost use Rattle.paged_tables.specs.TablesByName.{LieInside};
+ghost use Rattle.paged_checkpoints.specs.Apart.{AreReadable, IsReadable, LiesFrom};
+ghost use Rattle.paged_checkpoints.specs.Laying.{AreLast, IsUnder, LaysTable, all_shown, created_entry, places_from};
+
+use checkpoint_writer::{ImageError, TablePlace, merge_into};
+use drda_disk::Disk;
+use half_store::ImageWriter;
+use key_map::laws::rows_have_their_forms;
+use paged_tables::{TableRef, TablesLeft};
+use row_pages::PageCache;
+use std::alloc::Global;
+use table_map::{SchemaKeys, TablePages};
+
+/// A table that was laid into an image: its place in the catalogue, and where its pages lie.
+#[derive(Drop)]
+struct LaidTable<'a> {
+    place: TablePlace<'a>,
+    pages: TablePages,
+}
+
+/// Tables that were laid into an image: their places in its catalogue, and where their pages lie.
+#[derive(Drop)]
+pub(crate) struct LaidTables<'a> {
+    pub(crate) places: Vec<TablePlace<'a>>,
+    pub(crate) pages: Vec<TablePages>,
+}
+
+/// The number of the first one of so many pages; 0 where there is none.
+fn first_page(pages: u32, first: u32) -> u32
+    ensures { result ≡ (if pages == 0 then 0 else first) }
+{
+    if pages == 0 { 0 } else { first }
+}
+
+/// Writes all rows of a table, those of its pages with the changes since, into pages behind those that
+/// the image has.
+fn write_table<'a, D: Disk>(
+    alloc: Global,
+    cache: &mut PageCache,
+    disk: &mut D,
+    image: &mut ImageWriter,
+    table: TableRef<'a>,
+) -> Result<LaidTable<'a>, ImageError>
+    requires inside { from_of image.old + half_bytes_of image.old ≤ length (D.life disk.old).seen }
+    requires table { table.rows.now.places.at + 8192 * length table.rows.now.places.keys ≤ length (D.life disk.old).seen }
+    ensures adds { AddsPages D.is_modelled (D.life disk.old) (D.life disk.new) image.old image.new }
+    ensures name { IfOk result (λ laid. (place_of laid.place).name ≡ table.entry.name.now) }
+    ensures under { (e : List ℕ × Stored) → IsLent e table.entry → OnOk result (IsUnder e) }
+    ensures last { IfOk result (λ laid. AreLast image.old image.new laid.pages) }
+    ensures laid { (e : List ℕ × Stored) → IsLent e table.entry → IsGood (created_entry e) → IsReadable D.is_modelled (D.life disk.old).seen cache.old image.old e.1
+        → IfOk result (λ laid. LaysTable (D.life disk.new).seen image.old image.new (created_entry e) (place_of laid.place) laid.pages) }
+    ensures full { (e : List ℕ × Stored) → IsLent e table.entry → IsReadable D.is_modelled (D.life disk.old).seen cache.old image.old e.1
+        → TellsFull result (end_of_half image.old) (next_of image.old + 8192 * pages_of_table (table_in e.1)) }
+    ensures damaged { (e : List ℕ × Stored) → IsLent e table.entry → IsGood (created_entry e) → IsReadable D.is_modelled (D.life disk.old).seen cache.old image.old e.1
+        → DamagedWhere ⊥ result }
+    ensures kept { IsTrue D.is_modelled → AreRead cache.old (D.life disk.old).seen → AreRead cache.new (D.life disk.new).seen }
+    ensures cause { CountsImage result (D.life disk.old).faults (D.life disk.new).faults }
+{
+    rows_have_their_forms();
+    let TableRef { name, schema, rows } = table;
+    let _columns = schema.columns();
+    let first = image.pages();
+    let noted = merge_into(alloc, &SchemaKeys { schema }, rows, cache, disk, image)?;
+    let pages = image.pages() - first;
+    let place = TablePlace {
+        name,
+        schema,
+        first_page: first_page(pages, first),
+        pages,
+    };
+    Ok(LaidTable {
+        place,
+        pages: noted.pages,
+    })
+}
+
+/// Puts a table behind others.
+fn push_table<'a>(tables: &mut LaidTables<'a>, table: LaidTable<'a>) -> Result<(), ImageError>
+    ensures places { OnOk result (tables.new.places.items ≡ tables.old.places.items ++ table.entry.place ∷ []) }
+    ensures pages { OnOk result (tables.new.pages.items ≡ tables.old.pages.items ++ table.entry.pages ∷ []) }
+    ensures fault { IfErr result (λ e. e ≡ NoMemory) }
+    ensures cause { (n : ℕ) → CountsImage result n n }
+{
+    if tables.places.push(table.place).is_err() {
+        return Err(ImageError::NoMemory);
+    }
+    match tables.pages.push(table.pages) {
+        Ok(()) => Ok(()),
+        Err(_) => Err(ImageError::NoMemory),
+    }
+}
+
+/// Writes all tables that are left to lend into pages of an image that has none.
+pub(crate) fn write_tables<'a, D: Disk>(
+    alloc: Global,
+    cache: &mut PageCache,
+    disk: &mut D,
+    image: &mut ImageWriter,
+    tables: TablesLeft<'a>,
+) -> Result<LaidTables<'a>, ImageError>
+    requires none { pages_of image.old ≡ 0 }
+    requires inside { from_of image.old + half_bytes_of image.old ≤ length (D.life disk.old).seen }
+    requires tables { LieInside (length (D.life disk.old).seen) tables }
+    requires store { is_store (all_shown tables) ≡ true }
+    ensures adds { AddsPages D.is_modelled (D.life disk.old) (D.life disk.new) image.old image.new }
+    ensures names { IfOk result (λ laid. HaveNames (map place_of laid.places.items)) }
+    ensures under { OnOk result (AllByRecursion IsUnder tables.entry) }
+    ensures lie { IfOk result (λ laid. AllByRecursion (LiesFrom (next_of image.old) (next_of image.new)) laid.pages.items) }
+    ensures count { IfOk result (λ laid. length laid.pages.items ≡ length tables.entry) }
+    ensures places { AreReadable D.is_modelled (D.life disk.old).seen cache.old image.old tables.entry → IfOk result (λ laid. map place_of laid.places.items ≡ entries_from 0 (all_shown tables.entry)) }
+    ensures pages { AreReadable D.is_modelled (D.life disk.old).seen cache.old image.old tables.entry → OnOk result (pages_of image.new ≡ pages_of_tables (all_shown tables.entry)) }
+    ensures laid { AreReadable D.is_modelled (D.life disk.old).seen cache.old image.old tables.entry → IfOk result (λ laid. laid.pages.items ≡ places_from (from_of image.old + 8192) 0 (all_shown tables.entry)) }
+    ensures written { AreReadable D.is_modelled (D.life disk.old).seen cache.old image.old tables.entry
+        → OnOk result (AllByRecursion (IsWritten forms (D.life disk.new).seen (from_of image.old + 8192)) (laid_from (from_of image.old + 8192) 0 (all_shown tables.entry))) }
+    ensures full { AreReadable D.is_modelled (D.life disk.old).seen cache.old image.old tables.entry → TellsFull result (end_of_half image.old) (next_of image.old + 8192 * pages_of_tables (all_shown tables.entry)) }
+    ensures damaged { AreReadable D.is_modelled (D.life disk.old).seen cache.old image.old tables.entry → DamagedWhere ⊥ result }
+    ensures cause { CountsImage result (D.life disk.old).faults (D.life disk.new).faults }
+{
+    let mut left = tables;
+    let mut laid = LaidTables {
+        places: Vec::new(alloc),
+        pages: Vec::new(alloc),
+    };
+    while let Some(table) = left.next_table() {
+        let written = write_table(alloc, cache, disk, image, table)?;
+        push_table(&mut laid, written)?;
+    }
+    Ok(laid)
+}

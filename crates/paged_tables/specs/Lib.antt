@@ -1,0 +1,6 @@
+pub mod Stored
+pub mod TablesByName
+pub mod Steps
+pub mod PagedTables
+pub mod Lending
+pub mod Laws

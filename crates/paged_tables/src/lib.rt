@@ -1,0 +1,16 @@
+//! The committed tables over pages: each table is where its pages lie, and the changes since these were
+//! written. Room is made before a change, so that the change itself can't fail; rows are read through a
+//! cache of pages.
+#![tactic(auto)]
+
+mod laws;
+mod lending;
+mod steps;
+mod store;
+mod stored_table;
+mod tables_by_name;
+mod tree;
+
+pub use laws::rows_stand_at_their_forms;
+pub use lending::{TableRef, TablesLeft};
+pub use store::PagedTables;

@@ -1,0 +1,251 @@
+//! Tables over pages, and plain ones that are changed in the same way.
+
+use crate::ahead::{tell_row_ahead, tell_rows_ahead};
+use crate::held::{Held, STORE_BYTES};
+use crate::lent::count_lent;
+use ahead_view::ReadAhead;
+use drda_disk::{FuseDisk, MemDisk};
+use half_store::{Active, format, open};
+use row_pages::PageCache;
+use row_values::{Schema, is_name};
+use std::alloc::Global;
+use tables::{Change, PlainView, Rows, TableView};
+use test_rows::{say, tell};
+
+/// Both, and changes that were not made yet, in two copies.
+#[derive(Drop)]
+pub struct Stores {
+    alloc: Global,
+    held: Held<FuseDisk<MemDisk>>,
+    active: Active,
+    cache: PageCache,
+    plain: PlainView,
+    changes: Vec<Change>,
+    copies: Vec<Change>,
+}
+
+// A disk with an empty store, as it is opened, which fails behind so many calls.
+fn new_store(alloc: Global, calls: u64) -> Option<(FuseDisk<MemDisk>, Active)> {
+    let mut disk = MemDisk::new(alloc, STORE_BYTES).ok()?;
+    format(alloc, &mut disk, "TEST").ok()?;
+    let active = open(alloc, &mut disk).ok()?;
+    Some((FuseDisk::new(disk, calls, false), active))
+}
+
+// A store with one table of this name.
+fn opened_store(
+    alloc: Global,
+    name: &str,
+    schema: &Schema,
+) -> Option<(Held<FuseDisk<MemDisk>>, Active)> {
+    let table = String::from_str(alloc, name).ok()?;
+    if !is_name(table.as_str().as_bytes()) {
+        return None;
+    }
+    let copy = schema.copy(alloc).ok()?;
+    let (disk, active) = new_store(alloc, u64::MAX)?;
+    let held = Held::opened(alloc, disk, table, copy).ok()?;
+    Some((held, active))
+}
+
+// The same table by itself.
+fn plain_with(alloc: Global, name: &str, schema: &Schema) -> Option<PlainView> {
+    let table = String::from_str(alloc, name).ok()?;
+    if !is_name(table.as_str().as_bytes()) {
+        return None;
+    }
+    let created = Change::create(table, schema.copy(alloc).ok()?);
+    let mut plain = PlainView::new(alloc);
+    plain.apply(alloc, created).ok()?;
+    Some(plain)
+}
+
+// Whether rows are the same.
+fn are_alike(here: &Rows, there: &Rows) -> bool {
+    if here.len() != there.len() {
+        return false;
+    }
+    for i in 0..here.len() {
+        if here.row(i)[..] != there.row(i)[..] {
+            return false;
+        }
+    }
+    true
+}
+
+fn say_alike(alloc: Global, here: usize, there: usize, same: u32, out: &mut Vec<u8>) -> Option<()> {
+    say(
+        out,
+        &format!(in alloc; "{here} tables here, {there} there; {same} alike").ok()?,
+    )
+}
+
+impl Stores {
+    // These, with no change.
+    fn over(
+        alloc: Global,
+        held: Held<FuseDisk<MemDisk>>,
+        active: Active,
+        plain: PlainView,
+    ) -> Option<Stores> {
+        let cache = PageCache::new(alloc, 2).ok()?;
+        Some(Stores {
+            alloc,
+            held,
+            active,
+            cache,
+            plain,
+            changes: Vec::new(alloc),
+            copies: Vec::new(alloc),
+        })
+    }
+
+    /// No table, and no change, over a device that fails behind so many calls.
+    pub fn new(alloc: Global, calls: u64) -> Option<Stores> {
+        let (disk, active) = new_store(alloc, calls)?;
+        Stores::over(alloc, Held::new(alloc, disk), active, PlainView::new(alloc))
+    }
+
+    /// One table of this name, as an opening finds it.
+    pub fn opened(alloc: Global, name: &str, schema: &Schema) -> Option<Stores> {
+        let (held, active) = opened_store(alloc, name, schema)?;
+        Stores::over(alloc, held, active, plain_with(alloc, name, schema)?)
+    }
+
+    /// One change more that is to be made.
+    pub fn lay(&mut self, change: Change, copy: Change) -> Option<()> {
+        self.changes.push(change).ok()?;
+        self.copies.push(copy).ok()
+    }
+
+    // The changes that were laid; then none are.
+    fn take(&mut self) -> Vec<Change> {
+        let changes = std::mem::replace(&mut self.changes, Vec::new(self.alloc));
+        changes
+    }
+
+    /// Makes the changes, for which room is made first. Without memory neither store changes.
+    pub fn commit(&mut self, out: &mut Vec<u8>) -> Option<()> {
+        let changes = self.take();
+        let copies = std::mem::replace(&mut self.copies, Vec::new(self.alloc));
+        if self.held.commit(self.alloc, changes).is_err() {
+            return say(out, "no memory");
+        }
+        for change in copies {
+            self.plain.apply(self.alloc, change).ok()?;
+        }
+        Some(())
+    }
+
+    /// Makes room for the changes, and no change.
+    pub fn reserve(&mut self, out: &mut Vec<u8>) -> Option<()> {
+        let changes = self.take();
+        self.copies.clear();
+        match self.held.reserve(self.alloc, &changes) {
+            Ok(()) => Some(()),
+            Err(_) => say(out, "no memory"),
+        }
+    }
+
+    /// Gives up the room.
+    pub fn release(&mut self) {
+        self.held.release();
+    }
+
+    /// Lays all rows into pages of the other half, and tells how many there are.
+    pub fn checkpoint(&mut self, out: &mut Vec<u8>) -> Option<()> {
+        let done = self
+            .held
+            .checkpoint(self.alloc, &mut self.cache, &self.active);
+        match done {
+            Ok(pages) => {
+                self.active.half = self.active.half.other();
+                say(out, &format!(in self.alloc; "{pages} pages").ok()?)
+            }
+            Err(error) => say(out, &format!(in self.alloc; "{error:?}").ok()?),
+        }
+    }
+
+    /// Tells how many tables both have, and how many of these names they show alike.
+    pub fn compare(&mut self, names: &[&str], out: &mut Vec<u8>) -> Option<()> {
+        let mut same = 0_u32;
+        for name in names {
+            let here = self.held.rows(self.alloc, &mut self.cache, name).ok()?;
+            let there = self.plain.scan(self.alloc, name).ok()?;
+            same = same.wrapping_add(u32::from(are_alike(&here, &there)));
+        }
+        let (here, there) = (self.held.tables().count(), self.plain.tables().ok()?);
+        say_alike(self.alloc, here, there, same, out)
+    }
+
+    /// The same of the tables as they are lent.
+    pub fn compare_lent(&mut self, names: &[&str], out: &mut Vec<u8>) -> Option<()> {
+        let mut same = 0_u32;
+        for name in names {
+            let here = self.held.lent_rows(self.alloc, &mut self.cache, name).ok()?;
+            let there = self.plain.scan(self.alloc, name).ok()?;
+            same = same.wrapping_add(u32::from(are_alike(&here, &there)));
+        }
+        let (here, there) = (count_lent(self.held.tables()), self.plain.tables().ok()?);
+        say_alike(self.alloc, here, there, same, out)
+    }
+
+    /// Tells whether there is a table.
+    pub fn tell_known(&self, name: &str, out: &mut Vec<u8>) -> Option<()> {
+        let schema = self.held.tables().schema(name).ok()?;
+        say(out, if schema.is_some() { "known" } else { "unknown" })
+    }
+
+    /// Tells the row of a key.
+    pub fn tell_row(&mut self, name: &str, key: &[u8], out: &mut Vec<u8>) -> Option<()> {
+        match self.held.row(self.alloc, &mut self.cache, name, key) {
+            Ok(Some(row)) => tell(self.alloc, out, "row", &row),
+            Ok(None) => say(out, "no row"),
+            Err(fault) => say(out, &format!(in self.alloc; "{fault}").ok()?),
+        }
+    }
+
+    /// Tells the rows of a table, in their order.
+    pub fn tell_rows(&mut self, name: &str, out: &mut Vec<u8>) -> Option<()> {
+        let rows = match self.held.rows(self.alloc, &mut self.cache, name) {
+            Ok(rows) => rows,
+            Err(fault) => return say(out, &format!(in self.alloc; "{fault}").ok()?),
+        };
+        let count = rows.len();
+        say(out, &format!(in self.alloc; "{count} rows").ok()?)?;
+        for i in 0..rows.len() {
+            tell(self.alloc, out, "-", rows.row(i))?;
+        }
+        Some(())
+    }
+
+    /// Tells the row of this key as a statement sees it, for which the row of the other key was read.
+    pub fn tell_ahead(
+        &mut self,
+        name: &str,
+        read: Vec<u8>,
+        asked: &[u8],
+        out: &mut Vec<u8>,
+    ) -> Option<()> {
+        let row = self
+            .held
+            .row(self.alloc, &mut self.cache, name, &read)
+            .ok()?;
+        let ahead = ReadAhead::Row {
+            table: String::from_str(self.alloc, name).ok()?,
+            key: read,
+            row,
+        };
+        tell_row_ahead(self.alloc, self.held.tables(), ahead, name, asked, out)
+    }
+
+    /// Tells what a statement sees of a table's rows, for which those of the other table were read.
+    pub fn tell_all_ahead(&mut self, read: &str, asked: &str, out: &mut Vec<u8>) -> Option<()> {
+        let rows = self.held.rows(self.alloc, &mut self.cache, read).ok()?;
+        let ahead = ReadAhead::Rows {
+            table: String::from_str(self.alloc, read).ok()?,
+            rows,
+        };
+        tell_rows_ahead(self.alloc, self.held.tables(), ahead, asked, out)
+    }
+}
