@@ -25,7 +25,7 @@ use Rattle.tables.specs.View.{is_entry, is_store, is_table}
 use Rattle.tables.proofs.Changes.{names_apart}
 use Rattle.tables.proofs.Finding.{itself}
 use Rattle.tables.proofs.Keeping.{all_put, named_table, rises_put}
-use Rattle.paged_tables.specs.Stored.{HaveForms, IsOnPages, IsRowAt, LiesInside, Stored, at_keys, laid_anew, shown, table_in}
+use Rattle.paged_tables.specs.Stored.{HaveForms, IsOnPages, IsRowAt, LiesInside, LiesOutside, Stored, at_keys, laid_anew, shown, table_in}
 use Rattle.paged_tables.specs.TablesByName.{AddsPages, AreLaid, ComesLast, PagesStay, RelaysNext, Tables, created_of, is_created, relaid, store_of, tables_in}
 use Rattle.paged_tables.proofs.FormLaws.{agree}
 use Rattle.paged_tables.proofs.NamedTables.{Entry}
@@ -115,7 +115,11 @@ module _ (P : Stored → Type 0) where
   all_last (e ∷ es) q t all one = (all.0, all_last es q t all.1 one)
 
 pub stay_added : (s : Tables) (t : Stored) (u : Tables) → PagesStay s u → AddsPages s t u
-stay_added s t u stay = record { stand = λ file h one. stay.stand file h; inside = λ size h one. stay.inside size h }
+stay_added s t u stay = record {
+  stand = λ file h one. stay.stand file h;
+  inside = λ size h one. stay.inside size h;
+  apart = λ from end h one. stay.apart from end h;
+}
 
 pub pages_behind : (s : Tables) (q : List ℕ) (t : Stored) → AddsPages s t (created_of s ++ (q, t) ∷ [])
 pages_behind s q t =
@@ -123,10 +127,15 @@ pages_behind s q t =
     record {
       stand = λ file h one. all_last (IsOnPages file) (created_of s) q t (kept.stand file h) one;
       inside = λ size h one. all_last (LiesInside size) (created_of s) q t (kept.inside size h) one;
+      apart = λ from end h one. all_last (LiesOutside from end) (created_of s) q t (kept.apart from end h) one;
     }
 
 pub then_added : (s t : Tables) (one : Stored) (u : Tables) → PagesStay s t → AddsPages t one u → AddsPages s one u
-then_added s t one u stay adds = record { stand = λ file h is. adds.stand file (stay.stand file h) is; inside = λ size h is. adds.inside size (stay.inside size h) is }
+then_added s t one u stay adds = record {
+  stand = λ file h is. adds.stand file (stay.stand file h) is;
+  inside = λ size h is. adds.inside size (stay.inside size h) is;
+  apart = λ from end h is. adds.apart from end (stay.apart from end h) is;
+}
 
 -- whether or not there was memory
 module _ {A E : Type 0} (s u : Tables) (q : List ℕ) (t : Stored) where

@@ -1,5 +1,5 @@
 -- What is true of the pages of all tables, after one of them has changed.
-use Rattle.std.proofs.Common.{◌≡◌, ℕ, ◌+◌, ◌*◌, ◌≤◌, List, [], ◌∷◌, Bool, true, false, cond, refl, sym, ap, subst, ◌∙◌, length, Option, Some, filter, Ordering, Less, Equal, Greater, arith}
+use Rattle.std.proofs.Common.{◌≡◌, ◌⊎◌, inl, ℕ, ◌+◌, ◌*◌, ◌≤◌, List, [], ◌∷◌, Bool, true, false, cond, refl, sym, ap, subst, ◌∙◌, length, Option, Some, filter, Ordering, Less, Equal, Greater, arith}
 use Rattle.std.specs.List.{AllByRecursion}
 use Rattle.std.specs.List.Sorted.{IsStrictlySortedBy}
 use Rattle.std.specs.Map.{lookup, set_value}
@@ -11,7 +11,7 @@ use Rattle.row_pages.specs.Laying.{rows_over}
 use Rattle.row_values.specs.Schema.{Schema}
 use Rattle.table_map.specs.Keyed.{keyed_rows}
 use Rattle.table_map.specs.Stored.{Places, IsStored as StandAt}
-use Rattle.paged_tables.specs.Stored.{IsOnPages, KeepsPages, LiesInside, Stored}
+use Rattle.paged_tables.specs.Stored.{IsOnPages, KeepsPages, LiesInside, LiesOutside, Stored}
 use Rattle.paged_tables.specs.TablesByName.{PagesStay, Tables, is_created, named}
 
 -- ---- one table
@@ -25,6 +25,9 @@ same_on_pages file t u keeps is = record {
 
 pub same_inside : (size : ℕ) (t u : Stored) → KeepsPages t u → LiesInside size t → LiesInside size u
 same_inside size t u keeps h = subst (λ (p : Places). p.at + 8192 * length p.keys ≤ size) (sym keeps.places) h
+
+pub same_outside : (from end : ℕ) (t u : Stored) → KeepsPages t u → LiesOutside from end t → LiesOutside from end u
+same_outside from end t u keeps h = subst (λ (p : Places). (p.at + 8192 * length p.keys ≤ from) ⊎ (end ≤ p.at)) (sym keeps.places) h
 
 pub keeps_itself : (t : Stored) → KeepsPages t t
 keeps_itself t = record { schema = refl; places = refl; base = refl }
@@ -71,15 +74,20 @@ module _ (P : Stored → Type 0) where
 -- ---- the pages stay
 
 pub pages_stay_themselves : (s : Tables) → PagesStay s s
-pages_stay_themselves s = record { stand = λ file h. h; inside = λ size h. h }
+pages_stay_themselves s = record { stand = λ file h. h; inside = λ size h. h; apart = λ from end h. h }
 
 pub and_stay : (s t u : Tables) → PagesStay s t → PagesStay t u → PagesStay s u
-and_stay s t u one two = record { stand = λ file h. two.stand file (one.stand file h); inside = λ size h. two.inside size (one.inside size h) }
+and_stay s t u one two = record {
+  stand = λ file h. two.stand file (one.stand file h);
+  inside = λ size h. two.inside size (one.inside size h);
+  apart = λ from end h. two.apart from end (one.apart from end h);
+}
 
 pub pages_set : (q : List ℕ) (s : Tables) (t u : Stored) → named s q ≡ Some t → KeepsPages t u → PagesStay s (set_value (by_key q) s u)
 pages_set q s t u at keeps = record {
   stand = λ file h. all_set (IsOnPages file) (by_key q) s u (same_on_pages file t u keeps (all_found (IsOnPages file) (by_key q) s t at h)) h;
   inside = λ size h. all_set (LiesInside size) (by_key q) s u (same_inside size t u keeps (all_found (LiesInside size) (by_key q) s t at h)) h;
+  apart = λ from end h. all_set (LiesOutside from end) (by_key q) s u (same_outside from end t u keeps (all_found (LiesOutside from end) (by_key q) s t at h)) h;
 }
 
 -- a table without pages
@@ -100,11 +108,19 @@ bare_inside size t bare =
     let none : 0 + 8192 * 0 ≤ size = omega arith in
     subst (λ (p : Places). p.at + 8192 * length p.keys ≤ size) (sym bare.places) none
 
+bare_outside : (from end : ℕ) (t : Stored) → IsBare t → LiesOutside from end t
+bare_outside from end t bare = inl (bare_inside from t bare)
+
 pub pages_added : (q : List ℕ) (s : Tables) (t : Stored) → IsBare t → PagesStay s (insert_entry by_bytes s q t)
 pages_added q s t bare = record {
   stand = λ file h. all_insert (IsOnPages file) by_bytes s q t (bare_on_pages file t bare) h;
   inside = λ size h. all_insert (LiesInside size) by_bytes s q t (bare_inside size t bare) h;
+  apart = λ from end h. all_insert (LiesOutside from end) by_bytes s q t (bare_outside from end t bare) h;
 }
 
 pub pages_kept : (s : Tables) → PagesStay s (filter is_created s)
-pages_kept s = record { stand = λ file h. all_kept (IsOnPages file) s h; inside = λ size h. all_kept (LiesInside size) s h }
+pages_kept s = record {
+  stand = λ file h. all_kept (IsOnPages file) s h;
+  inside = λ size h. all_kept (LiesInside size) s h;
+  apart = λ from end h. all_kept (LiesOutside from end) s h;
+}

@@ -1,5 +1,5 @@
 -- A table as it is stored: the rows that its pages have, each at the sort form of its key, and the changes since.
-use Rattle.std.specs.Prelude.{◌≡◌, ℕ, ◌+◌, ◌*◌, ◌≤◌, Bool, true, false, List, [], length, Option, Some, None, map, cond, option_map, unwrap_or}
+use Rattle.std.specs.Prelude.{◌≡◌, ◌⊎◌, ℕ, ◌+◌, ◌*◌, ◌≤◌, Bool, true, false, List, [], length, Option, Some, None, map, cond, option_map, unwrap_or}
 use Rattle.std.specs.Global.{Vec}
 use Rattle.std.specs.List.{AllByRecursion}
 use Rattle.drda_words.specs.Bytes.{AreBytes}
@@ -99,6 +99,10 @@ pub record IsOnPages (file : List ℕ) (t : Stored) : Type 0 where
 -- the pages end within so many bytes
 abbrev pub LiesInside : ℕ → Stored → Type 0
 LiesInside size t = t.places.at + 8192 * length t.places.keys ≤ size
+
+-- the pages end in front of an offset, or begin behind another one
+abbrev pub LiesOutside : ℕ → ℕ → Stored → Type 0
+LiesOutside from end t = (t.places.at + 8192 * length t.places.keys ≤ from) ⊎ (end ≤ t.places.at)
 
 -- the schema and the pages of a table stay, whatever else becomes of it
 pub record KeepsPages (old new : Stored) : Type 0 where

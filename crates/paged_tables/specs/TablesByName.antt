@@ -11,7 +11,7 @@ use Rattle.table_map.specs.Stored.{Places}
 use Rattle.tables.specs.Change.{Change, create, put, remove}
 use Rattle.tables.specs.Tables.{Store, Table, apply, schema_of}
 use Rattle.tables.specs.View.{is_store}
-use Rattle.paged_tables.specs.Stored.{FormsKey, FormsRow, HasRoomFor, IsOnPages, LiesInside, Stored, laid_anew, shown}
+use Rattle.paged_tables.specs.Stored.{FormsKey, FormsRow, HasRoomFor, IsOnPages, LiesInside, LiesOutside, Stored, laid_anew, shown}
 
 abbrev pub Tables : Type 0
 Tables = List (List ℕ × Stored)
@@ -61,10 +61,15 @@ AreOnPages file tables = AllByRecursion (λ (e : List ℕ × Stored). IsOnPages 
 abbrev pub LieInside : ℕ → Tables → Type 0
 LieInside size tables = AllByRecursion (λ (e : List ℕ × Stored). LiesInside size e.1) tables
 
+-- the pages of each table end in front of an offset, or begin behind another one
+abbrev pub LieOutside : ℕ → ℕ → Tables → Type 0
+LieOutside from end tables = AllByRecursion (λ (e : List ℕ × Stored). LiesOutside from end e.1) tables
+
 -- what is true of the pages stays true
 pub record PagesStay (s t : Tables) : Type 0 where
   pub stand : (file : List ℕ) → AreOnPages file s → AreOnPages file t
   pub inside : (size : ℕ) → LieInside size s → LieInside size t
+  pub apart : (from end : ℕ) → LieOutside from end s → LieOutside from end t
 
 -- the tables that are created
 abbrev pub created_of : Tables → Tables
@@ -78,6 +83,7 @@ ComesLast name entries = AllByRecursion (λ n. by_bytes n name ≡ Less) (keys_o
 pub record AddsPages (old : Tables) (t : Stored) (new : Tables) : Type 0 where
   pub stand : (file : List ℕ) → AreOnPages file old → IsOnPages file t → AreOnPages file new
   pub inside : (size : ℕ) → LieInside size old → LiesInside size t → LieInside size new
+  pub apart : (from end : ℕ) → LieOutside from end old → LiesOutside from end t → LieOutside from end new
 
 -- what becomes of a table to which the next of these pages go, if it is created, and of the pages
 abbrev pub RelaysNext : List Places → Stored → Bool → Stored → List Places → Type 0

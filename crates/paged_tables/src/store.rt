@@ -10,7 +10,7 @@ ghost use Rattle.table_map.specs.Damage.{DamagedWhere};
 ghost use Rattle.table_map.specs.Keyed.{copied};
 ghost use Rattle.tables.specs.Tables.{row_of, rows_of, schema_of};
 ghost use Rattle.tables.specs.View.{is_store};
-ghost use Rattle.paged_tables.specs.Stored.{AreRowsOf, IsOnPages, LiesInside, opened, table_in};
+ghost use Rattle.paged_tables.specs.Stored.{AreRowsOf, IsOnPages, LiesInside, LiesOutside, opened, table_in};
 ghost use Rattle.tables.specs.Applied.{apply_all};
 ghost use Rattle.tables.specs.ChangeView.{change_of};
 
@@ -36,7 +36,7 @@ pub struct PagedTables {
 impl PagedTables {
     ghost use Rattle.paged_tables.specs.PagedTables.{IsReserved, store_in};
     ghost use Rattle.paged_tables.specs.Steps.{HoldsNone};
-    ghost use Rattle.paged_tables.specs.TablesByName.{AddsPages, AreLaid, AreOnPages, ComesLast, LieInside, PagesStay, created_of, relaid};
+    ghost use Rattle.paged_tables.specs.TablesByName.{AddsPages, AreLaid, AreOnPages, ComesLast, LieInside, LieOutside, PagesStay, created_of, relaid};
 
     /// No tables. Takes no memory.
     pub fn new(alloc: Global) -> PagedTables
@@ -152,6 +152,7 @@ impl PagedTables {
         ensures pages { self.new.tables ≡ relaid pages.items self.old.tables }
         ensures stand { (file : List ℕ) → AreLaid (IsOnPages file) pages.items (created_of self.old.tables) → AreOnPages file self.new.tables }
         ensures inside { (size : ℕ) → AreLaid (LiesInside size) pages.items (created_of self.old.tables) → LieInside size self.new.tables }
+        ensures apart { (from end : ℕ) → AreLaid (LiesOutside from end) pages.items (created_of self.old.tables) → LieOutside from end self.new.tables }
     {
         self.tables.relay(alloc, pages);
         self.steps.clear();
