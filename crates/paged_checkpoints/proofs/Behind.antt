@@ -1,5 +1,5 @@
 -- Tables that are put one behind another.
-use Rattle.std.proofs.Common.{◌≡◌, ℕ, true, false, ◌&&◌, List, [], ◌∷◌, ◌++◌, Result, Ok, Err, IfOk, ◌≤◌, map, refl, sym, ap, subst, ◌∙◌, append_assoc, append-nil, Ordering, Less, Equal, Greater}
+use Rattle.std.proofs.Common.{◌≡◌, ◌⊎◌, ℕ, ◌+◌, ◌*◌, true, false, ◌&&◌, List, [], ◌∷◌, ◌++◌, Result, Ok, Err, IfOk, ◌≤◌, map, arith, refl, sym, ap, subst, ◌∙◌, append_assoc, append-nil, Ordering, Less, Equal, Greater}
 use Rattle.std.specs.List.{AllByRecursion, list_all}
 use Rattle.std.specs.Map.{keys_of}
 use Rattle.std.specs.Ordering.{match_ordering, nat_cmp}
@@ -11,8 +11,9 @@ use Rattle.row_values.proofs.ValueLaws.{first_true, second_true}
 use Rattle.key_map.specs.Slots.{by_bytes}
 use Rattle.tables.specs.Tables.{Store, Table}
 use Rattle.tables.specs.View.{is_store, is_table}
+use Rattle.half_store.specs.declared.active.Active.{Active}
 use Rattle.store_check.specs.Checkpoint.{forms, store_on}
-use Rattle.store_check.specs.Half.{HalfPages, IsWholeHalf, LiesBelow, NotesTable, TableRows, entry_in}
+use Rattle.store_check.specs.Half.{HalfPages, IsWholeHalf, LiesBehind, LiesBelow, NotesTable, TableRows, entry_in, pages_of}
 use Rattle.store_check.specs.Listed.{is_before, names_rise}
 use Rattle.store_check.specs.declared.half.CheckedTable.{CheckedTable}
 use Rattle.store_check.specs.declared.errors.CheckError.{CheckError}
@@ -20,9 +21,10 @@ use Rattle.store_check.specs.declared.errors.CheckError.TheVariants.{NoMemory, D
 use Rattle.checkpoints.specs.Reading.{DamagedOnly}
 use Rattle.checkpoints.proofs.ReadBack.{lie_below}
 use Rattle.paged_tables.specs.PagedTables.{store_in}
-use Rattle.paged_tables.specs.TablesByName.{AddsPages, AreOnPages, ComesLast, LieInside, Tables, store_of}
+use Rattle.paged_tables.specs.TablesByName.{AddsPages, AreOnPages, ComesLast, LieInside, LieOutside, Tables, store_of}
 use Rattle.paged_tables.specs.declared.store.PagedTables.{PagedTables}
-use Rattle.paged_checkpoints.specs.Opening.{OpensCheckpoint, StandsIn, name_in, noted_table, opened_of}
+use Rattle.paged_checkpoints.specs.Opening.{OpensCheckpoint, StandsIn, StandsOutside, name_in, noted_table, opened_of}
+use Rattle.paged_checkpoints.proofs.Beside.{half_outside}
 
 -- ---- names that rise
 
@@ -75,6 +77,7 @@ pub record IsUnderWay (all left : List CheckedTable) (tables : Tables) : Type 0 
   pub named : is_store (map noted_table all) ≡ true → AllByRecursion (λ c. is_name (name_in c) ≡ true) left
   pub stand : (file : List ℕ) → AllByRecursion (StandsIn file) all → AreOnPages file tables × AllByRecursion (StandsIn file) left
   pub inside : (size : ℕ) → AllByRecursion (LiesBelow size) all → LieInside size tables × AllByRecursion (LiesBelow size) left
+  pub apart : (from end : ℕ) → AllByRecursion (StandsOutside from end) all → LieOutside from end tables × AllByRecursion (StandsOutside from end) left
 
 pub none_added : (all left : List CheckedTable) (tables : Tables) → left ≡ all → tables ≡ [] → AllByRecursion (NotesTable forms) all → names_rise (map entry_in all) ≡ true → IsUnderWay all left tables
 none_added all left tables same none good rise = subst (λ (l : List CheckedTable). IsUnderWay all l tables) (sym same) (subst (λ (t : Tables). IsUnderWay all all t) (sym none) (record {
@@ -85,6 +88,7 @@ none_added all left tables same none good rise = subst (λ (l : List CheckedTabl
   named = λ h. all_named all (first_true (list_all (λ (e : List ℕ × Table). is_name e.0 && is_table e.1) (map noted_table all)) (rises (slice_cmp nat_cmp) (keys_of (map noted_table all))) h);
   stand = λ file h. (tt, h);
   inside = λ size h. (tt, h);
+  apart = λ from end h. (tt, h);
 }))
 
 pub one_added : (all : List CheckedTable) (c : CheckedTable) (more : List CheckedTable) (old new : Tables) → IsUnderWay all (c ∷ more) old → store_of new ≡ store_of old ++ noted_table c ∷ [] → AddsPages old (opened_of c) new → IsUnderWay all more new
@@ -96,14 +100,11 @@ one_added all c more old new so added pages = record {
   named = λ h. (so.named h).1;
   stand = λ file h. let was = so.stand file h in (pages.stand file was.0 was.1.0, was.1.1);
   inside = λ size h. let was = so.inside size h in (pages.inside size was.0 was.1.0, was.1.1);
+  apart = λ from end h. let was = so.apart from end h in (pages.apart from end was.0 was.1.0, was.1.1);
 }
   where
     rest_rise : (c : CheckedTable) (more : List CheckedTable) → names_rise (map entry_in (c ∷ more)) ≡ true → names_rise (map entry_in more) ≡ true
     rest_rise c more rise = (and_parts (is_before (entry_in c) (map entry_in more)) (names_rise (map entry_in more)) rise).1
-
--- all were put
-pub all_added : (all left : List CheckedTable) (tables : Tables) → left ≡ [] → IsUnderWay all left tables → store_of tables ≡ map noted_table all
-all_added all left tables none so = sym (append-nil (store_of tables)) ∙ ap (λ (l : List CheckedTable). store_of tables ++ map noted_table l) (sym none) ∙ so.store
 
 -- ---- what is told of the half
 
@@ -119,3 +120,13 @@ pub all_inside : (end : ℕ) (cs : List CheckedTable) (result : Result PagedTabl
     → IfOk result (λ tables. (size : ℕ) → end ≤ size → LieInside size tables.tables)
 all_inside end cs (Ok tables) below lie = λ size le. lie size (lie_below end size le cs below)
 all_inside end cs (Err e) below lie = tt
+
+stand_outside : (a : Active) (from end : ℕ) (cs : List CheckedTable) → 8192 * a.pages ≤ a.region.at → (a.region.at ≤ from) ⊎ (end + 8192 * a.pages ≤ a.region.at) → AllByRecursion (LiesBelow a.region.at) cs → AllByRecursion (LiesBehind (pages_of a).at) cs → AllByRecursion (StandsOutside from end) cs
+stand_outside a from end [] fits away below behind = tt
+stand_outside a from end (c ∷ cs) fits away below behind =
+    (half_outside a from end (opened_of c) fits away (record { first = behind.0; last = omega (arith, fits, below.0) }), stand_outside a from end cs fits away below.1 behind.1)
+
+pub all_apart : (a : Active) (cs : List CheckedTable) (result : Result PagedTables CheckError) → 8192 * a.pages ≤ a.region.at → AllByRecursion (LiesBelow a.region.at) cs → AllByRecursion (LiesBehind (pages_of a).at) cs → IfOk result (λ tables. (from end : ℕ) → AllByRecursion (StandsOutside from end) cs → LieOutside from end tables.tables)
+    → IfOk result (λ tables. (from end : ℕ) → (a.region.at ≤ from) ⊎ (end + 8192 * a.pages ≤ a.region.at) → LieOutside from end tables.tables)
+all_apart a cs (Ok tables) fits below behind lie = λ from end away. lie from end (stand_outside a from end cs fits away below behind)
+all_apart a cs (Err e) fits below behind lie = tt

@@ -9,23 +9,29 @@ use Rattle.table_map.specs.Stored.{Places}
 use Rattle.half_store.specs.Active.{Store as Opened}
 use Rattle.half_store.specs.Layout.{half_len, offset_of, other_than}
 use Rattle.half_store.specs.Writing.{from_of, half_bytes_of, half_of, next_of}
+use Rattle.half_store.specs.declared.active.Active.{Active}
 use Rattle.half_store.specs.declared.layout.Half.{Half}
 use Rattle.half_store.specs.declared.image.ImageWriter.{ImageWriter}
 use Rattle.checkpoint_writer.specs.Adding.{end_of_half}
 use Rattle.checkpoint_writer.proofs.MergedRows.{at_moves, many_keys}
-use Rattle.paged_tables.specs.Stored.{IsOnPages, LiesInside, Stored}
-use Rattle.paged_tables.specs.TablesByName.{AreOnPages, LieInside, Tables, created_of}
+use Rattle.store_check.specs.Half.{pages_of}
+use Rattle.paged_tables.specs.Stored.{IsOnPages, LiesInside, LiesOutside, Stored}
+use Rattle.paged_tables.specs.TablesByName.{AreOnPages, LieInside, LieOutside, Tables, created_of}
 use Rattle.paged_tables.proofs.Pages.{all_kept}
-use Rattle.paged_checkpoints.specs.Apart.{AreReadable, IsReadable, LieOutside, LiesOutside, StandApart, other_half}
+use Rattle.paged_checkpoints.specs.Apart.{AreReadable, IsReadable, LiesAmong, StandApart, other_half}
 
 -- ---- outside of what is written
+
+-- pages of a half lie outside of what ends in front of its pages or begins behind them
+pub half_outside : (a : Active) (from end : ℕ) (t : Stored) → 8192 * a.pages ≤ a.region.at → (a.region.at ≤ from) ⊎ (end + 8192 * a.pages ≤ a.region.at) → LiesAmong (pages_of a) t.places → LiesOutside from end t
+half_outside a from end t fits away among = ⊎_elim (λ before. inl (omega (arith, fits, before, among.last))) (λ behind. inr (omega (arith, behind, among.first))) away
 
 pub still_outside : (from end low high : ℕ) (tables : Tables) → from ≤ low → high ≤ end → LieOutside from end tables → LieOutside low high tables
 still_outside from end low high [] le ge all = tt
 still_outside from end low high (e ∷ es) le ge all =
     (⊎_elim (λ before. inl (omega (arith, le, before))) (λ behind. inr (omega (arith, ge, behind))) all.0, still_outside from end low high es le ge all.1)
 
-one_moves : (old new : List ℕ) (from n : ℕ) (t : Stored) → Torn from n old new → LiesOutside from (from + n) t.places → IsOnPages old t → IsOnPages new t
+one_moves : (old new : List ℕ) (from n : ℕ) (t : Stored) → Torn from n old new → LiesOutside from (from + n) t → IsOnPages old t → IsOnPages new t
 one_moves old new from n t torn away is =
     let many : length t.places.keys ≡ length is.pages = ap length is.stand.first ∙ many_keys (row_form t.schema) is.pages in
     record {
@@ -77,7 +83,7 @@ begun_readable modelled old mid store kept w tables lent is half bytes some torn
     let end : ℕ = from + half_len (length old) in
     let here : from_of w ≡ from = ap (λ (n : ℕ). offset_of n (half_of w)) bytes ∙ ap (λ (h : Half). offset_of (half_len (length old)) h) half in
     let stand : AreOnPages old (created_of tables) = all_kept (IsOnPages old) tables so.stand in
-    let apart : LieOutside from end (created_of tables) = all_kept (λ (t : Stored). LiesOutside from end t.places) tables so.apart in
+    let apart : LieOutside from end (created_of tables) = all_kept (LiesOutside from end) tables so.apart in
     subst (λ (l : Tables). AreReadable modelled mid kept w l) (sym is) (record {
       modelled_disk = so.modelled_disk;
       read = read;

@@ -1,5 +1,5 @@
 -- Tables whose pages stand in an image that was written.
-use Rattle.std.proofs.Common.{◌≡◌, ℕ, ◌+◌, ◌-◌, ◌*◌, ◌≤◌, Bool, true, false, cond, Some, None, List, [], ◌∷◌, length, map, refl, sym, ap, subst, ◌∙◌, arith}
+use Rattle.std.proofs.Common.{◌≡◌, ◌⊎◌, ℕ, ◌+◌, ◌-◌, ◌*◌, ◌≤◌, Bool, true, false, cond, Some, None, List, [], ◌∷◌, length, map, refl, sym, ap, subst, ◌∙◌, arith}
 use Rattle.std.specs.List.{AllByRecursion}
 use Rattle.drda_words.specs.Place.{part}
 use Rattle.drda_disk.proofs.Parts.{part-part}
@@ -26,10 +26,11 @@ use Rattle.store_check.specs.Half.{pages_of as pages_of_active}
 use Rattle.store_check.specs.Written.{IsWritten}
 use Rattle.checkpoints.specs.Laying.{laid_at, laid_from, rows_under}
 use Rattle.checkpoints.specs.Room.{pages_of_table}
-use Rattle.paged_tables.specs.Stored.{IsOnPages, LiesInside, Stored, laid_anew, shown, table_in}
+use Rattle.paged_tables.specs.Stored.{IsOnPages, LiesInside, LiesOutside, Stored, laid_anew, shown, table_in}
 use Rattle.paged_tables.specs.TablesByName.{AreLaid, Tables, created_of, store_of}
 use Rattle.paged_checkpoints.specs.Apart.{LiesAmong, LiesFrom}
 use Rattle.paged_checkpoints.specs.Laying.{IsUnder, all_shown, created_entry, places_from}
+use Rattle.paged_checkpoints.proofs.Beside.{half_outside}
 use Rattle.paged_checkpoints.proofs.Laid.{lie_wider}
 
 -- ---- tables that were laid
@@ -91,11 +92,6 @@ lie_among w store first catalogue a places behind same lie =
     let count : a.pages ≡ pages_of w = ap (λ (s : Opened). s.header.pages) same in
     lie_wider (from_of w + 8192) (next_of w) (a.region.at - 8192 * a.pages) (page_at (a.region.at - 8192 * a.pages) a.pages) places (omega (arith, behind.begins, offset)) (omega (arith, behind.begins, offset, count)) lie
 
-pub front_there : (w : ImageWriter) (store : Opened) (first catalogue : ℕ) (a : Active) → IsBehindPages (half_bytes_of w) a → active_store a ≡ switched store w first catalogue → a.region.at ≤ from_of w + half_bytes_of w
-front_there w store first catalogue a behind same =
-    let offset : offset_of (half_bytes_of w) a.half ≡ from_of w = ap (λ (s : Opened). offset_of (half_bytes_of w) s.half) same in
-    omega (arith, behind.begins, behind.some, offset)
-
 -- ---- the tables that are created
 
 shown_step : (b : Bool) (e : List ℕ × Stored) (es : Tables) (more : Store) → e.1.is_created ≡ b → more ≡ all_shown es → with_row e.0 (shown e.1) more ≡ all_shown (cond b (e ∷ es) es)
@@ -108,8 +104,18 @@ shown_created (e ∷ es) = shown_step e.1.is_created e (created_of es) (store_of
 
 -- ---- where they lie
 
-pub laid_inside : (from end size : ℕ) (places : List Places) (tables : Tables) → length places ≡ length tables → end ≤ size → AllByRecursion (LiesFrom from end) places → AreLaid (LiesInside size) places tables
-laid_inside from end size [] [] count le lie = tt
-laid_inside from end size [] (e ∷ es) count le lie = absurd (omega (arith, count))
-laid_inside from end size (p ∷ ps) [] count le lie = absurd (omega (arith, count))
-laid_inside from end size (p ∷ ps) (e ∷ es) count le lie = (omega (arith, le, lie.0.last), laid_inside from end size ps es (omega (arith, count)) le lie.1)
+module _ (P : Stored → Type 0) (low high : ℕ) (one : (p : Places) (t : Stored) → LiesFrom low high p → P (laid_anew p t)) where
+  all_lie : (places : List Places) (tables : Tables) → length places ≡ length tables → AllByRecursion (LiesFrom low high) places → AreLaid P places tables
+  all_lie [] [] count lie = tt
+  all_lie [] (e ∷ es) count lie = absurd (omega (arith, count))
+  all_lie (p ∷ ps) [] count lie = absurd (omega (arith, count))
+  all_lie (p ∷ ps) (e ∷ es) count lie = (one p e.1 lie.0, all_lie ps es (omega (arith, count)) lie.1)
+
+-- among the pages of a half: in front of its journal
+module _ (a : Active) (fits : 8192 * a.pages ≤ a.region.at) (places : List Places) (tables : Tables) (count : length places ≡ length tables) (among : AllByRecursion (LiesAmong (pages_of_active a)) places) where
+  pub laid_inside : AreLaid (LiesInside a.region.at) places tables
+  laid_inside = all_lie (LiesInside a.region.at) (pages_of_active a).at (page_at (pages_of_active a).at a.pages) (λ p t is. omega (arith, fits, is.last)) places tables count among
+
+  -- and outside of what ends in front of its pages or begins behind them
+  pub laid_apart : (from end : ℕ) → (a.region.at ≤ from) ⊎ (end + 8192 * a.pages ≤ a.region.at) → AreLaid (LiesOutside from end) places tables
+  laid_apart from end away = all_lie (LiesOutside from end) (pages_of_active a).at (page_at (pages_of_active a).at a.pages) (λ p t is. half_outside a from end (laid_anew p t) fits away is) places tables count among

@@ -1,6 +1,5 @@
 -- Tables whose pages lie apart from the half that is written.
-use Rattle.std.specs.Prelude.{◌⊎◌, ◌≤◌, ℕ, ◌+◌, ◌*◌, Bool, IsTrue, List, length}
-use Rattle.std.specs.List.{AllByRecursion}
+use Rattle.std.specs.Prelude.{◌≤◌, ℕ, ◌+◌, ◌*◌, Bool, IsTrue, List, length}
 use Rattle.half_store.specs.Active.{Store}
 use Rattle.half_store.specs.Layout.{half_len, offset_of, other_than}
 use Rattle.half_store.specs.Writing.{from_of}
@@ -8,17 +7,9 @@ use Rattle.half_store.specs.declared.image.ImageWriter.{ImageWriter}
 use Rattle.checkpoint_writer.specs.Adding.{end_of_half}
 use Rattle.row_pages.specs.Keeping.{AreRead, Kept}
 use Rattle.table_map.specs.Stored.{Places}
-use Rattle.paged_tables.specs.Stored.{IsOnPages, Stored}
-use Rattle.paged_tables.specs.TablesByName.{AreOnPages, Tables}
+use Rattle.paged_tables.specs.Stored.{IsOnPages, LiesOutside, Stored}
+use Rattle.paged_tables.specs.TablesByName.{AreOnPages, LieOutside, Tables}
 use Rattle.store_check.specs.Half.{HalfPages, page_at}
-
--- pages end in front of an offset, or begin behind another one
-abbrev pub LiesOutside : ℕ → ℕ → Places → Type 0
-LiesOutside from end places = (places.at + 8192 * length places.keys ≤ from) ⊎ (end ≤ places.at)
-
--- those of each table do
-abbrev pub LieOutside : ℕ → ℕ → Tables → Type 0
-LieOutside from end tables = AllByRecursion (λ (e : List ℕ × Stored). LiesOutside from end e.1.places) tables
 
 -- the offset of a store's half that is not active, in an image of this size
 abbrev pub other_half : ℕ → Store → ℕ
@@ -48,7 +39,7 @@ pub record IsReadable (modelled : Bool) (file : List ℕ) (kept : Kept) (w : Ima
   pub modelled_disk : IsTrue modelled
   pub read : AreRead kept file
   pub stand : IsOnPages file t
-  pub apart : LiesOutside (from_of w) (end_of_half w) t.places
+  pub apart : LiesOutside (from_of w) (end_of_half w) t
 
 -- those of all tables can
 pub record AreReadable (modelled : Bool) (file : List ℕ) (kept : Kept) (w : ImageWriter) (tables : Tables) : Type 0 where

@@ -3,7 +3,7 @@ use Rattle.std.specs.Prelude.{ℕ, List, Result, Ok, Err}
 use Rattle.std.specs.String.{string_bytes}
 use Rattle.tables.specs.Tables.{Table}
 use Rattle.paged_tables.specs.PagedTables.{store_in}
-use Rattle.paged_tables.specs.Stored.{IsOnPages, Stored, opened, table_in}
+use Rattle.paged_tables.specs.Stored.{IsOnPages, LiesOutside, Stored, opened, table_in}
 use Rattle.paged_tables.specs.TablesByName.{AreOnPages}
 use Rattle.paged_tables.specs.declared.store.PagedTables.{PagedTables}
 use Rattle.store_check.specs.Checkpoint.{HasCheckpoint, forms}
@@ -35,3 +35,7 @@ noted_table checked = (name_in checked, table_in (opened_of checked))
 -- its pages stand in a file with these bytes, and have those rows
 abbrev pub StandsIn : List ℕ → CheckedTable → Type 0
 StandsIn file checked = IsOnPages file (opened_of checked)
+
+-- its pages end in front of an offset, or begin behind another one
+abbrev pub StandsOutside : ℕ → ℕ → CheckedTable → Type 0
+StandsOutside from end checked = LiesOutside from end (opened_of checked)

@@ -1,5 +1,5 @@
 //! Opening a checkpoint.
-ghost use Rattle.std.specs.Prelude.{◌≡◌, ◌*◌, ◌^◌, ◌≤◌, ◌++◌, ◌∷◌, [], ℕ, List, true, IsTrue, IfOk, OnOk, length, map};
+ghost use Rattle.std.specs.Prelude.{◌≡◌, ◌⊎◌, ◌+◌, ◌*◌, ◌^◌, ◌≤◌, ◌++◌, ◌∷◌, [], ℕ, List, true, IsTrue, IfOk, OnOk, length, map};
 ghost use Rattle.std.specs.List.{AllByRecursion};
 ghost use Rattle.drda_disk.specs.Disk.{Stays};
 ghost use Rattle.row_pages.specs.Keeping.{AreRead};
@@ -11,8 +11,8 @@ ghost use Rattle.store_check.specs.Half.{LiesBelow, NotesTable, entry_in, pages_
 ghost use Rattle.store_check.specs.Listed.{names_rise};
 ghost use Rattle.checkpoints.specs.Reading.{DamagedOnly};
 ghost use Rattle.paged_tables.specs.PagedTables.{store_in};
-ghost use Rattle.paged_tables.specs.TablesByName.{AddsPages, AreOnPages, ComesLast, LieInside};
-ghost use Rattle.paged_checkpoints.specs.Opening.{OpensCheckpoint, StandsIn, name_in, noted_table, opened_of};
+ghost use Rattle.paged_tables.specs.TablesByName.{AddsPages, AreOnPages, ComesLast, LieInside, LieOutside};
+ghost use Rattle.paged_checkpoints.specs.Opening.{OpensCheckpoint, StandsIn, StandsOutside, name_in, noted_table, opened_of};
 
 use checkpoint_writer::StoredTable;
 use drda_disk::Disk;
@@ -68,6 +68,7 @@ fn add_tables(
     ensures tables { IfOk result (λ tables. store_in tables ≡ map noted_table checked.items) }
     ensures stand { IfOk result (λ tables. (file : List ℕ) → AllByRecursion (StandsIn file) checked.items → AreOnPages file tables.tables) }
     ensures inside { IfOk result (λ tables. (size : ℕ) → AllByRecursion (LiesBelow size) checked.items → LieInside size tables.tables) }
+    ensures apart { IfOk result (λ tables. (from end : ℕ) → AllByRecursion (StandsOutside from end) checked.items → LieOutside from end tables.tables) }
     ensures damaged { is_store (map noted_table checked.items) ≡ true → DamagedOnly ⊥ result }
     ensures cause { (n : ℕ) → CountsCheck result n n }
 {
@@ -95,8 +96,10 @@ pub fn open_checkpoint<D: Disk>(
     requires inside { active.now.region.at ≤ length (D.life disk.old).seen }
     ensures told { IsTrue D.is_modelled → AreRead cache.old (D.life disk.old).seen → OpensCheckpoint (D.life disk.old).seen (pages_of active.now) result }
     ensures store { IfOk result (λ tables. is_store (store_in tables) ≡ true) }
-    // The pages of all tables end in front of the half's journal, and so inside of the disk.
+    // The pages of all tables end in front of the half's journal, and so inside of the disk. They are the half's, and so
+    // they lie outside of what ends in front of its pages or begins behind them.
     ensures inside { IfOk result (λ tables. (size : ℕ) → active.now.region.at ≤ size → LieInside size tables.tables) }
+    ensures apart { IfOk result (λ tables. (from end : ℕ) → (active.now.region.at ≤ from) ⊎ (end + 8192 * active.now.pages ≤ active.now.region.at) → LieOutside from end tables.tables) }
     ensures kept { IsTrue D.is_modelled → AreRead cache.old (D.life disk.old).seen → AreRead cache.new (D.life disk.new).seen }
     ensures stays { Stays (D.life disk.old) (D.life disk.new) }
     ensures cause { CountsCheck result (D.life disk.old).faults (D.life disk.new).faults }

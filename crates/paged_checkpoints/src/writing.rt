@@ -1,5 +1,5 @@
 //! Writing a checkpoint.
-ghost use Rattle.std.specs.Prelude.{◌≡◌, ◌+◌, ◌*◌, ◌≤◌, ℕ, List, true, IsTrue, IfOk, length};
+ghost use Rattle.std.specs.Prelude.{◌≡◌, ◌⊎◌, ◌+◌, ◌*◌, ◌≤◌, ℕ, List, true, IsTrue, IfOk, length};
 ghost use Rattle.std.specs.List.{AllByRecursion};
 ghost use Rattle.drda_disk.specs.Disk.{LeavesOnly, Now};
 ghost use Rattle.drda_disk.specs.Region.{end_of};
@@ -16,7 +16,7 @@ ghost use Rattle.store_check.specs.Half.{pages_of as pages_of_active};
 ghost use Rattle.checkpoints.specs.Moment.{GoesOn, IsAnew, IsOld, Moment, Rests};
 ghost use Rattle.checkpoints.specs.Room.{TellsRoom, need_of};
 ghost use Rattle.paged_tables.specs.PagedTables.{store_in};
-ghost use Rattle.paged_tables.specs.Stored.{IsOnPages, LiesInside};
+ghost use Rattle.paged_tables.specs.Stored.{IsOnPages, LiesInside, LiesOutside};
 ghost use Rattle.paged_tables.specs.TablesByName.{AreLaid, LieInside, created_of};
 ghost use Rattle.paged_checkpoints.specs.Apart.{AreReadable, LiesAmong, StandApart};
 ghost use Rattle.paged_checkpoints.specs.Laying.{all_shown};
@@ -109,7 +109,8 @@ fn write_half<D: Disk>(
         AreLaid (IsOnPages (D.life disk.new).seen) r.pages.items (created_of tables.now.tables)) }
     ensures goes_on { OnRefused result (Rests D.is_modelled (D.life disk.old) (store_of active.now) → GoesOn (D.life disk.new) (D.life disk.old).seen (store_of active.now)) }
     ensures count { IfOk result (λ r. length r.pages.items ≡ length (store_in tables.now)) }
-    ensures lie { IfOk result (λ r. AreLaid (LiesInside (length (D.life disk.new).seen)) r.pages.items (created_of tables.now.tables)) }
+    ensures inside_half { IfOk result (λ r. AreLaid (LiesInside r.switched.active.region.at) r.pages.items (created_of tables.now.tables)) }
+    ensures apart { IfOk result (λ r. (from end : ℕ) → (r.switched.active.region.at ≤ from) ⊎ (end + 8192 * r.switched.active.pages ≤ r.switched.active.region.at) → AreLaid (LiesOutside from end) r.pages.items (created_of tables.now.tables)) }
     ensures among { IfOk result (λ r. AllByRecursion (LiesAmong (pages_of_active r.switched.active)) r.pages.items) }
     ensures pages { IfOk result (λ r. 8192 * r.switched.active.pages ≤ r.switched.active.region.at) }
     ensures front { IfOk result (λ r. r.switched.active.region.at ≤ length (D.life disk.new).seen) }
@@ -183,9 +184,11 @@ pub fn write_checkpoint<D: Disk>(
     ensures stand { IfOk result (λ r. Rests D.is_modelled (D.life disk.old) (store_of active.now) → StandApart D.is_modelled (D.life disk.old).seen (store_of active.now) tables.now.tables →
         AreLaid (IsOnPages (D.life disk.new).seen) r.pages.items (created_of tables.now.tables)) }
     ensures goes_on { OnRefused result (Rests D.is_modelled (D.life disk.old) (store_of active.now) → GoesOn (D.life disk.new) (D.life disk.old).seen (store_of active.now)) }
-    // One list of pages for each table that is created, all of them among the pages of the new half.
+    // One list of pages for each table that is created, all of them among the pages of the new half: they end in front of
+    // its journal, and lie outside of what ends in front of its pages or begins behind them.
     ensures count { IfOk result (λ r. length r.pages.items ≡ length (store_in tables.now)) }
-    ensures lie { IfOk result (λ r. AreLaid (LiesInside (length (D.life disk.new).seen)) r.pages.items (created_of tables.now.tables)) }
+    ensures inside_half { IfOk result (λ r. AreLaid (LiesInside r.switched.active.region.at) r.pages.items (created_of tables.now.tables)) }
+    ensures apart { IfOk result (λ r. (from end : ℕ) → (r.switched.active.region.at ≤ from) ⊎ (end + 8192 * r.switched.active.pages ≤ r.switched.active.region.at) → AreLaid (LiesOutside from end) r.pages.items (created_of tables.now.tables)) }
     ensures among { IfOk result (λ r. AllByRecursion (LiesAmong (pages_of_active r.switched.active)) r.pages.items) }
     ensures pages { IfOk result (λ r. 8192 * r.switched.active.pages ≤ r.switched.active.region.at) }
     ensures front { IfOk result (λ r. r.switched.active.region.at ≤ length (D.life disk.new).seen) }

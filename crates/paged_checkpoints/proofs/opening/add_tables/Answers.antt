@@ -2,7 +2,7 @@
 use Rattle.std.proofs.Common.{rules, ◌∙◌, ℕ, List, length, sym, ap, subst, arith}
 use Rattle.store_check.specs.declared.half.CheckedTable.{CheckedTable}
 use Rattle.checkpoints.proofs.Left.{no_items}
-use Rattle.paged_checkpoints.proofs.Behind.{IsUnderWay, all_added, none_added, one_added}
+use Rattle.paged_checkpoints.proofs.Behind.{IsUnderWay, none_added, one_added}
 use Rattle.paged_checkpoints.proofs.opening.add_tables.Goals as goal
 
 pub loop-table-init : goal.loop-table-init
@@ -18,3 +18,6 @@ returns-clause-stand c file stand = (c.loop-table.invariant.stand file stand).0
 
 pub returns-clause-inside : goal.returns-clause-inside
 returns-clause-inside c size below = (c.loop-table.invariant.inside size below).0
+
+pub returns-clause-apart : goal.returns-clause-apart
+returns-clause-apart c from end apart = (c.loop-table.invariant.apart from end apart).0

@@ -4,7 +4,7 @@ use Rattle.tables.specs.View.{is_store}
 use Rattle.store_check.specs.Checkpoint.{store_on}
 use Rattle.store_check.specs.Half.{pages_of}
 use Rattle.paged_checkpoints.specs.Opening.{noted_table}
-use Rattle.paged_checkpoints.proofs.Behind.{all_inside, all_opened}
+use Rattle.paged_checkpoints.proofs.Behind.{all_apart, all_inside, all_opened}
 use Rattle.paged_checkpoints.proofs.Noted.{all_same, all_stand}
 use Rattle.paged_checkpoints.proofs.opening.open_checkpoint.Goals as goal
 
@@ -20,3 +20,6 @@ returns-clause-told g c honest read =
 
 pub returns-clause-inside : goal.returns-clause-inside
 returns-clause-inside g c = all_inside c.args.active.now.region.at c.in_ok-tables.tables.items c.add_tables.result c.in_ok-tables.ensures.inside c.add_tables.ensures.inside
+
+pub returns-clause-apart : goal.returns-clause-apart
+returns-clause-apart g c = all_apart c.args.active.now c.in_ok-tables.tables.items c.add_tables.result c.requires.pages c.in_ok-tables.ensures.inside c.in_ok-tables.ensures.behind c.add_tables.ensures.apart

@@ -17,7 +17,7 @@ use Rattle.checkpoints.specs.Room.{need_of}
 use Rattle.checkpoints.proofs.Ending.{anew_before, begun_leaves, begun_old, old_before, some_half}
 use Rattle.paged_checkpoints.specs.Laying.{all_shown, created_entry}
 use Rattle.paged_checkpoints.proofs.Beside.{begun_readable}
-use Rattle.paged_checkpoints.proofs.Framed.{laid_inside, shown_created}
+use Rattle.paged_checkpoints.proofs.Framed.{laid_apart, laid_inside, shown_created}
 use Rattle.paged_checkpoints.proofs.writing.write_half.Goals as goal
 
 pub write_image-requires-clause-tables : goal.write_image-requires-clause-tables
@@ -216,11 +216,13 @@ returns-in-Ok-clause-count g c =
     let shown : all_shown c.lend.result ≡ store_in c.args.tables.now = ap all_shown c.lend.ensures.tables ∙ sym (shown_created c.args.tables.now.tables) in
     c.in-Ok.ensures.count ∙ sym (length-map c.lend.result created_entry) ∙ ap length shown
 
-pub returns-in-Ok-clause-lie : goal.returns-in-Ok-clause-lie
-returns-in-Ok-clause-lie g c =
-    let half = pages_of c.in-Ok.relaid.switched.active in
-    laid_inside half.at (page_at half.at half.count) (length (g.D.Disk.life c.write_image.new.disk).seen) c.in-Ok.relaid.pages.items (created_of c.args.tables.now.tables)
-    (c.in-Ok.ensures.count ∙ ap length c.lend.ensures.tables) (omega (arith, c.in-Ok.ensures.pages, c.in-Ok.ensures.front, c.in_ok-image.ensures.inside, c.write_image.ensures.size)) c.in-Ok.ensures.among
+pub returns-in-Ok-clause-inside_half : goal.returns-in-Ok-clause-inside_half
+returns-in-Ok-clause-inside_half g c =
+    laid_inside c.in-Ok.relaid.switched.active c.in-Ok.ensures.pages c.in-Ok.relaid.pages.items (created_of c.args.tables.now.tables) (c.in-Ok.ensures.count ∙ ap length c.lend.ensures.tables) c.in-Ok.ensures.among
+
+pub returns-in-Ok-clause-apart : goal.returns-in-Ok-clause-apart
+returns-in-Ok-clause-apart g c =
+    laid_apart c.in-Ok.relaid.switched.active c.in-Ok.ensures.pages c.in-Ok.relaid.pages.items (created_of c.args.tables.now.tables) (c.in-Ok.ensures.count ∙ ap length c.lend.ensures.tables) c.in-Ok.ensures.among
 
 pub returns-in-Ok-clause-full : goal.returns-in-Ok-clause-full
 returns-in-Ok-clause-full g c so =

@@ -9,7 +9,7 @@ use Rattle.table_map.specs.Stored.{Places}
 use Rattle.checkpoints.proofs.Ending.{image_anew, image_leaves, pages_leave, refused_so, refused_still, still_old}
 use Rattle.paged_checkpoints.specs.Apart.{LiesFrom}
 use Rattle.paged_checkpoints.specs.Laying.{all_shown}
-use Rattle.paged_checkpoints.proofs.Framed.{anew_same, front_there, lie_among}
+use Rattle.paged_checkpoints.proofs.Framed.{anew_same, lie_among}
 use Rattle.paged_checkpoints.proofs.writing.write_image.Goals as goal
 
 pub returns-in_err-written-clause-any_moment : goal.returns-in_err-written-clause-any_moment
