@@ -1,5 +1,5 @@
 -- A table over its pages that is laid anew.
-use Rattle.std.proofs.Common.{◌≡◌, ℕ, ◌+◌, ◌*◌, ◌<◌, Bool, true, false, List, [], ◌∷◌, length, cond, refl, sym, ap, ap₂, subst, ◌∙◌, arith, eqb-true}
+use Rattle.std.proofs.Common.{◌≡◌, ℕ, ◌+◌, ◌<◌, Bool, true, false, List, [], ◌∷◌, length, cond, refl, sym, ap, ap₂, subst, ◌∙◌, arith, eqb-true}
 use Rattle.std.specs.Prelude.{◌==◌}
 use Rattle.std.specs.List.{AllByRecursion}
 use Rattle.std.specs.Map.{values_of}
@@ -10,12 +10,11 @@ use Rattle.key_map.specs.Overlay.{changes_of}
 use Rattle.key_map.specs.RowForm.{RowsHaveTheirForms, row_form}
 use Rattle.row_pages.specs.Keeping.{Kept}
 use Rattle.row_pages.specs.Laying.{IsShort, laid, rows_over}
-use Rattle.tables.specs.Tables.{Table}
 use Rattle.table_map.specs.Keyed.{first_keys, keyed_rows}
 use Rattle.table_map.specs.Stored.{Places, IsStored as StandAt}
 use Rattle.table_map.specs.Table.{rows_of_table, without_keys}
 use Rattle.table_map.specs.Table.{Table as Mapped}
-use Rattle.half_store.specs.Writing.{from_of, next_of, pages_of}
+use Rattle.half_store.specs.Writing.{from_of, pages_of}
 use Rattle.half_store.specs.declared.image.ImageWriter.{ImageWriter}
 use Rattle.checkpoint_writer.specs.Catalogue.{Entry}
 use Rattle.checkpoint_writer.specs.Stored.{HaveKeys, IsImageOf, LieApart}

@@ -1,13 +1,13 @@
 -- Tables that are put one behind another.
-use Rattle.std.proofs.Common.{◌≡◌, ◌⊎◌, ℕ, ◌+◌, ◌*◌, true, false, ◌&&◌, List, [], ◌∷◌, ◌++◌, Result, Ok, Err, IfOk, ◌≤◌, map, arith, refl, sym, ap, subst, ◌∙◌, append_assoc, append-nil, Ordering, Less, Equal, Greater}
+use Rattle.std.proofs.Common.{◌≡◌, ◌⊎◌, ℕ, ◌+◌, ◌*◌, true, false, ◌&&◌, List, [], ◌∷◌, ◌++◌, Result, Ok, Err, IfOk, ◌≤◌, map, arith, refl, sym, ap, subst, ◌∙◌, append_assoc, Ordering, Less, Equal, Greater}
 use Rattle.std.specs.List.{AllByRecursion, list_all}
 use Rattle.std.specs.Map.{keys_of}
 use Rattle.std.specs.Ordering.{match_ordering, nat_cmp}
 use Rattle.std.specs.Cmp.Lexicographic.{nat_list_cmp_total, slice_cmp}
 use Rattle.std.proofs.lemmas.Bool.{and_parts}
 use Rattle.drda_words.specs.Order.{rises}
-use Rattle.row_values.specs.Schema.{Schema, is_name}
-use Rattle.row_values.proofs.ValueLaws.{first_true, second_true}
+use Rattle.row_values.specs.Schema.{is_name}
+use Rattle.row_values.proofs.ValueLaws.{first_true}
 use Rattle.key_map.specs.Slots.{by_bytes}
 use Rattle.tables.specs.Tables.{Store, Table}
 use Rattle.tables.specs.View.{is_store, is_table}

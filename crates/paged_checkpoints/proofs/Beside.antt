@@ -1,11 +1,9 @@
 -- Tables that stay where they are while another half is written.
-use Rattle.std.proofs.Common.{◌≡◌, ◌⊎◌, inl, inr, ⊎_elim, ℕ, ◌+◌, ◌-◌, ◌*◌, ◌≤◌, Bool, List, [], ◌∷◌, length, sym, ap, ap₂, subst, ◌∙◌, arith}
+use Rattle.std.proofs.Common.{◌≡◌, ◌⊎◌, inl, inr, ⊎_elim, ℕ, ◌+◌, ◌-◌, ◌*◌, ◌≤◌, Bool, List, [], ◌∷◌, length, sym, ap, subst, ◌∙◌, arith}
 use Rattle.std.specs.Prelude.{IsTrue}
-use Rattle.std.specs.List.{AllByRecursion}
 use Rattle.drda_disk.specs.Disk.{Torn}
 use Rattle.key_map.specs.RowForm.{row_form}
 use Rattle.row_pages.specs.Keeping.{AreRead, Kept}
-use Rattle.table_map.specs.Stored.{Places}
 use Rattle.half_store.specs.Active.{Store as Opened}
 use Rattle.half_store.specs.Layout.{half_len, offset_of, other_than}
 use Rattle.half_store.specs.Writing.{from_of, half_bytes_of, half_of, next_of}

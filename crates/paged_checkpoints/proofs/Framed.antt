@@ -1,22 +1,21 @@
 -- Tables whose pages stand in an image that was written.
-use Rattle.std.proofs.Common.{◌≡◌, ◌⊎◌, ℕ, ◌+◌, ◌-◌, ◌*◌, ◌≤◌, Bool, true, false, cond, Some, None, List, [], ◌∷◌, length, map, refl, sym, ap, subst, ◌∙◌, arith}
+use Rattle.std.proofs.Common.{◌≡◌, ◌⊎◌, ℕ, ◌+◌, ◌-◌, ◌*◌, ◌≤◌, Bool, true, false, cond, Some, None, List, [], ◌∷◌, length, refl, sym, ap, subst, ◌∙◌, arith}
 use Rattle.std.specs.List.{AllByRecursion}
 use Rattle.drda_words.specs.Place.{part}
 use Rattle.drda_disk.proofs.Parts.{part-part}
 use Rattle.key_map.specs.RowForm.{row_form}
 use Rattle.key_map.specs.Slots.{with_row}
 use Rattle.row_pages.specs.Page.{IsPage}
-use Rattle.row_pages.specs.Laying.{laid, rows_over}
+use Rattle.row_pages.specs.Laying.{laid}
 use Rattle.row_pages.specs.declared.page.PageKind.TheVariants as kind
 use Rattle.tables.specs.Tables.{Store}
-use Rattle.table_map.specs.Keyed.{keyed_rows}
 use Rattle.table_map.specs.Stored.{AreAt, Places}
 use Rattle.table_map.specs.Table.{without_keys}
 use Rattle.half_store.specs.Layout.{offset_of}
 use Rattle.half_store.specs.Opened.{IsBehindPages, store_of as active_store}
 use Rattle.half_store.specs.Active.{Store as Opened}
 use Rattle.half_store.specs.Switching.{switched}
-use Rattle.half_store.specs.Writing.{from_of, half_bytes_of, half_of, next_of, pages_of}
+use Rattle.half_store.specs.Writing.{from_of, half_bytes_of, next_of, pages_of}
 use Rattle.half_store.specs.declared.active.Active.{Active}
 use Rattle.half_store.specs.declared.image.ImageWriter.{ImageWriter}
 use Rattle.checkpoint_writer.proofs.MergedRows.{many_keys}

@@ -1,12 +1,9 @@
 -- Tables that are laid one behind another.
-use Rattle.std.proofs.Common.{◌≡◌, ℕ, ◌+◌, ◌-◌, ◌≤◌, Bool, true, List, [], ◌∷◌, ◌++◌, length, map, refl, sym, ap, ap₂, subst, ◌∙◌, arith, append_assoc, append-nil}
-use Rattle.std.specs.Prelude.{IsTrue}
+use Rattle.std.proofs.Common.{◌≡◌, ℕ, ◌+◌, ◌≤◌, Bool, true, List, [], ◌∷◌, ◌++◌, sym, ap, ap₂, subst, ◌∙◌, arith, append_assoc}
 use Rattle.std.specs.List.{AllByRecursion, list_all}
 use Rattle.drda_disk.specs.Disk.{Torn}
 use Rattle.row_values.specs.Schema.{is_name}
 use Rattle.row_values.proofs.ValueLaws.{first_true, second_true}
-use Rattle.tables.specs.Tables.{Store, Table}
-use Rattle.tables.specs.View.{is_table}
 use Rattle.table_map.specs.Stored.{Places}
 use Rattle.half_store.specs.Writing.{from_of, next_of, pages_of}
 use Rattle.half_store.specs.declared.image.ImageWriter.{ImageWriter}

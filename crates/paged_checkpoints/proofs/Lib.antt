@@ -4,3 +4,4 @@ mod Beside
 mod Anew
 mod Laid
 mod Framed
+mod Begun

@@ -1,16 +1,15 @@
 -- Tables whose rows were noted.
-use Rattle.std.proofs.Common.{◌≡◌, ℕ, true, List, [], ◌∷◌, map, refl, sym, ap, ap₂, subst, ◌∙◌}
+use Rattle.std.proofs.Common.{◌≡◌, ℕ, true, List, [], ◌∷◌, map, refl, ap, ap₂, ◌∙◌}
 use Rattle.std.specs.List.{AllByRecursion}
 use Rattle.row_values.specs.Schema.{Schema, is_schema}
 use Rattle.row_values.specs.Key.{row_key}
 use Rattle.key_map.specs.RowForm.{row_form}
-use Rattle.row_pages.specs.Laying.{rows_over}
 use Rattle.table_map.specs.Keyed.{keyed_rows}
 use Rattle.table_map.specs.Stored.{Places}
 use Rattle.tables.specs.Tables.{Store, Table}
 use Rattle.checkpoint_writer.specs.Catalogue.{Entry, entry_of}
 use Rattle.store_check.specs.Checkpoint.{at_keys, forms, store_on, table_on}
-use Rattle.store_check.specs.Half.{AreTables, IsTable, NotesTable, TableRows, noted_in, placed, rows_in, told_of}
+use Rattle.store_check.specs.Half.{AreTables, IsTable, TableRows, noted_in, placed, rows_in, told_of}
 use Rattle.store_check.specs.Whole.{AreRows, WholeIsStored}
 use Rattle.store_check.specs.declared.half.CheckedTable.{CheckedTable}
 use Rattle.checkpoints.proofs.ReadBack.{stored_there}

@@ -1,7 +1,6 @@
 -- Table after table.
-use Rattle.std.proofs.Common.{rules, ◌∙◌, ℕ, List, length, sym, ap, subst, arith}
+use Rattle.std.proofs.Common.{rules, List, subst}
 use Rattle.store_check.specs.declared.half.CheckedTable.{CheckedTable}
-use Rattle.checkpoints.proofs.Left.{no_items}
 use Rattle.paged_checkpoints.proofs.Behind.{IsUnderWay, none_added, one_added}
 use Rattle.paged_checkpoints.proofs.opening.add_tables.Goals as goal
 

@@ -1,9 +1,8 @@
 -- A half that is whole has the tables that are opened.
-use Rattle.std.proofs.Common.{List, map, refl, ap, ◌∙◌}
+use Rattle.std.proofs.Common.{refl, ap, ◌∙◌}
 use Rattle.tables.specs.View.{is_store}
 use Rattle.store_check.specs.Checkpoint.{store_on}
 use Rattle.store_check.specs.Half.{pages_of}
-use Rattle.paged_checkpoints.specs.Opening.{noted_table}
 use Rattle.paged_checkpoints.proofs.Behind.{all_apart, all_inside, all_opened}
 use Rattle.paged_checkpoints.proofs.Noted.{all_same, all_stand}
 use Rattle.paged_checkpoints.proofs.opening.open_checkpoint.Goals as goal

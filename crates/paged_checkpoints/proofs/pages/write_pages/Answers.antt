@@ -1,5 +1,5 @@
 -- The pages of all tables, and behind them the catalogue.
-use Rattle.std.proofs.Common.{◌≡◌, ◌+◌, ◌∙◌, ℕ, List, map, sym, ap, subst, arith}
+use Rattle.std.proofs.Common.{◌≡◌, ◌+◌, ◌∙◌, List, map, sym, ap, subst, arith}
 use Rattle.std.specs.List.{AllByRecursion}
 use Rattle.table_map.specs.Stored.{Places}
 use Rattle.half_store.specs.Writing.{from_of, next_of}

@@ -1,12 +1,12 @@
 -- Table after table.
-use Rattle.std.proofs.Common.{rules, ◌≡◌, ◌+◌, ◌*◌, ◌∙◌, ◌++◌, ◌∷◌, [], ℕ, List, length, length-append, map, refl, sym, ap, ap₂, subst, arith}
+use Rattle.std.proofs.Common.{rules, ◌+◌, ◌*◌, ◌∙◌, ◌∷◌, [], ℕ, List, length, length-append, map, refl, sym, ap, ap₂, subst, arith}
 use Rattle.std.proofs.lemmas.List.{map-append}
 use Rattle.std.specs.List.{AllByRecursion}
 use Rattle.row_values.specs.Schema.{is_name}
 use Rattle.tables.specs.View.{is_table}
 use Rattle.row_values.proofs.ValueLaws.{first_true}
 use Rattle.table_map.specs.Stored.{Places}
-use Rattle.half_store.specs.Writing.{from_of, next_of}
+use Rattle.half_store.specs.Writing.{next_of}
 use Rattle.checkpoint_writer.specs.Adding.{end_of_half}
 use Rattle.checkpoint_writer.specs.Catalogue.{Entry, HaveNames, place_of}
 use Rattle.checkpoint_writer.specs.declared.entry.TablePlace.{TablePlace}
@@ -17,9 +17,9 @@ use Rattle.checkpoints.proofs.Moving.{good_all, room_left, told_wider}
 use Rattle.paged_tables.specs.Stored.{Stored, table_in}
 use Rattle.paged_tables.specs.TablesByName.{Tables}
 use Rattle.paged_checkpoints.specs.Apart.{LiesFrom}
-use Rattle.paged_checkpoints.specs.Laying.{IsUnder, LaysTable, all_shown, created_entry}
+use Rattle.paged_checkpoints.specs.Laying.{IsUnder, all_shown, created_entry}
 use Rattle.paged_checkpoints.proofs.Beside.{one_readable, rest_inside, rest_readable}
-use Rattle.paged_checkpoints.proofs.Laid.{LaysSoFar, good_first, lie_more, lie_wider, names_more, none_laid, one_laid}
+use Rattle.paged_checkpoints.proofs.Laid.{good_first, lie_more, lie_wider, names_more, none_laid, one_laid}
 use Rattle.paged_checkpoints.proofs.table_pages.write_tables.Goals as goal
 
 pub loop-table-init : goal.loop-table-init

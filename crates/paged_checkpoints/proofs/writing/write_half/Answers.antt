@@ -1,23 +1,17 @@
 -- A checkpoint from the beginning of its image to its end.
-use Rattle.std.proofs.Common.{◌≡◌, ◌∙◌, ◌+◌, ◌≤◌, ℕ, List, inl, length, sym, ap, subst, arith}
+use Rattle.std.proofs.Common.{◌∙◌, ℕ, Ok, Err, inl, length, sym, ap, subst}
 use Rattle.std.proofs.lemmas.List.{length-map}
-use Rattle.half_store.specs.Layout.{half_len}
-use Rattle.store_check.specs.Half.{page_at, pages_of}
-use Rattle.drda_disk.specs.Disk.{LeavesOnly}
-use Rattle.drda_disk.proofs.Moments.{and_stays, weaker}
+use Rattle.drda_disk.proofs.Moments.{weaker}
 use Rattle.half_store.specs.Opened.{store_of}
 use Rattle.unit_journal.specs.Record.{entries_of}
-use Rattle.tables.specs.Tables.{Store}
 use Rattle.tables.specs.View.{is_store}
-use Rattle.paged_tables.specs.PagedTables.{store_in}
-use Rattle.paged_tables.specs.Stored.{IsOnPages}
-use Rattle.paged_tables.specs.TablesByName.{AreLaid, LieInside, Tables, created_of}
-use Rattle.checkpoints.specs.Moment.{IsAnew, IsOld, Moment}
-use Rattle.checkpoints.specs.Room.{need_of}
-use Rattle.checkpoints.proofs.Ending.{anew_before, begun_leaves, begun_old, old_before, some_half}
-use Rattle.paged_checkpoints.specs.Laying.{all_shown, created_entry}
-use Rattle.paged_checkpoints.proofs.Beside.{begun_readable}
-use Rattle.paged_checkpoints.proofs.Framed.{laid_apart, laid_inside, shown_created}
+use Rattle.checkpoint_writer.specs.declared.errors.ImageError.TheVariants.{Full}
+use Rattle.paged_tables.specs.TablesByName.{LieInside, created_of}
+use Rattle.checkpoints.proofs.Ending.{begun_old, some_half}
+use Rattle.paged_checkpoints.specs.Laying.{created_entry}
+use Rattle.paged_checkpoints.specs.declared.writing.Relaid.{Relaid}
+use Rattle.paged_checkpoints.proofs.Begun.{anew_then, leaves, leaves_synced, lent_shown, readable, room_told, stand_then, still_old}
+use Rattle.paged_checkpoints.proofs.Framed.{laid_apart, laid_inside}
 use Rattle.paged_checkpoints.proofs.writing.write_half.Goals as goal
 
 pub write_image-requires-clause-tables : goal.write_image-requires-clause-tables
@@ -25,9 +19,7 @@ write_image-requires-clause-tables g c =
     subst (λ (n : ℕ). LieInside n c.lend.result) (sym c.begin_image.ensures.others.size) (c.lend.ensures.pages.inside (length (g.D.Disk.life c.args.disk.now).seen) c.requires.tables)
 
 pub write_image-requires-clause-store : goal.write_image-requires-clause-store
-write_image-requires-clause-store g c =
-    let shown : all_shown c.lend.result ≡ store_in c.args.tables.now = ap all_shown c.lend.ensures.tables ∙ sym (shown_created c.args.tables.now.tables) in
-    ap is_store shown ∙ c.lend.ensures.good
+write_image-requires-clause-store g c = ap is_store (lent_shown c.args.tables.now.tables c.lend.result c.lend.ensures.tables) ∙ c.lend.ensures.good
 
 pub returns-in_err-image-clause-any_moment : goal.returns-in_err-image-clause-any_moment
 returns-in_err-image-clause-any_moment g c rests so =
@@ -38,183 +30,97 @@ returns-in_err-image-clause-any_moment g c rests so =
 pub returns-in-Ok-clause-any_moment : goal.returns-in-Ok-clause-any_moment
 returns-in-Ok-clause-any_moment g c rests so =
     let life = g.D.Disk.life in
-    let old = (life c.args.disk.now).seen in
-    let mid = (life c.begin_image.new.disk).seen in
-    let store = store_of c.args.active.now in
-    let some = some_half (length old) c.requires.size in
-    let readable = begun_readable g.D.Disk.is_modelled old mid store c.args.cache.now c.in_ok-image.image c.args.tables.now.tables c.lend.result c.lend.ensures.tables c.in_ok-image.ensures.half.0 c.in_ok-image.ensures.half.1 some c.begin_image.ensures.others (c.requires.none mid) so in
-    let shown : all_shown c.lend.result ≡ store_in c.args.tables.now = ap all_shown c.lend.ensures.tables ∙ sym (shown_created c.args.tables.now.tables) in
-    subst (λ (s : Store). LeavesOnly (life c.args.disk.now) (life c.write_image.new.disk) (Moment old store s (entries_of c.args.records.now) c.args.held)) shown
-    (begun_leaves old mid store some c.begin_image.ensures.others (life c.args.disk.now) (life c.begin_image.new.disk) (life c.write_image.new.disk) (all_shown c.lend.result) (entries_of c.args.records.now) c.args.held
-    (c.begin_image.ensures.any_moment rests.modelled_disk rests.durable rests.active) (c.write_image.ensures.any_moment readable mid (c.in_ok-image.ensures.begun rests.modelled_disk rests.durable rests.active)))
+    leaves g.D.Disk.is_modelled (life c.args.disk.now) (life c.begin_image.new.disk) c.args.active.now c.args.cache.now c.in_ok-image.image c.args.tables.now.tables c.lend.result
+    c.requires.size c.begin_image.ensures.others c.in_ok-image.ensures.half c.requires.none c.lend.ensures.tables
+    c.in_ok-image.ensures.begun rests so (life c.write_image.new.disk) (entries_of c.args.records.now) c.args.held c.begin_image.ensures.any_moment c.write_image.ensures.any_moment
 
 pub returns-in-Err-DeviceFailed-clause-any_moment : goal.returns-in-Err-DeviceFailed-clause-any_moment
 returns-in-Err-DeviceFailed-clause-any_moment g c rests so =
     let life = g.D.Disk.life in
-    let old = (life c.args.disk.now).seen in
-    let mid = (life c.begin_image.new.disk).seen in
-    let store = store_of c.args.active.now in
-    let some = some_half (length old) c.requires.size in
-    let readable = begun_readable g.D.Disk.is_modelled old mid store c.args.cache.now c.in_ok-image.image c.args.tables.now.tables c.lend.result c.lend.ensures.tables c.in_ok-image.ensures.half.0 c.in_ok-image.ensures.half.1 some c.begin_image.ensures.others (c.requires.none mid) so in
-    let shown : all_shown c.lend.result ≡ store_in c.args.tables.now = ap all_shown c.lend.ensures.tables ∙ sym (shown_created c.args.tables.now.tables) in
-    subst (λ (s : Store). LeavesOnly (life c.args.disk.now) (life c.write_image.new.disk) (Moment old store s (entries_of c.args.records.now) c.args.held)) shown
-    (begun_leaves old mid store some c.begin_image.ensures.others (life c.args.disk.now) (life c.begin_image.new.disk) (life c.write_image.new.disk) (all_shown c.lend.result) (entries_of c.args.records.now) c.args.held
-    (c.begin_image.ensures.any_moment rests.modelled_disk rests.durable rests.active) (c.write_image.ensures.any_moment readable mid (c.in_ok-image.ensures.begun rests.modelled_disk rests.durable rests.active)))
+    leaves g.D.Disk.is_modelled (life c.args.disk.now) (life c.begin_image.new.disk) c.args.active.now c.args.cache.now c.in_ok-image.image c.args.tables.now.tables c.lend.result
+    c.requires.size c.begin_image.ensures.others c.in_ok-image.ensures.half c.requires.none c.lend.ensures.tables
+    c.in_ok-image.ensures.begun rests so (life c.write_image.new.disk) (entries_of c.args.records.now) c.args.held c.begin_image.ensures.any_moment c.write_image.ensures.any_moment
 
 pub returns-in_err-sync-in-Err-NoMemory-clause-any_moment : goal.returns-in_err-sync-in-Err-NoMemory-clause-any_moment
 returns-in_err-sync-in-Err-NoMemory-clause-any_moment g c rests so =
     let life = g.D.Disk.life in
-    let old = (life c.args.disk.now).seen in
-    let mid = (life c.begin_image.new.disk).seen in
-    let store = store_of c.args.active.now in
-    let some = some_half (length old) c.requires.size in
-    let readable = begun_readable g.D.Disk.is_modelled old mid store c.args.cache.now c.in_ok-image.image c.args.tables.now.tables c.lend.result c.lend.ensures.tables c.in_ok-image.ensures.half.0 c.in_ok-image.ensures.half.1 some c.begin_image.ensures.others (c.requires.none mid) so in
-    let shown : all_shown c.lend.result ≡ store_in c.args.tables.now = ap all_shown c.lend.ensures.tables ∙ sym (shown_created c.args.tables.now.tables) in
-    subst (λ (s : Store). LeavesOnly (life c.args.disk.now) (life c.sync.new.self) (Moment old store s (entries_of c.args.records.now) c.args.held)) shown
-    (and_stays (life c.args.disk.now) (life c.write_image.new.disk) (life c.sync.new.self) _ (begun_leaves old mid store some c.begin_image.ensures.others (life c.args.disk.now) (life c.begin_image.new.disk) (life c.write_image.new.disk) (all_shown c.lend.result) (entries_of c.args.records.now) c.args.held
-    (c.begin_image.ensures.any_moment rests.modelled_disk rests.durable rests.active) (c.write_image.ensures.any_moment readable mid (c.in_ok-image.ensures.begun rests.modelled_disk rests.durable rests.active)))
-    c.sync.ensures.stays)
+    leaves_synced g.D.Disk.is_modelled (life c.args.disk.now) (life c.begin_image.new.disk) c.args.active.now c.args.cache.now c.in_ok-image.image c.args.tables.now.tables c.lend.result
+    c.requires.size c.begin_image.ensures.others c.in_ok-image.ensures.half c.requires.none c.lend.ensures.tables
+    c.in_ok-image.ensures.begun rests so (life c.write_image.new.disk) (entries_of c.args.records.now) c.args.held c.begin_image.ensures.any_moment c.write_image.ensures.any_moment (life c.sync.new.self) c.sync.ensures.stays
 
 pub returns-in_ok-sync-in-Err-NoMemory-clause-any_moment : goal.returns-in_ok-sync-in-Err-NoMemory-clause-any_moment
 returns-in_ok-sync-in-Err-NoMemory-clause-any_moment g c rests so =
     let life = g.D.Disk.life in
-    let old = (life c.args.disk.now).seen in
-    let mid = (life c.begin_image.new.disk).seen in
-    let store = store_of c.args.active.now in
-    let some = some_half (length old) c.requires.size in
-    let readable = begun_readable g.D.Disk.is_modelled old mid store c.args.cache.now c.in_ok-image.image c.args.tables.now.tables c.lend.result c.lend.ensures.tables c.in_ok-image.ensures.half.0 c.in_ok-image.ensures.half.1 some c.begin_image.ensures.others (c.requires.none mid) so in
-    let shown : all_shown c.lend.result ≡ store_in c.args.tables.now = ap all_shown c.lend.ensures.tables ∙ sym (shown_created c.args.tables.now.tables) in
-    subst (λ (s : Store). LeavesOnly (life c.args.disk.now) (life c.sync.new.self) (Moment old store s (entries_of c.args.records.now) c.args.held)) shown
-    (and_stays (life c.args.disk.now) (life c.write_image.new.disk) (life c.sync.new.self) _ (begun_leaves old mid store some c.begin_image.ensures.others (life c.args.disk.now) (life c.begin_image.new.disk) (life c.write_image.new.disk) (all_shown c.lend.result) (entries_of c.args.records.now) c.args.held
-    (c.begin_image.ensures.any_moment rests.modelled_disk rests.durable rests.active) (c.write_image.ensures.any_moment readable mid (c.in_ok-image.ensures.begun rests.modelled_disk rests.durable rests.active)))
-    c.sync.ensures.stays)
+    leaves_synced g.D.Disk.is_modelled (life c.args.disk.now) (life c.begin_image.new.disk) c.args.active.now c.args.cache.now c.in_ok-image.image c.args.tables.now.tables c.lend.result
+    c.requires.size c.begin_image.ensures.others c.in_ok-image.ensures.half c.requires.none c.lend.ensures.tables
+    c.in_ok-image.ensures.begun rests so (life c.write_image.new.disk) (entries_of c.args.records.now) c.args.held c.begin_image.ensures.any_moment c.write_image.ensures.any_moment (life c.sync.new.self) c.sync.ensures.stays
 
 pub returns-in_err-sync-in-Err-Damaged-clause-any_moment : goal.returns-in_err-sync-in-Err-Damaged-clause-any_moment
 returns-in_err-sync-in-Err-Damaged-clause-any_moment g c rests so =
     let life = g.D.Disk.life in
-    let old = (life c.args.disk.now).seen in
-    let mid = (life c.begin_image.new.disk).seen in
-    let store = store_of c.args.active.now in
-    let some = some_half (length old) c.requires.size in
-    let readable = begun_readable g.D.Disk.is_modelled old mid store c.args.cache.now c.in_ok-image.image c.args.tables.now.tables c.lend.result c.lend.ensures.tables c.in_ok-image.ensures.half.0 c.in_ok-image.ensures.half.1 some c.begin_image.ensures.others (c.requires.none mid) so in
-    let shown : all_shown c.lend.result ≡ store_in c.args.tables.now = ap all_shown c.lend.ensures.tables ∙ sym (shown_created c.args.tables.now.tables) in
-    subst (λ (s : Store). LeavesOnly (life c.args.disk.now) (life c.sync-in-Err-Damaged.new.self) (Moment old store s (entries_of c.args.records.now) c.args.held)) shown
-    (and_stays (life c.args.disk.now) (life c.write_image.new.disk) (life c.sync-in-Err-Damaged.new.self) _ (begun_leaves old mid store some c.begin_image.ensures.others (life c.args.disk.now) (life c.begin_image.new.disk) (life c.write_image.new.disk) (all_shown c.lend.result) (entries_of c.args.records.now) c.args.held
-    (c.begin_image.ensures.any_moment rests.modelled_disk rests.durable rests.active) (c.write_image.ensures.any_moment readable mid (c.in_ok-image.ensures.begun rests.modelled_disk rests.durable rests.active)))
-    c.sync-in-Err-Damaged.ensures.stays)
+    leaves_synced g.D.Disk.is_modelled (life c.args.disk.now) (life c.begin_image.new.disk) c.args.active.now c.args.cache.now c.in_ok-image.image c.args.tables.now.tables c.lend.result
+    c.requires.size c.begin_image.ensures.others c.in_ok-image.ensures.half c.requires.none c.lend.ensures.tables
+    c.in_ok-image.ensures.begun rests so (life c.write_image.new.disk) (entries_of c.args.records.now) c.args.held c.begin_image.ensures.any_moment c.write_image.ensures.any_moment (life c.sync-in-Err-Damaged.new.self) c.sync-in-Err-Damaged.ensures.stays
 
 pub returns-in_ok-sync-in-Err-Damaged-clause-any_moment : goal.returns-in_ok-sync-in-Err-Damaged-clause-any_moment
 returns-in_ok-sync-in-Err-Damaged-clause-any_moment g c rests so =
     let life = g.D.Disk.life in
-    let old = (life c.args.disk.now).seen in
-    let mid = (life c.begin_image.new.disk).seen in
-    let store = store_of c.args.active.now in
-    let some = some_half (length old) c.requires.size in
-    let readable = begun_readable g.D.Disk.is_modelled old mid store c.args.cache.now c.in_ok-image.image c.args.tables.now.tables c.lend.result c.lend.ensures.tables c.in_ok-image.ensures.half.0 c.in_ok-image.ensures.half.1 some c.begin_image.ensures.others (c.requires.none mid) so in
-    let shown : all_shown c.lend.result ≡ store_in c.args.tables.now = ap all_shown c.lend.ensures.tables ∙ sym (shown_created c.args.tables.now.tables) in
-    subst (λ (s : Store). LeavesOnly (life c.args.disk.now) (life c.sync-in-Err-Damaged.new.self) (Moment old store s (entries_of c.args.records.now) c.args.held)) shown
-    (and_stays (life c.args.disk.now) (life c.write_image.new.disk) (life c.sync-in-Err-Damaged.new.self) _ (begun_leaves old mid store some c.begin_image.ensures.others (life c.args.disk.now) (life c.begin_image.new.disk) (life c.write_image.new.disk) (all_shown c.lend.result) (entries_of c.args.records.now) c.args.held
-    (c.begin_image.ensures.any_moment rests.modelled_disk rests.durable rests.active) (c.write_image.ensures.any_moment readable mid (c.in_ok-image.ensures.begun rests.modelled_disk rests.durable rests.active)))
-    c.sync-in-Err-Damaged.ensures.stays)
+    leaves_synced g.D.Disk.is_modelled (life c.args.disk.now) (life c.begin_image.new.disk) c.args.active.now c.args.cache.now c.in_ok-image.image c.args.tables.now.tables c.lend.result
+    c.requires.size c.begin_image.ensures.others c.in_ok-image.ensures.half c.requires.none c.lend.ensures.tables
+    c.in_ok-image.ensures.begun rests so (life c.write_image.new.disk) (entries_of c.args.records.now) c.args.held c.begin_image.ensures.any_moment c.write_image.ensures.any_moment (life c.sync-in-Err-Damaged.new.self) c.sync-in-Err-Damaged.ensures.stays
 
 pub returns-in_err-sync-in-Err-Full-clause-any_moment : goal.returns-in_err-sync-in-Err-Full-clause-any_moment
 returns-in_err-sync-in-Err-Full-clause-any_moment g c rests so =
     let life = g.D.Disk.life in
-    let old = (life c.args.disk.now).seen in
-    let mid = (life c.begin_image.new.disk).seen in
-    let store = store_of c.args.active.now in
-    let some = some_half (length old) c.requires.size in
-    let readable = begun_readable g.D.Disk.is_modelled old mid store c.args.cache.now c.in_ok-image.image c.args.tables.now.tables c.lend.result c.lend.ensures.tables c.in_ok-image.ensures.half.0 c.in_ok-image.ensures.half.1 some c.begin_image.ensures.others (c.requires.none mid) so in
-    let shown : all_shown c.lend.result ≡ store_in c.args.tables.now = ap all_shown c.lend.ensures.tables ∙ sym (shown_created c.args.tables.now.tables) in
-    subst (λ (s : Store). LeavesOnly (life c.args.disk.now) (life c.sync-in-Err-Full.new.self) (Moment old store s (entries_of c.args.records.now) c.args.held)) shown
-    (and_stays (life c.args.disk.now) (life c.write_image.new.disk) (life c.sync-in-Err-Full.new.self) _ (begun_leaves old mid store some c.begin_image.ensures.others (life c.args.disk.now) (life c.begin_image.new.disk) (life c.write_image.new.disk) (all_shown c.lend.result) (entries_of c.args.records.now) c.args.held
-    (c.begin_image.ensures.any_moment rests.modelled_disk rests.durable rests.active) (c.write_image.ensures.any_moment readable mid (c.in_ok-image.ensures.begun rests.modelled_disk rests.durable rests.active)))
-    c.sync-in-Err-Full.ensures.stays)
+    leaves_synced g.D.Disk.is_modelled (life c.args.disk.now) (life c.begin_image.new.disk) c.args.active.now c.args.cache.now c.in_ok-image.image c.args.tables.now.tables c.lend.result
+    c.requires.size c.begin_image.ensures.others c.in_ok-image.ensures.half c.requires.none c.lend.ensures.tables
+    c.in_ok-image.ensures.begun rests so (life c.write_image.new.disk) (entries_of c.args.records.now) c.args.held c.begin_image.ensures.any_moment c.write_image.ensures.any_moment (life c.sync-in-Err-Full.new.self) c.sync-in-Err-Full.ensures.stays
 
 pub returns-in_ok-sync-in-Err-Full-clause-any_moment : goal.returns-in_ok-sync-in-Err-Full-clause-any_moment
 returns-in_ok-sync-in-Err-Full-clause-any_moment g c rests so =
     let life = g.D.Disk.life in
-    let old = (life c.args.disk.now).seen in
-    let mid = (life c.begin_image.new.disk).seen in
-    let store = store_of c.args.active.now in
-    let some = some_half (length old) c.requires.size in
-    let readable = begun_readable g.D.Disk.is_modelled old mid store c.args.cache.now c.in_ok-image.image c.args.tables.now.tables c.lend.result c.lend.ensures.tables c.in_ok-image.ensures.half.0 c.in_ok-image.ensures.half.1 some c.begin_image.ensures.others (c.requires.none mid) so in
-    let shown : all_shown c.lend.result ≡ store_in c.args.tables.now = ap all_shown c.lend.ensures.tables ∙ sym (shown_created c.args.tables.now.tables) in
-    subst (λ (s : Store). LeavesOnly (life c.args.disk.now) (life c.sync-in-Err-Full.new.self) (Moment old store s (entries_of c.args.records.now) c.args.held)) shown
-    (and_stays (life c.args.disk.now) (life c.write_image.new.disk) (life c.sync-in-Err-Full.new.self) _ (begun_leaves old mid store some c.begin_image.ensures.others (life c.args.disk.now) (life c.begin_image.new.disk) (life c.write_image.new.disk) (all_shown c.lend.result) (entries_of c.args.records.now) c.args.held
-    (c.begin_image.ensures.any_moment rests.modelled_disk rests.durable rests.active) (c.write_image.ensures.any_moment readable mid (c.in_ok-image.ensures.begun rests.modelled_disk rests.durable rests.active)))
-    c.sync-in-Err-Full.ensures.stays)
+    leaves_synced g.D.Disk.is_modelled (life c.args.disk.now) (life c.begin_image.new.disk) c.args.active.now c.args.cache.now c.in_ok-image.image c.args.tables.now.tables c.lend.result
+    c.requires.size c.begin_image.ensures.others c.in_ok-image.ensures.half c.requires.none c.lend.ensures.tables
+    c.in_ok-image.ensures.begun rests so (life c.write_image.new.disk) (entries_of c.args.records.now) c.args.held c.begin_image.ensures.any_moment c.write_image.ensures.any_moment (life c.sync-in-Err-Full.new.self) c.sync-in-Err-Full.ensures.stays
 
 pub returns-in-Ok-clause-done : goal.returns-in-Ok-clause-done
 returns-in-Ok-clause-done g c rests so =
     let life = g.D.Disk.life in
-    let old = (life c.args.disk.now).seen in
-    let mid = (life c.begin_image.new.disk).seen in
-    let store = store_of c.args.active.now in
-    let some = some_half (length old) c.requires.size in
-    let readable = begun_readable g.D.Disk.is_modelled old mid store c.args.cache.now c.in_ok-image.image c.args.tables.now.tables c.lend.result c.lend.ensures.tables c.in_ok-image.ensures.half.0 c.in_ok-image.ensures.half.1 some c.begin_image.ensures.others (c.requires.none mid) so in
-    let shown : all_shown c.lend.result ≡ store_in c.args.tables.now = ap all_shown c.lend.ensures.tables ∙ sym (shown_created c.args.tables.now.tables) in
-    subst (λ (s : Store). IsAnew g.D.Disk.is_modelled (life c.write_image.new.disk) old store s (entries_of c.args.records.now) c.args.held c.in-Ok.relaid.switched) shown
-    (anew_before old mid store some c.begin_image.ensures.others g.D.Disk.is_modelled (life c.write_image.new.disk) (all_shown c.lend.result) (entries_of c.args.records.now) c.args.held c.in-Ok.relaid.switched
-    (c.in-Ok.ensures.done readable mid (c.in_ok-image.ensures.begun rests.modelled_disk rests.durable rests.active)))
+    anew_then g.D.Disk.is_modelled (life c.args.disk.now) (life c.begin_image.new.disk) c.args.active.now c.args.cache.now c.in_ok-image.image c.args.tables.now.tables c.lend.result
+    c.requires.size c.begin_image.ensures.others c.in_ok-image.ensures.half c.requires.none c.lend.ensures.tables
+    c.in_ok-image.ensures.begun rests so (life c.write_image.new.disk) (entries_of c.args.records.now) c.args.held c.in-Ok.relaid.switched c.in-Ok.ensures.done
 
 pub returns-in-Ok-clause-stand : goal.returns-in-Ok-clause-stand
 returns-in-Ok-clause-stand g c rests so =
     let life = g.D.Disk.life in
-    let old = (life c.args.disk.now).seen in
-    let mid = (life c.begin_image.new.disk).seen in
-    let store = store_of c.args.active.now in
-    let some = some_half (length old) c.requires.size in
-    let readable = begun_readable g.D.Disk.is_modelled old mid store c.args.cache.now c.in_ok-image.image c.args.tables.now.tables c.lend.result c.lend.ensures.tables c.in_ok-image.ensures.half.0 c.in_ok-image.ensures.half.1 some c.begin_image.ensures.others (c.requires.none mid) so in
-    subst (λ (l : Tables). AreLaid (IsOnPages (life c.write_image.new.disk).seen) c.in-Ok.relaid.pages.items l) c.lend.ensures.tables
-    (c.in-Ok.ensures.stand readable mid (c.in_ok-image.ensures.begun rests.modelled_disk rests.durable rests.active))
+    stand_then g.D.Disk.is_modelled (life c.args.disk.now) (life c.begin_image.new.disk) c.args.active.now c.args.cache.now c.in_ok-image.image c.args.tables.now.tables c.lend.result
+    c.requires.size c.begin_image.ensures.others c.in_ok-image.ensures.half c.requires.none c.lend.ensures.tables
+    c.in_ok-image.ensures.begun rests so (life c.write_image.new.disk).seen c.in-Ok.relaid.pages.items c.in-Ok.ensures.stand
 
 pub returns-in_ok-sync-in-Err-NoMemory-clause-goes_on : goal.returns-in_ok-sync-in-Err-NoMemory-clause-goes_on
 returns-in_ok-sync-in-Err-NoMemory-clause-goes_on g c rests =
     let life = g.D.Disk.life in
-    let old = (life c.args.disk.now).seen in
-    let mid = (life c.begin_image.new.disk).seen in
-    let store = store_of c.args.active.now in
-    let some = some_half (length old) c.requires.size in
-    record {
-      durable = c.in_ok-sync-in-Err-NoMemory.ensures.durable;
-      is = old_before old mid store some c.begin_image.ensures.others (life c.sync.new.self).seen
-          (subst (λ image. IsOld mid store image) (sym c.sync.ensures.stays.same)
-          ((rw c.in-Err-NoMemory.field-0-is at c.in-Err-NoMemory.ensures.refused) mid (c.in_ok-image.ensures.begun rests.modelled_disk rests.durable rests.active) (life c.write_image.new.disk).seen (g.met.D.Disk.read_is_image c.write_image.new.disk rests.modelled_disk)));
-    }
+    still_old g.D.Disk.is_modelled (life c.args.disk.now) (life c.begin_image.new.disk) c.args.active.now c.args.cache.now c.in_ok-image.image c.args.tables.now.tables c.lend.result
+    c.requires.size c.begin_image.ensures.others c.in_ok-image.ensures.half c.requires.none c.lend.ensures.tables
+    c.in_ok-image.ensures.begun rests (life c.write_image.new.disk) (life c.sync.new.self) (rw c.in-Err-NoMemory.field-0-is at c.in-Err-NoMemory.ensures.refused) (g.met.D.Disk.read_is_image c.write_image.new.disk) c.sync.ensures.stays c.in_ok-sync-in-Err-NoMemory.ensures.durable
 
 pub returns-in_ok-sync-in-Err-Damaged-clause-goes_on : goal.returns-in_ok-sync-in-Err-Damaged-clause-goes_on
 returns-in_ok-sync-in-Err-Damaged-clause-goes_on g c rests =
     let life = g.D.Disk.life in
-    let old = (life c.args.disk.now).seen in
-    let mid = (life c.begin_image.new.disk).seen in
-    let store = store_of c.args.active.now in
-    let some = some_half (length old) c.requires.size in
-    record {
-      durable = c.in_ok-sync-in-Err-Damaged.ensures.durable;
-      is = old_before old mid store some c.begin_image.ensures.others (life c.sync-in-Err-Damaged.new.self).seen
-          (subst (λ image. IsOld mid store image) (sym c.sync-in-Err-Damaged.ensures.stays.same)
-          ((rw c.in-Err-Damaged.field-0-is at c.in-Err-Damaged.ensures.refused) mid (c.in_ok-image.ensures.begun rests.modelled_disk rests.durable rests.active) (life c.write_image.new.disk).seen (g.met.D.Disk.read_is_image c.write_image.new.disk rests.modelled_disk)));
-    }
+    still_old g.D.Disk.is_modelled (life c.args.disk.now) (life c.begin_image.new.disk) c.args.active.now c.args.cache.now c.in_ok-image.image c.args.tables.now.tables c.lend.result
+    c.requires.size c.begin_image.ensures.others c.in_ok-image.ensures.half c.requires.none c.lend.ensures.tables
+    c.in_ok-image.ensures.begun rests (life c.write_image.new.disk) (life c.sync-in-Err-Damaged.new.self) (rw c.in-Err-Damaged.field-0-is at c.in-Err-Damaged.ensures.refused) (g.met.D.Disk.read_is_image c.write_image.new.disk) c.sync-in-Err-Damaged.ensures.stays c.in_ok-sync-in-Err-Damaged.ensures.durable
 
 pub returns-in_ok-sync-in-Err-Full-clause-goes_on : goal.returns-in_ok-sync-in-Err-Full-clause-goes_on
 returns-in_ok-sync-in-Err-Full-clause-goes_on g c rests =
     let life = g.D.Disk.life in
-    let old = (life c.args.disk.now).seen in
-    let mid = (life c.begin_image.new.disk).seen in
-    let store = store_of c.args.active.now in
-    let some = some_half (length old) c.requires.size in
-    record {
-      durable = c.in_ok-sync-in-Err-Full.ensures.durable;
-      is = old_before old mid store some c.begin_image.ensures.others (life c.sync-in-Err-Full.new.self).seen
-          (subst (λ image. IsOld mid store image) (sym c.sync-in-Err-Full.ensures.stays.same)
-          ((rw c.in-Err-Full.field-0-is at c.in-Err-Full.ensures.refused) mid (c.in_ok-image.ensures.begun rests.modelled_disk rests.durable rests.active) (life c.write_image.new.disk).seen (g.met.D.Disk.read_is_image c.write_image.new.disk rests.modelled_disk)));
-    }
+    still_old g.D.Disk.is_modelled (life c.args.disk.now) (life c.begin_image.new.disk) c.args.active.now c.args.cache.now c.in_ok-image.image c.args.tables.now.tables c.lend.result
+    c.requires.size c.begin_image.ensures.others c.in_ok-image.ensures.half c.requires.none c.lend.ensures.tables
+    c.in_ok-image.ensures.begun rests (life c.write_image.new.disk) (life c.sync-in-Err-Full.new.self) (rw c.in-Err-Full.field-0-is at c.in-Err-Full.ensures.refused) (g.met.D.Disk.read_is_image c.write_image.new.disk) c.sync-in-Err-Full.ensures.stays c.in_ok-sync-in-Err-Full.ensures.durable
 
 pub returns-in-Ok-clause-count : goal.returns-in-Ok-clause-count
 returns-in-Ok-clause-count g c =
-    let shown : all_shown c.lend.result ≡ store_in c.args.tables.now = ap all_shown c.lend.ensures.tables ∙ sym (shown_created c.args.tables.now.tables) in
-    c.in-Ok.ensures.count ∙ sym (length-map c.lend.result created_entry) ∙ ap length shown
+    c.in-Ok.ensures.count ∙ sym (length-map c.lend.result created_entry) ∙ ap length (lent_shown c.args.tables.now.tables c.lend.result c.lend.ensures.tables)
 
 pub returns-in-Ok-clause-inside_half : goal.returns-in-Ok-clause-inside_half
 returns-in-Ok-clause-inside_half g c =
@@ -227,37 +133,20 @@ returns-in-Ok-clause-apart g c =
 pub returns-in-Ok-clause-full : goal.returns-in-Ok-clause-full
 returns-in-Ok-clause-full g c so =
     let life = g.D.Disk.life in
-    let old = (life c.args.disk.now).seen in
-    let mid = (life c.begin_image.new.disk).seen in
-    let store = store_of c.args.active.now in
-    let some = some_half (length old) c.requires.size in
-    let readable = begun_readable g.D.Disk.is_modelled old mid store c.args.cache.now c.in_ok-image.image c.args.tables.now.tables c.lend.result c.lend.ensures.tables c.in_ok-image.ensures.half.0 c.in_ok-image.ensures.half.1 some c.begin_image.ensures.others (c.requires.none mid) so in
-    let shown : all_shown c.lend.result ≡ store_in c.args.tables.now = ap all_shown c.lend.ensures.tables ∙ sym (shown_created c.args.tables.now.tables) in
-    subst (λ (s : Store). need_of s (entries_of c.args.records.now) c.args.held ≤ half_len (length old)) shown
-    (subst (λ (n : ℕ). need_of (all_shown c.lend.result) (entries_of c.args.records.now) c.args.held ≤ n) c.in_ok-image.ensures.half.1 (c.in-Ok.ensures.full readable))
+    room_told g.D.Disk.is_modelled (life c.args.disk.now) (life c.begin_image.new.disk) c.args.active.now c.args.cache.now c.in_ok-image.image c.args.tables.now.tables c.lend.result
+    c.requires.size c.begin_image.ensures.others c.in_ok-image.ensures.half c.requires.none c.lend.ensures.tables
+    (Ok c.in-Ok.relaid) (entries_of c.args.records.now) c.args.held c.in-Ok.ensures.full so
 
 pub returns-in_ok-sync-in-Err-Damaged-clause-damaged : goal.returns-in_ok-sync-in-Err-Damaged-clause-damaged
 returns-in_ok-sync-in-Err-Damaged-clause-damaged g c so =
     let life = g.D.Disk.life in
-    let old = (life c.args.disk.now).seen in
-    let mid = (life c.begin_image.new.disk).seen in
-    let store = store_of c.args.active.now in
-    let some = some_half (length old) c.requires.size in
-    let readable = begun_readable g.D.Disk.is_modelled old mid store c.args.cache.now c.in_ok-image.image c.args.tables.now.tables c.lend.result c.lend.ensures.tables c.in_ok-image.ensures.half.0 c.in_ok-image.ensures.half.1 some c.begin_image.ensures.others (c.requires.none mid) so in
-    (rw c.in-Err-Damaged.field-0-is at c.in-Err-Damaged.ensures.damaged) readable
+    (rw c.in-Err-Damaged.field-0-is at c.in-Err-Damaged.ensures.damaged)
+    (readable g.D.Disk.is_modelled (life c.args.disk.now) (life c.begin_image.new.disk) c.args.active.now c.args.cache.now c.in_ok-image.image c.args.tables.now.tables c.lend.result
+    c.requires.size c.begin_image.ensures.others c.in_ok-image.ensures.half c.requires.none c.lend.ensures.tables so)
 
 pub returns-in_ok-sync-in-Err-Full-clause-full : goal.returns-in_ok-sync-in-Err-Full-clause-full
 returns-in_ok-sync-in-Err-Full-clause-full g c so =
     let life = g.D.Disk.life in
-    let old = (life c.args.disk.now).seen in
-    let mid = (life c.begin_image.new.disk).seen in
-    let store = store_of c.args.active.now in
-    let some = some_half (length old) c.requires.size in
-    let readable = begun_readable g.D.Disk.is_modelled old mid store c.args.cache.now c.in_ok-image.image c.args.tables.now.tables c.lend.result c.lend.ensures.tables c.in_ok-image.ensures.half.0 c.in_ok-image.ensures.half.1 some c.begin_image.ensures.others (c.requires.none mid) so in
-    let shown : all_shown c.lend.result ≡ store_in c.args.tables.now = ap all_shown c.lend.ensures.tables ∙ sym (shown_created c.args.tables.now.tables) in
-    let told = (rw c.in-Err-Full.field-0-is at c.in-Err-Full.ensures.full) readable in
-    let full = c.in-Err-Full.full in (
-      told.0,
-      subst (λ (s : Store). full.need + half_len (length old) ≤ need_of s (entries_of c.args.records.now) c.args.held + full.room) shown
-          (subst (λ (n : ℕ). full.need + n ≤ need_of (all_shown c.lend.result) (entries_of c.args.records.now) c.args.held + full.room) c.in_ok-image.ensures.half.1 told.1),
-    )
+    room_told g.D.Disk.is_modelled (life c.args.disk.now) (life c.begin_image.new.disk) c.args.active.now c.args.cache.now c.in_ok-image.image c.args.tables.now.tables c.lend.result
+    c.requires.size c.begin_image.ensures.others c.in_ok-image.ensures.half c.requires.none c.lend.ensures.tables
+    {T = Relaid} (Err (Full c.in-Err-Full.full)) (entries_of c.args.records.now) c.args.held (rw c.in-Err-Full.field-0-is at c.in-Err-Full.ensures.full) so

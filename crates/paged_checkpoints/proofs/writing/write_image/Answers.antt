@@ -1,11 +1,10 @@
 -- From the image that is written to the store.
-use Rattle.std.proofs.Common.{◌≡◌, ◌+◌, ◌*◌, ◌-◌, ℕ, List, ap, subst, arith}
+use Rattle.std.proofs.Common.{◌≡◌, ◌+◌, ◌*◌, ◌-◌, ℕ, ap, subst, arith}
 use Rattle.std.specs.List.{AllByRecursion}
 use Rattle.half_store.specs.Opened.{store_of}
 use Rattle.half_store.specs.Writing.{from_of, next_of, pages_of}
 use Rattle.unit_journal.specs.Record.{entries_of}
 use Rattle.checkpoint_writer.specs.declared.ending.Switched.{Switched}
-use Rattle.table_map.specs.Stored.{Places}
 use Rattle.checkpoints.proofs.Ending.{image_anew, image_leaves, pages_leave, refused_so, refused_still, still_old}
 use Rattle.paged_checkpoints.specs.Apart.{LiesFrom}
 use Rattle.paged_checkpoints.specs.Laying.{all_shown}
