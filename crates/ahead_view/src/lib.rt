@@ -1,7 +1,12 @@
-//! What a statement sees of tables whose rows are on pages: the tables that are there, and of their rows
-//! what was read ahead of it.
+//! Tables whose rows are on pages: who reads the rows, and what a statement sees of what was read ahead of it.
 #![tactic(auto)]
 
+mod reading;
+mod source;
+mod telling;
 mod view;
 
-pub use view::{AheadView, ReadAhead, Telling};
+pub use reading::{ReadAhead, Wanted, read_ahead};
+pub use source::{ReadError, Source};
+pub use telling::{Telling, Told};
+pub use view::AheadView;

@@ -1,59 +1,29 @@
 //! What a statement sees of tables whose rows are on pages.
 
-ghost use Rattle.std.specs.Prelude.{◌≡◌, Bool, IfErr, IfOk, IsTrue, option_map};
-ghost use Rattle.std.specs.Arc.{arc_value};
-ghost use Rattle.table_map.specs.Keyed.{copied};
-ghost use Rattle.tables.specs.Tables.{Store, row_of, rows_of};
-ghost use Rattle.ahead_view.specs.Ahead.{WasRead, are_read};
+ghost use Rattle.std.specs.Prelude.{◌≡◌, IsTrue};
+ghost use Rattle.ahead_view.specs.Ahead.{WasRead};
 ghost use Rattle.paged_tables.specs.PagedTables.{store_in};
 
+use crate::reading::{ReadAhead, take_row, take_rows};
+use crate::telling::Telling;
 use paged_tables::PagedTables;
 use row_values::Schema;
-use std::alloc::{AllocError, Global};
+use std::alloc::Global;
 use std::marker::{Model, PhantomData};
-use std::mem;
 use std::sync::Arc;
 use tables::{PlainFault, Rows, TableView};
 
-/// Whether what was read ahead of a statement is known to be what the tables have: a constant of the
-/// type. It is so of a device that gives back what was written.
-pub trait Telling {
-    ghost is_told: { Bool };
-
-    /// The same, where code asks.
-    fn tells() -> bool
-        ensures { result ≡ is_told };
-}
-
-/// What was read of the tables ahead of a statement.
-#[derive(Drop)]
-pub enum ReadAhead {
-    /// Nothing: the statement reads no rows.
-    Nothing,
-    /// The row of a key in a table, or that there is none.
-    Row {
-        table: String,
-        key: Vec<u8>,
-        row: Option<Vec<u8>>,
-    },
-    /// All rows of a table, in the order of their keys.
-    Rows {
-        table: String,
-        rows: Rows,
-    },
-}
-
 /// What a statement sees: the schemas and the number of the tables, and of their rows what was read
-/// ahead of it. Whatever else it asks for is answered by want of memory. All rows of a table are given
-/// once; asked for again they are not there. No page is read.
+/// ahead of it. Whatever else it asks for is answered by want of memory. What was read is given once;
+/// asked for again it is not there. No page is read.
 #[derive(Drop)]
-pub struct AheadView<'a, T: Telling> {
+pub struct AheadView<'a, 'b, T: Telling> {
     tables: &'a PagedTables,
-    read: ReadAhead,
+    read: ReadAhead<'b>,
     told: PhantomData<T>,
 }
 
-impl<'a, T: Telling> Model for AheadView<'a, T> {
+impl<'a, 'b, T: Telling> Model for AheadView<'a, 'b, T> {
     ghost use Rattle.ahead_view.specs.Ahead.{Ahead, IsAhead};
     ghost use Rattle.paged_tables.specs.PagedTables.{store_in};
 
@@ -64,11 +34,11 @@ impl<'a, T: Telling> Model for AheadView<'a, T> {
     ghost invariant = { λ v. IsAhead T.is_told (record { store = store_in v.tables.now; read = v.read }) };
 }
 
-impl<'a, T: Telling> AheadView<'a, T> {
+impl<'a, 'b, T: Telling> AheadView<'a, 'b, T> {
     /// The tables, and what was read of them.
-    pub fn new(tables: &'a PagedTables, read: ReadAhead) -> AheadView<'a, T>
+    pub fn new(tables: &'a PagedTables, read: ReadAhead<'b>) -> AheadView<'a, 'b, T>
         requires { IsTrue T.is_told → WasRead (store_in tables.now) read }
-        ensures { result ≡ record { store = store_in tables.now; read = read } }
+        ensures { result ≡ record { store = store_in tables.now; read = read.entry } }
     {
         // The tables that are lent are a store.
         let _left = tables.lend();
@@ -80,7 +50,7 @@ impl<'a, T: Telling> AheadView<'a, T> {
     }
 }
 
-impl<'a, T: Telling> TableView for AheadView<'a, T> {
+impl<'a, 'b, T: Telling> TableView for AheadView<'a, 'b, T> {
     ghost use Rattle.tables.specs.PlainFault.{is_damage, no_damage};
 
     type Fault = PlainFault;
@@ -111,7 +81,7 @@ impl<'a, T: Telling> TableView for AheadView<'a, T> {
         table: &str,
         key: &[u8],
     ) -> Result<Option<Vec<u8>>, PlainFault> {
-        Ok(row_ahead(&self.read, alloc, table, key)?)
+        Ok(take_row(&mut self.read, table, key)?)
     }
 
     fn scan(&mut self, alloc: Global, table: &str) -> Result<Rows, PlainFault> {
@@ -127,68 +97,4 @@ impl<'a, T: Telling> TableView for AheadView<'a, T> {
     }
 
     ghost memory_is_no_damage = { no_damage };
-}
-
-// The row of a key in a table, if it was read, in new memory.
-fn row_ahead(
-    read: &ReadAhead,
-    alloc: Global,
-    table: &str,
-    key: &[u8],
-) -> Result<Option<Vec<u8>>, AllocError>
-    ensures { (store : Store) → WasRead store read.now → IfOk result (λ row. copied row ≡ row_of store table.now key.now) }
-{
-    match read {
-        ReadAhead::Row {
-            table: name,
-            key: place,
-            row,
-        } => {
-            if name.as_bytes() == table.as_bytes() && place.as_slice() == key {
-                copied_row(alloc, row)
-            } else {
-                Err(AllocError)
-            }
-        }
-        ReadAhead::Nothing => Err(AllocError),
-        ReadAhead::Rows { table: _, rows: _ } => Err(AllocError),
-    }
-}
-
-fn copied_row(alloc: Global, row: &Option<Vec<u8>>) -> Result<Option<Vec<u8>>, AllocError>
-    ensures { IfOk result (λ copy. copied copy ≡ copied row.now) }
-{
-    match row {
-        Some(row) => Ok(Some(Vec::from_slice(alloc, row.as_slice())?)),
-        None => Ok(None),
-    }
-}
-
-// All rows of a table, if they were read. They are given away.
-fn take_rows(read: &mut ReadAhead, table: &str) -> Result<Rows, AllocError>
-    ensures rows { (store : Store) → WasRead store read.old → IfOk result (λ rows. rows ≡ rows_of store table.now) }
-    ensures left { (store : Store) → WasRead store read.old → WasRead store read.new }
-{
-    if !has_rows(read, table) {
-        return Err(AllocError);
-    }
-    match mem::replace(read, ReadAhead::Nothing) {
-        ReadAhead::Rows { table: _, rows } => Ok(rows),
-        ReadAhead::Row { .. } => Err(AllocError),
-        ReadAhead::Nothing => Err(AllocError),
-    }
-}
-
-// Whether all rows of this table were read.
-fn has_rows(read: &ReadAhead, table: &str) -> bool
-    ensures { result ≡ are_read table.now read.now }
-{
-    match read {
-        ReadAhead::Rows {
-            table: name,
-            rows: _,
-        } => name.as_bytes() == table.as_bytes(),
-        ReadAhead::Row { .. } => false,
-        ReadAhead::Nothing => false,
-    }
 }

@@ -27,7 +27,7 @@ use Rattle.drda_node.specs.Asking.{AskedCore, IsJournaled, IsSameAsker, asks, as
 module _ {D : Type 0} (modelled : Bool) (life : D → Life) where
   -- the same standing, with the core in the asker's place
   abbrev over_core : Standing (CoreAsker D) → Standing AskedCore
-  over_core s = record { session = s.session; statements = s.statements; asked = core_of s.asked }
+  over_core s = record { session = s.session; statements = s.statements; asked = core_of modelled s.asked }
 
   -- nothing was asked, or what was asked left this on the disk
   abbrev pub IsAskedSome : CoreAsker D → CoreAsker D → Type 0
@@ -44,8 +44,8 @@ module _ {D : Type 0} (modelled : Bool) (life : D → Life) where
   unasked old new e = (same_asker old new e, inl e)
 
   done : (doing : Doing) (old new : CoreAsker D) (k : Statements) (before after : List Reply) → WasDone (asks_of modelled life) doing old new k before after
-      → WasDone (asks old.conversation) doing (core_of old) (core_of new) k before after × Reaches old new
-  done (finished r) old new k before after w = ((ap (λ (a : CoreAsker D). core_of a) w.0, w.1), unasked old new w.0)
+      → WasDone (asks old.conversation) doing (core_of modelled old) (core_of modelled new) k before after × Reaches old new
+  done (finished r) old new k before after w = ((ap (λ (a : CoreAsker D). core_of modelled a) w.0, w.1), unasked old new w.0)
   done (asking call then) old new k before after w =
       (record { answer = w.answer; asked = w.asked.1; answered = w.answered }, (w.asked.0, inr w.asked.2))
 

@@ -18,6 +18,7 @@ use Rattle.conversation.specs.Done.{DoesAll}
 use Rattle.conversation.specs.Steps.{Ends}
 use Rattle.conversation.specs.Usable.{is_description, is_end, is_usable, is_xa_answer}
 use Rattle.conversation.proofs.Failing.{only_unusable_answers}
+use Rattle.core_model.specs.Misread.{over}
 use Rattle.drda_node.specs.Asking.{AskedCore, IsExcused, asks}
 use Rattle.drda_node.specs.Closing.{IsFaulty, OnlyFailedDevicesClose, OnlyFaultsClose}
 use Rattle.drda_node.specs.Hearing.{Attended, Hears}
@@ -90,11 +91,13 @@ module _ (place : ℕ) (old new : AskedCore) (k : Call) (a : Answer) (unusable :
   by_excuse (inl x) = both (is_usable k a) (ap (is_usable k) x.answer_is ∙ without_memory k) unusable
   by_excuse (inr (inl x)) = both (is_usable k a) (ap (is_usable k) x.answer_is ∙ without_room k _ _) unusable
   by_excuse (inr (inr (inl x))) = x.failed
-  by_excuse (inr (inr (inr x))) = ap (λ (core : AskedCore). core.has_failed) x.same ∙ x.failed
+  by_excuse (inr (inr (inr (inl x)))) = ap (λ (core : AskedCore). core.has_failed) x.same
+  by_excuse (inr (inr (inr (inr x)))) = ap (λ (core : AskedCore). core.has_failed) x.same ∙ x.failed
 
   by_asks : AnswersBelong → asks place old k a new → new.has_failed ≡ true
   by_asks belong (inl x) = both (is_usable k a) (usable k a (subst (Belongs k) (sym x.answer_is) (belong old.state place k))) unusable
-  by_asks belong (inr x) = by_excuse x
+  by_asks belong (inr (inl x)) = both (is_usable k a) (usable k a (subst (Belongs k) (sym x.misread.answer_is) (belong (over x.misread.given old.state) place k))) unusable
+  by_asks belong (inr (inr x)) = by_excuse x
 
 pub only_failed_devices_close : AnswersBelong → OnlyFailedDevicesClose
 only_failed_devices_close belong settings place s next command bytes does closed =

@@ -29,10 +29,11 @@ use Rattle.drda_node.specs.Calls.{AreOf, AskedCall, CallsAreHistories, IsAsked, 
 -- ---- of one conversation
 
 rests_same : (old new : AskedCore) → new ≡ old → Rests old new
-rests_same old new same = record { state = ap (λ (c : AskedCore). c.state) same; made = ap (λ (c : AskedCore). c.made) same; failed = λ failed. same }
+rests_same old new same = record { told = ap (λ (c : AskedCore). c.is_told) same; state = ap (λ (c : AskedCore). c.state) same; made = ap (λ (c : AskedCore). c.made) same; failed = λ failed. same }
 
 rests_both : (a b c : AskedCore) → Rests a b → Rests b c → Rests a c
 rests_both a b c p q = record {
+  told = q.told ∙ p.told;
   state = q.state ∙ p.state;
   made = q.made ∙ p.made;
   failed = λ failed. q.failed (ap (λ (o : AskedCore). o.has_failed) (p.failed failed) ∙ failed) ∙ p.failed failed;
@@ -45,8 +46,9 @@ none : (place : ℕ) (old new : AskedCore) → new ≡ old → Calls place old n
 none place old new same = ([], tt, rests_same old new same)
 
 one : (place : ℕ) (old : AskedCore) (call : Call) (said : Answer) (new : AskedCore) → asks place old call said new → Calls place old new
-one place old call said new (inl t) = (record { conversation = place; call = call; answer = said; mark = Taken } ∷ [], (refl, tt), (old, new, rests_same old old refl, t, rests_same new new refl))
-one place old call said new (inr t) = (record { conversation = place; call = call; answer = said; mark = Kept } ∷ [], (refl, tt), (old, new, rests_same old old refl, t, rests_same new new refl))
+one place old call said new (inl t) = (record { conversation = place; call = call; answer = said; mark = Taken } ∷ [], (refl, tt), (old, new, rests_same old old refl, inl t, rests_same new new refl))
+one place old call said new (inr (inl t)) = (record { conversation = place; call = call; answer = said; mark = Taken } ∷ [], (refl, tt), (old, new, rests_same old old refl, inr t, rests_same new new refl))
+one place old call said new (inr (inr t)) = (record { conversation = place; call = call; answer = said; mark = Kept } ∷ [], (refl, tt), (old, new, rests_same old old refl, t, rests_same new new refl))
 
 are_both : (place : ℕ) (xs ys : List AskedCall) → AreOf place xs → AreOf place ys → AreOf place (xs ++ ys)
 are_both place [] ys p q = q
@@ -103,6 +105,7 @@ lost_by true old place is =
     none place old (left_by old place) same
 lost_by false old place is =
     one place old call.lost (answer old.state.branches old.state.base place call.lost) (left_by old place) (inl (record {
+      told = refl;
       going = is;
       answer_is = refl;
       state = ap (λ (b : Bool). if b then old.state else step_state old.state place call.lost) is;
@@ -145,10 +148,10 @@ loses_calls (Some (Some c)) old new number written h = subst (λ (m : Machine). 
 
 -- a checkpoint asks nothing
 checkpointed : (told : Checkpointed) (old new : AskedCore) → IsCheckpointed told old new → Rests old new
-checkpointed Done old new (going, (room, is)) = record { state = ap (λ (c : AskedCore). c.state) is; made = ap (λ (c : AskedCore). c.made) is; failed = λ failed. absurd (false≢true (sym going ∙ failed)) }
+checkpointed Done old new (going, (room, is)) = record { told = ap (λ (c : AskedCore). c.is_told) is; state = ap (λ (c : AskedCore). c.state) is; made = ap (λ (c : AskedCore). c.made) is; failed = λ failed. absurd (false≢true (sym going ∙ failed)) }
 checkpointed (Full need room) old new (going, same) = rests_same old new same
 checkpointed NoMemory old new (going, same) = rests_same old new same
-checkpointed DeviceFailed old new (going, is) = record { state = ap (λ (c : AskedCore). c.state) is; made = ap (λ (c : AskedCore). c.made) is; failed = λ failed. absurd (false≢true (sym going ∙ failed)) }
+checkpointed DeviceFailed old new (going, is) = record { told = ap (λ (c : AskedCore). c.is_told) is; state = ap (λ (c : AskedCore). c.state) is; made = ap (λ (c : AskedCore). c.made) is; failed = λ failed. absurd (false≢true (sym going ∙ failed)) }
 checkpointed Closed old new (failed, same) = rests_same old new same
 
 checkpoint_calls : (old new : Machine) (number : ℕ) (written : List ℕ) → CheckpointsAs old number written new → SomeCalls old.core new.core
@@ -184,18 +187,34 @@ excused_stays : (place : ℕ) (old : AskedCore) (call : Call) (said : Answer) (n
 excused_stays place old call said new (inl t) = ap (λ (c : AskedCore). c.state) t.same
 excused_stays place old call said new (inr (inl t)) = ap (λ (c : AskedCore). c.state) t.same
 excused_stays place old call said new (inr (inr (inl t))) = t.state
-excused_stays place old call said new (inr (inr (inr t))) = ap (λ (c : AskedCore). c.state) t.same
+excused_stays place old call said new (inr (inr (inr (inl t)))) = ap (λ (c : AskedCore). c.state) t.same
+excused_stays place old call said new (inr (inr (inr (inr t)))) = ap (λ (c : AskedCore). c.state) t.same
 
-stepped : (mark : Mark) (old : AskedCore) (place : ℕ) (call : Call) (said : Answer) (new : AskedCore) → IsAsked mark old place call said new → new.state ≡ step_by mark old.state place call
-stepped Taken old place call said new t = t.state
-stepped Kept old place call said new t = excused_stays place old call said new t
+stepped : (mark : Mark) (old : AskedCore) (place : ℕ) (call : Call) (said : Answer) (new : AskedCore) → old.is_told ≡ true → IsAsked mark old place call said new → new.state ≡ step_by mark old.state place call
+stepped Taken old place call said new told (inl t) = t.state
+stepped Taken old place call said new told (inr t) = absurd (false≢true (sym t.untold ∙ told))
+stepped Kept old place call said new told t = excused_stays place old call said new t
 
-replayed : (calls : List AskedCall) (old new : AskedCore) → IsHistory old calls new → new.state ≡ replay (marked calls) old.state
-replayed [] old new h = h.state
-replayed (a ∷ calls) old new (at, between, rests, t, h) =
+-- the device stays what it is
+excused_told : (place : ℕ) (old : AskedCore) (call : Call) (said : Answer) (new : AskedCore) → IsExcused old place call said new → new.is_told ≡ old.is_told
+excused_told place old call said new (inl t) = ap (λ (c : AskedCore). c.is_told) t.same
+excused_told place old call said new (inr (inl t)) = ap (λ (c : AskedCore). c.is_told) t.same
+excused_told place old call said new (inr (inr (inl t))) = t.told
+excused_told place old call said new (inr (inr (inr (inl t)))) = ap (λ (c : AskedCore). c.is_told) t.same
+excused_told place old call said new (inr (inr (inr (inr t)))) = ap (λ (c : AskedCore). c.is_told) t.same
+
+pub asked_told : (mark : Mark) (old new : AskedCore) (place : ℕ) (call : Call) (said : Answer) → IsAsked mark old place call said new → new.is_told ≡ old.is_told
+asked_told Taken old new place call said (inl t) = t.told
+asked_told Taken old new place call said (inr t) = ap (λ (c : AskedCore). c.is_told) t.rest
+asked_told Kept old new place call said t = excused_told place old call said new t
+
+replayed : (calls : List AskedCall) (old new : AskedCore) → old.is_told ≡ true → IsHistory old calls new → new.state ≡ replay (marked calls) old.state
+replayed [] old new told h = h.state
+replayed (a ∷ calls) old new told (at, between, rests, t, h) =
+    let told_there : at.is_told ≡ true = rests.told ∙ told in
     let step : between.state ≡ step_by a.mark old.state a.conversation a.call =
-    stepped a.mark at a.conversation a.call a.answer between t ∙ ap (λ (s : CoreState). step_by a.mark s a.conversation a.call) rests.state in
-    replayed calls between new h ∙ ap (replay (marked calls)) step
+    stepped a.mark at a.conversation a.call a.answer between told_there t ∙ ap (λ (s : CoreState). step_by a.mark s a.conversation a.call) rests.state in
+    replayed calls between new (asked_told a.mark at between a.conversation a.call a.answer t ∙ told_there) h ∙ ap (replay (marked calls)) step
 
 pub calls_are_histories : CallsAreHistories
 calls_are_histories = record {

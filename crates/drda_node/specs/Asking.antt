@@ -9,15 +9,18 @@ use Rattle.unit_records.specs.Room.{held, released, taken}
 use Rattle.core_calls.specs.Call as call
 use Rattle.core_calls.specs.Call.{Call}
 use Rattle.core_calls.specs.Answer.{Answer, closed, device_failed, full, no_memory}
+use Rattle.core_model.specs.Misread.{Misreads, reads_rows}
 use Rattle.core_model.specs.Step.{CoreState, answer as answer_to, step_state}
 use Rattle.unit_records.specs.Due.{record_due}
 use Rattle.recovery.specs.Journaled.{Journaled, OnDisk, shown_on}
 use Rattle.durable_core.specs.Steps.{MayWantMemory, RoomAfter, due_entries}
 use Rattle.drda_node.specs.declared.asker.CoreAsker.{CoreAsker}
 
--- what a core is to those who ask it: its state, its store's layout, the bytes that are left for records, whether the device has
--- failed, and the records that were due of its calls so far, in their order; the last may be of a call in which the device failed
+-- what a core is to those who ask it: whether its device gives back what was written, its state, its store's layout, the bytes that
+-- are left for records, whether the device has failed, and the records that were due of its calls so far, in their order; the last
+-- may be of a call in which the device failed
 pub record AskedCore : Type 0 where
+  pub is_told : Bool
   pub state : CoreState
   pub layout : Layout
   pub room : ℕ
@@ -26,6 +29,7 @@ pub record AskedCore : Type 0 where
 
 -- the answer and the state behind it are those of the step; a record that was due is in the room
 pub record IsTaken (old : AskedCore) (place : ℕ) (call : Call) (answer : Answer) (new : AskedCore) : Type 0 where
+  pub told : new.is_told ≡ old.is_told
   pub going : old.has_failed ≡ false
   pub answer_is : answer ≡ answer_to old.state.branches old.state.base place call
   pub state : new.state ≡ step_state old.state place call
@@ -33,6 +37,14 @@ pub record IsTaken (old : AskedCore) (place : ℕ) (call : Call) (answer : Answe
   pub room : RoomAfter old.layout (record_due old.state place call) old.room new.room
   pub still : new.has_failed ≡ false
   pub made : new.made ≡ old.made ++ due_entries (record_due old.state place call)
+
+-- The device, which need not give back what was written, gave other rows of the tables to a statement: the answer and the units
+-- are those of the step over them. What is committed stays.
+pub record ReadsOthers (old : AskedCore) (place : ℕ) (call : Call) (answer : Answer) (new : AskedCore) : Type 0 where
+  pub untold : old.is_told ≡ false
+  pub going : old.has_failed ≡ false
+  pub misread : Misreads old.state place call answer new.state
+  pub rest : new ≡ record old { state = new.state }
 
 -- ---- excuses: the call is not done
 
@@ -54,6 +66,7 @@ pub record FindsNoRoom (old : AskedCore) (place : ℕ) (call : Call) (answer : A
 
 -- the device failed where the call's record was to be made
 pub record FailsHere (old : AskedCore) (place : ℕ) (call : Call) (answer : Answer) (new : AskedCore) : Type 0 where
+  pub told : new.is_told ≡ old.is_told
   pub going : old.has_failed ≡ false
   pub record_is : UnitRecord
   pub due : record_due old.state place call ≡ Some record_is
@@ -64,6 +77,13 @@ pub record FailsHere (old : AskedCore) (place : ℕ) (call : Call) (answer : Ans
   pub failed : new.has_failed ≡ true
   pub made : new.made ≡ old.made ++ entry_of record_is ∷ []
 
+-- the device failed where rows were read for a statement; no record was due
+pub record FailsToRead (old : AskedCore) (place : ℕ) (call : Call) (answer : Answer) (new : AskedCore) : Type 0 where
+  pub going : old.has_failed ≡ false
+  pub reading : reads_rows call ≡ true
+  pub answer_is : answer ≡ device_failed
+  pub same : new ≡ record old { has_failed = true }
+
 -- it had failed before
 pub record IsClosed (old : AskedCore) (answer : Answer) (new : AskedCore) : Type 0 where
   pub failed : old.has_failed ≡ true
@@ -72,11 +92,12 @@ pub record IsClosed (old : AskedCore) (answer : Answer) (new : AskedCore) : Type
 
 abbrev pub IsExcused : AskedCore → ℕ → Call → Answer → AskedCore → Type 0
 IsExcused old place call answer new =
-    FindsNoMemory old place call answer new ⊎ (FindsNoRoom old place call answer new ⊎ (FailsHere old place call answer new ⊎ IsClosed old answer new))
+    FindsNoMemory old place call answer new ⊎ (FindsNoRoom old place call answer new ⊎ (FailsHere old place call answer new ⊎ (FailsToRead old place call answer new ⊎ IsClosed old answer new)))
 
--- the core takes the step of this conversation's call, and answers it
+-- The core takes the step of this conversation's call, and answers it. Only of a device that need not give back what was written
+-- it may be the step over other rows.
 abbrev pub asks : ℕ → AskedCore → Call → Answer → AskedCore → Type 0
-asks place old call answer new = IsTaken old place call answer new ⊎ IsExcused old place call answer new
+asks place old call answer new = IsTaken old place call answer new ⊎ (ReadsOthers old place call answer new ⊎ IsExcused old place call answer new)
 
 -- what is left of the core where a conversation is lost: its units end, and no record is due of that; once the device
 -- has failed nothing is done
@@ -85,11 +106,11 @@ left_by old place = record old { state = if old.has_failed then old.state else s
 
 -- ---- in code
 
-abbrev pub asked_of : {D : Type 0} → OnDisk D → AskedCore
-asked_of s = record { state = s.state; layout = s.layout; room = s.room; has_failed = s.is_failed; made = s.made }
+abbrev pub asked_of : {D : Type 0} → Bool → OnDisk D → AskedCore
+asked_of is_told s = record { is_told = is_told; state = s.state; layout = s.layout; room = s.room; has_failed = s.is_failed; made = s.made }
 
-abbrev pub core_of : {D : Type 0} → CoreAsker D → AskedCore
-core_of asker = asked_of asker.core.now
+abbrev pub core_of : {D : Type 0} → Bool → CoreAsker D → AskedCore
+core_of is_told asker = asked_of is_told asker.core.now
 
 -- the same core is asked for the same conversation afterwards
 pub record IsSameAsker {D : Type 0} (old new : CoreAsker D) : Type 0 where
@@ -102,4 +123,4 @@ IsJournaled modelled life old new = Journaled modelled (shown_on life old) (show
 
 abbrev pub asks_of : {D : Type 0} → Bool → (D → Life) → CoreAsker D → Call → Answer → CoreAsker D → Type 0
 asks_of modelled life old call answer new =
-    IsSameAsker old new × asks old.conversation (core_of old) call answer (core_of new) × IsJournaled modelled life old.core.now new.core.now
+    IsSameAsker old new × asks old.conversation (core_of modelled old) call answer (core_of modelled new) × IsJournaled modelled life old.core.now new.core.now

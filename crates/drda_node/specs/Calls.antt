@@ -1,10 +1,10 @@
 -- The calls that a machine asks of its core: what was really asked and answered, as a history that the law of serial order
 -- speaks of.
-use Rattle.std.specs.Prelude.{◌≡◌, ℕ, true, List, [], ◌∷◌}
+use Rattle.std.specs.Prelude.{◌≡◌, ◌⊎◌, ℕ, true, List, [], ◌∷◌}
 use Rattle.core_calls.specs.Call.{Call}
 use Rattle.core_calls.specs.Answer.{Answer}
 use Rattle.core_model.specs.Step.{Kept, Mark, MarkedCall, Taken, replay}
-use Rattle.drda_node.specs.Asking.{AskedCore, IsExcused, IsTaken}
+use Rattle.drda_node.specs.Asking.{AskedCore, IsExcused, IsTaken, ReadsOthers}
 use Rattle.drda_node.specs.Machine as machine
 use Rattle.drda_node.specs.Machine.{Machine}
 use Rattle.drda_node.specs.Hearing.{Attended, HearsAt}
@@ -18,14 +18,16 @@ pub record AskedCall : Type 0 where
   pub answer : Answer
   pub mark : Mark
 
--- the answer and the step are the core's; or an excuse was answered, and there was no step
+-- The answer and the step are the core's, over other rows where its device gave these; or an excuse was answered, and there was
+-- no step.
 abbrev pub IsAsked : Mark → AskedCore → ℕ → Call → Answer → AskedCore → Type 0
-IsAsked Taken old conversation call answer new = IsTaken old conversation call answer new
+IsAsked Taken old conversation call answer new = IsTaken old conversation call answer new ⊎ ReadsOthers old conversation call answer new
 IsAsked Kept old conversation call answer new = IsExcused old conversation call answer new
 
 -- Between calls a core rests: its state and its records stay; a checkpoint may change its room, or the device may fail in it.
 -- Once it has failed nothing changes.
 pub record Rests (old new : AskedCore) : Type 0 where
+  pub told : new.is_told ≡ old.is_told
   pub state : new.state ≡ old.state
   pub made : new.made ≡ old.made
   pub failed : old.has_failed ≡ true → new ≡ old
@@ -56,5 +58,5 @@ pub record CallsAreHistories : Type 0 where
   pub begun : (old new : Machine) (event : Event) → BreaksOff old event new → (calls : List AskedCall) × IsHistory old.core calls new.core
   -- one after another
   pub both : (a b c : AskedCore) (before after : List AskedCall) → IsHistory a before b → IsHistory b after c → (calls : List AskedCall) × IsHistory a calls c
-  -- and a history leads where its replay leads
-  pub replayed : (old new : AskedCore) (calls : List AskedCall) → IsHistory old calls new → new.state ≡ replay (marked calls) old.state
+  -- and of a device that gives back what was written a history leads where its replay leads
+  pub replayed : (old new : AskedCore) (calls : List AskedCall) → old.is_told ≡ true → IsHistory old calls new → new.state ≡ replay (marked calls) old.state

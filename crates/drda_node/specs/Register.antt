@@ -17,11 +17,11 @@ core_in node = node.core
 
 -- the machine that a node is
 abbrev pub machine : {D : Type 0} {d : _} → Node D d → Machine
-machine node = record {
+machine {D} {d} node = record {
   settings = node.settings;
   row = map shown node.places.items;
   given = node.next_number;
-  core = asked_of (core_in node);
+  core = asked_of d.is_modelled (core_in node);
 }
 
 abbrev pub number_of : Slot → ℕ

@@ -61,7 +61,7 @@ impl<D: Disk> Node<D> {
         settings: Settings,
         core: DurableCore<D>,
     ) -> Result<Node<D>, DurableCore<D>>
-        ensures machine { IfOk result (λ n. machine n ≡ at_start settings (asked_of core)) }
+        ensures machine { IfOk result (λ n. machine n ≡ at_start settings (asked_of D.is_modelled core)) }
         ensures core { IfOk result (λ n. core_in n ≡ core) }
         ensures back { IfErr result (λ back. back ≡ core) }
     {
@@ -274,7 +274,7 @@ ghost use Rattle.durable_core.specs.Checkpointing.{Checkpoints};
 // Ends what was a conversation's alone. What the core answers says nothing that is not known.
 #[tactic(auto, using(crate::proofs::Cores::core_loses))]
 fn end_units<D: Disk>(core: &mut DurableCore<D>, conversation: u64)
-    ensures left { asked_of core.new ≡ left_by (asked_of core.old) conversation }
+    ensures left { asked_of D.is_modelled core.new ≡ left_by (asked_of D.is_modelled core.old) conversation }
     ensures journaled { IsJournaled D.is_modelled D.life core.old core.new }
 {
     let _ = core.lost(conversation);
@@ -284,7 +284,7 @@ fn end_units<D: Disk>(core: &mut DurableCore<D>, conversation: u64)
 #[tactic(auto, using(crate::proofs::Cores::core_checkpoints))]
 fn checkpoint_core<D: Disk>(core: &mut DurableCore<D>) -> Checkpointed
     ensures told { Checkpoints result (shown_on D.life core.old) (shown_on D.life core.new) }
-    ensures checkpointed { IsCheckpointed result (asked_of core.old) (asked_of core.new) }
+    ensures checkpointed { IsCheckpointed result (asked_of D.is_modelled core.old) (asked_of D.is_modelled core.new) }
     ensures journaled { IsJournaled D.is_modelled D.life core.old core.new }
 {
     core.checkpoint()

@@ -71,7 +71,7 @@ impl Slot {
         out: &mut Vec<u8>,
     ) -> Fed
         requires { self.old.is_open ≡ true }
-        ensures takes { Takes (asks asker.old.conversation) self.old.front.settings (attended_by self.old.front (core_of asker.old)) piece.now out.old.items result (attended_by self.new.front (core_of asker.new)) out.new.items }
+        ensures takes { Takes (asks asker.old.conversation) self.old.front.settings (attended_by self.old.front (core_of D.is_modelled asker.old)) piece.now out.old.items result (attended_by self.new.front (core_of D.is_modelled asker.new)) out.new.items }
         ensures journaled { IsJournaled D.is_modelled D.life asker.old.core.now asker.new.core.now }
         ensures same_asker { IsSameAsker asker.old asker.new }
         ensures open { self.new.is_open ≡ true }
@@ -91,7 +91,7 @@ impl Slot {
         out: &mut Vec<u8>,
     ) -> Heard
         requires { self.old.is_open ≡ true }
-        ensures hears { HearsPiece (asks asker.old.conversation) self.old.front.settings (attended_by self.old.front (core_of asker.old)) piece.now out.old.items result (attended_by self.new.front (core_of asker.new)) out.new.items }
+        ensures hears { HearsPiece (asks asker.old.conversation) self.old.front.settings (attended_by self.old.front (core_of D.is_modelled asker.old)) piece.now out.old.items result (attended_by self.new.front (core_of D.is_modelled asker.new)) out.new.items }
         ensures journaled { IsJournaled D.is_modelled D.life asker.old.core.now asker.new.core.now }
         ensures same_asker { IsSameAsker asker.old asker.new }
         ensures open { self.new.is_open ≡ true }

@@ -44,9 +44,9 @@ not_piped D rdb login input before NotInDoubt is = absurd is
 not_piped D rdb login input before NoRoom is = absurd is
 
 -- what is started over it
-starts_fresh : {D : Type 0} (name : List ℕ) (login : Login) (core : OnDisk D) → IsOpenedTo name fresh core → core.layout ≡ Two → machine_over login core ≡ at_start (settings_of login name) (new_core core.room)
-starts_fresh name login core is two =
-    let opened_fresh : asked_of core ≡ new_core core.room = λ i. record { state = is.state i; layout = two i; room = core.room; has_failed = is.going i; made = is.made i } in
+starts_fresh : {D : Type 0} (modelled : Bool) → modelled ≡ true → (name : List ℕ) (login : Login) (core : OnDisk D) → IsOpenedTo name fresh core → core.layout ≡ Two → machine_over modelled login core ≡ at_start (settings_of login name) (new_core core.room)
+starts_fresh modelled told name login core is two =
+    let opened_fresh : asked_of modelled core ≡ new_core core.room = λ i. record { is_told = told i; state = is.state i; layout = two i; room = core.room; has_failed = is.going i; made = is.made i } in
     ap₂ (λ (n : List ℕ) (a : AskedCore). at_start (settings_of login n) a) is.named opened_fresh
 
 fresh_run : (settings : Settings) (room : ℕ) (first last : Machine) (before now : Option (List ℕ)) (end : RunEnd) (o : Option (List ℕ)) → first ≡ at_start settings (new_core room)
@@ -57,21 +57,21 @@ fresh_run settings room first last before now end (Some input) is r =
     (room, last, subst P is r)
 
 -- over the store that was just made
-by_answer : {D : Type 0} (modelled : Bool) (life : D → Life) (rdb : List ℕ) (login : Login) (input before now : Option (List ℕ)) (outcome : Result (Unit {0}) Fault) (core : OnDisk D) → is_rdb_name rdb ≡ true → IsOpenedTo rdb fresh core → core.layout ≡ Two
+by_answer : {D : Type 0} (modelled : Bool) → modelled ≡ true → (life : D → Life) (rdb : List ℕ) (login : Login) (input before now : Option (List ℕ)) (outcome : Result (Unit {0}) Fault) (core : OnDisk D) → is_rdb_name rdb ≡ true → IsOpenedTo rdb fresh core → core.layout ≡ Two
     → AnswersOver modelled life core login input before outcome now → Pipes (settings_of login rdb) input before outcome now
-by_answer modelled life rdb login input before now outcome core is opened two (inl (fault, reported, refused, silent)) =
+by_answer modelled is_told life rdb login input before now outcome core is opened two (inl (fault, reported, refused, silent)) =
     subst (λ (w : Option (List ℕ)). Pipes (settings_of login rdb) input before outcome w) (sym silent)
     (subst (λ (r : Result (Unit {0}) Fault). Pipes (settings_of login rdb) input before r before) (sym reported)
     (refused_at_start (settings_of login rdb) rdb input before fault is (subst (λ (n : List ℕ). RefusesName n fault) opened.named refused)))
-by_answer modelled life rdb login input before now outcome core is opened two (inr ran) = inr (record {
+by_answer modelled is_told life rdb login input before now outcome core is opened two (inr ran) = inr (record {
   end = ran.end;
   is_flushed = ran.is_flushed;
   reported = ran.reported;
-  has_run = fresh_run (settings_of login rdb) core.room (machine_over login core) ran.last before now ran.end input (starts_fresh rdb login core opened two) ran.runs;
+  has_run = fresh_run (settings_of login rdb) core.room (machine_over modelled login core) ran.last before now ran.end input (starts_fresh modelled is_told rdb login core opened two) ran.runs;
 })
 
-pub piped : {D : Type 0} (modelled : Bool) (life : D → Life) (rdb : List ℕ) (login : Login) (input before now : Option (List ℕ)) (outcome : Result (Unit {0}) Fault) (core : OnDisk D) → BeginsFresh rdb (Ok core)
+pub piped : {D : Type 0} (modelled : Bool) → modelled ≡ true → (life : D → Life) (rdb : List ℕ) (login : Login) (input before now : Option (List ℕ)) (outcome : Result (Unit {0}) Fault) (core : OnDisk D) → BeginsFresh rdb (Ok core)
     → AnswersOver modelled life core login input before outcome now → PipesInMemory rdb login input before outcome now
-piped modelled life rdb login input before now outcome core begun answers =
+piped modelled is_told life rdb login input before now outcome core begun answers =
     let is = as_rdb_name rdb true begun.0 in
-    inr (is, by_answer modelled life rdb login input before now outcome core is begun.1 begun.2 answers)
+    inr (is, by_answer modelled is_told life rdb login input before now outcome core is begun.1 begun.2 answers)

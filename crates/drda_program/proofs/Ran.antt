@@ -18,7 +18,7 @@ use Rattle.drda_program.specs.declared.fault.Fault.{Fault}
 module _ {D : Type 0} (modelled : Bool) (life : D → Life) where
   -- a node that ran, and its last flush
   pub ran_over : (core over last : OnDisk D) (first final : Machine) (login : Login) (input before mid now : Option (List ℕ)) (end : RunEnd) (is_flushed : Bool) (outcome : Result (Unit {0}) Fault)
-      → over ≡ core → first ≡ machine_over login core → final.core ≡ asked_of last → IsJournaled modelled life over last
+      → over ≡ core → first ≡ machine_over modelled login core → final.core ≡ asked_of modelled last → IsJournaled modelled life over last
       → IfSome input (λ bytes. Runs first bytes before end mid final) → Keeps mid now → outcome ≡ result_for end is_flushed → RunsOver modelled life core login input before outcome now
   ran_over core over last first final login input before mid now end is_flushed outcome same begins ends journaled runs kept reported = record {
     end = end;

@@ -34,9 +34,9 @@ use Rattle.drda_program.specs.declared.fault.Fault.TheVariants.{BadArguments, Ba
 abbrev pub settings_of : Login → List ℕ → Settings
 settings_of login rdb = record { user = login.user; password = login.password; rdb = rdb }
 
--- over a store that was just made, of layout 2, with so many bytes for records
+-- over a store in memory that was just made, of layout 2, with so many bytes for records
 abbrev pub new_core : ℕ → AskedCore
-new_core room = record { state = opened fresh; layout = Two; room = room; has_failed = false; made = [] }
+new_core room = record { is_told = true; state = opened fresh; layout = Two; room = room; has_failed = false; made = [] }
 
 -- a machine that is started with these settings over a fresh store has run over the input and ended so
 abbrev pub HasRun : Settings → List ℕ → Option (List ℕ) → RunEnd → Option (List ℕ) → Type 0
@@ -66,8 +66,8 @@ PipesInMemory rdb login input before outcome now =
 -- ---- over the store of a disk
 
 -- a machine of the tables and units in doubt that a core has
-abbrev pub machine_over : {D : Type 0} → Login → OnDisk D → Machine
-machine_over login core = at_start (settings_of login core.name) (asked_of core)
+abbrev pub machine_over : {D : Type 0} → Bool → Login → OnDisk D → Machine
+machine_over modelled login core = at_start (settings_of login core.name) (asked_of modelled core)
 
 module _ {D : Type 0} (modelled : Bool) (life : D → Life) where
   -- the machine of a core has run over the input, with a last flush; all that the core did is journaled
@@ -76,9 +76,9 @@ module _ {D : Type 0} (modelled : Bool) (life : D → Life) where
     pub is_flushed : Bool
     pub reported : outcome ≡ result_for end is_flushed
     pub last : Machine
-    pub runs : IfSome input (λ bytes. Runs (machine_over login core) bytes before end now last)
+    pub runs : IfSome input (λ bytes. Runs (machine_over modelled login core) bytes before end now last)
     pub left : OnDisk D
-    pub left_is : last.core ≡ asked_of left
+    pub left_is : last.core ≡ asked_of modelled left
     pub journaled : IsJournaled modelled life core left
 
   -- no node was started over a core, or it ran

@@ -25,7 +25,7 @@ pub(crate) fn node_over<D: Disk + Drop>(
     core: DurableCore<D>,
     login: Login<'_>,
 ) -> Result<Node<D>, Fault>
-    ensures machine { IfOk result (λ n. machine n ≡ machine_over (plain_login login.entry) core) }
+    ensures machine { IfOk result (λ n. machine n ≡ machine_over D.is_modelled (plain_login login.entry) core) }
     ensures core { IfOk result (λ n. core_in n ≡ core) }
     ensures refused { IfErr result (RefusesName core.name) }
 {

@@ -37,6 +37,7 @@ pages_ok size a is behind =
       behind = omega (arith, behind.begins);
       small = omega (arith, behind.ends, large.2, ends);
       inside = omega (arith, behind.ends, ends);
+      apart = omega (arith, behind.begins, behind.ends);
     }
 
 -- the store that an image is

@@ -1,5 +1,8 @@
 pub mod Recording
 pub mod Stepping
+pub mod Looking
+pub mod Copying
+pub mod Paged
 pub mod HeuristicSteps
 pub mod Gathering
 pub mod Doubted

@@ -1,5 +1,5 @@
 -- The parts of a store that were read: they stand there, and what opens is not refused.
-use Rattle.std.proofs.Common.{◌≡◌, ℕ, ◌+◌, ◌-◌, ◌*◌, ◌≤◌, Bool, true, IsTrue, string_bytes, List, length, Result, Ok, Err, sym, ◌∙◌, ap, subst, arith}
+use Rattle.std.proofs.Common.{◌≡◌, ℕ, ◌+◌, ◌-◌, ◌*◌, ◌≤◌, Bool, true, IsTrue, string_bytes, List, [], length, Result, Ok, Err, sym, ◌∙◌, ap, subst, arith}
 use Rattle.drda_disk.specs.Disk.{Life}
 use Rattle.drda_disk.specs.Region.{end_of}
 use Rattle.drda_disk.specs.declared.region.Region.{Region}
@@ -12,6 +12,7 @@ use Rattle.store_check.specs.Checkpoint.{HasCheckpoint, OneCheckpoint, half_page
 use Rattle.store_check.specs.Half.{HalfPages, pages_of}
 use Rattle.tables.specs.Tables.{Store as Tables}
 use Rattle.tables.specs.View.{is_store}
+use Rattle.paged_tables.specs.TablesByName.{PagesStay, Tables as PagesByName}
 use Rattle.unit_journal.specs.Journal.{IsSettled, held_of, next_of, region_of, room_of}
 use Rattle.unit_journal.specs.declared.journal.Journal.{Journal}
 use Rattle.unit_journal.specs.Laws.{OneReading}
@@ -25,8 +26,8 @@ use Rattle.recovery.specs.Sound.{IsSound, LeadsAreSound}
 use Rattle.recovery.specs.Opens.{Holds, IsJournal, OpensTo}
 use Rattle.recovery.specs.ImageLaws.{IsThere, OpensThere, OpensToOne}
 use Rattle.recovery.proofs.Reading.{one_store}
-use Rattle.durable_core.specs.Reads.{IsHead, IsInside, IsPlain}
-use Rattle.durable_core.specs.Found.{IsFound, StandsThere, durable_in, name_in}
+use Rattle.durable_core.specs.Reads.{ArePagesInside, IsHead, IsInside, IsPlain}
+use Rattle.durable_core.specs.Found.{IsFound, StandInFront, StandsThere, durable_in, name_in}
 use Rattle.durable_core.specs.declared.errors.OpenError.{OpenError}
 use Rattle.durable_core.specs.declared.reading.Found.{Found}
 
@@ -88,6 +89,14 @@ pub finds_one : (modelled : Bool) (last : Life) (image : List ℕ) (f : Found) �
 finds_one modelled last image f one seen name d opens there =
     one (name_in f) name (durable_in f) d image (f.layout, region_of f.journal, there.entries, subst (λ (i : List ℕ). Holds (name_in f) f.layout (region_of f.journal) there.entries (durable_in f) i) seen there.holds) opens
 
+-- tables that have other rows stand on the same pages
+pub in_front : (modelled : Bool) (image : List ℕ) (region : Region) (s t : PagesByName) → PagesStay s t → StandInFront modelled image region s → StandInFront modelled image region t
+in_front modelled image region s t stays stand = record {
+  inside = λ size behind. stays.inside size (stand.inside size behind);
+  apart = stays.apart 0 (end_of region - half_len (length image)) stand.apart;
+  stand = λ is. stays.stand image (stand.stand is);
+}
+
 -- what was read of a store is what stands there
 module _ (modelled : Bool) (last : Life) (image : List ℕ) (a : Active) (tables : Tables) (es : List Entry) (d : Durable) (f : Found) (seen : last.seen ≡ image)
     (known : AreKnown a.layout es) (leads : Leads (at_checkpoint tables) es d) (same : durable_in f ≡ d) (region : region_of f.journal ≡ a.region) (layout : f.layout ≡ a.layout) (held : held_of f.journal ≡ held_for f.layout (durable_in f).doubts)
@@ -107,9 +116,9 @@ module _ (modelled : Bool) (last : Life) (image : List ℕ) (a : Active) (tables
     room = omega (arith, f.journal.fits, settled.next, held);
   }
 
-  pub found_all : LeadsAreSound → is_store tables ≡ true → IsInside (length image) a.region
+  pub found_all : LeadsAreSound → is_store tables ≡ true → IsInside (length image) a.region → ArePagesInside (length image) a → StandInFront modelled image a.region f.store.tables → f.cache ≡ []
       → (IsTrue modelled → IsHead image a) → (IsTrue modelled → HasCheckpoint image (pages_of a) tables) → (IsTrue modelled → IsSettled modelled last f.journal es) → IsFound modelled last f
-  found_all sound good inside head has settled = record {
+  found_all sound good inside pages stand none head has settled = record {
     sound = subst IsSound (sym same) (sound tables d es good leads);
     held = held;
     inside = subst (λ (i : List ℕ). end_of (region_of f.journal) ≤ length i) (sym seen) (subst (λ (g : Region). end_of g ≤ length image) (sym region) inside.inside);
@@ -118,6 +127,9 @@ module _ (modelled : Bool) (last : Life) (image : List ℕ) (a : Active) (tables
       settled = settled is;
       holds = subst (λ (i : List ℕ). Holds (name_in f) f.layout (region_of f.journal) es (durable_in f) i) (sym seen) (holds_there (head is) (has is) (settled is));
     };
+    front = subst (λ (i : List ℕ). (region_of f.journal).at ≤ length i) (sym seen) (subst (λ (g : Region). g.at ≤ length image) (sym region) pages.inside);
+    pages = subst (λ (i : List ℕ). StandInFront modelled i (region_of f.journal) f.store.tables) (sym seen) (subst (λ (g : Region). StandInFront modelled image g f.store.tables) (sym region) stand);
+    none_kept = none;
   }
 
 -- a journal that holds more stands as it did

@@ -27,11 +27,11 @@ use Rattle.core_model.specs.Step.{CoreState}
 use Rattle.recovery.specs.Part.{durable_part}
 use Rattle.recovery.specs.Opens.{Holds}
 use Rattle.recovery.specs.ImageLaws.{GroupsStay}
-use Rattle.recovery.specs.Journaled.{FaultsAfter, GroupsGoOn, IsDurable, JournaledBy, MadeBy, OnDisk, OneCallIsMade, OneGroupIsMade, shown_on}
+use Rattle.recovery.specs.Journaled.{GroupsGoOn, IsDurable, JournaledBy, MadeBy, OnDisk, OneCallIsMade, OneGroupIsMade, shown_on}
 use Rattle.journal_recorder.specs.Recording.{AllowsAll, AreLeftOpen, RecordsAll, disk_of, has_failed, journal_of, layout_of}
 use Rattle.journal_recorder.specs.declared.recorder.DiskRecorder.{DiskRecorder}
 use Rattle.durable_core.specs.Recorded.{IsOnDisk, IsRecorded, core_on}
-use Rattle.durable_core.proofs.Recording.{durable_from}
+use Rattle.durable_core.proofs.Recording.{durable_from, no_faults, one_fault}
 
 -- the laws that it rests on
 pub record PhaseLaws {D : Type 0} (life : D → Life) : Type 0 where
@@ -158,7 +158,7 @@ module _ {D : Type 0} (modelled : Bool) (life : D → Life) (name : List ℕ) (a
           name = refl;
           more = map entry_of said;
           made = made.made;
-          faults = λ still. subst (λ (f : Bool). FaultsAfter f (life (disk_of r)).faults (life (disk_of after)).faults) (sym made.going) (omega (arith, made.faults));
+          faults = λ still. no_faults modelled (has_failed after) (life (disk_of r)).faults (life (disk_of after)).faults made.going made.faults;
           failed = λ is_failed. absurd (false≢true (sym going ∙ is_failed));
           records = λ modelled_disk still. (said, made_for behind after (all_made modelled_disk));
         };
@@ -186,7 +186,7 @@ module _ {D : Type 0} (modelled : Bool) (life : D → Life) (name : List ℕ) (a
           name = refl;
           more = map entry_of said;
           made = left.made;
-          faults = λ still. subst (λ (f : Bool). FaultsAfter f (life (disk_of r)).faults (life (disk_of after)).faults) (sym left.failed) left.faults;
+          faults = λ still. one_fault modelled (has_failed after) (life (disk_of r)).faults (life (disk_of after)).faults left.failed left.faults;
           failed = λ is_failed. absurd (false≢true (sym going ∙ is_failed));
           records = λ modelled_disk still. (said, made_for s after (left_made modelled_disk));
         };

@@ -1,14 +1,15 @@
--- What becomes of a core and of who records where a record is made, is refused, or none is due: it stays recorded.
-use Rattle.std.proofs.Common.{◌≡◌, ℕ, ◌+◌, ◌-◌, ◌≤◌, Bool, true, false, IsTrue, List, [], ◌∷◌, ◌++◌, length, Some, refl, sym, ◌∙◌, ap, subst, arith, append-nil}
+-- What becomes of a core and of who records where a record is made, is refused, or none is due, and where rows are read: it
+-- stays recorded.
+use Rattle.std.proofs.Common.{◌≡◌, ◌⊎◌, inl, inr, ℕ, ◌+◌, ◌-◌, ◌≤◌, Bool, true, false, IsTrue, List, [], ◌∷◌, ◌++◌, length, Some, refl, sym, ◌∙◌, ap, subst, arith, append-nil}
 use Rattle.std.proofs.lemmas.Bool.{false≢true}
-use Rattle.drda_disk.specs.Disk.{Life}
+use Rattle.drda_disk.specs.Disk.{Life, Stays}
 use Rattle.drda_disk.specs.Region.{end_of}
 use Rattle.drda_disk.specs.declared.region.Region.{Region}
-use Rattle.drda_disk.proofs.Moments.{Stays-refl}
+use Rattle.drda_disk.proofs.Moments.{Only-stays, Stays-refl}
 use Rattle.half_store.specs.declared.header.Layout.{Layout}
-use Rattle.unit_journal.specs.Journal.{held_of, region_of, room_of}
+use Rattle.unit_journal.specs.Journal.{IsSettled, held_of, region_of, room_of}
 use Rattle.unit_journal.specs.declared.journal.Journal.{Journal}
-use Rattle.unit_journal.specs.Record.{laid}
+use Rattle.unit_journal.specs.Record.{Entry, laid}
 use Rattle.unit_journal.specs.Stands.{Stands}
 use Rattle.unit_records.specs.Records.{UnitRecord, entry_of}
 use Rattle.unit_records.specs.Room.{held, released, taken}
@@ -22,7 +23,7 @@ use Rattle.journal_recorder.specs.Recording.{IsLeftOpen, Records, disk_of, has_f
 use Rattle.journal_recorder.specs.declared.recorder.DiskRecorder.{DiskRecorder}
 use Rattle.recovery.specs.Opens.{Holds}
 use Rattle.recovery.specs.ImageLaws.{RecordsStay}
-use Rattle.recovery.specs.Journaled.{FaultsAfter, IsDurable, IsUnchanged, IsUntouched, Journaled, Made, OnDisk, OneCallIsMade, shown_on}
+use Rattle.recovery.specs.Journaled.{FaultsAfter, IsDurable, IsRead, IsUnchanged, IsUntouched, Journaled, Made, OnDisk, OneCallIsMade, shown_on}
 use Rattle.durable_core.specs.Recorded.{IsOnDisk, IsRecorded, core_on}
 
 -- the laws that it rests on
@@ -34,6 +35,35 @@ pub record Laws {D : Type 0} (life : D → Life) : Type 0 where
 -- a record that finds room fits behind the others, with the bytes that are held then
 fits : (at len l need hold free before after room : ℕ) → room ≡ at + len - (at + l) - 1 - before → l + 1 + before ≤ len → need + hold ≤ room + free → after + free ≡ before + hold → l + need + 1 + after ≤ len
 fits at len l need hold free before after room is inside less same = omega (arith, is, inside, less, same)
+
+-- no call of the device has failed, or one more
+pub no_faults : (modelled is_failed : Bool) (old new : ℕ) → is_failed ≡ false → new ≡ old → FaultsAfter modelled is_failed old new
+no_faults modelled is_failed old new going same = subst (λ (f : Bool). FaultsAfter modelled f old new) (sym going) (inl (omega (arith, same)))
+
+pub one_fault : (modelled is_failed : Bool) (old new : ℕ) → is_failed ≡ true → new ≡ old + 1 → FaultsAfter modelled is_failed old new
+one_fault modelled is_failed old new failed more = subst (λ (f : Bool). FaultsAfter modelled f old new) (sym failed) (inl more)
+
+-- a device that gives back what was written has failed in a call of it; any other may have given damage
+pub some_fault : (modelled is_failed : Bool) (old new : ℕ) → is_failed ≡ true → (IsTrue modelled → new ≡ old + 1) → (new ≡ old + 1) ⊎ (new ≡ old) → FaultsAfter modelled is_failed old new
+some_fault modelled is_failed old new failed told (inl more) = one_fault modelled is_failed old new failed more
+some_fault true is_failed old new failed told (inr same) = one_fault true is_failed old new failed (told refl)
+some_fault false is_failed old new failed told (inr same) = inr (record { untold = refl; failed = failed; faults = same })
+
+-- records that are on a disk to stay are so where nothing is written
+settled_still : (modelled : Bool) (old new : Life) (j : Journal) (es : List Entry) → Stays old new → IsSettled modelled old j es → IsSettled modelled new j es
+settled_still modelled old new j es stays settled = record {
+  modelled_disk = settled.modelled_disk;
+  durable = Only-stays old new stays settled.durable;
+  stands = subst (λ (i : List ℕ). Stands (region_of j) es i) (sym stays.same) settled.stands;
+  next = settled.next;
+}
+
+-- who records has its journal, its layout and the records that were made, and nothing was written
+pub record RestsOn {D : Type 0} (life : D → Life) (r after : DiskRecorder D) : Type 0 where
+  pub disk : Stays (life (disk_of r)) (life (disk_of after))
+  pub journal : journal_of after ≡ journal_of r
+  pub layout : layout_of after ≡ layout_of r
+  pub made : made_of after ≡ made_of r
 
 -- a core that has failed does nothing
 pub stays_failed : {D : Type 0} (modelled : Bool) (life : D → Life) → OneCallIsMade life → (s : OnDisk D) → s.is_failed ≡ true → Journaled modelled (shown_on life s) (shown_on life s)
@@ -47,11 +77,27 @@ stays_failed modelled life made s failed = record {
 }
 
 module _ {D : Type 0} (modelled : Bool) (life : D → Life) (name : List ℕ) where
-  untouched : (r : DiskRecorder D) → IsUntouched (life (disk_of r)) (life (disk_of r))
+  pub untouched : (r : DiskRecorder D) → IsUntouched (life (disk_of r)) (life (disk_of r))
   untouched r = record { stays = Stays-refl (life (disk_of r)); moment = refl; faults = refl }
+
+  pub rests : (r : DiskRecorder D) → RestsOn life r r
+  rests r = record { disk = Stays-refl (life (disk_of r)); journal = refl; layout = refl; made = refl }
 
   pub unchanged : (s : CoreState) (r : DiskRecorder D) → IsUnchanged (shown_on life (core_on name s r)) (shown_on life (core_on name s r))
   unchanged s r = record { name = refl; state = refl; disk = untouched r; layout = refl; room = refl; is_failed = refl; made = refl }
+
+  -- all is as it was, whatever was read
+  pub only_read : (s : CoreState) (r after : DiskRecorder D) → RestsOn life r after → (life (disk_of after)).faults ≡ (life (disk_of r)).faults → has_failed after ≡ has_failed r
+      → IsRead (shown_on life (core_on name s r)) (shown_on life (core_on name s after))
+  only_read s r after rests faults failed = record {
+    name = refl;
+    state = refl;
+    disk = record { stays = rests.disk; faults = faults };
+    layout = rests.layout;
+    room = ap (λ (j : Journal). room_of j) rests.journal;
+    is_failed = failed;
+    made = rests.made;
+  }
 
   -- the core is durable until the device fails
   pub durable_from : OneCallIsMade life → (s : CoreState) (r : DiskRecorder D) → IsRecorded modelled life name s r → IsTrue modelled → has_failed r ≡ false → IsDurable (shown_on life (core_on name s r))
@@ -62,33 +108,46 @@ module _ {D : Type 0} (modelled : Bool) (life : D → Life) (name : List ℕ) wh
   module _ (laws : Laws life) (s : CoreState) (r : DiskRecorder D) (is : IsRecorded modelled life name s r) (going : has_failed r ≡ false) where
     -- ---- no record: nothing durable changes
 
-    no_fault : FaultsAfter (has_failed r) (life (disk_of r)).faults (life (disk_of r)).faults
-    no_fault = subst (λ (f : Bool). FaultsAfter f (life (disk_of r)).faults (life (disk_of r)).faults) (sym going) (omega arith)
-
     module _ (new : CoreState) (same : durable_part new ≡ durable_part s) where
+      -- nothing was written, whatever was read
+      module _ (after : DiskRecorder D) (stays : RestsOn life r after) where
+        pub read_journaled : FaultsAfter modelled (has_failed after) (life (disk_of r)).faults (life (disk_of after)).faults → Journaled modelled (shown_on life (core_on name s r)) (shown_on life (core_on name new after))
+        read_journaled faults = record {
+          name = refl;
+          more = [];
+          made = stays.made ∙ sym (append-nil (made_of r));
+          faults = λ still. faults;
+          failed = λ is_failed. absurd (false≢true (sym going ∙ is_failed));
+          records = λ modelled_disk still. ([], laws.calls_made.silent (core_on name s r) (core_on name new after) (durable_from laws.calls_made s r is modelled_disk going) stays.disk same stays.made);
+        }
+
+        here : (there : IsOnDisk modelled life name s r) → Holds name (layout_of after) (region_of (journal_of after)) there.entries (durable_part new) (life (disk_of after)).seen
+        here there =
+            subst (λ (l : Layout). Holds name l (region_of (journal_of after)) there.entries (durable_part new) (life (disk_of after)).seen) (sym stays.layout)
+            (subst (λ (j : Journal). Holds name (layout_of r) (region_of j) there.entries (durable_part new) (life (disk_of after)).seen) (sym stays.journal)
+            (subst (λ (d : Durable). Holds name (layout_of r) (region_of (journal_of r)) there.entries d (life (disk_of after)).seen) (sym same)
+            (subst (λ (i : List ℕ). Holds name (layout_of r) (region_of (journal_of r)) there.entries (durable_part s) i) (sym stays.disk.same) there.holds)))
+
+        pub read_recorded : IsKept new → IsRecorded modelled life name new after
+        read_recorded kept = record {
+          kept = kept;
+          held = ap (λ (j : Journal). held_of j) stays.journal ∙ is.held ∙ ap (λ (d : Durable). held_for (layout_of r) d.doubts) (sym same) ∙ ap (λ (l : Layout). held_for l (durable_part new).doubts) (sym stays.layout);
+          inside = subst (λ (j : Journal). end_of (region_of j) ≤ length (life (disk_of after)).seen) (sym stays.journal)
+              (subst (λ (i : List ℕ). end_of (region_of (journal_of r)) ≤ length i) (sym stays.disk.same) is.inside);
+          on_disk = λ modelled_disk still.
+              let there = is.on_disk modelled_disk going in
+              record {
+                entries = there.entries;
+                settled = subst (λ (j : Journal). IsSettled modelled (life (disk_of after)) j there.entries) (sym stays.journal) (settled_still modelled (life (disk_of r)) (life (disk_of after)) (journal_of r) there.entries stays.disk there.settled);
+                holds = here there;
+              };
+        }
+
       pub silent_journaled : Journaled modelled (shown_on life (core_on name s r)) (shown_on life (core_on name new r))
-      silent_journaled = record {
-        name = refl;
-        more = [];
-        made = sym (append-nil (made_of r));
-        faults = λ still. no_fault;
-        failed = λ is_failed. absurd (false≢true (sym going ∙ is_failed));
-        records = λ modelled_disk still. ([], laws.calls_made.silent (core_on name s r) (core_on name new r) (durable_from laws.calls_made s r is modelled_disk going) (Stays-refl (life (disk_of r))) same refl);
-      }
+      silent_journaled = read_journaled r (rests r) (no_faults modelled (has_failed r) (life (disk_of r)).faults (life (disk_of r)).faults going refl)
 
       pub silent_recorded : IsKept new → IsRecorded modelled life name new r
-      silent_recorded kept = record {
-        kept = kept;
-        held = is.held ∙ ap (λ (d : Durable). held_for (layout_of r) d.doubts) (sym same);
-        inside = is.inside;
-        on_disk = λ modelled_disk still.
-            let there = is.on_disk modelled_disk still in
-            record {
-              entries = there.entries;
-              settled = there.settled;
-              holds = subst (λ (d : Durable). Holds name (layout_of r) (region_of (journal_of r)) there.entries d (life (disk_of r)).seen) (sym same) there.holds;
-            };
-      }
+      silent_recorded kept = read_recorded r (rests r) kept
 
     -- ---- a record that leads to what is durable of the new state
 
@@ -144,7 +203,7 @@ module _ {D : Type 0} (modelled : Bool) (life : D → Life) (name : List ℕ) wh
           name = refl;
           more = entry_of said ∷ [];
           made = made.made;
-          faults = λ still. subst (λ (f : Bool). FaultsAfter f (life (disk_of r)).faults (life (disk_of after)).faults) (sym made.going) (omega (arith, made.faults));
+          faults = λ still. no_faults modelled (has_failed after) (life (disk_of r)).faults (life (disk_of after)).faults made.going made.faults;
           failed = λ is_failed. absurd (false≢true (sym going ∙ is_failed));
           records = λ modelled_disk still. (said ∷ [], record_made modelled_disk);
         }
@@ -172,7 +231,7 @@ module _ {D : Type 0} (modelled : Bool) (life : D → Life) (name : List ℕ) wh
           name = refl;
           more = entry_of said ∷ [];
           made = left.made;
-          faults = λ still. subst (λ (f : Bool). FaultsAfter f (life (disk_of r)).faults (life (disk_of after)).faults) (sym left.failed) left.faults;
+          faults = λ still. one_fault modelled (has_failed after) (life (disk_of r)).faults (life (disk_of after)).faults left.failed left.faults;
           failed = λ is_failed. absurd (false≢true (sym going ∙ is_failed));
           records = λ modelled_disk still. (said ∷ [], left_made modelled_disk);
         }

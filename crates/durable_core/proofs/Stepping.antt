@@ -1,4 +1,4 @@
--- What a call of the core makes of it and of who records: it stays recorded, and each answer is one of `Steps`.
+-- What a call of the core makes of it and of who records and reads: it stays recorded, and each answer is one of `Steps`.
 use Rattle.std.proofs.Common.{◌≡◌, inl, inr, ℕ, ◌+◌, ◌-◌, ◌^◌, ◌≤◌, min, Bool, true, false, List, ◌++◌, Option, Some, None, refl, sym, ◌∙◌, ap, subst, append-nil}
 use Rattle.drda_disk.specs.Disk.{Life}
 use Rattle.unit_journal.specs.Journal.{room_of}
@@ -14,7 +14,7 @@ use Rattle.unit_records.specs.declared.record_error.RecordError.{RecordError}
 use Rattle.unit_records.specs.declared.record_error.RecordError.TheVariants as error
 use Rattle.recovery.specs.Known.{IsKnown, Releases}
 use Rattle.recovery.specs.Part.{durable_part}
-use Rattle.recovery.specs.StepLaws.{DecisionsAreOfDoubts, DueAreKnown, RecordsLead, SilentStepsStay, StepsKeep}
+use Rattle.recovery.specs.StepLaws.{DecisionsAreOfDoubts, DueAreKnown, MisreadsKeep, MisreadsStay, RecordsLead, SilentStepsStay, StepsKeep}
 use Rattle.journal_recorder.specs.Recording.{Allows, Fails, IsLeftOpen, Records, has_failed, journal_of, layout_of, made_of}
 use Rattle.journal_recorder.specs.declared.recorder.DiskRecorder.{DiskRecorder}
 use Rattle.recovery.specs.Journaled.{Journaled, shown_on}
@@ -22,7 +22,7 @@ use Rattle.rdb_core.specs.Recorded as told
 use Rattle.rdb_core.specs.Steps as core
 use Rattle.durable_core.specs.Recorded.{IsOnDisk, IsRecorded, core_on}
 use Rattle.durable_core.specs.Steps.{IsClosed, MayWantMemory, RoomAfter, Steps, due_entries}
-use Rattle.durable_core.proofs.Recording.{Laws, left_journaled, left_recorded, record_journaled, record_recorded, silent_journaled, silent_recorded, unchanged}
+use Rattle.durable_core.proofs.Recording.{Laws, left_journaled, left_recorded, record_journaled, record_recorded, only_read, rests, silent_journaled, silent_recorded, unchanged, untouched}
 
 -- the laws of steps
 pub record StepLaws {D : Type 0} (life : D → Life) : Type 0 where
@@ -31,13 +31,15 @@ pub record StepLaws {D : Type 0} (life : D → Life) : Type 0 where
   pub lead : RecordsLead
   pub of_doubts : DecisionsAreOfDoubts
   pub known : DueAreKnown
+  pub misread_keep : MisreadsKeep
+  pub misread_stays : MisreadsStay
   pub laws : Laws life
 
 module _ {D : Type 0} (modelled : Bool) (life : D → Life) (name : List ℕ) where
   -- what became of a call of a core
   pub record IsDone (s : CoreState) (r : DiskRecorder D) (conversation : ℕ) (k : Call) (said : Answer) (new : CoreState) (after : DiskRecorder D) : Type 0 where
     pub recorded : IsRecorded modelled life name new after
-    pub steps : Steps (shown_on life (core_on name s r)) conversation k said (shown_on life (core_on name new after))
+    pub steps : Steps modelled (shown_on life (core_on name s r)) conversation k said (shown_on life (core_on name new after))
     pub journaled : Journaled modelled (shown_on life (core_on name s r)) (shown_on life (core_on name new after))
 
   module _ (all : StepLaws life) (s : CoreState) (r : DiskRecorder D) (is : IsRecorded modelled life name s r) where
@@ -77,7 +79,13 @@ module _ {D : Type 0} (modelled : Bool) (life : D → Life) (name : List ℕ) wh
       out_of_memory : MayWantMemory s conversation k → IsDone s r conversation k no_memory s r
       out_of_memory wanting = record {
         recorded = is;
-        steps = inr (inl (record { going = going; wanting = wanting; answer_is = refl; same = unchanged modelled life name s r }));
+        steps = inr (inr (inl (record {
+          going = going;
+          wanting = wanting;
+          answer_is = refl;
+          same = only_read modelled life name s r r (rests modelled life name r) refl refl;
+          untouched = λ none. untouched modelled life name r;
+        })));
         journaled = silent_journaled modelled life name all.laws s r is going s refl;
       }
 
@@ -113,7 +121,7 @@ module _ {D : Type 0} (modelled : Bool) (life : D → Life) (name : List ℕ) wh
         failed_step : (after : DiskRecorder D) → IsLeftOpen modelled life r said after → IsDone s r conversation k (told.refusal_answer error.DeviceFailed) s after
         failed_step after left = record {
           recorded = left_recorded modelled life name all.laws s r is going (step_state s conversation k) said leads known releases after left;
-          steps = inr (inr (inr (inl (record {
+          steps = inr (inr (inr (inr (inl (record {
             going = going;
             record_is = said;
             due = due;
@@ -125,7 +133,7 @@ module _ {D : Type 0} (modelled : Bool) (life : D → Life) (name : List ℕ) wh
             faults = left.faults;
             failed = left.failed;
             made = left.made;
-          }))));
+          })))));
           journaled = left_journaled modelled life name all.laws s r is going (step_state s conversation k) said leads known releases after left;
         }
 
@@ -140,7 +148,7 @@ module _ {D : Type 0} (modelled : Bool) (life : D → Life) (name : List ℕ) wh
             = ap (λ (n : ℕ). told.refusal_answer (error.Full n room)) no_room.1.need_is ∙ ap (λ (n : ℕ). told.refusal_answer (error.Full (min (taken said + held (layout_of r) said - released (layout_of r) said) (2 ^ 64 - 1)) n)) no_room.1.room_is in
             subst (λ (x : DiskRecorder D). IsDone s r conversation k (told.refusal_answer (error.Full need room)) s x) (sym no_room.0) (record {
               recorded = is;
-              steps = inr (inr (inl (record { going = going; record_is = said; due = due; answer_is = at_need; less = no_room.1.less; same = unchanged modelled life name s r })));
+              steps = inr (inr (inr (inl (record { going = going; record_is = said; due = due; answer_is = at_need; less = no_room.1.less; same = unchanged modelled life name s r }))));
               journaled = silent_journaled modelled life name all.laws s r is going s refl;
             })
         refused_by error.DeviceFailed after left = failed_step after left
@@ -159,7 +167,7 @@ module _ {D : Type 0} (modelled : Bool) (life : D → Life) (name : List ℕ) wh
 
       -- what the core is sure to do
       module _ (said : Answer) (new : CoreState) (after : DiskRecorder D) (sure : core.may_want_any s conversation k ≡ false → record_due s conversation k ≡ None → core.Takes (Records modelled life) s conversation k said new r after) where
-        unless_sure : (wants : Bool) (o : Option UnitRecord) → core.may_want_any s conversation k ≡ wants → record_due s conversation k ≡ o
+        pub unless_sure : (wants : Bool) (o : Option UnitRecord) → core.may_want_any s conversation k ≡ wants → record_due s conversation k ≡ o
             → (MayWantMemory s conversation k → IsDone s r conversation k said new after) → IsDone s r conversation k said new after
         unless_sure true o wants due otherwise = otherwise (inl wants)
         unless_sure false None wants due otherwise = taken_step said new after (sure wants due)
@@ -174,6 +182,6 @@ module _ {D : Type 0} (modelled : Bool) (life : D → Life) (name : List ℕ) wh
             subst (λ (a : Answer). IsDone s r conversation k a new after) (sym answer_is)
             (subst (λ (n : CoreState). IsDone s r conversation k (told.refusal_answer fault) n after) (sym same) (refused_by refused.record_is refused.due_is fault after refused.failed))
 
-        pub any_step : core.Steps (Records modelled life) (Fails modelled life) s conversation k said new r after → IsDone s r conversation k said new after
-        any_step (inl takes) = taken_step said new after takes
-        any_step (inr kept) = kept_by kept.fault kept.answer_is kept.state kept.cause
+        pub plain_step : core.Steps (Records modelled life) (Fails modelled life) s conversation k said new r after → IsDone s r conversation k said new after
+        plain_step (inl takes) = taken_step said new after takes
+        plain_step (inr kept) = kept_by kept.fault kept.answer_is kept.state kept.cause

@@ -1,5 +1,5 @@
 -- What a checkpoint leaves: at each moment the same tables and branches in doubt.
-use Rattle.std.proofs.Common.{◌≡◌, ◌⊎◌, inl, inr, ℕ, ◌+◌, ◌-◌, ◌≤◌, Bool, true, false, IsTrue, List, [], ◌∷◌, length, map, refl, sym, ◌∙◌, ap, subst, arith, append-nil}
+use Rattle.std.proofs.Common.{◌≡◌, ◌⊎◌, inl, inr, ℕ, ◌+◌, ◌-◌, ◌≤◌, Bool, true, false, IsTrue, List, [], ◌∷◌, length, map, Result, Ok, Err, refl, sym, ◌∙◌, ap, subst, arith, append-nil}
 use Rattle.std.proofs.lemmas.Bool.{false≢true}
 use Rattle.drda_disk.specs.Disk.{LeavesOnly, Life}
 use Rattle.drda_disk.specs.Region.{end_of}
@@ -12,7 +12,7 @@ use Rattle.half_store.specs.declared.header.Layout.TheVariants.{Two}
 use Rattle.half_store.specs.declared.layout.Half.{Half}
 use Rattle.half_store.specs.declared.layout.Half.TheVariants.{First, Second}
 use Rattle.tables.specs.Tables.{Store as Tables}
-use Rattle.unit_journal.specs.Journal.{IsSettled, held_of, region_of}
+use Rattle.unit_journal.specs.Journal.{IsSettled, held_of, region_of, room_of}
 use Rattle.unit_journal.specs.declared.journal.Journal.{Journal}
 use Rattle.unit_journal.specs.Record.{Entry}
 use Rattle.unit_journal.specs.Stands.{StandsFrom}
@@ -20,7 +20,8 @@ use Rattle.unit_records.specs.Records.{entry_of}
 use Rattle.store_check.specs.Checkpoint.{CheckpointsAreStores, half_pages}
 use Rattle.checkpoints.specs.Holds as image
 use Rattle.checkpoints.specs.Holds.{half_end, journal_at}
-use Rattle.checkpoints.specs.Moment.{IsNew, IsOld, Moment, MomentsHold, Rests}
+use Rattle.checkpoints.specs.Moment.{IsNew, IsOld, Moment, MomentsHold}
+use Rattle.checkpoints.specs.Room.{need_of}
 use Rattle.recovery.specs.Durable.{Durable, at_checkpoint}
 use Rattle.recovery.specs.Journal.{AreGood, Leads}
 use Rattle.recovery.specs.Known.{AreKnown}
@@ -33,12 +34,18 @@ use Rattle.recovery.specs.Part.{durable_part}
 use Rattle.recovery.specs.Opens.{Holds, IsJournal, OpensTo}
 use Rattle.recovery.specs.Journaled.{FaultsAfter, Journaled, Made, OneCallIsMade, OpensAfterSome, shown_on}
 use Rattle.recovery.proofs.Reading.{active_sized, half_large, one_store}
-use Rattle.journal_recorder.specs.Checkpointing.{IsSwitched, KeepsOld, LeavesOldOrNew, LeavesOpen, Switches}
+use Rattle.journal_recorder.specs.Checkpointing as recorder
+use Rattle.journal_recorder.specs.Checkpointing.{HasStore, IsSwitched, KeepsOld, LeavesOldOrNew, LeavesOpen, OfStore, RestsWith, StaysOn, Switches}
 use Rattle.journal_recorder.specs.Recording.{disk_of, has_failed, journal_of, layout_of, made_of}
+use Rattle.journal_recorder.specs.declared.checkpointing.CheckpointError.{CheckpointError}
+use Rattle.journal_recorder.specs.declared.checkpointing.CheckpointError.TheVariants as error
 use Rattle.journal_recorder.specs.declared.recorder.DiskRecorder.{DiskRecorder}
+use Rattle.durable_core.specs.Checkpointing.{Becomes, Checkpoints, GoesOn, IsSameCore, LacksRoom, need_for, told_of}
 use Rattle.durable_core.specs.Recorded.{IsOnDisk, IsRecorded, core_on}
+use Rattle.durable_core.specs.declared.checkpointing.Checkpointed.{Checkpointed}
+use Rattle.durable_core.specs.declared.checkpointing.Checkpointed.TheVariants.{DeviceFailed, Done, Full, NoMemory}
 use Rattle.durable_core.proofs.Heads.{ends_in}
-use Rattle.durable_core.proofs.Recording.{durable_from}
+use Rattle.durable_core.proofs.Recording.{durable_from, no_faults, some_fault}
 
 -- ---- images
 
@@ -159,30 +166,44 @@ pub record Laws : Type 0 where
   pub sound : LeadsAreSound
   pub stores : CheckpointsAreStores
 
+-- the store over which it is written
+module _ {D : Type 0} (modelled : Bool) (life : D → Life) (name : List ℕ) (s : CoreState) (r : DiskRecorder D) (is : IsRecorded modelled life name s r) (going : has_failed r ≡ false) where
+  there : IsTrue modelled → IsOnDisk modelled life name s r
+  there m = is.on_disk m going
+
+  rests : (m : IsTrue modelled) → RestsWith modelled life r (there m).holds.store
+  rests m = record {
+    rests = record { modelled_disk = m; durable = (there m).settled.durable; active = (there m).holds.active };
+    journal = (there m).holds.journal.ends;
+  }
+
+  pub has_store : HasStore modelled life r
+  has_store m = ((there m).holds.store, rests m)
+
 module _ {D : Type 0} (modelled : Bool) (life : D → Life) (name : List ℕ) (laws : Laws) (s : CoreState) (r : DiskRecorder D) (is : IsRecorded modelled life name s r) (going : has_failed r ≡ false)
     (fs : List Entry) (are : fs ≡ map entry_of (records_of (durable_part s).doubts)) (placed : AreGood (records_of (durable_part s).doubts) → are_placed (durable_part s).doubts s.base.store ≡ true)
     (hold : ℕ) (bytes : hold ≡ held_for Two (durable_part s).doubts) where
   abbrev tables : Tables
   tables = s.base.store
 
-  there : IsTrue modelled → IsOnDisk modelled life name s r
-  there m = is.on_disk m going
+  abbrev disk_there : IsTrue modelled → IsOnDisk modelled life name s r
+  disk_there m = there modelled life name s r is going m
+
+  store_rests : (m : IsTrue modelled) → RestsWith modelled life r (disk_there m).holds.store
+  store_rests m = rests modelled life name s r is going m
 
   leads : IsTrue modelled → Leads (at_checkpoint tables) fs (durable_part s)
   leads m =
-      let h = (there m).holds in
-      let sound : IsSound (durable_part s) = laws.sound h.checkpoint (durable_part s) (there m).entries (laws.stores (life (disk_of r)).seen (half_pages (length (life (disk_of r)).seen) h.store) h.checkpoint h.pages) h.leads in
+      let h = (disk_there m).holds in
+      let sound : IsSound (durable_part s) = laws.sound h.checkpoint (durable_part s) (disk_there m).entries (laws.stores (life (disk_of r)).seen (half_pages (length (life (disk_of r)).seen) h.store) h.checkpoint h.pages) h.leads in
       subst (λ (l : List Entry). Leads (at_checkpoint tables) l (durable_part s)) (sym are) (laws.laid.leads (durable_part s) sound (placed (records_good (durable_part s).doubts sound.good)))
-
-  rests : (m : IsTrue modelled) → Rests modelled (life (disk_of r)) (there m).holds.store
-  rests m = record { modelled_disk = m; durable = (there m).settled.durable; active = (there m).holds.active }
 
   moments : (new : DiskRecorder D) → LeavesOldOrNew modelled life r tables fs hold new → (m : IsTrue modelled) → LeavesOnly (life (disk_of r)) (life (disk_of new)) (OpensTo name (durable_part s))
   moments new leaves m =
-      let h = (there m).holds in
+      let h = (disk_there m).holds in
       weaker (life (disk_of r)) (life (disk_of new)) _ _
-      (subst (λ (n : ℕ). LeavesOnly (life (disk_of r)) (life (disk_of new)) (Moment (life (disk_of r)).seen h.store tables fs n)) bytes (leaves h.store (rests m)))
-      (moment_opens laws.moments name (layout_of r) (region_of (journal_of r)) (there m).entries (durable_part s) (life (disk_of r)).seen h fs (leads m))
+      (subst (λ (n : ℕ). LeavesOnly (life (disk_of r)) (life (disk_of new)) (Moment (life (disk_of r)).seen h.store tables fs n)) bytes (leaves h.store (store_rests m)))
+      (moment_opens laws.moments name (layout_of r) (region_of (journal_of r)) (disk_there m).entries (durable_part s) (life (disk_of r)).seen h fs (leads m))
 
   opens_here : (c : List ℕ) → OpensTo name (durable_part s) c → OpensAfterSome name (durable_part s) [] c
   opens_here c opens = record { count = 0; state = durable_part s; leads = refl; opens = opens }
@@ -198,7 +219,7 @@ module _ {D : Type 0} (modelled : Bool) (life : D → Life) (name : List ℕ) (l
         made = same ∙ sym (append-nil (made_of r));
       }
 
-  pub journaled : (new : DiskRecorder D) → LeavesOldOrNew modelled life r tables fs hold new → made_of new ≡ made_of r → FaultsAfter (has_failed new) (life (disk_of r)).faults (life (disk_of new)).faults
+  journaled : (new : DiskRecorder D) → LeavesOldOrNew modelled life r tables fs hold new → made_of new ≡ made_of r → FaultsAfter modelled (has_failed new) (life (disk_of r)).faults (life (disk_of new)).faults
       → Journaled modelled (shown_on life (core_on name s r)) (shown_on life (core_on name s new))
   journaled new leaves same faults = record {
     name = refl;
@@ -209,19 +230,19 @@ module _ {D : Type 0} (modelled : Bool) (life : D → Life) (name : List ℕ) (l
     records = λ m still. ([], made new leaves same m);
   }
 
-  pub switched : (new : DiskRecorder D) → Switches modelled life r tables fs hold new → IsRecorded modelled life name s new
+  switched : (new : DiskRecorder D) → Switches modelled life r tables fs hold new → IsRecorded modelled life name s new
   switched new w = record {
     kept = is.kept;
     held = w.held ∙ bytes ∙ ap (λ (l : Layout). held_for l (durable_part s).doubts) (sym w.layout);
     inside = w.inside;
     on_disk = λ m still.
-        let h = (there m).holds in
-        let after = subst (λ (n : ℕ). IsSwitched modelled (life (disk_of new)) (life (disk_of r)).seen h.store tables fs n (journal_of new)) bytes (w.switched h.store (rests m)) in
+        let h = (disk_there m).holds in
+        let after = subst (λ (n : ℕ). IsSwitched modelled (life (disk_of new)) (life (disk_of r)).seen h.store tables fs n (journal_of new)) bytes (w.switched h.store (store_rests m)) in
         record {
           entries = fs;
           settled = after.settled;
           holds = subst (λ (l : Layout). Holds name l (region_of (journal_of new)) fs (durable_part s) (life (disk_of new)).seen) (sym w.layout)
-              (switched_there laws.moments name (layout_of r) (region_of (journal_of r)) (there m).entries (durable_part s) (life (disk_of r)).seen h fs (leads m) modelled (life (disk_of new)) (journal_of new) after);
+              (switched_there laws.moments name (layout_of r) (region_of (journal_of r)) (disk_there m).entries (durable_part s) (life (disk_of r)).seen h fs (leads m) modelled (life (disk_of new)) (journal_of new) after);
         };
   }
 
@@ -232,27 +253,27 @@ module _ {D : Type 0} (modelled : Bool) (life : D → Life) (name : List ℕ) (l
   still_held : (new : DiskRecorder D) → journal_of new ≡ journal_of r → layout_of new ≡ layout_of r → held_of (journal_of new) ≡ held_for (layout_of new) (durable_part s).doubts
   still_held new journal layout = ap (λ (j : Journal). held_of j) journal ∙ is.held ∙ ap (λ (l : Layout). held_for l (durable_part s).doubts) (sym layout)
 
-  pub kept : (new : DiskRecorder D) → KeepsOld modelled life r tables fs hold new → IsRecorded modelled life name s new
+  kept : (new : DiskRecorder D) → KeepsOld modelled life r tables fs hold new → IsRecorded modelled life name s new
   kept new k = record {
     kept = is.kept;
     held = still_held new k.journal k.layout;
     inside = inside_still new k.journal k.stays.size;
     on_disk = λ m still.
-        let h = (there m).holds in
-        let old = (there m).settled in
-        let goes = k.goes_on h.store (rests m) in
-        let holds : Holds name (layout_of r) (region_of (journal_of r)) (there m).entries (durable_part s) (life (disk_of new)).seen =
-        kept_there laws.moments name (layout_of r) (region_of (journal_of r)) (there m).entries (durable_part s) (life (disk_of r)).seen h fs (life (disk_of new)).seen goes.is in
+        let h = (disk_there m).holds in
+        let old = (disk_there m).settled in
+        let goes = k.goes_on h.store (store_rests m) in
+        let holds : Holds name (layout_of r) (region_of (journal_of r)) (disk_there m).entries (durable_part s) (life (disk_of new)).seen =
+        kept_there laws.moments name (layout_of r) (region_of (journal_of r)) (disk_there m).entries (durable_part s) (life (disk_of r)).seen h fs (life (disk_of new)).seen goes.is in
         record {
-          entries = (there m).entries;
-          settled = subst (λ (j : Journal). IsSettled modelled (life (disk_of new)) j (there m).entries) (sym k.journal)
+          entries = (disk_there m).entries;
+          settled = subst (λ (j : Journal). IsSettled modelled (life (disk_of new)) j (disk_there m).entries) (sym k.journal)
               (record { modelled_disk = m; durable = goes.durable; stands = holds.stands; next = old.next });
-          holds = subst (λ (l : Layout). Holds name l (region_of (journal_of new)) (there m).entries (durable_part s) (life (disk_of new)).seen) (sym k.layout)
-              (subst (λ (j : Journal). Holds name (layout_of r) (region_of j) (there m).entries (durable_part s) (life (disk_of new)).seen) (sym k.journal) holds);
+          holds = subst (λ (l : Layout). Holds name l (region_of (journal_of new)) (disk_there m).entries (durable_part s) (life (disk_of new)).seen) (sym k.layout)
+              (subst (λ (j : Journal). Holds name (layout_of r) (region_of j) (disk_there m).entries (durable_part s) (life (disk_of new)).seen) (sym k.journal) holds);
         };
   }
 
-  pub left_open : (new : DiskRecorder D) → LeavesOpen modelled life r tables fs hold new → IsRecorded modelled life name s new
+  left_open : (new : DiskRecorder D) → LeavesOpen modelled life r tables fs hold new → IsRecorded modelled life name s new
   left_open new l = record {
     kept = is.kept;
     held = still_held new l.journal l.layout;
@@ -260,34 +281,81 @@ module _ {D : Type 0} (modelled : Bool) (life : D → Life) (name : List ℕ) (l
     on_disk = λ m still. absurd (false≢true (sym still ∙ l.failed));
   }
 
-  no_fault : (new : DiskRecorder D) → has_failed new ≡ false → (life (disk_of new)).faults ≡ (life (disk_of r)).faults → FaultsAfter (has_failed new) (life (disk_of r)).faults (life (disk_of new)).faults
-  no_fault new still same = subst (λ (f : Bool). FaultsAfter f (life (disk_of r)).faults (life (disk_of new)).faults) (sym still) (omega (arith, same))
+  -- ---- what becomes of the core
 
-  one_fault : (new : DiskRecorder D) → has_failed new ≡ true → (life (disk_of new)).faults ≡ (life (disk_of r)).faults + 1 → FaultsAfter (has_failed new) (life (disk_of r)).faults (life (disk_of new)).faults
-  one_fault new failed more = subst (λ (f : Bool). FaultsAfter f (life (disk_of r)).faults (life (disk_of new)).faults) (sym failed) (omega (arith, more))
+  -- what it takes, and what there is
+  enough : need_for (shown_on life (core_on name s r)) ≡ need_of tables fs hold
+  enough = ap (λ (l : List Entry). need_of tables l (held_for Two (durable_part s).doubts)) (sym are) ∙ ap (λ (n : ℕ). need_of tables fs n) (sym bytes)
 
-  -- The same of a core whose tables have room made and given back meanwhile.
-  module _ (T : Tables) (same_tables : T ≡ s.base.store) (t : CoreState) (same_state : t ≡ s) (new : DiskRecorder D) where
-    abbrev JournaledTo : CoreState → Type 0
-    JournaledTo x = Journaled modelled (shown_on life (core_on name s r)) (shown_on life (core_on name x new))
+  same_core : (new : DiskRecorder D) → StaysOn modelled life r new → IsSameCore (shown_on life (core_on name s r)) (shown_on life (core_on name s new))
+  same_core new stays = record { name = refl; state = refl; made = stays.made }
 
-    pub switched_so : Switches modelled life r T fs hold new → IsRecorded modelled life name t new
-    switched_so w = subst (λ (x : CoreState). IsRecorded modelled life name x new) (sym same_state) (switched new (subst (λ (x : Tables). Switches modelled life r x fs hold new) same_tables w))
+  goes_on : (new : DiskRecorder D) → KeepsOld modelled life r tables fs hold new → GoesOn (shown_on life (core_on name s r)) (shown_on life (core_on name s new))
+  goes_on new k = record { going = going; still = k.going; layout = k.layout; room = ap (λ (j : Journal). room_of j) k.journal; faults = k.faults }
 
-    pub switched_journaled : Switches modelled life r T fs hold new → JournaledTo t
-    switched_journaled w =
-        subst JournaledTo (sym same_state) (journaled new (subst (λ (x : Tables). LeavesOldOrNew modelled life r x fs hold new) same_tables w.moments) w.stays.made (no_fault new w.going w.faults))
+  pub record IsLeft (told : Checkpointed) (t : CoreState) (new : DiskRecorder D) : Type 0 where
+    pub recorded : IsRecorded modelled life name t new
+    pub told_is : Checkpoints modelled told (shown_on life (core_on name s r)) (shown_on life (core_on name t new))
+    pub journaled_is : Journaled modelled (shown_on life (core_on name s r)) (shown_on life (core_on name t new))
 
-    pub kept_so : KeepsOld modelled life r T fs hold new → IsRecorded modelled life name t new
-    kept_so k = subst (λ (x : CoreState). IsRecorded modelled life name x new) (sym same_state) (kept new (subst (λ (x : Tables). KeepsOld modelled life r x fs hold new) same_tables k))
+  laid_left : (new : DiskRecorder D) → Switches modelled life r tables fs hold new → IsLeft Done s new
+  laid_left new w = record {
+    recorded = switched new w;
+    told_is = record {
+      same = same_core new w.stays;
+      becomes = record {
+        going = going;
+        still = w.going;
+        layout = w.layout;
+        fits = λ m. subst (λ (n : ℕ). n ≤ half_len (length (life (disk_of r)).seen)) (sym enough) (w.fits (disk_there m).holds.store (store_rests m));
+        faults = w.faults;
+      };
+    };
+    journaled_is = journaled new w.moments w.stays.made (no_faults modelled (has_failed new) (life (disk_of r)).faults (life (disk_of new)).faults w.going w.faults);
+  }
 
-    pub kept_journaled : KeepsOld modelled life r T fs hold new → JournaledTo t
-    kept_journaled k =
-        subst JournaledTo (sym same_state) (journaled new (subst (λ (x : Tables). LeavesOldOrNew modelled life r x fs hold new) same_tables k.moments) k.stays.made (no_fault new k.going k.faults))
+  kept_left : (told : Checkpointed) (new : DiskRecorder D) → KeepsOld modelled life r tables fs hold new → Becomes modelled told (shown_on life (core_on name s r)) (shown_on life (core_on name s new)) → IsLeft told s new
+  kept_left told new k becomes = record {
+    recorded = kept new k;
+    told_is = record { same = same_core new k.stays; becomes = becomes };
+    journaled_is = journaled new k.moments k.stays.made (no_faults modelled (has_failed new) (life (disk_of r)).faults (life (disk_of new)).faults k.going k.faults);
+  }
 
-    pub open_journaled : LeavesOpen modelled life r T fs hold new → JournaledTo t
-    open_journaled l =
-        subst JournaledTo (sym same_state) (journaled new (subst (λ (x : Tables). LeavesOldOrNew modelled life r x fs hold new) same_tables l.moments) l.stays.made (one_fault new l.failed l.faults))
+  lacks : (need room : ℕ) → OfStore modelled life r (λ store. recorder.LacksRoom modelled life r tables fs hold need room) → IsTrue modelled → LacksRoom (shown_on life (core_on name s r)) need room
+  lacks need room of_store m =
+      let there_is = of_store (disk_there m).holds.store (store_rests m) in
+      record {
+        less = there_is.less;
+        lacking = subst (λ (n : ℕ). need + half_len (length (life (disk_of r)).seen) ≤ n + room) (sym enough) there_is.lacking;
+      }
+
+  failed_left : (new : DiskRecorder D) → LeavesOpen modelled life r tables fs hold new → IsLeft DeviceFailed s new
+  failed_left new l =
+      let faults : IsTrue modelled → (life (disk_of new)).faults ≡ (life (disk_of r)).faults + 1 = λ m. l.faults (disk_there m).holds.store (store_rests m) in
+      record {
+        recorded = left_open new l;
+        told_is = record {
+          same = same_core new l.stays;
+          becomes = record {
+            going = going;
+            failed = l.failed;
+            layout = l.layout;
+            room = ap (λ (j : Journal). room_of j) l.journal;
+            faults = some_fault modelled true (life (disk_of r)).faults (life (disk_of new)).faults refl faults l.at_most;
+          };
+        };
+        journaled_is = journaled new l.moments l.stays.made (some_fault modelled (has_failed new) (life (disk_of r)).faults (life (disk_of new)).faults l.failed faults l.at_most);
+      }
+
+  all_left : {X : Type 0} (result : Result X CheckpointError) (new : DiskRecorder D) → recorder.Checkpoints modelled life r tables fs hold result new → IsLeft (told_of result) s new
+  all_left (Ok x) new w = laid_left new w
+  all_left (Err error.NoMemory) new k = kept_left NoMemory new k (goes_on new k)
+  all_left (Err (error.Full need room)) new k = kept_left (Full need room) new k.0 (goes_on new k.0, lacks need room k.1)
+  all_left (Err error.DeviceFailed) new l = failed_left new l
+
+  -- whatever comes of it, over tables that are the same
+  pub left_by : {X : Type 0} (result : Result X CheckpointError) (t : CoreState) → t ≡ s → (new : DiskRecorder D) → recorder.Checkpoints modelled life r tables fs hold result new → IsLeft (told_of result) t new
+  left_by result t same new is_so = subst (λ (x : CoreState). IsLeft (told_of result) x new) (sym same) (all_left result new is_so)
 
 -- nothing was done
 pub untouched_journaled : {D : Type 0} (modelled : Bool) (life : D → Life) (name : List ℕ) (made : OneCallIsMade life) (s t : CoreState) (r : DiskRecorder D) → IsRecorded modelled life name s r → has_failed r ≡ false → t ≡ s
@@ -297,7 +365,7 @@ untouched_journaled modelled life name made s t r is going same =
       name = refl;
       more = [];
       made = sym (append-nil (made_of r));
-      faults = λ still. subst (λ (f : Bool). FaultsAfter f (life (disk_of r)).faults (life (disk_of r)).faults) (sym going) (omega arith);
+      faults = λ still. no_faults modelled (has_failed r) (life (disk_of r)).faults (life (disk_of r)).faults going refl;
       failed = λ failed. absurd (false≢true (sym going ∙ failed));
       records = λ m still. ([], made.silent (core_on name s r) (core_on name s r) (durable_from modelled life name made s r is m going) (Stays-refl (life (disk_of r))) refl refl);
     })

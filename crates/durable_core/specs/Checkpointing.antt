@@ -1,13 +1,15 @@
 -- What a checkpoint makes of a core: nothing but its disk and the room of its journal changes.
-use Rattle.std.specs.Prelude.{◌≡◌, ◌<◌, ◌≤◌, ℕ, ◌+◌, true, false, length, map}
+use Rattle.std.specs.Prelude.{◌≡◌, ◌<◌, ◌≤◌, ℕ, ◌+◌, Bool, IsTrue, true, false, length, map, Result, Ok, Err}
 use Rattle.half_store.specs.Layout.{half_len}
 use Rattle.half_store.specs.declared.header.Layout.TheVariants.{Two}
 use Rattle.unit_records.specs.Records.{entry_of}
 use Rattle.checkpoints.specs.Room.{need_of}
 use Rattle.recovery.specs.Laws.{held_for}
 use Rattle.recovery.specs.Laying.{records_of}
-use Rattle.recovery.specs.Journaled.{IsUnchanged, Shown}
+use Rattle.recovery.specs.Journaled.{FaultsAfter, IsUnchanged, Shown}
 use Rattle.recovery.specs.Part.{durable_part}
+use Rattle.journal_recorder.specs.declared.checkpointing.CheckpointError.{CheckpointError}
+use Rattle.journal_recorder.specs.declared.checkpointing.CheckpointError.TheVariants as error
 use Rattle.durable_core.specs.declared.checkpointing.Checkpointed.{Checkpointed}
 use Rattle.durable_core.specs.declared.checkpointing.Checkpointed.TheVariants.{Closed, DeviceFailed, Done, Full, NoMemory}
 
@@ -24,12 +26,12 @@ need_for s = need_of s.state.base.store (map entry_of (records_of (durable_part 
 abbrev pub half_bytes_for : Shown → ℕ
 half_bytes_for s = half_len (length s.disk.seen)
 
--- it is there, of layout 2, and it fits into a half
-pub record IsLaid (old new : Shown) : Type 0 where
+-- it is there, of layout 2; where the device gives back what was written, it fits into a half
+pub record IsLaid (modelled : Bool) (old new : Shown) : Type 0 where
   pub going : old.is_failed ≡ false
   pub still : new.is_failed ≡ false
   pub layout : new.layout ≡ Two
-  pub fits : need_for old ≤ half_bytes_for old
+  pub fits : IsTrue modelled → need_for old ≤ half_bytes_for old
   pub faults : new.disk.faults ≡ old.disk.faults
 
 -- it is not, and the core goes on as before
@@ -45,26 +47,35 @@ pub record LacksRoom (old : Shown) (need room : ℕ) : Type 0 where
   pub less : room < need
   pub lacking : need + half_bytes_for old ≤ need_for old + room
 
--- the device failed; which half is the active one then shows when the store is opened again
-pub record FailsHere (old new : Shown) : Type 0 where
+-- the device failed, or gave what is no page; which half is the active one then shows when the store is opened again
+pub record FailsHere (modelled : Bool) (old new : Shown) : Type 0 where
   pub going : old.is_failed ≡ false
   pub failed : new.is_failed ≡ true
   pub layout : new.layout ≡ old.layout
   pub room : new.room ≡ old.room
-  pub faults : new.disk.faults ≡ old.disk.faults + 1
+  pub faults : FaultsAfter modelled true old.disk.faults new.disk.faults
 
 -- it had failed before
 pub record WasClosed (old new : Shown) : Type 0 where
   pub failed : old.is_failed ≡ true
   pub same : IsUnchanged old new
 
-abbrev pub Becomes : Checkpointed → Shown → Shown → Type 0
-Becomes Done old new = IsLaid old new
-Becomes (Full need room) old new = GoesOn old new × LacksRoom old need room
-Becomes NoMemory old new = GoesOn old new
-Becomes DeviceFailed old new = FailsHere old new
-Becomes Closed old new = WasClosed old new
+abbrev pub Becomes : Bool → Checkpointed → Shown → Shown → Type 0
+Becomes modelled Done old new = IsLaid modelled old new
+Becomes modelled (Full need room) old new = GoesOn old new × (IsTrue modelled → LacksRoom old need room)
+Becomes modelled NoMemory old new = GoesOn old new
+Becomes modelled DeviceFailed old new = FailsHere modelled old new
+Becomes modelled Closed old new = WasClosed old new
 
-pub record Checkpoints (told : Checkpointed) (old new : Shown) : Type 0 where
+pub record Checkpoints (modelled : Bool) (told : Checkpointed) (old new : Shown) : Type 0 where
   pub same : IsSameCore old new
-  pub becomes : Becomes told old new
+  pub becomes : Becomes modelled told old new
+
+-- ---- in code
+
+-- what is told of a checkpoint that was written, or was not
+abbrev pub told_of : {T : Type 0} → Result T CheckpointError → Checkpointed
+told_of (Ok x) = Done
+told_of (Err error.NoMemory) = NoMemory
+told_of (Err (error.Full need room)) = Full need room
+told_of (Err error.DeviceFailed) = DeviceFailed

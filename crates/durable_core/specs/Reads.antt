@@ -1,8 +1,9 @@
 -- What is read of a store, or why it is not.
-use Rattle.std.specs.Prelude.{◌≡◌, ℕ, ◌+◌, ◌*◌, ◌^◌, ◌<◌, ◌≤◌, List, length, Result, Ok, Err}
+use Rattle.std.specs.Prelude.{◌≡◌, ℕ, ◌+◌, ◌-◌, ◌*◌, ◌^◌, ◌<◌, ◌≤◌, List, length, Result, Ok, Err}
 use Rattle.drda_disk.specs.Region.{end_of}
 use Rattle.drda_disk.specs.declared.region.Region.{Region}
 use Rattle.half_store.specs.Active.{active_of, not_a_store}
+use Rattle.half_store.specs.Layout.{half_len}
 use Rattle.half_store.specs.Opened.{store_of}
 use Rattle.half_store.specs.declared.active.Active.{Active}
 use Rattle.recovery.specs.Opens.{IsJournal}
@@ -59,11 +60,12 @@ pub record IsHead (image : List ℕ) (a : Active) : Type 0 where
   pub active : active_of image ≡ Ok (store_of a)
   pub journal : IsJournal (length image) (store_of a) a.region
 
--- the pages of a half lie in the disk, in front of its journal
+-- the pages of a half lie in the disk, between the beginning of the half and its journal
 pub record ArePagesInside (size : ℕ) (a : Active) : Type 0 where
   pub behind : 8192 * a.pages ≤ a.region.at
   pub small : a.region.at ≤ 2 ^ 40
   pub inside : a.region.at ≤ size
+  pub apart : end_of a.region - half_len size + 8192 * a.pages ≤ a.region.at
 
 -- the region has a byte at least, and lies in the disk
 pub record IsInside (size : ℕ) (region : Region) : Type 0 where

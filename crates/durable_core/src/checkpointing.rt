@@ -10,7 +10,7 @@ ghost use Rattle.recovery.specs.Laying.{laid_of, records_of};
 ghost use Rattle.recovery.specs.Journaled.{Journaled, shown_on};
 ghost use Rattle.recovery.specs.Part.{doubt_at, durable_part, outcome_at};
 ghost use Rattle.rdb_core.specs.State.{state_of};
-ghost use Rattle.durable_core.specs.Checkpointing.{Checkpoints};
+ghost use Rattle.durable_core.specs.Checkpointing.{Checkpoints, told_of};
 
 use crate::durable::DurableCore;
 use crate::holding::held_at;
@@ -56,18 +56,20 @@ impl<D: Disk> DurableCore<D> {
         !recorder.is_failed() && recorder.room() < recorder.region().length / PARTS_LEFT
     }
 
-    /// Writes a checkpoint: the committed tables go into the half of the store that is not active, and
-    /// behind them a record of each branch in doubt; then that half is the active one, and its journal
-    /// has the room that they leave. It is of layout 2, whatever the old one is: so a store of layout 1 is
-    /// migrated. What a core is does not change by it: at each moment, inside a device call too, a crash
+    /// Writes a checkpoint: the committed tables, the rows of their pages with the changes since, go into the
+    /// half of the store that is not active, and behind them a record of each branch in doubt; then that half
+    /// is the active one, and its journal has the room that they leave. From then on rows are read from its
+    /// pages, and no change is left in memory. It is of layout 2, whatever the old one is: so a store of layout
+    /// 1 is migrated. What a core is does not change by it: at each moment, inside a device call too, a crash
     /// leaves a disk that opens to the same tables and branches in doubt.
     ///
-    /// `Full` comes only where the half is too short. After it and after `NoMemory` the core goes on over
-    /// the old half. `DeviceFailed` comes in the call in which the device fails, and `Closed` in each later
-    /// one, which makes no device call. In a store that other programs wrote a unit in doubt may have lost
-    /// the places of its changes: then nothing is written, and `NoMemory` is answered.
+    /// Of a device that gives back what was written `Full` comes only where the half is too short. After it and
+    /// after `NoMemory` the core goes on over the old half. `DeviceFailed` comes in the call in which the device
+    /// fails, or gives what is no page of the tables, and `Closed` in each later one, which makes no device
+    /// call. In a store that other programs wrote a unit in doubt may have lost the places of its changes: then
+    /// nothing is written, and `NoMemory` is answered.
     pub fn checkpoint(&mut self) -> Checkpointed
-        ensures told { Checkpoints result (shown_on D.life self.old) (shown_on D.life self.new) }
+        ensures told { Checkpoints D.is_modelled result (shown_on D.life self.old) (shown_on D.life self.new) }
         ensures journaled { Journaled D.is_modelled (shown_on D.life self.old) (shown_on D.life self.new) }
     {
         moments_hold();
@@ -82,21 +84,28 @@ impl<D: Disk> DurableCore<D> {
             Ok(records) => records,
             Err(AllocError) => return Checkpointed::NoMemory,
         };
-        match find_places(self.core.alloc, &mut self.core.store, records.as_slice()) {
+        match find_places(self.core.alloc, &self.core.store, records.as_slice()) {
             Ok(()) => {}
             Err(_) => return Checkpointed::NoMemory,
         }
         let held = held_in(&self.core);
-        match self
-            .core
-            .recorder
-            .checkpoint(&self.core.store, records.as_slice(), held)
-        {
-            Ok(()) => Checkpointed::Done,
-            Err(CheckpointError::NoMemory) => Checkpointed::NoMemory,
-            Err(CheckpointError::Full { need, room }) => Checkpointed::Full { need, room },
-            Err(CheckpointError::DeviceFailed) => Checkpointed::DeviceFailed,
-        }
+        told(
+            self.core
+                .recorder
+                .checkpoint(&mut self.core.store, records.as_slice(), held),
+        )
+    }
+}
+
+// What is told of a checkpoint.
+fn told(written: Result<(), CheckpointError>) -> Checkpointed
+    ensures { result ≡ told_of written }
+{
+    match written {
+        Ok(()) => Checkpointed::Done,
+        Err(CheckpointError::NoMemory) => Checkpointed::NoMemory,
+        Err(CheckpointError::Full { need, room }) => Checkpointed::Full { need, room },
+        Err(CheckpointError::DeviceFailed) => Checkpointed::DeviceFailed,
     }
 }
 

@@ -10,6 +10,7 @@ ghost use Rattle.durable_core.specs.Deciding.{Decides};
 use crate::durable::DurableCore;
 use drda_disk::Disk;
 use half_store::Layout;
+use journal_recorder::pages_are_kept;
 use recovery::images::{calls_make_records, records_stay};
 use recovery::laws::doubts_hold_their_decisions;
 use recovery::step_laws::heuristics_are_recorded;
@@ -50,6 +51,7 @@ impl<D: Disk> DurableCore<D> {
         decisions_have_room();
         records_stay();
         calls_make_records::<D>();
+        pages_are_kept::<D>();
         if self.core.recorder().is_failed() {
             return Decided::Closed;
         }

@@ -7,22 +7,25 @@ ghost use Rattle.unit_records.specs.Phases.{is_ready};
 ghost use Rattle.xa_manager.specs.Branch.{in_doubt_xids};
 ghost use Rattle.rdb_core.specs.InDoubt.{xids_left};
 ghost use Rattle.recovery.specs.Journaled.{IsDurable, Journaled, shown_on};
+ghost use Rattle.durable_core.specs.Copying.{Copies};
 ghost use Rattle.durable_core.specs.Steps.{Loses, Steps};
 
+use ahead_view::ReadError;
 use core_calls::{Answer, CoreCall};
 use drda_disk::Disk;
-use journal_recorder::DiskRecorder;
+use journal_recorder::{DiskRecorder, pages_are_kept};
 use rdb_core::{Core, InDoubt, PlainState};
 use recovery::images::{calls_make_records, records_stay};
 use recovery::laws::doubts_hold_their_decisions;
 use recovery::step_laws::steps_are_recorded;
-use std::alloc::AllocError;
 use std::marker::Model;
 use unit_records::Phase;
 use xa_calls::Xid;
 
-/// The committed tables, the units of work and the XA branches of a store on a disk. Each call is a
-/// step of the state; what a step commits, prepares or decides is a record in the store's journal first.
+/// The committed tables, the units of work and the XA branches of a store on a disk. The rows of the tables
+/// are on pages of the disk, with the changes since the last checkpoint in memory; what a statement asks for is
+/// read ahead of it. Each call is a step of the state; what a step commits, prepares or decides is a record in
+/// the store's journal first.
 /// A crash at any moment of a call, inside of a device call too, leaves a disk that opens to the tables
 /// and the units in doubt from before the call or from after it; once a call has answered, to those
 /// after it.
@@ -41,28 +44,35 @@ impl<D: Disk> Model for DurableCore<D> {
 
     ghost Value = { OnDisk D };
 
-    ghost use Rattle.rdb_core.specs.State.{recorder_of, state_of};
+    ghost use Rattle.journal_recorder.specs.Reading.{HasPages};
+    ghost use Rattle.rdb_core.specs.State.{pages_of, recorder_of, state_of};
     ghost use Rattle.durable_core.specs.Recorded.{IsRecorded, core_on};
 
     ghost view = { λ c. core_on (string_bytes c.name) (state_of c.core) (recorder_of c.core) };
 
-    ghost invariant = { λ c. IsRecorded D.is_modelled D.life (string_bytes c.name) (state_of c.core) (recorder_of c.core) };
+    ghost invariant = { λ c. IsRecorded D.is_modelled D.life (string_bytes c.name) (state_of c.core) (recorder_of c.core) × HasPages D.is_modelled D.life (recorder_of c.core) (pages_of c.core) };
 }
 
 impl<D: Disk> DurableCore<D> {
-    /// What a conversation asks is answered, and the core takes one step; see `Steps`. `Full` comes where
-    /// the record that is due has no room, with what it needs and what is left; `NoMemory` before any
-    /// device call; `DeviceFailed` in the call in which the device fails, and `Closed` in each later one.
-    /// At each of these the core is as before. On the disk there is at any moment what is durable before
-    /// the call or behind it.
+    /// What a conversation asks is answered, and the core takes one step; see `Steps`. The rows that a statement
+    /// asks for are read ahead of it, once no claim of it clashes. `Full` comes where the record that is due has no
+    /// room, with what it needs and what is left; `NoMemory` before any device call but such reads;
+    /// `DeviceFailed` in the call in which the device fails, as it reads or as it records, and `Closed` in each later
+    /// one. At each of these the core is as before. On the disk there is at any moment what is durable
+    /// before the call or behind it.
+    ///
+    /// A device that need not give back what was written may give a statement other rows of the same tables: then
+    /// its answer and its unit are those of the step over these rows, and what is committed stays. Where it gives
+    /// what is no page, or no rows of the table, it counts as failed.
     pub fn step(&mut self, conversation: u64, call: &CoreCall<'_, '_>) -> Answer
-        ensures step { Steps (shown_on D.life self.old) conversation (call_of call.now) (answer_of result) (shown_on D.life self.new) }
+        ensures step { Steps D.is_modelled (shown_on D.life self.old) conversation (call_of call.now) (answer_of result) (shown_on D.life self.new) }
         ensures journaled { Journaled D.is_modelled (shown_on D.life self.old) (shown_on D.life self.new) }
     {
         steps_are_recorded();
         doubts_hold_their_decisions();
         records_stay();
         calls_make_records::<D>();
+        pages_are_kept::<D>();
         if self.core.recorder().is_failed() {
             return Answer::Closed;
         }
@@ -79,6 +89,7 @@ impl<D: Disk> DurableCore<D> {
         doubts_hold_their_decisions();
         records_stay();
         calls_make_records::<D>();
+        pages_are_kept::<D>();
         let recorder = self.core.recorder();
         if recorder.is_failed() {
             return Answer::Closed;
@@ -122,12 +133,22 @@ impl<D: Disk> DurableCore<D> {
         self.core.in_doubt()
     }
 
-    /// A copy of the whole state as plain lists: the committed tables, the units that have work, and the
-    /// branches. It is read from memory, so it is told while the device has failed, too, as it stood before
-    /// the call that failed. Memory may be refused; nothing changes in any case.
-    pub fn plain(&self) -> Result<PlainState, AllocError>
-        ensures { IfOk result (λ plain. plain ≡ self.now.state) }
+    /// A copy of the whole state as plain lists: the committed tables, of which all rows are read, the units that
+    /// have work, and the branches. Nothing is recorded, and the state changes in no case. Memory may be refused.
+    /// `DeviceFailed` comes in the call in which the device fails, or gives what is no page, and in each call
+    /// behind one in which it failed, which makes no device call.
+    pub fn plain(&mut self) -> Result<PlainState, ReadError>
+        ensures told { IsTrue D.is_modelled → IfOk result (λ plain. plain ≡ self.old.state) }
+        ensures copies { Copies D.is_modelled result (shown_on D.life self.old) (shown_on D.life self.new) }
+        ensures journaled { Journaled D.is_modelled (shown_on D.life self.old) (shown_on D.life self.new) }
     {
+        doubts_hold_their_decisions();
+        records_stay();
+        calls_make_records::<D>();
+        let recorder = self.core.recorder();
+        if recorder.is_failed() {
+            return Err(ReadError::DeviceFailed);
+        }
         self.core.plain()
     }
 

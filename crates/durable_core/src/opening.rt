@@ -17,17 +17,19 @@ use crate::reading::{Found, read_journal, read_tables, read_units};
 use crate::restoring::restore_all;
 use drda_disk::Disk;
 use half_store::Active;
-use journal_recorder::DiskRecorder;
+use journal_recorder::{CACHED_PAGES, DiskRecorder};
 use rdb_core::Core;
 use recovery::images::{images_open_there, images_open_to_one_state};
 use recovery::laws::{records_lead_one_way, records_lead_to_sound_states};
 use recovery::step_laws::openings_are_kept;
+use row_pages::PageCache;
 use std::alloc::{AllocError, Global};
 use store_check::checkpoints_are_known;
 use unit_journal::a_region_has_one_reading;
 
 /// Opens the store of a disk: the head, the tables of the last checkpoint on the pages of the active
 /// half, the records of the journal from its first on, and the branches in doubt with their claims.
+/// All pages are checked, and their rows stay on them; what the records say has changed since is in memory.
 /// A store of layout 1 opens too: it stays so until its next checkpoint. Nothing is written. Each refusal hands the disk back.
 ///
 /// `NotAStore` comes where the disk has not 2 MiB to 1 GiB or does not begin with `DRDASTO1`.
@@ -64,7 +66,9 @@ fn read_store<D: Disk>(alloc: Global, disk: &mut D) -> Result<Found, OpenError>
     checkpoints_are_known();
     a_region_has_one_reading();
     let active = read_head(alloc, disk)?;
-    let tables = read_tables(alloc, disk, &active)?;
+    let mut cache = PageCache::new(alloc, CACHED_PAGES)?;
+    let tables = read_tables(alloc, &mut cache, disk, &active)?;
+    cache.clear();
     let Active {
         name,
         layout,
@@ -85,6 +89,7 @@ fn read_store<D: Disk>(alloc: Global, disk: &mut D) -> Result<Found, OpenError>
         layout,
         journal,
         store,
+        cache,
         units,
     })
 }
@@ -104,9 +109,10 @@ fn begin<D: Disk>(alloc: Global, disk: D, found: Found) -> Result<DurableCore<D>
         layout,
         journal,
         store,
+        cache,
         units,
     } = found;
-    let recorder = DiskRecorder::new(alloc, disk, journal, layout);
+    let recorder = DiskRecorder::new(alloc, disk, cache, journal, layout);
     let mut core = Core::restored(alloc, recorder, store);
     match restore_all(&mut core, units) {
         Ok(()) => Ok(DurableCore { name, core }),

@@ -1,6 +1,6 @@
 //! What is read of a store.
 
-ghost use Rattle.std.specs.Prelude.{◌≡◌, IfOk, IsTrue, List, ℕ, length, true};
+ghost use Rattle.std.specs.Prelude.{◌≡◌, [], IfOk, IsTrue, List, ℕ, length, true};
 ghost use Rattle.drda_disk.specs.Disk.{Stays};
 ghost use Rattle.unit_journal.specs.Journal.{held_of, region_of};
 ghost use Rattle.unit_journal.specs.Opened.{IsOpened};
@@ -10,49 +10,58 @@ ghost use Rattle.store_check.specs.Checkpoint.{HasCheckpoint, forms};
 ghost use Rattle.store_check.specs.Half.{BreaksHalf, pages_of};
 ghost use Rattle.tables.specs.Tables.{Store as Tables};
 ghost use Rattle.tables.specs.View.{is_store};
-ghost use Rattle.table_store.specs.TableStore.{store_in};
+ghost use Rattle.paged_tables.specs.PagedTables.{store_in};
+ghost use Rattle.paged_tables.specs.TablesByName.{PagesStay};
 ghost use Rattle.recovery.specs.Durable.{Durable, at_checkpoint};
 ghost use Rattle.recovery.specs.Journal.{Leads, StopsAt};
 ghost use Rattle.recovery.specs.Known.{AreKnown};
-ghost use Rattle.recovery.specs.Replay.{durable_of};
+ghost use Rattle.recovery.specs.Replay.{durable_of, pages_of as replayed_pages};
+ghost use Rattle.durable_core.specs.Found.{StandInFront};
 ghost use Rattle.durable_core.specs.Reads.{ArePagesInside, Counts, IsInside, IsPlain, TellsDamage};
 
 use crate::errors::OpenError;
-use checkpoints::read_checkpoint;
 use drda_disk::{Disk, Region};
 use half_store::{Active, Layout};
+use paged_checkpoints::open_checkpoint;
+use paged_tables::PagedTables;
 use recovery::{PreparedUnit, Replay, ReplayError, replay};
+use row_pages::PageCache;
 use std::alloc::Global;
 use store_check::{CheckError, checkpoints_are_known};
-use table_store::TableStore;
 use unit_journal::{Journal, Record};
 
-/// The name of a store, the layout of its active half, its journal, its committed tables and its branches in doubt.
-#[derive(Debug, Drop)]
+/// The name of a store, the layout of its active half, its journal, its committed tables over their pages, with a cache
+/// of these, and its branches in doubt.
+#[derive(Drop)]
 pub(crate) struct Found {
     pub(crate) name: String,
     pub(crate) layout: Layout,
     pub(crate) journal: Journal,
-    pub(crate) store: TableStore,
+    pub(crate) store: PagedTables,
+    pub(crate) cache: PageCache,
     pub(crate) units: Vec<PreparedUnit>,
 }
 
-/// The tables of the last checkpoint, from the pages of the active half.
+/// The tables of the last checkpoint, over the pages of the active half: all of these are checked, by a cache that has none
+/// yet, and no row is kept in memory.
 pub(crate) fn read_tables<D: Disk>(
     alloc: Global,
+    cache: &mut PageCache,
     disk: &mut D,
     active: &Active,
-) -> Result<TableStore, OpenError>
-    requires { ArePagesInside (length (D.life disk.old).seen) active.now }
+) -> Result<PagedTables, OpenError>
+    requires pages { ArePagesInside (length (D.life disk.old).seen) active.now }
+    requires none { cache.old ≡ [] }
     ensures laid { IsTrue D.is_modelled → IfOk result (λ store. HasCheckpoint (D.life disk.old).seen (pages_of active.now) (store_in store)) }
     ensures store { IfOk result (λ store. is_store (store_in store) ≡ true) }
+    ensures stand { IfOk result (λ store. StandInFront D.is_modelled (D.life disk.old).seen active.now.region store.tables) }
     ensures opens { (tables : Tables) → IsTrue D.is_modelled → HasCheckpoint (D.life disk.old).seen (pages_of active.now) tables → IsPlain result }
     ensures tells { IsTrue D.is_modelled → TellsDamage result (BreaksHalf forms (D.life disk.old).seen (pages_of active.now)) }
     ensures stays { Stays (D.life disk.old) (D.life disk.new) }
     ensures cause { Counts result (D.life disk.old).faults (D.life disk.new).faults }
 {
     checkpoints_are_known();
-    match read_checkpoint(alloc, disk, active) {
+    match open_checkpoint(alloc, cache, disk, active) {
         Ok(tables) => Ok(tables),
         Err(CheckError::Damaged { at }) => Err(OpenError::Damaged { at }),
         Err(CheckError::DeviceFailed) => Err(OpenError::DeviceFailed),
@@ -83,14 +92,16 @@ pub(crate) fn read_journal<D: Disk>(
     }
 }
 
-/// What the records of a journal of this layout lead to, over the tables of the checkpoint that they follow.
+/// What the records of a journal of this layout lead to, over the tables of the checkpoint that they follow. No page is
+/// read.
 pub(crate) fn read_units(
     alloc: Global,
     layout: Layout,
-    checkpoint: TableStore,
+    checkpoint: PagedTables,
     records: &[Record],
 ) -> Result<Replay, OpenError>
     ensures known { IfOk result (λ r. AreKnown layout (entries_of records.now)) }
+    ensures pages { IfOk result (λ r. PagesStay checkpoint.tables (replayed_pages r)) }
     ensures leads { IfOk result (λ r. Leads (at_checkpoint (store_in checkpoint)) (entries_of records.now) (durable_of r)) }
     ensures opens { (d : Durable) → AreKnown layout (entries_of records.now) → Leads (at_checkpoint (store_in checkpoint)) (entries_of records.now) d → IsPlain result }
     ensures tells { TellsDamage result (StopsAt layout (at_checkpoint (store_in checkpoint)) records.now) }

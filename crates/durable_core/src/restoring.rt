@@ -4,7 +4,8 @@ ghost use Rattle.std.specs.Prelude.{◌≡◌, OnOk, []};
 ghost use Rattle.recovery.specs.Replay.{doubts_in};
 ghost use Rattle.recovery.specs.Sound.{IsSound};
 ghost use Rattle.recovery.specs.Part.{opened};
-ghost use Rattle.rdb_core.specs.State.{recorder_of, state_of};
+ghost use Rattle.paged_tables.specs.TablesByName.{PagesStay};
+ghost use Rattle.rdb_core.specs.State.{pages_of, recorder_of, state_of};
 
 use rdb_core::Core;
 use recovery::PreparedUnit;
@@ -21,6 +22,7 @@ pub(crate) fn restore_all<R: Recorder>(
     requires sound { IsSound (record { store = (state_of core.old).base.store; doubts = doubts_in units.items }) }
     ensures restored { OnOk result (state_of core.new ≡ opened (record { store = (state_of core.old).base.store; doubts = doubts_in units.items })) }
     ensures recorder { recorder_of core.new ≡ recorder_of core.old }
+    ensures pages { PagesStay (pages_of core.old) (pages_of core.new) }
 {
     let mut left = units;
     while let Some(unit) = left.pop() {

@@ -7,6 +7,7 @@ ghost use Rattle.durable_core.specs.Together.{CommitTogether};
 
 use crate::durable::DurableCore;
 use drda_disk::Disk;
+use journal_recorder::pages_are_kept;
 use recovery::images::{
     calls_make_groups, calls_make_records, groups_go_on, groups_stay, records_stay,
 };
@@ -42,6 +43,7 @@ impl<D: Disk> DurableCore<D> {
         doubts_hold_their_decisions();
         records_stay();
         calls_make_records::<D>();
+        pages_are_kept::<D>();
         if self.core.recorder().is_failed() {
             return Together::Closed;
         }
@@ -71,6 +73,7 @@ impl<D: Disk> DurableCore<D> {
         calls_make_records::<D>();
         calls_make_groups::<D>();
         groups_go_on::<D>();
+        pages_are_kept::<D>();
         if self.core.recorder().is_failed() {
             return Together::Closed;
         }

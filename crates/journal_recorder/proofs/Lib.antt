@@ -1,3 +1,6 @@
 mod Entries
+mod Standing
+pub mod Pages
 pub mod Switching
+mod Written
 pub mod Together

@@ -1,5 +1,5 @@
 -- What becomes of a disk and its journal where a checkpoint is written.
-use Rattle.std.specs.Prelude.{◌≡◌, ◌<◌, ◌≤◌, ℕ, ◌+◌, Bool, true, false, List, length, Result, Ok, Err}
+use Rattle.std.specs.Prelude.{◌≡◌, ◌⊎◌, ◌<◌, ◌≤◌, ℕ, ◌+◌, Bool, true, false, IsTrue, List, length, Result, Ok, Err}
 use Rattle.drda_disk.specs.Disk.{LeavesOnly, Life}
 use Rattle.drda_disk.specs.Region.{end_of}
 use Rattle.half_store.specs.Active.{Store}
@@ -28,9 +28,18 @@ module _ {D : Type 0} (modelled : Bool) (life : D → Life) where
   abbrev pub disk_life : DiskRecorder D → Life
   disk_life r = life (disk_of r)
 
-  -- what is said of a store with this active half, which a crash leaves as it is read
+  -- a crash leaves what is read, which is a store with this active half, and the journal ends where that half does
+  pub record RestsWith (r : DiskRecorder D) (store : Store) : Type 0 where
+    pub rests : Rests modelled (disk_life r) store
+    pub journal : end_of (region_of (journal_of r)) ≡ half_end (length (disk_life r).seen) store
+
+  -- what is said of that store
   abbrev pub OfStore : DiskRecorder D → (Store → Type 0) → Type 0
-  OfStore r P = (store : Store) → Rests modelled (disk_life r) store → P store
+  OfStore r P = (store : Store) → RestsWith r store → P store
+
+  -- there is one, if the disk gives back what was written
+  abbrev pub HasStore : DiskRecorder D → Type 0
+  HasStore r = IsTrue modelled → (store : Store) × RestsWith r store
 
   -- a crash at any moment leaves the old half, or the new one, with room for so many bytes that are held back
   abbrev pub LeavesOldOrNew : DiskRecorder D → Tables → List Entry → ℕ → DiskRecorder D → Type 0
@@ -49,7 +58,7 @@ module _ {D : Type 0} (modelled : Bool) (life : D → Life) where
     pub held : held_of (journal_of new) ≡ hold
     pub layout : layout_of new ≡ Two
     pub inside : end_of (region_of (journal_of new)) ≤ length (disk_life new).seen
-    pub fits : need_of tables es hold ≤ half_len (length (disk_life old).seen)
+    pub fits : OfStore old (λ store. need_of tables es hold ≤ half_len (length (disk_life old).seen))
     pub faults : (disk_life new).faults ≡ (disk_life old).faults
     pub going : has_failed new ≡ false
 
@@ -63,13 +72,15 @@ module _ {D : Type 0} (modelled : Bool) (life : D → Life) where
     pub faults : (disk_life new).faults ≡ (disk_life old).faults
     pub going : has_failed new ≡ false
 
-  -- the device failed: either half may be the active one when the store is opened again
+  -- The device failed: either half may be the active one when the store is opened again. One that does not give back what
+  -- was written counts as failed too, at a page of the tables that is none any more.
   pub record LeavesOpen (old : DiskRecorder D) (tables : Tables) (es : List Entry) (hold : ℕ) (new : DiskRecorder D) : Type 0 where
     pub stays : StaysOn old new
     pub moments : LeavesOldOrNew old tables es hold new
     pub journal : journal_of new ≡ journal_of old
     pub layout : layout_of new ≡ layout_of old
-    pub faults : (disk_life new).faults ≡ (disk_life old).faults + 1
+    pub faults : OfStore old (λ store. (disk_life new).faults ≡ (disk_life old).faults + 1)
+    pub at_most : ((disk_life new).faults ≡ (disk_life old).faults + 1) ⊎ ((disk_life new).faults ≡ (disk_life old).faults)
     pub failed : has_failed new ≡ true
 
   -- There is no room only where the half is too short for the header, the pages, the records, the bytes held and a gate.
@@ -80,5 +91,5 @@ module _ {D : Type 0} (modelled : Bool) (life : D → Life) where
   abbrev pub Checkpoints : {T : Type 0} → DiskRecorder D → Tables → List Entry → ℕ → Result T CheckpointError → DiskRecorder D → Type 0
   Checkpoints old tables es hold (Ok x) new = Switches old tables es hold new
   Checkpoints old tables es hold (Err NoMemory) new = KeepsOld old tables es hold new
-  Checkpoints old tables es hold (Err (Full need room)) new = KeepsOld old tables es hold new × LacksRoom old tables es hold need room
+  Checkpoints old tables es hold (Err (Full need room)) new = KeepsOld old tables es hold new × OfStore old (λ store. LacksRoom old tables es hold need room)
   Checkpoints old tables es hold (Err DeviceFailed) new = LeavesOpen old tables es hold new

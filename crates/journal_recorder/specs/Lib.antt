@@ -1,3 +1,4 @@
 pub mod Laying
 pub mod Recording
+pub mod Reading
 pub mod Checkpointing

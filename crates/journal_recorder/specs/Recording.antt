@@ -4,6 +4,7 @@ use Rattle.std.specs.List.{AllByRecursion}
 use Rattle.drda_disk.specs.Disk.{LeavesOnly, Life}
 use Rattle.drda_disk.specs.Region.{SameOutside, end_of}
 use Rattle.half_store.specs.declared.header.Layout.{Layout}
+use Rattle.row_pages.specs.Keeping.{Kept}
 use Rattle.unit_journal.specs.declared.journal.Journal.{Journal}
 use Rattle.unit_journal.specs.Journal.{IsSettled, held_of, region_of, room_of}
 use Rattle.unit_journal.specs.Record.{Entry}
@@ -19,6 +20,10 @@ journal_of r = r.journal
 
 abbrev pub disk_of : {D : Type 0} → DiskRecorder D → D
 disk_of r = r.disk
+
+-- the pages that it keeps
+abbrev pub cache_of : {D : Type 0} → DiskRecorder D → Kept
+cache_of r = r.cache
 
 -- its journal's layout, by which bytes are held back and released
 abbrev pub layout_of : {D : Type 0} → DiskRecorder D → Layout
@@ -47,6 +52,7 @@ module _ {D : Type 0} (modelled : Bool) (life : D → Life) where
   LeavesOneMore old said new = (es : List Entry) → IsSettled modelled (life_of old) (journal_of old) es
       → LeavesOnly (life_of old) (life_of new) (IsBeforeOrAfter (region_of (journal_of old)) (life_of old).seen es (entry_of said))
 
+  -- No page is kept then, since one that was could lie where the record was written.
   pub record Records (old : DiskRecorder D) (said : UnitRecord) (new : DiskRecorder D) : Type 0 where
     pub good : IsGood said
     pub settled : (es : List Entry) → IsSettled modelled (life_of old) (journal_of old) es → IsSettled modelled (life_of new) (journal_of new) (es ++ entry_of said ∷ [])
@@ -57,6 +63,8 @@ module _ {D : Type 0} (modelled : Bool) (life : D → Life) where
     pub room : room_of (journal_of new) + (taken said + held (layout_of old) said) ≡ room_of (journal_of old) + released (layout_of old) said
     pub held : held_of (journal_of new) + released (layout_of old) said ≡ held_of (journal_of old) + held (layout_of old) said
     pub faults : (life_of new).faults ≡ (life_of old).faults
+    pub cache : cache_of new ≡ []
+    pub was_going : has_failed old ≡ false
     pub going : has_failed new ≡ false
     pub made : made_of new ≡ made_of old ++ entry_of said ∷ []
 
@@ -106,6 +114,8 @@ module _ {D : Type 0} (modelled : Bool) (life : D → Life) where
     pub room : room_of (journal_of new) + (taken_by records + held_by (layout_of old) records) ≡ room_of (journal_of old) + released_by (layout_of old) records
     pub held : held_of (journal_of new) + released_by (layout_of old) records ≡ held_of (journal_of old) + held_by (layout_of old) records
     pub faults : (life_of new).faults ≡ (life_of old).faults
+    pub cache : cache_of new ≡ []
+    pub was_going : has_failed old ≡ false
     pub going : has_failed new ≡ false
     pub made : made_of new ≡ made_of old ++ map entry_of records
 

@@ -5,7 +5,7 @@ ghost use Rattle.drda_disk.specs.Region.{end_of};
 ghost use Rattle.half_store.specs.Active.{active_of};
 ghost use Rattle.half_store.specs.Layout.{is_store_size};
 ghost use Rattle.half_store.specs.Opened.{store_of};
-ghost use Rattle.table_store.specs.TableStore.{store_in};
+ghost use Rattle.paged_tables.specs.PagedTables.{store_in};
 ghost use Rattle.tables.specs.ChangeView.{change_of};
 ghost use Rattle.unit_journal.specs.Journal.{region_of};
 ghost use Rattle.unit_journal.specs.LaidRecord.{entry_in};
@@ -17,11 +17,11 @@ ghost use Rattle.journal_recorder.specs.Recording.{disk_of, has_failed, journal_
 use crate::laying::{lay_heuristic, lay_prepare};
 use crate::recorder::DiskRecorder;
 use checkpoint_writer::ImageError;
-use checkpoints::write_checkpoint;
 use drda_disk::Disk;
 use half_store::{Active, Layout, OpenError};
+use paged_checkpoints::write_checkpoint;
+use paged_tables::PagedTables;
 use std::alloc::{AllocError, Global};
-use table_store::TableStore;
 use tables::Change;
 use thiserror::Error;
 use unit_journal::{LaidRecord, Record};
@@ -112,26 +112,33 @@ fn record_of(alloc: Global, laid: &LaidRecord) -> Result<Record, CheckpointError
 }
 
 impl<D: Disk> DiskRecorder<D> {
-    ghost use Rattle.journal_recorder.specs.Checkpointing.{Checkpoints};
+    ghost use Rattle.journal_recorder.specs.Checkpointing.{Checkpoints, HasStore};
+    ghost use Rattle.journal_recorder.specs.Reading.{HasPages};
 
-    /// Writes a checkpoint: these tables into the half of the store that is not active, and behind them
-    /// these records and no others; then that half is the active one, of layout 2, and what is recorded
-    /// next stands behind them. `held` bytes are held back then.
+    /// Writes a checkpoint: the rows of these tables, those of their pages with the changes since, into
+    /// the half of the store that is not active, and behind them these records and no others; then that
+    /// half is the active one, of layout 2, and what is recorded next stands behind them. `held` bytes are
+    /// held back then. The tables lie over the new pages then, with no changes in memory. Whatever
+    /// becomes of it, they have the same rows, and their pages can be read as before.
     ///
     /// A crash at any moment leaves the old half or the new one (`Moment`). `Full` comes only where the
     /// half is too short for all of it. After it and after `NoMemory` the old half goes on. On
     /// `DeviceFailed` either of the two may count when the store is opened again, and nothing is recorded
-    /// any more. `NoMemory` comes too where the head of the disk doesn't read as a store's, which it does
-    /// of a disk that gives back what was written.
+    /// or read any more. `NoMemory` comes too where the head of the disk doesn't read as a store's, and
+    /// `DeviceFailed` where a page of the tables is not as it was written; neither comes so of a disk that
+    /// gives back what was written.
     pub fn checkpoint(
         &mut self,
-        tables: &TableStore,
+        tables: &mut PagedTables,
         records: &[Record],
         held: usize,
     ) -> Result<(), CheckpointError>
         requires going { has_failed self.old ≡ false }
         requires inside { end_of (region_of (journal_of self.old)) ≤ length (D.life (disk_of self.old)).seen }
-        ensures { Checkpoints D.is_modelled D.life self.old (store_in tables.now) (entries_of records.now) held result self.new }
+        requires pages { HasPages D.is_modelled D.life self.old tables.old.tables }
+        ensures told { Checkpoints D.is_modelled D.life self.old (store_in tables.old) (entries_of records.now) held result self.new }
+        ensures tables { store_in tables.new ≡ store_in tables.old }
+        ensures pages { HasStore D.is_modelled D.life self.old → HasPages D.is_modelled D.life self.new tables.new.tables }
     {
         let active = match half_store::open(self.alloc, &mut self.disk) {
             Ok(active) => active,
@@ -150,20 +157,31 @@ impl<D: Disk> DiskRecorder<D> {
     fn write_over(
         &mut self,
         active: &Active,
-        tables: &TableStore,
+        tables: &mut PagedTables,
         records: &[Record],
         held: usize,
     ) -> Result<(), CheckpointError>
         requires going { has_failed self.old ≡ false }
         requires size { IsTrue (is_store_size (length (D.life (disk_of self.old)).seen)) }
         requires active { IsTrue D.is_modelled → active_of (D.life (disk_of self.old)).seen ≡ Ok (store_of active.now) }
-        ensures { Checkpoints D.is_modelled D.life self.old (store_in tables.now) (entries_of records.now) held result self.new }
+        requires pages { HasPages D.is_modelled D.life self.old tables.old.tables }
+        ensures told { Checkpoints D.is_modelled D.life self.old (store_in tables.old) (entries_of records.now) held result self.new }
+        ensures tables { store_in tables.new ≡ store_in tables.old }
+        ensures pages { HasStore D.is_modelled D.life self.old → HasPages D.is_modelled D.life self.new tables.new.tables }
     {
-        let mut left = tables.lend();
-        match write_checkpoint(self.alloc, &mut self.disk, active, &mut left, records, held) {
-            Ok(switched) => {
-                self.journal = switched.journal;
+        match write_checkpoint(
+            self.alloc,
+            &mut self.cache,
+            &mut self.disk,
+            active,
+            tables,
+            records,
+            held,
+        ) {
+            Ok(relaid) => {
+                self.journal = relaid.switched.journal;
                 self.layout = Layout::Two;
+                tables.relaid(self.alloc, relaid.pages);
                 Ok(())
             }
             Err(ImageError::NoMemory) => Err(CheckpointError::NoMemory),
@@ -175,7 +193,10 @@ impl<D: Disk> DiskRecorder<D> {
                 self.is_failed = true;
                 Err(CheckpointError::DeviceFailed)
             }
-            Err(ImageError::Damaged) => unreachable!(),
+            Err(ImageError::Damaged) => {
+                self.is_failed = true;
+                Err(CheckpointError::DeviceFailed)
+            }
         }
     }
 }

@@ -1,11 +1,15 @@
-//! Units of work recorded in the journal of a disk.
+//! Units of work recorded in the journal of a disk, rows read from the pages in front of it, and checkpoints.
 #![tactic(auto)]
 
 mod checkpointing;
+mod laws;
 mod laying;
 mod laying_all;
 mod made;
+mod reading;
 mod recorder;
 
 pub use checkpointing::{CheckpointError, heuristic_record, prepare_record};
+pub use laws::pages_are_kept;
+pub use reading::CACHED_PAGES;
 pub use recorder::DiskRecorder;

@@ -13,6 +13,7 @@ use crate::laying_all::{LaidTogether, lay_all};
 use crate::made::MadeRecords;
 use drda_disk::{Disk, Region};
 use half_store::Layout;
+use row_pages::PageCache;
 use std::alloc::Global;
 use unit_journal::{AppendError, Journal, LaidRecord};
 use unit_records::{GroupError, RecordContents, RecordError, Recorder};
@@ -20,11 +21,14 @@ use unit_records::{GroupError, RecordContents, RecordError, Recorder};
 /// Records in the journal of a disk, each record by four device calls: write, sync, gate, sync. Records
 /// that are made together take as many for all of them. A prepare holds the bytes of its decision back,
 /// and in layout 2 those of its forgetting too, so that a decision, a heuristic one and a forgetting
-/// always have room. Once the device has failed nothing is recorded any more, and no device call is made.
+/// always have room. It reads the rows of tables whose pages lie in front of the journal, and keeps pages
+/// until the next record or checkpoint. Once the device has failed nothing is recorded or read any more,
+/// and no device call is made.
 #[derive(Drop)]
 pub struct DiskRecorder<D> {
     pub(crate) alloc: Global,
     pub(crate) disk: D,
+    pub(crate) cache: PageCache,
     pub(crate) journal: Journal,
     pub(crate) layout: Layout,
     pub(crate) is_failed: bool,
@@ -33,11 +37,19 @@ pub struct DiskRecorder<D> {
 
 impl<D: Disk> DiskRecorder<D> {
     ghost use Rattle.journal_recorder.specs.Laying.{AreLaid, Says};
-    ghost use Rattle.journal_recorder.specs.Recording.{AreLeftOpen, Fails, Records, RecordsAll, disk_of, has_failed, journal_of, layout_of, made_of};
+    ghost use Rattle.journal_recorder.specs.Recording.{AreLeftOpen, Fails, Records, RecordsAll, cache_of, disk_of, has_failed, journal_of, layout_of, made_of};
 
-    /// Records in this journal of this disk, whose device has not failed. The journal has this layout.
-    pub fn new(alloc: Global, disk: D, journal: Journal, layout: Layout) -> DiskRecorder<D>
+    /// Records in this journal of this disk, whose device has not failed, and reads through this cache,
+    /// which keeps `CACHED_PAGES` at most. The journal has this layout.
+    pub fn new(
+        alloc: Global,
+        disk: D,
+        cache: PageCache,
+        journal: Journal,
+        layout: Layout,
+    ) -> DiskRecorder<D>
         ensures disk { disk_of result ≡ disk }
+        ensures cache { cache_of result ≡ cache }
         ensures journal { journal_of result ≡ journal }
         ensures layout { layout_of result ≡ layout }
         ensures going { has_failed result ≡ false }
@@ -46,6 +58,7 @@ impl<D: Disk> DiskRecorder<D> {
         DiskRecorder {
             alloc,
             disk,
+            cache,
             journal,
             layout,
             is_failed: false,
@@ -60,7 +73,7 @@ impl<D: Disk> DiskRecorder<D> {
         &self.disk
     }
 
-    /// Whether the device has failed in a record.
+    /// Whether the device has failed.
     pub fn is_failed(&self) -> bool
         ensures { result ≡ has_failed self.now }
     {
@@ -121,6 +134,7 @@ impl<D: Disk> DiskRecorder<D> {
     {
         match self.journal.append(&mut self.disk, laid, hold, release) {
             Ok(()) => {
+                forget_pages(&mut self.cache);
                 self.made.note(laid.kind(), laid.body());
                 Ok(())
             }
@@ -150,6 +164,7 @@ impl<D: Disk> DiskRecorder<D> {
             .append_group(&mut self.disk, &laid.group, laid.hold, laid.release)
         {
             Ok(()) => {
+                forget_pages(&mut self.cache);
                 self.made.note_all(&laid.group);
                 Ok(())
             }
@@ -161,6 +176,13 @@ impl<D: Disk> DiskRecorder<D> {
             }
         }
     }
+}
+
+// Keeps no page: for all that is known of one that is kept, it could lie where a record was written.
+fn forget_pages(cache: &mut PageCache)
+    ensures { cache.new ≡ [] }
+{
+    cache.clear();
 }
 
 impl<D: Disk> Recorder for DiskRecorder<D> {

@@ -1,22 +1,26 @@
 //! A recorder, and what it answers.
 
-use crate::disks::{Recording, recorder_of_layout_1, recorder_over, records_of};
-use crate::recorders::{checkpoint, laid, record, record_three, saying_of};
+use crate::changes::{change_of, key_of};
+use crate::disks::{Keeping, recorder_of_layout_1, recorder_over, records_of};
+use crate::records::{laid, saying_of};
+use ahead_view::ReadError;
 use half_store::Layout;
 use journal_recorder::CheckpointError;
+use row_values::Schema;
 use std::alloc::{AllocError, Global};
 use std::fmt::Debug;
-use table_store::TableStore;
 use test_bytes::bytes_of;
+use test_rows::schema_of;
 use unit_journal::{Kind, Record};
 use unit_records::{GroupError, RecordError, UnitRecord};
 
-/// A record of each kind that has one, and a recorder.
+/// A record of each kind that has one, the schema of tables, and a recorder with its tables.
 #[derive(Drop)]
 pub struct Bench {
     alloc: Global,
     records: Vec<Record>,
-    recorder: Option<Recording>,
+    schema: Option<Schema>,
+    recorder: Option<Keeping>,
 }
 
 fn kind_of(word: &str) -> Kind {
@@ -29,16 +33,26 @@ fn kind_of(word: &str) -> Kind {
     }
 }
 
+// The words of a line.
+fn words_of<'a>(alloc: Global, line: &'a str) -> Option<Vec<&'a str>> {
+    let mut words = Vec::new(alloc);
+    for word in line.split_ascii_whitespace() {
+        words.push(word).ok()?;
+    }
+    Some(words)
+}
+
 fn tell<T: Debug>(out: &mut String, answer: &T) -> Option<()> {
     writeln!(out, "  {answer:?}").ok()
 }
 
 impl Bench {
-    /// No record, and no recorder.
+    /// No record, no schema and no recorder.
     pub fn new(alloc: Global) -> Bench {
         Bench {
             alloc,
             records: Vec::new(alloc),
+            schema: None,
             recorder: None,
         }
     }
@@ -64,8 +78,10 @@ impl Bench {
 
     // `body KIND BYTES` lays the record of a kind. `one LENGTH CALLS` and `two LENGTH CALLS` are recorders of a layout with an empty journal of
     // so many bytes, and `half CALLS` that of a store of layout 1; each device fails behind so many calls. `make KINDS` makes the records of
-    // these kinds up to the first that is not made, `group` three of them together, and `checkpoint HELD` a checkpoint without tables that
-    // holds so many bytes back. `found` tells which records the disk has, and `laid KIND` the record that is laid behind a checkpoint.
+    // these kinds up to the first that is not made, `group` three of them together, and `checkpoint HELD` a checkpoint that holds so many
+    // bytes back. `found` tells which records the disk has, and `laid KIND` the record that is laid behind a checkpoint. `schema` lays the
+    // schema of the tables; `create NAME`, `put NAME VALUES` and `remove NAME KEY` change them in memory, and `row NAME KEY` and
+    // `rows NAME` tell rows.
     fn answer(&mut self, step: &str, out: &mut String) -> Option<()> {
         let (verb, rest) = step.split_once(' ').unwrap_or((step, ""));
         match verb {
@@ -77,6 +93,10 @@ impl Bench {
             "state" => self.tell_state(out),
             "found" => tell(out, &records_of(self.alloc, self.recorder.take()?)?),
             "laid" => self.tell_laid(rest, out),
+            "schema" => self.lay_schema(rest),
+            "create" | "put" | "remove" => tell(out, &self.change(verb, rest)?),
+            "row" => tell(out, &self.row(rest)?),
+            "rows" => self.tell_rows(rest, out),
             _ => None,
         }
     }
@@ -104,9 +124,10 @@ impl Bench {
 
     // The layout, the room, what is held and whether the device has failed.
     fn tell_state(&self, out: &mut String) -> Option<()> {
-        let Some(recorder) = &self.recorder else {
+        let Some(keeper) = &self.recorder else {
             return None;
         };
+        let recorder = keeper.recorder();
         let (layout, room, held) = (recorder.layout(), recorder.room(), recorder.held());
         let is_failed = recorder.is_failed();
         writeln!(
@@ -133,7 +154,7 @@ impl Bench {
         let Some(recorder) = &mut self.recorder else {
             return None;
         };
-        Some(record(recorder, saying_of(&read)))
+        Some(recorder.record(saying_of(&read)))
     }
 
     // How many of these are made, in their order, and what becomes of the first that is not.
@@ -163,8 +184,7 @@ impl Bench {
             return None;
         };
         match read.as_slice() {
-            [first, second, third] => Some(record_three(
-                recorder,
+            [first, second, third] => Some(recorder.record_three(
                 saying_of(first),
                 saying_of(second),
                 saying_of(third),
@@ -178,12 +198,60 @@ impl Bench {
         let Some(recorder) = &mut self.recorder else {
             return None;
         };
-        Some(checkpoint(recorder, &TableStore::new(self.alloc), held))
+        Some(recorder.checkpoint(held))
     }
 
     fn tell_laid(&self, kind: &str, out: &mut String) -> Option<()> {
         let read = self.read(kind)?;
         let laid = laid(self.alloc, &read).ok()??;
         tell(out, &laid)
+    }
+
+    fn lay_schema(&mut self, asked: &str) -> Option<()> {
+        let words = words_of(self.alloc, asked)?;
+        self.schema = Some(schema_of(self.alloc, &words)??);
+        Some(())
+    }
+
+    fn change(&mut self, verb: &str, asked: &str) -> Option<Result<(), AllocError>> {
+        let words = words_of(self.alloc, asked)?;
+        let ([name, words @ ..], Some(schema), Some(recorder)) = (
+            words.as_slice(),
+            &self.schema,
+            &mut self.recorder,
+        ) else {
+            return None;
+        };
+        let change = change_of(self.alloc, schema, verb, name, words)?;
+        Some(recorder.change(change))
+    }
+
+    fn row(&mut self, asked: &str) -> Option<Result<Option<Vec<u8>>, ReadError>> {
+        let words = words_of(self.alloc, asked)?;
+        let ([name, words @ ..], Some(schema), Some(recorder)) = (
+            words.as_slice(),
+            &self.schema,
+            &mut self.recorder,
+        ) else {
+            return None;
+        };
+        let key = key_of(self.alloc, schema, words)?;
+        Some(recorder.row(name, &key))
+    }
+
+    // Each row, in the order of their keys.
+    fn tell_rows(&mut self, name: &str, out: &mut String) -> Option<()> {
+        let Some(recorder) = &mut self.recorder else {
+            return None;
+        };
+        match recorder.rows(name) {
+            Ok(rows) => {
+                for i in 0..rows.len() {
+                    tell(out, &rows.row(i))?;
+                }
+                Some(())
+            }
+            Err(error) => tell(out, &error),
+        }
     }
 }

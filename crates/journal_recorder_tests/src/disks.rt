@@ -3,14 +3,17 @@
 ghost use Rattle.std.specs.Prelude.{◌^◌, ◌<◌, ◌≤◌, IsTrue, length};
 ghost use Rattle.drda_disk.specs.Region.{end_of};
 
+use crate::keeper::Keeper;
+use crate::untold::Untold;
 use drda_disk::{Disk, FuseDisk, MemDisk, Region};
 use half_store::{Layout, format, open};
-use journal_recorder::DiskRecorder;
+use journal_recorder::{CACHED_PAGES, DiskRecorder};
+use row_pages::PageCache;
 use std::alloc::Global;
 use unit_journal::{Journal, Record};
 
-/// A recorder over such a disk.
-pub type Recording = DiskRecorder<FuseDisk<MemDisk>>;
+/// A recorder over such a disk, with the tables of its store.
+pub type Keeping = Keeper<Untold<FuseDisk<MemDisk>>>;
 
 /// The least store.
 const TWO_MIB: usize = 2_097_152;
@@ -42,20 +45,30 @@ fn journal_in(disk: &mut MemDisk, region: Region) -> Option<Journal> {
     Journal::start(disk, region).ok()
 }
 
-/// A recorder of a layout with an empty journal of so many bytes at 3 of a disk of 192, over a fuse of so many calls.
-pub fn recorder_over(
+// A recorder over a fuse of so many calls, and no tables.
+fn keeping(
     alloc: Global,
+    disk: MemDisk,
+    journal: Journal,
     layout: Layout,
-    length: usize,
     calls: u64,
-) -> Option<Recording> {
+) -> Option<Keeping> {
+    let disk = Untold::new(FuseDisk::new(disk, calls, false));
+    let cache = PageCache::new(alloc, CACHED_PAGES).ok()?;
+    Some(Keeper::new(
+        alloc,
+        DiskRecorder::new(alloc, disk, cache, journal, layout),
+    ))
+}
+
+/// A recorder of a layout with an empty journal of so many bytes at 3 of a disk of 192, over a fuse of so many calls.
+pub fn recorder_over(alloc: Global, layout: Layout, length: usize, calls: u64) -> Option<Keeping> {
     let mut disk = MemDisk::new(alloc, 192).ok()?;
     if length > disk.size() {
         return None;
     }
     let journal = journal_in(&mut disk, Region { at: 3, length })?;
-    let disk = FuseDisk::new(disk, calls, false);
-    Some(DiskRecorder::new(alloc, disk, journal, layout))
+    keeping(alloc, disk, journal, layout, calls)
 }
 
 // A store without tables whose active half has layout 1.
@@ -70,18 +83,18 @@ fn store_of_layout_1(alloc: Global) -> Option<MemDisk> {
 }
 
 /// The recorder of a store without tables whose active half has layout 1, over a fuse of so many calls.
-pub fn recorder_of_layout_1(alloc: Global, calls: u64) -> Option<Recording> {
+pub fn recorder_of_layout_1(alloc: Global, calls: u64) -> Option<Keeping> {
     let mut disk = store_of_layout_1(alloc)?;
     let active = open(alloc, &mut disk).ok()?;
     let (journal, _) = journal_on(alloc, &mut disk, active.region)?;
-    let disk = FuseDisk::new(disk, calls, false);
-    Some(DiskRecorder::new(alloc, disk, journal, active.layout))
+    keeping(alloc, disk, journal, active.layout, calls)
 }
 
 /// The records that a recorder's disk has in the recorder's region.
-pub fn records_of(alloc: Global, recorder: Recording) -> Option<Vec<Record>> {
+pub fn records_of(alloc: Global, keeper: Keeping) -> Option<Vec<Record>> {
+    let recorder = keeper.into_recorder();
     let region = recorder.region();
-    let mut disk = recorder.into_disk().into_inner();
+    let mut disk = recorder.into_disk().into_inner().into_inner();
     let (_, records) = journal_on(alloc, &mut disk, region)?;
     Some(records)
 }

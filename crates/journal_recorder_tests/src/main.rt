@@ -3,8 +3,11 @@
 #![tactic(auto)]
 
 mod bench;
+mod changes;
 mod disks;
-mod recorders;
+mod keeper;
+mod records;
+mod untold;
 
 use crate::bench::Bench;
 use std::io::{self, Write};

@@ -21,6 +21,15 @@ abbrev pub Finds : Option Found → List Claim → List Claim → Answer → Lis
 Finds None others claimed told changed = clashes claimed others ≡ true
 Finds (Some f) others claimed told changed = IsFound others claimed told changed f
 
+-- this is claimed, and no claim clashes with those of the other units; nothing is found where some claim does
+pub record IsFree (others claimed : List Claim) (f : Found) : Type 0 where
+  pub claims : f.claims.items ≡ claimed
+  pub free : clashes f.claims.items others ≡ false
+
+abbrev pub FindsFree : Option Found → List Claim → List Claim → Type 0
+FindsFree None others claimed = clashes claimed others ≡ true
+FindsFree (Some f) others claimed = IsFree others claimed f
+
 -- by what the question claims, is answered and changes over a store
 abbrev pub FindsOver : Option Found → List Claim → Question → ℕ → Store → Type 0
 FindsOver found others q left v = Finds found others (claims_of q v) (answer_to q left v) (changes_by q left v)

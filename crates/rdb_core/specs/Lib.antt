@@ -3,7 +3,10 @@ pub mod InDoubt
 pub mod State
 pub mod Recorded
 pub mod Steps
+pub mod Looks
 pub mod Question
+pub mod Sight
 pub mod Found
 pub mod Restored
+pub mod Copied
 pub mod PlainState

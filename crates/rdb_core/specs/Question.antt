@@ -9,7 +9,6 @@ use Rattle.rdb_core.specs.declared.question.Question.TheVariants as code
 abbrev pub question_of : CodeQuestion → Question
 question_of (code.Running statement parameters) = running statement.now (map value_of parameters.now)
 question_of (code.Querying statement parameters) = querying statement.now (map value_of parameters.now)
-question_of (code.Describing statement side) = describing statement.now side
 
 -- the call that asks it
 abbrev pub call_asking : Question → Call

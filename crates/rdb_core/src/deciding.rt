@@ -4,8 +4,9 @@ ghost use Rattle.std.specs.Prelude.{◌≡◌, IfErr, OnErr, OnOk, Some};
 ghost use Rattle.unit_records.specs.Records.{heuristic};
 ghost use Rattle.xa_manager.specs.Branch as branch;
 ghost use Rattle.core_model.specs.Step.{decided_state};
+ghost use Rattle.paged_tables.specs.TablesByName.{PagesStay};
 ghost use Rattle.rdb_core.specs.Recorded.{Refuses};
-ghost use Rattle.rdb_core.specs.State.{recorder_of, state_of};
+ghost use Rattle.rdb_core.specs.State.{pages_of, recorder_of, state_of};
 
 use crate::ending::end_decided;
 use crate::engine::Core;
@@ -36,6 +37,7 @@ impl<R: Recorder> Core<R> {
         ensures recorded { OnOk result (R.records (recorder_of self.old) (heuristic xid.now decision) (recorder_of self.new)) }
         ensures kept { OnErr result (state_of self.new ≡ state_of self.old) }
         ensures refused { IfErr result (λ error. Refuses R.fails (Some (heuristic xid.now decision)) error (recorder_of self.old) (recorder_of self.new)) }
+        ensures pages { PagesStay (pages_of self.old) (pages_of self.new) }
     {
         end_decided(
             &mut self.store,

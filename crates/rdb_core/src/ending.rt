@@ -2,7 +2,8 @@
 
 ghost use Rattle.std.specs.Prelude.{◌≡◌, IfErr, None, OnErr, OnOk, Some, if◌then◌else◌, map};
 ghost use Rattle.tables.specs.ChangeView.{change_of};
-ghost use Rattle.table_store.specs.TableStore.{IsReserved, store_in};
+ghost use Rattle.paged_tables.specs.PagedTables.{IsReserved, store_in};
+ghost use Rattle.paged_tables.specs.TablesByName.{PagesStay};
 ghost use Rattle.unit_records.specs.RecordContents.{said_by};
 ghost use Rattle.unit_records.specs.Records.{UnitRecord};
 ghost use Rattle.unit_records.specs.Due.{action_due, commit_due};
@@ -15,8 +16,8 @@ ghost use Rattle.rdb_core.specs.Base.{base_of};
 ghost use Rattle.rdb_core.specs.Recorded.{IsRecorded, Refuses};
 ghost use Rattle.rdb_core.specs.Steps.{left_units};
 
+use paged_tables::PagedTables;
 use std::alloc::{AllocError, Global};
-use table_store::TableStore;
 use tables::Change;
 use unit_records::{RecordContents, RecordError, Recorder};
 use unit_table::{Owner, Units};
@@ -27,7 +28,7 @@ use xa_manager::{Action, Branch, Decision};
 /// Memory is taken, and a record is made, only where it has changes. On an error all units and tables
 /// stay, and no room is held.
 pub(crate) fn commit_unit<R: Recorder>(
-    store: &mut TableStore,
+    store: &mut PagedTables,
     units: &mut Units,
     recorder: &mut R,
     alloc: Global,
@@ -39,6 +40,7 @@ pub(crate) fn commit_unit<R: Recorder>(
     ensures kept { OnErr result (base_of store.new units.new ≡ base_of store.old units.old) }
     ensures refused { IfErr result (λ error. Refuses R.fails (commit_due (unit_of (plain_owner owner.now) units.old).changes) error recorder.old recorder.new) }
     ensures cause { OnErr result (commit_due (unit_of (plain_owner owner.now) units.old).changes ≡ None → ⊥) }
+    ensures pages { PagesStay store.old.tables store.new.tables }
 {
     if !units.has_changes(owner) {
         let _none = units.end(owner);
@@ -51,14 +53,14 @@ pub(crate) fn commit_unit<R: Recorder>(
     let recorded = recorder.record(RecordContents::Commit {
         changes: units.changes(owner),
     });
-    finish(store, units, owner, recorded)
+    finish(store, units, alloc, owner, recorded)
 }
 
 /// The unit of a branch in doubt ends as the branch is decided: what is said of that is recorded first. Memory is
 /// taken where it commits; rolled back, by the record alone. On an error all units and tables stay, and no
 /// room is held.
 pub(crate) fn end_decided<R: Recorder>(
-    store: &mut TableStore,
+    store: &mut PagedTables,
     units: &mut Units,
     recorder: &mut R,
     alloc: Global,
@@ -71,6 +73,7 @@ pub(crate) fn end_decided<R: Recorder>(
     ensures recorded { OnOk result (R.records recorder.old (said_by saying.entry) recorder.new) }
     ensures kept { OnErr result (base_of store.new units.new ≡ base_of store.old units.old) }
     ensures refused { IfErr result (λ error. Refuses R.fails (Some (said_by saying.entry)) error recorder.old recorder.new) }
+    ensures pages { PagesStay store.old.tables store.new.tables }
 {
     match decision {
         Decision::Commit => commit_decided(store, units, recorder, alloc, xid, saying),
@@ -81,7 +84,7 @@ pub(crate) fn end_decided<R: Recorder>(
 // The unit of a branch in doubt is committed: this is recorded, then its changes are made, and it ends
 // with its claims. On an error all units and tables stay, and no room is held.
 fn commit_decided<R: Recorder>(
-    store: &mut TableStore,
+    store: &mut PagedTables,
     units: &mut Units,
     recorder: &mut R,
     alloc: Global,
@@ -93,6 +96,7 @@ fn commit_decided<R: Recorder>(
     ensures recorded { OnOk result (R.records recorder.old (said_by saying.entry) recorder.new) }
     ensures kept { OnErr result (base_of store.new units.new ≡ base_of store.old units.old) }
     ensures refused { IfErr result (λ error. Refuses R.fails (Some (said_by saying.entry)) error recorder.old recorder.new) }
+    ensures pages { PagesStay store.old.tables store.new.tables }
 {
     let owner = Owner::Global(*xid);
     match make_room(store, alloc, units.changes(&owner)) {
@@ -100,7 +104,7 @@ fn commit_decided<R: Recorder>(
         Err(AllocError) => return Err(RecordError::NoMemory),
     }
     let recorded = recorder.record(saying);
-    finish(store, units, &owner, recorded)
+    finish(store, units, alloc, &owner, recorded)
 }
 
 // The unit of a branch in doubt is rolled back: this is recorded, then it ends with its claims. On an error
@@ -124,12 +128,13 @@ fn roll_back_decided<R: Recorder>(
 
 /// Makes room for changes; out of memory, no room is held. The tables stay.
 pub(crate) fn make_room(
-    store: &mut TableStore,
+    store: &mut PagedTables,
     alloc: Global,
     changes: &[Change],
 ) -> Result<(), AllocError>
     ensures tables { store_in store.new ≡ store_in store.old }
     ensures room { OnOk result (IsReserved (map change_of changes.now) store.new) }
+    ensures pages { PagesStay store.old.tables store.new.tables }
 {
     match store.reserve(alloc, changes) {
         Ok(()) => Ok(()),
@@ -143,8 +148,9 @@ pub(crate) fn make_room(
 // The changes of an owner's unit, for which there is room, are made where they were recorded, and it
 // ends with its claims. Where they were not, the room is given up.
 fn finish(
-    store: &mut TableStore,
+    store: &mut PagedTables,
     units: &mut Units,
+    alloc: Global,
     owner: &Owner,
     recorded: Result<(), RecordError>,
 ) -> Result<(), RecordError>
@@ -152,10 +158,11 @@ fn finish(
     ensures same { result ≡ recorded }
     ensures done { OnOk recorded (base_of store.new units.new ≡ bare (base_of store.old units.old) (Commit (plain_owner owner.now))) }
     ensures kept { OnErr recorded (base_of store.new units.new ≡ base_of store.old units.old) }
+    ensures pages { PagesStay store.old.tables store.new.tables }
 {
     match recorded {
         Ok(()) => {
-            store.apply_reserved(units.end(owner).into_vec());
+            store.apply_reserved(alloc, units.end(owner).into_vec());
             Ok(())
         }
         Err(error) => {
@@ -168,7 +175,7 @@ fn finish(
 /// What is due of an XID's branch is recorded, and then done to its unit. On an error all units and
 /// tables stay; there is none where no record is due.
 pub(crate) fn do_due<R: Recorder>(
-    store: &mut TableStore,
+    store: &mut PagedTables,
     units: &mut Units,
     recorder: &mut R,
     alloc: Global,
@@ -181,6 +188,7 @@ pub(crate) fn do_due<R: Recorder>(
     ensures kept { OnErr result (base_of store.new units.new ≡ base_of store.old units.old) }
     ensures refused { IfErr result (λ error. Refuses R.fails (action_due xid.now (unit_of (global xid.now) units.old) action) error recorder.old recorder.new) }
     ensures cause { OnErr result (action_due xid.now (unit_of (global xid.now) units.old) action ≡ None → ⊥) }
+    ensures pages { PagesStay store.old.tables store.new.tables }
 {
     let owner = Owner::Global(*xid);
     match action {

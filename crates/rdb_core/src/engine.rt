@@ -1,6 +1,6 @@
 //! The core and its calls.
 
-ghost use Rattle.std.specs.Prelude.{◌≡◌, ℕ, None, Some, false};
+ghost use Rattle.std.specs.Prelude.{◌≡◌, [], ℕ, None, Some, false};
 ghost use Rattle.std.specs.Result.{result_ok};
 ghost use Rattle.unit_records.specs.Records.{UnitRecord};
 ghost use Rattle.unit_records.specs.Due.{record_due};
@@ -8,15 +8,16 @@ ghost use Rattle.core_calls.specs.Answer.{answer_of};
 ghost use Rattle.core_calls.specs.Call.{commit, lost, roll_back, xa};
 ghost use Rattle.core_model.specs.Step.{owner_of};
 ghost use Rattle.core_model.specs.Units.{has_any, local, unit_of};
+ghost use Rattle.paged_tables.specs.TablesByName.{PagesStay};
 ghost use Rattle.unit_table.specs.Owner.{plain_owner};
-ghost use Rattle.rdb_core.specs.State.{empty, recorder_of, state_of};
+ghost use Rattle.rdb_core.specs.State.{empty, pages_of, recorder_of, state_of};
 ghost use Rattle.rdb_core.specs.Steps.{Steps, Takes, may_want_memory};
 
 use crate::ending::{commit_unit, do_due, end_lost};
 use crate::refusing::refused;
 use core_calls::Answer;
+use paged_tables::PagedTables;
 use std::alloc::{AllocError, Global};
-use table_store::TableStore;
 use unit_records::Recorder;
 use unit_table::{Owner, Units};
 use xa_calls::{InvalidRequest, Request, Verb, XaCode, Xid};
@@ -31,7 +32,7 @@ pub struct Core<R: Recorder> {
     pub alloc: Global,
     /// The committed tables. Whoever holds the core may lend them and who records at once, as a
     /// checkpoint does.
-    pub store: TableStore,
+    pub store: PagedTables,
     pub(crate) units: Units,
     pub(crate) branches: XaTable,
     /// Who records. May be lent beside the committed tables.
@@ -43,10 +44,11 @@ impl<R: Recorder> Core<R> {
     pub fn start(alloc: Global, recorder: R) -> Core<R>
         ensures state { state_of result ≡ empty }
         ensures recorder { recorder_of result ≡ recorder }
+        ensures pages { pages_of result ≡ [] }
     {
         Core {
             alloc,
-            store: TableStore::new(alloc),
+            store: PagedTables::new(alloc),
             units: Units::new(alloc),
             branches: XaTable::new(alloc),
             recorder,
@@ -85,6 +87,7 @@ impl<R: Recorder> Core<R> {
         requires allowed { (r : UnitRecord) → record_due (state_of self.old) conversation commit ≡ Some r → R.allows (recorder_of self.old) r }
         ensures step { Steps R.records R.fails (state_of self.old) conversation commit (answer_of result) (state_of self.new) (recorder_of self.old) (recorder_of self.new) }
         ensures sure { has_any (unit_of (local conversation) (state_of self.old).base.units).changes ≡ false → Takes R.records (state_of self.old) conversation commit (answer_of result) (state_of self.new) (recorder_of self.old) (recorder_of self.new) }
+        ensures pages { PagesStay (pages_of self.old) (pages_of self.new) }
     {
         match self.branches.joined(conversation) {
             Some(_) => return Answer::InGlobal,
@@ -106,7 +109,8 @@ impl<R: Recorder> Core<R> {
     /// The conversation's local unit is rolled back (DDM RDBRLLBCK). Inside of a global unit it answers
     /// `InGlobal` and does nothing. Takes no memory.
     pub fn roll_back(&mut self, conversation: u64) -> Answer
-        ensures { Takes R.records (state_of self.old) conversation roll_back (answer_of result) (state_of self.new) (recorder_of self.old) (recorder_of self.new) }
+        ensures step { Takes R.records (state_of self.old) conversation roll_back (answer_of result) (state_of self.new) (recorder_of self.old) (recorder_of self.new) }
+        ensures pages { PagesStay (pages_of self.old) (pages_of self.new) }
     {
         match self.branches.joined(conversation) {
             Some(_) => return Answer::InGlobal,
@@ -119,7 +123,8 @@ impl<R: Recorder> Core<R> {
     /// The conversation is lost: its local unit ends, and so does each branch that it was the last to
     /// start or join, and that is not in doubt. Takes no memory.
     pub fn lost(&mut self, conversation: u64) -> Answer
-        ensures { Takes R.records (state_of self.old) conversation lost (answer_of result) (state_of self.new) (recorder_of self.old) (recorder_of self.new) }
+        ensures step { Takes R.records (state_of self.old) conversation lost (answer_of result) (state_of self.new) (recorder_of self.old) (recorder_of self.new) }
+        ensures pages { PagesStay (pages_of self.old) (pages_of self.new) }
     {
         let _changes = self.units.end(&Owner::Local(conversation));
         end_lost(&mut self.units, self.branches.branches(), conversation);
@@ -134,6 +139,7 @@ impl<R: Recorder> Core<R> {
         requires allowed { (r : UnitRecord) → record_due (state_of self.old) conversation (xa (result_ok request.now)) ≡ Some r → R.allows (recorder_of self.old) r }
         ensures step { Steps R.records R.fails (state_of self.old) conversation (xa (result_ok request.now)) (answer_of result) (state_of self.new) (recorder_of self.old) (recorder_of self.new) }
         ensures sure { may_want_memory (state_of self.old) conversation (result_ok request.now) ≡ false → record_due (state_of self.old) conversation (xa (result_ok request.now)) ≡ None → Takes R.records (state_of self.old) conversation (xa (result_ok request.now)) (answer_of result) (state_of self.new) (recorder_of self.old) (recorder_of self.new) }
+        ensures pages { PagesStay (pages_of self.old) (pages_of self.new) }
     {
         match request {
             Err(InvalidRequest) => Answer::Xa(XaCode::Invalid),
@@ -148,6 +154,7 @@ impl<R: Recorder> Core<R> {
         requires allowed { (r : UnitRecord) → record_due (state_of self.old) conversation (xa (Some request.now)) ≡ Some r → R.allows (recorder_of self.old) r }
         ensures step { Steps R.records R.fails (state_of self.old) conversation (xa (Some request.now)) (answer_of result) (state_of self.new) (recorder_of self.old) (recorder_of self.new) }
         ensures sure { may_want_memory (state_of self.old) conversation (Some request.now) ≡ false → record_due (state_of self.old) conversation (xa (Some request.now)) ≡ None → Takes R.records (state_of self.old) conversation (xa (Some request.now)) (answer_of result) (state_of self.new) (recorder_of self.old) (recorder_of self.new) }
+        ensures pages { PagesStay (pages_of self.old) (pages_of self.new) }
     {
         match request {
             Request::Recover => self.recover(),
@@ -157,7 +164,8 @@ impl<R: Recorder> Core<R> {
 
     // The XIDs in doubt.
     fn recover(&mut self) -> Answer
-        ensures { (conversation : ℕ) → Steps R.records R.fails (state_of self.old) conversation (xa (Some Request.Recover)) (answer_of result) (state_of self.new) (recorder_of self.old) (recorder_of self.new) }
+        ensures step { (conversation : ℕ) → Steps R.records R.fails (state_of self.old) conversation (xa (Some Request.Recover)) (answer_of result) (state_of self.new) (recorder_of self.old) (recorder_of self.new) }
+        ensures pages { PagesStay (pages_of self.old) (pages_of self.new) }
     {
         match self.branches.recover(self.alloc) {
             Ok(xids) => Answer::InDoubt(xids),
@@ -172,6 +180,7 @@ impl<R: Recorder> Core<R> {
         requires allowed { (r : UnitRecord) → record_due (state_of self.old) conversation (xa (Some (Request.Branch verb xid.now))) ≡ Some r → R.allows (recorder_of self.old) r }
         ensures step { Steps R.records R.fails (state_of self.old) conversation (xa (Some (Request.Branch verb xid.now))) (answer_of result) (state_of self.new) (recorder_of self.old) (recorder_of self.new) }
         ensures sure { may_want_memory (state_of self.old) conversation (Some (Request.Branch verb xid.now)) ≡ false → record_due (state_of self.old) conversation (xa (Some (Request.Branch verb xid.now))) ≡ None → Takes R.records (state_of self.old) conversation (xa (Some (Request.Branch verb xid.now))) (answer_of result) (state_of self.new) (recorder_of self.old) (recorder_of self.new) }
+        ensures pages { PagesStay (pages_of self.old) (pages_of self.new) }
     {
         let work = Work {
             is_local: self.units.has_work(&Owner::Local(conversation)),

@@ -1,4 +1,4 @@
-//! What questions come to over the view of their unit.
+//! What questions come to over what their unit sees.
 
 ghost use Rattle.std.specs.Prelude.{◌≡◌, [], IfOk, IsTrue, List, None, false, map, true};
 ghost use Rattle.row_values.specs.Value.{Value as SqlValue, value_of};
@@ -9,21 +9,27 @@ ghost use Rattle.sql_semantics.specs.Describe.{described};
 ghost use Rattle.sql_semantics.specs.Frame.{changes_of, claims_in, covered_answer};
 ghost use Rattle.sql_semantics.specs.Scope.{table_name};
 ghost use Rattle.small_sql.specs.Bound.{IsBound, IsOver};
-ghost use Rattle.core_model.specs.Asked.{described_claims, is_create, meant, told, unfit};
-ghost use Rattle.core_model.specs.Units.{left_of, others, unit_of};
+ghost use Rattle.ahead_view.specs.Source.{LeavesReader, MayRead};
+ghost use Rattle.core_model.specs.Asked.{claims_of, described_claims, describing, is_create, meant, told, unfit};
+ghost use Rattle.core_model.specs.Units.{clashes, left_of, others, unit_of};
 ghost use Rattle.unit_table.specs.Owner.{plain_owner};
-ghost use Rattle.rdb_core.specs.Found.{Finds, FindsOver};
+ghost use Rattle.rdb_core.specs.Found.{Finds, FindsFree, FindsOver};
 ghost use Rattle.rdb_core.specs.Question.{question_of};
+ghost use Rattle.rdb_core.specs.Sight.{seen_by};
 
 use crate::question::Question;
-use crate::reply::{Reply, description_claims, description_reply, statement_reply};
+use crate::reply::{Reply, description_claims, description_reply};
+use crate::sight::Sight;
+use crate::wanted::wanted;
+use ahead_view::{ReadError, Source};
 use core_calls::{Answer, Side};
 use row_values::{Schema, Value};
-use small_sql::{Bound, bind, claims, table_schema};
+use small_sql::{Bound, claims, table_schema};
 use sql_text::{Command, Statement};
 use std::alloc::{AllocError, Global};
 use std::sync::Arc;
 use tables::{Change, TableView};
+use unit_changes::UnitView;
 use unit_locks::Claim;
 use unit_table::{Owner, Units};
 
@@ -37,76 +43,78 @@ pub(crate) struct Found {
     pub(crate) changes: Vec<Change>,
 }
 
-/// What a fit question of an owner's unit comes to over its view.
-pub(crate) fn find<V: TableView>(
-    view: &mut V,
+/// What a statement of an owner's unit comes to. Rows are read only where no claim of it clashes.
+pub(crate) fn find<R: Source>(
+    sight: &Sight<'_>,
+    source: &mut R,
     units: &Units,
-    alloc: Global,
     owner: &Owner,
     question: Question<'_, '_>,
-) -> Result<Option<Found>, AllocError>
-where
-    V::Fault: Drop,
-    requires fit { unfit (question_of question) ≡ None }
-    ensures { IfOk result (λ found. IsTrue V.is_faithful → FindsOver found (others (plain_owner owner.now) units.now) (question_of question.entry) (left_of (unit_of (plain_owner owner.now) units.now)) (V.store view.old)) }
+) -> Result<Option<Found>, ReadError>
+    requires holds { R.holds source.old sight.now.tables.now.tables }
+    ensures free { IfOk result (λ found. FindsFree found (others (plain_owner owner.now) units.now) (claims_of (question_of question.entry) (seen_by sight.now))) }
+    ensures found { IsTrue R.is_told → IfOk result (λ found. FindsOver found (others (plain_owner owner.now) units.now) (question_of question.entry) (left_of (unit_of (plain_owner owner.now) units.now)) (seen_by sight.now)) }
+    ensures source { LeavesReader (MayRead R.reads) R.fails_to_read source.old result source.new }
+    ensures clash { clashes (claims_of (question_of question.entry) (seen_by sight.now)) (others (plain_owner owner.now) units.now) ≡ true → source.new ≡ source.old }
 {
     match question {
         Question::Running {
             statement,
             parameters,
-        } => find_statement(view, units, alloc, owner, &statement.command, parameters),
+        } => find_statement(sight, source, units, owner, &statement.command, parameters),
         Question::Querying {
             statement,
             parameters,
-        } => find_statement(view, units, alloc, owner, &statement.command, parameters),
-        Question::Describing { statement, side } => {
-            find_description(view, units, alloc, owner, statement, side)
-        }
+        } => find_statement(sight, source, units, owner, &statement.command, parameters),
     }
 }
 
 // What a statement with these values for its markers comes to: it is bound once, and what it claims, is
 // answered and changes comes from that.
-fn find_statement<V: TableView>(
-    view: &mut V,
+fn find_statement<R: Source>(
+    sight: &Sight<'_>,
+    source: &mut R,
     units: &Units,
-    alloc: Global,
     owner: &Owner,
     command: &Command<'_>,
     parameters: &[Value<'_>],
-) -> Result<Option<Found>, AllocError>
-where
-    V::Fault: Drop,
-    ensures { IfOk result (λ found. IsTrue V.is_faithful → Finds found (others (plain_owner owner.now) units.now) (claims_in (map value_of parameters.now) command.now (V.store view.old)) (meant (covered_answer (map value_of parameters.now) (left_of (unit_of (plain_owner owner.now) units.now)) command.now (V.store view.old))) (changes_of (covered_answer (map value_of parameters.now) (left_of (unit_of (plain_owner owner.now) units.now)) command.now (V.store view.old)))) }
+) -> Result<Option<Found>, ReadError>
+    requires holds { R.holds source.old sight.now.tables.now.tables }
+    ensures free { IfOk result (λ found. FindsFree found (others (plain_owner owner.now) units.now) (claims_in (map value_of parameters.now) command.now (seen_by sight.now))) }
+    ensures found { IsTrue R.is_told → IfOk result (λ found. Finds found (others (plain_owner owner.now) units.now) (claims_in (map value_of parameters.now) command.now (seen_by sight.now)) (meant (covered_answer (map value_of parameters.now) (left_of (unit_of (plain_owner owner.now) units.now)) command.now (seen_by sight.now))) (changes_of (covered_answer (map value_of parameters.now) (left_of (unit_of (plain_owner owner.now) units.now)) command.now (seen_by sight.now)))) }
+    ensures source { LeavesReader (MayRead R.reads) R.fails_to_read source.old result source.new }
+    ensures clash { clashes (claims_in (map value_of parameters.now) command.now (seen_by sight.now)) (others (plain_owner owner.now) units.now) ≡ true → source.new ≡ source.old }
 {
-    let Ok(bound) = bind(alloc, command, parameters, view) else {
-        return Err(AllocError);
-    };
-    let found = find_bound(view, units, alloc, owner, &bound);
+    let bound = sight.bind(command, parameters)?;
+    let found = find_bound(sight, source, units, owner, command, &bound);
     drop(bound);
     found
 }
 
 // What a bound statement comes to.
-fn find_bound<V: TableView>(
-    view: &mut V,
+fn find_bound<R: Source>(
+    sight: &Sight<'_>,
+    source: &mut R,
     units: &Units,
-    alloc: Global,
     owner: &Owner,
+    command: &Command<'_>,
     bound: &Bound<'_, '_>,
-) -> Result<Option<Found>, AllocError>
-where
-    V::Fault: Drop,
-    requires over { IsTrue V.is_faithful → IsOver bound.now (V.store view.old) }
-    requires good { IsTrue V.is_faithful → is_store (V.store view.old) ≡ true }
-    ensures { IfOk result (λ found. IsTrue V.is_faithful → (params : List SqlValue) (c : SqlCommand) → IsBound params c bound.now → Finds found (others (plain_owner owner.now) units.now) (claims_in params c (V.store view.old)) (meant (covered_answer params (left_of (unit_of (plain_owner owner.now) units.now)) c (V.store view.old))) (changes_of (covered_answer params (left_of (unit_of (plain_owner owner.now) units.now)) c (V.store view.old)))) }
+) -> Result<Option<Found>, ReadError>
+    requires holds { R.holds source.old sight.now.tables.now.tables }
+    requires over { IsOver bound.now (seen_by sight.now) }
+    requires good { is_store (seen_by sight.now) ≡ true }
+    ensures free { IfOk result (λ found. (params : List SqlValue) (c : SqlCommand) → IsBound params c bound.now → FindsFree found (others (plain_owner owner.now) units.now) (claims_in params c (seen_by sight.now))) }
+    ensures found { IsTrue R.is_told → IfOk result (λ found. (params : List SqlValue) (c : SqlCommand) → IsBound params c bound.now → Finds found (others (plain_owner owner.now) units.now) (claims_in params c (seen_by sight.now)) (meant (covered_answer params (left_of (unit_of (plain_owner owner.now) units.now)) c (seen_by sight.now))) (changes_of (covered_answer params (left_of (unit_of (plain_owner owner.now) units.now)) c (seen_by sight.now)))) }
+    ensures source { LeavesReader (MayRead R.reads) R.fails_to_read source.old result source.new }
+    ensures clash { (params : List SqlValue) (c : SqlCommand) → IsBound params c bound.now → clashes (claims_in params c (seen_by sight.now)) (others (plain_owner owner.now) units.now) ≡ true → source.new ≡ source.old }
 {
     let schema = bound.schema()?;
-    let claims = claims(alloc, bound)?;
+    let claims = claims(sight.alloc, bound)?;
     if units.clashes(owner, claims.as_slice()) {
         return Ok(None);
     }
-    let Reply { answer, changes } = statement_reply(alloc, bound, units.left(owner), view)?;
+    let rows = wanted(command, claims.as_slice());
+    let Reply { answer, changes } = sight.reply(source, rows, bound, units.left(owner))?;
     Ok(Some(Found {
         claims,
         schema,
@@ -115,8 +123,28 @@ where
     }))
 }
 
-// What a description of a statement comes to that creates no table.
-fn find_description<V: TableView>(
+/// What a description comes to of a statement that creates no table. No row is read.
+pub(crate) fn find_description(
+    sight: &Sight<'_>,
+    units: &Units,
+    owner: &Owner,
+    statement: &Statement<'_>,
+    side: Side,
+) -> Result<Option<Found>, AllocError>
+    requires { unfit (describing statement.now side) ≡ None }
+    ensures { IfOk result (λ found. FindsOver found (others (plain_owner owner.now) units.now) (describing statement.now side) (left_of (unit_of (plain_owner owner.now) units.now)) (seen_by sight.now)) }
+{
+    let mut base = sight.schemas();
+    let mut view = UnitView {
+        base: &mut base,
+        changes: sight.changes,
+        alloc: sight.alloc,
+    };
+    find_described(&mut view, units, sight.alloc, owner, statement, side)
+}
+
+// What a description comes to over the view of its unit.
+fn find_described<V: TableView>(
     view: &mut V,
     units: &Units,
     alloc: Global,

@@ -10,12 +10,15 @@ mod in_doubt;
 mod opening;
 mod plain;
 mod plain_state;
+mod plain_tables;
 mod question;
 mod refusing;
 mod reply;
+mod sight;
 mod step;
 mod through;
 mod together;
+mod wanted;
 
 pub use engine::Core;
 pub use in_doubt::InDoubt;

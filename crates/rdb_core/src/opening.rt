@@ -2,17 +2,18 @@
 
 ghost use Rattle.std.specs.Prelude.{◌≡◌, OnErr, OnOk, [], false, map};
 ghost use Rattle.tables.specs.ChangeView.{change_of};
-ghost use Rattle.table_store.specs.TableStore.{store_in};
+ghost use Rattle.paged_tables.specs.PagedTables.{store_in};
+ghost use Rattle.paged_tables.specs.TablesByName.{PagesStay};
 ghost use Rattle.xa_manager.specs.Branch.{in_doubt_xids};
 ghost use Rattle.core_model.specs.Units.{global, has_work, unit_of};
 ghost use Rattle.rdb_core.specs.InDoubt.{xids_left};
 ghost use Rattle.rdb_core.specs.Restored.{RestoresUnit, with_in_doubt};
-ghost use Rattle.rdb_core.specs.State.{recorder_of, state_of};
+ghost use Rattle.rdb_core.specs.State.{pages_of, recorder_of, state_of};
 
 use crate::engine::Core;
 use crate::in_doubt::InDoubt;
+use paged_tables::PagedTables;
 use std::alloc::{AllocError, Global};
-use table_store::TableStore;
 use tables::Change;
 use unit_changes::UnitChanges;
 use unit_locks::Claim;
@@ -23,9 +24,10 @@ use xa_manager::{Decision, RestoreError, XaTable};
 
 impl<R: Recorder> Core<R> {
     /// A core with these committed tables, without units and branches. Takes no memory.
-    pub fn restored(alloc: Global, recorder: R, store: TableStore) -> Core<R>
+    pub fn restored(alloc: Global, recorder: R, store: PagedTables) -> Core<R>
         ensures state { state_of result ≡ record { base = record { store = store_in store; units = [] }; branches = [] } }
         ensures recorder { recorder_of result ≡ recorder }
+        ensures pages { pages_of result ≡ store.tables }
     {
         Core {
             alloc,
@@ -52,6 +54,7 @@ impl<R: Recorder> Core<R> {
         ensures err { OnErr result (state_of self.new ≡ state_of self.old) }
         ensures exact { RestoresUnit result (state_of self.old).branches xid }
         ensures recorder { recorder_of self.new ≡ recorder_of self.old }
+        ensures pages { PagesStay (pages_of self.old) (pages_of self.new) }
     {
         self.units.are_listed();
         match self.units.restore(xid, changes, claims) {

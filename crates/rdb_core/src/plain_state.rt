@@ -1,12 +1,16 @@
 //! The state, and its parts.
 
-ghost use Rattle.std.specs.Prelude.{◌≡◌, IfOk, map};
-ghost use Rattle.table_store.specs.TableStore.{store_in};
+ghost use Rattle.std.specs.Prelude.{◌≡◌, IfOk, IsTrue, map};
+ghost use Rattle.ahead_view.specs.Source.{LeavesReader};
+ghost use Rattle.paged_tables.specs.PagedTables.{store_in};
 ghost use Rattle.unit_table.specs.Plain.{held_of};
+ghost use Rattle.rdb_core.specs.Copied.{FailsOn, ReadsOn};
 
+use crate::plain_tables::copied_tables;
+use ahead_view::{ReadError, Source};
+use paged_tables::PagedTables;
 use std::alloc::{AllocError, Global};
 use std::marker::Model;
-use table_store::TableStore;
 use tables::PlainView;
 use unit_table::{PlainUnit, Units};
 use xa_manager::{Branch, XaTable};
@@ -34,16 +38,20 @@ impl Model for PlainState {
 impl PlainState {
     ghost use Rattle.rdb_core.specs.PlainState.{state_in};
 
-    /// A copy of the state that has these parts. Memory may be refused.
-    pub fn of(
+    /// A copy of the state that has these parts, whose rows are read there. Memory may be refused, and the
+    /// device may fail in a read.
+    pub fn of<S: Source>(
+        source: &mut S,
         alloc: Global,
-        store: &TableStore,
+        tables: &PagedTables,
         units: &Units,
         branches: &XaTable,
-    ) -> Result<PlainState, AllocError>
-        ensures { IfOk result (λ state. state ≡ state_in (store_in store.now) units.now branches.now) }
+    ) -> Result<PlainState, ReadError>
+        requires { S.holds source.old tables.now.tables }
+        ensures told { IsTrue S.is_told → IfOk result (λ state. state ≡ state_in (store_in tables.now) units.now branches.now) }
+        ensures source { LeavesReader (ReadsOn S.reads) (FailsOn S.reads S.fails_to_read) source.old result source.new }
     {
-        let tables = store.plain(alloc)?;
+        let tables = copied_tables(source, alloc, tables)?;
         let units = units.plain()?;
         let branches = Vec::from_slice(alloc, branches.branches())?;
         Ok(PlainState {

@@ -9,7 +9,7 @@ use core_calls::{Side, SqlFault};
 use row_values::Value;
 use sql_text::{Command, Statement};
 
-/// What is asked of a unit. Contracts see it by `question_of`.
+/// A statement that is asked of a unit. Contracts see it by `question_of`.
 #[derive(Clone, Copy)]
 pub(crate) enum Question<'a, 't> {
     /// A statement that is no SELECT is run, with these values for its markers.
@@ -21,11 +21,6 @@ pub(crate) enum Question<'a, 't> {
     Querying {
         statement: &'a Statement<'t>,
         parameters: &'a [Value<'t>],
-    },
-    /// One side of a statement is described.
-    Describing {
-        statement: &'a Statement<'t>,
-        side: Side,
     },
 }
 
@@ -42,7 +37,6 @@ pub(crate) fn unfit(question: Question<'_, '_>) -> Option<SqlFault>
             statement,
             parameters,
         } => unfit_to_query(statement, parameters),
-        Question::Describing { statement, side } => unfit_to_describe(statement, side),
     }
 }
 
@@ -67,8 +61,8 @@ fn unfit_to_query(statement: &Statement<'_>, parameters: &[Value<'_>]) -> Option
     wrong_number(statement, parameters)
 }
 
-// Why a statement can't be described: it is a CREATE TABLE.
-fn unfit_to_describe(statement: &Statement<'_>, side: Side) -> Option<SqlFault>
+/// Why a statement can't be described: it is a CREATE TABLE.
+pub(crate) fn unfit_to_describe(statement: &Statement<'_>, side: Side) -> Option<SqlFault>
     ensures { result ≡ unfit (describing statement.now side) }
 {
     match statement.command {

@@ -1,35 +1,46 @@
 //! The core's one step.
 
-ghost use Rattle.std.specs.Prelude.{◌≡◌, None, Some, false, map};
+ghost use Rattle.std.specs.Prelude.{◌≡◌, IsTrue, None, Some, false, map};
 ghost use Rattle.row_values.specs.Value.{value_of};
+ghost use Rattle.paged_tables.specs.TablesByName.{PagesStay};
 ghost use Rattle.unit_records.specs.Records.{UnitRecord};
 ghost use Rattle.unit_records.specs.Due.{record_due};
 ghost use Rattle.core_calls.specs.Answer.{answer_of};
 ghost use Rattle.core_calls.specs.Call.{call_of, describe, query, run};
 ghost use Rattle.core_model.specs.Asked.{unfit};
+ghost use Rattle.rdb_core.specs.Looks.{IsClashing, StepsAnyhow, StepsOver};
 ghost use Rattle.rdb_core.specs.Question.{call_asking, question_of};
-ghost use Rattle.rdb_core.specs.State.{recorder_of, state_of};
+ghost use Rattle.rdb_core.specs.State.{pages_of, recorder_of, state_of};
 ghost use Rattle.rdb_core.specs.Steps.{Steps, Takes, is_fit, may_want_any};
 
-use crate::asking::ask_unit;
+use crate::asking::{ask_description, ask_unit};
 use crate::engine::Core;
-use crate::question::{Question, unfit};
+use crate::question::{Question, unfit, unfit_to_describe};
+use crate::refusing::unread;
+use ahead_view::Source;
 use core_calls::{Answer, CoreCall, Refusal, Side};
 use row_values::Value;
 use sql_text::Statement;
 use std::alloc::AllocError;
 use unit_records::Recorder;
 
-impl<R: Recorder> Core<R> {
+impl<R: Recorder + Source> Core<R> {
     /// What a conversation asks is answered, and the core takes one step. What is committed, prepared,
     /// decided or forgotten is recorded first; where that is refused the answer says why, and the core is as before.
-    /// Out of memory it answers `NoMemory` and is as before. A rollback and the loss of a conversation
-    /// take no memory, nor do a commit of a unit without changes and a statement that is refused before
+    /// The rows that a statement asks for are read first, once no claim of it clashes; where the device fails in
+    /// that the core is as before. Out of memory it answers `NoMemory` and is as before. A rollback and the loss of a
+    /// conversation take no memory, nor do a commit of a unit without changes and a statement that is refused before
     /// it claims anything; nothing is recorded of them.
+    ///
+    /// Of a source that is not told, what a statement is answered and what it changes in its unit may be anything.
     pub fn step(&mut self, conversation: u64, call: &CoreCall<'_, '_>) -> Answer
         requires allowed { (r : UnitRecord) → record_due (state_of self.old) conversation (call_of call.now) ≡ Some r → R.allows (recorder_of self.old) r }
-        ensures step { Steps R.records R.fails (state_of self.old) conversation (call_of call.now) (answer_of result) (state_of self.new) (recorder_of self.old) (recorder_of self.new) }
+        requires holds { R.holds (recorder_of self.old) (pages_of self.old) }
+        ensures step { IsTrue R.is_told → StepsOver R.records R.fails R.reads R.fails_to_read (state_of self.old) conversation (call_of call.now) (answer_of result) (state_of self.new) (recorder_of self.old) (recorder_of self.new) }
+        ensures any { StepsAnyhow R.records R.fails R.reads R.fails_to_read (state_of self.old) conversation (call_of call.now) (answer_of result) (state_of self.new) (recorder_of self.old) (recorder_of self.new) }
         ensures sure { may_want_any (state_of self.old) conversation (call_of call.now) ≡ false → record_due (state_of self.old) conversation (call_of call.now) ≡ None → Takes R.records (state_of self.old) conversation (call_of call.now) (answer_of result) (state_of self.new) (recorder_of self.old) (recorder_of self.new) }
+        ensures pages { PagesStay (pages_of self.old) (pages_of self.new) }
+        ensures clash { IsClashing (state_of self.old) conversation (call_of call.now) → recorder_of self.new ≡ recorder_of self.old }
     {
         match call {
             CoreCall::Run {
@@ -51,15 +62,19 @@ impl<R: Recorder> Core<R> {
     /// A statement that is no SELECT is run in the unit that the conversation works in (DDM EXCSQLIMM
     /// and EXCSQLSTT), over that unit's view, with these values for its markers. A SELECT is refused,
     /// and so is another number of values. Where a claim of it clashes with one of another unit, it is
-    /// refused and nothing is kept; else its claims and its changes are kept together.
+    /// refused, no row is read and nothing is kept; else its claims and its changes are kept together.
     pub fn run<'a, 't>(
         &mut self,
         conversation: u64,
         statement: &'a Statement<'t>,
         parameters: &'a [Value<'t>],
     ) -> Answer
-        ensures step { Steps R.records R.fails (state_of self.old) conversation (run statement.now (map value_of parameters.now)) (answer_of result) (state_of self.new) (recorder_of self.old) (recorder_of self.new) }
+        requires holds { R.holds (recorder_of self.old) (pages_of self.old) }
+        ensures step { IsTrue R.is_told → StepsOver R.records R.fails R.reads R.fails_to_read (state_of self.old) conversation (run statement.now (map value_of parameters.now)) (answer_of result) (state_of self.new) (recorder_of self.old) (recorder_of self.new) }
+        ensures any { StepsAnyhow R.records R.fails R.reads R.fails_to_read (state_of self.old) conversation (run statement.now (map value_of parameters.now)) (answer_of result) (state_of self.new) (recorder_of self.old) (recorder_of self.new) }
         ensures sure { may_want_any (state_of self.old) conversation (run statement.now (map value_of parameters.now)) ≡ false → Takes R.records (state_of self.old) conversation (run statement.now (map value_of parameters.now)) (answer_of result) (state_of self.new) (recorder_of self.old) (recorder_of self.new) }
+        ensures pages { PagesStay (pages_of self.old) (pages_of self.new) }
+        ensures clash { IsClashing (state_of self.old) conversation (run statement.now (map value_of parameters.now)) → recorder_of self.new ≡ recorder_of self.old }
     {
         self.ask(
             conversation,
@@ -72,15 +87,19 @@ impl<R: Recorder> Core<R> {
 
     /// A SELECT is evaluated over the view of the unit that the conversation works in (DDM OPNQRY), with
     /// these values for its markers. No other statement is, nor one with another number of values. The
-    /// unit keeps its claims and changes nothing.
+    /// unit keeps its claims and changes nothing. Where a claim of it clashes, no row is read.
     pub fn query<'a, 't>(
         &mut self,
         conversation: u64,
         statement: &'a Statement<'t>,
         parameters: &'a [Value<'t>],
     ) -> Answer
-        ensures step { Steps R.records R.fails (state_of self.old) conversation (query statement.now (map value_of parameters.now)) (answer_of result) (state_of self.new) (recorder_of self.old) (recorder_of self.new) }
+        requires holds { R.holds (recorder_of self.old) (pages_of self.old) }
+        ensures step { IsTrue R.is_told → StepsOver R.records R.fails R.reads R.fails_to_read (state_of self.old) conversation (query statement.now (map value_of parameters.now)) (answer_of result) (state_of self.new) (recorder_of self.old) (recorder_of self.new) }
+        ensures any { StepsAnyhow R.records R.fails R.reads R.fails_to_read (state_of self.old) conversation (query statement.now (map value_of parameters.now)) (answer_of result) (state_of self.new) (recorder_of self.old) (recorder_of self.new) }
         ensures sure { may_want_any (state_of self.old) conversation (query statement.now (map value_of parameters.now)) ≡ false → Takes R.records (state_of self.old) conversation (query statement.now (map value_of parameters.now)) (answer_of result) (state_of self.new) (recorder_of self.old) (recorder_of self.new) }
+        ensures pages { PagesStay (pages_of self.old) (pages_of self.new) }
+        ensures clash { IsClashing (state_of self.old) conversation (query statement.now (map value_of parameters.now)) → recorder_of self.new ≡ recorder_of self.old }
     {
         self.ask(
             conversation,
@@ -91,26 +110,55 @@ impl<R: Recorder> Core<R> {
         )
     }
 
-    /// One side of a statement is described over the view of the unit that the conversation works in
-    /// (DDM DSCSQLSTT). A CREATE TABLE is not. Where its table is there nothing is claimed.
-    pub fn describe(&mut self, conversation: u64, statement: &Statement<'_>, side: Side) -> Answer
-        ensures step { Steps R.records R.fails (state_of self.old) conversation (describe statement.now side) (answer_of result) (state_of self.new) (recorder_of self.old) (recorder_of self.new) }
-        ensures sure { may_want_any (state_of self.old) conversation (describe statement.now side) ≡ false → Takes R.records (state_of self.old) conversation (describe statement.now side) (answer_of result) (state_of self.new) (recorder_of self.old) (recorder_of self.new) }
-    {
-        self.ask(conversation, Question::Describing { statement, side })
-    }
-
-    // A question of the unit that a conversation works in.
+    // A statement of the unit that a conversation works in.
     fn ask(&mut self, conversation: u64, question: Question<'_, '_>) -> Answer
-        ensures step { Steps R.records R.fails (state_of self.old) conversation (call_asking (question_of question.entry)) (answer_of result) (state_of self.new) (recorder_of self.old) (recorder_of self.new) }
+        requires holds { R.holds (recorder_of self.old) (pages_of self.old) }
+        ensures step { IsTrue R.is_told → StepsOver R.records R.fails R.reads R.fails_to_read (state_of self.old) conversation (call_asking (question_of question.entry)) (answer_of result) (state_of self.new) (recorder_of self.old) (recorder_of self.new) }
+        ensures any { StepsAnyhow R.records R.fails R.reads R.fails_to_read (state_of self.old) conversation (call_asking (question_of question.entry)) (answer_of result) (state_of self.new) (recorder_of self.old) (recorder_of self.new) }
         ensures sure { is_fit (unfit (question_of question.entry)) ≡ false → Takes R.records (state_of self.old) conversation (call_asking (question_of question.entry)) (answer_of result) (state_of self.new) (recorder_of self.old) (recorder_of self.new) }
+        ensures pages { PagesStay (pages_of self.old) (pages_of self.new) }
+        ensures clash { IsClashing (state_of self.old) conversation (call_asking (question_of question.entry)) → recorder_of self.new ≡ recorder_of self.old }
     {
         match unfit(question) {
             Some(fault) => return Answer::Refused(Refusal::Unfit(fault)),
             None => {}
         }
         let owner = self.owner(conversation);
-        match ask_unit(&self.store, &mut self.units, self.alloc, &owner, question) {
+        match ask_unit(
+            &self.store,
+            &mut self.units,
+            &mut self.recorder,
+            self.alloc,
+            &owner,
+            question,
+        ) {
+            Ok(answer) => answer,
+            Err(error) => unread(error),
+        }
+    }
+}
+
+impl<R: Recorder> Core<R> {
+    /// One side of a statement is described over the view of the unit that the conversation works in
+    /// (DDM DSCSQLSTT). A CREATE TABLE is not. Where its table is there nothing is claimed. No row is read.
+    pub fn describe(&mut self, conversation: u64, statement: &Statement<'_>, side: Side) -> Answer
+        ensures step { Steps R.records R.fails (state_of self.old) conversation (describe statement.now side) (answer_of result) (state_of self.new) (recorder_of self.old) (recorder_of self.new) }
+        ensures sure { may_want_any (state_of self.old) conversation (describe statement.now side) ≡ false → Takes R.records (state_of self.old) conversation (describe statement.now side) (answer_of result) (state_of self.new) (recorder_of self.old) (recorder_of self.new) }
+        ensures pages { PagesStay (pages_of self.old) (pages_of self.new) }
+    {
+        match unfit_to_describe(statement, side) {
+            Some(fault) => return Answer::Refused(Refusal::Unfit(fault)),
+            None => {}
+        }
+        let owner = self.owner(conversation);
+        match ask_description(
+            &self.store,
+            &mut self.units,
+            self.alloc,
+            &owner,
+            statement,
+            side,
+        ) {
             Ok(answer) => answer,
             Err(AllocError) => Answer::NoMemory,
         }

@@ -3,19 +3,20 @@
 ghost use Rattle.std.specs.Prelude.{◌≡◌, IfErr, IfOk, OnErr, OnOk, bytes_eq, false, map, true};
 ghost use Rattle.std.specs.List.{list_any};
 ghost use Rattle.tables.specs.ChangeView.{change_of};
-ghost use Rattle.table_store.specs.TableStore.{IsReserved, store_in};
+ghost use Rattle.paged_tables.specs.PagedTables.{IsReserved, store_in};
+ghost use Rattle.paged_tables.specs.TablesByName.{PagesStay};
 ghost use Rattle.unit_records.specs.Together.{FailsTogether};
 ghost use Rattle.unit_records.specs.RecordContents.{said_by};
 ghost use Rattle.unit_records.specs.Phases.{AreDue, action_of, all_through, are_apart, are_few, are_ready, branches_behind, changes_in, is_ready, may_go_through, record_in, records_in, units_behind, verb_of};
 ghost use Rattle.core_model.specs.Units.{apply_all};
 ghost use Rattle.xa_manager.specs.Branch.{in_doubt_count};
 ghost use Rattle.xa_manager.specs.Due.{after, done, due_of};
-ghost use Rattle.rdb_core.specs.State.{recorder_of, state_of};
+ghost use Rattle.rdb_core.specs.State.{pages_of, recorder_of, state_of};
 
 use crate::ending::make_room;
 use crate::engine::Core;
+use paged_tables::PagedTables;
 use std::alloc::{AllocError, Global};
-use table_store::TableStore;
 use tables::Change;
 use unit_records::laws::branches_go_through;
 use unit_records::{BranchCall, GroupError, Phase, RecordContents, Recorder};
@@ -46,6 +47,7 @@ impl<R: Recorder> Core<R> {
         ensures recorded { OnOk result (R.records_all (recorder_of self.old) (records_in phase (state_of self.old).base.units calls.now) (recorder_of self.new)) }
         ensures kept { OnErr result (state_of self.new ≡ state_of self.old) }
         ensures refused { IfErr result (λ error. FailsTogether R.fails_all (records_in phase (state_of self.old).base.units calls.now) error (recorder_of self.old) (recorder_of self.new)) }
+        ensures pages { PagesStay (pages_of self.old) (pages_of self.new) }
     {
         branches_go_through();
         let _branches = self.branches.branches();
@@ -61,6 +63,7 @@ impl<R: Recorder> Core<R> {
         finish_all(
             &mut self.store,
             &mut self.units,
+            self.alloc,
             phase,
             calls,
             changes,
@@ -212,8 +215,9 @@ fn saying_of<'a>(units: &'a Units, phase: Phase, xid: &'a Xid) -> RecordContents
 // The changes, for which there is room, are made where they were recorded, and the units of the branches that are
 // decided end. Where they were not, the room is given up.
 fn finish_all(
-    store: &mut TableStore,
+    store: &mut PagedTables,
     units: &mut Units,
+    alloc: Global,
     phase: Phase,
     calls: &[BranchCall],
     changes: Vec<Change>,
@@ -225,10 +229,11 @@ fn finish_all(
     ensures ended { OnOk recorded (units.new ≡ units_behind phase calls.now units.old) }
     ensures tables_stay { OnErr recorded (store_in store.new ≡ store_in store.old) }
     ensures units_stay { OnErr recorded (units.new ≡ units.old) }
+    ensures pages { PagesStay store.old.tables store.new.tables }
 {
     match recorded {
         Ok(()) => {
-            store.apply_reserved(changes);
+            store.apply_reserved(alloc, changes);
             end_all(units, phase, calls);
             Ok(())
         }

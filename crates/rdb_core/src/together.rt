@@ -3,18 +3,19 @@
 ghost use Rattle.std.specs.Prelude.{◌≡◌, ◌==◌, ◌&&◌, IfErr, IfOk, OnErr, OnOk, Some, map, true};
 ghost use Rattle.std.specs.List.{list_any};
 ghost use Rattle.tables.specs.ChangeView.{change_of};
-ghost use Rattle.table_store.specs.TableStore.{IsReserved, store_in};
+ghost use Rattle.paged_tables.specs.PagedTables.{IsReserved, store_in};
+ghost use Rattle.paged_tables.specs.TablesByName.{PagesStay};
 ghost use Rattle.unit_records.specs.Records.{UnitRecord};
 ghost use Rattle.unit_records.specs.Due.{commit_due};
 ghost use Rattle.unit_records.specs.Together.{all_changes, all_committed, all_ended, are_apart, are_local, due_together};
 ghost use Rattle.core_model.specs.Units.{apply_all};
 ghost use Rattle.rdb_core.specs.Recorded.{IsRecorded, Refuses};
-ghost use Rattle.rdb_core.specs.State.{recorder_of, state_of};
+ghost use Rattle.rdb_core.specs.State.{pages_of, recorder_of, state_of};
 
 use crate::ending::make_room;
 use crate::engine::Core;
+use paged_tables::PagedTables;
 use std::alloc::{AllocError, Global};
-use table_store::TableStore;
 use tables::Change;
 use unit_records::laws::commits_go_together;
 use unit_records::{RecordContents, RecordError, Recorder};
@@ -41,6 +42,7 @@ impl<R: Recorder> Core<R> {
         ensures recorded { OnOk result (IsRecorded R.records (due_together conversations.now (state_of self.old)) (recorder_of self.old) (recorder_of self.new)) }
         ensures kept { OnErr result (state_of self.new ≡ state_of self.old) }
         ensures refused { IfErr result (λ error. Refuses R.fails (due_together conversations.now (state_of self.old)) error (recorder_of self.old) (recorder_of self.new)) }
+        ensures pages { PagesStay (pages_of self.old) (pages_of self.new) }
     {
         commits_go_together();
         let changes = match copied_changes(&self.units, self.alloc, conversations) {
@@ -111,7 +113,7 @@ fn copied_changes(
 // What the local units of these conversations have changed, which is handed in, is recorded and then
 // made, and they end. On an error all units and tables stay, and no room is held.
 fn commit_all<R: Recorder>(
-    store: &mut TableStore,
+    store: &mut PagedTables,
     units: &mut Units,
     recorder: &mut R,
     alloc: Global,
@@ -126,6 +128,7 @@ fn commit_all<R: Recorder>(
     ensures tables_stay { OnErr result (store_in store.new ≡ store_in store.old) }
     ensures units_stay { OnErr result (units.new ≡ units.old) }
     ensures refused { IfErr result (λ error. Refuses R.fails (commit_due (all_changes conversations.now units.old)) error recorder.old recorder.new) }
+    ensures pages { PagesStay store.old.tables store.new.tables }
 {
     if changes.is_empty() {
         end_all(units, conversations);
@@ -138,14 +141,15 @@ fn commit_all<R: Recorder>(
     let recorded = recorder.record(RecordContents::Commit {
         changes: changes.as_slice(),
     });
-    finish_all(store, units, conversations, changes, recorded)
+    finish_all(store, units, alloc, conversations, changes, recorded)
 }
 
 // The changes, for which there is room, are made where they were recorded, and the local units of these
 // conversations end. Where they were not, the room is given up.
 fn finish_all(
-    store: &mut TableStore,
+    store: &mut PagedTables,
     units: &mut Units,
+    alloc: Global,
     conversations: &[u64],
     changes: Vec<Change>,
     recorded: Result<(), RecordError>,
@@ -156,10 +160,11 @@ fn finish_all(
     ensures ended { OnOk recorded (units.new ≡ all_ended conversations.now units.old) }
     ensures tables_stay { OnErr recorded (store_in store.new ≡ store_in store.old) }
     ensures units_stay { OnErr recorded (units.new ≡ units.old) }
+    ensures pages { PagesStay store.old.tables store.new.tables }
 {
     match recorded {
         Ok(()) => {
-            store.apply_reserved(changes);
+            store.apply_reserved(alloc, changes);
             end_all(units, conversations);
             Ok(())
         }

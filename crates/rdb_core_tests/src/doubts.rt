@@ -1,8 +1,7 @@
 //! What is told of units in doubt.
 
-use crate::few::Few;
+use crate::bench::Bench;
 use crate::fixtures::{CREATE, INSERT, ask, numbered, rows_of, told};
-use rdb_core::Core;
 use std::test::Fail;
 use xa_calls::{Ending, Verb};
 
@@ -10,15 +9,15 @@ use xa_calls::{Ending, Verb};
 #[test]
 fn tells_changes_and_claims(rt: HostRuntime) -> Result<(), Fail> {
     let xid = numbered(1)?;
-    let mut core = Core::start(rt.alloc(), Few { left: 1 });
-    assert_eq!(rt; ask(&mut core, 1, Verb::Start, xid), Some(0));
+    let mut bench = Bench::new(rt.alloc(), 1)?;
+    assert_eq!(rt; ask(&mut bench, 1, Verb::Start, xid), Some(0));
     for (text, rows) in [(CREATE, 0), (INSERT, 1)] {
-        assert_eq!(rt; rows_of(rt.alloc(), &mut core, text), Some(rows));
+        assert_eq!(rt; rows_of(rt.alloc(), &mut bench, text), Some(rows));
     }
     for verb in [Verb::End(Ending::Kept), Verb::Prepare] {
-        assert_eq!(rt; ask(&mut core, 1, verb, xid), Some(0));
+        assert_eq!(rt; ask(&mut bench, 1, verb, xid), Some(0));
     }
-    assert_eq!(rt; told(&core, &xid), (2, true));
-    assert_eq!(rt; told(&core, &numbered(2)?), (0, false));
+    assert_eq!(rt; told(&bench, &xid), (2, true));
+    assert_eq!(rt; told(&bench, &numbered(2)?), (0, false));
     Ok(())
 }

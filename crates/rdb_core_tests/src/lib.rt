@@ -2,6 +2,8 @@
 #![tactic(auto)]
 
 #[cfg(test)]
+mod bench;
+#[cfg(test)]
 mod decisions;
 #[cfg(test)]
 mod doubts;
@@ -9,5 +11,7 @@ mod doubts;
 mod few;
 #[cfg(test)]
 mod fixtures;
+#[cfg(test)]
+mod reads;
 #[cfg(test)]
 mod refusals;

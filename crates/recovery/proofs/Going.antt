@@ -1,5 +1,5 @@
 -- Calls one after another.
-use Rattle.std.proofs.Common.{◌≡◌, ℕ, ◌+◌, ◌≤◌, min, if◌then◌else◌, Bool, true, false, IsTrue, List, [], ◌∷◌, ◌++◌, length, length-append, take, drop, Some, refl, sym, ◌∙◌, ap, subst, arith, take-add, map, append_assoc, append-nil}
+use Rattle.std.proofs.Common.{◌≡◌, ℕ, ◌+◌, ◌≤◌, min, if◌then◌else◌, Bool, true, false, IsTrue, List, [], ◌∷◌, ◌++◌, length, length-append, take, drop, Some, inl, inr, refl, sym, ◌∙◌, ap, subst, arith, take-add, map, append_assoc, append-nil}
 use Rattle.std.specs.List.{AllByRecursion}
 use Rattle.std.specs.Option.{option_and_then}
 use Rattle.std.proofs.lemmas.Bool.{false≢true}
@@ -58,8 +58,10 @@ module _ (goes_on : GoesOn) where
   -- ---- two runs of calls
 
   -- the first of them did not fail
-  faults_both : (a b c : ℕ) (failed : Bool) → FaultsAfter false a b → FaultsAfter failed b c → FaultsAfter failed a c
-  faults_both a b c failed first second = omega (arith, first, second)
+  faults_both : (modelled : Bool) (a b c : ℕ) (failed : Bool) → FaultsAfter modelled false a b → FaultsAfter modelled failed b c → FaultsAfter modelled failed a c
+  faults_both modelled a b c failed (inl first) (inl second) = inl (omega (arith, first, second))
+  faults_both modelled a b c failed (inl first) (inr damage) = inr (record { untold = damage.untold; failed = damage.failed; faults = omega (arith, first, damage.faults) })
+  faults_both modelled a b c failed (inr damage) second = absurd (false≢true damage.failed)
 
   made_both : (most : ℕ) (a b c : Shown) (rs ss : List UnitRecord) → b.is_failed ≡ false → b.name ≡ a.name → MadeBy most rs a b → MadeBy most ss b c → MadeBy most (rs ++ ss) a c
   made_both most a b c rs ss going name first second =
@@ -140,7 +142,7 @@ goes_none most modelled s durable = record {
   name = refl;
   more = [];
   made = sym (append-nil s.made);
-  faults = λ going. subst (λ (f : Bool). FaultsAfter f s.disk.faults s.disk.faults) (sym going) (omega arith);
+  faults = λ going. subst (λ (f : Bool). FaultsAfter modelled f s.disk.faults s.disk.faults) (sym going) (inl (omega arith));
   failed = λ failed. record { failed = failed; name = refl; state = refl; disk = untouched s.disk; layout = refl; made = refl };
   records = λ honest going. ([], made_none most s (durable honest going));
 }
@@ -151,12 +153,13 @@ module _ (goes_on : GoesOn) where
     records_both true is honest (rs, made) = (rs, made_failed most a b c rs is made (second.failed is))
     records_both false is honest (rs, made) = let more = second.records honest is in (rs ++ more.0, made_both goes_on most a b c rs more.0 is first.name made more.1)
 
-    faults_of_both : (failed : Bool) → b.is_failed ≡ failed → a.is_failed ≡ false → FaultsAfter c.is_failed a.disk.faults c.disk.faults
+    faults_of_both : (failed : Bool) → b.is_failed ≡ failed → a.is_failed ≡ false → FaultsAfter modelled c.is_failed a.disk.faults c.disk.faults
     faults_of_both true is going =
         let stays = second.failed is in
-        stays.disk.faults ∙ first.faults going ∙ ap (λ (f : Bool). a.disk.faults + (if f then 1 else 0)) (is ∙ sym stays.failed)
+        subst (λ (n : ℕ). FaultsAfter modelled c.is_failed a.disk.faults n) (sym stays.disk.faults)
+        (subst (λ (f : Bool). FaultsAfter modelled f a.disk.faults b.disk.faults) (is ∙ sym stays.failed) (first.faults going))
     faults_of_both false is going =
-        faults_both goes_on a.disk.faults b.disk.faults c.disk.faults c.is_failed (subst (λ (f : Bool). FaultsAfter f a.disk.faults b.disk.faults) is (first.faults going)) (second.faults is)
+        faults_both goes_on modelled a.disk.faults b.disk.faults c.disk.faults c.is_failed (subst (λ (f : Bool). FaultsAfter modelled f a.disk.faults b.disk.faults) is (first.faults going)) (second.faults is)
 
     pub goes_both : JournaledBy most modelled a c
     goes_both = record {

@@ -22,6 +22,7 @@ pub mod UnitClaims
 pub mod Safe
 pub mod Asking
 pub mod KeptSteps
+pub mod Misread
 pub mod Doubts
 pub mod Deciding
 pub mod Silent

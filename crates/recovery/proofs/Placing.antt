@@ -1,5 +1,5 @@
 -- Changes have their places one behind another.
-use Rattle.std.proofs.Common.{◌≡◌, List, [], ◌∷◌, ◌++◌, Bool, true, false, ◌&&◌, refl, sym, ap, ◌∙◌, append_assoc}
+use Rattle.std.proofs.Common.{◌≡◌, List, [], ◌∷◌, ◌++◌, Bool, true, ◌&&◌, refl, sym, ap, ◌∙◌, append_assoc}
 use Rattle.row_values.specs.declared.row.ReadError.{ReadError}
 use Rattle.row_values.specs.declared.row.ReadError.TheVariants.{Damaged, NoMemory}
 use Rattle.tables.specs.Change.{Change}
@@ -14,18 +14,16 @@ all_then [] ys s = refl
 all_then (x ∷ xs) ys s = all_then xs ys (apply x s)
 
 -- the next change of those that are left
-module _ (unit left rest : List Change) (x : Change) (s now : Store) (is : left ≡ x ∷ rest) (same : now ≡ s) where
+module _ (unit left rest : List Change) (x : Change) (s : Store) (is : left ≡ x ∷ rest) where
   pub all_more : (more all : List Change) → more ≡ unit ++ x ∷ [] → unit ++ left ≡ all → more ++ rest ≡ all
   all_more more all one whole = ap (λ (l : List Change). l ++ rest) one ∙ append_assoc unit (x ∷ []) rest ∙ sym (ap (λ (l : List Change). unit ++ l) is) ∙ whole
 
-  pub placed_more : (more : List Change) (all : Bool) → more ≡ unit ++ x ∷ [] → has_place x (apply_all unit now) ≡ true → have_places left (apply_all unit s) ≡ all → have_places rest (apply_all more s) ≡ all
+  pub placed_more : (more : List Change) (all : Bool) → more ≡ unit ++ x ∷ [] → has_place x (apply_all unit s) ≡ true → have_places left (apply_all unit s) ≡ all → have_places rest (apply_all more s) ≡ all
   placed_more more all one placed whole =
-      let here : has_place x (apply_all unit s) ≡ true = sym (ap (λ (t : Store). has_place x (apply_all unit t)) same) ∙ placed in
       ap (λ (u : List Change). have_places rest (apply_all u s)) one ∙ ap (have_places rest) (all_then unit (x ∷ []) s)
-      ∙ sym (ap (λ (b : Bool). b && have_places rest (apply x (apply_all unit s))) here) ∙ sym (ap (λ (l : List Change). have_places l (apply_all unit s)) is) ∙ whole
+      ∙ sym (ap (λ (b : Bool). b && have_places rest (apply x (apply_all unit s))) placed) ∙ sym (ap (λ (l : List Change). have_places l (apply_all unit s)) is) ∙ whole
 
-  pub not_placed : (error : ReadError) (all : Bool) → Fails error (has_place x (apply_all unit now)) → have_places left (apply_all unit s) ≡ all → Fails error all
+  pub not_placed : (error : ReadError) (all : Bool) → Fails error (has_place x (apply_all unit s)) → have_places left (apply_all unit s) ≡ all → Fails error all
   not_placed Damaged all none whole =
-      let here : has_place x (apply_all unit s) ≡ false = sym (ap (λ (t : Store). has_place x (apply_all unit t)) same) ∙ none in
-      sym whole ∙ ap (λ (l : List Change). have_places l (apply_all unit s)) is ∙ ap (λ (b : Bool). b && have_places rest (apply x (apply_all unit s))) here
+      sym whole ∙ ap (λ (l : List Change). have_places l (apply_all unit s)) is ∙ ap (λ (b : Bool). b && have_places rest (apply x (apply_all unit s))) none
   not_placed NoMemory all none whole = tt

@@ -52,10 +52,16 @@ pub record IsDurable (s : Shown) : Type 0 where
   pub only : Only s.disk
   pub opens : OpensTo s.name (durable_part s.state) s.disk.seen
 
+-- a device that need not give back what was written gave something else than a page: the core has failed, and no device call
+pub record GaveDamage (modelled is_failed : Bool) (old new : ℕ) : Type 0 where
+  pub untold : modelled ≡ false
+  pub failed : is_failed ≡ true
+  pub faults : new ≡ old
+
 -- the device calls that have failed, once calls that began before any had failed are done: one more where the core has
 -- failed, and else none
-abbrev pub FaultsAfter : Bool → ℕ → ℕ → Type 0
-FaultsAfter is_failed old new = new ≡ old + (if is_failed then 1 else 0)
+abbrev pub FaultsAfter : Bool → Bool → ℕ → ℕ → Type 0
+FaultsAfter modelled is_failed old new = (new ≡ old + (if is_failed then 1 else 0)) ⊎ GaveDamage modelled is_failed old new
 
 -- These records were due of the calls, each of which made `most` at most. A crash at any moment leaves an image that opens
 -- to what the first of them lead to; a crash now, to what all of them lead to, but perhaps not those of the last call where
@@ -78,6 +84,21 @@ pub record IsUntouched (old new : Life) : Type 0 where
   pub moment : new.moment ≡ old.moment
   pub faults : new.faults ≡ old.faults
 
+-- nothing was written, and no device call failed
+pub record IsReadOnly (old new : Life) : Type 0 where
+  pub stays : Stays old new
+  pub faults : new.faults ≡ old.faults
+
+-- all is as it was, whatever was read
+pub record IsRead (old new : Shown) : Type 0 where
+  pub name : new.name ≡ old.name
+  pub state : new.state ≡ old.state
+  pub disk : IsReadOnly old.disk new.disk
+  pub layout : new.layout ≡ old.layout
+  pub room : new.room ≡ old.room
+  pub is_failed : new.is_failed ≡ old.is_failed
+  pub made : new.made ≡ old.made
+
 -- all is as it was
 pub record IsUnchanged (old new : Shown) : Type 0 where
   pub name : new.name ≡ old.name
@@ -97,14 +118,14 @@ pub record StaysFailed (old new : Shown) : Type 0 where
   pub layout : new.layout ≡ old.layout
   pub made : new.made ≡ old.made
 
--- Of any disk: records that were made stay so, each fault is one of a core that fails then, and a core that has failed
--- calls no device. Of a disk that gives back what was written, a core that had not failed made these records, `most` at
+-- Of any disk: records that were made stay so, each fault is one of a core that fails then, which fails else only by damage that
+-- a device gave, and a core that has failed calls no device. Of a disk that gives back what was written, a core that had not failed made these records, `most` at
 -- most in each call.
 pub record JournaledBy (most : ℕ) (modelled : Bool) (old new : Shown) : Type 0 where
   pub name : new.name ≡ old.name
   pub more : List Entry
   pub made : new.made ≡ old.made ++ more
-  pub faults : old.is_failed ≡ false → FaultsAfter new.is_failed old.disk.faults new.disk.faults
+  pub faults : old.is_failed ≡ false → FaultsAfter modelled new.is_failed old.disk.faults new.disk.faults
   pub failed : old.is_failed ≡ true → StaysFailed old new
   pub records : IsTrue modelled → old.is_failed ≡ false → (records : List UnitRecord) × MadeBy most records old new
 

@@ -1,10 +1,10 @@
 -- When changes that have their places keep them.
 use Rattle.std.specs.Prelude.{◌≡◌, ℕ, true, List, [], ◌∷◌, ◌++◌, Some, ◌&&◌}
-use Rattle.std.specs.Map.{keys_of}
 use Rattle.row_values.specs.Schema.{Schema}
 use Rattle.tables.specs.Change.{Change}
 use Rattle.tables.specs.Tables.{Store, apply, schema_of}
 use Rattle.core_model.specs.Units.{apply_all}
+pub use Rattle.core_model.specs.Misread.{SameTables}
 pub use Rattle.recovery.specs.Durable.{creates_none, have_places}
 
 -- changes behind others: those of a statement behind those of its unit
@@ -14,11 +14,6 @@ PlacesGoOn = (xs ys : List Change) (s : Store) → have_places (xs ++ ys) s ≡ 
 -- the tables of the one store are there in the other, with their schemas
 abbrev pub KeepsSchemas : Store → Store → Type 0
 KeepsSchemas s t = (q : List ℕ) (schema : Schema) → schema_of s q ≡ Some schema → schema_of t q ≡ Some schema
-
--- two stores have the same tables, whatever their rows
-pub record SameTables (s t : Store) : Type 0 where
-  pub schemas : (q : List ℕ) → schema_of s q ≡ schema_of t q
-  pub names : keys_of s ≡ keys_of t
 
 -- changes of rows keep their places where more tables are created
 abbrev pub RowsKeepPlaces : Type 0

@@ -2,7 +2,8 @@
 use Rattle.std.specs.Prelude.{◌≡◌, ℕ, Bool, true, false, List, [], map, Option, Some, None, Result, Ok, Err}
 use Rattle.row_values.specs.declared.row.ReadError.{ReadError}
 use Rattle.row_values.specs.declared.row.ReadError.TheVariants.{Damaged, NoMemory}
-use Rattle.table_store.specs.TableStore.{store_in}
+use Rattle.paged_tables.specs.PagedTables.{store_in}
+use Rattle.paged_tables.specs.TablesByName.{Tables}
 use Rattle.unit_locks.specs.Claims.{all_added}
 use Rattle.recovery.specs.Durable.{Doubt, Doubts, Durable}
 use Rattle.recovery.specs.declared.prepared.PreparedUnit.{PreparedUnit}
@@ -17,6 +18,10 @@ doubts_in units = map doubt_in units
 
 abbrev pub durable_of : Replay → Durable
 durable_of r = record { store = store_in r.store; doubts = doubts_in r.units.items }
+
+-- the committed tables with the places of their pages
+abbrev pub pages_of : Replay → Tables
+pages_of r = r.store.tables
 
 -- the test is not passed, or there is no memory
 abbrev pub Fails : ReadError → Bool → Type 0

@@ -1,6 +1,8 @@
 -- Steps of the core, and what is durable of it.
 use Rattle.std.specs.Prelude.{◌≡◌, ◌≤◌, ℕ, List, true, Some, None}
+use Rattle.core_calls.specs.Answer.{Answer}
 use Rattle.core_calls.specs.Call.{Call}
+use Rattle.core_model.specs.Misread.{Misreads}
 use Rattle.core_model.specs.Step.{CoreState, decided_state, step_state}
 use Rattle.xa_manager.specs.declared.branch.BranchState.TheVariants.{Prepared}
 use Rattle.xa_manager.specs.declared.due.Decision.{Decision}
@@ -46,6 +48,16 @@ DecisionsAreOfDoubts = (layout : Layout) (s : CoreState) (conversation : ℕ) (k
 abbrev pub DueAreKnown : Type 0
 DueAreKnown = (layout : Layout) (store : Store) (es : List Entry) (s : CoreState) (conversation : ℕ) (k : Call) (r : UnitRecord)
     → AreKnown layout es → Leads (at_checkpoint store) es (durable_part s) → IsKept s → record_due s conversation k ≡ Some r → IsKnown layout r
+
+-- ---- a statement that is given other rows
+
+-- it keeps a core
+abbrev pub MisreadsKeep : Type 0
+MisreadsKeep = (s new : CoreState) (conversation : ℕ) (k : Call) (told : Answer) → IsKept s → Misreads s conversation k told new → IsKept new
+
+-- and changes nothing durable
+abbrev pub MisreadsStay : Type 0
+MisreadsStay = (s new : CoreState) (conversation : ℕ) (k : Call) (told : Answer) → IsKept s → Misreads s conversation k told new → durable_part new ≡ durable_part s
 
 -- ---- a heuristic decision of a prepared branch
 

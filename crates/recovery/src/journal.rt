@@ -1,20 +1,21 @@
 //! The records of a journal, replayed.
 
-ghost use Rattle.std.specs.Prelude.{◌≡◌, IfErr};
+ghost use Rattle.std.specs.Prelude.{◌≡◌, IfErr, IfOk};
 ghost use Rattle.unit_journal.specs.Record.{entries_of, entry_of};
 ghost use Rattle.unit_records.specs.Records.{UnitRecord as RecordIs};
-ghost use Rattle.table_store.specs.TableStore.{store_in};
+ghost use Rattle.paged_tables.specs.PagedTables.{store_in};
+ghost use Rattle.paged_tables.specs.TablesByName.{PagesStay};
 ghost use Rattle.recovery.specs.Durable.{Durable, at_checkpoint};
 ghost use Rattle.recovery.specs.Known.{AreKnown, is_of};
-ghost use Rattle.recovery.specs.Replay.{durable_of};
+ghost use Rattle.recovery.specs.Replay.{durable_of, pages_of};
 ghost use Rattle.recovery.specs.Journal.{Finds, Goes, Leads, Replays};
 
 use crate::laws::records_lead_one_way;
 use crate::steps::Replay;
 use half_store::Layout;
+use paged_tables::PagedTables;
 use row_values::ReadError;
 use std::alloc::Global;
-use table_store::TableStore;
 use thiserror::Error;
 use unit_journal::{Kind, Record};
 use unit_records::UnitRecord;
@@ -34,14 +35,16 @@ pub enum ReplayError {
 /// The committed tables and the units in doubt that the records of a journal lead to, from its first
 /// on, over the tables of the checkpoint that they follow. `Damaged` exactly where a record has no place among those before it (as `Replay::step` tells; so
 /// a prepare that creates a table and does not claim all names has none), its kind is none of the layout's, or its
-/// body is none of its kind: at the first such record's gate.
+/// body is none of its kind: at the first such record's gate. No page is read, and what is true of the
+/// tables' pages stays true.
 pub fn replay(
     alloc: Global,
     layout: Layout,
-    checkpoint: TableStore,
+    checkpoint: PagedTables,
     records: &[Record],
 ) -> Result<Replay, ReplayError>
     ensures replays { Replays layout (store_in checkpoint) records.now result }
+    ensures pages { IfOk result (λ r. PagesStay checkpoint.tables (pages_of r)) }
     ensures finds { (d : Durable) → AreKnown layout (entries_of records.now) → Leads (at_checkpoint (store_in checkpoint)) (entries_of records.now) d → Finds d result }
 {
     records_lead_one_way();
@@ -70,13 +73,15 @@ fn is_of(layout: Layout, kind: Kind) -> bool
 }
 
 // Reads a record and makes it good.
+#[tactic(auto, using(paged_tables::proofs::Pages::pages_stay_themselves))]
 fn read_and_step(
     state: &mut Replay,
     alloc: Global,
     layout: Layout,
     entry: &Record,
 ) -> Result<(), ReadError>
-    ensures { Goes layout (durable_of state.old) (entry_of entry.now) result (durable_of state.new) }
+    ensures goes { Goes layout (durable_of state.old) (entry_of entry.now) result (durable_of state.new) }
+    ensures pages { PagesStay (pages_of state.old) (pages_of state.new) }
 {
     records_have_one_reading();
     if !is_of(layout, entry.kind) {

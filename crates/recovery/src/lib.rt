@@ -14,6 +14,7 @@ pub mod openings;
 mod placed;
 pub mod places;
 mod prepared;
+mod schema_view;
 pub mod step_laws;
 mod steps;
 

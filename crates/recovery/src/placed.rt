@@ -6,15 +6,16 @@ ghost use Rattle.tables.specs.Change.{create as create_change, put as put_change
 ghost use Rattle.tables.specs.ChangeView.{change_of};
 ghost use Rattle.row_values.specs.declared.row.ReadError.TheVariants.{NoMemory};
 ghost use Rattle.tables.specs.Tables.{schema_of};
-ghost use Rattle.table_store.specs.TableStore.{store_in};
+ghost use Rattle.paged_tables.specs.PagedTables.{store_in};
 ghost use Rattle.core_model.specs.Units.{apply_all};
 ghost use Rattle.recovery.specs.Durable.{has_place};
 ghost use Rattle.recovery.specs.Replay.{Judges};
 
+use crate::schema_view::SchemaView;
+use paged_tables::PagedTables;
 use row_values::{ReadError, RowRef, Schema, is_key};
 use std::alloc::Global;
 use std::sync::Arc;
-use table_store::TableStore;
 use tables::{Action, Change};
 use unit_changes::{UnitChanges, schema_under, tables_under};
 
@@ -24,13 +25,12 @@ const MAX_TABLES: usize = 1_000;
 /// The schema of the table of a change that has a place behind the changes before it; where it has
 /// none the journal is damaged.
 pub(crate) fn placed_schema(
-    store: &mut TableStore,
+    store: &PagedTables,
     before: &UnitChanges,
     alloc: Global,
     change: &Change,
 ) -> Result<Arc<Schema, Global>, ReadError>
-    ensures judges { Judges result (has_place (change_of change.now) (apply_all before.now (store_in store.old))) }
-    ensures store { store_in store.new ≡ store_in store.old }
+    ensures { Judges result (has_place (change_of change.now) (apply_all before.now (store_in store.now))) }
 {
     match &change.action {
         Action::CreateTable { table, schema } => {
@@ -47,14 +47,13 @@ pub(crate) fn placed_schema(
 
 // A table is created.
 fn placed_creation(
-    store: &mut TableStore,
+    store: &PagedTables,
     before: &UnitChanges,
     alloc: Global,
     table: &str,
     schema: &Schema,
 ) -> Result<Arc<Schema, Global>, ReadError>
-    ensures judges { Judges result (has_place (create_change table.now schema.now) (apply_all before.now (store_in store.old))) }
-    ensures store { store_in store.new ≡ store_in store.old }
+    ensures { Judges result (has_place (create_change table.now schema.now) (apply_all before.now (store_in store.now))) }
 {
     if known_schema(store, before, alloc, table)?.is_some() {
         return Err(ReadError::Damaged);
@@ -68,14 +67,13 @@ fn placed_creation(
 
 // A row is put.
 fn placed_row(
-    store: &mut TableStore,
+    store: &PagedTables,
     before: &UnitChanges,
     alloc: Global,
     table: &str,
     row: &[u8],
 ) -> Result<Arc<Schema, Global>, ReadError>
-    ensures judges { Judges result (has_place (put_change table.now row.now) (apply_all before.now (store_in store.old))) }
-    ensures store { store_in store.new ≡ store_in store.old }
+    ensures { Judges result (has_place (put_change table.now row.now) (apply_all before.now (store_in store.now))) }
 {
     let Some(schema) = known_schema(store, before, alloc, table)? else {
         return Err(ReadError::Damaged);
@@ -88,14 +86,13 @@ fn placed_row(
 
 // The row of a key is taken out.
 fn placed_key(
-    store: &mut TableStore,
+    store: &PagedTables,
     before: &UnitChanges,
     alloc: Global,
     table: &str,
     key: &[u8],
 ) -> Result<Arc<Schema, Global>, ReadError>
-    ensures judges { Judges result (has_place (remove_change table.now key.now) (apply_all before.now (store_in store.old))) }
-    ensures store { store_in store.new ≡ store_in store.old }
+    ensures { Judges result (has_place (remove_change table.now key.now) (apply_all before.now (store_in store.now))) }
 {
     let Some(schema) = known_schema(store, before, alloc, table)? else {
         return Err(ReadError::Damaged);
@@ -108,28 +105,26 @@ fn placed_key(
 
 // The schema of the table of a name.
 fn known_schema(
-    store: &mut TableStore,
+    store: &PagedTables,
     before: &UnitChanges,
     alloc: Global,
     table: &str,
 ) -> Result<Option<Arc<Schema, Global>>, ReadError>
-    ensures found { IfOk result (λ schema. option_map arc_value schema ≡ schema_of (apply_all before.now (store_in store.old)) table.now) }
+    ensures found { IfOk result (λ schema. option_map arc_value schema ≡ schema_of (apply_all before.now (store_in store.now)) table.now) }
     ensures memory { IfErr result (λ error. error ≡ NoMemory) }
-    ensures store { store_in store.new ≡ store_in store.old }
 {
-    match schema_under(&mut store.view(), before, alloc, table) {
+    match schema_under(&mut SchemaView { tables: store }, before, alloc, table) {
         Ok(schema) => Ok(schema),
         Err(_) => Err(ReadError::NoMemory),
     }
 }
 
 // How many tables there are.
-fn count(store: &mut TableStore, before: &UnitChanges, alloc: Global) -> Result<usize, ReadError>
-    ensures count { IfOk result (λ n. n ≡ length (apply_all before.now (store_in store.old))) }
+fn count(store: &PagedTables, before: &UnitChanges, alloc: Global) -> Result<usize, ReadError>
+    ensures count { IfOk result (λ n. n ≡ length (apply_all before.now (store_in store.now))) }
     ensures memory { IfErr result (λ error. error ≡ NoMemory) }
-    ensures store { store_in store.new ≡ store_in store.old }
 {
-    match tables_under(&mut store.view(), before, alloc) {
+    match tables_under(&mut SchemaView { tables: store }, before, alloc) {
         Ok(tables) => Ok(tables),
         Err(_) => Err(ReadError::NoMemory),
     }

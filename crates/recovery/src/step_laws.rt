@@ -1,6 +1,6 @@
 //! Laws of the definitions. The functions do nothing: their contracts are the laws.
 
-ghost use Rattle.recovery.specs.StepLaws.{BranchesKeep, BranchesLead, CommitsAreKnown, CommitsKeep, CommitsLead, DecisionsAreOfDoubts, DecisionsKeep, DecisionsLead, DueAreKnown, HeuristicsAreOfDoubts, OpeningsAreKept, PhasesAreKnown, PhasesAreOfDoubts, RecordsLead, SilentCommitsStay, SilentStepsStay, StepsKeep};
+ghost use Rattle.recovery.specs.StepLaws.{BranchesKeep, BranchesLead, CommitsAreKnown, CommitsKeep, CommitsLead, DecisionsAreOfDoubts, DecisionsKeep, DecisionsLead, DueAreKnown, HeuristicsAreOfDoubts, MisreadsKeep, MisreadsStay, OpeningsAreKept, PhasesAreKnown, PhasesAreOfDoubts, RecordsLead, SilentCommitsStay, SilentStepsStay, StepsKeep};
 
 use crate::laws::{
     decisions_of_all_are_held, doubts_hold_their_decisions, places_depend_on_tables,
@@ -14,13 +14,15 @@ use xa_manager::{actions_fit_states, works_while_active};
 
 /// What is durable of a core is what its records lead to: each step of a kept core makes one record due at
 /// most, which has its place among those before and leads to what is durable after the step; a step
-/// without a record changes nothing durable.
+/// without a record changes nothing durable, nor does a statement that is given other rows.
 pub fn steps_are_recorded()
     ensures keep { StepsKeep }
     ensures silent { SilentStepsStay }
     ensures lead { RecordsLead }
     ensures decisions { DecisionsAreOfDoubts }
     ensures known { DueAreKnown }
+    ensures misread_keep { MisreadsKeep }
+    ensures misread_stays { MisreadsStay }
 {
     actions_fit_states();
     adding();

@@ -12,9 +12,9 @@ ghost use Rattle.recovery.specs.Replay.{doubt_in};
 use crate::claimed::is_claimed;
 use crate::gathered::{gather, make};
 use crate::prepared::{PreparedUnit, add, is_known, place_of, replace_at, take_at};
+use paged_tables::PagedTables;
 use row_values::ReadError;
 use std::alloc::Global;
-use table_store::TableStore;
 use tables::Change;
 use unit_changes::UnitChanges;
 use unit_locks::Claim;
@@ -23,19 +23,22 @@ use xa_calls::Xid;
 use xa_manager::{Decision, MAX_IN_DOUBT};
 
 /// The committed tables and the units in doubt that the records so far stand for.
-#[derive(Debug, Drop)]
+#[derive(Drop)]
 pub struct Replay {
-    store: TableStore,
+    store: PagedTables,
     units: Vec<PreparedUnit>,
 }
 
+#[tactic(auto, using(paged_tables::proofs::Pages::pages_stay_themselves))]
 impl Replay {
-    ghost use Rattle.recovery.specs.Replay.{Steps, durable_of, doubts_in};
-    ghost use Rattle.table_store.specs.TableStore.{store_in};
+    ghost use Rattle.recovery.specs.Replay.{Steps, durable_of, doubts_in, pages_of};
+    ghost use Rattle.paged_tables.specs.PagedTables.{store_in};
+    ghost use Rattle.paged_tables.specs.TablesByName.{PagesStay};
 
     /// The tables of a checkpoint, which no record follows yet, and no units. Takes no memory.
-    pub fn over(alloc: Global, checkpoint: TableStore) -> Replay
-        ensures { durable_of result ≡ at_checkpoint (store_in checkpoint) }
+    pub fn over(alloc: Global, checkpoint: PagedTables) -> Replay
+        ensures durable { durable_of result ≡ at_checkpoint (store_in checkpoint) }
+        ensures pages { pages_of result ≡ checkpoint.tables }
     {
         Replay {
             store: checkpoint,
@@ -50,7 +53,8 @@ impl Replay {
     /// heuristic decision was decided so already, or is the 257th in doubt; that of a forgetting was not decided so.
     /// A claim that a prepare repeats counts once. After an error the replay is not used again.
     pub fn step(&mut self, alloc: Global, said: UnitRecord) -> Result<(), ReadError>
-        ensures { Steps result (next (durable_of self.old) (record_of said)) (durable_of self.new) }
+        ensures step { Steps result (next (durable_of self.old) (record_of said)) (durable_of self.new) }
+        ensures pages { PagesStay (pages_of self.old) (pages_of self.new) }
     {
         match said {
             UnitRecord::Commit { changes } => self.commit(alloc, changes),
@@ -66,8 +70,9 @@ impl Replay {
     }
 
     /// The committed tables, and the units in doubt in the order of their XIDs' bytes.
-    pub fn into_parts(self) -> (TableStore, Vec<PreparedUnit>)
+    pub fn into_parts(self) -> (PagedTables, Vec<PreparedUnit>)
         ensures store { store_in result.0 ≡ (durable_of self).store }
+        ensures pages { result.0.tables ≡ pages_of self }
         ensures units { doubts_in result.1.items ≡ (durable_of self).doubts }
     {
         let Replay { store, units } = self;
@@ -75,9 +80,10 @@ impl Replay {
     }
 
     fn commit(&mut self, alloc: Global, changes: Vec<Change>) -> Result<(), ReadError>
-        ensures { Steps result (next (durable_of self.old) (committed (map change_of changes.items))) (durable_of self.new) }
+        ensures step { Steps result (next (durable_of self.old) (committed (map change_of changes.items))) (durable_of self.new) }
+        ensures pages { PagesStay (pages_of self.old) (pages_of self.new) }
     {
-        let unit = match gather(&mut self.store, alloc, changes) {
+        let unit = match gather(&self.store, alloc, changes) {
             Ok(unit) => unit,
             Err(error) => return Err(error),
         };
@@ -92,9 +98,10 @@ impl Replay {
         changes: Vec<Change>,
         claims: Vec<Claim>,
     ) -> Result<(), ReadError>
-        ensures { Steps result (next (durable_of self.old) (prepared xid (map change_of changes.items) claims.items)) (durable_of self.new) }
+        ensures step { Steps result (next (durable_of self.old) (prepared xid (map change_of changes.items) claims.items)) (durable_of self.new) }
+        ensures pages { PagesStay (pages_of self.old) (pages_of self.new) }
     {
-        let changes = match gather(&mut self.store, alloc, changes) {
+        let changes = match gather(&self.store, alloc, changes) {
             Ok(unit) => unit,
             Err(error) => return Err(error),
         };
@@ -117,7 +124,8 @@ impl Replay {
     }
 
     fn decide(&mut self, alloc: Global, xid: &Xid, decision: Decision) -> Result<(), ReadError>
-        ensures { Steps result (next (durable_of self.old) (decided xid.now decision)) (durable_of self.new) }
+        ensures step { Steps result (next (durable_of self.old) (decided xid.now decision)) (durable_of self.new) }
+        ensures pages { PagesStay (pages_of self.old) (pages_of self.new) }
     {
         let place = match place_of(self.units.as_slice(), xid) {
             Some(place) => place,
@@ -138,6 +146,7 @@ impl Replay {
         decision: Decision,
     ) -> Result<(), ReadError>
         ensures store { OnOk result (store_in self.new.store ≡ decide_changes decision changes (store_in self.old.store)) }
+        ensures pages { PagesStay (pages_of self.old) (pages_of self.new) }
         ensures units { self.new.units ≡ self.old.units }
         ensures memory { IfErr result (λ error. error ≡ NoMemory) }
     {
@@ -151,7 +160,8 @@ impl Replay {
     }
 
     fn complete(&mut self, alloc: Global, xid: &Xid, decision: Decision) -> Result<(), ReadError>
-        ensures { Steps result (next (durable_of self.old) (heuristic xid.now decision)) (durable_of self.new) }
+        ensures step { Steps result (next (durable_of self.old) (heuristic xid.now decision)) (durable_of self.new) }
+        ensures pages { PagesStay (pages_of self.old) (pages_of self.new) }
     {
         let completed = PreparedUnit::completed(alloc, xid, decision);
         let place = match place_of(self.units.as_slice(), xid) {
@@ -169,7 +179,8 @@ impl Replay {
     fn find_completed(&mut self, xid: &Xid, completed: PreparedUnit) -> Result<(), ReadError>
         requires same { completed.xid ≡ xid.now }
         requires free { doubt_of (durable_of self.old).doubts xid.now ≡ None }
-        ensures { (decision : DecisionIs) → doubt_in completed ≡ (xid.now, completed_so decision) → Steps result (next (durable_of self.old) (heuristic xid.now decision)) (durable_of self.new) }
+        ensures step { (decision : DecisionIs) → doubt_in completed ≡ (xid.now, completed_so decision) → Steps result (next (durable_of self.old) (heuristic xid.now decision)) (durable_of self.new) }
+        ensures pages { PagesStay (pages_of self.old) (pages_of self.new) }
     {
         if self.units.len() >= MAX_IN_DOUBT {
             return Err(ReadError::Damaged);
@@ -179,7 +190,8 @@ impl Replay {
     }
 
     fn forget(&mut self, xid: &Xid) -> Result<(), ReadError>
-        ensures { Steps result (next (durable_of self.old) (forgotten xid.now)) (durable_of self.new) }
+        ensures step { Steps result (next (durable_of self.old) (forgotten xid.now)) (durable_of self.new) }
+        ensures pages { PagesStay (pages_of self.old) (pages_of self.new) }
     {
         let place = match place_of(self.units.as_slice(), xid) {
             Some(place) => place,

@@ -28,7 +28,7 @@ module _ {D : Type 0} (modelled : Bool) (life : D → Life) where
   pub opens : CallsLeadOn → (core opening : OnDisk D) (calls : List AnsweredCall) (places : List (Option Count)) (left : List (Option Left)) → opening ≡ core → calls ≡ [] → places ≡ replicate 64 None
       → left ≡ replicate 64 None → JournaledBy 64 modelled (shown_on life core) (shown_on life core) → IsKept modelled life (book_of core opening calls places left 1)
   opens on core opening calls places left same none free nothing journaled = record {
-    leads = subst (λ (o : OnDisk D). CallsLead o.state calls core.state) (sym same) (subst (λ (ls : List AnsweredCall). CallsLead core.state ls core.state) (sym none) (on.none core.state));
+    leads = λ told. subst (λ (o : OnDisk D). CallsLead o.state calls core.state) (sym same) (subst (λ (ls : List AnsweredCall). CallsLead core.state ls core.state) (sym none) (on.none core.state));
     journaled = subst (λ (o : OnDisk D). JournaledBy 64 modelled (shown_on life o) (shown_on life core)) (sym same) journaled;
     counted = subst (λ (ls : List AnsweredCall). AreCounted ls places 1) (sym none) (subst (λ (ps : List (Option Count)). AreCounted [] ps 1) (sym free) none_yet);
     sixty_four = ap (λ (ps : List (Option Count)). length ps) free ∙ length_replicate {Y = Option Count} 64 None;
@@ -44,11 +44,11 @@ module _ {D : Type 0} (modelled : Bool) (life : D → Life) where
   module _ (belong : AnswersBelong) (excuses : ExcusesBelongToNone) where
     pub stays : (old opening new : OnDisk D) (calls : List AnsweredCall) (places : List (Option Count)) (left : List (Option Left)) (next n : ℕ) (k : Call) (a : Answer) → a ≡ no_memory
         → GroupsGoOn life
-        → IsKept modelled life (book_of old opening calls places left next) → IsAnswered life old n k a new → Journaled modelled (shown_on life old) (shown_on life new) → IsKept modelled life (book_of new opening calls places left next)
+        → IsKept modelled life (book_of old opening calls places left next) → IsAnswered modelled life old n k a new → Journaled modelled (shown_on life old) (shown_on life new) → IsKept modelled life (book_of new opening calls places left next)
     stays old opening new calls places left next n k a is on_disk kept answered journaled =
-        let (rests, wanting) = finds_no_memory life belong excuses old new n k a is answered in
+        let (rests, wanting) = finds_no_memory modelled life belong excuses old new n k a is answered in
         record {
-          leads = subst (λ (s : CoreState). CallsLead opening.state calls s) (sym rests.state) kept.leads;
+          leads = λ told. subst (λ (s : CoreState). CallsLead opening.state calls s) (sym rests.state) (kept.leads told);
           journaled = then_one on_disk opening old new kept.journaled journaled;
           counted = kept.counted;
           sixty_four = kept.sixty_four;
@@ -61,9 +61,9 @@ module _ {D : Type 0} (modelled : Bool) (life : D → Life) where
         → more ≡ calls ++ record { conversation = n; call = k; mark = if t then Taken else Kept; answer = a } ∷ [] → set ≡ slice_set places p c
         → (AreCounted calls places next → AreCounted more set next) → (AreLeft calls left → AreLeft more left)
         → GroupsGoOn life
-        → IsKept modelled life (book_of old opening calls places left next) → IsAnswered life old n k a new → Journaled modelled (shown_on life old) (shown_on life new) → IsKept modelled life (book_of new opening more set left next)
+        → IsKept modelled life (book_of old opening calls places left next) → IsAnswered modelled life old n k a new → Journaled modelled (shown_on life old) (shown_on life new) → IsKept modelled life (book_of new opening more set left next)
     goes_on on old opening new calls more places set left next p c n k a t done excused more_is set_is counted still on_disk kept answered journaled = record {
-      leads = subst (λ (ls : List AnsweredCall). CallsLead opening.state ls new.state) (sym more_is) (leads_on life belong excuses on opening.state calls old new n k a t done excused kept.leads answered);
+      leads = λ told. subst (λ (ls : List AnsweredCall). CallsLead opening.state ls new.state) (sym more_is) (leads_on modelled life belong excuses told on opening.state calls old new n k a t done excused (kept.leads told) answered);
       journaled = then_one on_disk opening old new kept.journaled journaled;
       counted = counted kept.counted;
       sixty_four = ap (λ (ps : List (Option Count)). length ps) set_is ∙ set_length places p c ∙ kept.sixty_four;
@@ -76,7 +76,7 @@ module _ {D : Type 0} (modelled : Bool) (life : D → Life) where
       → IsKept modelled life (book_of old opening calls places left next) → IsUnchanged (shown_on life old) (shown_on life new) → JournaledBy 64 modelled (shown_on life old) (shown_on life new)
       → IsKept modelled life (book_of new opening calls places left next)
   still old opening new calls places left next on_disk kept same journaled = record {
-    leads = subst (λ (s : CoreState). CallsLead opening.state calls s) (sym same.state) kept.leads;
+    leads = λ told. subst (λ (s : CoreState). CallsLead opening.state calls s) (sym same.state) (kept.leads told);
     journaled = on_disk.both 64 modelled opening old new kept.journaled journaled;
     counted = kept.counted;
     sixty_four = kept.sixty_four;
@@ -91,7 +91,7 @@ module _ {D : Type 0} (modelled : Bool) (life : D → Life) where
       → IsKept modelled life (book_of old opening calls places left next) → MakesTogether life old phase members f new
       → JournaledBy 64 modelled (shown_on life old) (shown_on life new) → IsKept modelled life (book_of new opening more set over next)
   gathers_on on old opening new calls more places set left over next phase members f alike more_is as_long as_many counted are_left on_disk kept together journaled = record {
-    leads = subst (λ (ls : List AnsweredCall). CallsLead opening.state ls new.state) (sym more_is) (leads_together life on opening.state calls old new phase members f alike kept.leads together);
+    leads = λ told. subst (λ (ls : List AnsweredCall). CallsLead opening.state ls new.state) (sym more_is) (leads_together life on opening.state calls old new phase members f alike (kept.leads told) together);
     journaled = on_disk.both 64 modelled opening old new kept.journaled journaled;
     counted = counted kept.counted;
     sixty_four = as_long ∙ kept.sixty_four;

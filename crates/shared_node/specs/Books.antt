@@ -1,5 +1,5 @@
 -- A book: a core, and what was asked of it since the book was opened.
-use Rattle.std.specs.Prelude.{◌≡◌, ◌≤◌, ◌<◌, ℕ, ◌+◌, Bool, List, [], ◌∷◌, Option, Some, None, ◌==◌, if◌then◌else◌, length, replicate, slice_get}
+use Rattle.std.specs.Prelude.{◌≡◌, ◌≤◌, ◌<◌, ℕ, ◌+◌, Bool, IsTrue, List, [], ◌∷◌, Option, Some, None, ◌==◌, if◌then◌else◌, length, replicate, slice_get}
 use Rattle.drda_disk.specs.Disk.{Life}
 use Rattle.serializability.specs.Answered.{AnsweredCall, CallsLead}
 use Rattle.recovery.specs.Journaled.{JournaledBy, OnDisk, shown_on}
@@ -33,10 +33,10 @@ pub record AreCounted (calls : List AnsweredCall) (places : List (Option Count))
   pub apart : (here there : ℕ) (c d : Count) → slice_get places here ≡ Some (Some c) → slice_get places there ≡ Some (Some d) → c.conversation ≡ d.conversation → here ≡ there
   pub fresh : (conversation : ℕ) → next ≤ conversation → calls_of conversation calls ≡ 0
 
--- The calls, with their answers, lead from the opening to the core as it is now; what the core left on its disk since then is
--- journaled, where 64 records at most were made together; and each answer that was left is one of those calls'.
+-- Where the disk gives back what was written, the calls, with their answers, lead from the opening to the core as it is now; what
+-- the core left on its disk since then is journaled, where 64 records at most were made together; and each answer that was left is one of those calls'.
 pub record IsKept {D : Type 0} (modelled : Bool) (life : D → Life) (book : Told D) : Type 0 where
-  pub leads : CallsLead book.opening.state book.calls book.core.state
+  pub leads : IsTrue modelled → CallsLead book.opening.state book.calls book.core.state
   pub journaled : JournaledBy 64 modelled (shown_on life book.opening) (shown_on life book.core)
   pub counted : AreCounted book.calls book.places book.next
   pub sixty_four : length book.places ≡ 64

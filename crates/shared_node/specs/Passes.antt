@@ -1,5 +1,5 @@
 -- Passes: what each call of a book makes of it and of a pass.
-use Rattle.std.specs.Prelude.{◌≡◌, ◌≢◌, ◌⊎◌, ℕ, ◌+◌, ◌<◌, ◌≤◌, ◌^◌, ⊤, true, List, [], ◌∷◌, ◌++◌, Option, Some, None, slice_get, slice_set}
+use Rattle.std.specs.Prelude.{◌≡◌, ◌≢◌, ◌⊎◌, ℕ, ◌+◌, ◌<◌, ◌≤◌, ◌^◌, Bool, ⊤, true, List, [], ◌∷◌, ◌++◌, Option, Some, None, slice_get, slice_set}
 use Rattle.drda_disk.specs.Disk.{Life}
 use Rattle.core_calls.specs.Call.{Call, lost}
 use Rattle.core_calls.specs.Answer.{Answer, no_memory, answer_of}
@@ -80,12 +80,12 @@ pub record Rests {D : Type 0} (old new : OnDisk D) : Type 0 where
   pub made : new.made ≡ old.made
   pub failed : old.is_failed ≡ true → new.is_failed ≡ true
 
-module _ {D : Type 0} (life : D → Life) where
+module _ {D : Type 0} (modelled : Bool) (life : D → Life) where
   -- The core answered the call by a step of its own, or by an excuse; perhaps behind a checkpoint.
   pub record IsAnswered (old : OnDisk D) (conversation : ℕ) (call : Call) (answer : Answer) (new : OnDisk D) : Type 0 where
     pub at : OnDisk D
     pub rests : Rests old at
-    pub steps : Steps (shown_on life at) conversation call answer (shown_on life new)
+    pub steps : Steps modelled (shown_on life at) conversation call answer (shown_on life new)
 
   -- The call is one more of the book's, of its conversation's and of the pass's, with the answer that was given.
   pub record Lists (old : Told D) (pass : Pass) (call : Call) (answer : Answer) (new : Told D) (after : Pass) : Type 0 where

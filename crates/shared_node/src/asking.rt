@@ -31,7 +31,7 @@ pub(crate) fn ask<D: Disk>(
     conversation: u64,
     call: &CoreCall<'_, '_>,
 ) -> Answer
-    ensures answered { IsAnswered D.life core.old conversation (call_of call.now) (answer_of result) core.new }
+    ensures answered { IsAnswered D.is_modelled D.life core.old conversation (call_of call.now) (answer_of result) core.new }
     ensures journaled { Journaled D.is_modelled (shown_on D.life core.old) (shown_on D.life core.new) }
 {
     calls_go_on::<D>();

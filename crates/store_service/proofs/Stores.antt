@@ -29,8 +29,8 @@ module _ {D : Type 0} (modelled : Bool) (life : D → Life) (sound : ImagesAreSo
     part_is = (kept d (sound name d (life disk).seen store.opens)).part
 
     module _ (core : OnDisk D) (is : IsOpenedTo name d core) (stays : Stays (life disk) (life core.disk)) where
-      over : asked_of core ≡ core_over d core.layout core.room
-      over = λ i. record { state = is.state i; layout = core.layout; room = core.room; has_failed = is.going i; made = is.made i }
+      over : asked_of modelled core ≡ core_over d core.layout core.room
+      over = λ i. record { is_told = store.modelled_is i; state = is.state i; layout = core.layout; room = core.room; has_failed = is.going i; made = is.made i }
 
       durable : durable_part core.state ≡ d
       durable = ap durable_part is.state ∙ part_is
@@ -51,14 +51,14 @@ module _ {D : Type 0} (modelled : Bool) (life : D → Life) (sound : ImagesAreSo
       same_all records failed image o = subst (λ (n : List ℕ). OpensAfterAll n d records failed image) is.named (subst (λ (e : Durable). OpensAfterAll core.name e records failed image) durable o)
 
       module _ (input before now : Option (List ℕ)) (given : D) (end : RunEnd)
-          (goes : GoesFrom modelled life core (at_start (record { user = user; password = password; rdb = core.name }) (asked_of core)) input before given end now) where
+          (goes : GoesFrom modelled life core (at_start (record { user = user; password = password; rdb = core.name }) (asked_of modelled core)) input before given end now) where
         settings : Settings
         settings = record { user = user; password = password; rdb = name }
 
-        starts : at_start (record { user = user; password = password; rdb = core.name }) (asked_of core) ≡ at_start (record { user = user; password = password; rdb = name }) (core_over d core.layout core.room)
+        starts : at_start (record { user = user; password = password; rdb = core.name }) (asked_of modelled core) ≡ at_start (record { user = user; password = password; rdb = name }) (core_over d core.layout core.room)
         starts = λ i. at_start (record { user = user; password = password; rdb = is.named i }) (over i)
 
-        runs_from : (o : Option (List ℕ)) → IfSome o (λ bytes. Runs (at_start (record { user = user; password = password; rdb = core.name }) (asked_of core)) bytes before end now goes.last)
+        runs_from : (o : Option (List ℕ)) → IfSome o (λ bytes. Runs (at_start (record { user = user; password = password; rdb = core.name }) (asked_of modelled core)) bytes before end now goes.last)
             → IfSome o (λ bytes. Runs (at_start (record { user = user; password = password; rdb = name }) (core_over d core.layout core.room)) bytes before end now goes.last)
         runs_from o runs = subst (λ (m : Machine). IfSome o (λ bytes. Runs m bytes before end now goes.last)) starts runs
 
@@ -110,12 +110,12 @@ refused_so life name disk refused is stays w = record { refusal = refusal_of nam
 
 -- ---- a node that ran
 
-pub ran : {D : Type 0} (modelled : Bool) (life : D → Life) (user password : List ℕ) (core over : OnDisk D) (first : Machine) (settings : Settings) → over ≡ core → first ≡ at_start settings (asked_of core)
+pub ran : {D : Type 0} (modelled : Bool) (life : D → Life) (user password : List ℕ) (core over : OnDisk D) (first : Machine) (settings : Settings) → over ≡ core → first ≡ at_start settings (asked_of modelled core)
     → settings ≡ record { user = user; password = password; rdb = core.name } → (input before now : Option (List ℕ)) (given : D × Result RunEnd OpenError)
     → (end : RunEnd) × (given.1 ≡ Ok end) × GoesFrom modelled life over first input before given.0 end now → RunsCore modelled life user password core input before given now
 ran {D} modelled life user password core over first settings same begins with_these input before now given (end, is, goes) =
     let from_core : GoesFrom modelled life core first input before given.0 end now = subst (λ (c : OnDisk D). GoesFrom modelled life c first input before given.0 end now) same goes in
-    let start : first ≡ at_start (record { user = user; password = password; rdb = core.name }) (asked_of core) = begins ∙ ap (λ (s : Settings). at_start s (asked_of core)) with_these in
-    let whole : GoesFrom modelled life core (at_start (record { user = user; password = password; rdb = core.name }) (asked_of core)) input before given.0 end now =
+    let start : first ≡ at_start (record { user = user; password = password; rdb = core.name }) (asked_of modelled core) = begins ∙ ap (λ (s : Settings). at_start s (asked_of modelled core)) with_these in
+    let whole : GoesFrom modelled life core (at_start (record { user = user; password = password; rdb = core.name }) (asked_of modelled core)) input before given.0 end now =
     subst (λ (m : Machine). GoesFrom modelled life core m input before given.0 end now) start from_core in
     subst (λ (r : Result RunEnd OpenError). RunsOver life modelled user password core input before given.0 r now) (sym is) whole

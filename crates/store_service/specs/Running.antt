@@ -25,9 +25,9 @@ pub record IsStore (modelled : Bool) (name : List ℕ) (d : Durable) (disk : Lif
   pub only : Only disk
   pub opens : OpensTo name d disk.seen
 
--- what a core over that state is to those who ask it
+-- what a core over that state is to those who ask it, where its device gives back what was written
 abbrev pub core_over : Durable → Layout → ℕ → AskedCore
-core_over d layout room = record { state = opened d; layout = layout; room = room; has_failed = false; made = [] }
+core_over d layout room = record { is_told = true; state = opened d; layout = layout; room = room; has_failed = false; made = [] }
 
 -- a machine that begins with the state answered the input; these records were made of its calls, and lead from the state to
 -- what is durable of it; a crash leaves the state after the first of them, and at the end after all of them, but perhaps not
@@ -63,7 +63,7 @@ pub record GoesFrom {D : Type 0} (modelled : Bool) (life : D → Life) (old : On
   pub disk_is : disk ≡ new.disk
   pub journaled : Journaled modelled (shown_on life old) (shown_on life new)
   pub last : Machine
-  pub core_is : last.core ≡ asked_of new
+  pub core_is : last.core ≡ asked_of modelled new
   pub runs : IfSome input (λ bytes. Runs first bytes before end now last)
 
 module _ {D : Type 0} (life : D → Life) where
@@ -83,7 +83,7 @@ module _ {D : Type 0} (life : D → Life) where
     pub silent : now ≡ before
 
   abbrev pub RunsOver : Bool → List ℕ → List ℕ → OnDisk D → Option (List ℕ) → Option (List ℕ) → D → Result RunEnd OpenError → Option (List ℕ) → Type 0
-  RunsOver modelled user password old input before disk (Ok end) now = GoesFrom modelled life old (at_start (record { user = user; password = password; rdb = old.name }) (asked_of old)) input before disk end now
+  RunsOver modelled user password old input before disk (Ok end) now = GoesFrom modelled life old (at_start (record { user = user; password = password; rdb = old.name }) (asked_of modelled old)) input before disk end now
   RunsOver modelled user password old input before disk (Err error) now = GivesBack old disk error before now
 
 abbrev pub RunsCore : {D : Type 0} → Bool → (D → Life) → List ℕ → List ℕ → OnDisk D → Option (List ℕ) → Option (List ℕ) → D × Result RunEnd OpenError → Option (List ℕ) → Type 0

@@ -5,7 +5,8 @@ use Rattle.unit_journal.specs.declared.record.Record.{Record}
 use Rattle.unit_journal.specs.Stands.{IsDamagedAt as HasNoRecord, Stands}
 use Rattle.store_check.specs.Checkpoint.{HasCheckpoint, forms}
 use Rattle.store_check.specs.Half.{BreaksHalf, pages_of}
-use Rattle.table_store.specs.TableStore.{store_in}
+use Rattle.paged_tables.specs.PagedTables.{store_in}
+use Rattle.paged_tables.specs.TablesByName.{PagesStay, Tables as PagesByName}
 use Rattle.recovery.specs.Durable.{Doubts, at_checkpoint}
 use Rattle.recovery.specs.Journal.{Leads, StopsAt}
 use Rattle.recovery.specs.Known.{AreKnown}
@@ -13,8 +14,9 @@ use Rattle.recovery.specs.Laws.{held_for}
 use Rattle.recovery.specs.Replay.{doubts_in, durable_of}
 use Rattle.recovery.specs.declared.prepared.PreparedUnit.{PreparedUnit}
 use Rattle.durable_core.specs.Holders.{TellsLast}
+use Rattle.durable_core.specs.Found.{StandInFront}
 use Rattle.durable_core.specs.Reads.{TellsDamage}
-use Rattle.durable_core.proofs.Parts.{found_all, held_plain, journal_plain, passed_on, settled_on, tables_plain, units_plain}
+use Rattle.durable_core.proofs.Parts.{found_all, held_plain, in_front, journal_plain, passed_on, settled_on, tables_plain, units_plain}
 use Rattle.durable_core.proofs.Telling.{bad_page, handed_on, is_short, misplaced, no_record, no_room, told}
 use Rattle.durable_core.proofs.opening.read_store.Goals as goal
 
@@ -133,6 +135,10 @@ returns-clause-found g c =
     found_all g.D.Disk.is_modelled (life c.read_journal.new.disk) image active tables records d _ (c.in_ok-journal.ensures.stays.same ∙ tables_seen) known leads
     (λ i. record { store = c.into_parts-store.ensures.store i; doubts = c.into_parts-store.ensures.units i })
     (c.in_ok-hold_all.ensures.same.0 ∙ c.in_ok-journal.ensures.region.0) refl held refl
-    c.records_lead_to_sound_states.ensures c.in_ok-tables.ensures.store c.in_ok-active.ensures.journal c.in_ok-active.ensures.head
+    c.records_lead_to_sound_states.ensures c.in_ok-tables.ensures.store c.in_ok-active.ensures.journal c.in_ok-active.ensures.pages
+    (in_front g.D.Disk.is_modelled image active.region c.in_ok-tables.tables.tables c.into_parts-store.result.0.tables
+    (subst (λ (t : PagesByName). PagesStay c.in_ok-tables.tables.tables t) (sym c.into_parts-store.ensures.pages) c.in_ok-read_units.ensures.pages)
+    (subst (λ (i : List ℕ). StandInFront g.D.Disk.is_modelled i active.region c.in_ok-tables.tables.tables) c.in_ok-active.ensures.stays.same c.in_ok-tables.ensures.stand))
+    c.clear.ensures c.in_ok-active.ensures.head
     (λ is. subst (λ (i : List ℕ). HasCheckpoint i (pages_of active) tables) c.in_ok-active.ensures.stays.same (c.in_ok-tables.ensures.laid is))
     (λ is. settled_on g.D.Disk.is_modelled (life c.read_journal.new.disk) records c.in_ok-journal.journal c.hold_all.new.journal c.in_ok-hold_all.ensures.same (c.in_ok-journal.ensures.records is).settled)

@@ -24,12 +24,12 @@ returns-clause-hears g c =
     let shows = open_shows place (shows_open place h is) in
     let settings : place.front.settings ≡ c.args.self.now.settings = ap (λ (p : Slot). p.front.settings) c.index_mut.ensures.value ∙ c.args.self.now.alike c.args.place place (below_view shown items c.args.place (Some h) here) in
     let was : slice_get old.row c.args.place ≡ Some (Some (shown_held place.front)) = here ∙ ap (λ o. Some o) (sym is ∙ shows) in
-    let now : Machine = record { settings = old.settings; row = map shown (slice_set items c.args.place new); given = old.given; core = core_of asker } in
-    let row : now ≡ attended_at old c.args.place (attended_by new.front (core_of asker)) =
-    same_machine old.settings (map shown (slice_set items c.args.place new)) (slice_set old.row c.args.place (Some (shown_held new.front))) old.given old.given (core_of asker) (core_of asker)
+    let now : Machine = record { settings = old.settings; row = map shown (slice_set items c.args.place new); given = old.given; core = core_of g.D.Disk.is_modelled asker } in
+    let row : now ≡ attended_at old c.args.place (attended_by new.front (core_of g.D.Disk.is_modelled asker)) =
+    same_machine old.settings (map shown (slice_set items c.args.place new)) (slice_set old.row c.args.place (Some (shown_held new.front))) old.given old.given (core_of g.D.Disk.is_modelled asker) (core_of g.D.Disk.is_modelled asker)
     (view_set shown items c.args.place new (Some (shown_held new.front)) (open_shows new c.feed_all.ensures.open)) refl refl in
-    hears_there old now c.args.place (shown_held place.front) (attended_by new.front (core_of asker)) was row c.feed_all.result c.args.piece.now c.args.out.now.items c.feed_all.new.out.items
-    (subst (λ (v : Settings). pieces.HearsPiece (asks c.args.place) v (attended_by place.front (asked_of c.args.self.now.core)) c.args.piece.now c.args.out.now.items c.feed_all.result (attended_by new.front (core_of asker)) c.feed_all.new.out.items) settings
+    hears_there old now c.args.place (shown_held place.front) (attended_by new.front (core_of g.D.Disk.is_modelled asker)) was row c.feed_all.result c.args.piece.now c.args.out.now.items c.feed_all.new.out.items
+    (subst (λ (v : Settings). pieces.HearsPiece (asks c.args.place) v (attended_by place.front (asked_of g.D.Disk.is_modelled c.args.self.now.core)) c.args.piece.now c.args.out.now.items c.feed_all.result (attended_by new.front (core_of g.D.Disk.is_modelled asker)) c.feed_all.new.out.items) settings
     c.feed_all.ensures.hears)
 
 pub returns-clause-there : goal.returns-clause-there
@@ -40,11 +40,11 @@ returns-clause-there g c =
     let new = c.feed_all.new.self in
     let asker = c.feed_all.new.asker in
     let (h, here) = c.requires in
-    let now : Machine = record { settings = old.settings; row = map shown (slice_set items c.args.place new); given = old.given; core = core_of asker } in
-    let row : now ≡ attended_at old c.args.place (attended_by new.front (core_of asker)) =
-    same_machine old.settings (map shown (slice_set items c.args.place new)) (slice_set old.row c.args.place (Some (shown_held new.front))) old.given old.given (core_of asker) (core_of asker)
+    let now : Machine = record { settings = old.settings; row = map shown (slice_set items c.args.place new); given = old.given; core = core_of g.D.Disk.is_modelled asker } in
+    let row : now ≡ attended_at old c.args.place (attended_by new.front (core_of g.D.Disk.is_modelled asker)) =
+    same_machine old.settings (map shown (slice_set items c.args.place new)) (slice_set old.row c.args.place (Some (shown_held new.front))) old.given old.given (core_of g.D.Disk.is_modelled asker) (core_of g.D.Disk.is_modelled asker)
     (view_set shown items c.args.place new (Some (shown_held new.front)) (open_shows new c.feed_all.ensures.open)) refl refl in
-    still_there old now c.args.place h (attended_by new.front (core_of asker)) here row
+    still_there old now c.args.place h (attended_by new.front (core_of g.D.Disk.is_modelled asker)) here row
 
 pub returns-clause-numbers : goal.returns-clause-numbers
 returns-clause-numbers g c =

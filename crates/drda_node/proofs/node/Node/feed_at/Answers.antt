@@ -20,10 +20,10 @@ returns-clause-feeds g c =
     let settings : place.front.settings ≡ c.args.self.now.settings = ap (λ (p : Slot). p.front.settings) c.index_mut.ensures.value ∙ c.args.self.now.alike c.args.place place (below_view shown items c.args.place (Some h) here) in
     record {
       before = shown_held place.front;
-      after = attended_by new.front (core_of c.feed.new.asker);
+      after = attended_by new.front (core_of g.D.Disk.is_modelled c.feed.new.asker);
       was = here ∙ ap (λ o. Some o) (sym is ∙ shows);
       row = same_machine c.args.self.now.settings _ _ _ _ _ _ (view_set shown items c.args.place new (Some (shown_held new.front)) (open_shows new c.feed.ensures.open)) refl refl;
-      takes = subst (λ (v : Settings). Takes (asks c.args.place) v (attended_by place.front (asked_of c.args.self.now.core)) c.args.piece.now c.args.out.now.items c.feed.result (attended_by new.front (core_of c.feed.new.asker)) c.feed.new.out.items) settings c.feed.ensures.takes;
+      takes = subst (λ (v : Settings). Takes (asks c.args.place) v (attended_by place.front (asked_of g.D.Disk.is_modelled c.args.self.now.core)) c.args.piece.now c.args.out.now.items c.feed.result (attended_by new.front (core_of g.D.Disk.is_modelled c.feed.new.asker)) c.feed.new.out.items) settings c.feed.ensures.takes;
     }
 
 pub returns-clause-numbers : goal.returns-clause-numbers

@@ -1,9 +1,10 @@
 use Rattle.std.proofs.Common.{rules, ◌≡◌, true, false, length, string_bytes, subst}
-use Rattle.rdb_core.specs.State.{recorder_of, state_of}
+use Rattle.rdb_core.specs.State.{pages_of, recorder_of, state_of}
 use Rattle.journal_recorder.specs.Recording.{has_failed}
-use Rattle.unit_records.specs.Phases.{may_go_through}
+use Rattle.unit_records.specs.Phases.{may_go_through, records_in}
 use Rattle.recovery.specs.Journaled.{JournaledBy, OnDisk, shown_on}
 use Rattle.durable_core.specs.Recorded.{core_on}
+use Rattle.durable_core.proofs.Paged as pages
 use Rattle.durable_core.proofs.Phasing.{allowed, left_by, same_left}
 use Rattle.durable_core.proofs.durable.DurableCore.go_through.Goals as goal
 
@@ -23,7 +24,7 @@ returns-then-not-may_go_through-clause-journaled g c =
       groups = c.calls_make_groups.ensures;
       go_on = c.groups_go_on.ensures;
     })
-    (state_of c.self.inside.core) (recorder_of c.self.inside.core) c.self.invariant going (length c.args.calls.now)).journaled
+    (state_of c.self.inside.core) (recorder_of c.self.inside.core) c.self.invariant.0 going (length c.args.calls.now)).journaled
 
 pub go_through-requires-clause-allowed : goal.go_through-requires-clause-allowed
 go_through-requires-clause-allowed g c =
@@ -41,13 +42,13 @@ go_through-requires-clause-allowed g c =
       groups = c.calls_make_groups.ensures;
       go_on = c.groups_go_on.ensures;
     })
-    (state_of c.self.inside.core) (recorder_of c.self.inside.core) c.self.invariant going c.args.phase c.args.calls.now may
+    (state_of c.self.inside.core) (recorder_of c.self.inside.core) c.self.invariant.0 going c.args.phase c.args.calls.now may
 
 pub invariant_of-self : goal.invariant_of-self
 invariant_of-self g c =
     let going : has_failed (recorder_of c.self.inside.core) ≡ false = search rules in
     let may : may_go_through c.args.phase (state_of c.self.inside.core) c.args.calls.now ≡ true = search rules in
-    (left_by g.D.Disk.is_modelled g.D.Disk.life (string_bytes c.self.inside.name)
+    let is_left = left_by g.D.Disk.is_modelled g.D.Disk.life (string_bytes c.self.inside.name)
     (record {
       keep = c.phases_are_recorded.ensures.keep;
       lead = c.phases_are_recorded.ensures.lead;
@@ -59,8 +60,12 @@ invariant_of-self g c =
       groups = c.calls_make_groups.ensures;
       go_on = c.groups_go_on.ensures;
     })
-    (state_of c.self.inside.core) (recorder_of c.self.inside.core) c.self.invariant going c.args.phase c.args.calls.now may c.go_through.result (state_of c.go_through.new.self) (recorder_of c.go_through.new.self)
-    c.go_through.ensures.done c.go_through.ensures.recorded c.go_through.ensures.kept c.go_through.ensures.refused).recorded
+    (state_of c.self.inside.core) (recorder_of c.self.inside.core) c.self.invariant.0 going c.args.phase c.args.calls.now may c.go_through.result (state_of c.go_through.new.self) (recorder_of c.go_through.new.self)
+    c.go_through.ensures.done c.go_through.ensures.recorded c.go_through.ensures.kept c.go_through.ensures.refused in (
+      is_left.recorded,
+      pages.together g.D.Disk.is_modelled g.D.Disk.life c.pages_are_kept.ensures (recorder_of c.self.inside.core) (pages_of c.self.inside.core) (pages_of c.go_through.new.self) c.go_through.ensures.pages c.self.invariant.1
+          c.go_through.result (records_in c.args.phase (state_of c.self.inside.core).base.units c.args.calls.now) (recorder_of c.go_through.new.self) c.go_through.ensures.recorded c.go_through.ensures.refused,
+    )
 
 pub returns-clause-journaled : goal.returns-clause-journaled
 returns-clause-journaled g c =
@@ -79,5 +84,5 @@ returns-clause-journaled g c =
       groups = c.calls_make_groups.ensures;
       go_on = c.groups_go_on.ensures;
     })
-    (state_of c.self.inside.core) (recorder_of c.self.inside.core) c.self.invariant going c.args.phase c.args.calls.now may c.go_through.result (state_of c.go_through.new.self) (recorder_of c.go_through.new.self)
+    (state_of c.self.inside.core) (recorder_of c.self.inside.core) c.self.invariant.0 going c.args.phase c.args.calls.now may c.go_through.result (state_of c.go_through.new.self) (recorder_of c.go_through.new.self)
     c.go_through.ensures.done c.go_through.ensures.recorded c.go_through.ensures.kept c.go_through.ensures.refused).journaled

@@ -1,13 +1,15 @@
 use Rattle.std.proofs.Common.{rules, ◌≡◌, true, false, string_bytes, subst}
 use Rattle.core_calls.specs.Answer.{answer_of}
 use Rattle.core_calls.specs.Call.{call_of}
-use Rattle.rdb_core.specs.State.{recorder_of, state_of}
+use Rattle.rdb_core.specs.State.{pages_of, recorder_of, state_of}
 use Rattle.journal_recorder.specs.Recording.{has_failed}
 use Rattle.recovery.specs.Journaled.{Journaled, OnDisk, shown_on}
 use Rattle.durable_core.specs.Recorded.{core_on}
 use Rattle.durable_core.specs.Steps.{Steps}
+use Rattle.durable_core.proofs.Paged as pages
 use Rattle.durable_core.proofs.Recording.{stays_failed}
-use Rattle.durable_core.proofs.Stepping.{allowed, any_step}
+use Rattle.durable_core.proofs.Looking.{any_step}
+use Rattle.durable_core.proofs.Stepping.{allowed}
 use Rattle.durable_core.proofs.durable.DurableCore.step.Goals as goal
 
 pub step-requires : goal.step-requires
@@ -21,29 +23,38 @@ step-requires g c =
             lead = c.steps_are_recorded.ensures.lead;
             of_doubts = c.steps_are_recorded.ensures.decisions;
             known = c.steps_are_recorded.ensures.known;
+            misread_keep = c.steps_are_recorded.ensures.misread_keep;
+            misread_stays = c.steps_are_recorded.ensures.misread_stays;
             laws = record { held_for_doubts = c.doubts_hold_their_decisions.ensures; records_stay = c.records_stay.ensures; calls_made = c.calls_make_records.ensures };
           })
-          (state_of c.self.inside.core) (recorder_of c.self.inside.core) c.self.invariant going c.args.conversation (call_of c.args.call.now);
+          (state_of c.self.inside.core) (recorder_of c.self.inside.core) c.self.invariant.0 going c.args.conversation (call_of c.args.call.now);
+      holds = c.self.invariant.1;
     }
 
 pub invariant_of-self : goal.invariant_of-self
 invariant_of-self g c =
     let going : has_failed (recorder_of c.self.inside.core) ≡ false = search rules in
-    (any_step g.D.Disk.is_modelled g.D.Disk.life (string_bytes c.self.inside.name)
+    let is_done = any_step g.D.Disk.is_modelled g.D.Disk.life (string_bytes c.self.inside.name)
     (record {
       keep = c.steps_are_recorded.ensures.keep;
       silent = c.steps_are_recorded.ensures.silent;
       lead = c.steps_are_recorded.ensures.lead;
       of_doubts = c.steps_are_recorded.ensures.decisions;
       known = c.steps_are_recorded.ensures.known;
+      misread_keep = c.steps_are_recorded.ensures.misread_keep;
+      misread_stays = c.steps_are_recorded.ensures.misread_stays;
       laws = record { held_for_doubts = c.doubts_hold_their_decisions.ensures; records_stay = c.records_stay.ensures; calls_made = c.calls_make_records.ensures };
     })
-    (state_of c.self.inside.core) (recorder_of c.self.inside.core) c.self.invariant going c.args.conversation (call_of c.args.call.now) (answer_of c.step.result) (state_of c.step.new.self) (recorder_of c.step.new.self) c.step.ensures.sure c.step.ensures.step).recorded
+    (state_of c.self.inside.core) (recorder_of c.self.inside.core) c.self.invariant.0 going c.args.conversation (call_of c.args.call.now) (answer_of c.step.result) (state_of c.step.new.self) (recorder_of c.step.new.self) c.step.ensures.sure c.step.ensures.step in (
+      is_done.recorded,
+      pages.step g.D.Disk.is_modelled g.D.Disk.life c.pages_are_kept.ensures (recorder_of c.self.inside.core) (pages_of c.self.inside.core) (pages_of c.step.new.self) c.step.ensures.pages c.self.invariant.1
+          (state_of c.self.inside.core) c.args.conversation (call_of c.args.call.now) (answer_of c.step.result) (state_of c.step.new.self) (recorder_of c.step.new.self) c.step.ensures.step,
+    )
 
 pub returns-clause-step : goal.returns-clause-step
 returns-clause-step g c =
     let going : has_failed (recorder_of c.self.inside.core) ≡ false = search rules in
-    subst (λ (old : OnDisk g.row.D.Denot). Steps (shown_on g.D.Disk.life old) c.args.conversation (call_of c.args.call.now) (answer_of c.step.result) (shown_on g.D.Disk.life (core_on (string_bytes c.self.inside.name) (state_of c.step.new.self) (recorder_of c.step.new.self)))) c.self.view_is
+    subst (λ (old : OnDisk g.row.D.Denot). Steps g.D.Disk.is_modelled (shown_on g.D.Disk.life old) c.args.conversation (call_of c.args.call.now) (answer_of c.step.result) (shown_on g.D.Disk.life (core_on (string_bytes c.self.inside.name) (state_of c.step.new.self) (recorder_of c.step.new.self)))) c.self.view_is
     (any_step g.D.Disk.is_modelled g.D.Disk.life (string_bytes c.self.inside.name)
     (record {
       keep = c.steps_are_recorded.ensures.keep;
@@ -51,9 +62,11 @@ returns-clause-step g c =
       lead = c.steps_are_recorded.ensures.lead;
       of_doubts = c.steps_are_recorded.ensures.decisions;
       known = c.steps_are_recorded.ensures.known;
+      misread_keep = c.steps_are_recorded.ensures.misread_keep;
+      misread_stays = c.steps_are_recorded.ensures.misread_stays;
       laws = record { held_for_doubts = c.doubts_hold_their_decisions.ensures; records_stay = c.records_stay.ensures; calls_made = c.calls_make_records.ensures };
     })
-    (state_of c.self.inside.core) (recorder_of c.self.inside.core) c.self.invariant going c.args.conversation (call_of c.args.call.now) (answer_of c.step.result) (state_of c.step.new.self) (recorder_of c.step.new.self) c.step.ensures.sure c.step.ensures.step).steps
+    (state_of c.self.inside.core) (recorder_of c.self.inside.core) c.self.invariant.0 going c.args.conversation (call_of c.args.call.now) (answer_of c.step.result) (state_of c.step.new.self) (recorder_of c.step.new.self) c.step.ensures.sure c.step.ensures.step).steps
 
 pub returns-clause-journaled : goal.returns-clause-journaled
 returns-clause-journaled g c =
@@ -66,9 +79,11 @@ returns-clause-journaled g c =
       lead = c.steps_are_recorded.ensures.lead;
       of_doubts = c.steps_are_recorded.ensures.decisions;
       known = c.steps_are_recorded.ensures.known;
+      misread_keep = c.steps_are_recorded.ensures.misread_keep;
+      misread_stays = c.steps_are_recorded.ensures.misread_stays;
       laws = record { held_for_doubts = c.doubts_hold_their_decisions.ensures; records_stay = c.records_stay.ensures; calls_made = c.calls_make_records.ensures };
     })
-    (state_of c.self.inside.core) (recorder_of c.self.inside.core) c.self.invariant going c.args.conversation (call_of c.args.call.now) (answer_of c.step.result) (state_of c.step.new.self) (recorder_of c.step.new.self) c.step.ensures.sure c.step.ensures.step).journaled
+    (state_of c.self.inside.core) (recorder_of c.self.inside.core) c.self.invariant.0 going c.args.conversation (call_of c.args.call.now) (answer_of c.step.result) (state_of c.step.new.self) (recorder_of c.step.new.self) c.step.ensures.sure c.step.ensures.step).journaled
 
 pub returns-then-is_failed-clause-journaled : goal.returns-then-is_failed-clause-journaled
 returns-then-is_failed-clause-journaled g c =

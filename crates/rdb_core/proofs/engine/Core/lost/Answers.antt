@@ -3,9 +3,10 @@ use Rattle.xa_manager.specs.declared.branch.Branch.{Branch}
 use Rattle.core_model.specs.Units.{Held, local, without}
 use Rattle.core_model.specs.Events.{Base}
 use Rattle.core_model.specs.Step.{lost_xids}
-use Rattle.table_store.specs.TableStore.{store_in}
+use Rattle.paged_tables.specs.PagedTables.{store_in}
 use Rattle.rdb_core.specs.Steps.{left_units}
 use Rattle.rdb_core.proofs.Lost.{as_events}
+use Rattle.rdb_core.proofs.Pages.{pages_rest}
 use Rattle.rdb_core.proofs.engine.Core.lost.Goals as goal
 
 pub returns : goal.returns
@@ -19,4 +20,4 @@ returns g c =
     ∙ ap (λ (bs : List Branch). left_units (lost_xids bs n) c.end-changes.new.self) c.branches.ensures.all
     ∙ ap (λ (us : List Held). left_units xs us) c.end-changes.ensures.ended in
     let base = ap (λ (us : List Held). let b : Base = record { store = s; units = us } in b) units ∙ sym (as_events xs s (without (local n) old.units)) in
-    record { taken = record { answer_is = refl; state = λ j. record { base = base j; branches = c.lost.ensures j } }; recorded = refl }
+    record { step = record { taken = record { answer_is = refl; state = λ j. record { base = base j; branches = c.lost.ensures j } }; recorded = refl }; pages = pages_rest old.store.tables }

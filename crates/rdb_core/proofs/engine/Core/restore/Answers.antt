@@ -1,6 +1,6 @@
 use Rattle.std.proofs.Common.{◌≡◌, List, [], ◌∙◌, ap}
 use Rattle.unit_locks.specs.Claims.{all_added}
-use Rattle.table_store.specs.TableStore.{store_in}
+use Rattle.paged_tables.specs.PagedTables.{store_in}
 use Rattle.core_model.specs.Events.{Base}
 use Rattle.core_model.specs.Units.{Held, Owner, Work, global, without}
 use Rattle.rdb_core.proofs.Back.{taken_back}

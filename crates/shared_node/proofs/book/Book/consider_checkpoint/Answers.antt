@@ -8,7 +8,7 @@ pub invariant_of-self : goal.invariant_of-self
 invariant_of-self g c =
     let inside = c.self.inside in
     record {
-      leads = subst (λ (s : CoreState). CallsLead inside.opening.value.state inside.calls.listed s) (sym c.renew.ensures.rests.state) c.self.invariant.leads;
+      leads = λ told. subst (λ (s : CoreState). CallsLead inside.opening.value.state inside.calls.listed s) (sym c.renew.ensures.rests.state) (c.self.invariant.leads told);
       journaled = then_one g.D.Disk.is_modelled g.D.Disk.life c.groups_go_on.ensures inside.opening.value inside.core c.renew.new.core c.self.invariant.journaled c.renew.ensures.journaled;
       counted = c.self.invariant.counted;
       sixty_four = c.self.invariant.sixty_four;

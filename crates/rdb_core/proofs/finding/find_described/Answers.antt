@@ -5,7 +5,7 @@ use Rattle.tables.specs.Tables.{Store, schema_of}
 use Rattle.sql_semantics.specs.Describe.{described}
 use Rattle.sql_semantics.specs.Scope.{table_name}
 use Rattle.core_model.specs.Asked.{described_claims, told as told_of}
-use Rattle.rdb_core.proofs.finding.find_description.Goals as goal
+use Rattle.rdb_core.proofs.finding.find_described.Goals as goal
 
 pub returns : goal.returns
 returns g c = λ is_faithful.

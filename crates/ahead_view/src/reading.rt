@@ -1,0 +1,135 @@
+//! What is read ahead of a statement.
+
+ghost use Rattle.std.specs.Prelude.{◌≡◌, IfOk, IsTrue};
+ghost use Rattle.table_map.specs.Keyed.{copied};
+ghost use Rattle.tables.specs.Tables.{Store, row_of, rows_of};
+ghost use Rattle.ahead_view.specs.Ahead.{WasRead, are_read, is_row_read};
+ghost use Rattle.ahead_view.specs.Source.{LeavesReader, MayRead};
+ghost use Rattle.paged_tables.specs.PagedTables.{store_in};
+
+use crate::source::{ReadError, Source};
+use paged_tables::PagedTables;
+use std::alloc::{AllocError, Global};
+use std::mem;
+use tables::Rows;
+
+/// What a statement is going to ask for.
+#[derive(Clone, Copy, Debug)]
+pub enum Wanted<'a> {
+    /// No rows.
+    Nothing,
+    /// The row of a key in a table.
+    Row { table: &'a str, key: &'a [u8] },
+    /// All rows of a table.
+    Rows { table: &'a str },
+}
+
+/// What was read of the tables ahead of a statement.
+#[derive(Drop)]
+pub enum ReadAhead<'a> {
+    /// Nothing: the statement reads no rows.
+    Nothing,
+    /// The row of a key in a table, or that there is none.
+    Row {
+        table: &'a str,
+        key: &'a [u8],
+        row: Option<Vec<u8>>,
+    },
+    /// All rows of a table, in the order of their keys.
+    Rows {
+        table: &'a str,
+        rows: Rows,
+    },
+}
+
+/// Reads what a statement is going to ask for. Where that is nothing, neither the source nor memory is
+/// asked.
+pub fn read_ahead<'a, S: Source>(
+    source: &mut S,
+    alloc: Global,
+    tables: &PagedTables,
+    wanted: Wanted<'a>,
+) -> Result<ReadAhead<'a>, ReadError>
+    requires { S.holds source.old tables.now.tables }
+    ensures told { IsTrue S.is_told → IfOk result (λ read. WasRead (store_in tables.now) read) }
+    ensures source { LeavesReader (MayRead S.reads) S.fails_to_read source.old result source.new }
+{
+    match wanted {
+        Wanted::Nothing => Ok(ReadAhead::Nothing),
+        Wanted::Row { table, key } => {
+            let row = source.row(alloc, tables, table, key)?;
+            Ok(ReadAhead::Row { table, key, row })
+        }
+        Wanted::Rows { table } => {
+            let rows = source.rows(alloc, tables, table)?;
+            Ok(ReadAhead::Rows { table, rows })
+        }
+    }
+}
+
+/// The row of a key in a table, if it was read. It is given away.
+pub(crate) fn take_row(
+    read: &mut ReadAhead<'_>,
+    table: &str,
+    key: &[u8],
+) -> Result<Option<Vec<u8>>, AllocError>
+    ensures row { (store : Store) → WasRead store read.old → IfOk result (λ row. copied row ≡ row_of store table.now key.now) }
+    ensures left { (store : Store) → WasRead store read.old → WasRead store read.new }
+{
+    if !has_row(read, table, key) {
+        return Err(AllocError);
+    }
+    match mem::replace(read, ReadAhead::Nothing) {
+        ReadAhead::Row {
+            table: _,
+            key: _,
+            row,
+        } => Ok(row),
+        ReadAhead::Rows { .. } => Err(AllocError),
+        ReadAhead::Nothing => Err(AllocError),
+    }
+}
+
+// Whether the row of this key was read.
+fn has_row(read: &ReadAhead<'_>, table: &str, key: &[u8]) -> bool
+    ensures { result ≡ is_row_read table.now key.now read.now }
+{
+    match read {
+        ReadAhead::Row {
+            table: name,
+            key: place,
+            row: _,
+        } => name.as_bytes() == table.as_bytes() && *place == key,
+        ReadAhead::Rows { .. } => false,
+        ReadAhead::Nothing => false,
+    }
+}
+
+/// All rows of a table, if they were read. They are given away.
+pub(crate) fn take_rows(read: &mut ReadAhead<'_>, table: &str) -> Result<Rows, AllocError>
+    ensures rows { (store : Store) → WasRead store read.old → IfOk result (λ rows. rows ≡ rows_of store table.now) }
+    ensures left { (store : Store) → WasRead store read.old → WasRead store read.new }
+{
+    if !has_rows(read, table) {
+        return Err(AllocError);
+    }
+    match mem::replace(read, ReadAhead::Nothing) {
+        ReadAhead::Rows { table: _, rows } => Ok(rows),
+        ReadAhead::Row { .. } => Err(AllocError),
+        ReadAhead::Nothing => Err(AllocError),
+    }
+}
+
+// Whether all rows of this table were read.
+fn has_rows(read: &ReadAhead<'_>, table: &str) -> bool
+    ensures { result ≡ are_read table.now read.now }
+{
+    match read {
+        ReadAhead::Rows {
+            table: name,
+            rows: _,
+        } => name.as_bytes() == table.as_bytes(),
+        ReadAhead::Row { .. } => false,
+        ReadAhead::Nothing => false,
+    }
+}

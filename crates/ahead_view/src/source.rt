@@ -1,0 +1,71 @@
+//! Who reads rows of tables over pages.
+
+ghost use Rattle.std.specs.Prelude.{◌≡◌, IfOk, IsTrue};
+ghost use Rattle.table_map.specs.Keyed.{copied};
+ghost use Rattle.tables.specs.Tables.{row_of, rows_of};
+ghost use Rattle.ahead_view.specs.Source.{LeavesReader};
+ghost use Rattle.paged_tables.specs.PagedTables.{store_in};
+ghost use Rattle.paged_tables.specs.TablesByName.{Tables};
+
+use crate::telling::Telling;
+use paged_tables::PagedTables;
+use std::alloc::{AllocError, Global};
+use tables::Rows;
+use thiserror::Error;
+
+/// Why no rows were read.
+#[derive(Clone, Copy, Debug, PartialEq, Eq, Error)]
+pub enum ReadError {
+    /// Memory was refused.
+    #[error("no memory")]
+    NoMemory,
+    /// The device failed, or gave back what was not written.
+    #[error("the device failed")]
+    DeviceFailed,
+}
+
+impl From<AllocError> for ReadError {
+    ghost use Rattle.std.specs.Prelude.{◌≡◌};
+    ghost use Rattle.ahead_view.specs.declared.source.ReadError.TheVariants.{NoMemory};
+
+    ghost from_gives = { λ _ e. e ≡ NoMemory };
+
+    fn from(_: AllocError) -> ReadError {
+        ReadError::NoMemory
+    }
+}
+
+/// Who reads the rows of tables over pages, from the device that has the pages. Contracts know it by
+/// what a read makes of it: `holds` says of which tables the pages can be read there, `reads` what it is
+/// once a read is answered or memory was refused in it, and `fails_to_read` what it is once the device
+/// has failed in a read. What is read is what the tables have where it is told (`Telling`).
+pub trait Source: Telling {
+    ghost holds: { Self → Tables → Type 0 };
+
+    ghost reads: { Self → Self → Type 0 };
+
+    ghost fails_to_read: { Self → Self → Type 0 };
+
+    /// The row of this key in the table of a name, in new memory. Without a table, and for bytes that
+    /// are no key of it, there is none.
+    fn row(
+        &mut self,
+        alloc: Global,
+        tables: &PagedTables,
+        table: &str,
+        key: &[u8],
+    ) -> Result<Option<Vec<u8>>, ReadError>
+        requires { holds self.old tables.now.tables }
+        ensures found { IsTrue Self.is_told → IfOk result (λ row. copied row ≡ row_of (store_in tables.now) table.now key.now) }
+        ensures read { LeavesReader reads fails_to_read self.old result self.new };
+
+    /// All rows of the table of a name, in the order of their keys, in new memory. Without a table there
+    /// are none.
+    fn rows(&mut self, alloc: Global, tables: &PagedTables, table: &str) -> Result<Rows, ReadError>
+        requires { holds self.old tables.now.tables }
+        ensures rows { IsTrue Self.is_told → IfOk result (λ rows. rows ≡ rows_of (store_in tables.now) table.now) }
+        ensures read { LeavesReader reads fails_to_read self.old result self.new };
+
+    /// Once something was read, the pages of tables can still be read there.
+    ghost still_holds: { (old new : Self) (tables : Tables) → reads old new → holds old tables → holds new tables };
+}

@@ -1,0 +1,141 @@
+//! A recorder with the tables of its store. What may not be asked of it shows as want of memory, or as refused.
+
+ghost use Rattle.std.specs.Prelude.{◌≡◌, ◌≤◌, [], IsTrue, length, false};
+ghost use Rattle.drda_disk.specs.Region.{end_of};
+ghost use Rattle.unit_journal.specs.Journal.{held_of, region_of};
+ghost use Rattle.journal_recorder.specs.Recording.{cache_of, disk_of, has_failed, journal_of};
+
+use crate::records::released_by;
+use ahead_view::ReadError;
+use drda_disk::Disk;
+use journal_recorder::{CheckpointError, DiskRecorder, pages_are_kept};
+use paged_tables::PagedTables;
+use std::alloc::{AllocError, Global};
+use std::marker::Model;
+use tables::{Change, Rows};
+use unit_records::{GroupError, RecordContents, RecordError, Recorder};
+
+/// A recorder, and tables whose pages it can read.
+#[derive(Drop)]
+pub struct Keeper<D: Disk> {
+    alloc: Global,
+    recorder: DiskRecorder<D>,
+    tables: PagedTables,
+}
+
+impl<D: Disk> Model for Keeper<D> {
+    ghost use Rattle.paged_tables.specs.TablesByName.{Tables};
+    ghost use Rattle.journal_recorder.specs.Reading.{HasPages};
+
+    ghost Value = { Tables };
+
+    ghost view = { λ k. k.tables.tables };
+
+    ghost invariant = { λ k. HasPages D.is_modelled D.life k.recorder k.tables.tables };
+}
+
+// Whether a record that releases so much may be asked for.
+fn may_record<D: Disk>(recorder: &DiskRecorder<D>, release: usize) -> bool
+    ensures going { IsTrue result → has_failed recorder.now ≡ false }
+    ensures inside { IsTrue result → end_of (region_of (journal_of recorder.now)) ≤ length (D.life (disk_of recorder.now)).seen }
+    ensures released { IsTrue result → release ≤ held_of (journal_of recorder.now) }
+{
+    !recorder.is_failed()
+        && recorder.region().end() <= recorder.disk().size()
+        && release <= recorder.held()
+}
+
+impl<D: Disk> Keeper<D> {
+    /// A recorder that keeps no page, and no tables.
+    pub fn new(alloc: Global, recorder: DiskRecorder<D>) -> Keeper<D>
+        requires { cache_of recorder ≡ [] }
+    {
+        Keeper {
+            alloc,
+            recorder,
+            tables: PagedTables::new(alloc),
+        }
+    }
+
+    /// The recorder.
+    pub fn recorder(&self) -> &DiskRecorder<D> {
+        &self.recorder
+    }
+
+    /// The same, when nothing more is asked for.
+    pub fn into_recorder(self) -> DiskRecorder<D> {
+        self.recorder
+    }
+
+    /// Records it.
+    pub fn record(&mut self, saying: RecordContents<'_>) -> Result<(), RecordError> {
+        pages_are_kept::<D>();
+        if !may_record(&self.recorder, released_by(self.recorder.layout(), saying)) {
+            return Err(RecordError::NoMemory);
+        }
+        match self.recorder.record(saying) {
+            Ok(()) => Ok(()),
+            Err(error) => Err(error),
+        }
+    }
+
+    /// Records these together.
+    pub fn record_three(
+        &mut self,
+        first: RecordContents<'_>,
+        second: RecordContents<'_>,
+        third: RecordContents<'_>,
+    ) -> Result<(), GroupError> {
+        pages_are_kept::<D>();
+        let layout = self.recorder.layout();
+        let release = released_by(layout, first)
+            + released_by(layout, second)
+            + released_by(layout, third);
+        if !may_record(&self.recorder, release) {
+            return Err(GroupError::Refused);
+        }
+        match self.recorder.record_all(&[first, second, third]) {
+            Ok(()) => Ok(()),
+            Err(GroupError::Refused) => Err(GroupError::Refused),
+            Err(GroupError::DeviceFailed) => Err(GroupError::DeviceFailed),
+        }
+    }
+
+    /// A checkpoint with no records, that holds so many bytes back.
+    pub fn checkpoint(&mut self, held: usize) -> Result<(), CheckpointError>
+        requires { D.is_modelled ≡ false }
+    {
+        if !may_record(&self.recorder, 0) {
+            return Err(CheckpointError::NoMemory);
+        }
+        self.recorder.checkpoint(&mut self.tables, &[], held)
+    }
+
+    /// Makes a change of the tables in memory.
+    pub fn change(&mut self, change: Change) -> Result<(), AllocError> {
+        pages_are_kept::<D>();
+        let mut changes = Vec::new(self.alloc);
+        changes.push(change)?;
+        self.tables.reserve(self.alloc, &changes)?;
+        self.tables.apply_reserved(self.alloc, changes);
+        Ok(())
+    }
+
+    /// The row of a key.
+    pub fn row(&mut self, table: &str, key: &[u8]) -> Result<Option<Vec<u8>>, ReadError> {
+        match self.recorder.read_row(self.alloc, &self.tables, table, key) {
+            Ok(row) => Ok(row),
+            Err(ReadError::NoMemory) => Err(ReadError::NoMemory),
+            Err(ReadError::DeviceFailed) => Err(ReadError::DeviceFailed),
+        }
+    }
+
+    /// All rows of a table.
+    pub fn rows(&mut self, table: &str) -> Result<Rows, ReadError> {
+        match self.recorder.read_rows(self.alloc, &self.tables, table) {
+            Ok(rows) => Ok(rows),
+            Err(ReadError::NoMemory) => Err(ReadError::NoMemory),
+            Err(ReadError::DeviceFailed) => Err(ReadError::DeviceFailed),
+        }
+    }
+}
