@@ -1,2 +1,3 @@
 pub mod Ahead
+pub mod Given
 pub mod Source

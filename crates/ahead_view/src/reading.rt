@@ -1,12 +1,14 @@
 //! What is read ahead of a statement.
 
-ghost use Rattle.std.specs.Prelude.{◌≡◌, IfOk, IsTrue};
+ghost use Rattle.std.specs.Prelude.{◌≡◌, IfOk, IsTrue, true};
 ghost use Rattle.table_map.specs.Keyed.{copied};
 ghost use Rattle.tables.specs.Tables.{Store, row_of, rows_of};
-ghost use Rattle.ahead_view.specs.Ahead.{WasRead, are_read, is_row_read};
-ghost use Rattle.ahead_view.specs.Source.{LeavesReader, MayRead};
+ghost use Rattle.ahead_view.specs.Ahead.{WasRead, are_read, is_row_read, may_be_read};
+ghost use Rattle.ahead_view.specs.Given.{StandsFor, given_by};
+ghost use Rattle.ahead_view.specs.Source.{IsReadBy, LeavesReader, MayRead};
 ghost use Rattle.paged_tables.specs.PagedTables.{store_in};
 
+use crate::judging::is_possible;
 use crate::source::{ReadError, Source};
 use paged_tables::PagedTables;
 use std::alloc::{AllocError, Global};
@@ -42,8 +44,8 @@ pub enum ReadAhead<'a> {
     },
 }
 
-/// Reads what a statement is going to ask for. Where that is nothing, neither the source nor memory is
-/// asked.
+/// Reads what a statement is going to ask for, and judges it: rows that are none of their table count as a
+/// failure of the device. Where nothing is asked for, neither the source nor memory is asked.
 pub fn read_ahead<'a, S: Source>(
     source: &mut S,
     alloc: Global,
@@ -51,7 +53,28 @@ pub fn read_ahead<'a, S: Source>(
     wanted: Wanted<'a>,
 ) -> Result<ReadAhead<'a>, ReadError>
     requires { S.holds source.old tables.now.tables }
+    ensures may { IfOk result (λ read. may_be_read (store_in tables.now) read ≡ true) }
+    ensures stands { IfOk result (λ read. StandsFor S.is_told (given_by (store_in tables.now) read) (store_in tables.now)) }
+    ensures source { LeavesReader (MayRead S.reads) S.fails_to_read source.old result source.new }
+{
+    let read = read_unjudged(source, alloc, tables, wanted)?;
+    if !is_possible(alloc, tables, &read)? {
+        source.fail();
+        return Err(ReadError::DeviceFailed);
+    }
+    Ok(read)
+}
+
+// What a statement is going to ask for, as it is read.
+fn read_unjudged<'a, S: Source>(
+    source: &mut S,
+    alloc: Global,
+    tables: &PagedTables,
+    wanted: Wanted<'a>,
+) -> Result<ReadAhead<'a>, ReadError>
+    requires { S.holds source.old tables.now.tables }
     ensures told { IsTrue S.is_told → IfOk result (λ read. WasRead (store_in tables.now) read) }
+    ensures read { IfOk result (λ read. IsReadBy S.reads read source.old source.new) }
     ensures source { LeavesReader (MayRead S.reads) S.fails_to_read source.old result source.new }
 {
     match wanted {

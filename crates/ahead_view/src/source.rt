@@ -1,13 +1,12 @@
 //! Who reads rows of tables over pages.
 
-ghost use Rattle.std.specs.Prelude.{◌≡◌, IfOk, IsTrue};
+ghost use Rattle.std.specs.Prelude.{◌≡◌, Bool, IfOk, IsTrue, false};
 ghost use Rattle.table_map.specs.Keyed.{copied};
 ghost use Rattle.tables.specs.Tables.{row_of, rows_of};
 ghost use Rattle.ahead_view.specs.Source.{LeavesReader};
 ghost use Rattle.paged_tables.specs.PagedTables.{store_in};
 ghost use Rattle.paged_tables.specs.TablesByName.{Tables};
 
-use crate::telling::Telling;
 use paged_tables::PagedTables;
 use std::alloc::{AllocError, Global};
 use tables::Rows;
@@ -38,8 +37,11 @@ impl From<AllocError> for ReadError {
 /// Who reads the rows of tables over pages, from the device that has the pages. Contracts know it by
 /// what a read makes of it: `holds` says of which tables the pages can be read there, `reads` what it is
 /// once a read is answered or memory was refused in it, and `fails_to_read` what it is once the device
-/// has failed in a read. What is read is what the tables have where it is told (`Telling`).
-pub trait Source: Telling {
+/// has failed in a read. Whether what is read is known to be what the tables have is a constant of the
+/// type, `is_told`: it is so of a device that gives back what was written.
+pub trait Source {
+    ghost is_told: { Bool };
+
     ghost holds: { Self → Tables → Type 0 };
 
     ghost reads: { Self → Self → Type 0 };
@@ -56,15 +58,20 @@ pub trait Source: Telling {
         key: &[u8],
     ) -> Result<Option<Vec<u8>>, ReadError>
         requires { holds self.old tables.now.tables }
-        ensures found { IsTrue Self.is_told → IfOk result (λ row. copied row ≡ row_of (store_in tables.now) table.now key.now) }
+        ensures found { IsTrue is_told → IfOk result (λ row. copied row ≡ row_of (store_in tables.now) table.now key.now) }
         ensures read { LeavesReader reads fails_to_read self.old result self.new };
 
     /// All rows of the table of a name, in the order of their keys, in new memory. Without a table there
     /// are none.
     fn rows(&mut self, alloc: Global, tables: &PagedTables, table: &str) -> Result<Rows, ReadError>
         requires { holds self.old tables.now.tables }
-        ensures rows { IsTrue Self.is_told → IfOk result (λ rows. rows ≡ rows_of (store_in tables.now) table.now) }
+        ensures rows { IsTrue is_told → IfOk result (λ rows. rows ≡ rows_of (store_in tables.now) table.now) }
         ensures read { LeavesReader reads fails_to_read self.old result self.new };
+
+    /// What the last read gave is no row of the table: the device counts as failed in that read.
+    fn fail(&mut self)
+        requires { is_told ≡ false }
+        ensures { (before : Self) → reads before self.old → fails_to_read before self.new };
 
     /// Once something was read, the pages of tables can still be read there.
     ghost still_holds: { (old new : Self) (tables : Tables) → reads old new → holds old tables → holds new tables };

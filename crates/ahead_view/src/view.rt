@@ -1,63 +1,67 @@
 //! What a statement sees of tables whose rows are on pages.
 
-ghost use Rattle.std.specs.Prelude.{◌≡◌, IsTrue};
-ghost use Rattle.ahead_view.specs.Ahead.{WasRead};
+ghost use Rattle.std.specs.Prelude.{◌≡◌, true};
+ghost use Rattle.ahead_view.specs.Ahead.{may_be_read};
+ghost use Rattle.ahead_view.specs.Given.{given_by};
 ghost use Rattle.paged_tables.specs.PagedTables.{store_in};
 
+use crate::given::GivenStore;
 use crate::reading::{ReadAhead, take_row, take_rows};
-use crate::telling::Telling;
+use drda_words::GhostValue;
 use paged_tables::PagedTables;
 use row_values::Schema;
 use std::alloc::Global;
-use std::marker::{Model, PhantomData};
+use std::marker::Model;
 use std::sync::Arc;
 use tables::{PlainFault, Rows, TableView};
 
 /// What a statement sees: the schemas and the number of the tables, and of their rows what was read
-/// ahead of it. Whatever else it asks for is answered by want of memory. What was read is given once;
-/// asked for again it is not there. No page is read.
+/// ahead of it, in the place of what the tables have. Whatever else it asks for is answered by want of
+/// memory. What was read is given once; asked for again it is not there. No page is read.
 #[derive(Drop)]
-pub struct AheadView<'a, 'b, T: Telling> {
+pub struct AheadView<'a, 'b> {
     tables: &'a PagedTables,
     read: ReadAhead<'b>,
-    told: PhantomData<T>,
+    given: GhostValue<GivenStore>,
 }
 
-impl<'a, 'b, T: Telling> Model for AheadView<'a, 'b, T> {
-    ghost use Rattle.ahead_view.specs.Ahead.{Ahead, IsAhead};
+impl<'a, 'b> Model for AheadView<'a, 'b> {
+    ghost use Rattle.ahead_view.specs.Given.{Ahead, IsAhead};
     ghost use Rattle.paged_tables.specs.PagedTables.{store_in};
 
     ghost Value = { Ahead };
 
-    ghost view = { λ v. record { store = store_in v.tables.now; read = v.read } };
+    ghost view = { λ v. record { store = v.given.value; read = v.read } };
 
-    ghost invariant = { λ v. IsAhead T.is_told (record { store = store_in v.tables.now; read = v.read }) };
+    ghost invariant = { λ v. IsAhead (store_in v.tables.now) (record { store = v.given.value; read = v.read }) };
 }
 
-impl<'a, 'b, T: Telling> AheadView<'a, 'b, T> {
-    /// The tables, and what was read of them.
-    pub fn new(tables: &'a PagedTables, read: ReadAhead<'b>) -> AheadView<'a, 'b, T>
-        requires { IsTrue T.is_told → WasRead (store_in tables.now) read }
-        ensures { result ≡ record { store = store_in tables.now; read = read.entry } }
+impl<'a, 'b> AheadView<'a, 'b> {
+    /// The tables, with what was read of them.
+    pub fn new(tables: &'a PagedTables, read: ReadAhead<'b>) -> AheadView<'a, 'b>
+        requires { may_be_read (store_in tables.now) read ≡ true }
+        ensures { result ≡ record { store = given_by (store_in tables.now) read.entry; read = read.entry } }
     {
         // The tables that are lent are a store.
         let _left = tables.lend();
+        let given = GhostValue::of(&(tables, &read));
         AheadView {
             tables,
             read,
-            told: PhantomData,
+            given,
         }
     }
 }
 
-impl<'a, 'b, T: Telling> TableView for AheadView<'a, 'b, T> {
+impl<'a, 'b> TableView for AheadView<'a, 'b> {
+    ghost use Rattle.std.specs.Prelude.{true};
     ghost use Rattle.tables.specs.PlainFault.{is_damage, no_damage};
 
     type Fault = PlainFault;
 
     ghost store = { λ v. v.store };
 
-    ghost is_faithful = { T.is_told };
+    ghost is_faithful = { true };
 
     ghost tells_damage = { is_damage };
 
@@ -89,7 +93,7 @@ impl<'a, 'b, T: Telling> TableView for AheadView<'a, 'b, T> {
     }
 
     fn is_trusted(&self) -> bool {
-        T::tells()
+        true
     }
 
     fn damaged(&self) -> PlainFault {

@@ -8,7 +8,7 @@ ghost use Rattle.unit_records.specs.Due.{record_due};
 ghost use Rattle.core_calls.specs.Answer.{answer_of};
 ghost use Rattle.core_calls.specs.Call.{call_of, describe, query, run};
 ghost use Rattle.core_model.specs.Asked.{unfit};
-ghost use Rattle.rdb_core.specs.Looks.{IsClashing, StepsAnyhow, StepsOver};
+ghost use Rattle.rdb_core.specs.Looks.{IsClashing, StepsOver};
 ghost use Rattle.rdb_core.specs.Question.{call_asking, question_of};
 ghost use Rattle.rdb_core.specs.State.{pages_of, recorder_of, state_of};
 ghost use Rattle.rdb_core.specs.Steps.{Steps, Takes, is_fit, may_want_any};
@@ -32,12 +32,12 @@ impl<R: Recorder + Source> Core<R> {
     /// conversation take no memory, nor do a commit of a unit without changes and a statement that is refused before
     /// it claims anything; nothing is recorded of them.
     ///
-    /// Of a source that is not told, what a statement is answered and what it changes in its unit may be anything.
+    /// Of a source that is not told a statement may be given other rows of the same tables: then its answer and its
+    /// unit are those of the step over these, and what is committed stays.
     pub fn step(&mut self, conversation: u64, call: &CoreCall<'_, '_>) -> Answer
         requires allowed { (r : UnitRecord) → record_due (state_of self.old) conversation (call_of call.now) ≡ Some r → R.allows (recorder_of self.old) r }
         requires holds { R.holds (recorder_of self.old) (pages_of self.old) }
-        ensures step { IsTrue R.is_told → StepsOver R.records R.fails R.reads R.fails_to_read (state_of self.old) conversation (call_of call.now) (answer_of result) (state_of self.new) (recorder_of self.old) (recorder_of self.new) }
-        ensures any { StepsAnyhow R.records R.fails R.reads R.fails_to_read (state_of self.old) conversation (call_of call.now) (answer_of result) (state_of self.new) (recorder_of self.old) (recorder_of self.new) }
+        ensures step { StepsOver R.is_told R.records R.fails R.reads R.fails_to_read (state_of self.old) conversation (call_of call.now) (answer_of result) (state_of self.new) (recorder_of self.old) (recorder_of self.new) }
         ensures sure { may_want_any (state_of self.old) conversation (call_of call.now) ≡ false → record_due (state_of self.old) conversation (call_of call.now) ≡ None → Takes R.records (state_of self.old) conversation (call_of call.now) (answer_of result) (state_of self.new) (recorder_of self.old) (recorder_of self.new) }
         ensures pages { PagesStay (pages_of self.old) (pages_of self.new) }
         ensures clash { IsClashing (state_of self.old) conversation (call_of call.now) → recorder_of self.new ≡ recorder_of self.old }
@@ -70,8 +70,7 @@ impl<R: Recorder + Source> Core<R> {
         parameters: &'a [Value<'t>],
     ) -> Answer
         requires holds { R.holds (recorder_of self.old) (pages_of self.old) }
-        ensures step { IsTrue R.is_told → StepsOver R.records R.fails R.reads R.fails_to_read (state_of self.old) conversation (run statement.now (map value_of parameters.now)) (answer_of result) (state_of self.new) (recorder_of self.old) (recorder_of self.new) }
-        ensures any { StepsAnyhow R.records R.fails R.reads R.fails_to_read (state_of self.old) conversation (run statement.now (map value_of parameters.now)) (answer_of result) (state_of self.new) (recorder_of self.old) (recorder_of self.new) }
+        ensures step { StepsOver R.is_told R.records R.fails R.reads R.fails_to_read (state_of self.old) conversation (run statement.now (map value_of parameters.now)) (answer_of result) (state_of self.new) (recorder_of self.old) (recorder_of self.new) }
         ensures sure { may_want_any (state_of self.old) conversation (run statement.now (map value_of parameters.now)) ≡ false → Takes R.records (state_of self.old) conversation (run statement.now (map value_of parameters.now)) (answer_of result) (state_of self.new) (recorder_of self.old) (recorder_of self.new) }
         ensures pages { PagesStay (pages_of self.old) (pages_of self.new) }
         ensures clash { IsClashing (state_of self.old) conversation (run statement.now (map value_of parameters.now)) → recorder_of self.new ≡ recorder_of self.old }
@@ -95,8 +94,7 @@ impl<R: Recorder + Source> Core<R> {
         parameters: &'a [Value<'t>],
     ) -> Answer
         requires holds { R.holds (recorder_of self.old) (pages_of self.old) }
-        ensures step { IsTrue R.is_told → StepsOver R.records R.fails R.reads R.fails_to_read (state_of self.old) conversation (query statement.now (map value_of parameters.now)) (answer_of result) (state_of self.new) (recorder_of self.old) (recorder_of self.new) }
-        ensures any { StepsAnyhow R.records R.fails R.reads R.fails_to_read (state_of self.old) conversation (query statement.now (map value_of parameters.now)) (answer_of result) (state_of self.new) (recorder_of self.old) (recorder_of self.new) }
+        ensures step { StepsOver R.is_told R.records R.fails R.reads R.fails_to_read (state_of self.old) conversation (query statement.now (map value_of parameters.now)) (answer_of result) (state_of self.new) (recorder_of self.old) (recorder_of self.new) }
         ensures sure { may_want_any (state_of self.old) conversation (query statement.now (map value_of parameters.now)) ≡ false → Takes R.records (state_of self.old) conversation (query statement.now (map value_of parameters.now)) (answer_of result) (state_of self.new) (recorder_of self.old) (recorder_of self.new) }
         ensures pages { PagesStay (pages_of self.old) (pages_of self.new) }
         ensures clash { IsClashing (state_of self.old) conversation (query statement.now (map value_of parameters.now)) → recorder_of self.new ≡ recorder_of self.old }
@@ -113,8 +111,7 @@ impl<R: Recorder + Source> Core<R> {
     // A statement of the unit that a conversation works in.
     fn ask(&mut self, conversation: u64, question: Question<'_, '_>) -> Answer
         requires holds { R.holds (recorder_of self.old) (pages_of self.old) }
-        ensures step { IsTrue R.is_told → StepsOver R.records R.fails R.reads R.fails_to_read (state_of self.old) conversation (call_asking (question_of question.entry)) (answer_of result) (state_of self.new) (recorder_of self.old) (recorder_of self.new) }
-        ensures any { StepsAnyhow R.records R.fails R.reads R.fails_to_read (state_of self.old) conversation (call_asking (question_of question.entry)) (answer_of result) (state_of self.new) (recorder_of self.old) (recorder_of self.new) }
+        ensures step { StepsOver R.is_told R.records R.fails R.reads R.fails_to_read (state_of self.old) conversation (call_asking (question_of question.entry)) (answer_of result) (state_of self.new) (recorder_of self.old) (recorder_of self.new) }
         ensures sure { is_fit (unfit (question_of question.entry)) ≡ false → Takes R.records (state_of self.old) conversation (call_asking (question_of question.entry)) (answer_of result) (state_of self.new) (recorder_of self.old) (recorder_of self.new) }
         ensures pages { PagesStay (pages_of self.old) (pages_of self.new) }
         ensures clash { IsClashing (state_of self.old) conversation (call_asking (question_of question.entry)) → recorder_of self.new ≡ recorder_of self.old }
