@@ -4,4 +4,4 @@ pub mod Moving
 mod Holding
 pub mod Ending
 pub mod ReadBack
-pub mod Left
+pub mod Kept

@@ -1,4 +1,3 @@
-pub mod Lent
 pub mod Room
 pub mod Laying
 pub mod Holds

@@ -1,20 +1,7 @@
-//! A checkpoint: tables that are in memory are written into the half of a store that is not active, and
-//! the journal begins anew behind them; and the tables of a checkpoint, read from the pages of a half
-//! into memory.
+//! What a checkpoint is: the pages on which the tables of a store are laid, the room that they need, and what an image holds at
+//! each moment in which one is written.
 #![tactic(auto)]
 
-mod adding;
-mod errors;
 mod laws;
-mod lent;
-mod pages;
-mod reading;
-mod stored;
-mod table;
-mod table_pages;
-mod writing;
 
 pub use laws::moments_hold;
-pub use lent::{LentTable, LentTables};
-pub use reading::read_checkpoint;
-pub use writing::write_checkpoint;

@@ -5,7 +5,7 @@ use Rattle.drda_disk.specs.Region.{end_of}
 use Rattle.half_store.specs.Layout.{half_len}
 use Rattle.half_store.specs.declared.header.Layout.{Layout}
 use Rattle.paged_tables.specs.TablesByName.{AreOnPages, LieInside, LieOutside, PagesStay, Tables}
-use Rattle.checkpoints.proofs.Left.{none_kept}
+use Rattle.checkpoints.proofs.Kept.{none_kept}
 use Rattle.unit_journal.specs.Journal.{IsSettled, held_of, region_of}
 use Rattle.unit_journal.specs.declared.journal.Journal.{Journal}
 use Rattle.recovery.specs.Durable.{Durable}

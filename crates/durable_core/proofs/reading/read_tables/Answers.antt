@@ -1,7 +1,7 @@
 use Rattle.std.proofs.Common.{inr, ◌-◌, length}
 use Rattle.drda_disk.specs.Region.{end_of}
 use Rattle.half_store.specs.Layout.{half_len}
-use Rattle.checkpoints.proofs.Left.{none_kept}
+use Rattle.checkpoints.proofs.Kept.{none_kept}
 use Rattle.durable_core.proofs.reading.read_tables.Goals as goal
 
 pub returns-in-Ok-clause-laid : goal.returns-in-Ok-clause-laid

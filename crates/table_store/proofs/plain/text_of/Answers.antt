@@ -1,6 +1,0 @@
--- A name is UTF-8.
-use Rattle.table_store.proofs.Copying.{name_is_text}
-use Rattle.table_store.proofs.plain.text_of.Goals as goal
-
-pub unreachable-requires : goal.unreachable-requires
-unreachable-requires c = c.in-Err.ensures.cases.0 (name_is_text c.args.name.now c.requires)
