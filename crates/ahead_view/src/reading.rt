@@ -57,6 +57,8 @@ pub fn read_ahead<'a, S: Source>(
     ensures stands { IfOk result (λ read. StandsFor S.is_told (given_by (store_in tables.now) read) (store_in tables.now)) }
     ensures source { LeavesReader (MayRead S.reads) S.fails_to_read source.old result source.new }
 {
+    // The tables are a store.
+    let _count = tables.count();
     let read = read_unjudged(source, alloc, tables, wanted)?;
     if !is_possible(alloc, tables, &read)? {
         source.fail();
