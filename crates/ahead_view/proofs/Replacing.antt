@@ -1,5 +1,5 @@
 -- A store in which a table has other rows.
-use Rattle.std.proofs.Common.{◌≡◌, ℕ, List, [], ◌∷◌, Bool, true, false, cond, refl, sym, ap, subst, ◌∙◌, length, map, Option, Some, None, option_map, if◌then◌else◌, arith, eqb-true}
+use Rattle.std.proofs.Common.{◌≡◌, ℕ, List, [], ◌∷◌, Bool, true, false, cond, refl, sym, ap, ◌∙◌, length, map, Option, Some, None, option_map, if◌then◌else◌, arith, eqb-true}
 use Rattle.std.specs.Prelude.{◌&&◌, ◌==◌, bytes_eq, unwrap_or}
 use Rattle.std.specs.List.{list_all}
 use Rattle.std.specs.Map.{keys_of, values_of}

@@ -32,7 +32,7 @@ later_rise schema last (row ∷ rows) =
     let R = key_cmp schema in let key = row_key schema row in let keys = map (row_key schema) rows in
     ap (λ b. is_row schema row && (is_lt (R last key) && b)) (later_rise schema key rows)
     ∙ one_less (is_row schema row) (list_all (is_row schema) rows) (is_lt (R last key)) (before_all R key keys) (before_all R last keys) (rises R keys)
-      (λ next later. before_trans R (key_cmp_total schema) last key keys (less_is (R last key) next) later)
+    (λ next later. before_trans R (key_cmp_total schema) last key keys (less_is (R last key) next) later)
 
 joined : (a b c : Bool) → (a && (b && c)) ≡ ((a && b) && c)
 joined true b c = refl

@@ -79,14 +79,14 @@ row_same s name key None good is =
     let r = remove_removes name key s in
     same_stores (apply (remove name key) s) s (apply_keeps (remove name key) s refl good) good r.schemas
     (λ q k. r.found q k ∙ kept (bytes_eq q name && bytes_eq k key) None (row_of s q k)
-      (λ h. found_there s name key q k None (same_bytes q name (first_true (bytes_eq q name) (bytes_eq k key) h)) (same_bytes k key (second_true (bytes_eq q name) (bytes_eq k key) h)) is))
+    (λ h. found_there s name key q k None (same_bytes q name (first_true (bytes_eq q name) (bytes_eq k key) h)) (same_bytes k key (second_true (bytes_eq q name) (bytes_eq k key) h)) is))
 row_same s name key (Some row) good is =
     let p = put_puts name row.items s in
     let there = found_are_rows s name key row.items good (sym is) in
     same_stores (apply (put name row.items) s) s (apply_keeps (put name row.items) s refl good) good p.schemas
     (λ q k. let at = is_row_at (schema_of s name) row.items k in
-      p.found q k ∙ kept (bytes_eq q name && at) (Some row.items) (row_of s q k)
-      (λ h. found_there s name key q k (Some row.items) (same_bytes q name (first_true (bytes_eq q name) at h)) (one_key (schema_of s name) row.items k key (second_true (bytes_eq q name) at h) there) is))
+    p.found q k ∙ kept (bytes_eq q name && at) (Some row.items) (row_of s q k)
+    (λ h. found_there s name key q k (Some row.items) (same_bytes q name (first_true (bytes_eq q name) at h)) (one_key (schema_of s name) row.items k key (second_true (bytes_eq q name) at h) there) is))
 
 -- ---- what was read
 

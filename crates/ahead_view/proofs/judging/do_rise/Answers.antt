@@ -23,6 +23,8 @@ returns-then-not-is_behind c =
 pub loop-i-preserved : goal.loop-i-preserved
 loop-i-preserved c =
     let s = c.args.schema.now in let row = c.row.result.now in
-    let key = key_is s (schema_in c.in-Ok.row) row (row_in c.in-Ok.row) _ c.in-Ok.ensures.parsed.0 c.in-Ok.ensures.parsed.1 c.in_ok-key.ensures.key in
-    (one_more s (copied c.loop-i.last) c.args.rows.now c.loop-i.i row c.row.ensures (do_rise s c.args.rows.now) c.in_ok-key.key.items c.in-Ok.ensures.only key
-    (c.if-not-is_behind.ensures ∙ ap (is_behind s (copied c.loop-i.last)) c.deref.ensures.value) c.loop-i.invariant.0, search rules)
+    let key = key_is s (schema_in c.in-Ok.row) row (row_in c.in-Ok.row) _ c.in-Ok.ensures.parsed.0 c.in-Ok.ensures.parsed.1 c.in_ok-key.ensures.key in (
+      one_more s (copied c.loop-i.last) c.args.rows.now c.loop-i.i row c.row.ensures (do_rise s c.args.rows.now) c.in_ok-key.key.items c.in-Ok.ensures.only key
+          (c.if-not-is_behind.ensures ∙ ap (is_behind s (copied c.loop-i.last)) c.deref.ensures.value) c.loop-i.invariant.0,
+      search rules,
+    )
