@@ -55,6 +55,7 @@ pub fn read_ahead<'a, S: Source>(
     requires { S.holds source.old tables.now.tables }
     ensures may { IfOk result (λ read. may_be_read (store_in tables.now) read ≡ true) }
     ensures stands { IfOk result (λ read. StandsFor S.is_told (given_by (store_in tables.now) read) (store_in tables.now)) }
+    ensures read { IfOk result (λ read. IsReadBy S.reads read source.old source.new) }
     ensures source { LeavesReader (MayRead S.reads) S.fails_to_read source.old result source.new }
 {
     let read = read_unjudged(source, alloc, tables, wanted)?;
