@@ -58,6 +58,8 @@ pub fn read_ahead<'a, S: Source>(
     ensures read { IfOk result (λ read. IsReadBy S.reads read source.old source.new) }
     ensures source { LeavesReader (MayRead S.reads) S.fails_to_read source.old result source.new }
 {
+    // The tables are a store.
+    let _count = tables.count();
     let read = read_unjudged(source, alloc, tables, wanted)?;
     if !is_possible(alloc, tables, &read)? {
         source.fail();
