@@ -10,10 +10,7 @@ use Rattle.core_model.specs.Events.{Base, asked_of, happens_asked}
 use Rattle.core_model.specs.Misread.{Misreads, over, reads_rows}
 use Rattle.core_model.specs.Step.{CoreState, answer, owner_of, step_state}
 use Rattle.core_model.specs.Units.{Held, Owner}
-use Rattle.ahead_view.specs.Given.{StandsFor, given_by}
-use Rattle.ahead_view.specs.Source.{IsReadBy}
-use Rattle.ahead_view.specs.declared.reading.ReadAhead.{ReadAhead}
-use Rattle.ahead_view.specs.declared.reading.ReadAhead.TheVariants.{Nothing, Row, Rows}
+use Rattle.ahead_view.specs.Given.{StandsFor}
 use Rattle.rdb_core.specs.Given.{IsAsked, IsGiven}
 use Rattle.rdb_core.specs.Looks.{StepsOver}
 use Rattle.rdb_core.specs.Question.{call_asking, question_of}
@@ -21,12 +18,6 @@ use Rattle.rdb_core.specs.Recorded.{IsRecorded}
 use Rattle.rdb_core.specs.Steps.{IsTaken, units_after}
 use Rattle.rdb_core.specs.declared.question.Question.{Question}
 use Rattle.rdb_core.specs.declared.question.Question.TheVariants.{Querying, Running}
-
--- where nothing was read, the tables are those that stand
-pub read_or_not : {R : Type 0} (reads : R → R → Type 0) (store : Store) (read : ReadAhead) (before after : R) → IsReadBy reads read before after → ((given_by store read ≡ store) × (after ≡ before)) ⊎ reads before after
-read_or_not reads store Nothing before after is = inl (refl, is)
-read_or_not reads store (Row table key row) before after is = inr is
-read_or_not reads store (Rows table rows) before after is = inr is
 
 -- ---- a question is one step
 
@@ -93,19 +84,19 @@ module _ {R : Type 0} (records : R → UnitRecord → R → Type 0) (fails : R �
 
   by_told : (is_told : Bool) (given : Store) → StandsFor is_told given old.base.store → AskedOver given
       → IsTaken old conversation (call_asking (question_of q)) told (with_units old units) ⊎ ((is_told ≡ false) × Misreads old conversation (call_asking (question_of q)) told (with_units old units))
-  by_told true given stands asked = inl (taken given (stands.told tt) asked)
+  by_told true given stands asked = inl (taken given (stands.told refl) asked)
   by_told false given stands asked = inr (refl, misread false given stands asked)
 
-  by_read : (is_told : Bool) (given : Store) → StandsFor is_told given old.base.store → AskedOver given → ((given ≡ old.base.store) × (after ≡ before)) ⊎ reads before after
+  by_read : (is_told : Bool) (given : Store) → AskedOver given → ((given ≡ old.base.store) × (after ≡ before)) ⊎ (StandsFor is_told given old.base.store × reads before after)
       → StepsOver is_told records fails reads fails_to_read old conversation (call_asking (question_of q)) told (with_units old units) before after
-  by_read is_told given stands asked (inl none) =
+  by_read is_told given asked (inl none) =
       inl (inl (record {
         taken = taken given none.0 asked;
         recorded = subst (λ (due : Option UnitRecord). IsRecorded records due before after) (sym (none_due q old conversation)) none.1;
       }))
-  by_read is_told given stands asked (inr read) = inr (asks_for_rows q, inl (record { step = by_told is_told given stands asked; read = read }))
+  by_read is_told given asked (inr read) = inr (asks_for_rows q, inl (record { step = by_told is_told given read.0 asked; read = read.1 }))
 
   -- what a question comes to, of any source
   pub asked_over : (is_told : Bool) (o : Owner) → o ≡ owner_of old.branches conversation → IsGiven is_told reads old.base.store before after (IsAsked o (question_of q) old.base.units units told)
       → StepsOver is_told records fails reads fails_to_read old conversation (call_asking (question_of q)) told (with_units old units) before after
-  asked_over is_told o is g = by_read is_told g.given g.stands (subst (λ (p : Owner). IsAsked p (question_of q) old.base.units units told g.given) is g.told) g.read
+  asked_over is_told o is g = by_read is_told g.given (subst (λ (p : Owner). IsAsked p (question_of q) old.base.units units told g.given) is g.told) g.read

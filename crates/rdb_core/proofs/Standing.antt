@@ -1,5 +1,5 @@
 -- Tables that are given for others: what changes make of them.
-use Rattle.std.proofs.Common.{◌≡◌, ℕ, List, [], ◌∷◌, Bool, true, false, cond, if◌then◌else◌, refl, sym, ap, ◌∙◌, Option, Some, None, option_map}
+use Rattle.std.proofs.Common.{◌≡◌, ◌⊎◌, inl, inr, ℕ, List, [], ◌∷◌, Bool, true, false, cond, if◌then◌else◌, refl, sym, ap, ◌∙◌, Option, Some, None, option_map}
 use Rattle.std.specs.Prelude.{bytes_eq, is_some, unwrap_or}
 use Rattle.std.specs.List.{list_all}
 use Rattle.std.specs.String.{string_bytes}
@@ -20,7 +20,11 @@ use Rattle.tables.proofs.Keeping.{apply_keeps, named_table, parts}
 use Rattle.tables.proofs.Showing.{inside}
 use Rattle.small_sql.specs.Bound.{IsOver}
 use Rattle.small_sql.specs.declared.bound.Bound.{Bound}
-use Rattle.ahead_view.specs.Given.{StandsFor}
+use Rattle.ahead_view.specs.Given.{StandsFor, given_by}
+use Rattle.ahead_view.specs.Source.{IsReadBy}
+use Rattle.ahead_view.specs.declared.reading.ReadAhead.{ReadAhead}
+use Rattle.ahead_view.specs.declared.reading.ReadAhead.TheVariants.{Nothing, Row, Rows}
+use Rattle.rdb_core.specs.Given.{IsGiven}
 
 abbrev SameSchemas : Store → Store → Type 0
 SameSchemas s t = (q : List ℕ) → schema_of s q ≡ schema_of t q
@@ -84,9 +88,9 @@ created name schema xs s t (Some old) in_s in_t whole good =
     ap (λ (b : Bool). is_store (if b then t else insert_entry (slice_cmp nat_cmp) t name (record { schema = schema; rows = [] }))) (there (table_of t name) old in_t) ∙ good
 created name schema xs s t None in_s in_t whole good =
     let made : schema_of (apply (create name schema) s) name ≡ Some schema =
-        (create_creates name schema s).schemas name
-        ∙ ap (λ (b : Bool). if b then Some (unwrap_or (schema_of s name) schema) else schema_of s name) (itself name)
-        ∙ ap (λ (o : Option Schema). Some (unwrap_or o schema)) in_s in
+    (create_creates name schema s).schemas name
+    ∙ ap (λ (b : Bool). if b then Some (unwrap_or (schema_of s name) schema) else schema_of s name) (itself name)
+    ∙ ap (λ (o : Option Schema). Some (unwrap_or o schema)) in_s in
     let last : Store = apply_all xs (apply (create name schema) s) in
     apply_keeps (create name schema) t (sound name schema last (first_true (list_all named_table last) (rises (slice_cmp nat_cmp) (keys_of last)) whole) (kept_behind xs (apply (create name schema) s) name schema made)) good
 
@@ -108,3 +112,19 @@ module _ {is_told : Bool} (changes : List Change) (given store : Store) (stands 
 
   pub still_good : is_store (apply_all changes store) ≡ true → is_store (apply_all changes given) ≡ true
   still_good good = good_behind changes store given stands.schemas good stands.good
+
+module _ {R : Type 0} (is_told : Bool) (reads : R → R → Type 0) (store : Store) (before after : R) where
+  -- where nothing was read, the tables are those that stand
+  pub read_or_not : (read : ReadAhead) → StandsFor is_told (given_by store read) store → IsReadBy reads read before after
+      → ((given_by store read ≡ store) × (after ≡ before)) ⊎ (StandsFor is_told (given_by store read) store × reads before after)
+  read_or_not Nothing stands is = inl (refl, is)
+  read_or_not (Row table key row) stands is = inr (stands, is)
+  read_or_not (Rows table rows) stands is = inr (stands, is)
+
+  over_by : (changes : List Change) (given : Store) (b : Bound) → IsOver b (apply_all changes store) → ((given ≡ store) × (after ≡ before)) ⊎ (StandsFor is_told given store × reads before after) → IsOver b (apply_all changes given)
+  over_by changes given b over (inl none) = over ∙ ap (λ (s : Store). schema_of (apply_all changes s) (string_bytes b.table)) (sym none.0)
+  over_by changes given b over (inr read) = still_over changes given store read.0 b over
+
+  -- a statement is still bound over the tables that it is given
+  pub over_given : {Told : Store → Type 0} (changes : List Change) (g : IsGiven is_told reads store before after Told) (b : Bound) → IsOver b (apply_all changes store) → IsOver b (apply_all changes g.given)
+  over_given changes g b over = over_by changes g.given b over g.read

@@ -15,11 +15,10 @@ use Rattle.ahead_view.specs.Given.{StandsFor}
 use Rattle.rdb_core.specs.Steps.{units_after}
 use Rattle.rdb_core.specs.declared.reply.Reply.{Reply}
 
--- It is told over tables that stand for those of a store: over the store itself where nothing was read.
+-- It is told over a store where nothing was read, else over tables that stand for those of the store.
 pub record IsGiven {R : Type 0} (is_told : Bool) (reads : R → R → Type 0) (store : Store) (before after : R) (Told : Store → Type 0) : Type 0 where
   pub given : Store
-  pub stands : StandsFor is_told given store
-  pub read : ((given ≡ store) × (after ≡ before)) ⊎ reads before after
+  pub read : ((given ≡ store) × (after ≡ before)) ⊎ (StandsFor is_told given store × reads before after)
   pub told : Told given
 
 -- what a bound statement is answered and changes over a store

@@ -14,7 +14,7 @@ pub struct Unpaged<R> {
     reader: Reader,
 }
 
-impl<R> Unpaged<R> {
+impl<R: Drop> Unpaged<R> {
     /// Records as this one does.
     pub fn new(alloc: Global, recorder: R) -> Result<Unpaged<R>, AllocError> {
         let reader = Reader::new(alloc)?;
