@@ -1,6 +1,6 @@
 //! What becomes of a question of a unit.
 
-ghost use Rattle.std.specs.Prelude.{◌≡◌, IfOk, IsTrue, None, OnErr, OnOk, false, map, true};
+ghost use Rattle.std.specs.Prelude.{◌≡◌, IfOk, None, OnErr, OnOk, false, map, true};
 ghost use Rattle.tables.specs.ChangeView.{change_of};
 ghost use Rattle.ahead_view.specs.Source.{LeavesReader, MayRead};
 ghost use Rattle.core_calls.specs.Answer.{answer_of};
@@ -13,7 +13,6 @@ ghost use Rattle.rdb_core.specs.Base.{base_of};
 ghost use Rattle.rdb_core.specs.Found.{FindsOver};
 ghost use Rattle.rdb_core.specs.Given.{IsAsked, IsGiven};
 ghost use Rattle.rdb_core.specs.Question.{question_of};
-ghost use Rattle.rdb_core.specs.Sight.{seen_by};
 ghost use Rattle.rdb_core.specs.Steps.{units_after};
 
 use crate::finding::{Found, find, find_description};
