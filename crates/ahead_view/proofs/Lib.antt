@@ -1,0 +1,4 @@
+mod Rising
+mod MayBe
+mod Replacing
+mod Standing

@@ -1,12 +1,8 @@
 -- What was read of the tables ahead of a statement.
-use Rattle.std.specs.Prelude.{◌≡◌, ◌&&◌, ◌==◌, ℕ, Bool, List, Option, Some, None, bytes_eq, false, length, map, true}
-use Rattle.std.specs.List.{list_all}
-use Rattle.drda_words.specs.Order.{rises}
-use Rattle.row_values.specs.Key.{key_cmp, row_key}
-use Rattle.row_values.specs.Row.{is_row}
-use Rattle.row_values.specs.Schema.{Schema}
+use Rattle.std.specs.Prelude.{◌≡◌, ◌&&◌, ℕ, Bool, List, bytes_eq, false, true}
 use Rattle.table_map.specs.Keyed.{copied}
-use Rattle.tables.specs.Tables.{Store, is_row_at, row_of, rows_of, schema_of}
+use Rattle.tables.specs.Tables.{Store, row_of, rows_of, schema_of}
+use Rattle.ahead_view.specs.Judging.{may_be_row, may_be_rows}
 use Rattle.ahead_view.specs.declared.reading.ReadAhead.{ReadAhead}
 use Rattle.ahead_view.specs.declared.reading.ReadAhead.TheVariants.{Nothing, Row, Rows}
 
@@ -27,18 +23,6 @@ abbrev pub are_read : List ℕ → ReadAhead → Bool
 are_read name Nothing = false
 are_read name (Row table key row) = false
 are_read name (Rows table rows) = bytes_eq table.now name
-
--- ---- what a table of a schema may have
-
--- no row, or a row of the schema at that key; without a table no row
-abbrev pub may_be_row : Option Schema → Option (List ℕ) → List ℕ → Bool
-may_be_row schema None key = true
-may_be_row schema (Some row) key = is_row_at schema row key
-
--- rows of the schema whose keys rise; without a table none
-abbrev pub may_be_rows : Option Schema → List (List ℕ) → Bool
-may_be_rows None rows = length rows == 0
-may_be_rows (Some schema) rows = list_all (is_row schema) rows && rises (key_cmp schema) (map (row_key schema) rows)
 
 -- what was read may be rows of the store's tables
 abbrev pub may_be_read : Store → ReadAhead → Bool

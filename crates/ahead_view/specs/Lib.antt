@@ -1,3 +1,4 @@
 pub mod Ahead
 pub mod Given
+pub mod Judging
 pub mod Source

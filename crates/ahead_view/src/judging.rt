@@ -1,11 +1,11 @@
 //! Whether rows that were read may be those of a table.
 
-ghost use Rattle.std.specs.Prelude.{◌≡◌, IfOk, map, option_map};
-ghost use Rattle.std.specs.Arc.{arc_value};
-ghost use Rattle.std.specs.Option.{option_copied};
+ghost use Rattle.std.specs.Prelude.{◌≡◌, IfOk, IfSome, option_map, true};
+ghost use Rattle.row_values.specs.Key.{is_key};
 ghost use Rattle.table_map.specs.Keyed.{copied};
 ghost use Rattle.paged_tables.specs.PagedTables.{store_in};
-ghost use Rattle.ahead_view.specs.Ahead.{may_be_read, may_be_row, may_be_rows};
+ghost use Rattle.ahead_view.specs.Ahead.{may_be_read};
+ghost use Rattle.ahead_view.specs.Judging.{do_rise as may_rise, is_behind as comes_behind, may_be_row, may_be_rows};
 
 use crate::reading::ReadAhead;
 use paged_tables::PagedTables;
@@ -42,7 +42,7 @@ fn is_possible_row(
     row: Option<&[u8]>,
     key: &[u8],
 ) -> Result<bool, AllocError>
-    ensures { IfOk result (λ may. may ≡ may_be_row (option_copied schema.entry) (option_map (λ r. r.now) row.entry) key.now) }
+    ensures { IfOk result (λ may. may ≡ may_be_row (option_map (λ s. s.now) schema.entry) (option_map (λ r. r.now) row.entry) key.now) }
 {
     let Some(row) = row else {
         return Ok(true);
@@ -62,10 +62,40 @@ fn are_possible_rows(
     schema: Option<&Schema>,
     rows: &Rows,
 ) -> Result<bool, AllocError>
-    ensures { IfOk result (λ may. may ≡ may_be_rows (option_copied schema.entry) rows.now) }
+    ensures { IfOk result (λ may. may ≡ may_be_rows (option_map (λ s. s.now) schema.entry) rows.now) }
 {
     match schema {
         Some(schema) => do_rise(alloc, schema, rows),
         None => Ok(rows.is_empty()),
+    }
+}
+
+// Whether these are rows of the schema whose keys rise.
+fn do_rise(alloc: Global, schema: &Schema, rows: &Rows) -> Result<bool, AllocError>
+    ensures { IfOk result (λ may. may ≡ may_rise schema.now rows.now) }
+{
+    let mut last: Option<Vec<u8>> = None;
+    for i in 0..rows.len() {
+        let Ok(row) = RowRef::parse(schema, rows.row(i)) else {
+            return Ok(false);
+        };
+        let key = row.key(alloc)?;
+        if !is_behind(schema, &last, &key) {
+            return Ok(false);
+        }
+        last = Some(key);
+    }
+    Ok(true)
+}
+
+// Whether a key comes behind the last one, where there is one.
+fn is_behind(schema: &Schema, last: &Option<Vec<u8>>, key: &[u8]) -> bool
+    requires last { IfSome last.now (λ last. is_key schema.now last.items ≡ true) }
+    requires key { is_key schema.now key.now ≡ true }
+    ensures { result ≡ comes_behind schema.now (copied last.now) key.now }
+{
+    match last {
+        Some(last) => compare_keys(schema, last, key).is_lt(),
+        None => true,
     }
 }

@@ -55,8 +55,11 @@ pub fn read_ahead<'a, S: Source>(
     requires { S.holds source.old tables.now.tables }
     ensures may { IfOk result (λ read. may_be_read (store_in tables.now) read ≡ true) }
     ensures stands { IfOk result (λ read. StandsFor S.is_told (given_by (store_in tables.now) read) (store_in tables.now)) }
+    ensures read { IfOk result (λ read. IsReadBy S.reads read source.old source.new) }
     ensures source { LeavesReader (MayRead S.reads) S.fails_to_read source.old result source.new }
 {
+    // The tables are a store.
+    let _count = tables.count();
     let read = read_unjudged(source, alloc, tables, wanted)?;
     if !is_possible(alloc, tables, &read)? {
         source.fail();

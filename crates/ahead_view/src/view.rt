@@ -5,7 +5,7 @@ ghost use Rattle.ahead_view.specs.Ahead.{may_be_read};
 ghost use Rattle.ahead_view.specs.Given.{given_by};
 ghost use Rattle.paged_tables.specs.PagedTables.{store_in};
 
-use crate::given::GivenStore;
+use crate::given::{GivenStore, note_given};
 use crate::reading::{ReadAhead, take_row, take_rows};
 use drda_words::GhostValue;
 use paged_tables::PagedTables;
@@ -44,7 +44,7 @@ impl<'a, 'b> AheadView<'a, 'b> {
     {
         // The tables that are lent are a store.
         let _left = tables.lend();
-        let given = GhostValue::of(&(tables, &read));
+        let given = note_given(tables, &read);
         AheadView {
             tables,
             read,

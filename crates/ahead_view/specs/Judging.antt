@@ -1,0 +1,35 @@
+-- What rows a table of a schema may have, and how they are judged one by one.
+use Rattle.std.specs.Prelude.{◌&&◌, ◌==◌, ℕ, Bool, List, [], ◌∷◌, Option, Some, None, length, map, true}
+use Rattle.std.specs.List.{list_all}
+use Rattle.std.specs.Ordering.{is_lt}
+use Rattle.drda_words.specs.Order.{rises}
+use Rattle.row_values.specs.Key.{key_cmp, row_key}
+use Rattle.row_values.specs.Row.{is_row}
+use Rattle.row_values.specs.Schema.{Schema}
+use Rattle.tables.specs.Tables.{is_row_at}
+
+-- no row, or a row of the schema at that key; without a table no row
+abbrev pub may_be_row : Option Schema → Option (List ℕ) → List ℕ → Bool
+may_be_row schema None key = true
+may_be_row schema (Some row) key = is_row_at schema row key
+
+-- rows of the schema whose keys rise
+abbrev pub do_rise : Schema → List (List ℕ) → Bool
+do_rise schema rows = list_all (is_row schema) rows && rises (key_cmp schema) (map (row_key schema) rows)
+
+-- such rows; without a table none
+abbrev pub may_be_rows : Option Schema → List (List ℕ) → Bool
+may_be_rows None rows = length rows == 0
+may_be_rows (Some schema) rows = do_rise schema rows
+
+-- ---- one row behind another
+
+-- whether a key comes behind the last one, where there is one
+abbrev pub is_behind : Schema → Option (List ℕ) → List ℕ → Bool
+is_behind schema None key = true
+is_behind schema (Some last) key = is_lt (key_cmp schema last key)
+
+-- rows go on behind a key: each is one of the schema, and its key comes behind the one before
+abbrev pub go_on : Schema → Option (List ℕ) → List (List ℕ) → Bool
+go_on schema last [] = true
+go_on schema last (row ∷ rows) = is_row schema row && (is_behind schema last (row_key schema row) && go_on schema (Some (row_key schema row)) rows)
