@@ -5,7 +5,7 @@ ghost use Rattle.ahead_view.specs.Ahead.{may_be_read};
 ghost use Rattle.ahead_view.specs.Given.{given_by};
 ghost use Rattle.paged_tables.specs.PagedTables.{store_in};
 
-use crate::given::{GivenStore, note_given};
+use crate::given::GivenStore;
 use crate::reading::{ReadAhead, take_row, take_rows};
 use drda_words::GhostValue;
 use paged_tables::PagedTables;
@@ -42,9 +42,10 @@ impl<'a, 'b> AheadView<'a, 'b> {
         requires { may_be_read (store_in tables.now) read ≡ true }
         ensures { result ≡ record { store = given_by (store_in tables.now) read.entry; read = read.entry } }
     {
-        // The tables that are lent are a store.
-        let _left = tables.lend();
-        let given = note_given(tables, &read);
+        // The tables are a store.
+        let _count = tables.count();
+        let mut given = GhostValue::of(tables);
+        given.set(&read);
         AheadView {
             tables,
             read,

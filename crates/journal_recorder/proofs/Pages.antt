@@ -1,17 +1,17 @@
 -- What a record or a read leaves of tables whose pages can be read.
-use Rattle.std.proofs.Common.{◌≡◌, ℕ, ◌+◌, ◌-◌, Bool, true, false, IsTrue, List, [], length, sym, ap, subst, rules}
-use Rattle.drda_disk.specs.Disk.{Life, Stays}
+use Rattle.std.proofs.Common.{◌≡◌, ℕ, ◌-◌, Bool, true, false, IsTrue, List, [], length, sym, ap, subst, rules}
+use Rattle.drda_disk.specs.Disk.{Life}
 use Rattle.drda_disk.specs.Region.{SameOutside, end_of}
 use Rattle.drda_disk.specs.declared.region.Region.{Region}
 use Rattle.half_store.specs.Layout.{half_len}
 use Rattle.row_pages.specs.Keeping.{AreRead, Kept}
-use Rattle.paged_tables.specs.TablesByName.{AreOnPages, LieInside, LieOutside, PagesStay, Tables}
+use Rattle.paged_tables.specs.TablesByName.{AreOnPages, LieInside, LieOutside, Tables}
 use Rattle.unit_journal.specs.Journal.{region_of}
 use Rattle.unit_records.specs.Records.{UnitRecord}
 use Rattle.unit_records.specs.declared.record_error.RecordError.{RecordError}
 use Rattle.unit_records.specs.declared.record_error.RecordError.TheVariants as record_error
 use Rattle.journal_recorder.specs.Reading.{HasPages, PagesAreKept}
-use Rattle.journal_recorder.specs.Recording.{AreLeftOpen, Fails, Records, RecordsAll, cache_of, disk_of, has_failed, journal_of}
+use Rattle.journal_recorder.specs.Recording.{Fails, cache_of, disk_of, has_failed, journal_of}
 use Rattle.journal_recorder.specs.declared.recorder.DiskRecorder.{DiskRecorder}
 use Rattle.journal_recorder.proofs.Standing.{all_move, in_front}
 

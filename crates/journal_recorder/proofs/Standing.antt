@@ -1,9 +1,7 @@
 -- Pages that stand in an image stand in one that was written elsewhere.
-use Rattle.std.proofs.Common.{◌≡◌, ◌⊎◌, inl, inr, ⊎_elim, ℕ, ◌+◌, ◌-◌, ◌*◌, ◌≤◌, List, [], ◌∷◌, length, ap, ◌∙◌, arith}
-use Rattle.std.specs.List.{AllByRecursion}
+use Rattle.std.proofs.Common.{◌≡◌, inl, inr, ⊎_elim, ℕ, ◌+◌, ◌-◌, ◌≤◌, List, [], ◌∷◌, length, ap, ◌∙◌, arith}
 use Rattle.drda_disk.specs.Disk.{Torn}
-use Rattle.half_store.specs.Active.{Store}
-use Rattle.half_store.specs.Layout.{half_len, offset_of, other_than}
+use Rattle.half_store.specs.Layout.{offset_of, other_than}
 use Rattle.half_store.specs.declared.layout.Half.{Half}
 use Rattle.half_store.specs.declared.layout.Half.TheVariants.{First, Second}
 use Rattle.checkpoint_writer.proofs.MergedRows.{at_moves, many_keys}

@@ -1,5 +1,5 @@
 -- Which tables' pages a recorder can read, and what a read makes of it.
-use Rattle.std.specs.Prelude.{◌≡◌, ◌⊎◌, ℕ, ◌+◌, ◌-◌, Bool, true, false, IsTrue, List, length}
+use Rattle.std.specs.Prelude.{◌≡◌, ◌⊎◌, ◌+◌, ◌-◌, Bool, true, false, IsTrue, List, length}
 use Rattle.drda_disk.specs.Disk.{Life, Stays}
 use Rattle.drda_disk.specs.Region.{end_of}
 use Rattle.half_store.specs.Layout.{half_len}
@@ -42,8 +42,8 @@ module _ {D : Type 0} (modelled : Bool) (life : D → Life) where
     pub failed : has_failed new ≡ has_failed old
     pub pages : (tables : Tables) → HasPages old tables → HasPages new tables
 
-  -- The device failed in a read, or had failed before, or gave back what is no page, which one that gives back what was
-  -- written does not.
+  -- The device failed in a read, or had failed before, or gave back what is no page, or rows that are none of their table,
+  -- which one that gives back what was written does not.
   pub record FailsToRead (old new : DiskRecorder D) : Type 0 where
     pub stays : Stays (life (disk_of old)) (life (disk_of new))
     pub faults : IsTrue modelled → has_failed old ≡ false → (life (disk_of new)).faults ≡ (life (disk_of old)).faults + 1
