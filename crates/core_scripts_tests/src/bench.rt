@@ -5,27 +5,51 @@ use crate::room::Room;
 use crate::shown::{push_branches, push_changes, push_state};
 use core_calls::{Answer, CoreCall};
 use rdb_core::Core;
-use std::alloc::Global;
+use std::alloc::{AllocError, Global};
+use std::marker::Model;
 use tables::TableView;
 use test_calls::{Calls, Scripts, push_text, xid_of};
+use test_core::Unpaged;
 use unit_records::{BranchCall, GroupError, Phase, RecordError};
 use xa_calls::{InvalidRequest, Request, Xid};
 use xa_manager::{BranchState, Decision};
 
-/// A core.
+/// A core whose tables have no pages.
 #[derive(Drop)]
 pub struct Bench {
     alloc: Global,
-    core: Core<Room>,
+    core: Core<Unpaged<Room>>,
+}
+
+impl Model for Bench {
+    ghost use Rattle.paged_tables.specs.TablesByName.{LieInside};
+    ghost use Rattle.rdb_core.specs.State.{pages_of};
+    ghost use Rattle.rdb_core.specs.declared.engine.Core.{Core};
+    ghost use Rattle.test_core.specs.declared.unpaged.Unpaged.{Unpaged};
+    ghost use Rattle.core_scripts_tests.specs.declared.room.Room.{Room};
+
+    ghost Value = { Core (Unpaged Room) };
+
+    ghost view = { λ b. b.core };
+
+    ghost invariant = { λ b. LieInside 0 (pages_of b.core) };
 }
 
 impl Bench {
     /// A core without tables.
-    pub fn new(alloc: Global) -> Bench {
-        Bench {
+    pub fn new(alloc: Global) -> Result<Bench, AllocError> {
+        let room = Unpaged::new(alloc, Room::ample())?;
+        Ok(Bench {
             alloc,
-            core: Core::start(alloc, Room::ample()),
-        }
+            core: Core::start(alloc, room),
+        })
+    }
+
+    // A core without tables again.
+    fn restart(&mut self) -> Option<()> {
+        let room = Unpaged::new(self.alloc, Room::ample()).ok()?;
+        self.core = Core::start(self.alloc, room);
+        Some(())
     }
 
     // How many branches are in doubt.
@@ -41,13 +65,13 @@ impl Bench {
         count
     }
 
-    fn push_count(&self, verb: &str, out: &mut Vec<u8>) -> Option<()> {
+    fn push_count(&mut self, verb: &str, out: &mut Vec<u8>) -> Option<()> {
         let plain = self.core.plain().ok()?;
         let count = match verb {
             "tables" => plain.into_tables().tables().ok()?,
             "known" => plain.branches().len(),
             "doubts" => self.count_in_doubt(),
-            "records" => self.core.recorder().records,
+            "records" => self.core.recorder.recorder.records,
             _ => return None,
         };
         push_text(out, &format!(in self.alloc; "{count} {verb}").ok()?)
@@ -155,7 +179,7 @@ impl Calls for Bench {
     ) -> Option<()> {
         match verb {
             "fresh" => {
-                self.core = Core::start(self.alloc, Room::ample());
+                self.restart()?;
                 push_text(out, "no table")
             }
             "look" => push_state(self.alloc, self.core.plain().ok()?, out),
@@ -165,7 +189,7 @@ impl Calls for Bench {
             "through" => self.push_through(rest, out),
             "decide" => self.push_decided(rest, out),
             "room" => {
-                self.core.recorder.changes = rest.parse::<usize>().ok()?;
+                self.core.recorder.recorder.changes = rest.parse::<usize>().ok()?;
                 push_text(out, "so many")
             }
             _ => self.push_count(verb, out),

@@ -2,19 +2,35 @@
 
 use core_calls::{Answer, CoreCall, Refusal};
 use rdb_core::Core;
-use std::alloc::Global;
+use std::alloc::{AllocError, Global};
+use std::marker::Model;
 use test_bytes::bytes_of;
 use test_calls::{Calls, Scripts, push_answer, push_text, xid_of};
+use test_core::Unpaged;
 use unit_records::NoRecords;
 use xa_calls::{InvalidRequest, Request};
 use xa_manager::{BranchState, Decision};
 
-/// A core, and what its last answer has besides.
+/// A core whose tables have no pages, and what its last answer has besides.
 #[derive(Drop)]
 pub struct Bench {
     alloc: Global,
-    core: Core<NoRecords>,
+    core: Core<Unpaged<NoRecords>>,
     besides: Vec<u8>,
+}
+
+impl Model for Bench {
+    ghost use Rattle.paged_tables.specs.TablesByName.{LieInside};
+    ghost use Rattle.unit_records.specs.declared.memory.NoRecords.{NoRecords};
+    ghost use Rattle.rdb_core.specs.State.{pages_of};
+    ghost use Rattle.rdb_core.specs.declared.engine.Core.{Core};
+    ghost use Rattle.test_core.specs.declared.unpaged.Unpaged.{Unpaged};
+
+    ghost Value = { Core (Unpaged NoRecords) };
+
+    ghost view = { λ b. b.core };
+
+    ghost invariant = { λ b. LieInside 0 (pages_of b.core) };
 }
 
 // The bytes that a word spells, which is - where there are none.
@@ -39,17 +55,20 @@ fn request_of(alloc: Global, text: &str) -> Option<Result<Request, InvalidReques
 
 impl Bench {
     /// A core without tables.
-    pub fn new(alloc: Global) -> Bench {
-        Bench {
+    pub fn new(alloc: Global) -> Result<Bench, AllocError> {
+        let none = Unpaged::new(alloc, NoRecords)?;
+        Ok(Bench {
             alloc,
-            core: Core::start(alloc, NoRecords),
+            core: Core::start(alloc, none),
             besides: Vec::new(alloc),
-        }
+        })
     }
 
     /// A core without tables again.
-    pub fn restart(&mut self) {
-        self.core = Core::start(self.alloc, NoRecords);
+    pub fn restart(&mut self) -> Result<(), AllocError> {
+        let none = Unpaged::new(self.alloc, NoRecords)?;
+        self.core = Core::start(self.alloc, none);
+        Ok(())
     }
 
     // What becomes of a branch that is to be decided heuristically.

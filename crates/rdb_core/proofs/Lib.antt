@@ -7,3 +7,4 @@ pub mod Pages
 pub mod Questions
 pub mod Back
 pub mod Phases
+pub mod Standing

@@ -7,6 +7,7 @@ pub mod Looks
 pub mod Question
 pub mod Sight
 pub mod Found
+pub mod Given
 pub mod Restored
 pub mod Copied
 pub mod PlainState

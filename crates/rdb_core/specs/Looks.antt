@@ -1,5 +1,5 @@
 -- A statement reads rows of the committed tables before its step is taken.
-use Rattle.std.specs.Prelude.{◌≡◌, ◌⊎◌, ℕ, Bool, true, false, List, Err}
+use Rattle.std.specs.Prelude.{◌≡◌, ◌⊎◌, ℕ, Bool, true, false, Err}
 use Rattle.ahead_view.specs.Source.{LeavesReader}
 use Rattle.ahead_view.specs.declared.source.ReadError.{ReadError}
 use Rattle.ahead_view.specs.declared.source.ReadError.TheVariants as error

@@ -1,6 +1,6 @@
 //! What becomes of a question of a unit.
 
-ghost use Rattle.std.specs.Prelude.{◌≡◌, IfOk, IsTrue, None, OnErr, OnOk, false, map, true};
+ghost use Rattle.std.specs.Prelude.{◌≡◌, IfOk, None, OnErr, OnOk, false, map, true};
 ghost use Rattle.tables.specs.ChangeView.{change_of};
 ghost use Rattle.ahead_view.specs.Source.{LeavesReader, MayRead};
 ghost use Rattle.core_calls.specs.Answer.{answer_of};
@@ -10,10 +10,9 @@ ghost use Rattle.core_model.specs.Units.{clashes, left_of, others, unit_of, view
 ghost use Rattle.paged_tables.specs.PagedTables.{store_in};
 ghost use Rattle.unit_table.specs.Owner.{plain_owner};
 ghost use Rattle.rdb_core.specs.Base.{base_of};
-ghost use Rattle.rdb_core.specs.Found.{FindsFree, FindsOver};
-ghost use Rattle.rdb_core.specs.Looks.{StaysButFor};
+ghost use Rattle.rdb_core.specs.Found.{FindsOver};
+ghost use Rattle.rdb_core.specs.Given.{IsAsked, IsGiven};
 ghost use Rattle.rdb_core.specs.Question.{question_of};
-ghost use Rattle.rdb_core.specs.Sight.{seen_by};
 ghost use Rattle.rdb_core.specs.Steps.{units_after};
 
 use crate::finding::{Found, find, find_description};
@@ -43,9 +42,7 @@ pub(crate) fn ask_unit<R: Source>(
 ) -> Result<Answer, ReadError>
     requires fit { unfit (question_of question) ≡ None }
     requires holds { R.holds source.old tables.now.tables }
-    ensures answer { IsTrue R.is_told → IfOk result (λ told. answer_of told ≡ answer_in (asked_of (base_of tables.now units.old) (plain_owner owner.now) (question_of question.entry))) }
-    ensures base { IsTrue R.is_told → OnOk result (base_of tables.now units.new ≡ happens_asked (base_of tables.now units.old) (plain_owner owner.now) (asked_of (base_of tables.now units.old) (plain_owner owner.now) (question_of question.entry))) }
-    ensures anyhow { OnOk result (StaysButFor (plain_owner owner.now) units.old units.new) }
+    ensures given { IfOk result (λ told. IsGiven R.is_told R.reads (store_in tables.now) source.old source.new (IsAsked (plain_owner owner.now) (question_of question.entry) units.old units.new (answer_of told))) }
     ensures kept { OnErr result (units.new ≡ units.old) }
     ensures source { LeavesReader (MayRead R.reads) R.fails_to_read source.old result source.new }
     ensures clash { asked_of (base_of tables.now units.old) (plain_owner owner.now) (question_of question.entry) ≡ Clashes → source.new ≡ source.old }
@@ -87,8 +84,7 @@ fn look<R: Source>(
     question: Question<'_, '_>,
 ) -> Result<Option<Found>, ReadError>
     requires holds { R.holds source.old tables.now.tables }
-    ensures free { IfOk result (λ found. FindsFree found (others (plain_owner owner.now) units.now) (claims_of (question_of question.entry) (view (store_in tables.now) (unit_of (plain_owner owner.now) units.now)))) }
-    ensures found { IsTrue R.is_told → IfOk result (λ found. FindsOver found (others (plain_owner owner.now) units.now) (question_of question.entry) (left_of (unit_of (plain_owner owner.now) units.now)) (view (store_in tables.now) (unit_of (plain_owner owner.now) units.now))) }
+    ensures found { IfOk result (λ found. IsGiven R.is_told R.reads (store_in tables.now) source.old source.new (λ given. FindsOver found (others (plain_owner owner.now) units.now) (question_of question.entry) (left_of (unit_of (plain_owner owner.now) units.now)) (view given (unit_of (plain_owner owner.now) units.now)))) }
     ensures source { LeavesReader (MayRead R.reads) R.fails_to_read source.old result source.new }
     ensures clash { clashes (claims_of (question_of question.entry) (view (store_in tables.now) (unit_of (plain_owner owner.now) units.now))) (others (plain_owner owner.now) units.now) ≡ true → source.new ≡ source.old }
 {
@@ -153,7 +149,6 @@ fn conclude(units: &mut Units, owner: &Owner, found: Found) -> Result<Answer, Al
     requires { clashes found.claims.items (others (plain_owner owner.now) units.old) ≡ false }
     ensures answer { IfOk result (λ told. answer_of told ≡ answer_in (outcome (others (plain_owner owner.now) units.old) (unit_of (plain_owner owner.now) units.old) found.claims.items (answer_of found.answer) (map change_of found.changes.items))) }
     ensures units { OnOk result (units.new ≡ units_after units.old (plain_owner owner.now) (outcome (others (plain_owner owner.now) units.old) (unit_of (plain_owner owner.now) units.old) found.claims.items (answer_of found.answer) (map change_of found.changes.items))) }
-    ensures anyhow { OnOk result (StaysButFor (plain_owner owner.now) units.old units.new) }
     ensures kept { OnErr result (units.new ≡ units.old) }
 {
     let Found {

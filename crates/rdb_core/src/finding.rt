@@ -3,17 +3,20 @@
 ghost use Rattle.std.specs.Prelude.{◌≡◌, [], IfOk, IsTrue, List, None, false, map, true};
 ghost use Rattle.row_values.specs.Value.{Value as SqlValue, value_of};
 ghost use Rattle.sql_text.specs.declared.tree.Command.{Command as SqlCommand};
+ghost use Rattle.tables.specs.Applied.{apply_all};
 ghost use Rattle.tables.specs.Tables.{schema_of};
 ghost use Rattle.tables.specs.View.{is_store};
 ghost use Rattle.sql_semantics.specs.Describe.{described};
-ghost use Rattle.sql_semantics.specs.Frame.{changes_of, claims_in, covered_answer};
+ghost use Rattle.sql_semantics.specs.Frame.{claims_in};
 ghost use Rattle.sql_semantics.specs.Scope.{table_name};
 ghost use Rattle.small_sql.specs.Bound.{IsBound, IsOver};
 ghost use Rattle.ahead_view.specs.Source.{LeavesReader, MayRead};
-ghost use Rattle.core_model.specs.Asked.{claims_of, described_claims, describing, is_create, meant, told, unfit};
+ghost use Rattle.core_model.specs.Asked.{claims_of, described_claims, describing, is_create, told, unfit};
 ghost use Rattle.core_model.specs.Units.{clashes, left_of, others, unit_of};
 ghost use Rattle.unit_table.specs.Owner.{plain_owner};
-ghost use Rattle.rdb_core.specs.Found.{Finds, FindsFree, FindsOver};
+ghost use Rattle.paged_tables.specs.PagedTables.{store_in};
+ghost use Rattle.rdb_core.specs.Found.{Finds, FindsIn, FindsOver};
+ghost use Rattle.rdb_core.specs.Given.{IsGiven};
 ghost use Rattle.rdb_core.specs.Question.{question_of};
 ghost use Rattle.rdb_core.specs.Sight.{seen_by};
 
@@ -52,8 +55,7 @@ pub(crate) fn find<R: Source>(
     question: Question<'_, '_>,
 ) -> Result<Option<Found>, ReadError>
     requires holds { R.holds source.old sight.now.tables.now.tables }
-    ensures free { IfOk result (λ found. FindsFree found (others (plain_owner owner.now) units.now) (claims_of (question_of question.entry) (seen_by sight.now))) }
-    ensures found { IsTrue R.is_told → IfOk result (λ found. FindsOver found (others (plain_owner owner.now) units.now) (question_of question.entry) (left_of (unit_of (plain_owner owner.now) units.now)) (seen_by sight.now)) }
+    ensures found { IfOk result (λ found. IsGiven R.is_told R.reads (store_in sight.now.tables.now) source.old source.new (λ given. FindsOver found (others (plain_owner owner.now) units.now) (question_of question.entry) (left_of (unit_of (plain_owner owner.now) units.now)) (apply_all sight.now.changes.now given))) }
     ensures source { LeavesReader (MayRead R.reads) R.fails_to_read source.old result source.new }
     ensures clash { clashes (claims_of (question_of question.entry) (seen_by sight.now)) (others (plain_owner owner.now) units.now) ≡ true → source.new ≡ source.old }
 {
@@ -80,8 +82,7 @@ fn find_statement<R: Source>(
     parameters: &[Value<'_>],
 ) -> Result<Option<Found>, ReadError>
     requires holds { R.holds source.old sight.now.tables.now.tables }
-    ensures free { IfOk result (λ found. FindsFree found (others (plain_owner owner.now) units.now) (claims_in (map value_of parameters.now) command.now (seen_by sight.now))) }
-    ensures found { IsTrue R.is_told → IfOk result (λ found. Finds found (others (plain_owner owner.now) units.now) (claims_in (map value_of parameters.now) command.now (seen_by sight.now)) (meant (covered_answer (map value_of parameters.now) (left_of (unit_of (plain_owner owner.now) units.now)) command.now (seen_by sight.now))) (changes_of (covered_answer (map value_of parameters.now) (left_of (unit_of (plain_owner owner.now) units.now)) command.now (seen_by sight.now)))) }
+    ensures found { IfOk result (λ found. IsGiven R.is_told R.reads (store_in sight.now.tables.now) source.old source.new (λ given. FindsIn found (others (plain_owner owner.now) units.now) (map value_of parameters.now) (left_of (unit_of (plain_owner owner.now) units.now)) command.now (apply_all sight.now.changes.now given))) }
     ensures source { LeavesReader (MayRead R.reads) R.fails_to_read source.old result source.new }
     ensures clash { clashes (claims_in (map value_of parameters.now) command.now (seen_by sight.now)) (others (plain_owner owner.now) units.now) ≡ true → source.new ≡ source.old }
 {
@@ -103,8 +104,7 @@ fn find_bound<R: Source>(
     requires holds { R.holds source.old sight.now.tables.now.tables }
     requires over { IsOver bound.now (seen_by sight.now) }
     requires good { is_store (seen_by sight.now) ≡ true }
-    ensures free { IfOk result (λ found. (params : List SqlValue) (c : SqlCommand) → IsBound params c bound.now → FindsFree found (others (plain_owner owner.now) units.now) (claims_in params c (seen_by sight.now))) }
-    ensures found { IsTrue R.is_told → IfOk result (λ found. (params : List SqlValue) (c : SqlCommand) → IsBound params c bound.now → Finds found (others (plain_owner owner.now) units.now) (claims_in params c (seen_by sight.now)) (meant (covered_answer params (left_of (unit_of (plain_owner owner.now) units.now)) c (seen_by sight.now))) (changes_of (covered_answer params (left_of (unit_of (plain_owner owner.now) units.now)) c (seen_by sight.now)))) }
+    ensures found { IfOk result (λ found. IsGiven R.is_told R.reads (store_in sight.now.tables.now) source.old source.new (λ given. (params : List SqlValue) (c : SqlCommand) → IsBound params c bound.now → FindsIn found (others (plain_owner owner.now) units.now) params (left_of (unit_of (plain_owner owner.now) units.now)) c (apply_all sight.now.changes.now given))) }
     ensures source { LeavesReader (MayRead R.reads) R.fails_to_read source.old result source.new }
     ensures clash { (params : List SqlValue) (c : SqlCommand) → IsBound params c bound.now → clashes (claims_in params c (seen_by sight.now)) (others (plain_owner owner.now) units.now) ≡ true → source.new ≡ source.old }
 {

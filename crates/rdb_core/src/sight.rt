@@ -12,10 +12,11 @@ ghost use Rattle.core_calls.specs.Answer.{answer_of};
 ghost use Rattle.core_model.specs.Asked.{meant};
 ghost use Rattle.paged_tables.specs.PagedTables.{store_in};
 ghost use Rattle.ahead_view.specs.Source.{LeavesReader, MayRead};
+ghost use Rattle.rdb_core.specs.Given.{IsGiven, IsReplied};
 ghost use Rattle.rdb_core.specs.Sight.{seen_by};
 
 use crate::reply::{Reply, statement_reply};
-use ahead_view::{AheadView, ReadAhead, ReadError, Source, Told, Wanted, read_ahead};
+use ahead_view::{AheadView, ReadAhead, ReadError, Source, Wanted, read_ahead};
 use paged_tables::PagedTables;
 use row_values::Value;
 use small_sql::Bound;
@@ -34,7 +35,7 @@ pub(crate) struct Sight<'a> {
 
 impl<'a> Sight<'a> {
     /// The committed tables without their rows.
-    pub(crate) fn schemas(&self) -> AheadView<'a, 'static, Told>
+    pub(crate) fn schemas(&self) -> AheadView<'a, 'static>
         ensures { result.store ≡ store_in self.now.tables.now }
     {
         AheadView::new(self.tables, ReadAhead::Nothing)
@@ -64,7 +65,8 @@ impl<'a> Sight<'a> {
     }
 
     /// What a bound statement is answered, and which changes it makes, where so many bytes of changes are
-    /// left: the committed rows that it asks for are read first.
+    /// left: the committed rows that it asks for are read first, and it is answered over the tables that
+    /// have what was read.
     pub(crate) fn reply<R: Source>(
         &self,
         source: &mut R,
@@ -75,12 +77,11 @@ impl<'a> Sight<'a> {
         requires holds { R.holds source.old self.now.tables.now.tables }
         requires over { IsOver bound.now (seen_by self.now) }
         requires good { is_store (seen_by self.now) ≡ true }
-        ensures answer { IsTrue R.is_told → IfOk result (λ r. (params : List SqlValue) (c : SqlCommand) → IsBound params c bound.now → answer_of r.answer ≡ meant (covered_answer params left c (seen_by self.now))) }
-        ensures changes { IsTrue R.is_told → IfOk result (λ r. (params : List SqlValue) (c : SqlCommand) → IsBound params c bound.now → map change_of r.changes.items ≡ changes_of (covered_answer params left c (seen_by self.now))) }
+        ensures given { IfOk result (λ r. IsGiven R.is_told R.reads (store_in self.now.tables.now) source.old source.new (λ given. IsReplied bound.now left (apply_all self.now.changes.now given) r)) }
         ensures source { LeavesReader (MayRead R.reads) R.fails_to_read source.old result source.new }
     {
         let read = read_ahead(source, self.alloc, self.tables, wanted)?;
-        let base = AheadView::<R>::new(self.tables, read);
+        let base = AheadView::new(self.tables, read);
         match reply_over(base, self.changes, self.alloc, bound, left) {
             Ok(reply) => Ok(reply),
             Err(AllocError) => Err(ReadError::NoMemory),

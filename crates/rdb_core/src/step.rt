@@ -1,6 +1,6 @@
 //! The core's one step.
 
-ghost use Rattle.std.specs.Prelude.{◌≡◌, IsTrue, None, Some, false, map};
+ghost use Rattle.std.specs.Prelude.{◌≡◌, None, Some, false, map};
 ghost use Rattle.row_values.specs.Value.{value_of};
 ghost use Rattle.paged_tables.specs.TablesByName.{PagesStay};
 ghost use Rattle.unit_records.specs.Records.{UnitRecord};

@@ -2,23 +2,34 @@
 
 ghost use Rattle.std.specs.Prelude.{◌≡◌};
 
-use ahead_view::{ReadError, Source, Telling};
-use drda_disk::MemDisk;
+use ahead_view::{ReadError, Source};
 use paged_tables::PagedTables;
-use row_pages::{PageCache, PageFault};
 use std::alloc::{AllocError, Global};
 use tables::Rows;
+use test_core::Reader;
 use unit_records::{GroupError, RecordContents, RecordError, Recorder};
 
-/// Makes so many records, and refuses those that follow. Reads rows of tables without pages, counts the reads, and
-/// refuses each while it has a fault.
+/// What a read gives in the place of a row.
+#[derive(Clone, Copy)]
+pub enum Given {
+    /// The row itself.
+    Written,
+    /// The row with another last byte.
+    Other,
+    /// The row without its last byte.
+    Cut,
+}
+
+/// Makes so many records, and refuses those that follow. Reads rows of tables without pages, counts the reads and
+/// those in which the device counts as failed, and refuses each while it has a fault.
 #[derive(Drop)]
 pub struct Few {
     pub left: u32,
     pub reads: u32,
+    pub failures: u32,
     pub fault: Option<ReadError>,
-    cache: PageCache,
-    disk: MemDisk,
+    pub given: Given,
+    reader: Reader,
 }
 
 impl Few {
@@ -27,9 +38,10 @@ impl Few {
         Ok(Few {
             left,
             reads: 0,
+            failures: 0,
             fault: None,
-            cache: PageCache::new(alloc, 1)?,
-            disk: MemDisk::new(alloc, 0)?,
+            given: Given::Written,
+            reader: Reader::new(alloc)?,
         })
     }
 
@@ -41,28 +53,42 @@ impl Few {
             None => Ok(()),
         }
     }
-}
 
-// The device has nothing that could be damaged.
-fn unread(fault: PageFault) -> ReadError {
-    match fault {
-        PageFault::NoMemory => ReadError::NoMemory,
-        PageFault::DeviceFailed | PageFault::Damaged => ReadError::DeviceFailed,
+    // What is given in the place of a row.
+    fn give(&self, alloc: Global, row: &[u8]) -> Result<Vec<u8>, AllocError> {
+        let mut bytes = Vec::from_slice(alloc, row)?;
+        match self.given {
+            Given::Written => {}
+            Given::Other => flip_last(&mut bytes),
+            Given::Cut => {
+                let _last = bytes.pop();
+            }
+        }
+        Ok(bytes)
+    }
+
+    // What is given in the place of rows.
+    fn give_all(&self, alloc: Global, rows: &Rows) -> Result<Rows, AllocError> {
+        let mut given = Rows::new(alloc);
+        for i in 0..rows.len() {
+            given.push(self.give(alloc, rows.row(i))?.as_slice())?;
+        }
+        Ok(given)
     }
 }
 
-impl Telling for Few {
-    ghost use Rattle.std.specs.Prelude.{false};
-
-    ghost is_told = { false };
-
-    fn tells() -> bool {
-        false
+// Makes the last byte another one.
+fn flip_last(bytes: &mut Vec<u8>) {
+    if let Some(last) = bytes.last_mut() {
+        *last ^= 1;
     }
 }
 
 impl Source for Few {
+    ghost use Rattle.std.specs.Prelude.{false};
     ghost use Rattle.paged_tables.specs.TablesByName.{LieInside};
+
+    ghost is_told = { false };
 
     ghost holds = { λ _ tables. LieInside 0 tables };
 
@@ -78,9 +104,9 @@ impl Source for Few {
         key: &[u8],
     ) -> Result<Option<Vec<u8>>, ReadError> {
         self.count_read()?;
-        match tables.row(alloc, &mut self.cache, &mut self.disk, table, key) {
-            Ok(row) => Ok(row),
-            Err(fault) => Err(unread(fault)),
+        match self.reader.row(alloc, tables, table, key)? {
+            Some(row) => Ok(Some(self.give(alloc, row.as_slice())?)),
+            None => Ok(None),
         }
     }
 
@@ -91,10 +117,12 @@ impl Source for Few {
         table: &str,
     ) -> Result<Rows, ReadError> {
         self.count_read()?;
-        match tables.rows(alloc, &mut self.cache, &mut self.disk, table) {
-            Ok(rows) => Ok(rows),
-            Err(fault) => Err(unread(fault)),
-        }
+        let rows = self.reader.rows(alloc, tables, table)?;
+        Ok(self.give_all(alloc, &rows)?)
+    }
+
+    fn fail(&mut self) {
+        self.failures = self.failures.saturating_add(1);
     }
 
     ghost still_holds = { λ _ _ _ _ h. h };

@@ -1,6 +1,7 @@
 //! What is read of the committed tables.
 
 use crate::bench::Bench;
+use crate::few::Given;
 use crate::fixtures::rows_for;
 use ahead_view::ReadError;
 use core_calls::{Answer, Refusal};
@@ -94,6 +95,48 @@ fn tells_why_no_row_was_read(rt: HostRuntime) -> Result<(), Fail> {
     bench.core.recorder.fault = None;
     let deleted = rows_for(rt.alloc(), &mut bench, 2, "DELETE FROM T");
     assert_eq!(rt; deleted, Some(1));
+    Ok(())
+}
+
+// Where the device gives back what is no row of the table it counts as failed, and the unit has claimed nothing.
+#[test]
+fn counts_what_is_no_row_as_a_failure(rt: HostRuntime) -> Result<(), Fail> {
+    let Some(mut bench) = filled(rt.alloc()) else {
+        return Err(Fail::from("no table"));
+    };
+    bench.core.recorder.given = Given::Cut;
+    for text in ["SELECT V FROM T", "DELETE FROM T WHERE K = 1"] {
+        let failed = bench.ask(rt.alloc(), 1, text);
+        assert!(rt; matches!(failed, Some(Answer::DeviceFailed)));
+    }
+    assert_eq!(rt; bench.core.recorder.failures, 2);
+    bench.core.recorder.given = Given::Written;
+    let deleted = rows_for(rt.alloc(), &mut bench, 2, "DELETE FROM T");
+    assert_eq!(rt; deleted, Some(1));
+    Ok(())
+}
+
+// Where the device gives other rows of the table a statement is answered over these: 11 is in the place of 10. The
+// committed rows stay.
+#[test]
+fn answers_over_the_rows_that_are_given(rt: HostRuntime) -> Result<(), Fail> {
+    let Some(mut bench) = filled(rt.alloc()) else {
+        return Err(Fail::from("no table"));
+    };
+    bench.core.recorder.given = Given::Other;
+    let asked = [
+        ("SELECT K FROM T WHERE V = 10", 0),
+        ("SELECT K FROM T WHERE V = 11", 1),
+        ("UPDATE T SET V = 12 WHERE V = 11", 1),
+    ];
+    for (text, rows) in asked {
+        assert_eq!(rt; rows_for(rt.alloc(), &mut bench, 1, text), Some(rows));
+    }
+    drop(bench.roll_back(1));
+    bench.core.recorder.given = Given::Written;
+    let left = rows_for(rt.alloc(), &mut bench, 2, "SELECT K FROM T WHERE V = 10");
+    assert_eq!(rt; left, Some(1));
+    assert_eq!(rt; bench.core.recorder.failures, 0);
     Ok(())
 }
 

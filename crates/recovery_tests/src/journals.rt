@@ -1,10 +1,15 @@
 //! What the records of journals lead to.
 
+ghost use Rattle.std.specs.Prelude.{IfSome};
+ghost use Rattle.paged_tables.specs.TablesByName.{LieInside};
+ghost use Rattle.recovery.specs.Replay.{pages_of};
+
+use drda_disk::MemDisk;
 use half_store::Layout::{self, One, Two};
+use paged_tables::PagedTables;
 use recovery::{PreparedUnit, Replay, ReplayError, replay};
+use row_pages::PageCache;
 use std::alloc::{AllocError, Global};
-use table_store::TableStore;
-use tables::TableView;
 use unit_journal::{Kind, Record};
 use xa_manager::Decision;
 
@@ -217,21 +222,37 @@ fn signs(alloc: Global, units: &[PreparedUnit]) -> Result<String, AllocError> {
     Ok(signs)
 }
 
-fn shown(alloc: Global, state: Replay) -> Option<(usize, String, usize)> {
+// How many rows the table T has. No table has pages, so nothing is read of the disk, which has no byte.
+fn row_count(alloc: Global, store: &PagedTables) -> Option<usize>
+    requires { LieInside 0 store.now.tables }
+{
+    let mut cache = PageCache::new(alloc, 1).ok()?;
+    let mut disk = MemDisk::new(alloc, 0).ok()?;
+    let rows = store.rows(alloc, &mut cache, &mut disk, "T").ok()?;
+    Some(rows.len())
+}
+
+fn shown(alloc: Global, state: Replay) -> Option<(usize, String, usize)>
+    requires { LieInside 0 (pages_of state) }
+{
     let (store, units) = state.into_parts();
-    let rows = store.view().scan(alloc, "T").ok()?;
+    let rows = row_count(alloc, &store)?;
     let claims = match units.first() {
         Some(unit) => unit.claims.len(),
         None => 0,
     };
-    Some((rows.len(), signs(alloc, units.as_slice()).ok()?, claims))
+    Some((rows, signs(alloc, units.as_slice()).ok()?, claims))
 }
 
 // The tables that records lead to.
-pub fn checkpoint(alloc: Global, said: &[(Kind, &'static [u8])]) -> Option<TableStore> {
+pub fn checkpoint(alloc: Global, said: &[(Kind, &'static [u8])]) -> Option<PagedTables>
+    ensures { IfSome result (λ store. LieInside 0 store.tables) }
+{
     let list = records(alloc, said)?;
-    let state = replay(alloc, Two, TableStore::new(alloc), list.as_slice()).ok()?;
-    Some(state.into_parts().0)
+    match replay(alloc, Two, PagedTables::new(alloc), list.as_slice()) {
+        Ok(state) => Some(state.into_parts().0),
+        Err(_) => None,
+    }
 }
 
 // None without memory.

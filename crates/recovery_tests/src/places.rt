@@ -40,8 +40,8 @@ fn have_places(
     said: &[(Kind, &'static [u8])],
 ) -> Option<bool> {
     let prepares = records(alloc, said)?;
-    let mut store = checkpoint(alloc, before)?;
-    match find_places(alloc, &mut store, prepares.as_slice()) {
+    let store = checkpoint(alloc, before)?;
+    match find_places(alloc, &store, prepares.as_slice()) {
         Ok(()) => Some(true),
         Err(ReadError::Damaged) => Some(false),
         Err(ReadError::NoMemory) => None,

@@ -7,7 +7,7 @@ use Rattle.rdb_core.proofs.plain_tables.copied_tables.Given as goal
 
 abbrev pub invariant-loop-table : goal.invariant-loop-table
 invariant-loop-table g l = record {
-  copying : IsCopying (store_in l.tables) l.left g.S.Telling.is_told l.view;
+  copying : IsCopying (store_in l.tables) l.left g.S.Source.is_told l.view;
   read : ReadsOn g.S.Source.reads l.fn.source l.source;
   holds : g.S.Source.holds l.source l.tables.tables;
 }
