@@ -109,7 +109,7 @@ impl Bench {
         self.begin(WornDisk::new(self.alloc, disk), out)
     }
 
-    // Opens the disk, of which reads give these bytes at a place, behind those of the opening and so many more.
+    // Opens the disk, of which reads give these bytes at a place, behind the calls of the opening and so many more.
     fn open_and_wear(&mut self, rest: &str, out: &mut Vec<u8>) -> Option<()> {
         let (calls, rest) = rest.split_once(' ')?;
         let (at, bytes) = rest.split_once(' ')?;

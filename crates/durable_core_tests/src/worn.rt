@@ -5,12 +5,12 @@ ghost use Rattle.std.specs.Prelude.{false};
 use drda_disk::{Disk, DiskFault};
 use std::alloc::Global;
 
-/// Passes each call on to the disk inside, of which it is not known that it gives back what was written: from some read
-/// on it gives other bytes at one place.
+/// Passes each call on to the disk inside, of which it is not known that it gives back what was written: from some call
+/// on reads give other bytes at one place.
 #[derive(Drop)]
 pub struct WornDisk<D: Disk> {
     inner: D,
-    /// How many reads give what the disk inside does.
+    /// How many calls are those of the disk inside.
     left: u64,
     at: usize,
     bytes: Vec<u8>,
@@ -35,6 +35,15 @@ fn set(into: &mut [u8], offset: usize, byte: u8) {
     }
 }
 
+// Counts a call, and says whether none is left.
+fn is_over(left: &mut u64) -> bool {
+    if *left == 0 {
+        return true;
+    }
+    *left -= 1;
+    false
+}
+
 impl<D: Disk> WornDisk<D> {
     /// Over this disk. It never gives other bytes.
     pub fn new(alloc: Global, inner: D) -> WornDisk<D> {
@@ -46,7 +55,7 @@ impl<D: Disk> WornDisk<D> {
         }
     }
 
-    /// Over this disk. Behind so many reads it gives these bytes from the offset on.
+    /// Over this disk. Behind so many calls reads give these bytes from the offset on.
     pub fn worn(inner: D, left: u64, at: usize, bytes: Vec<u8>) -> WornDisk<D> {
         WornDisk {
             inner,
@@ -59,15 +68,6 @@ impl<D: Disk> WornDisk<D> {
     /// The disk inside.
     pub fn into_inner(self) -> D {
         self.inner
-    }
-
-    // Counts a read, and says whether it gives other bytes.
-    fn wears(&mut self) -> bool {
-        if self.left == 0 {
-            return true;
-        }
-        self.left -= 1;
-        false
     }
 }
 
@@ -89,7 +89,7 @@ impl<D: Disk> Disk for WornDisk<D> {
     }
 
     fn read_at(&mut self, at: usize, into: &mut [u8]) -> Result<(), DiskFault> {
-        let is_worn = self.wears();
+        let is_worn = is_over(&mut self.left);
         self.inner.read_at(at, into)?;
         if is_worn {
             wear(into, at, self.at, &self.bytes);
@@ -98,10 +98,12 @@ impl<D: Disk> Disk for WornDisk<D> {
     }
 
     fn write_at(&mut self, at: usize, bytes: &[u8]) -> Result<(), DiskFault> {
+        let _is_worn = is_over(&mut self.left);
         self.inner.write_at(at, bytes)
     }
 
     fn sync(&mut self) -> Result<(), DiskFault> {
+        let _is_worn = is_over(&mut self.left);
         self.inner.sync()
     }
 }
