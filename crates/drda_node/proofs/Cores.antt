@@ -97,12 +97,12 @@ module _ {D : Type 0} (modelled : Bool) (life : D → Life) where
       → asked new ≡ record (asked old) { layout = layout; room = room; has_failed = failed }
   with_rest old new layout room failed same layout_is room_is failed_is = λ i. record { is_told = modelled; state = same.state i; layout = layout_is i; room = room_is i; has_failed = failed_is i; made = same.made i }
 
-  becomes : (told : Checkpointed) (old new : OnDisk D) → IsSameCore (shown_on life old) (shown_on life new) → Becomes told (shown_on life old) (shown_on life new) → IsCheckpointed told (asked old) (asked new)
+  becomes : (told : Checkpointed) (old new : OnDisk D) → IsSameCore (shown_on life old) (shown_on life new) → Becomes modelled told (shown_on life old) (shown_on life new) → IsCheckpointed told (asked old) (asked new)
   becomes Done old new same b = (b.going, (new.room, with_rest old new Two new.room old.is_failed same b.layout refl (b.still ∙ sym b.going)))
   becomes (Full need room) old new same b = (b.0.going, with_rest old new old.layout old.room old.is_failed same b.0.layout b.0.room (b.0.still ∙ sym b.0.going))
   becomes NoMemory old new same b = (b.going, with_rest old new old.layout old.room old.is_failed same b.layout b.room (b.still ∙ sym b.going))
   becomes DeviceFailed old new same b = (b.going, with_rest old new old.layout old.room true same b.layout b.room b.failed)
   becomes Closed old new same b = (b.failed, same_core old new b.same)
 
-  pub core_checkpoints : (told : Checkpointed) (old new : OnDisk D) → Checkpoints told (shown_on life old) (shown_on life new) → IsCheckpointed told (asked old) (asked new)
+  pub core_checkpoints : (told : Checkpointed) (old new : OnDisk D) → Checkpoints modelled told (shown_on life old) (shown_on life new) → IsCheckpointed told (asked old) (asked new)
   core_checkpoints told old new c = becomes told old new c.same c.becomes

@@ -256,7 +256,7 @@ impl<D: Disk> Node<D> {
     /// `DeviceFailed` the device has failed in it. A crash at any moment leaves a disk that opens to the
     /// same tables and units in doubt.
     pub fn checkpoint(&mut self) -> Checkpointed
-        ensures told { Checkpoints result (shown_on D.life (core_in self.old)) (shown_on D.life (core_in self.new)) }
+        ensures told { Checkpoints D.is_modelled result (shown_on D.life (core_in self.old)) (shown_on D.life (core_in self.new)) }
         ensures checkpointed { IsCheckpointed result (machine self.old).core (machine self.new).core }
         ensures rest { machine self.new ≡ record (machine self.old) { core = (machine self.new).core } }
         ensures numbers { numbers self.new ≡ numbers self.old }
@@ -283,7 +283,7 @@ fn end_units<D: Disk>(core: &mut DurableCore<D>, conversation: u64)
 // Writes a checkpoint of the core.
 #[tactic(auto, using(crate::proofs::Cores::core_checkpoints))]
 fn checkpoint_core<D: Disk>(core: &mut DurableCore<D>) -> Checkpointed
-    ensures told { Checkpoints result (shown_on D.life core.old) (shown_on D.life core.new) }
+    ensures told { Checkpoints D.is_modelled result (shown_on D.life core.old) (shown_on D.life core.new) }
     ensures checkpointed { IsCheckpointed result (asked_of D.is_modelled core.old) (asked_of D.is_modelled core.new) }
     ensures journaled { IsJournaled D.is_modelled D.life core.old core.new }
 {

@@ -15,14 +15,14 @@ use Rattle.drda_program.proofs.Ran.{found}
 
 -- ---- the core
 
-module _ {D : Type 0} (life : D → Life) (xid : List ℕ) (d : Decision) (core left : OnDisk D) where
-  pub not_migrated : (fault : Fault) (r : Result (Unit {0}) Fault) → r ≡ Err fault → core.layout ≡ One → Migrates life core (Err fault) left → Ends life xid d core r left
+module _ {D : Type 0} (modelled : Bool) (life : D → Life) (xid : List ℕ) (d : Decision) (core left : OnDisk D) where
+  pub not_migrated : (fault : Fault) (r : Result (Unit {0}) Fault) → r ≡ Err fault → core.layout ≡ One → Migrates modelled life core (Err fault) left → Ends modelled life xid d core r left
   not_migrated fault r is old migrates = record { either = inr (fault, is, old, migrates) }
 
-  pub migrated : (ready : OnDisk D) (r : Result (Unit {0}) Fault) → core.layout ≡ One → Migrates life core (Ok tt) ready → Settles life xid d ready r left → Ends life xid d core r left
+  pub migrated : (ready : OnDisk D) (r : Result (Unit {0}) Fault) → core.layout ≡ One → Migrates modelled life core (Ok tt) ready → Settles life xid d ready r left → Ends modelled life xid d core r left
   migrated ready r old migrates settles = record { either = inl (ready, inr (old, migrates), settles) }
 
-  pub of_new_layout : (r : Result (Unit {0}) Fault) → core.layout ≡ Two → Settles life xid d core r left → Ends life xid d core r left
+  pub of_new_layout : (r : Result (Unit {0}) Fault) → core.layout ≡ Two → Settles life xid d core r left → Ends modelled life xid d core r left
   of_new_layout r new settles = record { either = inl (core, inl (new, refl), settles) }
 
 -- ---- what is said
@@ -36,7 +36,7 @@ said before now (Err fault) wrote cause = cause
 
 module _ {F D : Type 0} (modelled : Bool) (life : D → Life) (calls : FileCalls F D) (path xid : List ℕ) (d : Decision) (files files' : F) (core left : OnDisk D) (opened : OpensStore modelled life calls files path (Ok core) files')
     (journaled : IsJournaled modelled life core left) where
-  pub decides : (result outcome : Result (Unit {0}) Fault) (before now : Option (List ℕ)) → Ends life xid d core result left → Says result before outcome now → DecidesFile modelled life calls path xid d files before outcome files' now
+  pub decides : (result outcome : Result (Unit {0}) Fault) (before now : Option (List ℕ)) → Ends modelled life xid d core result left → Says result before outcome now → DecidesFile modelled life calls path xid d files before outcome files' now
   decides result outcome before now ends says =
       let there = found modelled life calls files path core files' opened in
       inr (there.0, there.1, record { core = core; over = there.2; result = result; left = left; ends = ends; journaled = journaled; says = says })

@@ -16,18 +16,6 @@ use Rattle.drda_program.specs.declared.fault.Fault.{Fault}
 use Rattle.drda_program.specs.declared.fault.Fault.TheVariants.{BadArguments, BadEvent, Damaged, Device, NoMemory, NoRoom, NotAStore, NotInDoubt}
 
 module _ {D : Type 0} (life : D → Life) where
-  -- a checkpoint is written, which makes the store one of layout 2; where it has no room the store stays as it was
-  abbrev pub Migrates : OnDisk D → Result (Unit {0}) Fault → OnDisk D → Type 0
-  Migrates core (Ok done) left = Checkpoints checkpoint.Done (shown_on life core) (shown_on life left)
-  Migrates core (Err NoRoom) left = (need : ℕ) × (room : ℕ) × Checkpoints (checkpoint.Full need room) (shown_on life core) (shown_on life left)
-  Migrates core (Err NoMemory) left = (left.state ≡ core.state) × (left.made ≡ core.made)
-  Migrates core (Err Device) left = left.is_failed ≡ true
-  Migrates core (Err NotInDoubt) left = ⊥
-  Migrates core (Err BadArguments) left = ⊥
-  Migrates core (Err NotAStore) left = ⊥
-  Migrates core (Err (Damaged at)) left = ⊥
-  Migrates core (Err BadEvent) left = ⊥
-
   -- in a store of layout 2 the unit of the XID is decided so; where memory is wanting nothing is
   abbrev pub Settles : List ℕ → Decision → OnDisk D → Result (Unit {0}) Fault → OnDisk D → Type 0
   Settles xid d ready (Ok done) left = Decides xid d decided.Done (shown_on life ready) (shown_on life left)
@@ -40,13 +28,26 @@ module _ {D : Type 0} (life : D → Life) where
   Settles xid d ready (Err (Damaged at)) left = ⊥
   Settles xid d ready (Err BadEvent) left = ⊥
 
+module _ {D : Type 0} (modelled : Bool) (life : D → Life) where
+  -- a checkpoint is written, which makes the store one of layout 2; where it has no room the store stays as it was
+  abbrev pub Migrates : OnDisk D → Result (Unit {0}) Fault → OnDisk D → Type 0
+  Migrates core (Ok done) left = Checkpoints modelled checkpoint.Done (shown_on life core) (shown_on life left)
+  Migrates core (Err NoRoom) left = (need : ℕ) × (room : ℕ) × Checkpoints modelled (checkpoint.Full need room) (shown_on life core) (shown_on life left)
+  Migrates core (Err NoMemory) left = (left.state ≡ core.state) × (left.made ≡ core.made)
+  Migrates core (Err Device) left = left.is_failed ≡ true
+  Migrates core (Err NotInDoubt) left = ⊥
+  Migrates core (Err BadArguments) left = ⊥
+  Migrates core (Err NotAStore) left = ⊥
+  Migrates core (Err (Damaged at)) left = ⊥
+  Migrates core (Err BadEvent) left = ⊥
+
   -- a store of layout 2 is ready for it, one of layout 1 once it has been migrated
   abbrev pub IsReady : OnDisk D → OnDisk D → Type 0
   IsReady core ready = ((core.layout ≡ Two) × (ready ≡ core)) ⊎ ((core.layout ≡ One) × Migrates core (Ok tt) ready)
 
   -- the unit is decided, or it is not; then a store of layout 1 may be as it was, too
   pub record Ends (xid : List ℕ) (d : Decision) (core : OnDisk D) (outcome : Result (Unit {0}) Fault) (left : OnDisk D) : Type 0 where
-    pub either : ((ready : OnDisk D) × IsReady core ready × Settles xid d ready outcome left)
+    pub either : ((ready : OnDisk D) × IsReady core ready × Settles life xid d ready outcome left)
         ⊎ ((fault : Fault) × (outcome ≡ Err fault) × (core.layout ≡ One) × Migrates core (Err fault) left)
 
 -- what is said of it: that the unit is decided, and nothing where it is not
@@ -62,7 +63,7 @@ module _ {D : Type 0} (modelled : Bool) (life : D → Life) where
     pub over : IsOver modelled life disk core
     pub result : Result (Unit {0}) Fault
     pub left : OnDisk D
-    pub ends : Ends life xid d core result left
+    pub ends : Ends modelled life xid d core result left
     pub journaled : IsJournaled modelled life core left
     pub says : Says result before outcome now
 

@@ -22,7 +22,7 @@ pub(crate) fn decide_on<D: Disk>(
     xid: &Xid,
     decision: Decision,
 ) -> Result<(), Fault>
-    ensures ends { Ends D.life xid.now decision core.old result core.new }
+    ensures ends { Ends D.is_modelled D.life xid.now decision core.old result core.new }
     ensures journaled { IsJournaled D.is_modelled D.life core.old core.new }
 {
     calls_go_on::<D>();
@@ -36,7 +36,7 @@ pub(crate) fn decide_on<D: Disk>(
 
 // Makes the store one of layout 2.
 fn migrate<D: Disk>(core: &mut DurableCore<D>) -> Result<(), Fault>
-    ensures migrates { Migrates D.life core.old result core.new }
+    ensures migrates { Migrates D.is_modelled D.life core.old result core.new }
     ensures journaled { IsJournaled D.is_modelled D.life core.old core.new }
 {
     match core.checkpoint() {

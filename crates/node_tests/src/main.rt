@@ -6,6 +6,7 @@ mod conversations;
 mod records;
 mod rows;
 mod runs;
+mod spoiled;
 
 use crate::rows::follow;
 use std::io::{self, ErrorKind, Write};

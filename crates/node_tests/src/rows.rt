@@ -2,6 +2,7 @@
 
 use crate::conversations::push_act;
 use crate::runs::{Bench, tell_opened, tell_run};
+use crate::spoiled::SpoiledDisk;
 use drda_disk::{FuseDisk, MemDisk};
 use std::alloc::Global;
 use test_bytes::push_texts;
@@ -37,7 +38,8 @@ fn number_behind(section: &str, verb: &str) -> Option<u64> {
 }
 
 // A section has a node over a fresh store of its own, or by `crash PICK` over what a crash of this pick leaves of the disk of the section
-// before. By `stops N` the device fails behind so many calls and those of the opening; `calls` at the end tells how many more there were.
+// before. By `stops N` the device fails behind so many calls and those of the opening of a fresh store; `calls` at the end tells how many
+// more there were. By `spoils AT` the byte at this offset of the disk reads as another one from its second reading on.
 fn follow_section(
     alloc: Global,
     opening: u64,
@@ -53,9 +55,14 @@ fn follow_section(
         Some(count) => opening.saturating_add(count),
         None => u64::MAX,
     };
-    let mut node = node_over(alloc, FuseDisk::new(store, calls, false))?;
+    let place = match number_behind(section, "spoils ") {
+        Some(place) => Some(place as usize),
+        None => None,
+    };
+    let disk = SpoiledDisk::new(FuseDisk::new(store, calls, false), place);
+    let mut node = node_over(alloc, disk)?;
     let done = follow_lines(alloc, &mut node, section, told);
-    let disk = node.into_core().into_disk();
+    let disk = node.into_core().into_disk().into_inner();
     done?;
     if section.ends_with("\ncalls") {
         let count = disk.calls().saturating_sub(opening);
@@ -84,7 +91,7 @@ fn answer(
 ) -> Option<()> {
     let (verb, rest) = line.split_once(' ').unwrap_or((line, ""));
     match verb {
-        "#" | "fresh" | "stops" | "calls" | "crash" => return Some(()),
+        "#" | "fresh" | "stops" | "spoils" | "calls" | "crash" => return Some(()),
         "event" => return push_texts(events, &[rest]).ok(),
         "times" => return push_times(events, rest),
         "opened" => return tell_opened(node, told),

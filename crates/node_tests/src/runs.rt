@@ -1,13 +1,14 @@
 //! Runs of a node over streams that give and take a little, and fail.
 
 use crate::records::tell_records;
+use crate::spoiled::SpoiledDisk;
 use drda_disk::{FuseDisk, MemDisk};
 use drda_node::{ConversationId, Node, RunEnd, run};
 use std::alloc::Global;
 use std::io::{self, BufReader, ErrorKind, Read, Write};
 
-/// A node over a disk that may fail.
-pub type Bench = Node<FuseDisk<MemDisk>>;
+/// A node over a disk that may fail, or give back another byte than was written.
+pub type Bench = Node<SpoiledDisk<FuseDisk<MemDisk>>>;
 
 /// A stream that gives so many bytes at a time, and may fail behind them.
 #[derive(Drop)]

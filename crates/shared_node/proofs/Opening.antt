@@ -1,6 +1,6 @@
 -- A book keeps what it keeps: where it is opened, where nothing is listed, where a call is, and where commits are that were made
 -- together.
-use Rattle.std.proofs.Common.{◌≡◌, ℕ, Bool, true, false, arith, if◌then◌else◌, List, [], ◌∷◌, ◌++◌, Option, None, length, replicate, slice_set, sym, ap, subst, ◌∙◌}
+use Rattle.std.proofs.Common.{◌≡◌, ℕ, Bool, true, false, arith, if◌then◌else◌, List, [], ◌∷◌, ◌++◌, Option, None, length, replicate, slice_set, refl, sym, ap, subst, ◌∙◌, inl}
 use Rattle.drda_disk.specs.Disk.{Life}
 use Rattle.core_calls.specs.Call.{Call}
 use Rattle.core_calls.specs.Answer.{Answer, no_memory}
@@ -14,10 +14,11 @@ use Rattle.shared_node.specs.declared.left.Left.{Left}
 use Rattle.shared_node.specs.declared.wish.Wish.{Wish}
 use Rattle.shared_node.specs.LeftAnswers.{AreLeft}
 use Rattle.shared_node.specs.Books.{AreCounted, IsKept, Told}
-use Rattle.shared_node.specs.Passes.{IsAnswered}
+use Rattle.shared_node.specs.declared.pass.Pass.{Pass}
+use Rattle.shared_node.specs.Passes.{FindsNoMemory, IsAnswered, Knows}
 use Rattle.shared_node.proofs.Counting.{length_replicate, none_yet, set_length}
 use Rattle.shared_node.specs.Gathered.{AreAlike, MakesTogether, all_listed}
-use Rattle.shared_node.proofs.Leading.{finds_no_memory, leads_on}
+use Rattle.shared_node.proofs.Leading.{finds_no_memory, leads_on, lost_wants_none}
 use Rattle.shared_node.proofs.Leaving.{none_left}
 use Rattle.shared_node.proofs.Together.{leads_together}
 
@@ -55,6 +56,19 @@ module _ {D : Type 0} (modelled : Bool) (life : D → Life) where
           are_left = kept.are_left;
           as_many = kept.as_many;
         }
+
+    -- what became of such a call
+    pub finds_none : (old book : Told D) (pass : Pass) (k : Call) (a : Answer) (new : OnDisk D) → old ≡ book → a ≡ no_memory → Knows book pass → IsAnswered modelled life old.core pass.conversation k a new
+        → FindsNoMemory modelled life book pass k no_memory (record old { core = new }) pass
+    finds_none old book pass k a new same is knows answered =
+        let (rests, wanting) = finds_no_memory modelled life belong excuses old.core new pass.conversation k a is answered in
+        subst (λ (b : Told D). FindsNoMemory modelled life b pass k no_memory (record old { core = new }) pass) same (record {
+          knows = subst (λ (b : Told D). Knows b pass) (sym same) knows;
+          answer_is = refl;
+          wants = inl wanting;
+          lost = λ is_lost. absurd (lost_wants_none modelled life old.core.state pass.conversation k is_lost wanting);
+          nothing = record { rests = rests; book = refl; same = refl };
+        })
 
     pub goes_on : CallsLeadOn → (old opening new : OnDisk D) (calls more : List AnsweredCall) (places set : List (Option Count)) (left : List (Option Left)) (next p : ℕ) (c : Option Count) (n : ℕ) (k : Call) (a : Answer) (t : Bool)
         → (t ≡ true → is_excuse a ≡ false) → (t ≡ false → is_excuse a ≡ true)

@@ -10,11 +10,12 @@ ghost use Rattle.store_service.specs.Running.{IsRefusal, IsStore};
 ghost use Rattle.store_service.specs.Surviving.{Survives};
 
 use crate::running::run_store;
+use ahead_view::ReadError;
 use drda_disk::{FuseDisk, MemDisk};
 use drda_node::{DurableCore, RunEnd, open};
 use durable_core::OpenError;
 use rdb_core::PlainState;
-use std::alloc::{AllocError, Global};
+use std::alloc::Global;
 
 /// Runs over the store of a disk as `run_store` does, with a device that fails after so many calls, takes an
 /// image that a crash leaves then, opens it, and tells its state as plain lists. It is the state after all
@@ -49,18 +50,22 @@ fn tell(alloc: Global, disk: MemDisk) -> Result<PlainState, OpenError>
     ensures err { (name : List ℕ) (d : Durable) → OpensTo name d (life_of disk).seen → IfErr result IsExcused }
 {
     match open(alloc, disk) {
-        Ok(core) => plain_of(&core),
+        Ok(core) => {
+            let mut core = core;
+            plain_of(&mut core)
+        }
         Err(refused) => Err(refused.error),
     }
 }
 
 // The state of a core, as plain lists.
-fn plain_of(core: &DurableCore<MemDisk>) -> Result<PlainState, OpenError>
-    ensures ok { IfOk result (λ told. told ≡ core.now.state) }
+fn plain_of(core: &mut DurableCore<MemDisk>) -> Result<PlainState, OpenError>
+    ensures ok { IfOk result (λ told. told ≡ core.old.state) }
     ensures err { IfErr result IsExcused }
 {
     match core.plain() {
         Ok(plain) => Ok(plain),
-        Err(AllocError) => Err(OpenError::NoMemory),
+        Err(ReadError::NoMemory) => Err(OpenError::NoMemory),
+        Err(ReadError::DeviceFailed) => Err(OpenError::DeviceFailed),
     }
 }
