@@ -1,6 +1,7 @@
 //! A disk that wears out.
 
 ghost use Rattle.std.specs.Prelude.{false};
+ghost use Rattle.drda_disk.specs.File.{no_image};
 
 use drda_disk::{Disk, DiskFault};
 use std::alloc::Global;
@@ -76,7 +77,7 @@ impl<D: Disk> Disk for WornDisk<D> {
 
     ghost life = { λ d. D.life d.inner };
 
-    ghost read_is_image = { λ _ told. absurd told };
+    ghost read_is_image = { λ _ told. no_image told };
 
     ghost now_counts = { λ d. D.now_counts d.inner };
 
