@@ -1,6 +1,7 @@
 //! A disk that gives back another byte than was written.
 
 ghost use Rattle.std.specs.Prelude.{◌≡◌, false};
+ghost use Rattle.drda_disk.specs.File.{no_image};
 
 use drda_disk::{Disk, DiskFault};
 
@@ -53,7 +54,7 @@ impl<D: Disk> Disk for SpoiledDisk<D> {
 
     ghost life = { λ d. D.life d.inner };
 
-    ghost read_is_image = { λ _ told. absurd told };
+    ghost read_is_image = { λ _ told. no_image told };
 
     ghost now_counts = { λ d. D.now_counts d.inner };
 
