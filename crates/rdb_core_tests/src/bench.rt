@@ -1,17 +1,21 @@
 //! A core to be asked.
 
-use crate::few::Few;
+use crate::few::{Few, Given};
+use ahead_view::ReadError;
 use core_calls::Answer;
 use rdb_core::{Core, PlainState};
 use sql_text::{Command, SqlError, Statement, parse};
 use std::alloc::Global;
 use std::marker::Model;
-use xa_calls::{InvalidRequest, Request};
+use unit_changes::UnitChanges;
+use unit_records::RecordError;
+use xa_calls::{InvalidRequest, Request, Xid};
+use xa_manager::{BranchState, Decision};
 
 /// A core whose tables have no pages.
 #[derive(Drop)]
 pub struct Bench {
-    pub core: Core<Few>,
+    core: Core<Few>,
 }
 
 impl Model for Bench {
@@ -36,6 +40,16 @@ impl Bench {
     pub fn new(alloc: Global, left: u32) -> Bench {
         Bench {
             core: Core::start(alloc, Few::new(left)),
+        }
+    }
+
+    /// A core that makes a record, with a branch that is restored so.
+    pub fn restored(alloc: Global, xid: Xid, outcome: Option<Decision>) -> Option<Bench> {
+        let mut core = Core::start(alloc, Few::new(1));
+        let none = UnitChanges::new(alloc);
+        match core.restore(xid, outcome, none, Vec::new(alloc)) {
+            Ok(()) => Some(Bench { core }),
+            Err(_) => None,
         }
     }
 
@@ -75,5 +89,35 @@ impl Bench {
     pub fn begin_anew(&mut self, left: u32) {
         self.core.recorder.left = left;
         self.core.recorder.reads = 0;
+    }
+
+    /// Each read is refused so from now on, or none is.
+    pub fn refuse_reads(&mut self, fault: Option<ReadError>) {
+        self.core.recorder.fault = fault;
+    }
+
+    /// This is given from now on in the place of a row.
+    pub fn give(&mut self, given: Given) {
+        self.core.recorder.given = given;
+    }
+
+    /// How many records are left to make, how many reads there were, and in how many the device counts as failed.
+    pub fn counts(&self) -> [u32; 3] {
+        let recorder = self.core.recorder();
+        [recorder.left, recorder.reads, recorder.failures]
+    }
+
+    /// What a heuristic decision of a branch comes to, where it is prepared.
+    pub fn decide(&mut self, xid: &Xid, decision: Decision) -> Option<Result<(), RecordError>> {
+        match self.core.branch_state(xid) {
+            Some(BranchState::Prepared) => Some(self.core.decide(xid, decision)),
+            _ => None,
+        }
+    }
+
+    /// How many changes the unit of a branch has, and whether it claims anything.
+    pub fn told(&self, xid: &Xid) -> (usize, bool) {
+        let claims = self.core.claims_in_doubt(xid);
+        (self.core.changes_in_doubt(xid).len(), !claims.is_empty())
     }
 }

@@ -45,9 +45,3 @@ pub fn put_in_doubt(alloc: Global, bench: &mut Bench, xid: Xid) -> Option<i32> {
     let _ended = ask(bench, 1, Verb::End(Ending::Kept), xid);
     ask(bench, 1, Verb::Prepare, xid)
 }
-
-// How many changes the unit of a branch has, and whether it claims anything.
-pub fn told(bench: &Bench, xid: &Xid) -> (usize, bool) {
-    let claims = bench.core.claims_in_doubt(xid);
-    (bench.core.changes_in_doubt(xid).len(), !claims.is_empty())
-}

@@ -25,7 +25,7 @@ fn filled(alloc: Global) -> Option<Bench> {
 fn counted(alloc: Global, text: &str) -> Option<(usize, u32)> {
     let mut bench = filled(alloc)?;
     let rows = rows_for(alloc, &mut bench, 2, text)?;
-    Some((rows, bench.core.recorder.reads))
+    Some((rows, bench.counts()[1]))
 }
 
 // A statement reads the row of its key, or all rows where it looks through them; a creation reads none.
@@ -56,87 +56,103 @@ fn clashes(alloc: Global, bench: &mut Bench, conversation: u64, text: &str) -> b
     )
 }
 
+// Whether conversation 2 is refused this while conversation 1 has updated the row, and how many reads both take.
+fn reads_of_a_clash(alloc: Global, text: &str) -> Option<(bool, u32)> {
+    let mut bench = filled(alloc)?;
+    let _updated = rows_for(alloc, &mut bench, 1, "UPDATE T SET V = 11 WHERE K = 1");
+    let is_refused = clashes(alloc, &mut bench, 2, text);
+    Some((is_refused, bench.counts()[1]))
+}
+
 // A statement of which a claim clashes reads nothing.
 #[test]
 fn reads_nothing_where_a_claim_clashes(rt: HostRuntime) -> Result<(), Fail> {
-    let Some(mut bench) = filled(rt.alloc()) else {
-        return Err(Fail::from("no table"));
-    };
-    let updated = rows_for(rt.alloc(), &mut bench, 1, "UPDATE T SET V = 11 WHERE K = 1");
-    assert_eq!(rt; updated, Some(1));
-    assert_eq!(rt; bench.core.recorder.reads, 1);
     for text in [
         "SELECT V FROM T",
         "SELECT V FROM T WHERE K = 1",
         "INSERT INTO T VALUES (1, 12)",
         "DELETE FROM T",
     ] {
-        assert!(rt; clashes(rt.alloc(), &mut bench, 2, text));
-        assert_eq!(rt; bench.core.recorder.reads, 1);
+        assert!(rt; reads_of_a_clash(rt.alloc(), text) == Some((true, 1)));
     }
     Ok(())
+}
+
+// Whether a statement is answered that the device failed, and then that memory was refused, where its read is refused so; whether the
+// state is told then; and how many rows another unit deletes once no read is.
+fn refused(alloc: Global, text: &str) -> Option<(bool, bool, bool, Option<usize>)> {
+    let mut bench = filled(alloc)?;
+    bench.refuse_reads(Some(ReadError::DeviceFailed));
+    let failed = matches!(bench.ask(alloc, 1, text), Some(Answer::DeviceFailed));
+    bench.refuse_reads(Some(ReadError::NoMemory));
+    let short = matches!(bench.ask(alloc, 1, text), Some(Answer::NoMemory));
+    let is_told = bench.plain().is_some();
+    bench.refuse_reads(None);
+    Some((
+        failed,
+        short,
+        is_told,
+        rows_for(alloc, &mut bench, 2, "DELETE FROM T"),
+    ))
 }
 
 // Where a read is refused the answer says why, and the unit has claimed nothing.
 #[test]
 fn tells_why_no_row_was_read(rt: HostRuntime) -> Result<(), Fail> {
-    let Some(mut bench) = filled(rt.alloc()) else {
-        return Err(Fail::from("no table"));
-    };
     for text in ["SELECT V FROM T", "DELETE FROM T WHERE K = 1"] {
-        bench.core.recorder.fault = Some(ReadError::DeviceFailed);
-        let failed = bench.ask(rt.alloc(), 1, text);
-        assert!(rt; matches!(failed, Some(Answer::DeviceFailed)));
-        bench.core.recorder.fault = Some(ReadError::NoMemory);
-        let refused = bench.ask(rt.alloc(), 1, text);
-        assert!(rt; matches!(refused, Some(Answer::NoMemory)));
+        assert!(rt; refused(rt.alloc(), text) == Some((true, true, false, Some(1))));
     }
-    assert!(rt; bench.plain().is_none());
-    bench.core.recorder.fault = None;
-    let deleted = rows_for(rt.alloc(), &mut bench, 2, "DELETE FROM T");
-    assert_eq!(rt; deleted, Some(1));
     Ok(())
+}
+
+// Whether a statement is answered that the device failed which is given a row that is cut off, how often it counts as failed, and how
+// many rows another unit deletes that are given as they are.
+fn cut(alloc: Global, text: &str) -> Option<(bool, u32, Option<usize>)> {
+    let mut bench = filled(alloc)?;
+    bench.give(Given::Cut);
+    let failed = matches!(bench.ask(alloc, 1, text), Some(Answer::DeviceFailed));
+    let failures = bench.counts()[2];
+    bench.give(Given::Written);
+    Some((
+        failed,
+        failures,
+        rows_for(alloc, &mut bench, 2, "DELETE FROM T"),
+    ))
 }
 
 // Where the device gives back what is no row of the table it counts as failed, and the unit has claimed nothing.
 #[test]
 fn counts_what_is_no_row_as_a_failure(rt: HostRuntime) -> Result<(), Fail> {
-    let Some(mut bench) = filled(rt.alloc()) else {
-        return Err(Fail::from("no table"));
-    };
-    bench.core.recorder.given = Given::Cut;
     for text in ["SELECT V FROM T", "DELETE FROM T WHERE K = 1"] {
-        let failed = bench.ask(rt.alloc(), 1, text);
-        assert!(rt; matches!(failed, Some(Answer::DeviceFailed)));
+        assert!(rt; cut(rt.alloc(), text) == Some((true, 1, Some(1))));
     }
-    assert_eq!(rt; bench.core.recorder.failures, 2);
-    bench.core.recorder.given = Given::Written;
-    let deleted = rows_for(rt.alloc(), &mut bench, 2, "DELETE FROM T");
-    assert_eq!(rt; deleted, Some(1));
     Ok(())
+}
+
+// How many rows a statement concerns that is given another row, how many have the committed value once its unit is rolled back, and how
+// often the device counts as failed.
+fn other(alloc: Global, text: &str) -> Option<(Option<usize>, Option<usize>, u32)> {
+    let mut bench = filled(alloc)?;
+    bench.give(Given::Other);
+    let rows = rows_for(alloc, &mut bench, 1, text);
+    drop(bench.roll_back(1));
+    bench.give(Given::Written);
+    let left = rows_for(alloc, &mut bench, 2, "SELECT K FROM T WHERE V = 10");
+    Some((rows, left, bench.counts()[2]))
 }
 
 // Where the device gives other rows of the table a statement is answered over these: 11 is in the place of 10. The
 // committed rows stay.
 #[test]
 fn answers_over_the_rows_that_are_given(rt: HostRuntime) -> Result<(), Fail> {
-    let Some(mut bench) = filled(rt.alloc()) else {
-        return Err(Fail::from("no table"));
-    };
-    bench.core.recorder.given = Given::Other;
     let asked = [
         ("SELECT K FROM T WHERE V = 10", 0),
         ("SELECT K FROM T WHERE V = 11", 1),
         ("UPDATE T SET V = 12 WHERE V = 11", 1),
     ];
     for (text, rows) in asked {
-        assert_eq!(rt; rows_for(rt.alloc(), &mut bench, 1, text), Some(rows));
+        assert!(rt; other(rt.alloc(), text) == Some((Some(rows), Some(1), 0)));
     }
-    drop(bench.roll_back(1));
-    bench.core.recorder.given = Given::Written;
-    let left = rows_for(rt.alloc(), &mut bench, 2, "SELECT K FROM T WHERE V = 10");
-    assert_eq!(rt; left, Some(1));
-    assert_eq!(rt; bench.core.recorder.failures, 0);
     Ok(())
 }
 
