@@ -81,7 +81,7 @@ impl Bench {
     // these kinds up to the first that is not made, `group` three of them together, and `checkpoint HELD` a checkpoint that holds so many
     // bytes back. `found` tells which records the disk has, and `laid KIND` the record that is laid behind a checkpoint. `schema` lays the
     // schema of the tables; `create NAME`, `put NAME VALUES` and `remove NAME KEY` change them in memory, and `row NAME KEY` and
-    // `rows NAME` tell rows.
+    // `rows NAME` tell rows; `fail` says of what was read last that it is no row of its table.
     fn answer(&mut self, step: &str, out: &mut String) -> Option<()> {
         let (verb, rest) = step.split_once(' ').unwrap_or((step, ""));
         match verb {
@@ -97,6 +97,7 @@ impl Bench {
             "create" | "put" | "remove" => tell(out, &self.change(verb, rest)?),
             "row" => tell(out, &self.row(rest)?),
             "rows" => self.tell_rows(rest, out),
+            "fail" => self.fail(),
             _ => None,
         }
     }
@@ -253,5 +254,13 @@ impl Bench {
             }
             Err(error) => tell(out, &error),
         }
+    }
+
+    fn fail(&mut self) -> Option<()> {
+        let Some(recorder) = &mut self.recorder else {
+            return None;
+        };
+        recorder.fail();
+        Some(())
     }
 }

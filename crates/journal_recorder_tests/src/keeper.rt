@@ -6,7 +6,7 @@ ghost use Rattle.unit_journal.specs.Journal.{held_of, region_of};
 ghost use Rattle.journal_recorder.specs.Recording.{cache_of, disk_of, has_failed, journal_of};
 
 use crate::records::released_by;
-use ahead_view::ReadError;
+use ahead_view::{ReadError, Source};
 use drda_disk::Disk;
 use journal_recorder::{CheckpointError, DiskRecorder, pages_are_kept};
 use paged_tables::PagedTables;
@@ -123,7 +123,7 @@ impl<D: Disk> Keeper<D> {
 
     /// The row of a key.
     pub fn row(&mut self, table: &str, key: &[u8]) -> Result<Option<Vec<u8>>, ReadError> {
-        match self.recorder.read_row(self.alloc, &self.tables, table, key) {
+        match self.recorder.row(self.alloc, &self.tables, table, key) {
             Ok(row) => Ok(row),
             Err(ReadError::NoMemory) => Err(ReadError::NoMemory),
             Err(ReadError::DeviceFailed) => Err(ReadError::DeviceFailed),
@@ -132,10 +132,17 @@ impl<D: Disk> Keeper<D> {
 
     /// All rows of a table.
     pub fn rows(&mut self, table: &str) -> Result<Rows, ReadError> {
-        match self.recorder.read_rows(self.alloc, &self.tables, table) {
+        match self.recorder.rows(self.alloc, &self.tables, table) {
             Ok(rows) => Ok(rows),
             Err(ReadError::NoMemory) => Err(ReadError::NoMemory),
             Err(ReadError::DeviceFailed) => Err(ReadError::DeviceFailed),
         }
+    }
+
+    /// What was read last is no row of its table.
+    pub fn fail(&mut self)
+        requires { D.is_modelled ≡ false }
+    {
+        self.recorder.fail();
     }
 }

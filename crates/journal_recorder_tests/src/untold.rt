@@ -1,6 +1,7 @@
 //! A disk of which nothing is known.
 
 ghost use Rattle.std.specs.Prelude.{◌≡◌, false};
+ghost use Rattle.drda_disk.specs.File.{no_image};
 
 use drda_disk::{Disk, DiskFault};
 
@@ -27,7 +28,7 @@ impl<D: Disk> Disk for Untold<D> {
 
     ghost life = { λ d. D.life d.inner };
 
-    ghost read_is_image = { λ _ told. absurd told };
+    ghost read_is_image = { λ _ told. no_image told };
 
     ghost now_counts = { λ d. D.now_counts d.inner };
 

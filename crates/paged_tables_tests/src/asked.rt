@@ -1,9 +1,13 @@
 //! What is asked, a line each.
 
-use crate::changes::{change_of, key_of};
+use crate::ahead::{tell_row_ahead, tell_rows_ahead};
+use crate::changes::{change_of, key_of, rows_of};
+use crate::given::Given;
 use crate::stores::Stores;
+use ahead_view::Wanted;
 use row_values::Schema;
 use std::alloc::Global;
+use tables::Rows;
 use test_bytes::bytes_of;
 use test_rows::schema_of;
 
@@ -76,6 +80,8 @@ impl Asked {
             "do" => self.lay_and_commit(words),
             "get" | "get-bytes" => self.tell_row(verb, words),
             "ahead" => self.tell_ahead(words),
+            "row-ahead" => self.tell_given_row(words),
+            "rows-ahead" => self.tell_given_rows(words),
             _ => self.answer_of_tables(verb, words),
         }
     }
@@ -123,7 +129,68 @@ impl Asked {
         let read = key_of(self.alloc, schema, &[read])?;
         let asked = key_of(self.alloc, schema, &[asked])?;
         self.stores
-            .tell_ahead(name, read, &asked, &mut self.written)
+            .tell_ahead(name, &read, &asked, &mut self.written)
+    }
+
+    // The row behind the key is given for it, or none.
+    fn tell_given_row(&mut self, words: &[&str]) -> Option<()> {
+        let Some(schema) = &self.schema else {
+            return None;
+        };
+        let [name, key, words @ ..] = words else {
+            return None;
+        };
+        let key = key_of(self.alloc, schema, &[key])?;
+        let mut given = Given::new(rows_of(self.alloc, schema, words)?);
+        let wanted = Wanted::Row {
+            table: name,
+            key: &key,
+        };
+        let tables = self.stores.tables();
+        tell_row_ahead(
+            self.alloc,
+            tables,
+            &mut given,
+            wanted,
+            name,
+            &key,
+            &mut self.written,
+        )
+    }
+
+    // These rows are given for all of a table.
+    fn tell_given_rows(&mut self, words: &[&str]) -> Option<()> {
+        let Some(schema) = &self.schema else {
+            return None;
+        };
+        let [name, words @ ..] = words else {
+            return None;
+        };
+        let mut given = Given::new(rows_of(self.alloc, schema, words)?);
+        let wanted = Wanted::Rows { table: name };
+        let tables = self.stores.tables();
+        tell_rows_ahead(
+            self.alloc,
+            tables,
+            &mut given,
+            wanted,
+            name,
+            &mut self.written,
+        )
+    }
+
+    // Nothing is read.
+    fn tell_nothing_ahead(&mut self, name: &str) -> Option<()> {
+        let mut given = Given::new(Rows::new(self.alloc));
+        let tables = self.stores.tables();
+        tell_rows_ahead(
+            self.alloc,
+            tables,
+            &mut given,
+            Wanted::Nothing,
+            name,
+            &mut self.written,
+        )
     }
 
     // A key is spelled by its values, or by its bytes.
@@ -156,6 +223,7 @@ impl Asked {
             ("lent", names) => self.stores.compare_lent(names, &mut self.written),
             ("known", [name]) => self.stores.tell_known(name, &mut self.written),
             ("scan", [name]) => self.stores.tell_rows(name, &mut self.written),
+            ("nothing-ahead", [name]) => self.tell_nothing_ahead(name),
             ("all-ahead", [read, name]) => {
                 self.stores.tell_all_ahead(read, name, &mut self.written)
             }

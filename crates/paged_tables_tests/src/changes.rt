@@ -2,7 +2,7 @@
 
 use row_values::{Schema, Value, are_key, are_row, encode_key, encode_row, is_name};
 use std::alloc::Global;
-use tables::Change;
+use tables::{Change, Rows};
 use test_rows::{cells_of, values_of};
 
 fn row_of(alloc: Global, schema: &Schema, values: &[Value<'_>]) -> Option<Vec<u8>> {
@@ -62,4 +62,19 @@ pub fn change_of(
         "remove" => remove(alloc, schema, table, words),
         _ => None,
     }
+}
+
+/// The rows that these words spell, each by its values with commas between. None where one is none of the schema's.
+pub fn rows_of(alloc: Global, schema: &Schema, words: &[&str]) -> Option<Rows> {
+    let mut rows = Rows::new(alloc);
+    for word in words {
+        let mut values = Vec::new(alloc);
+        for value in word.split(",") {
+            values.push(value).ok()?;
+        }
+        let cells = cells_of(alloc, &values)?;
+        let row = row_of(alloc, schema, &values_of(alloc, &cells)?)?;
+        rows.push(&row).ok()?;
+    }
+    Some(rows)
 }

@@ -5,6 +5,7 @@
 mod ahead;
 mod asked;
 mod changes;
+mod given;
 mod held;
 mod lent;
 mod stores;

@@ -1,11 +1,13 @@
 //! Tables over pages, and plain ones that are changed in the same way.
 
-use crate::ahead::{tell_row_ahead, tell_rows_ahead};
+use crate::ahead::{tell_row_ahead, tell_rows, tell_rows_ahead};
+use crate::given::Given;
 use crate::held::{Held, STORE_BYTES};
 use crate::lent::count_lent;
-use ahead_view::ReadAhead;
+use ahead_view::Wanted;
 use drda_disk::{FuseDisk, MemDisk};
 use half_store::{Active, format, open};
+use paged_tables::PagedTables;
 use row_pages::PageCache;
 use row_values::{Schema, is_name};
 use std::alloc::Global;
@@ -73,6 +75,15 @@ fn are_alike(here: &Rows, there: &Rows) -> bool {
     true
 }
 
+// This row alone, or none.
+fn only(alloc: Global, row: Option<Vec<u8>>) -> Option<Rows> {
+    let mut rows = Rows::new(alloc);
+    if let Some(row) = row {
+        rows.push(&row).ok()?;
+    }
+    Some(rows)
+}
+
 fn say_alike(alloc: Global, here: usize, there: usize, same: u32, out: &mut Vec<u8>) -> Option<()> {
     say(
         out,
@@ -110,6 +121,11 @@ impl Stores {
     pub fn opened(alloc: Global, name: &str, schema: &Schema) -> Option<Stores> {
         let (held, active) = opened_store(alloc, name, schema)?;
         Stores::over(alloc, held, active, plain_with(alloc, name, schema)?)
+    }
+
+    /// The tables over pages.
+    pub fn tables(&self) -> &PagedTables {
+        self.held.tables()
     }
 
     /// One change more that is to be made.
@@ -207,45 +223,48 @@ impl Stores {
 
     /// Tells the rows of a table, in their order.
     pub fn tell_rows(&mut self, name: &str, out: &mut Vec<u8>) -> Option<()> {
-        let rows = match self.held.rows(self.alloc, &mut self.cache, name) {
-            Ok(rows) => rows,
-            Err(fault) => return say(out, &format!(in self.alloc; "{fault}").ok()?),
-        };
-        let count = rows.len();
-        say(out, &format!(in self.alloc; "{count} rows").ok()?)?;
-        for i in 0..rows.len() {
-            tell(self.alloc, out, "-", rows.row(i))?;
+        match self.held.rows(self.alloc, &mut self.cache, name) {
+            Ok(rows) => tell_rows(self.alloc, &rows, out),
+            Err(fault) => say(out, &format!(in self.alloc; "{fault}").ok()?),
         }
-        Some(())
     }
 
     /// Tells the row of this key as a statement sees it, for which the row of the other key was read.
     pub fn tell_ahead(
         &mut self,
         name: &str,
-        read: Vec<u8>,
+        read: &[u8],
         asked: &[u8],
         out: &mut Vec<u8>,
     ) -> Option<()> {
-        let row = self
-            .held
-            .row(self.alloc, &mut self.cache, name, &read)
-            .ok()?;
-        let ahead = ReadAhead::Row {
-            table: String::from_str(self.alloc, name).ok()?,
+        let row = self.held.row(self.alloc, &mut self.cache, name, read).ok()?;
+        let mut given = Given::new(only(self.alloc, row)?);
+        let wanted = Wanted::Row {
+            table: name,
             key: read,
-            row,
         };
-        tell_row_ahead(self.alloc, self.held.tables(), ahead, name, asked, out)
+        tell_row_ahead(
+            self.alloc,
+            self.held.tables(),
+            &mut given,
+            wanted,
+            name,
+            asked,
+            out,
+        )
     }
 
     /// Tells what a statement sees of a table's rows, for which those of the other table were read.
     pub fn tell_all_ahead(&mut self, read: &str, asked: &str, out: &mut Vec<u8>) -> Option<()> {
         let rows = self.held.rows(self.alloc, &mut self.cache, read).ok()?;
-        let ahead = ReadAhead::Rows {
-            table: String::from_str(self.alloc, read).ok()?,
-            rows,
-        };
-        tell_rows_ahead(self.alloc, self.held.tables(), ahead, asked, out)
+        let wanted = Wanted::Rows { table: read };
+        tell_rows_ahead(
+            self.alloc,
+            self.held.tables(),
+            &mut Given::new(rows),
+            wanted,
+            asked,
+            out,
+        )
     }
 }
