@@ -53,6 +53,22 @@ fn request_of(alloc: Global, text: &str) -> Option<Result<Request, InvalidReques
     }
 }
 
+// The places of columns that are described, and whether a statement is refused for its meaning.
+fn push_besides(answer: &Answer, out: &mut Vec<u8>) -> Option<()> {
+    match answer {
+        Answer::Output(columns) if !columns.selected().is_empty() => {
+            push_text(out, " at")?;
+            for place in columns.selected() {
+                out.extend_from_slice(&[b' ', b'0'.saturating_add(*place)])
+                    .ok()?;
+            }
+            Some(())
+        }
+        Answer::Refused(Refusal::Meaning(_)) => push_text(out, " by its meaning"),
+        _ => Some(()),
+    }
+}
+
 impl Bench {
     /// A core without tables.
     pub fn new(alloc: Global) -> Bench {
@@ -92,23 +108,6 @@ impl Bench {
         push_answer(self.alloc, out, &self.core.xa(conversation, &request))
     }
 
-    // The places of columns that are described, and whether a statement is refused for its meaning.
-    fn look_besides(&mut self, answer: &Answer) -> Option<()> {
-        match answer {
-            Answer::Output(columns) if !columns.selected().is_empty() => {
-                push_text(&mut self.besides, " at")?;
-                for place in columns.selected() {
-                    self.besides
-                        .extend_from_slice(&[b' ', b'0'.saturating_add(*place)])
-                        .ok()?;
-                }
-                Some(())
-            }
-            Answer::Refused(Refusal::Meaning(_)) => push_text(&mut self.besides, " by its meaning"),
-            _ => Some(()),
-        }
-    }
-
     /// Does what a call asks for, and appends a line of what it is answered.
     pub fn hear(&mut self, call: &str, out: &mut Vec<u8>) -> Option<()> {
         self.besides.clear();
@@ -121,7 +120,7 @@ impl Bench {
 impl Calls for Bench {
     fn step(&mut self, conversation: u64, call: &CoreCall<'_, '_>) -> Option<Answer> {
         let answer = self.core.step(conversation, call);
-        match self.look_besides(&answer) {
+        match push_besides(&answer, &mut self.besides) {
             Some(()) => Some(answer),
             None => None,
         }
