@@ -5,7 +5,7 @@ use crate::room::Room;
 use crate::shown::{push_branches, push_changes, push_state};
 use core_calls::{Answer, CoreCall};
 use rdb_core::Core;
-use std::alloc::{AllocError, Global};
+use std::alloc::Global;
 use std::marker::Model;
 use tables::TableView;
 use test_calls::{Calls, Scripts, push_text, xid_of};
@@ -37,19 +37,18 @@ impl Model for Bench {
 
 impl Bench {
     /// A core without tables.
-    pub fn new(alloc: Global) -> Result<Bench, AllocError> {
-        let room = Unpaged::new(alloc, Room::ample())?;
-        Ok(Bench {
+    pub fn new(alloc: Global) -> Bench {
+        let recorder = Room::ample();
+        Bench {
             alloc,
-            core: Core::start(alloc, room),
-        })
+            core: Core::start(alloc, Unpaged { recorder }),
+        }
     }
 
     // A core without tables again.
-    fn restart(&mut self) -> Option<()> {
-        let room = Unpaged::new(self.alloc, Room::ample()).ok()?;
-        self.core = Core::start(self.alloc, room);
-        Some(())
+    fn restart(&mut self) {
+        let recorder = Room::ample();
+        self.core = Core::start(self.alloc, Unpaged { recorder });
     }
 
     // How many branches are in doubt.
@@ -179,7 +178,7 @@ impl Calls for Bench {
     ) -> Option<()> {
         match verb {
             "fresh" => {
-                self.restart()?;
+                self.restart();
                 push_text(out, "no table")
             }
             "look" => push_state(self.alloc, self.core.plain().ok()?, out),

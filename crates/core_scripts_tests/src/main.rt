@@ -23,9 +23,7 @@ fn main(rt: HostRuntime) -> ExitCode {
 // Whether each line was answered.
 fn answer_all(rt: &HostRuntime) -> io::Result<bool> {
     let text = io::read_to_string(rt.alloc(), rt.stdin())?;
-    let Ok(mut bench) = Bench::new(rt.alloc()) else {
-        return Ok(false);
-    };
+    let mut bench = Bench::new(rt.alloc());
     let mut scripts = Scripts::new(rt.alloc());
     let is_done = scripts.follow(&mut bench, &text).is_some();
     let mut out = rt.stdout();

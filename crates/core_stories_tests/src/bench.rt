@@ -2,7 +2,7 @@
 
 use core_calls::{Answer, CoreCall, Refusal};
 use rdb_core::Core;
-use std::alloc::{AllocError, Global};
+use std::alloc::Global;
 use std::marker::Model;
 use test_bytes::bytes_of;
 use test_calls::{Calls, Scripts, push_answer, push_text, xid_of};
@@ -55,20 +55,19 @@ fn request_of(alloc: Global, text: &str) -> Option<Result<Request, InvalidReques
 
 impl Bench {
     /// A core without tables.
-    pub fn new(alloc: Global) -> Result<Bench, AllocError> {
-        let none = Unpaged::new(alloc, NoRecords)?;
-        Ok(Bench {
+    pub fn new(alloc: Global) -> Bench {
+        let recorder = NoRecords;
+        Bench {
             alloc,
-            core: Core::start(alloc, none),
+            core: Core::start(alloc, Unpaged { recorder }),
             besides: Vec::new(alloc),
-        })
+        }
     }
 
     /// A core without tables again.
-    pub fn restart(&mut self) -> Result<(), AllocError> {
-        let none = Unpaged::new(self.alloc, NoRecords)?;
-        self.core = Core::start(self.alloc, none);
-        Ok(())
+    pub fn restart(&mut self) {
+        let recorder = NoRecords;
+        self.core = Core::start(self.alloc, Unpaged { recorder });
     }
 
     // What becomes of a branch that is to be decided heuristically.

@@ -59,7 +59,7 @@ fn push_list(
     is_shown: bool,
     out: &mut Vec<u8>,
 ) -> Option<()> {
-    bench.restart().ok()?;
+    bench.restart();
     let mut seed = list.wrapping_mul(2_654_435_769).wrapping_add(1);
     for at in 0..CALLS {
         hear(alloc, rules, bench, at, &mut seed, is_shown, out)?;

@@ -31,7 +31,7 @@ fn answer_all(rt: &HostRuntime) -> io::Result<bool> {
 
 fn follow(rt: &HostRuntime, text: &str, out: &mut Vec<u8>) -> Option<()> {
     let rules = rules_of(rt.alloc(), text).ok()?;
-    let mut bench = Bench::new(rt.alloc()).ok()?;
+    let mut bench = Bench::new(rt.alloc());
     for line in text.lines() {
         tell(rt.alloc(), &rules, &mut bench, line, out)?;
     }

@@ -5,6 +5,7 @@
 mod asked;
 mod bench;
 mod told;
+mod worn;
 
 use crate::bench::Bench;
 use std::io::{self, Write};

@@ -4,7 +4,7 @@ use crate::few::Few;
 use core_calls::Answer;
 use rdb_core::{Core, PlainState};
 use sql_text::{Command, SqlError, Statement, parse};
-use std::alloc::{AllocError, Global};
+use std::alloc::Global;
 use std::marker::Model;
 use xa_calls::{InvalidRequest, Request};
 
@@ -33,11 +33,10 @@ fn parsed<'a>(alloc: Global, text: &'a str) -> Result<Statement<'a>, SqlError> {
 
 impl Bench {
     /// A core without tables, which makes so many records.
-    pub fn new(alloc: Global, left: u32) -> Result<Bench, AllocError> {
-        let few = Few::new(alloc, left)?;
-        Ok(Bench {
-            core: Core::start(alloc, few),
-        })
+    pub fn new(alloc: Global, left: u32) -> Bench {
+        Bench {
+            core: Core::start(alloc, Few::new(left)),
+        }
     }
 
     /// What a conversation is answered that asks this. It alone holds a statement, since a function that does so is dear to

@@ -42,7 +42,7 @@ fn codes(bench: &mut Bench, xid: Xid) -> [Option<i32>; 4] {
 fn tells_the_outcome_until_it_is_forgotten(rt: HostRuntime) -> Result<(), Fail> {
     let xid = numbered(1)?;
     for (decision, code, rows) in [(Decision::Commit, 7, 1), (Decision::RollBack, 6, 0)] {
-        let mut bench = Bench::new(rt.alloc(), 2)?;
+        let mut bench = Bench::new(rt.alloc(), 2);
         assert_eq!(rt; put_in_doubt(rt.alloc(), &mut bench, xid), Some(0));
         assert!(rt;
             matches!(
@@ -80,7 +80,7 @@ fn restores_what_was_decided(rt: HostRuntime) -> Result<(), Fail> {
         (Some(Decision::RollBack), 6),
     ];
     for (outcome, code) in found {
-        let mut bench = Bench::new(rt.alloc(), 1)?;
+        let mut bench = Bench::new(rt.alloc(), 1);
         let none = UnitChanges::new(rt.alloc());
         let restored = bench.core.restore(xid, outcome, none, Vec::new(rt.alloc()));
         assert!(rt; restored.is_ok());

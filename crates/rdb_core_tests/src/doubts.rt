@@ -9,7 +9,7 @@ use xa_calls::{Ending, Verb};
 #[test]
 fn tells_changes_and_claims(rt: HostRuntime) -> Result<(), Fail> {
     let xid = numbered(1)?;
-    let mut bench = Bench::new(rt.alloc(), 1)?;
+    let mut bench = Bench::new(rt.alloc(), 1);
     assert_eq!(rt; ask(&mut bench, 1, Verb::Start, xid), Some(0));
     for (text, rows) in [(CREATE, 0), (INSERT, 1)] {
         assert_eq!(rt; rows_of(rt.alloc(), &mut bench, text), Some(rows));

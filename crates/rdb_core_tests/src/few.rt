@@ -6,7 +6,7 @@ use ahead_view::{ReadError, Source};
 use paged_tables::PagedTables;
 use std::alloc::{AllocError, Global};
 use tables::Rows;
-use test_core::Reader;
+use test_core::{read_row, read_rows};
 use unit_records::{GroupError, RecordContents, RecordError, Recorder};
 
 /// What a read gives in the place of a row.
@@ -29,20 +29,18 @@ pub struct Few {
     pub failures: u32,
     pub fault: Option<ReadError>,
     pub given: Given,
-    reader: Reader,
 }
 
 impl Few {
     /// Makes so many records, and has read nothing.
-    pub fn new(alloc: Global, left: u32) -> Result<Few, AllocError> {
-        Ok(Few {
+    pub fn new(left: u32) -> Few {
+        Few {
             left,
             reads: 0,
             failures: 0,
             fault: None,
             given: Given::Written,
-            reader: Reader::new(alloc)?,
-        })
+        }
     }
 
     // One read more, or why there is none.
@@ -104,7 +102,7 @@ impl Source for Few {
         key: &[u8],
     ) -> Result<Option<Vec<u8>>, ReadError> {
         self.count_read()?;
-        match self.reader.row(alloc, tables, table, key)? {
+        match read_row(alloc, tables, table, key)? {
             Some(row) => Ok(Some(self.give(alloc, row.as_slice())?)),
             None => Ok(None),
         }
@@ -117,7 +115,7 @@ impl Source for Few {
         table: &str,
     ) -> Result<Rows, ReadError> {
         self.count_read()?;
-        let rows = self.reader.rows(alloc, tables, table)?;
+        let rows = read_rows(alloc, tables, table)?;
         Ok(self.give_all(alloc, &rows)?)
     }
 

@@ -13,7 +13,7 @@ const TABLE: &'static str = "CREATE TABLE T (K INTEGER NOT NULL, V INTEGER, PRIM
 
 // A core with a committed table of one row.
 fn filled(alloc: Global) -> Option<Bench> {
-    let mut bench = Bench::new(alloc, 1).ok()?;
+    let mut bench = Bench::new(alloc, 1);
     rows_for(alloc, &mut bench, 1, TABLE)?;
     rows_for(alloc, &mut bench, 1, "INSERT INTO T VALUES (1, 10)")?;
     drop(bench.commit(1));

@@ -9,7 +9,7 @@ use std::test::Fail;
 // table shows once it is rolled back.
 #[test]
 fn keeps_the_unit_where_its_record_is_refused(rt: HostRuntime) -> Result<(), Fail> {
-    let mut bench = Bench::new(rt.alloc(), 1)?;
+    let mut bench = Bench::new(rt.alloc(), 1);
     let created = bench.ask(rt.alloc(), 1, CREATE);
     assert!(rt; matches!(created, Some(Answer::Count(0))));
     assert!(rt; matches!(bench.commit(1), Answer::Done));

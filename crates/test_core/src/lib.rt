@@ -4,5 +4,5 @@
 mod reader;
 mod unpaged;
 
-pub use reader::Reader;
+pub use reader::{read_row, read_rows};
 pub use unpaged::Unpaged;

@@ -6,54 +6,35 @@ use ahead_view::ReadError;
 use drda_disk::MemDisk;
 use paged_tables::PagedTables;
 use row_pages::{PageCache, PageFault};
-use std::alloc::{AllocError, Global};
+use std::alloc::Global;
 use tables::Rows;
 
-/// Reads rows of tables that have no pages: its device has none.
-#[derive(Drop)]
-pub struct Reader {
-    cache: PageCache,
-    disk: MemDisk,
+/// The row of a key in a table of tables that have no pages: it is read by a device without bytes.
+pub fn read_row(
+    alloc: Global,
+    tables: &PagedTables,
+    table: &str,
+    key: &[u8],
+) -> Result<Option<Vec<u8>>, ReadError>
+    requires { LieInside 0 tables.now.tables }
+{
+    let mut cache = PageCache::new(alloc, 1)?;
+    let mut disk = MemDisk::new(alloc, 0)?;
+    match tables.row(alloc, &mut cache, &mut disk, table, key) {
+        Ok(row) => Ok(row),
+        Err(fault) => Err(unread(fault)),
+    }
 }
 
-impl Reader {
-    /// With a device without bytes.
-    pub fn new(alloc: Global) -> Result<Reader, AllocError> {
-        Ok(Reader {
-            cache: PageCache::new(alloc, 1)?,
-            disk: MemDisk::new(alloc, 0)?,
-        })
-    }
-
-    /// The row of a key in a table.
-    pub fn row(
-        &mut self,
-        alloc: Global,
-        tables: &PagedTables,
-        table: &str,
-        key: &[u8],
-    ) -> Result<Option<Vec<u8>>, ReadError>
-        requires { LieInside 0 tables.now.tables }
-    {
-        match tables.row(alloc, &mut self.cache, &mut self.disk, table, key) {
-            Ok(row) => Ok(row),
-            Err(fault) => Err(unread(fault)),
-        }
-    }
-
-    /// All rows of a table.
-    pub fn rows(
-        &mut self,
-        alloc: Global,
-        tables: &PagedTables,
-        table: &str,
-    ) -> Result<Rows, ReadError>
-        requires { LieInside 0 tables.now.tables }
-    {
-        match tables.rows(alloc, &mut self.cache, &mut self.disk, table) {
-            Ok(rows) => Ok(rows),
-            Err(fault) => Err(unread(fault)),
-        }
+/// All rows of a table, likewise.
+pub fn read_rows(alloc: Global, tables: &PagedTables, table: &str) -> Result<Rows, ReadError>
+    requires { LieInside 0 tables.now.tables }
+{
+    let mut cache = PageCache::new(alloc, 1)?;
+    let mut disk = MemDisk::new(alloc, 0)?;
+    match tables.rows(alloc, &mut cache, &mut disk, table) {
+        Ok(rows) => Ok(rows),
+        Err(fault) => Err(unread(fault)),
     }
 }
 

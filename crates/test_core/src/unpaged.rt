@@ -1,9 +1,9 @@
 //! A recorder with tables that have no pages.
 
-use crate::reader::Reader;
+use crate::reader::{read_row, read_rows};
 use ahead_view::{ReadError, Source};
 use paged_tables::PagedTables;
-use std::alloc::{AllocError, Global};
+use std::alloc::Global;
 use tables::Rows;
 use unit_records::{GroupError, RecordContents, RecordError, Recorder};
 
@@ -11,15 +11,6 @@ use unit_records::{GroupError, RecordContents, RecordError, Recorder};
 #[derive(Drop)]
 pub struct Unpaged<R> {
     pub recorder: R,
-    reader: Reader,
-}
-
-impl<R: Drop> Unpaged<R> {
-    /// Records as this one does.
-    pub fn new(alloc: Global, recorder: R) -> Result<Unpaged<R>, AllocError> {
-        let reader = Reader::new(alloc)?;
-        Ok(Unpaged { recorder, reader })
-    }
 }
 
 impl<R: Recorder> Recorder for Unpaged<R> {
@@ -63,7 +54,7 @@ impl<R> Source for Unpaged<R> {
         table: &str,
         key: &[u8],
     ) -> Result<Option<Vec<u8>>, ReadError> {
-        self.reader.row(alloc, tables, table, key)
+        read_row(alloc, tables, table, key)
     }
 
     fn rows(
@@ -72,7 +63,7 @@ impl<R> Source for Unpaged<R> {
         tables: &PagedTables,
         table: &str,
     ) -> Result<Rows, ReadError> {
-        self.reader.rows(alloc, tables, table)
+        read_rows(alloc, tables, table)
     }
 
     fn fail(&mut self) {}
