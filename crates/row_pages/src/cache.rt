@@ -1,6 +1,6 @@
 //! Pages of a disk that are kept in memory.
 
-ghost use Rattle.std.specs.Prelude.{◌≡◌, ◌≤◌, ◌<◌, ◌+◌, ℕ, List, [], true, IsTrue, IsSome, IfOk, IfErr, OnOk, length, nat_eq};
+ghost use Rattle.std.specs.Prelude.{◌≡◌, ◌≤◌, ◌<◌, ◌+◌, ℕ, List, [], true, IsTrue, IsSome, IfOk, IfErr, OnOk, length, nat_eq, take};
 ghost use Rattle.std.specs.Borrow.{sem};
 ghost use Rattle.std.specs.Map.{lookup};
 ghost use Rattle.drda_words.specs.Place.{part};
@@ -11,6 +11,7 @@ ghost use Rattle.row_pages.specs.Lending.{EndsAs};
 ghost use Rattle.row_pages.specs.declared.kept.PageFault.TheVariants.{NoMemory};
 
 use crate::kept::{KeptPage, PageFault, read_page};
+use crate::page::PAGE_BYTES;
 use drda_disk::Disk;
 use lru::LruCache;
 use std::alloc::{AllocError, Global};
@@ -21,18 +22,23 @@ use std::num::NonZeroUsize;
 /// longest ago goes first. Contracts see it as the list of them.
 ///
 /// It does not see what is written to the disk. So each page kept is what the disk reads
-/// (`AreRead`) only as long as nothing is written to those places; `clear` keeps none.
+/// (`AreRead`) only as long as nothing is written to those places; `clear` keeps none, and
+/// `keep_front` those in front of what is written.
 #[derive(Drop)]
 pub struct PageCache {
     pages: LruCache<usize, KeptPage>,
+    /// No page that is kept begins behind this offset.
+    last: usize,
 }
 
 impl Model for PageCache {
-    ghost use Rattle.row_pages.specs.Keeping.{Kept};
+    ghost use Rattle.row_pages.specs.Keeping.{BeginUpTo, Kept};
 
     ghost Value = { Kept };
 
     ghost view = { λ c. c.pages.entries };
+
+    ghost invariant = { λ c. BeginUpTo c.last c.pages.entries };
 }
 
 impl PageCache {
@@ -47,6 +53,7 @@ impl PageCache {
         };
         Ok(PageCache {
             pages: LruCache::new(alloc, most)?,
+            last: 0,
         })
     }
 
@@ -55,6 +62,17 @@ impl PageCache {
         ensures { self.new ≡ [] }
     {
         self.pages.clear();
+        self.last = 0;
+    }
+
+    /// Something is written to the disk, from this offset on: the pages in front of it are kept, or none
+    /// where one reaches behind it. Takes no memory.
+    pub fn keep_front(&mut self, end: usize)
+        ensures { (old new : List ℕ) → take end new ≡ take end old → AreRead self.old old → AreRead self.new new }
+    {
+        if end < PAGE_BYTES || self.last > end - PAGE_BYTES {
+            self.clear();
+        }
     }
 
     /// The page at an offset of the disk, as the disk reads now where each page kept is so; it is
@@ -108,6 +126,7 @@ impl PageCache {
         ensures there { OnOk result (IsSome (lookup (nat_eq at) self.new)) }
         ensures fault { IfErr result (λ fault. fault ≡ NoMemory) }
     {
+        self.last = later_of(self.last, at);
         match self.pages.put(at, page) {
             Ok(_) => Ok(()),
             Err(_) => Err(PageFault::NoMemory),
@@ -124,4 +143,12 @@ impl PageCache {
             None => unreachable!(),
         }
     }
+}
+
+// The later of two offsets.
+fn later_of(first: usize, second: usize) -> usize
+    ensures first { first ≤ result }
+    ensures second { second ≤ result }
+{
+    if first < second { second } else { first }
 }
