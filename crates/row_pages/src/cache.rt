@@ -65,8 +65,8 @@ impl PageCache {
         self.last = 0;
     }
 
-    /// Something is written to the disk, from this offset on: the pages in front of it are kept, or none
-    /// where one reaches behind it. Takes no memory.
+    /// Something is written to the disk, from this offset on. The pages are kept, which stand in front of
+    /// it; none is, where one that was asked for since the last `clear` reaches behind it. Takes no memory.
     pub fn keep_front(&mut self, end: usize)
         ensures { (old new : List ℕ) → take end new ≡ take end old → AreRead self.old old → AreRead self.new new }
     {

@@ -6,7 +6,7 @@ mod kept;
 mod pages;
 
 use crate::kept::{tell_at, write_page};
-use crate::pages::{tell_bytes, tell_changed, tell_laid, tell_page};
+use crate::pages::{number, tell_bytes, tell_changed, tell_laid, tell_page};
 use drda_disk::MemDisk;
 use row_pages::PageCache;
 use std::alloc::{AllocError, Global};
@@ -54,6 +54,10 @@ fn answer(
         "at" => tell_at(alloc, cache, disk, rest, out),
         "clear" => {
             cache.clear();
+            Ok(())
+        }
+        "front" => {
+            cache.keep_front(number(rest));
             Ok(())
         }
         _ => Ok(()),
