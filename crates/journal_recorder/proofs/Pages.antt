@@ -40,10 +40,10 @@ module _ {D : Type 0} (modelled : Bool) (life : D → Life) where
 
   -- behind the pages something was written
   written : (old new : DiskRecorder D) (tables : Tables) → SameOutside (region_of (journal_of old)) (seen old) (seen new) → region_of (journal_of new) ≡ region_of (journal_of old)
-      → (has_failed new ≡ false → (has_failed old ≡ false) × (cache_of new ≡ [])) → HasPages modelled life old tables → HasPages modelled life new tables
+      → (has_failed new ≡ false → (has_failed old ≡ false) × (AreRead (cache_of old) (seen old) → AreRead (cache_of new) (seen new))) → HasPages modelled life old tables → HasPages modelled life new tables
   written old new tables others region going has =
       placed old new tables others.size region
-      (λ m g. none_read (cache_of new) (seen new) (going g).1)
+      (λ m g. (going g).1 (has.read m (going g).0))
       (λ m g. all_move (seen old) (seen new) (region_of (journal_of old)).at (region_of (journal_of old)).length tables others (in_front (region_of (journal_of old)).at _ tables (has.front m)) (has.stand m (going g).0))
       has
 

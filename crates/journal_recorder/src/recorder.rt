@@ -1,7 +1,8 @@
 //! Who records in a journal.
 
-ghost use Rattle.std.specs.Prelude.{◌≡◌, ◌+◌, ◌<◌, ◌≤◌, ◌^◌, false, List, [], IfErr, OnOk, length};
+ghost use Rattle.std.specs.Prelude.{◌≡◌, ◌+◌, ◌<◌, ◌≤◌, ◌^◌, false, ℕ, List, [], IfErr, OnOk, length, take};
 ghost use Rattle.drda_disk.specs.Region.{end_of};
+ghost use Rattle.row_pages.specs.Keeping.{AreRead};
 ghost use Rattle.unit_journal.specs.Journal.{held_of, region_of, room_of};
 ghost use Rattle.unit_journal.specs.LaidRecord.{entry_in};
 ghost use Rattle.unit_journal.specs.Record.{laid as spelled};
@@ -22,7 +23,7 @@ use unit_records::{GroupError, RecordContents, RecordError, Recorder};
 /// that are made together take as many for all of them. A prepare holds the bytes of its decision back,
 /// and in layout 2 those of its forgetting too, so that a decision, a heuristic one and a forgetting
 /// always have room. It reads the rows of tables whose pages lie in front of the journal, and keeps pages
-/// until the next record or checkpoint. Once the device has failed nothing is recorded or read any more,
+/// until the next checkpoint. Once the device has failed nothing is recorded or read any more,
 /// and no device call is made.
 #[derive(Drop)]
 pub struct DiskRecorder<D> {
@@ -134,7 +135,7 @@ impl<D: Disk> DiskRecorder<D> {
     {
         match self.journal.append(&mut self.disk, laid, hold, release) {
             Ok(()) => {
-                forget_pages(&mut self.cache);
+                keep_pages(&mut self.cache, &self.journal);
                 self.made.note(laid.kind(), laid.body());
                 Ok(())
             }
@@ -164,7 +165,7 @@ impl<D: Disk> DiskRecorder<D> {
             .append_group(&mut self.disk, &laid.group, laid.hold, laid.release)
         {
             Ok(()) => {
-                forget_pages(&mut self.cache);
+                keep_pages(&mut self.cache, &self.journal);
                 self.made.note_all(&laid.group);
                 Ok(())
             }
@@ -178,11 +179,11 @@ impl<D: Disk> DiskRecorder<D> {
     }
 }
 
-// Keeps no page: for all that is known of one that is kept, it could lie where a record was written.
-fn forget_pages(cache: &mut PageCache)
-    ensures { cache.new ≡ [] }
+// Keeps the pages in front of a journal, in which something was recorded.
+fn keep_pages(cache: &mut PageCache, journal: &Journal)
+    ensures { (old new : List ℕ) → take (region_of journal.now).at new ≡ take (region_of journal.now).at old → AreRead cache.old old → AreRead cache.new new }
 {
-    cache.clear();
+    cache.keep_front(journal.region().at);
 }
 
 impl<D: Disk> Recorder for DiskRecorder<D> {
