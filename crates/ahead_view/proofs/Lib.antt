@@ -1,3 +1,4 @@
+mod Comparing
 mod Rising
 mod MayBe
 mod Replacing

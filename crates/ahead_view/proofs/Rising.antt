@@ -11,9 +11,9 @@ use Rattle.row_values.proofs.ReadSteps.{drop_at}
 use Rattle.tables.proofs.Keeping.{before_all, before_trans, less_is}
 use Rattle.ahead_view.specs.Judging.{do_rise, go_on, is_behind}
 
--- rows of the schema with rising keys, all of which come behind this one
+-- rows of the schema with rising keys, all of which come behind this row's
 abbrev rise_behind : Schema → List ℕ → List (List ℕ) → Bool
-rise_behind schema last rows = list_all (is_row schema) rows && (before_all (key_cmp schema) last (map (row_key schema) rows) && rises (key_cmp schema) (map (row_key schema) rows))
+rise_behind schema last rows = list_all (is_row schema) rows && (before_all (key_cmp schema) (row_key schema last) (map (row_key schema) rows) && rises (key_cmp schema) (map (row_key schema) rows))
 
 -- a test that follows from two others is left out
 one_less : (one rest next later all up : Bool) → (next ≡ true → later ≡ true → all ≡ true) → (one && (next && (rest && (later && up)))) ≡ ((one && rest) && ((next && all) && (later && up)))
@@ -29,10 +29,10 @@ one_less true true true false false up h = refl
 later_rise : (schema : Schema) (last : List ℕ) (rows : List (List ℕ)) → go_on schema (Some last) rows ≡ rise_behind schema last rows
 later_rise schema last [] = refl
 later_rise schema last (row ∷ rows) =
-    let R = key_cmp schema in let key = row_key schema row in let keys = map (row_key schema) rows in
-    ap (λ b. is_row schema row && (is_lt (R last key) && b)) (later_rise schema key rows)
-    ∙ one_less (is_row schema row) (list_all (is_row schema) rows) (is_lt (R last key)) (before_all R key keys) (before_all R last keys) (rises R keys)
-    (λ next later. before_trans R (key_cmp_total schema) last key keys (less_is (R last key) next) later)
+    let R = key_cmp schema in let before = row_key schema last in let key = row_key schema row in let keys = map (row_key schema) rows in
+    ap (λ b. is_row schema row && (is_lt (R before key) && b)) (later_rise schema row rows)
+    ∙ one_less (is_row schema row) (list_all (is_row schema) rows) (is_lt (R before key)) (before_all R key keys) (before_all R before keys) (rises R keys)
+    (λ next later. before_trans R (key_cmp_total schema) before key keys (less_is (R before key) next) later)
 
 joined : (a b c : Bool) → (a && (b && c)) ≡ ((a && b) && c)
 joined true b c = refl
@@ -42,31 +42,29 @@ pub all_rise : (schema : Schema) (rows : List (List ℕ)) → go_on schema None 
 all_rise schema [] = refl
 all_rise schema (row ∷ rows) =
     let R = key_cmp schema in let key = row_key schema row in let keys = map (row_key schema) rows in
-    ap (λ b. is_row schema row && b) (later_rise schema key rows) ∙ joined (is_row schema row) (list_all (is_row schema) rows) (before_all R key keys && rises R keys)
+    ap (λ b. is_row schema row && b) (later_rise schema row rows) ∙ joined (is_row schema row) (list_all (is_row schema) rows) (before_all R key keys && rises R keys)
 
 -- ---- from a place on
 
+-- what was found of a row that was parsed
+pub behind_is : (schema s : Schema) (last : Option (List ℕ)) (row r : List ℕ) → s ≡ schema → r ≡ row → is_behind s last r ≡ is_behind schema last row
+behind_is schema s last row r schemas rows = ap (λ (t : Schema). is_behind t last r) schemas ∙ ap (is_behind schema last) rows
+
 module _ (schema : Schema) (last : Option (List ℕ)) (rows : List (List ℕ)) (i : ℕ) (row : List ℕ) (at : slice_get rows i ≡ Some row) where
-  step : (one next : Bool) → one ≡ is_row schema row → next ≡ is_behind schema last (row_key schema row)
-      → go_on schema last (drop i rows) ≡ (one && (next && go_on schema (Some (row_key schema row)) (drop (i + 1) rows)))
+  step : (one next : Bool) → one ≡ is_row schema row → next ≡ is_behind schema last row → go_on schema last (drop i rows) ≡ (one && (next && go_on schema (Some row) (drop (i + 1) rows)))
   step one next is_one is_next =
       ap (go_on schema last) (drop_at rows i row at)
-      ∙ ap (λ b. b && (is_behind schema last (row_key schema row) && go_on schema (Some (row_key schema row)) (drop (i + 1) rows))) (sym is_one)
-      ∙ ap (λ b. one && (b && go_on schema (Some (row_key schema row)) (drop (i + 1) rows))) (sym is_next)
+      ∙ ap (λ b. b && (is_behind schema last row && go_on schema (Some row) (drop (i + 1) rows))) (sym is_one)
+      ∙ ap (λ b. one && (b && go_on schema (Some row) (drop (i + 1) rows))) (sym is_next)
 
   -- what stands there is no row
   pub no_row : (whole : Bool) → false ≡ is_row schema row → go_on schema last (drop i rows) ≡ whole → false ≡ whole
-  no_row whole is_none so = sym (step false (is_behind schema last (row_key schema row)) is_none refl) ∙ so
+  no_row whole is_none so = sym (step false (is_behind schema last row) is_none refl) ∙ so
 
   -- the row there does not come behind the one before it
-  pub not_behind : (whole : Bool) (key : List ℕ) → true ≡ is_row schema row → key ≡ row_key schema row → false ≡ is_behind schema last key → go_on schema last (drop i rows) ≡ whole → false ≡ whole
-  not_behind whole key is_one at_key not so = sym (step true false is_one (not ∙ ap (is_behind schema last) at_key)) ∙ so
+  pub not_behind : (whole : Bool) → true ≡ is_row schema row → false ≡ is_behind schema last row → go_on schema last (drop i rows) ≡ whole → false ≡ whole
+  not_behind whole is_one not so = sym (step true false is_one not) ∙ so
 
   -- it does, and the others decide
-  pub one_more : (whole : Bool) (key : List ℕ) → true ≡ is_row schema row → key ≡ row_key schema row → true ≡ is_behind schema last key → go_on schema last (drop i rows) ≡ whole → go_on schema (Some key) (drop (i + 1) rows) ≡ whole
-  one_more whole key is_one at_key next so =
-      ap (λ (k : List ℕ). go_on schema (Some k) (drop (i + 1) rows)) at_key ∙ sym (step true true is_one (next ∙ ap (is_behind schema last) at_key)) ∙ so
-
--- the key of a row that was parsed
-pub key_is : (schema s : Schema) (row r key : List ℕ) → s ≡ schema → r ≡ row → key ≡ row_key s r → key ≡ row_key schema row
-key_is schema s row r key schemas rows is = is ∙ ap (λ (t : Schema). row_key t r) schemas ∙ ap (row_key schema) rows
+  pub one_more : (whole : Bool) → true ≡ is_row schema row → true ≡ is_behind schema last row → go_on schema last (drop i rows) ≡ whole → go_on schema (Some row) (drop (i + 1) rows) ≡ whole
+  one_more whole is_one next so = sym (step true true is_one next) ∙ so

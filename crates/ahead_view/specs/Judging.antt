@@ -24,12 +24,16 @@ may_be_rows (Some schema) rows = do_rise schema rows
 
 -- ---- one row behind another
 
--- whether a key comes behind the last one, where there is one
-abbrev pub is_behind : Schema → Option (List ℕ) → List ℕ → Bool
-is_behind schema None key = true
-is_behind schema (Some last) key = is_lt (key_cmp schema last key)
+-- of two rows of the schema the first one's key comes first
+abbrev pub comes_before : Schema → List ℕ → List ℕ → Bool
+comes_before schema first second = is_lt (key_cmp schema (row_key schema first) (row_key schema second))
 
--- rows go on behind a key: each is one of the schema, and its key comes behind the one before
+-- a row comes behind the last one, where there is one
+abbrev pub is_behind : Schema → Option (List ℕ) → List ℕ → Bool
+is_behind schema None row = true
+is_behind schema (Some last) row = comes_before schema last row
+
+-- rows go on behind the last one: each is one of the schema, and comes behind the one before
 abbrev pub go_on : Schema → Option (List ℕ) → List (List ℕ) → Bool
 go_on schema last [] = true
-go_on schema last (row ∷ rows) = is_row schema row && (is_behind schema last (row_key schema row) && go_on schema (Some (row_key schema row)) rows)
+go_on schema last (row ∷ rows) = is_row schema row && (is_behind schema last row && go_on schema (Some row) rows)

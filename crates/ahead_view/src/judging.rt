@@ -1,101 +1,129 @@
-//! Whether rows that were read may be those of a table.
+//! Whether rows that were read may be those of a table, judged where they lie: for no row is memory taken.
 
-ghost use Rattle.std.specs.Prelude.{◌≡◌, IfOk, IfSome, option_map, true};
-ghost use Rattle.row_values.specs.Key.{is_key};
-ghost use Rattle.table_map.specs.Keyed.{copied};
+ghost use Rattle.std.specs.Prelude.{◌≡◌, IfOk, IfSome, bytes_eq, option_map};
+ghost use Rattle.row_values.specs.Key.{row_key};
+ghost use Rattle.row_values.specs.RowView.{row_in, schema_in};
+ghost use Rattle.tables.specs.Tables.{is_row_at};
 ghost use Rattle.paged_tables.specs.PagedTables.{store_in};
 ghost use Rattle.ahead_view.specs.Ahead.{may_be_read};
-ghost use Rattle.ahead_view.specs.Judging.{do_rise as may_rise, is_behind as comes_behind, may_be_row, may_be_rows};
+ghost use Rattle.ahead_view.specs.Judging.{comes_before, do_rise as may_rise, is_behind as comes_behind, may_be_rows};
 
 use crate::reading::ReadAhead;
 use paged_tables::PagedTables;
-use row_values::{RowRef, Schema, compare_keys};
-use std::alloc::{AllocError, Global};
+use row_values::{KeyValues, RowRef, Schema, is_key};
+use std::alloc::AllocError;
+use std::cmp::Ordering;
 use tables::Rows;
 
 /// Whether what was read may be rows of these tables: of the schema of their table, each at its key, in
-/// the order of keys. No page is read.
-pub(crate) fn is_possible(
-    alloc: Global,
-    tables: &PagedTables,
-    read: &ReadAhead<'_>,
-) -> Result<bool, AllocError>
+/// the order of keys. No page is read. The schema is shared where there is a row, and nowhere else is
+/// memory asked for.
+pub(crate) fn is_possible(tables: &PagedTables, read: &ReadAhead<'_>) -> Result<bool, AllocError>
     ensures { IfOk result (λ may. may ≡ may_be_read (store_in tables.now) read.now) }
 {
     match read {
         ReadAhead::Nothing => Ok(true),
         ReadAhead::Row { table, key, row } => {
+            let Some(row) = row else {
+                return Ok(true);
+            };
             let schema = tables.schema(table)?;
-            is_possible_row(alloc, schema.as_deref(), row.as_deref(), key)
+            Ok(is_possible_row(schema.as_deref(), row, key))
         }
         ReadAhead::Rows { table, rows } => {
+            if rows.is_empty() {
+                return Ok(true);
+            }
             let schema = tables.schema(table)?;
-            are_possible_rows(alloc, schema.as_deref(), rows)
+            Ok(are_possible_rows(schema.as_deref(), rows))
         }
     }
 }
 
-// Whether the row of a key may be that of a table with this schema.
-fn is_possible_row(
-    alloc: Global,
-    schema: Option<&Schema>,
-    row: Option<&[u8]>,
-    key: &[u8],
-) -> Result<bool, AllocError>
-    ensures { IfOk result (λ may. may ≡ may_be_row (option_map (λ s. s.now) schema.entry) (option_map (λ r. r.now) row.entry) key.now) }
+// Whether this may be the row of a key of a table with this schema.
+fn is_possible_row(schema: Option<&Schema>, row: &[u8], key: &[u8]) -> bool
+    ensures { result ≡ is_row_at (option_map (λ s. s.now) schema.entry) row.now key.now }
 {
-    let Some(row) = row else {
-        return Ok(true);
-    };
     let Some(schema) = schema else {
-        return Ok(false);
+        return false;
     };
     match RowRef::parse(schema, row) {
-        Ok(parsed) => Ok(parsed.key(alloc)?.as_slice() == key),
-        Err(_) => Ok(false),
+        Ok(row) => is_at_key(&row, key),
+        Err(_) => false,
     }
+}
+
+// Whether these bytes are the key of the row.
+fn is_at_key(row: &RowRef<'_>, key: &[u8]) -> bool
+    ensures { result ≡ bytes_eq key.now (row_key (schema_in row.now) (row_in row.now)) }
+{
+    let schema = row.schema();
+    let places = schema.key();
+    if !is_key(schema, key) {
+        return false;
+    }
+    let mut values = KeyValues::new(schema, key);
+    for place in places {
+        let Some(value) = values.next() else {
+            return false;
+        };
+        if row.column(usize::from(*place)).order(&value).is_ne() {
+            return false;
+        }
+    }
+    true
 }
 
 // Whether these may be the rows of a table with this schema, in the order of their keys.
-fn are_possible_rows(
-    alloc: Global,
-    schema: Option<&Schema>,
-    rows: &Rows,
-) -> Result<bool, AllocError>
-    ensures { IfOk result (λ may. may ≡ may_be_rows (option_map (λ s. s.now) schema.entry) rows.now) }
+fn are_possible_rows(schema: Option<&Schema>, rows: &Rows) -> bool
+    ensures { result ≡ may_be_rows (option_map (λ s. s.now) schema.entry) rows.now }
 {
     match schema {
-        Some(schema) => do_rise(alloc, schema, rows),
-        None => Ok(rows.is_empty()),
+        Some(schema) => do_rise(schema, rows),
+        None => rows.is_empty(),
     }
 }
 
 // Whether these are rows of the schema whose keys rise.
-fn do_rise(alloc: Global, schema: &Schema, rows: &Rows) -> Result<bool, AllocError>
-    ensures { IfOk result (λ may. may ≡ may_rise schema.now rows.now) }
+fn do_rise(schema: &Schema, rows: &Rows) -> bool
+    ensures { result ≡ may_rise schema.now rows.now }
 {
-    let mut last: Option<Vec<u8>> = None;
+    let mut last: Option<RowRef<'_>> = None;
     for i in 0..rows.len() {
         let Ok(row) = RowRef::parse(schema, rows.row(i)) else {
-            return Ok(false);
+            return false;
         };
-        let key = row.key(alloc)?;
-        if !is_behind(schema, &last, &key) {
-            return Ok(false);
+        if !is_behind(&last, &row) {
+            return false;
         }
-        last = Some(key);
+        last = Some(row);
     }
-    Ok(true)
+    true
 }
 
-// Whether a key comes behind the last one, where there is one.
-fn is_behind(schema: &Schema, last: &Option<Vec<u8>>, key: &[u8]) -> bool
-    requires last { IfSome last.now (λ last. is_key schema.now last.items ≡ true) }
-    requires key { is_key schema.now key.now ≡ true }
-    ensures { result ≡ comes_behind schema.now (copied last.now) key.now }
+// Whether a row comes behind the last one, where there is one.
+fn is_behind(last: &Option<RowRef<'_>>, row: &RowRef<'_>) -> bool
+    requires { IfSome last.now (λ last. schema_in last ≡ schema_in row.now) }
+    ensures { result ≡ comes_behind (schema_in row.now) (option_map row_in last.now) (row_in row.now) }
 {
     match last {
-        Some(last) => compare_keys(schema, last, key).is_lt(),
+        Some(last) => comes_before(last, row),
         None => true,
     }
+}
+
+// Whether the first of two rows of one schema has the key that comes first.
+fn comes_before(first: &RowRef<'_>, second: &RowRef<'_>) -> bool
+    requires { schema_in first.now ≡ schema_in second.now }
+    ensures { result ≡ comes_before (schema_in second.now) (row_in first.now) (row_in second.now) }
+{
+    for place in second.schema().key() {
+        let place = usize::from(*place);
+        match first.column(place).order(&second.column(place)) {
+            Ordering::Less => return true,
+            Ordering::Greater => return false,
+            Ordering::Equal => {}
+        }
+    }
+    false
 }

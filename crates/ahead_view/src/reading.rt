@@ -61,7 +61,7 @@ pub fn read_ahead<'a, S: Source>(
     // The tables are a store.
     let _count = tables.count();
     let read = read_unjudged(source, alloc, tables, wanted)?;
-    if !is_possible(alloc, tables, &read)? {
+    if !is_possible(tables, &read)? {
         source.fail();
         return Err(ReadError::DeviceFailed);
     }
