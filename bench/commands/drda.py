@@ -65,10 +65,10 @@ class Script:
     def commit(self):
         self.add(request(wire.RDBCMM), *OF_COMMIT)
 
-    def records(self):
-        """An event record that opens conversation 0, and the commands in records of 65,536 bytes."""
+    def records(self, opens=True):
+        """The commands in event records of 65,536 bytes; in front of them, if asked for, one that opens conversation 0."""
         pieces = (self.data[at:at + BYTES_OF_A_RECORD] for at in range(0, len(self.data), BYTES_OF_A_RECORD))
-        return events.record(events.OPENS, 0) + b"".join(events.record(events.SENDS, 0, piece) for piece in pieces)
+        return opens * events.record(events.OPENS, 0) + b"".join(events.record(events.SENDS, 0, piece) for piece in pieces)
 
 
 def bytes_of_records(out):
