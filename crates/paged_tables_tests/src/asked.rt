@@ -1,6 +1,6 @@
 //! What is asked, a line each.
 
-use crate::ahead::{tell_row_ahead, tell_rows_ahead};
+use crate::ahead::tell_ahead;
 use crate::changes::{change_of, key_of, rows_of};
 use crate::given::Given;
 use crate::stores::Stores;
@@ -11,13 +11,12 @@ use tables::Rows;
 use test_bytes::bytes_of;
 use test_rows::schema_of;
 
-/// The tables, the schema that was told last, and what became of the lines so far.
+/// The tables, and the schema that was told last.
 #[derive(Drop)]
-pub struct Asked {
+struct Asked {
     alloc: Global,
     schema: Option<Schema>,
     stores: Stores,
-    written: Vec<u8>,
 }
 
 // The words of a line.
@@ -29,61 +28,69 @@ fn words_of<'a>(alloc: Global, line: &'a str) -> Option<Vec<&'a str>> {
     Some(words)
 }
 
+/// Writes each line down, and answers those that are not empty and do not begin with #. None where a line asks for nothing that there is,
+/// and without memory.
+pub fn follow(alloc: Global, text: &str, out: &mut Vec<u8>) -> Option<()> {
+    let mut asked = Asked::new(alloc)?;
+    asked.answer_all(text, out)
+}
+
 impl Asked {
-    /// No schema, and no table.
-    pub fn new(alloc: Global) -> Option<Asked> {
+    // No schema, and no table.
+    fn new(alloc: Global) -> Option<Asked> {
+        let stores = Stores::new(alloc, u64::MAX)?;
         Some(Asked {
             alloc,
             schema: None,
-            stores: Stores::new(alloc, u64::MAX)?,
-            written: Vec::new(alloc),
+            stores,
         })
     }
 
-    /// Each line, and what it came to.
-    pub fn written(&self) -> &[u8] {
-        &self.written
-    }
-
-    /// Answers each line that is not empty and does not begin with #. None where a line asks for nothing that there is, and
-    /// without memory.
-    pub fn follow(&mut self, text: &str) -> Option<()> {
+    fn answer_all(&mut self, text: &str, out: &mut Vec<u8>) -> Option<()> {
         for line in text.lines() {
-            self.written.extend_from_slice(line.as_bytes()).ok()?;
-            self.written.push(b'\n').ok()?;
+            out.extend_from_slice(line.as_bytes()).ok()?;
+            out.push(b'\n').ok()?;
             if !line.is_empty() && !line.starts_with('#') {
-                self.answer(line)?;
+                self.answer(line, out)?;
             }
         }
         Some(())
     }
 
+    fn answer(&mut self, line: &str, out: &mut Vec<u8>) -> Option<()> {
+        let words = words_of(self.alloc, line)?;
+        match words.split_first() {
+            Some((verb, words)) => self.answer_words(verb, words, out),
+            None => None,
+        }
+    }
+
     // `fresh` lets all tables go, over a device that fails behind so many calls if they are told; `schema` lays the schema of the rows, and `do`
     // makes a change at once.
-    fn answer(&mut self, line: &str) -> Option<()> {
-        let words = words_of(self.alloc, line)?;
-        let [verb, words @ ..] = words.as_slice() else {
-            return None;
-        };
-        match *verb {
-            "fresh" => {
-                let calls = words.first().and_then(|word| word.parse::<u64>().ok());
-                self.stores = Stores::new(self.alloc, calls.unwrap_or(u64::MAX))?;
-                Some(())
-            }
-            "schema" => {
-                self.schema = Some(schema_of(self.alloc, words)??);
-                Some(())
-            }
+    fn answer_words(&mut self, verb: &str, words: &[&str], out: &mut Vec<u8>) -> Option<()> {
+        match verb {
+            "fresh" => self.begin(words),
+            "schema" => self.take_schema(words),
             "opened" => self.open(words),
             "create" | "put" | "remove" => self.lay(verb, words),
-            "do" => self.lay_and_commit(words),
-            "get" | "get-bytes" => self.tell_row(verb, words),
-            "ahead" => self.tell_ahead(words),
-            "row-ahead" => self.tell_given_row(words),
-            "rows-ahead" => self.tell_given_rows(words),
-            _ => self.answer_of_tables(verb, words),
+            "do" => self.lay_and_commit(words, out),
+            "get" | "get-bytes" => self.tell_row(verb, words, out),
+            "ahead" => self.tell_read_ahead(words, out),
+            "row-ahead" => self.tell_given_row(words, out),
+            "rows-ahead" => self.tell_given_rows(words, out),
+            _ => self.answer_of_tables(verb, words, out),
         }
+    }
+
+    fn begin(&mut self, words: &[&str]) -> Option<()> {
+        let calls = words.first().and_then(|word| word.parse::<u64>().ok());
+        self.stores = Stores::new(self.alloc, calls.unwrap_or(u64::MAX))?;
+        Some(())
+    }
+
+    fn take_schema(&mut self, words: &[&str]) -> Option<()> {
+        self.schema = Some(schema_of(self.alloc, words)??);
+        Some(())
     }
 
     // One table, as an opening finds it.
@@ -105,21 +112,22 @@ impl Asked {
         let [name, words @ ..] = words else {
             return None;
         };
-        let change = change_of(self.alloc, schema, verb, name, words)?;
-        let copy = change_of(self.alloc, schema, verb, name, words)?;
-        self.stores.lay(change, copy)
+        self.stores
+            .lay(change_of(self.alloc, schema, verb, name, words)?)?;
+        self.stores
+            .lay_copy(change_of(self.alloc, schema, verb, name, words)?)
     }
 
-    fn lay_and_commit(&mut self, words: &[&str]) -> Option<()> {
+    fn lay_and_commit(&mut self, words: &[&str], out: &mut Vec<u8>) -> Option<()> {
         let [verb, words @ ..] = words else {
             return None;
         };
         self.lay(verb, words)?;
-        self.stores.commit(&mut self.written)
+        self.stores.commit(out)
     }
 
     // The first key is read, and the second asked for.
-    fn tell_ahead(&mut self, words: &[&str]) -> Option<()> {
+    fn tell_read_ahead(&mut self, words: &[&str], out: &mut Vec<u8>) -> Option<()> {
         let Some(schema) = &self.schema else {
             return None;
         };
@@ -128,12 +136,11 @@ impl Asked {
         };
         let read = key_of(self.alloc, schema, &[read])?;
         let asked = key_of(self.alloc, schema, &[asked])?;
-        self.stores
-            .tell_ahead(name, &read, &asked, &mut self.written)
+        self.stores.tell_ahead(name, &read, &asked, out)
     }
 
     // The row behind the key is given for it, or none.
-    fn tell_given_row(&mut self, words: &[&str]) -> Option<()> {
+    fn tell_given_row(&mut self, words: &[&str], out: &mut Vec<u8>) -> Option<()> {
         let Some(schema) = &self.schema else {
             return None;
         };
@@ -147,19 +154,18 @@ impl Asked {
             key: &key,
         };
         let tables = self.stores.tables();
-        tell_row_ahead(
+        tell_ahead(
             self.alloc,
             tables,
             &mut given,
             wanted,
-            name,
-            &key,
-            &mut self.written,
+            (name, Some(&key)),
+            out,
         )
     }
 
     // These rows are given for all of a table.
-    fn tell_given_rows(&mut self, words: &[&str]) -> Option<()> {
+    fn tell_given_rows(&mut self, words: &[&str], out: &mut Vec<u8>) -> Option<()> {
         let Some(schema) = &self.schema else {
             return None;
         };
@@ -169,32 +175,25 @@ impl Asked {
         let mut given = Given::new(rows_of(self.alloc, schema, words)?);
         let wanted = Wanted::Rows { table: name };
         let tables = self.stores.tables();
-        tell_rows_ahead(
-            self.alloc,
-            tables,
-            &mut given,
-            wanted,
-            name,
-            &mut self.written,
-        )
+        tell_ahead(self.alloc, tables, &mut given, wanted, (name, None), out)
     }
 
     // Nothing is read.
-    fn tell_nothing_ahead(&mut self, name: &str) -> Option<()> {
+    fn tell_nothing_ahead(&mut self, name: &str, out: &mut Vec<u8>) -> Option<()> {
         let mut given = Given::new(Rows::new(self.alloc));
         let tables = self.stores.tables();
-        tell_rows_ahead(
+        tell_ahead(
             self.alloc,
             tables,
             &mut given,
             Wanted::Nothing,
-            name,
-            &mut self.written,
+            (name, None),
+            out,
         )
     }
 
     // A key is spelled by its values, or by its bytes.
-    fn tell_row(&mut self, verb: &str, words: &[&str]) -> Option<()> {
+    fn tell_row(&mut self, verb: &str, words: &[&str], out: &mut Vec<u8>) -> Option<()> {
         let Some(schema) = &self.schema else {
             return None;
         };
@@ -205,28 +204,36 @@ impl Asked {
             "get" => key_of(self.alloc, schema, words)?,
             _ => bytes_of(self.alloc, words).ok()?,
         };
-        self.stores.tell_row(name, &key, &mut self.written)
+        self.stores.tell_row(name, &key, out)
     }
 
     // `commit` makes the changes that were laid, `reserve` makes room for them alone, and `release` gives it up; `alike` and `lent` compare the
     // tables of these names; `checkpoint` lays all rows into pages, and goes on over them.
-    fn answer_of_tables(&mut self, verb: &str, words: &[&str]) -> Option<()> {
-        match (verb, words) {
-            ("commit", []) => self.stores.commit(&mut self.written),
-            ("reserve", []) => self.stores.reserve(&mut self.written),
-            ("checkpoint", []) => self.stores.checkpoint(&mut self.written),
-            ("release", []) => {
+    fn answer_of_tables(&mut self, verb: &str, words: &[&str], out: &mut Vec<u8>) -> Option<()> {
+        match verb {
+            "commit" => self.stores.commit(out),
+            "reserve" => self.stores.reserve(out),
+            "checkpoint" => self.stores.checkpoint(out),
+            "release" => {
                 self.stores.release();
                 Some(())
             }
-            ("alike", names) => self.stores.compare(names, &mut self.written),
-            ("lent", names) => self.stores.compare_lent(names, &mut self.written),
-            ("known", [name]) => self.stores.tell_known(name, &mut self.written),
-            ("scan", [name]) => self.stores.tell_rows(name, &mut self.written),
-            ("nothing-ahead", [name]) => self.tell_nothing_ahead(name),
-            ("all-ahead", [read, name]) => {
-                self.stores.tell_all_ahead(read, name, &mut self.written)
-            }
+            "alike" | "lent" => self.stores.compare(verb == "lent", words, out),
+            _ => self.answer_of_table(verb, words, out),
+        }
+    }
+
+    // `known` tells whether there is a table, `scan` its rows, and `nothing-ahead` and `all-ahead` what a statement sees of it, for which
+    // nothing was read, or the rows of a table.
+    fn answer_of_table(&mut self, verb: &str, words: &[&str], out: &mut Vec<u8>) -> Option<()> {
+        let [name, others @ ..] = words else {
+            return None;
+        };
+        match verb {
+            "known" => self.stores.tell_known(name, out),
+            "scan" => self.stores.tell_rows(name, out),
+            "nothing-ahead" => self.tell_nothing_ahead(name, out),
+            "all-ahead" => self.stores.tell_all_ahead(name, others.first()?, out),
             _ => None,
         }
     }

@@ -5,11 +5,18 @@ use std::alloc::Global;
 use tables::{Change, Rows};
 use test_rows::{cells_of, values_of};
 
-fn row_of(alloc: Global, schema: &Schema, values: &[Value<'_>]) -> Option<Vec<u8>> {
+fn encoded(alloc: Global, schema: &Schema, values: &[Value<'_>]) -> Option<Vec<u8>> {
     if !are_row(schema, values) {
         return None;
     }
     encode_row(alloc, schema, values).ok()
+}
+
+// The row that these words spell. None where it is none of the schema's.
+fn row_of(alloc: Global, schema: &Schema, words: &[&str]) -> Option<Vec<u8>> {
+    let cells = cells_of(alloc, words)?;
+    let values = values_of(alloc, &cells)?;
+    encoded(alloc, schema, &values)
 }
 
 /// The key that these words spell. None where it is none of the schema's.
@@ -23,9 +30,7 @@ pub fn key_of(alloc: Global, schema: &Schema, words: &[&str]) -> Option<Vec<u8>>
 }
 
 fn put(alloc: Global, schema: &Schema, table: String, words: &[&str]) -> Option<Change> {
-    let cells = cells_of(alloc, words)?;
-    let values = values_of(alloc, &cells)?;
-    let row = row_of(alloc, schema, &values)?;
+    let row = row_of(alloc, schema, words)?;
     if !is_name(table.as_str().as_bytes()) || row.len() > 4_000 {
         return None;
     }
@@ -64,17 +69,26 @@ pub fn change_of(
     }
 }
 
+// The parts of a word that commas part.
+fn parts_of<'a>(alloc: Global, word: &'a str) -> Option<Vec<&'a str>> {
+    let mut parts = Vec::new(alloc);
+    for part in word.split(",") {
+        parts.push(part).ok()?;
+    }
+    Some(parts)
+}
+
+fn push_row(alloc: Global, schema: &Schema, word: &str, rows: &mut Rows) -> Option<()> {
+    let parts = parts_of(alloc, word)?;
+    let row = row_of(alloc, schema, &parts)?;
+    rows.push(&row).ok()
+}
+
 /// The rows that these words spell, each by its values with commas between. None where one is none of the schema's.
 pub fn rows_of(alloc: Global, schema: &Schema, words: &[&str]) -> Option<Rows> {
     let mut rows = Rows::new(alloc);
     for word in words {
-        let mut values = Vec::new(alloc);
-        for value in word.split(",") {
-            values.push(value).ok()?;
-        }
-        let cells = cells_of(alloc, &values)?;
-        let row = row_of(alloc, schema, &values_of(alloc, &cells)?)?;
-        rows.push(&row).ok()?;
+        push_row(alloc, schema, word, &mut rows)?;
     }
     Some(rows)
 }

@@ -66,24 +66,18 @@ impl<D: Disk> Held<D> {
         self.tables.row(alloc, cache, &mut self.disk, name, key)
     }
 
-    /// All rows of a table.
+    /// All rows of a table, as it is or as it is lent.
     pub fn rows(
         &mut self,
         alloc: Global,
         cache: &mut PageCache,
         name: &str,
+        is_lent: bool,
     ) -> Result<Rows, PageFault> {
+        if is_lent {
+            return scan_lent(alloc, &self.tables, cache, &mut self.disk, name);
+        }
         self.tables.rows(alloc, cache, &mut self.disk, name)
-    }
-
-    /// All rows of a table that is lent.
-    pub fn lent_rows(
-        &mut self,
-        alloc: Global,
-        cache: &mut PageCache,
-        name: &str,
-    ) -> Result<Rows, PageFault> {
-        scan_lent(alloc, &self.tables, cache, &mut self.disk, name)
     }
 
     /// Makes room for changes.

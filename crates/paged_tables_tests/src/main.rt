@@ -10,7 +10,7 @@ mod held;
 mod lent;
 mod stores;
 
-use crate::asked::Asked;
+use crate::asked::follow;
 use std::io::{self, Write};
 use std::process::ExitCode;
 
@@ -24,12 +24,10 @@ fn main(rt: HostRuntime) -> ExitCode {
 // Whether each line was answered.
 fn answer_all(rt: &HostRuntime) -> io::Result<bool> {
     let text = io::read_to_string(rt.alloc(), rt.stdin())?;
-    let Some(mut asked) = Asked::new(rt.alloc()) else {
-        return Ok(false);
-    };
-    let is_done = asked.follow(&text).is_some();
+    let mut told = Vec::new(rt.alloc());
+    let is_done = follow(rt.alloc(), &text, &mut told).is_some();
     let mut out = rt.stdout();
-    out.write_all(asked.written())?;
+    out.write_all(&told)?;
     out.flush()?;
     Ok(is_done)
 }

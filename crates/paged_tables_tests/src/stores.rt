@@ -1,6 +1,6 @@
 //! Tables over pages, and plain ones that are changed in the same way.
 
-use crate::ahead::{tell_row_ahead, tell_rows, tell_rows_ahead};
+use crate::ahead::{tell_ahead, tell_found, tell_scanned};
 use crate::given::Given;
 use crate::held::{Held, STORE_BYTES};
 use crate::lent::count_lent;
@@ -95,12 +95,11 @@ impl Stores {
     // These, with no change.
     fn over(
         alloc: Global,
-        held: Held<FuseDisk<MemDisk>>,
-        active: Active,
+        cache: PageCache,
         plain: PlainView,
-    ) -> Option<Stores> {
-        let cache = PageCache::new(alloc, 2).ok()?;
-        Some(Stores {
+        (held, active): (Held<FuseDisk<MemDisk>>, Active),
+    ) -> Stores {
+        Stores {
             alloc,
             held,
             active,
@@ -108,19 +107,23 @@ impl Stores {
             plain,
             changes: Vec::new(alloc),
             copies: Vec::new(alloc),
-        })
+        }
     }
 
     /// No table, and no change, over a device that fails behind so many calls.
     pub fn new(alloc: Global, calls: u64) -> Option<Stores> {
+        let cache = PageCache::new(alloc, 2).ok()?;
         let (disk, active) = new_store(alloc, calls)?;
-        Stores::over(alloc, Held::new(alloc, disk), active, PlainView::new(alloc))
+        let held = Held::new(alloc, disk);
+        Some(Stores::over(alloc, cache, PlainView::new(alloc), (held, active)))
     }
 
     /// One table of this name, as an opening finds it.
     pub fn opened(alloc: Global, name: &str, schema: &Schema) -> Option<Stores> {
-        let (held, active) = opened_store(alloc, name, schema)?;
-        Stores::over(alloc, held, active, plain_with(alloc, name, schema)?)
+        let cache = PageCache::new(alloc, 2).ok()?;
+        let plain = plain_with(alloc, name, schema)?;
+        let opened = opened_store(alloc, name, schema)?;
+        Some(Stores::over(alloc, cache, plain, opened))
     }
 
     /// The tables over pages.
@@ -129,8 +132,12 @@ impl Stores {
     }
 
     /// One change more that is to be made.
-    pub fn lay(&mut self, change: Change, copy: Change) -> Option<()> {
-        self.changes.push(change).ok()?;
+    pub fn lay(&mut self, change: Change) -> Option<()> {
+        self.changes.push(change).ok()
+    }
+
+    /// The same change, which is to be made to the plain tables.
+    pub fn lay_copy(&mut self, copy: Change) -> Option<()> {
         self.copies.push(copy).ok()
     }
 
@@ -143,10 +150,15 @@ impl Stores {
     /// Makes the changes, for which room is made first. Without memory neither store changes.
     pub fn commit(&mut self, out: &mut Vec<u8>) -> Option<()> {
         let changes = self.take();
-        let copies = std::mem::replace(&mut self.copies, Vec::new(self.alloc));
         if self.held.commit(self.alloc, changes).is_err() {
+            self.copies.clear();
             return say(out, "no memory");
         }
+        self.commit_copies()
+    }
+
+    fn commit_copies(&mut self) -> Option<()> {
+        let copies = std::mem::replace(&mut self.copies, Vec::new(self.alloc));
         for change in copies {
             self.plain.apply(self.alloc, change).ok()?;
         }
@@ -182,28 +194,28 @@ impl Stores {
         }
     }
 
-    /// Tells how many tables both have, and how many of these names they show alike.
-    pub fn compare(&mut self, names: &[&str], out: &mut Vec<u8>) -> Option<()> {
-        let mut same = 0_u32;
-        for name in names {
-            let here = self.held.rows(self.alloc, &mut self.cache, name).ok()?;
-            let there = self.plain.scan(self.alloc, name).ok()?;
-            same = same.wrapping_add(u32::from(are_alike(&here, &there)));
-        }
-        let (here, there) = (self.held.tables().count(), self.plain.tables().ok()?);
-        say_alike(self.alloc, here, there, same, out)
+    // Whether a table shows the same, as it is or as it is lent.
+    fn is_alike(&mut self, is_lent: bool, name: &str) -> Option<bool> {
+        let there = self.plain.scan(self.alloc, name).ok()?;
+        let here = self
+            .held
+            .rows(self.alloc, &mut self.cache, name, is_lent)
+            .ok()?;
+        Some(are_alike(&here, &there))
     }
 
-    /// The same of the tables as they are lent.
-    pub fn compare_lent(&mut self, names: &[&str], out: &mut Vec<u8>) -> Option<()> {
+    /// Tells how many tables both have, and how many of these names they show alike, as they are or as they are lent.
+    pub fn compare(&mut self, are_lent: bool, names: &[&str], out: &mut Vec<u8>) -> Option<()> {
         let mut same = 0_u32;
         for name in names {
-            let here = self.held.lent_rows(self.alloc, &mut self.cache, name).ok()?;
-            let there = self.plain.scan(self.alloc, name).ok()?;
-            same = same.wrapping_add(u32::from(are_alike(&here, &there)));
+            same = same.wrapping_add(u32::from(self.is_alike(are_lent, name)?));
         }
-        let (here, there) = (count_lent(self.held.tables()), self.plain.tables().ok()?);
-        say_alike(self.alloc, here, there, same, out)
+        let here = if are_lent {
+            count_lent(self.held.tables())
+        } else {
+            self.held.tables().count()
+        };
+        say_alike(self.alloc, here, self.plain.tables().ok()?, same, out)
     }
 
     /// Tells whether there is a table.
@@ -214,19 +226,14 @@ impl Stores {
 
     /// Tells the row of a key.
     pub fn tell_row(&mut self, name: &str, key: &[u8], out: &mut Vec<u8>) -> Option<()> {
-        match self.held.row(self.alloc, &mut self.cache, name, key) {
-            Ok(Some(row)) => tell(self.alloc, out, "row", &row),
-            Ok(None) => say(out, "no row"),
-            Err(fault) => say(out, &format!(in self.alloc; "{fault}").ok()?),
-        }
+        let found = self.held.row(self.alloc, &mut self.cache, name, key);
+        tell_found(self.alloc, found, out)
     }
 
     /// Tells the rows of a table, in their order.
     pub fn tell_rows(&mut self, name: &str, out: &mut Vec<u8>) -> Option<()> {
-        match self.held.rows(self.alloc, &mut self.cache, name) {
-            Ok(rows) => tell_rows(self.alloc, &rows, out),
-            Err(fault) => say(out, &format!(in self.alloc; "{fault}").ok()?),
-        }
+        let found = self.held.rows(self.alloc, &mut self.cache, name, false);
+        tell_scanned(self.alloc, found, out)
     }
 
     /// Tells the row of this key as a statement sees it, for which the row of the other key was read.
@@ -243,27 +250,30 @@ impl Stores {
             table: name,
             key: read,
         };
-        tell_row_ahead(
+        tell_ahead(
             self.alloc,
             self.held.tables(),
             &mut given,
             wanted,
-            name,
-            asked,
+            (name, Some(asked)),
             out,
         )
     }
 
     /// Tells what a statement sees of a table's rows, for which those of the other table were read.
     pub fn tell_all_ahead(&mut self, read: &str, asked: &str, out: &mut Vec<u8>) -> Option<()> {
-        let rows = self.held.rows(self.alloc, &mut self.cache, read).ok()?;
+        let rows = self
+            .held
+            .rows(self.alloc, &mut self.cache, read, false)
+            .ok()?;
+        let mut given = Given::new(rows);
         let wanted = Wanted::Rows { table: read };
-        tell_rows_ahead(
+        tell_ahead(
             self.alloc,
             self.held.tables(),
-            &mut Given::new(rows),
+            &mut given,
             wanted,
-            asked,
+            (asked, None),
             out,
         )
     }
