@@ -8,3 +8,4 @@ mod Listing
 mod ReadEntries
 mod InMemory
 pub mod Moments
+mod Counting

@@ -1,12 +1,13 @@
 //! The catalogue of an image: where each of its tables lies.
-ghost use Rattle.std.specs.Prelude.{◌≡◌, ◌+◌, ◌*◌, ◌≤◌, ◌^◌, ℕ, List, true, IsTrue, OnOk, IfOk, length, map};
+ghost use Rattle.std.specs.Prelude.{◌≡◌, ◌+◌, ◌*◌, ◌≤◌, ◌∷◌, ◌^◌, ℕ, List, true, IsTrue, OnOk, IfOk, length, map};
 ghost use Rattle.drda_disk.specs.Disk.{Stays};
 ghost use Rattle.row_pages.specs.Keeping.{AreRead};
-ghost use Rattle.row_pages.specs.Laying.{IsShort, laid};
+ghost use Rattle.row_pages.specs.Laying.{IsShort, laid, pages_with};
+ghost use Rattle.row_values.specs.Schema.{is_name};
 ghost use Rattle.std.specs.List.{AllByRecursion};
 ghost use Rattle.half_store.specs.Writing.{from_of, half_bytes_of, next_of};
 ghost use Rattle.checkpoint_writer.specs.Adding.{AddsPages, end_of_half};
-ghost use Rattle.checkpoint_writer.specs.Catalogue.{HaveNames, place_of, rows_of};
+ghost use Rattle.checkpoint_writer.specs.Catalogue.{Entry, HaveNames, entry_bytes, place_of, rows_of};
 ghost use Rattle.checkpoint_writer.specs.Errors.{CountsImage, DamagedWhere, TellsFull};
 ghost use Rattle.checkpoint_writer.specs.Laying.{StandAt};
 
@@ -15,8 +16,9 @@ use crate::rows::RowWriter;
 use crate::{ImageError, TablePlace};
 use drda_disk::Disk;
 use half_store::ImageWriter;
-use row_pages::{PageCache, PageKind};
-use std::alloc::Global;
+use row_pages::{PageCache, PageCount, PageKind};
+use row_values::Schema;
+use std::alloc::{AllocError, Global};
 
 /// Writes the catalogue of these tables into pages behind those that the image has: a row for each, in
 /// their order. Their names are good ones.
@@ -48,5 +50,26 @@ pub fn write_catalogue<D: Disk>(
         left = rest;
     }
     rows.finish(cache, disk, image)?;
+    Ok(())
+}
+
+/// Counts the row of one table more, of a good name, into the pages of a catalogue. The row is as long wherever the
+/// table's pages will lie, so they need not be known yet.
+pub fn count_entry(
+    alloc: Global,
+    count: &mut PageCount,
+    name: &str,
+    schema: &Schema,
+) -> Result<(), AllocError>
+    requires { is_name name.now ≡ true }
+    ensures { OnOk result ((e : Entry) (rows : List (List ℕ)) → e.name ≡ name.now → e.schema ≡ schema.now → pages_with count.new rows ≡ pages_with count.old (entry_bytes e ∷ rows)) }
+{
+    let place = TablePlace {
+        name,
+        schema,
+        first_page: 0,
+        pages: 0,
+    };
+    count.push(&entry_row(alloc, &place)?);
     Ok(())
 }

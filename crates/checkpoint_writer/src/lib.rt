@@ -11,7 +11,7 @@ mod page;
 mod reading;
 mod rows;
 
-pub use catalogue::write_catalogue;
+pub use catalogue::{count_entry, write_catalogue};
 pub use ending::{Switched, finish_image};
 pub use entry::{StoredTable, TablePlace, entries_have_their_bytes};
 pub use errors::ImageError;

@@ -1,8 +1,8 @@
 -- The room that a checkpoint takes in a half.
-use Rattle.std.specs.Prelude.{◌≤◌, ◌<◌, ℕ, ◌+◌, ◌*◌, ◌==◌, List, [], ◌∷◌, length, Result, Ok, Err, if◌then◌else◌}
+use Rattle.std.specs.Prelude.{◌≡◌, ◌≤◌, ◌<◌, ℕ, ◌+◌, ◌*◌, ◌==◌, List, [], ◌∷◌, length, Result, Ok, Err, if◌then◌else◌}
 use Rattle.std.specs.Map.{values_of}
 use Rattle.tables.specs.Tables.{Store, Table}
-use Rattle.row_pages.specs.Laying.{laid}
+use Rattle.row_pages.specs.Laying.{counted, laid}
 use Rattle.unit_journal.specs.Record.{laid as laid_records}
 use Rattle.unit_journal.specs.Record.{Entry as JournalEntry}
 use Rattle.checkpoint_writer.specs.Catalogue.{Entry, rows_of}
@@ -40,3 +40,15 @@ abbrev pub TellsRoom : {T : Type 0} → Result T ImageError → ℕ → ℕ → 
 TellsRoom (Ok x) need room = need ≤ room
 TellsRoom (Err (Full full)) need room = (full.room < full.need) × (full.need + room ≤ need + full.room)
 TellsRoom (Err other) need room = Unit {0}
+
+-- That there is no room is told exactly where it does not fit, with the bytes that are needed, up to the greatest number of
+-- 64 bits, and those that there are.
+abbrev pub SaysRoom : {T : Type 0} → Result T ImageError → ℕ → ℕ → Type 0
+SaysRoom (Ok x) need room = need ≤ room
+SaysRoom (Err (Full full)) need room = (room < need) × (full.need ≡ counted need) × (full.room ≡ room)
+SaysRoom (Err other) need room = Unit {0}
+
+-- what holds where that is told
+abbrev pub OnFull : {T : Type 0} → Result T ImageError → Type 0 → Type 0
+OnFull (Err (Full full)) P = P
+OnFull other P = Unit {0}

@@ -1,10 +1,11 @@
 -- What a checkpoint leaves: at each moment the same tables and branches in doubt.
-use Rattle.std.proofs.Common.{◌≡◌, ◌⊎◌, inl, inr, ℕ, ◌+◌, ◌-◌, ◌≤◌, Bool, true, false, IsTrue, List, [], ◌∷◌, length, map, Result, Ok, Err, refl, sym, ◌∙◌, ap, subst, arith, append-nil}
+use Rattle.std.proofs.Common.{◌≡◌, ◌⊎◌, inl, inr, ℕ, ◌+◌, ◌-◌, ◌<◌, ◌≤◌, Bool, true, false, IsTrue, List, [], ◌∷◌, length, map, Result, Ok, Err, refl, sym, ◌∙◌, ap, subst, arith, append-nil}
 use Rattle.std.proofs.lemmas.Bool.{false≢true}
 use Rattle.drda_disk.specs.Disk.{LeavesOnly, Life}
 use Rattle.drda_disk.specs.Region.{end_of}
 use Rattle.drda_disk.specs.declared.region.Region.{Region}
 use Rattle.drda_disk.proofs.Moments.{Stays-refl, weaker}
+use Rattle.row_pages.specs.Laying.{counted}
 use Rattle.half_store.specs.Active.{Store, active_of}
 use Rattle.half_store.specs.Layout.{half_len, other_than}
 use Rattle.half_store.specs.declared.header.Layout.{Layout}
@@ -321,12 +322,15 @@ module _ {D : Type 0} (modelled : Bool) (life : D → Life) (name : List ℕ) (l
     journaled_is = journaled new k.moments k.stays.made (no_faults modelled (has_failed new) (life (disk_of r)).faults (life (disk_of new)).faults k.going k.faults);
   }
 
-  lacks : (need room : ℕ) → OfStore modelled life r (λ store. recorder.LacksRoom modelled life r tables fs hold need room) → IsTrue modelled → LacksRoom (shown_on life (core_on name s r)) need room
-  lacks need room of_store m =
+  lacks : (need room : ℕ) (new : DiskRecorder D) → OfStore modelled life r (λ store. recorder.LacksRoom modelled life r tables fs hold need room new) → IsTrue modelled
+      → LacksRoom (shown_on life (core_on name s r)) (shown_on life (core_on name s new)) need room
+  lacks need room new of_store m =
       let there_is = of_store (disk_there m).holds.store (store_rests m) in
       record {
-        less = there_is.less;
-        lacking = subst (λ (n : ℕ). need + half_len (length (life (disk_of r)).seen) ≤ n + room) (sym enough) there_is.lacking;
+        less = subst (λ (n : ℕ). half_len (length (life (disk_of r)).seen) < n) (sym enough) there_is.less;
+        needed = there_is.needed ∙ ap counted (sym enough);
+        has = there_is.has;
+        unwritten = there_is.unwritten;
       }
 
   failed_left : (new : DiskRecorder D) → LeavesOpen modelled life r tables fs hold new → IsLeft DeviceFailed s new
@@ -350,7 +354,7 @@ module _ {D : Type 0} (modelled : Bool) (life : D → Life) (name : List ℕ) (l
   all_left : {X : Type 0} (result : Result X CheckpointError) (new : DiskRecorder D) → recorder.Checkpoints modelled life r tables fs hold result new → IsLeft (told_of result) s new
   all_left (Ok x) new w = laid_left new w
   all_left (Err error.NoMemory) new k = kept_left NoMemory new k (goes_on new k)
-  all_left (Err (error.Full need room)) new k = kept_left (Full need room) new k.0 (goes_on new k.0, lacks need room k.1)
+  all_left (Err (error.Full need room)) new k = kept_left (Full need room) new k.0 (goes_on new k.0, lacks need room new k.1)
   all_left (Err error.DeviceFailed) new l = failed_left new l
 
   -- whatever comes of it, over tables that are the same

@@ -1,7 +1,9 @@
 -- What a checkpoint makes of a core: nothing but its disk and the room of its journal changes.
 use Rattle.std.specs.Prelude.{◌≡◌, ◌<◌, ◌≤◌, ℕ, ◌+◌, Bool, IsTrue, true, false, length, map, Result, Ok, Err}
+use Rattle.drda_disk.specs.Disk.{Stays}
 use Rattle.half_store.specs.Layout.{half_len}
 use Rattle.half_store.specs.declared.header.Layout.TheVariants.{Two}
+use Rattle.row_pages.specs.Laying.{counted}
 use Rattle.unit_records.specs.Records.{entry_of}
 use Rattle.checkpoints.specs.Room.{need_of}
 use Rattle.recovery.specs.Laws.{held_for}
@@ -42,10 +44,13 @@ pub record GoesOn (old new : Shown) : Type 0 where
   pub room : new.room ≡ old.room
   pub faults : new.disk.faults ≡ old.disk.faults
 
--- a half is too short for it; what is told to be lacking is no more than what lacks
-pub record LacksRoom (old : Shown) (need room : ℕ) : Type 0 where
-  pub less : room < need
-  pub lacking : need + half_bytes_for old ≤ need_for old + room
+-- A half is too short for it. How many bytes it takes is told, up to the greatest number of 64 bits, and how many a half has;
+-- nothing was written.
+pub record LacksRoom (old new : Shown) (need room : ℕ) : Type 0 where
+  pub less : half_bytes_for old < need_for old
+  pub needed : need ≡ counted (need_for old)
+  pub has : room ≡ half_bytes_for old
+  pub unwritten : Stays old.disk new.disk
 
 -- the device failed, or gave what is no page; which half is the active one then shows when the store is opened again
 pub record FailsHere (modelled : Bool) (old new : Shown) : Type 0 where
@@ -62,7 +67,7 @@ pub record WasClosed (old new : Shown) : Type 0 where
 
 abbrev pub Becomes : Bool → Checkpointed → Shown → Shown → Type 0
 Becomes modelled Done old new = IsLaid modelled old new
-Becomes modelled (Full need room) old new = GoesOn old new × (IsTrue modelled → LacksRoom old need room)
+Becomes modelled (Full need room) old new = GoesOn old new × (IsTrue modelled → LacksRoom old new need room)
 Becomes modelled NoMemory old new = GoesOn old new
 Becomes modelled DeviceFailed old new = FailsHere modelled old new
 Becomes modelled Closed old new = WasClosed old new

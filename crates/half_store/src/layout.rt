@@ -55,9 +55,9 @@ pub(crate) fn is_store_size(size: usize) -> bool
     LEAST_SIZE <= size && size <= GREATEST_SIZE
 }
 
-/// The bytes of a half of a store of this size.
+/// The bytes of a half of a store of this size: whole pages, as many as there are twice behind the first page.
 #[tactic(auto, unfolding(crate::specs::Layout::half_len))]
-pub(crate) fn half_bytes(size: usize) -> usize
+pub fn half_bytes(size: usize) -> usize
     requires { IsTrue (is_store_size size) }
     ensures len { result ≡ half_len size }
     ensures large { 1040384 ≤ result }

@@ -19,5 +19,5 @@ pub use errors::{BeginError, FormatError, Full, OpenError, PageError, SwitchErro
 pub use formatting::{format, is_store};
 pub use header::{Header, Layout};
 pub use image::ImageWriter;
-pub use layout::Half;
+pub use layout::{Half, half_bytes};
 pub use opening::open;

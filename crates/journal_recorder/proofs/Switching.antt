@@ -1,8 +1,8 @@
 -- What was written over the half that is not active, and that it was read before changes nothing.
-use Rattle.std.proofs.Common.{◌≡◌, ◌⊎◌, inl, ℕ, ◌+◌, ◌≤◌, Bool, false, IsTrue, List, length, take, drop, Result, Ok, Err, sym, ◌∙◌, ap, subst, arith}
+use Rattle.std.proofs.Common.{◌≡◌, ◌⊎◌, inl, ℕ, ◌+◌, ◌<◌, ◌≤◌, Bool, false, IsTrue, List, length, take, drop, Result, Ok, Err, sym, ◌∙◌, ap, subst, arith}
 use Rattle.drda_disk.specs.Disk.{LeavesOnly, Life, Now, Stays}
 use Rattle.drda_disk.specs.Region.{end_of}
-use Rattle.drda_disk.proofs.Moments.{Only-stays, stays_and}
+use Rattle.drda_disk.proofs.Moments.{Only-stays, Stays-trans, stays_and}
 use Rattle.half_store.specs.Active.{Store, active_of}
 use Rattle.half_store.specs.Layout.{half_len, offset_of, other_than}
 use Rattle.half_store.specs.Opened.{store_of}
@@ -131,8 +131,10 @@ module _ {D : Type 0} (modelled : Bool) (life : D → Life) (old mid : DiskRecor
     keeps k.0,
     λ store r. let lacks = k.1 store (rests store r) in
         record {
-          less = lacks.less;
-          lacking = subst (λ (base : List ℕ). need + half_len (length base) ≤ need_of tables es hold + room) seen lacks.lacking;
+          less = subst (λ (base : List ℕ). half_len (length base) < need_of tables es hold) seen lacks.less;
+          needed = lacks.needed;
+          has = subst (λ (base : List ℕ). room ≡ half_len (length base)) seen lacks.has;
+          unwritten = Stays-trans (life (disk_of old)) (life (disk_of mid)) (life (disk_of new)) stays lacks.unwritten;
         },
   )
   after_reading (Err DeviceFailed) l = record {

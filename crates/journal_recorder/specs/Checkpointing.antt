@@ -1,10 +1,11 @@
 -- What becomes of a disk and its journal where a checkpoint is written.
 use Rattle.std.specs.Prelude.{◌≡◌, ◌⊎◌, ◌<◌, ◌≤◌, ℕ, ◌+◌, Bool, true, false, IsTrue, List, length, Result, Ok, Err}
-use Rattle.drda_disk.specs.Disk.{LeavesOnly, Life}
+use Rattle.drda_disk.specs.Disk.{LeavesOnly, Life, Stays}
 use Rattle.drda_disk.specs.Region.{end_of}
 use Rattle.half_store.specs.Active.{Store}
 use Rattle.half_store.specs.Layout.{half_len}
 use Rattle.half_store.specs.declared.header.Layout.TheVariants.{Two}
+use Rattle.row_pages.specs.Laying.{counted}
 use Rattle.tables.specs.Tables.{Store as Tables}
 use Rattle.unit_journal.specs.Journal.{IsSettled, held_of, region_of}
 use Rattle.unit_journal.specs.declared.journal.Journal.{Journal}
@@ -83,13 +84,16 @@ module _ {D : Type 0} (modelled : Bool) (life : D → Life) where
     pub at_most : ((disk_life new).faults ≡ (disk_life old).faults + 1) ⊎ ((disk_life new).faults ≡ (disk_life old).faults)
     pub failed : has_failed new ≡ true
 
-  -- There is no room only where the half is too short for the header, the pages, the records, the bytes held and a gate.
-  pub record LacksRoom (old : DiskRecorder D) (tables : Tables) (es : List Entry) (hold need room : ℕ) : Type 0 where
-    pub less : room < need
-    pub lacking : need + half_len (length (disk_life old).seen) ≤ need_of tables es hold + room
+  -- The half is too short for the header, the pages, the records, the bytes held and a gate. How many bytes they are is told,
+  -- up to the greatest number of 64 bits, and how many the half has; nothing was written.
+  pub record LacksRoom (old : DiskRecorder D) (tables : Tables) (es : List Entry) (hold need room : ℕ) (new : DiskRecorder D) : Type 0 where
+    pub less : half_len (length (disk_life old).seen) < need_of tables es hold
+    pub needed : need ≡ counted (need_of tables es hold)
+    pub has : room ≡ half_len (length (disk_life old).seen)
+    pub unwritten : Stays (disk_life old) (disk_life new)
 
   abbrev pub Checkpoints : {T : Type 0} → DiskRecorder D → Tables → List Entry → ℕ → Result T CheckpointError → DiskRecorder D → Type 0
   Checkpoints old tables es hold (Ok x) new = Switches old tables es hold new
   Checkpoints old tables es hold (Err NoMemory) new = KeepsOld old tables es hold new
-  Checkpoints old tables es hold (Err (Full need room)) new = KeepsOld old tables es hold new × OfStore old (λ store. LacksRoom old tables es hold need room)
+  Checkpoints old tables es hold (Err (Full need room)) new = KeepsOld old tables es hold new × OfStore old (λ store. LacksRoom old tables es hold need room new)
   Checkpoints old tables es hold (Err DeviceFailed) new = LeavesOpen old tables es hold new

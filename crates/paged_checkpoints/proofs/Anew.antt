@@ -31,10 +31,7 @@ use Rattle.paged_tables.specs.declared.lending.TableRef.{TableRef}
 use Rattle.paged_tables.proofs.Shown.{forms_back}
 use Rattle.paged_checkpoints.specs.Apart.{IsReadable}
 use Rattle.paged_checkpoints.specs.Laying.{AreLast, IsUnder, LaysTable, created_entry}
-
-bare : (schema : Schema) (rows : Rows) → without_keys rows ≡ values_of (at_keys schema rows)
-bare schema [] = refl
-bare schema (e ∷ rows) = ap (λ (l : List (List ℕ)). e.1 ∷ l) (bare schema rows)
+use Rattle.paged_checkpoints.proofs.Standing as standing
 
 -- where there are pages, the first one has this number
 by_test : (n first at : ℕ) (b : Bool) → (n == 0) ≡ b → 0 < n → page_at at first ≡ page_at at (cond b 0 first)
@@ -48,52 +45,33 @@ the_entry name schema first pages = record { name = name; schema = schema; first
 pub is_under : RowsHaveTheirForms → (e : List ℕ × Stored) (lent : TableRef) → IsLent e lent → is_schema lent.schema.now ≡ true → IsUnder e
 is_under law e lent is sound =
     sym (forms_back law e.1.schema (rows_in e.1) (subst (λ (s : Schema). is_schema s ≡ true) is.schema sound) is.stored.forms)
-    ∙ ap (λ (rows : List (List ℕ)). keyed_rows (row_form e.1.schema) rows) (bare e.1.schema (rows_in e.1))
+    ∙ ap (λ (rows : List (List ℕ)). keyed_rows (row_form e.1.schema) rows) (standing.bare e.1.schema (rows_in e.1))
 
 module _ (law : RowsHaveTheirForms) (modelled : Bool) (file : List ℕ) (kept : Kept) (w : ImageWriter) (e : List ℕ × Stored) (lent : TableRef) (is : IsLent e lent) (sound : is_schema lent.schema.now ≡ true) (readable : IsReadable modelled file kept w e.1) where
   abbrev key_of : List ℕ → List ℕ
   key_of = row_form lent.schema.now
 
-  abbrev pages : List (List (List ℕ))
-  pages = readable.stand.pages
-
   abbrev all : Rows
-  all = rows_of_table key_of lent.rows.now pages
-
-  same_places : lent.rows.now.places ≡ e.1.places
-  same_places = ap (λ (t : Mapped). t.places) is.rows
-
-  sound_there : is_schema e.1.schema ≡ true
-  sound_there = subst (λ (s : Schema). is_schema s ≡ true) is.schema sound
+  all = rows_of_table key_of lent.rows.now readable.stand.pages
 
   -- its pages stand there, apart
-  pub stands : StandAt key_of lent.rows.now.places pages file
-  stands = subst (λ (p : Places). StandAt key_of p pages file) (sym same_places) (subst (λ (s : Schema). StandAt (row_form s) e.1.places pages file) (sym is.schema) readable.stand.stand)
+  pub stands : StandAt key_of lent.rows.now.places readable.stand.pages file
+  stands = standing.stands law file e lent is sound readable.stand
 
   pub apart : LieApart lent.rows.now.places w
-  apart = subst (λ (p : Places). LieApart p w) (sym same_places) readable.apart
-
-  -- its rows are those of its pages with the changes since
-  all_are : all ≡ rows_in e.1
-  all_are =
-      ap (λ (t : Mapped). rows_of_table key_of t pages) is.rows
-      ∙ ap (λ (s : Schema). merged (keyed_rows (row_form s) (rows_over pages)) (changes_of e.1.changes)) is.schema
-      ∙ ap (λ (rows : Rows). merged rows (changes_of e.1.changes)) (sym readable.stand.rows)
+  apart = subst (λ (p : Places). LieApart p w) (sym (standing.same_places law file e lent is sound readable.stand)) readable.apart
 
   pub have : HaveKeys key_of all
-  have = subst (λ (rows : Rows). HaveKeys key_of rows) (sym all_are) (subst (λ (s : Schema). HaveKeys (row_form s) (rows_in e.1)) (sym is.schema) (forms_back law e.1.schema (rows_in e.1) sound_there is.stored.forms))
-
-  bare_all : without_keys all ≡ values_of (table_in e.1).rows
-  bare_all = ap without_keys all_are ∙ bare e.1.schema (rows_in e.1)
+  have = standing.have law file e lent is sound readable.stand
 
   pub count : length (laid (without_keys all)) ≡ pages_of_table (table_in e.1)
-  count = ap (λ (rows : List (List ℕ)). length (laid rows)) bare_all
+  count = standing.count law file e lent is sound readable.stand
 
   pub short : IsGood (created_entry e) → AllByRecursion IsShort (without_keys all)
-  short good = subst (λ (rows : List (List ℕ)). AllByRecursion IsShort rows) (sym bare_all) (all_short e.1.schema (values_of (table_in e.1).rows) (good_rows (created_entry e) good))
+  short good = standing.short law file e lent is sound readable.stand good
 
   under : all ≡ rows_under (table_in e.1)
-  under = all_are ∙ is_under law e lent is sound
+  under = standing.all_are law file e lent is sound readable.stand ∙ is_under law e lent is sound
 
   -- ---- once it was laid
 
@@ -112,7 +90,7 @@ module _ (law : RowsHaveTheirForms) (modelled : Bool) (file : List ℕ) (kept : 
         let at : written.at ≡ there (pages_of w) = omega (arith, last.at) in
         let keys : written.keys ≡ first_keys (row_form e.1.schema) (laid (values_of (table_in e.1).rows)) =
         image.stored.first
-        ∙ ap (λ (rows : List (List ℕ)). first_keys key_of (laid rows)) bare_all
+        ∙ ap (λ (rows : List (List ℕ)). first_keys key_of (laid rows)) (standing.bare_all law file e lent is sound readable.stand)
         ∙ ap (λ (s : Schema). first_keys (row_form s) (laid (values_of (table_in e.1).rows))) is.schema in
         ap₂ (λ (n : ℕ) (k : List (List ℕ)). record { at = n; keys = k }) at keys
 

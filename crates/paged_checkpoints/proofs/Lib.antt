@@ -1,7 +1,9 @@
 mod Noted
 mod Behind
 mod Beside
+mod Standing
 mod Anew
 mod Laid
 mod Framed
 mod Begun
+mod Counted

@@ -3,6 +3,7 @@
 //! the half that is not active, and the journal begins anew behind them.
 #![tactic(auto)]
 
+mod counting;
 mod opening;
 mod pages;
 mod table_pages;

@@ -1,7 +1,7 @@
 //! Writing a checkpoint.
 ghost use Rattle.std.specs.Prelude.{◌≡◌, ◌⊎◌, ◌+◌, ◌*◌, ◌≤◌, ℕ, List, true, IsTrue, IfOk, length};
 ghost use Rattle.std.specs.List.{AllByRecursion};
-ghost use Rattle.drda_disk.specs.Disk.{LeavesOnly, Now};
+ghost use Rattle.drda_disk.specs.Disk.{LeavesOnly, Now, Stays};
 ghost use Rattle.drda_disk.specs.Region.{end_of};
 ghost use Rattle.half_store.specs.Layout.{half_len, is_store_size};
 ghost use Rattle.half_store.specs.Opened.{store_of};
@@ -14,17 +14,18 @@ ghost use Rattle.checkpoint_writer.specs.Errors.{CountsImage, DamagedWhere};
 ghost use Rattle.checkpoint_writer.specs.Moment.{OnRefused};
 ghost use Rattle.store_check.specs.Half.{pages_of as pages_of_active};
 ghost use Rattle.checkpoints.specs.Moment.{GoesOn, IsAnew, IsOld, Moment, Rests};
-ghost use Rattle.checkpoints.specs.Room.{TellsRoom, need_of};
+ghost use Rattle.checkpoints.specs.Room.{OnFull, SaysRoom, TellsRoom, need_of};
 ghost use Rattle.paged_tables.specs.PagedTables.{store_in};
 ghost use Rattle.paged_tables.specs.Stored.{IsOnPages, LiesInside, LiesOutside};
 ghost use Rattle.paged_tables.specs.TablesByName.{AreLaid, LieInside, created_of};
 ghost use Rattle.paged_checkpoints.specs.Apart.{AreReadable, LiesAmong, StandApart};
 ghost use Rattle.paged_checkpoints.specs.Laying.{all_shown};
 
+use crate::counting::needed_bytes;
 use crate::pages::write_pages;
 use checkpoint_writer::{ImageError, Switched, finish_image};
 use drda_disk::Disk;
-use half_store::{Active, ImageWriter, begin_image};
+use half_store::{Active, Full, ImageWriter, begin_image, half_bytes};
 use paged_tables::{PagedTables, TablesLeft};
 use row_pages::PageCache;
 use std::alloc::Global;
@@ -161,9 +162,10 @@ fn write_half<D: Disk>(
 /// be laid over the pages that are returned. After `NoMemory` and `Full` the old half goes on, unchanged,
 /// and a crash leaves it; on `DeviceFailed` either of the two may count.
 ///
-/// `Full` comes only where the half has no room for the header, the pages of the tables and of their
-/// catalogue, the records, the bytes held back and a gate; no more than its `need` less its `room` is
-/// lacking then. `NoMemory` comes where memory is refused, and at the last generation, 2^64 - 1.
+/// `Full` comes exactly where the half has no room for the header, the pages of the tables and of their
+/// catalogue, the records, the bytes held back and a gate: of a disk that gives back what was written, on
+/// which the tables' pages stand. It is counted before anything is written: `need` is the bytes of all that,
+/// and `room` those of the half. `NoMemory` comes where memory is refused, and at the last generation, 2^64 - 1.
 /// `Damaged` comes only where a page of the tables does not stand in the disk as it was written; the old
 /// half goes on then too.
 pub fn write_checkpoint<D: Disk>(
@@ -196,11 +198,17 @@ pub fn write_checkpoint<D: Disk>(
     ensures held { IfOk result (λ r. held_of r.switched.journal ≡ held) }
     ensures inside { IfOk result (λ r. end_of (region_of r.switched.journal) ≤ length (D.life disk.new).seen) }
     ensures size { length (D.life disk.new).seen ≡ length (D.life disk.old).seen }
-    ensures full { StandApart D.is_modelled (D.life disk.old).seen (store_of active.now) tables.now.tables → TellsRoom result (need_of (store_in tables.now) (entries_of records.now) held) (half_len (length (D.life disk.old).seen)) }
+    ensures full { StandApart D.is_modelled (D.life disk.old).seen (store_of active.now) tables.now.tables → SaysRoom result (need_of (store_in tables.now) (entries_of records.now) held) (half_len (length (D.life disk.old).seen)) }
+    ensures unwritten { StandApart D.is_modelled (D.life disk.old).seen (store_of active.now) tables.now.tables → OnFull result (Stays (D.life disk.old) (D.life disk.new)) }
     ensures damaged { StandApart D.is_modelled (D.life disk.old).seen (store_of active.now) tables.now.tables → DamagedWhere ⊥ result }
     ensures cause { CountsImage result (D.life disk.old).faults (D.life disk.new).faults }
 {
     cache.clear();
+    let need = needed_bytes(alloc, disk, tables.lend(), records, held)?;
+    let room = half_bytes(disk.size());
+    if need > room {
+        return Err(ImageError::Full(Full { need, room }));
+    }
     let relaid = write_half(alloc, cache, disk, active, tables, records, held);
     cache.clear();
     relaid

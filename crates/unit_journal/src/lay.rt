@@ -11,8 +11,8 @@ use crate::{Full, Journal, LayError, Record};
 use drda_disk::{Disk, Region};
 use std::alloc::{AllocError, Global};
 
-/// How many bytes the records take, up to 2^64 - 1.
-fn laid_len(records: &[Record]) -> usize
+/// How many bytes records take that are laid one behind another, up to 2^64 - 1.
+pub fn laid_len(records: &[Record]) -> usize
     ensures { result ≡ min (length (laid (entries_of records.now))) (2 ^ 64 - 1) }
 {
     let mut sum = 0usize;

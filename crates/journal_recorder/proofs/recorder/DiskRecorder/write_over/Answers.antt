@@ -89,6 +89,7 @@ returns-in-Err-Full-clause-told g c =
     let es = entries_of c.args.records.now in
     let hold : ℕ = c.args.held in
     let told = c.in-Err-Full.ensures in
+    let new : DiskRecorder g.row.D.Denot = record old { disk = c.write_checkpoint.new.disk; cache = c.write_checkpoint.new.cache } in
     let of = of_store modelled life old c.args.active.now c.requires.active c.args.tables.now.tables c.requires.pages c.requires.going in (
       record {
         stays = record { size = told.size; made = refl };
@@ -99,8 +100,9 @@ returns-in-Err-Full-clause-told g c =
         faults = rw c.in-Err-Full.field-0-is at told.cause;
         going = c.requires.going;
       },
-      of (λ (s : Store). LacksRoom modelled life old rows es hold c.in-Err-Full.full.need c.in-Err-Full.full.room)
-          (λ rests apart. let lacks = (rw c.in-Err-Full.field-0-is at told.full) apart in record { less = lacks.0; lacking = lacks.1 }),
+      of (λ (s : Store). LacksRoom modelled life old rows es hold c.in-Err-Full.full.need c.in-Err-Full.full.room new)
+          (λ rests apart. let says = (rw c.in-Err-Full.field-0-is at told.full) apart in
+          record { less = says.0; needed = says.1.0; has = says.1.1; unwritten = (rw c.in-Err-Full.field-0-is at told.unwritten) apart }),
     )
 
 pub returns-in-Err-Full-clause-pages : goal.returns-in-Err-Full-clause-pages

@@ -1,0 +1,46 @@
+-- What a checkpoint needs is counted before it is written: the disk was only read.
+use Rattle.std.proofs.Common.{◌≡◌, inl, ℕ, Bool, List, length, sym, ap, subst, ◌∙◌}
+use Rattle.drda_disk.specs.Disk.{LeavesOnly, Life, Now, Stays}
+use Rattle.drda_disk.specs.Images.{Torn-refl}
+use Rattle.drda_disk.proofs.Moments.{Only-stays, stays_and, stays_leaves}
+use Rattle.half_store.specs.Active.{active_of}
+use Rattle.half_store.specs.Active.{Store as Opened}
+use Rattle.half_store.specs.Layout.{half_len, offset_of, other_than}
+use Rattle.unit_journal.specs.Record.{Entry}
+use Rattle.tables.specs.Tables.{Store}
+use Rattle.checkpoints.specs.Moment.{GoesOn, IsOld, Moment, Rests}
+use Rattle.paged_tables.specs.TablesByName.{Tables}
+use Rattle.paged_checkpoints.specs.Apart.{StandApart}
+
+module _ (modelled : Bool) (old mid : Life) (stays : Stays old mid) (store : Opened) where
+  pub rests_still : Rests modelled old store → Rests modelled mid store
+  rests_still rests = record {
+    modelled_disk = rests.modelled_disk;
+    durable = Only-stays old mid stays rests.durable;
+    active = ap active_of stays.same ∙ rests.active;
+  }
+
+  pub apart_still : (tables : Tables) → StandApart modelled old.seen store tables → StandApart modelled mid.seen store tables
+  apart_still tables so = subst (λ (image : List ℕ). StandApart modelled image store tables) (sym stays.same) so
+
+  module _ (rests : Rests modelled old store) where
+    as_it_was : IsOld old.seen store old.seen
+    as_it_was = record { active = rests.active; others = Torn-refl (offset_of (half_len (length old.seen)) (other_than store.half)) (half_len (length old.seen)) old.seen }
+
+    is_still : (c : List ℕ) → Now old c → IsOld old.seen store c
+    is_still c now = subst (λ (image : List ℕ). IsOld old.seen store image) (sym (rests.durable c now)) as_it_was
+
+    pub goes_on_still : GoesOn mid old.seen store
+    goes_on_still = record {
+      durable = Only-stays old mid stays rests.durable;
+      is = subst (λ (image : List ℕ). IsOld old.seen store image) (sym stays.same) as_it_was;
+    }
+
+    module _ (tables : Store) (es : List Entry) (held : ℕ) where
+      pub leaves_still : LeavesOnly old mid (Moment old.seen store tables es held)
+      leaves_still = stays_leaves old mid (Moment old.seen store tables es held) stays (λ c now. inl (is_still c now))
+
+      pub leaves_then : (new : Life) → LeavesOnly mid new (Moment mid.seen store tables es held) → LeavesOnly old new (Moment old.seen store tables es held)
+      leaves_then new leaves =
+          stays_and old mid new (Moment old.seen store tables es held) stays
+          (subst (λ (base : List ℕ). LeavesOnly mid new (Moment base store tables es held)) stays.same leaves) (λ c now. inl (is_still c now))
