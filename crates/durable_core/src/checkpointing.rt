@@ -34,7 +34,7 @@ use xa_manager::{BranchState, Decision};
 pub enum Checkpointed {
     /// The committed tables and the branches in doubt stand in the other half, of layout 2, which is the active one now.
     Done,
-    /// The other half is too short: it has `room` bytes, or what is left of them, and `need` are needed.
+    /// The other half is too short: it has `room` bytes, and `need` are needed.
     Full { need: usize, room: usize },
     /// Memory was refused, or there is no generation left.
     NoMemory,
@@ -63,11 +63,12 @@ impl<D: Disk> DurableCore<D> {
     /// 1 is migrated. What a core is does not change by it: at each moment, inside a device call too, a crash
     /// leaves a disk that opens to the same tables and branches in doubt.
     ///
-    /// Of a device that gives back what was written `Full` comes only where the half is too short. After it and
-    /// after `NoMemory` the core goes on over the old half. `DeviceFailed` comes in the call in which the device
-    /// fails, or gives what is no page of the tables, and `Closed` in each later one, which makes no device
-    /// call. In a store that other programs wrote a unit in doubt may have lost the places of its changes: then
-    /// nothing is written, and `NoMemory` is answered.
+    /// Of a device that gives back what was written `Full` comes exactly where the half is too short, and before
+    /// anything is written; `need` stops at 2^64 - 1. After it and after `NoMemory` the core goes on over the
+    /// old half. `DeviceFailed` comes in the call in which the device fails, or gives what is no page of the
+    /// tables, and `Closed` in each later one, which makes no device call. In a store that other programs wrote
+    /// a unit in doubt may have lost the places of its changes: then nothing is written, and `NoMemory` is
+    /// answered.
     pub fn checkpoint(&mut self) -> Checkpointed
         ensures told { Checkpoints D.is_modelled result (shown_on D.life self.old) (shown_on D.life self.new) }
         ensures journaled { Journaled D.is_modelled (shown_on D.life self.old) (shown_on D.life self.new) }

@@ -36,8 +36,7 @@ pub enum CheckpointError {
     /// Memory was refused, or there is no generation left.
     #[error("no memory")]
     NoMemory,
-    /// The half that was to be written is too short: it has `room` bytes, or what is left of them, and
-    /// needs `need`.
+    /// The half that was to be written is too short: it has `room` bytes, and needs `need`.
     #[error("{need} bytes are needed, and there are {room}")]
     Full { need: usize, room: usize },
     #[error("the device failed")]
@@ -121,8 +120,9 @@ impl<D: Disk> DiskRecorder<D> {
     /// held back then. The tables lie over the new pages then, with no changes in memory. Whatever
     /// becomes of it, they have the same rows, and their pages can be read as before.
     ///
-    /// A crash at any moment leaves the old half or the new one (`Moment`). `Full` comes only where the
-    /// half is too short for all of it. After it and after `NoMemory` the old half goes on. On
+    /// A crash at any moment leaves the old half or the new one (`Moment`). Of a disk that gives back what
+    /// was written `Full` comes exactly where the half is too short for all of it, and before anything is
+    /// written; `need` stops at 2^64 - 1. After it and after `NoMemory` the old half goes on. On
     /// `DeviceFailed` either of the two may count when the store is opened again, and nothing is recorded
     /// or read any more. `NoMemory` comes too where the head of the disk doesn't read as a store's, and
     /// `DeviceFailed` where a page of the tables is not as it was written; neither comes so of a disk that

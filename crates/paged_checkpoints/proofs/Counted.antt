@@ -1,5 +1,5 @@
 -- What a checkpoint needs is counted before it is written: the disk was only read.
-use Rattle.std.proofs.Common.{◌≡◌, inl, ℕ, Bool, List, length, sym, ap, subst, ◌∙◌}
+use Rattle.std.proofs.Common.{◌≡◌, inl, ℕ, ◌+◌, ◌<◌, ◌≤◌, Bool, List, length, Result, Ok, Err, sym, ap, subst, ◌∙◌, arith}
 use Rattle.drda_disk.specs.Disk.{LeavesOnly, Life, Now, Stays}
 use Rattle.drda_disk.specs.Images.{Torn-refl}
 use Rattle.drda_disk.proofs.Moments.{Only-stays, stays_and, stays_leaves}
@@ -8,7 +8,10 @@ use Rattle.half_store.specs.Active.{Store as Opened}
 use Rattle.half_store.specs.Layout.{half_len, offset_of, other_than}
 use Rattle.unit_journal.specs.Record.{Entry}
 use Rattle.tables.specs.Tables.{Store}
+use Rattle.checkpoint_writer.specs.declared.errors.ImageError.{ImageError}
+use Rattle.checkpoint_writer.specs.declared.errors.ImageError.TheVariants.{NoMemory, DeviceFailed, Damaged, Full}
 use Rattle.checkpoints.specs.Moment.{GoesOn, IsOld, Moment, Rests}
+use Rattle.checkpoints.specs.Room.{OnFull, SaysRoom, TellsRoom}
 use Rattle.paged_tables.specs.TablesByName.{Tables}
 use Rattle.paged_checkpoints.specs.Apart.{StandApart}
 
@@ -44,3 +47,20 @@ module _ (modelled : Bool) (old mid : Life) (stays : Stays old mid) (store : Ope
       leaves_then new leaves =
           stays_and old mid new (Moment old.seen store tables es held) stays
           (subst (λ (base : List ℕ). LeavesOnly mid new (Moment base store tables es held)) stays.same leaves) (λ c now. inl (is_still c now))
+
+-- ---- what is told of room
+
+-- what fits is never told to have no room
+pub says_room : {T : Type 0} (result : Result T ImageError) (need room : ℕ) → need ≤ room → TellsRoom result need room → SaysRoom result need room
+says_room (Ok x) need room fits told = told
+says_room (Err NoMemory) need room fits told = tt
+says_room (Err DeviceFailed) need room fits told = tt
+says_room (Err Damaged) need room fits told = tt
+says_room (Err (Full full)) need room fits told = absurd (omega (arith, fits, told.0, told.1))
+
+pub never_full : {T : Type 0} (P : Type 0) (result : Result T ImageError) (need room : ℕ) → need ≤ room → TellsRoom result need room → OnFull result P
+never_full P (Ok x) need room fits told = tt
+never_full P (Err NoMemory) need room fits told = tt
+never_full P (Err DeviceFailed) need room fits told = tt
+never_full P (Err Damaged) need room fits told = tt
+never_full P (Err (Full full)) need room fits told = absurd (omega (arith, fits, told.0, told.1))

@@ -3,6 +3,7 @@ use crate::changes::Step;
 use crate::held::Held;
 use crate::stores::{apply, commit, new_cache, new_store, plain_of, shows, written};
 use checkpoint_writer::ImageError;
+use half_store::Full;
 use row_pages::PageCache;
 use std::alloc::Global;
 use std::test::Fail;
@@ -70,6 +71,14 @@ fn checkpoints_show_the_same_tables(rt: HostRuntime) -> Result<(), Fail> {
     Ok(())
 }
 
+// What is told where a half of the store is too short for so many bytes.
+fn too_short(need: usize) -> ImageError {
+    ImageError::Full(Full {
+        need,
+        room: 1_040_384,
+    })
+}
+
 /// Rows for which a half has no room: 130 pages of four.
 const MANY: [Step; 1] = [Step::Put("A", (0, 520, 2_000))];
 
@@ -104,9 +113,9 @@ fn refused(
 #[test]
 fn a_half_that_is_too_short_stays_as_it_was(rt: HostRuntime) -> Result<(), Fail> {
     let (told, is_kept) = refused(rt.alloc(), &MANY, None, 0)?;
-    assert!(rt; matches!(told, Some(ImageError::Full(_))) && is_kept);
+    assert!(rt; told == Some(too_short(1_081_345)) && is_kept);
     let (told, is_kept) = refused(rt.alloc(), &[], None, 1_030_000)?;
-    assert!(rt; matches!(told, Some(ImageError::Full(_))) && is_kept);
+    assert!(rt; told == Some(too_short(1_054_577)) && is_kept);
     Ok(())
 }
 
