@@ -1,6 +1,6 @@
 //! Pages of a disk that are kept in memory.
 
-ghost use Rattle.std.specs.Prelude.{◌≡◌, ◌≤◌, ◌<◌, ◌+◌, ℕ, List, [], true, IsTrue, IsSome, IfOk, IfErr, OnOk, length, nat_eq, take};
+ghost use Rattle.std.specs.Prelude.{◌≡◌, ◌⊎◌, ◌≤◌, ◌<◌, ◌+◌, ℕ, List, [], true, IsTrue, IsSome, IfOk, IfErr, OnOk, length, nat_eq, take};
 ghost use Rattle.std.specs.Borrow.{sem};
 ghost use Rattle.std.specs.Map.{lookup};
 ghost use Rattle.drda_words.specs.Place.{part};
@@ -65,10 +65,12 @@ impl PageCache {
         self.last = 0;
     }
 
-    /// Something is written to the disk, from this offset on. The pages are kept, which stand in front of
-    /// it; none is, where one that was asked for since the last `clear` reaches behind it. Takes no memory.
+    /// Something is written to the disk, from this offset on. All pages are kept, which stand in front of
+    /// it; none is, where one that was asked for since the last `clear` reaches behind it. Which of the two
+    /// comes is tested, and no clause says it. Takes no memory.
     pub fn keep_front(&mut self, end: usize)
-        ensures { (old new : List ℕ) → take end new ≡ take end old → AreRead self.old old → AreRead self.new new }
+        ensures all_or_none { (self.new ≡ self.old) ⊎ (self.new ≡ []) }
+        ensures read { (old new : List ℕ) → take end new ≡ take end old → AreRead self.old old → AreRead self.new new }
     {
         if end < PAGE_BYTES || self.last > end - PAGE_BYTES {
             self.clear();

@@ -115,8 +115,10 @@ impl KeptPage {
     }
 }
 
-/// The page that the disk reads at an offset, in new memory. The range lies inside the disk.
-pub(crate) fn read_page<D: Disk>(
+/// The page that the disk reads at an offset, in memory of its own: for who reads it once, since no
+/// cache keeps it. The range lies inside the disk. `Damaged` is told only where the bytes there are no
+/// page.
+pub fn read_page<D: Disk>(
     alloc: Global,
     disk: &mut D,
     at: usize,

@@ -11,7 +11,7 @@ mod rows;
 
 pub use builder::{PageBuilder, Pushed};
 pub use cache::PageCache;
-pub use kept::{KeptPage, PageFault};
+pub use kept::{KeptPage, PageFault, read_page};
 pub use laws::{one_laying, one_page};
 pub use laying::PageCount;
 pub use page::{Damaged, PAGE_BYTES, PageKind, PageRef};

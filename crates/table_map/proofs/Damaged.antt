@@ -1,7 +1,6 @@
 -- Where damage is told.
-use Rattle.std.proofs.Common.{◌≡◌, ℕ, zero, suc, ◌+◌, ◌-◌, ◌*◌, ◌<◌, ◌≤◌, List, [], ◌∷◌, length, map, get_or, None, ap, ◌∙◌, subst, arith}
+use Rattle.std.proofs.Common.{◌≡◌, ℕ, zero, suc, ◌+◌, ◌-◌, ◌*◌, ◌<◌, ◌≤◌, List, [], ◌∷◌, length, get_or, None, ap, ◌∙◌, subst, arith}
 use Rattle.std.specs.Prelude.{Result, Ok, Err, IfErr}
-use Rattle.std.specs.Global.{Vec}
 use Rattle.std.specs.List.{AllByRecursion}
 use Rattle.drda_words.specs.Place.{part}
 use Rattle.row_pages.specs.Page.{IsPage, Page}
@@ -63,7 +62,7 @@ no_memory Q e result is none = by_fault Q e result is (λ damaged. absurd cc)
 pub no_page : (bytes : List ℕ) → IsNoPage bytes → HasNoRows bytes
 no_page bytes none page is = absurd (none page is)
 
-pub no_items : (rows : List (Vec ℕ)) → length rows ≡ 0 → map (λ r. r.items) rows ≡ []
+pub no_items : (rows : List (List ℕ)) → length rows ≡ 0 → rows ≡ []
 no_items [] is = cc
 no_items (row ∷ rows) is = absurd (omega (arith, is))
 

@@ -1,8 +1,6 @@
 -- What is left of a table's rows, step by step.
 use Rattle.std.proofs.Common.{◌≡◌, inl, inr, ℕ, suc, List, [], ◌∷◌, ◌++◌, Option, Some, None, length, map, refl, sym, ap, ◌∙◌, subst, arith, Less, Equal, Greater, Ordering}
-use Rattle.std.specs.Prelude.{Result, Ok, Err, IfOk}
 use Rattle.std.specs.Borrow.{Bor}
-use Rattle.std.specs.Global.{Vec}
 use Rattle.std.specs.Map.{keys_of}
 use Rattle.std.specs.Ordering.{match_ordering, ordering_reverse}
 use Rattle.std.specs.Cmp.Lexicographic.{nat_list_cmp_total}
@@ -14,16 +12,13 @@ use Rattle.key_map.specs.Overlay.{change_of, said}
 use Rattle.key_map.proofs.Merged.{weaker}
 use Rattle.table_map.specs.Keyed.{keyed_rows}
 use Rattle.table_map.specs.Stored.{AreAt}
-use Rattle.table_map.specs.Walk.{PagesLeft, IsLoaded, ReadsPage, Loads, TakesRow, TakesEntry}
-use Rattle.table_map.specs.Cursor.{IsLeft, GoesOn, Steps, SaysStep, RowStep, smaller_of}
+use Rattle.table_map.specs.Walk.{PagesLeft, IsLoaded, ReadsPage, Loads, GivesRow, TakesEntry}
+use Rattle.table_map.specs.Cursor.{IsLeft, GoesOn, GoesOnAt, GoesOnWith, Steps, SaysStep, smaller_of}
+use Rattle.table_map.specs.declared.cursor.Place.TheVariants as place
 use Rattle.table_map.specs.declared.cursor.RowCursor.{RowCursor}
 use Rattle.table_map.specs.declared.cursor.Smaller.TheVariants as smaller
 use Rattle.table_map.specs.declared.cursor.Step.{Step}
 use Rattle.table_map.specs.declared.cursor.Step.TheVariants as step
-
-pub each_ok : {T E : Type 0} (P Q : T → Type 0) (r : Result T E) → ((x : T) → P x → Q x) → IfOk r P → IfOk r Q
-each_ok P Q (Ok x) f h = f x h
-each_ok P Q (Err e) f h = tt
 
 -- ---- whose key is smaller
 
@@ -49,8 +44,8 @@ pub mirrored : (a b : List ℕ) → by_bytes a b ≡ Greater → by_bytes b a �
 mirrored a b greater = nat_list_cmp_total.antisymm b a ∙ ap ordering_reverse greater
 
 module _ (key_of : List ℕ → List ℕ) (file : List ℕ) where
-  abbrev cursor : ℕ → ℕ → List (List ℕ) → Rows → RowCursor
-  cursor at n rows entries = record { base = record { at = at; pages = n; rows = rows }; changes = entries }
+  abbrev cursor : ℕ → ℕ → List (List ℕ) → Option (List ℕ) → Rows → RowCursor
+  cursor at n rows last entries = record { base = record { at = at; pages = n; rows = rows; last = last }; changes = entries }
 
   row_above : (row : List ℕ) (rows : List (List ℕ)) (entries : Rows) → smaller_of key_of (row ∷ rows) entries ≡ smaller.Row → InOrder (map change_of entries) → Above (key_of row) (map change_of entries)
   row_above row rows [] is up = tt
@@ -63,8 +58,9 @@ module _ (key_of : List ℕ → List ℕ) (file : List ℕ) where
 
   -- ---- a row of the pages
 
-  row_goes : RowFirst → (at n : ℕ) (row : List ℕ) (rows : List (List ℕ)) (entries left : Rows) → smaller_of key_of (row ∷ rows) entries ≡ smaller.Row → IsLeft key_of file (cursor at n (row ∷ rows) entries) left → GoesOn key_of file left row (cursor at n rows entries)
-  row_goes law at n row rows entries left is held =
+  row_goes : RowFirst → (at n : ℕ) (row : List ℕ) (rows : List (List ℕ)) (last now : Option (List ℕ)) (entries left : Rows) → smaller_of key_of (row ∷ rows) entries ≡ smaller.Row → IsLeft key_of file (cursor at n (row ∷ rows) last entries) left
+      → GoesOn key_of file left row (cursor at n rows now entries)
+  row_goes law at n row rows last now entries left is held =
       let rest = keyed_rows key_of (rows ++ rows_over held.pages) in
       record {
         key = key_of row;
@@ -77,19 +73,23 @@ module _ (key_of : List ℕ → List ℕ) (file : List ℕ) where
   no_row [] is = absurd cc
   no_row (e ∷ es) is = absurd cc
 
-  row_given : RowFirst → (at n : ℕ) (rows : List (List ℕ)) (entries left : Rows) → smaller_of key_of rows entries ≡ smaller.Row → IsLeft key_of file (cursor at n rows entries) left
-      → (row : Option (Vec ℕ)) (more : List (List ℕ)) → TakesRow rows row more → (made : Step) → RowStep row made → Steps key_of file left made (cursor at n more entries)
-  row_given law at n rows entries left is held None more takes made gives = absurd (no_row entries (ap (λ (l : List (List ℕ)). smaller_of key_of l entries) (sym takes.0) ∙ is))
-  row_given law at n rows entries left is held (Some row) more takes made gives =
-      subst (λ (s : Step). Steps key_of file left s (cursor at n more entries)) (sym gives)
-      (row_goes law at n row.items more entries left (ap (λ (l : List (List ℕ)). smaller_of key_of l entries) (sym takes) ∙ is) (subst (λ (l : List (List ℕ)). IsLeft key_of file (cursor at n l entries) left) takes held))
+  -- what holds of a cursor of these parts holds of one that has them
+  with_base : (P : RowCursor → Type 0) (at n : ℕ) (rows : List (List ℕ)) (entries : Rows) (new : PagesLeft) → new.at ≡ at → new.pages ≡ n → new.rows ≡ rows → P (cursor at n rows new.last entries) → P (record { base = new; changes = entries })
+  with_base P at n rows entries new same_at same_pages same_rows is =
+      subst (λ a. P (cursor a new.pages new.rows new.last entries)) (sym same_at)
+      (subst (λ m. P (cursor at m new.rows new.last entries)) (sym same_pages)
+      (subst (λ (l : List (List ℕ)). P (cursor at n l new.last entries)) (sym same_rows) is))
+
+  row_given : RowFirst → (at n : ℕ) (rows : List (List ℕ)) (last : Option (List ℕ)) (entries left : Rows) → smaller_of key_of rows entries ≡ smaller.Row → IsLeft key_of file (cursor at n rows last entries) left
+      → (new : PagesLeft) → GivesRow rows new → new.at ≡ at → new.pages ≡ n → GoesOnAt key_of file left place.Page (record { base = new; changes = entries })
+  row_given law at n [] last entries left is held new gives same_at same_pages = absurd (no_row entries is)
+  row_given law at n (row ∷ rows) last entries left is held new gives same_at same_pages =
+      subst (λ (o : Option (List ℕ)). GoesOnWith key_of file left o (record { base = new; changes = entries })) (sym gives.1)
+      (with_base (λ (c : RowCursor). GoesOn key_of file left row c) at n rows entries new same_at same_pages gives.0 (row_goes law at n row rows last new.last entries left is held))
 
   pub row_steps : RowFirst → (old : RowCursor) (left : Rows) → smaller_of key_of old.base.rows old.changes ≡ smaller.Row → IsLeft key_of file old left
-      → (row : Option (Vec ℕ)) (new : PagesLeft) → TakesRow old.base.rows row new.rows → new.at ≡ old.base.at → new.pages ≡ old.base.pages → (made : Step) → RowStep row made → Steps key_of file left made (record { base = new; changes = old.changes })
-  row_steps law old left is held row new takes at pages made gives =
-      subst (λ a. Steps key_of file left made (cursor a new.pages new.rows old.changes)) (sym at)
-      (subst (λ n. Steps key_of file left made (cursor old.base.at n new.rows old.changes)) (sym pages)
-      (row_given law old.base.at old.base.pages old.base.rows old.changes left is held row new.rows takes made gives))
+      → (new : PagesLeft) → GivesRow old.base.rows new → new.at ≡ old.base.at → new.pages ≡ old.base.pages → GoesOnAt key_of file left place.Page (record { base = new; changes = old.changes })
+  row_steps law old left is held new gives at pages = row_given law old.base.at old.base.pages old.base.rows old.base.last old.changes left is held new gives at pages
 
   -- ---- a change
 
@@ -98,10 +98,10 @@ module _ (key_of : List ℕ → List ℕ) (file : List ℕ) where
   Told left None new = IsLeft key_of file new left
   Told left (Some row) new = GoesOn key_of file left row new
 
-  told : (at n : ℕ) (rows : List (List ℕ)) (pages : List (List (List ℕ))) (key : List ℕ) (entries left : Rows) → AreAt file at pages → length pages ≡ n → InOrder (keyed_rows key_of (rows ++ rows_over pages)) → InOrder (map change_of entries)
-      → (o : Option (List ℕ)) → left ≡ keyed key o ++ merged (keyed_rows key_of (rows ++ rows_over pages)) (map change_of entries) → Told left o (cursor at n rows entries)
-  told at n rows pages key entries left stand many order rising None same = record { pages = pages; stand = stand; many = many; order = order; rising = rising; same = same }
-  told at n rows pages key entries left stand many order rising (Some row) same =
+  told : (at n : ℕ) (rows : List (List ℕ)) (last : Option (List ℕ)) (pages : List (List (List ℕ))) (key : List ℕ) (entries left : Rows) → AreAt file at pages → length pages ≡ n → InOrder (keyed_rows key_of (rows ++ rows_over pages)) → InOrder (map change_of entries)
+      → (o : Option (List ℕ)) → left ≡ keyed key o ++ merged (keyed_rows key_of (rows ++ rows_over pages)) (map change_of entries) → Told left o (cursor at n rows last entries)
+  told at n rows last pages key entries left stand many order rising None same = record { pages = pages; stand = stand; many = many; order = order; rising = rising; same = same }
+  told at n rows last pages key entries left stand many order rising (Some row) same =
       record {
         key = key;
         more = merged (keyed_rows key_of (rows ++ rows_over pages)) (map change_of entries);
@@ -109,22 +109,23 @@ module _ (key_of : List ℕ → List ℕ) (file : List ℕ) where
         is = record { pages = pages; stand = stand; many = many; order = order; rising = rising; same = refl };
       }
 
-  change_goes : ChangeFirst → (at n : ℕ) (rows : List (List ℕ)) (e : List ℕ × List ℕ) (es left : Rows) → (rows ≡ [] → n ≡ 0) → smaller_of key_of rows (e ∷ es) ≡ smaller.Change → IsLeft key_of file (cursor at n rows (e ∷ es)) left
-      → Told left (said e.1) (cursor at n rows es)
-  change_goes law at n rows e es left settled is held =
-      told at n rows held.pages e.0 es left held.stand held.many held.order (sorted_tail by_bytes e.0 (keys_of (map change_of es)) held.rising) (said e.1)
+  change_goes : ChangeFirst → (at n : ℕ) (rows : List (List ℕ)) (last : Option (List ℕ)) (e : List ℕ × List ℕ) (es left : Rows) → (rows ≡ [] → n ≡ 0) → smaller_of key_of rows (e ∷ es) ≡ smaller.Change → IsLeft key_of file (cursor at n rows last (e ∷ es)) left
+      → Told left (said e.1) (cursor at n rows last es)
+  change_goes law at n rows last e es left settled is held =
+      told at n rows last held.pages e.0 es left held.stand held.many held.order (sorted_tail by_bytes e.0 (keys_of (map change_of es)) held.rising) (said e.1)
       (held.same ∙ law (keyed_rows key_of (rows ++ rows_over held.pages)) (change_of e) (map change_of es) (change_above e es rows held.pages is (λ none. held.many ∙ settled none) held.order) held.rising)
 
-  both_go : ChangeHere → (at n : ℕ) (row : List ℕ) (rows : List (List ℕ)) (e : List ℕ × List ℕ) (es left : Rows) → smaller_of key_of (row ∷ rows) (e ∷ es) ≡ smaller.Both → IsLeft key_of file (cursor at n (row ∷ rows) (e ∷ es)) left
-      → Told left (said e.1) (cursor at n rows es)
-  both_go law at n row rows e es left is held =
+  both_go : ChangeHere → (at n : ℕ) (row : List ℕ) (rows : List (List ℕ)) (last now : Option (List ℕ)) (e : List ℕ × List ℕ) (es left : Rows) → smaller_of key_of (row ∷ rows) (e ∷ es) ≡ smaller.Both → IsLeft key_of file (cursor at n (row ∷ rows) last (e ∷ es)) left
+      → Told left (said e.1) (cursor at n rows now es)
+  both_go law at n row rows last now e es left is held =
       let rest = keyed_rows key_of (rows ++ rows_over held.pages) in
-      told at n rows held.pages e.0 es left held.stand held.many (sorted_tail by_bytes (key_of row) (keys_of rest) held.order) (sorted_tail by_bytes e.0 (keys_of (map change_of es)) held.rising) (said e.1)
+      told at n rows now held.pages e.0 es left held.stand held.many (sorted_tail by_bytes (key_of row) (keys_of rest) held.order) (sorted_tail by_bytes e.0 (keys_of (map change_of es)) held.rising) (said e.1)
       (held.same ∙ law (key_of row, row) rest (change_of e) (map change_of es) (is_equal (by_bytes e.0 (key_of row)) is) held.rising)
 
   told_step : (left : Rows) (new : RowCursor) (e : Bor (List ℕ) × Bor (List ℕ)) → Told left (said e.1.now) new → (made : Step) → SaysStep (Some e) made → Steps key_of file left made new
   told_step left new e is step.End says = absurd says
-  told_step left new e is (step.Row row) says = subst (λ (o : Option (List ℕ)). Told left o new) says is
+  told_step left new e is (step.Row place.Page) says = absurd says
+  told_step left new e is (step.Row (place.Change row)) says = subst (λ (o : Option (List ℕ)). Told left o new) says is
   told_step left new e is step.Skip says = subst (λ (o : Option (List ℕ)). Told left o new) says is
 
   no_change : (rows : List (List ℕ)) → smaller_of key_of rows [] ≡ smaller.Change → ⊥
@@ -136,7 +137,7 @@ module _ (key_of : List ℕ → List ℕ) (file : List ℕ) where
   change_steps law old left settled is held None more takes made says = absurd (no_change old.base.rows (ap (λ (l : Rows). smaller_of key_of old.base.rows l) (sym takes.0) ∙ is))
   change_steps law old left settled is held (Some e) more takes made says =
       told_step left (record { base = old.base; changes = more }) e
-      (change_goes law old.base.at old.base.pages old.base.rows (e.0.now, e.1.now) more left settled (ap (λ (l : Rows). smaller_of key_of old.base.rows l) (sym takes) ∙ is)
+      (change_goes law old.base.at old.base.pages old.base.rows old.base.last (e.0.now, e.1.now) more left settled (ap (λ (l : Rows). smaller_of key_of old.base.rows l) (sym takes) ∙ is)
       (subst (λ (l : Rows). IsLeft key_of file (record { base = old.base; changes = l }) left) takes held))
       made says
 
@@ -148,25 +149,22 @@ module _ (key_of : List ℕ → List ℕ) (file : List ℕ) where
   no_row_too [] is = absurd cc
   no_row_too (e ∷ es) is = absurd cc
 
-  both_given : ChangeHere → (at n : ℕ) (rows : List (List ℕ)) (entries left : Rows) → smaller_of key_of rows entries ≡ smaller.Both → IsLeft key_of file (cursor at n rows entries) left
-      → (row : Option (Vec ℕ)) (fewer : List (List ℕ)) → TakesRow rows row fewer → (entry : Option (Bor (List ℕ) × Bor (List ℕ))) (more : Rows) → TakesEntry entries entry more
-      → (made : Step) → SaysStep entry made → Steps key_of file left made (cursor at n fewer more)
-  both_given law at n rows entries left is held None fewer takes entry more gives made says = absurd (no_row_too entries (ap (λ (l : List (List ℕ)). smaller_of key_of l entries) (sym takes.0) ∙ is))
-  both_given law at n rows entries left is held (Some row) fewer takes None more gives made says = absurd (not_both rows (ap (λ (l : Rows). smaller_of key_of rows l) (sym gives.0) ∙ is))
-  both_given law at n rows entries left is held (Some row) fewer takes (Some e) more gives made says =
-      told_step left (cursor at n fewer more) e
-      (both_go law at n row.items fewer (e.0.now, e.1.now) more left
-      (ap (λ (l : Rows). smaller_of key_of (row.items ∷ fewer) l) (sym gives) ∙ ap (λ (l : List (List ℕ)). smaller_of key_of l entries) (sym takes) ∙ is)
-      (subst (λ (l : Rows). IsLeft key_of file (cursor at n (row.items ∷ fewer) l) left) gives (subst (λ (l : List (List ℕ)). IsLeft key_of file (cursor at n l entries) left) takes held)))
+  both_given : ChangeHere → (at n : ℕ) (rows : List (List ℕ)) (last : Option (List ℕ)) (entries left : Rows) → smaller_of key_of rows entries ≡ smaller.Both → IsLeft key_of file (cursor at n rows last entries) left
+      → (new : PagesLeft) → GivesRow rows new → new.at ≡ at → new.pages ≡ n → (entry : Option (Bor (List ℕ) × Bor (List ℕ))) (more : Rows) → TakesEntry entries entry more
+      → (made : Step) → SaysStep entry made → Steps key_of file left made (record { base = new; changes = more })
+  both_given law at n [] last entries left is held new gives same_at same_pages entry more takes made says = absurd (no_row_too entries is)
+  both_given law at n (row ∷ rows) last entries left is held new gives same_at same_pages None more takes made says = absurd (not_both (row ∷ rows) (ap (λ (l : Rows). smaller_of key_of (row ∷ rows) l) (sym takes.0) ∙ is))
+  both_given law at n (row ∷ rows) last entries left is held new gives same_at same_pages (Some e) more takes made says =
+      told_step left (record { base = new; changes = more }) e
+      (with_base (λ (c : RowCursor). Told left (said e.1.now) c) at n rows more new same_at same_pages gives.0
+      (both_go law at n row rows last new.last (e.0.now, e.1.now) more left (ap (λ (l : Rows). smaller_of key_of (row ∷ rows) l) (sym takes) ∙ is)
+      (subst (λ (l : Rows). IsLeft key_of file (cursor at n (row ∷ rows) last l) left) takes held)))
       made says
 
   pub both_steps : ChangeHere → (old : RowCursor) (left : Rows) → smaller_of key_of old.base.rows old.changes ≡ smaller.Both → IsLeft key_of file old left
-      → (row : Option (Vec ℕ)) (new : PagesLeft) → TakesRow old.base.rows row new.rows → new.at ≡ old.base.at → new.pages ≡ old.base.pages
+      → (new : PagesLeft) → GivesRow old.base.rows new → new.at ≡ old.base.at → new.pages ≡ old.base.pages
       → (entry : Option (Bor (List ℕ) × Bor (List ℕ))) (more : Rows) → TakesEntry old.changes entry more → (made : Step) → SaysStep entry made → Steps key_of file left made (record { base = new; changes = more })
-  both_steps law old left is held row new takes at pages entry more gives made says =
-      subst (λ a. Steps key_of file left made (cursor a new.pages new.rows more)) (sym at)
-      (subst (λ n. Steps key_of file left made (cursor old.base.at n new.rows more)) (sym pages)
-      (both_given law old.base.at old.base.pages old.base.rows old.changes left is held row new.rows takes entry more gives made says))
+  both_steps law old left is held new gives at pages = both_given law old.base.at old.base.pages old.base.rows old.base.last old.changes left is held new gives at pages
 
   -- ---- a page is read
 

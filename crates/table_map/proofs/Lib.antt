@@ -3,6 +3,7 @@ mod Found
 mod Given
 mod Going
 mod Halved
+mod Lent
 mod Opened
 mod Passed
 mod Told

@@ -1,6 +1,7 @@
 pub mod Cursor
 pub mod Damage
 pub mod Keyed
+pub mod Lending
 pub mod Passing
 pub mod Places
 pub mod Stored

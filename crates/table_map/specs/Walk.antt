@@ -1,17 +1,29 @@
 -- Lists whose first element is looked at or taken.
-use Rattle.std.specs.Prelude.{◌≡◌, ◌⊎◌, ℕ, suc, ◌+◌, List, [], ◌∷◌, Option, Some, None}
+use Rattle.std.specs.Prelude.{◌≡◌, ◌⊎◌, ℕ, zero, suc, ◌+◌, List, [], ◌∷◌, Option, Some, None}
 use Rattle.std.specs.Borrow.{Bor}
-use Rattle.std.specs.Global.{Vec}
+use Rattle.std.specs.List.{slice_get}
 use Rattle.drda_words.specs.Place.{part}
-use Rattle.row_pages.specs.Page.{IsPage}
+use Rattle.row_pages.specs.Page.{IsPage, Page}
 use Rattle.row_pages.specs.declared.page.PageKind.TheVariants as kind
 use Rattle.key_map.specs.Merging.{Rows}
 
--- where the next page lies, how many come, and the rows that are left of the page that was read
+-- where the next page lies, how many come, the rows that are left of the page that was read, and the one of it that was
+-- given last
 pub record PagesLeft : Type 0 where
   pub at : ℕ
   pub pages : ℕ
   pub rows : List (List ℕ)
+  pub last : Option (List ℕ)
+
+-- the rows of the page that was read
+abbrev pub page_rows : Option Page → List (List ℕ)
+page_rows None = []
+page_rows (Some page) = page.rows
+
+-- the last of the first n rows
+abbrev pub last_of : ℕ → List (List ℕ) → Option (List ℕ)
+last_of zero rows = None
+last_of (suc n) rows = slice_get rows n
 
 -- all rows of the page were given only where no page comes
 abbrev pub IsLoaded : PagesLeft → Type 0
@@ -32,9 +44,10 @@ abbrev pub IsFirstRow : List (List ℕ) → Option (Bor (List ℕ)) → Type 0
 IsFirstRow rows None = rows ≡ []
 IsFirstRow rows (Some row) = (more : List (List ℕ)) × (rows ≡ row.now ∷ more)
 
-abbrev pub TakesRow : List (List ℕ) → Option (Vec ℕ) → List (List ℕ) → Type 0
-TakesRow old None new = (old ≡ []) × (new ≡ [])
-TakesRow old (Some row) new = old ≡ row.items ∷ new
+-- the first row is given, where there is one
+abbrev pub GivesRow : List (List ℕ) → PagesLeft → Type 0
+GivesRow [] new = new.rows ≡ []
+GivesRow (row ∷ rows) new = (new.rows ≡ rows) × (new.last ≡ Some row)
 
 abbrev pub IsFirstEntry : Rows → Option (Bor (List ℕ) × Bor (List ℕ)) → Type 0
 IsFirstEntry entries None = entries ≡ []

@@ -1,126 +1,95 @@
 //! The rows of a table's pages, one page at a time.
-ghost use Rattle.std.specs.Prelude.{◌≡◌, ◌+◌, ◌*◌, ◌^◌, ◌<◌, ◌≤◌, ◌++◌, ◌∷◌, [], ℕ, List, IsTrue, OnOk, IfOk, length, map};
+ghost use Rattle.std.specs.Prelude.{◌≡◌, ◌+◌, ◌*◌, ◌^◌, ◌<◌, ◌≤◌, [], IsTrue, None, OnOk, length};
+ghost use Rattle.std.specs.List.{slice_get};
 ghost use Rattle.drda_words.specs.Place.{part};
 ghost use Rattle.drda_disk.specs.Disk.{Stays};
-ghost use Rattle.row_pages.specs.Page.{IsPage};
-ghost use Rattle.row_pages.specs.Keeping.{AreRead, CountsPageFault, TellsDamage};
+ghost use Rattle.row_pages.specs.Keeping.{CountsPageFault};
 ghost use Rattle.table_map.specs.Damage.{DamagedWhere, HasNoRows};
-ghost use Rattle.table_map.specs.Walk.{IsFirstRow, IsLoaded, Loads, TakesRow};
+ghost use Rattle.table_map.specs.Keyed.{seen};
+ghost use Rattle.table_map.specs.Walk.{GivesRow, IsFirstRow, IsLoaded, Loads, page_rows};
 
 use drda_disk::Disk;
-use row_pages::{KeptPage, PAGE_BYTES, PageCache, PageFault, PageKind};
-use std::alloc::{AllocError, Global};
-use std::collections::VecDeque;
+use row_pages::{KeptPage, PAGE_BYTES, PageFault, read_page};
+use std::alloc::Global;
 use std::marker::Model;
 
-/// The rows of pages that are left: those of the page that was read, in memory of their own, and the
-/// pages that come.
+/// The rows of pages that are left: those of the page that was read, where they lie in it, and the
+/// pages that come. It has that page in memory of its own.
 #[derive(Drop)]
 pub(crate) struct RowsLeft {
     at: usize,
     pages: usize,
-    rows: VecDeque<Vec<u8>>,
+    page: Option<KeptPage>,
+    /// How many rows of the page were given.
+    given: usize,
 }
 
 impl Model for RowsLeft {
-    ghost use Rattle.std.specs.Prelude.{◌+◌, ◌*◌, ◌^◌, ◌≤◌, map};
-    ghost use Rattle.table_map.specs.Walk.{PagesLeft};
+    ghost use Rattle.std.specs.Prelude.{◌+◌, ◌*◌, ◌^◌, ◌≤◌, drop};
+    ghost use Rattle.table_map.specs.Walk.{PagesLeft, last_of, page_rows};
 
     ghost Value = { PagesLeft };
 
-    ghost view = { λ r. record { at = r.at; pages = r.pages; rows = map (λ row. row.items) r.rows.items } };
+    ghost view = { λ r. record { at = r.at; pages = r.pages; rows = drop r.given (page_rows r.page); last = last_of r.given (page_rows r.page) } };
 
     ghost invariant = { λ r. r.at + 8192 * r.pages ≤ 2 ^ 40 };
 }
 
-/// Puts a row behind others.
-fn push_row(alloc: Global, rows: &mut VecDeque<Vec<u8>>, row: &[u8]) -> Result<(), AllocError>
-    ensures { OnOk result (map (λ r. r.items) rows.new.items ≡ map (λ r. r.items) rows.old.items ++ row.now ∷ []) }
+/// How many rows a page has that may have been read.
+fn row_count(page: &Option<KeptPage>) -> usize
+    ensures { result ≡ length (page_rows page.now) }
 {
-    let copy = row.to_vec(alloc)?;
-    match rows.push_back(copy) {
-        Ok(()) => Ok(()),
-        Err(_) => Err(AllocError),
+    match page {
+        Some(page) => page.len(),
+        None => 0,
     }
 }
 
-/// The rows of a page, in new memory.
-fn rows_of(alloc: Global, page: &KeptPage) -> Result<VecDeque<Vec<u8>>, AllocError>
-    ensures rows { IfOk result (λ rows. map (λ r. r.items) rows.items ≡ page.now.rows) }
-    ensures few { IfOk result (λ rows. length rows.items < 2 ^ 64) }
+/// Its row of this number, where there is one.
+fn row_of(page: &Option<KeptPage>, number: usize) -> Option<&[u8]>
+    ensures { seen result ≡ slice_get (page_rows page.now) number }
 {
-    let mut rows = VecDeque::new(alloc);
-    let mut left = page.page_ref().rows();
-    while let Some(row) = left.next() {
-        push_row(alloc, &mut rows, row)?;
-    }
-    let _count = rows.len();
-    Ok(rows)
-}
-
-/// The rows of the page at an offset, in new memory.
-fn rows_at<D: Disk>(
-    alloc: Global,
-    cache: &mut PageCache,
-    disk: &mut D,
-    at: usize,
-) -> Result<VecDeque<Vec<u8>>, PageFault>
-    requires { at + 8192 ≤ length (D.life disk.old).seen }
-    ensures rows { (rows : List (List ℕ)) → IsTrue D.is_modelled → AreRead cache.old (D.life disk.old).seen → IsPage (record { kind = PageKind.Rows; rows = rows }) (part (D.life disk.old).seen at 8192)
-        → IfOk result (λ copies. map (λ r. r.items) copies.items ≡ rows) }
-    ensures none { IsTrue D.is_modelled → AreRead cache.old (D.life disk.old).seen → IfOk result (λ copies. map (λ r. r.items) copies.items ≡ [] → HasNoRows (part (D.life disk.old).seen at 8192)) }
-    ensures damaged { IsTrue D.is_modelled → TellsDamage (part (D.life disk.old).seen at 8192) result }
-    ensures few { IfOk result (λ rows. length rows.items < 2 ^ 64) }
-    ensures kept { IsTrue D.is_modelled → AreRead cache.old (D.life disk.old).seen → AreRead cache.new (D.life disk.new).seen }
-    ensures stays { Stays (D.life disk.old) (D.life disk.new) }
-    ensures cause { CountsPageFault result (D.life disk.old).faults (D.life disk.new).faults }
-{
-    let page = cache.page(alloc, disk, at)?;
-    match rows_of(alloc, page) {
-        Ok(rows) => Ok(rows),
-        Err(_) => Err(PageFault::NoMemory),
+    match page {
+        Some(page) if number < page.len() => Some(page.row(number)),
+        _ => None,
     }
 }
 
 impl RowsLeft {
     /// The rows of so many pages, from an offset on.
-    pub(crate) fn new(alloc: Global, at: usize, pages: usize) -> RowsLeft
+    pub(crate) fn new(at: usize, pages: usize) -> RowsLeft
         requires { at + 8192 * pages ≤ 2 ^ 40 }
-        ensures { result ≡ record { at = at; pages = pages; rows = [] } }
+        ensures { result ≡ record { at = at; pages = pages; rows = []; last = None } }
     {
         RowsLeft {
             at,
             pages,
-            rows: VecDeque::new(alloc),
+            page: None,
+            given: 0,
         }
     }
 
     /// Reads the next page where no row is left of the last one. A page without rows is damaged.
-    pub(crate) fn settle<D: Disk>(
-        &mut self,
-        alloc: Global,
-        cache: &mut PageCache,
-        disk: &mut D,
-    ) -> Result<(), PageFault>
+    pub(crate) fn settle<D: Disk>(&mut self, alloc: Global, disk: &mut D) -> Result<(), PageFault>
         requires { self.old.at + 8192 * self.old.pages ≤ length (D.life disk.old).seen }
-        ensures rows { IsTrue D.is_modelled → AreRead cache.old (D.life disk.old).seen → OnOk result (Loads (D.life disk.old).seen self.old self.new) }
-        ensures damaged { IsTrue D.is_modelled → AreRead cache.old (D.life disk.old).seen → DamagedWhere ((0 < self.old.pages) × HasNoRows (part (D.life disk.old).seen self.old.at 8192)) result }
+        ensures rows { IsTrue D.is_modelled → OnOk result (Loads (D.life disk.old).seen self.old self.new) }
+        ensures damaged { IsTrue D.is_modelled → DamagedWhere ((0 < self.old.pages) × HasNoRows (part (D.life disk.old).seen self.old.at 8192)) result }
         ensures settled { OnOk result (IsLoaded self.new) }
         ensures end { self.new.at + 8192 * self.new.pages ≡ self.old.at + 8192 * self.old.pages }
         ensures forward { self.old.at ≤ self.new.at }
         ensures weight { self.new.pages * 2 ^ 64 + length self.new.rows ≤ self.old.pages * 2 ^ 64 + length self.old.rows }
-        ensures kept { IsTrue D.is_modelled → AreRead cache.old (D.life disk.old).seen → AreRead cache.new (D.life disk.new).seen }
         ensures stays { Stays (D.life disk.old) (D.life disk.new) }
         ensures cause { CountsPageFault result (D.life disk.old).faults (D.life disk.new).faults }
     {
-        if !self.rows.is_empty() || self.pages == 0 {
+        if self.first().is_some() || self.pages == 0 {
             return Ok(());
         }
-        let rows = rows_at(alloc, cache, disk, self.at)?;
-        if rows.is_empty() {
+        let page = read_page(alloc, disk, self.at)?;
+        if page.len() == 0 {
             return Err(PageFault::Damaged);
         }
-        self.rows = rows;
+        self.page = Some(page);
+        self.given = 0;
         self.at += PAGE_BYTES;
         self.pages -= 1;
         Ok(())
@@ -130,18 +99,27 @@ impl RowsLeft {
     pub(crate) fn first(&self) -> Option<&[u8]>
         ensures { IsFirstRow self.now.rows result }
     {
-        match self.rows.front() {
-            Some(row) => Some(row.as_slice()),
-            None => None,
-        }
+        row_of(&self.page, self.given)
     }
 
-    /// Gives that row.
-    pub(crate) fn take(&mut self) -> Option<Vec<u8>>
-        ensures rows { TakesRow self.old.rows result self.new.rows }
+    /// Gives that row, where there is one.
+    pub(crate) fn give(&mut self)
+        ensures rows { GivesRow self.old.rows self.new }
         ensures at { self.new.at ≡ self.old.at }
         ensures pages { self.new.pages ≡ self.old.pages }
     {
-        self.rows.pop_front()
+        if self.given < row_count(&self.page) {
+            self.given += 1;
+        }
+    }
+
+    /// The row that was given last, where it lies.
+    pub(crate) fn last(&self) -> Option<&[u8]>
+        ensures { seen result ≡ self.now.last }
+    {
+        if self.given == 0 {
+            return None;
+        }
+        row_of(&self.page, self.given - 1)
     }
 }

@@ -1,10 +1,13 @@
 //! Going over the rows of a table in the order of their keys.
 ghost use Rattle.std.specs.Prelude.{◌≡◌, ◌+◌, ◌*◌, ◌<◌, ◌≤◌, ℕ, List, IsTrue, IfOk, length};
+ghost use Rattle.std.specs.Borrow.{sem};
 ghost use Rattle.drda_disk.specs.Disk.{Stays};
-ghost use Rattle.row_pages.specs.Keeping.{AreRead, CountsPageFault};
+ghost use Rattle.row_pages.specs.Keeping.{CountsPageFault};
 ghost use Rattle.key_map.specs.Merging.{Rows};
-ghost use Rattle.table_map.specs.Cursor.{Falls, FallsAt, GivesFirst, IsLeft, RowStep, SaysStep, Steps, smaller_of};
+ghost use Rattle.table_map.specs.Cursor.{Falls, FallsAt, FindsFirst, HasGiven, IsLeft, SaysStep, Steps, row_found, smaller_of};
 ghost use Rattle.table_map.specs.Damage.{DamagedWhere, HasNoRows, SomePage};
+ghost use Rattle.table_map.specs.Keyed.{seen};
+ghost use Rattle.table_map.specs.Lending.{EndsAs};
 ghost use Rattle.table_map.specs.Walk.{IsLoaded};
 
 use crate::RowKeys;
@@ -12,12 +15,12 @@ use crate::base::RowsLeft;
 use crate::changes::ChangesLeft;
 use drda_disk::Disk;
 use key_map::laws::changes_and_rows_in_turn;
-use row_pages::{PageCache, PageFault};
-use std::alloc::{AllocError, Global};
+use row_pages::PageFault;
+use std::alloc::Global;
 use std::cmp::Ordering;
 
-/// The rows of a table that are left, in the order of their keys: those of its pages, of which one is
-/// read at a time, with the changes since.
+/// The rows of a table that are left, in the order of their keys: those of its pages, of which one at
+/// a time is read into memory of its own, with the changes since.
 #[derive(Drop)]
 pub struct RowCursor<'a> {
     pub(crate) base: RowsLeft,
@@ -37,35 +40,34 @@ pub(crate) enum Smaller {
     Both,
 }
 
+/// Where a row lies that is given.
+#[derive(Clone, Copy)]
+pub(crate) enum Place<'a> {
+    /// In the page that was read, as the one that was given last.
+    Page,
+    /// Among the changes.
+    Change(&'a [u8]),
+}
+
 /// What a step gives.
-#[derive(Drop)]
-pub(crate) enum Step {
+#[derive(Clone, Copy)]
+pub(crate) enum Step<'a> {
     /// Nothing is left.
     End,
     /// The next row.
-    Row(Vec<u8>),
+    Row(Place<'a>),
     /// A row was taken out here.
     Skip,
 }
 
-/// The row of a change, in new memory, if it is one.
-fn changed(alloc: Global, entry: Option<(&[u8], &[u8])>) -> Result<Step, AllocError>
-    ensures { IfOk result (SaysStep entry.entry) }
+/// The row of a change, if it is one.
+fn changed<'a>(entry: Option<(&'a [u8], &'a [u8])>) -> Step<'a>
+    ensures { SaysStep entry.entry result }
 {
     match entry {
-        None => Ok(Step::End),
-        Some((_, [])) => Ok(Step::Skip),
-        Some((_, row)) => Ok(Step::Row(row.to_vec(alloc)?)),
-    }
-}
-
-/// Gives a row of the pages.
-fn of_row(row: Option<Vec<u8>>) -> Step
-    ensures { RowStep row result }
-{
-    match row {
-        Some(row) => Step::Row(row),
         None => Step::End,
+        Some((_, [])) => Step::Skip,
+        Some((_, row)) => Step::Row(Place::Change(row)),
     }
 }
 
@@ -87,53 +89,83 @@ impl<'a> RowCursor<'a> {
     }
 
     /// One step: a row of the pages, a change, or a change in place of the row of its key.
-    fn step<K: RowKeys>(&mut self, alloc: Global, keys: &K) -> Result<Step, AllocError>
+    fn step<K: RowKeys>(&mut self, keys: &K) -> Step<'a>
         requires { IsLoaded self.old.base }
-        ensures steps { (file : List ℕ) (left : Rows) → IsLeft (K.key_of keys.now) file self.old left → IfOk result (λ step. Steps (K.key_of keys.now) file left step self.new) }
+        ensures steps { (file : List ℕ) (left : Rows) → IsLeft (K.key_of keys.now) file self.old left → Steps (K.key_of keys.now) file left result self.new }
         ensures at { self.new.base.at ≡ self.old.base.at }
         ensures pages { self.new.base.pages ≡ self.old.base.pages }
-        ensures fewer { IfOk result (λ step. Falls step self.old self.new) }
+        ensures fewer { Falls result self.old self.new }
     {
         changes_and_rows_in_turn();
         match self.smaller(keys) {
-            Smaller::End => Ok(Step::End),
-            Smaller::Row => Ok(of_row(self.base.take())),
-            Smaller::Change => changed(alloc, self.changes.take()),
+            Smaller::End => Step::End,
+            Smaller::Row => {
+                self.base.give();
+                Step::Row(Place::Page)
+            }
+            Smaller::Change => changed(self.changes.take()),
             Smaller::Both => {
-                let _row = self.base.take();
-                changed(alloc, self.changes.take())
+                self.base.give();
+                changed(self.changes.take())
             }
         }
     }
 
-    /// The next row, in new memory. After a fault no promise is made of the rows that are left.
-    /// `Damaged` is told only where one of the pages that are left is no page or has no rows.
-    pub fn next<K: RowKeys, D: Disk>(
+    /// Goes on to the next row, and tells where it lies.
+    fn advance<K: RowKeys, D: Disk>(
         &mut self,
         alloc: Global,
         keys: &K,
-        cache: &mut PageCache,
         disk: &mut D,
-    ) -> Result<Option<Vec<u8>>, PageFault>
+    ) -> Result<Option<Place<'a>>, PageFault>
         requires { self.old.base.at + 8192 * self.old.base.pages ≤ length (D.life disk.old).seen }
-        ensures gives { (left : Rows) → IsTrue D.is_modelled → AreRead cache.old (D.life disk.old).seen → IsLeft (K.key_of keys.now) (D.life disk.old).seen self.old left
-            → IfOk result (λ row. GivesFirst (K.key_of keys.now) (D.life disk.old).seen left row self.new) }
-        ensures damaged { IsTrue D.is_modelled → AreRead cache.old (D.life disk.old).seen → DamagedWhere (SomePage HasNoRows (D.life disk.old).seen self.old.base.at self.old.base.pages) result }
+        ensures finds { (left : Rows) → IsTrue D.is_modelled → IsLeft (K.key_of keys.now) (D.life disk.old).seen self.old left
+            → IfOk result (λ place. FindsFirst (K.key_of keys.now) (D.life disk.old).seen left place self.new) }
+        ensures damaged { IsTrue D.is_modelled → DamagedWhere (SomePage HasNoRows (D.life disk.old).seen self.old.base.at self.old.base.pages) result }
         ensures end { self.new.base.at + 8192 * self.new.base.pages ≡ self.old.base.at + 8192 * self.old.base.pages }
         ensures forward { self.old.base.at ≤ self.new.base.at }
-        ensures fewer { IfOk result (λ row. FallsAt row self.old self.new) }
-        ensures kept { IsTrue D.is_modelled → AreRead cache.old (D.life disk.old).seen → AreRead cache.new (D.life disk.new).seen }
+        ensures fewer { IfOk result (λ place. FallsAt place self.old self.new) }
         ensures stays { Stays (D.life disk.old) (D.life disk.new) }
         ensures cause { CountsPageFault result (D.life disk.old).faults (D.life disk.new).faults }
     {
         loop {
-            self.base.settle(alloc, cache, disk)?;
-            match self.step(alloc, keys) {
-                Ok(Step::Row(row)) => return Ok(Some(row)),
-                Ok(Step::End) => return Ok(None),
-                Ok(Step::Skip) => {}
-                Err(_) => return Err(PageFault::NoMemory),
+            self.base.settle(alloc, disk)?;
+            match self.step(keys) {
+                Step::Row(place) => return Ok(Some(place)),
+                Step::End => return Ok(None),
+                Step::Skip => {}
             }
         }
+    }
+
+    /// The row that lies there.
+    fn lend<'s>(&'s self, place: Option<Place<'a>>) -> Option<&'s [u8]>
+        ensures { seen result ≡ row_found place.entry self.now }
+    {
+        match place {
+            None => None,
+            Some(Place::Page) => self.base.last(),
+            Some(Place::Change(row)) => Some(row),
+        }
+    }
+
+    /// The next row, where it lies: in the page that was read or among the changes, until the cursor is
+    /// used again. No row is copied; the one memory that is taken is that of a page, where the next one
+    /// is read. After a fault no promise is made of the rows that are left. `Damaged` is told only where
+    /// one of the pages that are left is no page or has no rows.
+    pub fn next<'s, K: RowKeys, D: Disk>(
+        &'s mut self,
+        alloc: Global,
+        keys: &K,
+        disk: &mut D,
+    ) -> Result<Option<&'s [u8]>, PageFault>
+        requires { self.old.base.at + 8192 * self.old.base.pages ≤ length (D.life disk.old).seen }
+        ensures* given { sem 𝓛 (EndsAs self.entry (λ cursor. HasGiven D.is_modelled (K.key_of keys.now) (D.life disk.old).seen self.old result cursor)) }
+        ensures damaged { IsTrue D.is_modelled → DamagedWhere (SomePage HasNoRows (D.life disk.old).seen self.old.base.at self.old.base.pages) result }
+        ensures stays { Stays (D.life disk.old) (D.life disk.new) }
+        ensures cause { CountsPageFault result (D.life disk.old).faults (D.life disk.new).faults }
+    {
+        let place = self.advance(alloc, keys, disk)?;
+        Ok(self.lend(place))
     }
 }

@@ -1,5 +1,5 @@
 //! The pages of a table.
-ghost use Rattle.std.specs.Prelude.{◌≡◌, ◌+◌, ◌*◌, ◌^◌, ◌<◌, ◌≤◌, ℕ, List, [], IsTrue, IfOk, length, map};
+ghost use Rattle.std.specs.Prelude.{◌≡◌, ◌+◌, ◌*◌, ◌^◌, ◌<◌, ◌≤◌, ℕ, List, [], None, IsTrue, IfOk, length, map};
 ghost use Rattle.drda_words.specs.Place.{part};
 ghost use Rattle.drda_disk.specs.Disk.{Stays};
 ghost use Rattle.row_pages.specs.Page.{IsPage};
@@ -101,10 +101,10 @@ impl TablePages {
     }
 
     /// The rows of all pages, none of which is read yet.
-    pub(crate) fn rows_left(&self, alloc: Global) -> RowsLeft
-        ensures { result ≡ record { at = self.now.at; pages = length self.now.keys; rows = [] } }
+    pub(crate) fn rows_left(&self) -> RowsLeft
+        ensures { result ≡ record { at = self.now.at; pages = length self.now.keys; rows = []; last = None } }
     {
-        RowsLeft::new(alloc, self.at, self.first_keys.len())
+        RowsLeft::new(self.at, self.first_keys.len())
     }
 
     /// The row of a key, in new memory. One page is looked at, at most: the one whose first key is the

@@ -35,14 +35,14 @@ fn count_row(count: &mut PageCount, row: &[u8]) -> Result<(), PageFault>
 
 impl TableMap {
     /// A cursor in front of all rows. No page is read yet, and no memory is taken.
-    pub fn rows(&self, alloc: Global) -> RowCursor<'_>
+    pub fn rows(&self) -> RowCursor<'_>
         ensures left { (key_of : List ℕ → List ℕ) (pages : List (List (List ℕ))) (file : List ℕ) → IsStored key_of self.now.places pages file
             → IsLeft key_of file result (rows_of_table key_of self.now pages) }
         ensures end { result.base.at + 8192 * result.base.pages ≡ self.now.places.at + 8192 * length self.now.places.keys }
         ensures begins { result.base.at ≡ self.now.places.at }
     {
         RowCursor {
-            base: self.pages.rows_left(alloc),
+            base: self.pages.rows_left(),
             changes: ChangesLeft::new(self.overlay.entries()),
         }
     }
@@ -84,28 +84,26 @@ impl TableMap {
     }
 
     /// How many pages all rows take when they are laid anew, one behind another; nothing is written.
-    /// Each page is looked at once. Of a table whose pages stand there `Damaged` is told only where
-    /// one of all rows is too long for a page.
+    /// Each page is read once, one at a time, into memory of its own. Of a table whose pages stand
+    /// there `Damaged` is told only where one of all rows is too long for a page.
     pub fn page_count<K: RowKeys, D: Disk>(
         &self,
         alloc: Global,
         keys: &K,
-        cache: &mut PageCache,
         disk: &mut D,
     ) -> Result<usize, PageFault>
         requires { self.now.places.at + 8192 * length self.now.places.keys ≤ length (D.life disk.old).seen }
-        ensures count { (pages : List (List (List ℕ))) → IsTrue D.is_modelled → AreRead cache.old (D.life disk.old).seen → IsStored (K.key_of keys.now) self.now.places pages (D.life disk.old).seen
+        ensures count { (pages : List (List (List ℕ))) → IsTrue D.is_modelled → IsStored (K.key_of keys.now) self.now.places pages (D.life disk.old).seen
             → IfOk result (λ count. count ≡ counted (length (laid (without_keys (rows_of_table (K.key_of keys.now) self.now pages))))) }
-        ensures damaged { (pages : List (List (List ℕ))) → IsTrue D.is_modelled → AreRead cache.old (D.life disk.old).seen → IsStored (K.key_of keys.now) self.now.places pages (D.life disk.old).seen
+        ensures damaged { (pages : List (List (List ℕ))) → IsTrue D.is_modelled → IsStored (K.key_of keys.now) self.now.places pages (D.life disk.old).seen
             → DamagedWhere (AllByRecursion IsShort (without_keys (rows_of_table (K.key_of keys.now) self.now pages)) → ⊥) result }
-        ensures kept { IsTrue D.is_modelled → AreRead cache.old (D.life disk.old).seen → AreRead cache.new (D.life disk.new).seen }
         ensures stays { Stays (D.life disk.old) (D.life disk.new) }
         ensures cause { CountsPageFault result (D.life disk.old).faults (D.life disk.new).faults }
     {
-        let mut cursor = self.rows(alloc);
+        let mut cursor = self.rows();
         let mut count = PageCount::new();
-        while let Some(row) = cursor.next(alloc, keys, cache, disk)? {
-            count_row(&mut count, &row)?;
+        while let Some(row) = cursor.next(alloc, keys, disk)? {
+            count_row(&mut count, row)?;
         }
         Ok(count.pages())
     }

@@ -1,51 +1,19 @@
-use Rattle.std.proofs.Common.{rules, ℕ, List, subst, arith, ◌∙◌}
-use Rattle.drda_disk.proofs.Moments.{Stays-trans}
-use Rattle.table_map.specs.Damage.{HasNoRows, SomePage}
-use Rattle.table_map.specs.Walk.{Loads}
-use Rattle.table_map.proofs.Damaged.{at_front, handed_on, of_left}
-use Rattle.table_map.proofs.Going.{settled_left}
+use Rattle.std.proofs.Common.{refl}
+use Rattle.table_map.proofs.Lent.{lent_falls, lent_first}
 use Rattle.table_map.proofs.cursor.RowCursor.next.Goals as goal
 
-pub returns-in-Ok-Row-clause-gives : goal.returns-in-Ok-Row-clause-gives
-returns-in-Ok-Row-clause-gives g c left honest read held =
-    let inv = c.loop-self.invariant in
-    let file = (g.D.Disk.life c.args.disk.now).seen in
-    let reads = subst (λ (f : List ℕ). Loads f c.loop-self.self.base c.settle.new.self) inv.stays.same (c.in_ok-settle.ensures.rows honest (inv.kept honest read)) in
-    let now = settled_left (g.K.RowKeys.key_of c.args.keys.now) file c.loop-self.self left c.settle.new.self reads (inv.left left honest read held) in
-    rw c.in-Ok-Row.field-0-is at c.in-Ok-Row.ensures.steps file left now
-
-pub returns-in-Ok-End-clause-gives : goal.returns-in-Ok-End-clause-gives
-returns-in-Ok-End-clause-gives g c left honest read held =
-    let inv = c.loop-self.invariant in
-    let file = (g.D.Disk.life c.args.disk.now).seen in
-    let reads = subst (λ (f : List ℕ). Loads f c.loop-self.self.base c.settle.new.self) inv.stays.same (c.in_ok-settle.ensures.rows honest (inv.kept honest read)) in
-    let now = settled_left (g.K.RowKeys.key_of c.args.keys.now) file c.loop-self.self left c.settle.new.self reads (inv.left left honest read held) in
-    rw c.in-Ok-End.field-0-is at c.in-Ok-End.ensures.steps file left now
-
-pub loop-self-preserved : goal.loop-self-preserved
-loop-self-preserved g c =
-    let inv = c.loop-self.invariant in
-    let file = (g.D.Disk.life c.args.disk.now).seen in
-    let falls = rw c.in-Ok-Skip.field-0-is at c.in-Ok-Skip.ensures.fewer in
-    record {
-      stays = Stays-trans _ _ _ inv.stays c.settle.ensures.stays;
-      faults = c.in_ok-settle.ensures.cause ∙ inv.faults;
-      kept = λ honest read. c.settle.ensures.kept honest (inv.kept honest read);
-      end = omega (arith, c.step.ensures.at, c.step.ensures.pages, c.settle.ensures.end, inv.end);
-      forward = omega (arith, c.step.ensures.at, c.settle.ensures.forward, inv.forward);
-      fewer = omega (arith, falls, c.settle.ensures.weight, inv.fewer);
-      left = λ left honest read held.
-          let reads = subst (λ (f : List ℕ). Loads f c.loop-self.self.base c.settle.new.self) inv.stays.same (c.in_ok-settle.ensures.rows honest (inv.kept honest read)) in
-          let now = settled_left (g.K.RowKeys.key_of c.args.keys.now) file c.loop-self.self left c.settle.new.self reads (inv.left left honest read held) in
-          rw c.in-Ok-Skip.field-0-is at c.in-Ok-Skip.ensures.steps file left now;
-    }
-
-pub returns-in_err-settle-clause-damaged : goal.returns-in_err-settle-clause-damaged
-returns-in_err-settle-clause-damaged g c honest read =
-    let inv = c.loop-self.invariant in
-    let file = (g.D.Disk.life c.args.disk.now).seen in
-    let old = c.args.self.now.base in
-    let base = c.loop-self.self.base in
-    handed_on _ _ c.in_err-settle.field-0.0 c.settle.result c.from_residual.result (search rules) (search rules)
-    (λ told. subst (λ (f : List ℕ). SomePage HasNoRows f old.at old.pages) inv.stays.same (of_left HasNoRows _ old.at old.pages base.at base.pages inv.end inv.forward (at_front HasNoRows _ base.at base.pages told.0 told.1)))
-    (c.settle.ensures.damaged honest (inv.kept honest read))
+pub returns : goal.returns
+returns g c =
+    let advances = c.in_ok-place.ensures in (
+      (
+        refl,
+        λ last. tt,
+        record {
+          gives = λ left honest held. lent_first (g.K.RowKeys.key_of c.args.keys.now) (g.D.Disk.life c.args.disk.now).seen left c.in_ok-place.place c.lend.result c.advance.new.self c.lend.ensures (advances.finds left honest held);
+          end = advances.end;
+          forward = advances.forward;
+          fewer = lent_falls c.in_ok-place.place c.lend.result c.args.self.now c.advance.new.self c.lend.ensures advances.fewer;
+        },
+      ),
+      record { given = tt; damaged = λ honest. tt; stays = advances.stays; cause = advances.cause },
+    )

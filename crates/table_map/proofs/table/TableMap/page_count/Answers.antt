@@ -1,6 +1,5 @@
-use Rattle.std.proofs.Common.{rules, arith, ◌≡◌, ℕ, List, [], ◌∷◌, length, refl, sym, ap, ◌∙◌, subst}
+use Rattle.std.proofs.Common.{rules, arith, ◌≡◌, ℕ, List, [], length, refl, sym, ◌∙◌, subst}
 use Rattle.drda_disk.proofs.Moments.{Stays-refl, Stays-trans}
-use Rattle.row_pages.specs.Laying.{IsShort, pages_with}
 use Rattle.table_map.specs.Cursor.{IsLeft, GoesOn}
 use Rattle.table_map.specs.Damage.{HasNoRows, SomePage}
 use Rattle.table_map.specs.Table.{rows_of_table}
@@ -15,10 +14,9 @@ loop-cursor-init g c =
     record {
       stays = Stays-refl _;
       faults = refl;
-      kept = λ honest read. read;
       end = c.rows-cursor.ensures.end;
       forward = omega (arith, c.rows-cursor.ensures.begins);
-      rows = λ pages honest read is.
+      rows = λ pages honest is.
           record {
             left = rows_of_table key_of c.args.self.now pages;
             is = c.rows-cursor.ensures.left key_of pages file is;
@@ -35,28 +33,27 @@ loop-cursor-preserved g c =
     record {
       stays = Stays-trans _ _ _ inv.stays c.next.ensures.stays;
       faults = c.in_ok-row.ensures.cause ∙ inv.faults;
-      kept = λ honest read. c.next.ensures.kept honest (inv.kept honest read);
-      end = c.next.ensures.end ∙ inv.end;
-      forward = omega (arith, inv.forward, c.next.ensures.forward);
-      rows = λ pages honest read is.
-          let held = inv.rows pages honest read is in
+      end = c.next.follows.holds-at-none.end ∙ inv.end;
+      forward = omega (arith, inv.forward, c.next.follows.holds-at-none.forward);
+      rows = λ pages honest is.
+          let held = inv.rows pages honest is in
           let there = subst (λ (f : List ℕ). IsLeft key_of f c.loop-cursor.cursor held.left) (sym inv.stays.same) held.is in
-          let goes = subst (λ (f : List ℕ). GoesOn key_of f held.left c.in-Some.row.items c.next.new.self) inv.stays.same (rw c.in-Some.is at (c.in_ok-row.ensures.gives held.left honest (inv.kept honest read) there)) in
-          one_counted key_of file c.loop-cursor.cursor c.next.new.self c.loop-cursor.count c.count_row.new.count _ c.in-Some.row.items held goes (λ rows. c.in_ok-count_row.ensures.counts rows ∙ ap (λ (b : List ℕ). pages_with c.loop-cursor.count (b ∷ rows)) c.deref.ensures.value);
+          let goes = subst (λ (f : List ℕ). GoesOn key_of f held.left c.in-Some.row.now c.next.follows.lender-at-none) inv.stays.same (rw (c.in_ok-row.was, c.in-Some.is) at (c.next.follows.holds-at-none.gives held.left honest there)) in
+          one_counted key_of file c.loop-cursor.cursor c.next.follows.lender-at-none c.loop-cursor.count c.count_row.new.count _ c.in-Some.row.now held goes c.in_ok-count_row.ensures.counts;
     }
 
 pub returns-clause-count : goal.returns-clause-count
-returns-clause-count g c pages honest read is =
+returns-clause-count g c pages honest is =
     let inv = c.loop-cursor.invariant in
     let key_of = g.K.RowKeys.key_of c.args.keys.now in
     let file = (g.D.Disk.life c.args.disk.now).seen in
-    let held = inv.rows pages honest read is in
+    let held = inv.rows pages honest is in
     let there = subst (λ (f : List ℕ). IsLeft key_of f c.loop-cursor.cursor held.left) (sym inv.stays.same) held.is in
-    let none : held.left ≡ [] = rw c.in_default.is at (c.in_ok-row.ensures.gives held.left honest (inv.kept honest read) there) in
+    let none : held.left ≡ [] = rw (c.in_ok-row.was, c.in_default.is) at (c.next.follows.holds-at-none.gives held.left honest there) in
     c.pages.ensures ∙ all_counted key_of file c.loop-cursor.cursor c.loop-cursor.count _ held none
 
 pub returns-in_err-row-clause-damaged : goal.returns-in_err-row-clause-damaged
-returns-in_err-row-clause-damaged g c pages honest read is =
+returns-in_err-row-clause-damaged g c pages honest is =
     let inv = c.loop-cursor.invariant in
     let key_of = g.K.RowKeys.key_of c.args.keys.now in
     let places = c.args.self.now.places in
@@ -64,16 +61,16 @@ returns-in_err-row-clause-damaged g c pages honest read is =
     let base = c.loop-cursor.cursor.base in
     handed_on _ _ c.in_err-row.field-0.0 c.next.result c.from_residual.result (search rules) (search rules)
     (λ some short. stored_is_whole key_of places pages file is (subst (λ (f : List ℕ). SomePage HasNoRows f places.at (length places.keys)) inv.stays.same (of_left HasNoRows _ places.at (length places.keys) base.at base.pages inv.end inv.forward some)))
-    (c.next.ensures.damaged honest (inv.kept honest read))
+    (c.next.ensures.damaged honest)
 
 pub returns-in_err-count_row-clause-damaged : goal.returns-in_err-count_row-clause-damaged
-returns-in_err-count_row-clause-damaged g c pages honest read is =
+returns-in_err-count_row-clause-damaged g c pages honest is =
     let inv = c.loop-cursor.invariant in
     let key_of = g.K.RowKeys.key_of c.args.keys.now in
     let file = (g.D.Disk.life c.args.disk.now).seen in
-    let held = inv.rows pages honest read is in
+    let held = inv.rows pages honest is in
     let there = subst (λ (f : List ℕ). IsLeft key_of f c.loop-cursor.cursor held.left) (sym inv.stays.same) held.is in
-    let goes = subst (λ (f : List ℕ). GoesOn key_of f held.left c.in-Some.row.items c.next.new.self) inv.stays.same (rw c.in-Some.is at (c.in_ok-row.ensures.gives held.left honest (inv.kept honest read) there)) in
+    let goes = subst (λ (f : List ℕ). GoesOn key_of f held.left c.in-Some.row.now c.next.follows.lender-at-none) inv.stays.same (rw (c.in_ok-row.was, c.in-Some.is) at (c.next.follows.holds-at-none.gives held.left honest there)) in
     handed_on _ _ c.in_err-count_row.field-0.0 c.count_row.result c.from_residual-in_err-count_row.result (search rules) (search rules)
-    (λ long short. long (subst (λ (b : List ℕ). IsShort b) (sym c.deref.ensures.value) (one_short key_of file c.loop-cursor.cursor c.next.new.self c.loop-cursor.count _ c.in-Some.row.items held goes short)))
+    (λ long short. long (one_short key_of file c.loop-cursor.cursor c.next.follows.lender-at-none c.loop-cursor.count _ c.in-Some.row.now held goes short))
     c.count_row.ensures.damaged

@@ -1,4 +1,4 @@
-use Rattle.std.proofs.Common.{◌≡◌, ℕ, List, [], length, map, sym, ap, subst, ◌∙◌}
+use Rattle.std.proofs.Common.{◌≡◌, ℕ, List, [], None, length, map, sym, ap, subst, ◌∙◌}
 use Rattle.row_pages.specs.Laying.{rows_over}
 use Rattle.key_map.specs.Merging.{Rows, Changes, InOrder, merged}
 use Rattle.key_map.specs.Overlay.{change_of, changes_of}
@@ -11,7 +11,7 @@ use Rattle.table_map.proofs.Opened.{many_first}
 use Rattle.table_map.proofs.table.TableMap.rows.Goals as goal
 
 begins : (key_of : List ℕ → List ℕ) (table : Table) (pages : List (List (List ℕ))) (file : List ℕ) → IsStored key_of table.places pages file → (entries : Rows) → map change_of entries ≡ changes_of table.overlay → InOrder (changes_of table.overlay)
-    → IsLeft key_of file (record { base = record { at = table.places.at; pages = length table.places.keys; rows = [] }; changes = entries }) (rows_of_table key_of table pages)
+    → IsLeft key_of file (record { base = record { at = table.places.at; pages = length table.places.keys; rows = []; last = None }; changes = entries }) (rows_of_table key_of table pages)
 begins key_of table pages file is entries are rising =
     record {
       pages = pages;
