@@ -21,6 +21,10 @@ impl RowKeys for FirstByte {
         first_byte(row).to_vec(alloc)
     }
 
+    fn put_key(&self, out: &mut Vec<u8>, row: &[u8]) -> Result<(), AllocError> {
+        out.extend_from_slice(first_byte(row))
+    }
+
     fn compare(&self, key: &[u8], row: &[u8]) -> Ordering {
         key.cmp(first_byte(row))
     }

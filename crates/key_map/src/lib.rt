@@ -21,4 +21,4 @@ pub use form::sort_form;
 pub use overlay::Overlay;
 pub use rows::OrderedRows;
 pub use walk::Rows;
-pub use writing::row_form;
+pub use writing::{put_row_form, row_form};

@@ -43,14 +43,23 @@ fn put_column(
     }
 }
 
-/// The form of a row of the schema, in new memory: that of its key, where the bytes are a row.
+/// Writes the form of a row of the schema behind what a list has: that of its key, where the bytes are
+/// a row. Where memory is refused, some of it may stand there.
+pub fn put_row_form(form: &mut Vec<u8>, schema: &Schema, row: &[u8]) -> Result<(), AllocError>
+    ensures { OnOk result (form.new.items ≡ form.old.items ++ row_form schema.now row.now) }
+{
+    let columns = schema.columns();
+    for place in schema.key() {
+        put_column(form, columns, row, usize::from(*place))?;
+    }
+    Ok(())
+}
+
+/// The form of a row of the schema, in new memory, as `put_row_form` writes it.
 pub fn row_form(alloc: Global, schema: &Schema, row: &[u8]) -> Result<Vec<u8>, AllocError>
     ensures { IfOk result (λ form. form.items ≡ row_form schema.now row.now) }
 {
     let mut form = Vec::with_capacity(alloc, USUAL_BYTES)?;
-    let columns = schema.columns();
-    for place in schema.key() {
-        put_column(&mut form, columns, row, usize::from(*place))?;
-    }
+    put_row_form(&mut form, schema, row)?;
     Ok(form)
 }

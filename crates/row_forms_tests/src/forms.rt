@@ -1,6 +1,6 @@
 //! The forms of rows of two columns, of which the second comes first in the key.
 
-use key_map::{compare, row_form, sort_form};
+use key_map::{compare, put_row_form, row_form, sort_form};
 use row_values::{Column, Kind, RowRef, Schema, is_key};
 use std::alloc::Global;
 use std::test::Fail;
@@ -78,6 +78,20 @@ fn what_can_be_read_has_a_form(rt: HostRuntime) -> Result<(), Fail> {
     for (bytes, want) in SHORT {
         assert_eq!(rt; row_form(alloc, &schema, bytes)?.as_slice(), want);
         assert!(rt; compare(&schema, want, bytes).is_eq(), "{bytes:?}");
+    }
+    Ok(())
+}
+
+#[test]
+fn forms_are_written_one_behind_another(rt: HostRuntime) -> Result<(), Fail> {
+    let alloc = rt.alloc();
+    let schema = text_and_number(alloc)?;
+    let mut forms = Vec::new(alloc);
+    let mut want = Vec::new(alloc);
+    for (bytes, form) in SHORT {
+        put_row_form(&mut forms, &schema, bytes)?;
+        want.extend_from_slice(form)?;
+        assert_eq!(rt; forms, want, "{bytes:?}");
     }
     Ok(())
 }

@@ -1,5 +1,5 @@
 //! The rows of one page.
-ghost use Rattle.std.specs.Prelude.{◌≡◌, ◌++◌, Ok, true, IfOk};
+ghost use Rattle.std.specs.Prelude.{◌≡◌, ◌++◌, Ok, Some, true, IfOk, OnOk};
 ghost use Rattle.std.specs.List.{AllByRecursion};
 ghost use Rattle.drda_words.specs.Bytes.{AreBytes};
 ghost use Rattle.table_map.specs.Keyed.{copied, first_of};
@@ -11,18 +11,35 @@ use std::alloc::{AllocError, Global};
 use std::cmp::Ordering;
 use table_map::{NotedRows, RowKeys};
 
-/// Whether a key comes behind the last one, where there is one.
-fn is_behind(last: &Option<Vec<u8>>, key: &[u8]) -> bool
-    ensures { result ≡ is_behind (copied last.now) key.now }
+/// Whether the key of a row comes behind the last one, where there is one.
+fn is_behind<K: RowKeys>(keys: &K, last: &Option<Vec<u8>>, row: &[u8]) -> bool
+    ensures { result ≡ is_behind (copied last.now) (K.key_of keys.now row.now) }
 {
     match last {
-        Some(last) => match last.as_slice().cmp(key) {
+        Some(last) => match keys.compare(last, row) {
             Ordering::Less => true,
             Ordering::Equal => false,
             Ordering::Greater => false,
         },
         None => true,
     }
+}
+
+/// Makes the key of a row the last one, in the memory of the one before it.
+fn keep_key<K: RowKeys>(
+    alloc: Global,
+    keys: &K,
+    last: &mut Option<Vec<u8>>,
+    row: &[u8],
+) -> Result<(), AllocError>
+    ensures { OnOk result (copied last.new ≡ Some (K.key_of keys.now row.now)) }
+{
+    if let Some(key) = last {
+        key.clear();
+        return keys.put_key(key, row);
+    }
+    *last = Some(keys.key(alloc, row)?);
+    Ok(())
 }
 
 /// The key of the first row of a page, if it has one.
@@ -69,13 +86,12 @@ pub(crate) fn are_rows<K: RowKeys>(
         if RowRef::parse(schema, row).is_err() {
             return Ok(false);
         }
-        let key = keys.key(alloc, row)?;
-        if !is_behind(last, &key) {
+        if !is_behind(keys, last, row) {
             return Ok(false);
         }
+        keep_key(alloc, keys, last, row)?;
         see_bytes(row);
         noted.note(row);
-        *last = Some(key);
     }
     Ok(true)
 }

@@ -23,6 +23,10 @@ impl RowKeys for FirstColumn {
         first_column(row).to_vec(alloc)
     }
 
+    fn put_key(&self, out: &mut Vec<u8>, row: &[u8]) -> Result<(), AllocError> {
+        out.extend_from_slice(first_column(row))
+    }
+
     fn compare(&self, key: &[u8], row: &[u8]) -> Ordering {
         key.cmp(first_column(row))
     }
@@ -33,6 +37,10 @@ impl KeysBySchema for FirstColumn {
 
     fn key(&self, alloc: Global, _: &Schema, row: &[u8]) -> Result<Vec<u8>, AllocError> {
         first_column(row).to_vec(alloc)
+    }
+
+    fn put_key(&self, out: &mut Vec<u8>, _: &Schema, row: &[u8]) -> Result<(), AllocError> {
+        out.extend_from_slice(first_column(row))
     }
 
     fn compare(&self, _: &Schema, key: &[u8], row: &[u8]) -> Ordering {

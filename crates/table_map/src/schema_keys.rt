@@ -2,7 +2,7 @@
 ghost use Rattle.key_map.specs.RowForm.{row_form};
 
 use crate::RowKeys;
-use key_map::{compare, row_form};
+use key_map::{compare, put_row_form, row_form};
 use row_values::Schema;
 use std::alloc::{AllocError, Global};
 use std::cmp::Ordering;
@@ -19,6 +19,10 @@ impl RowKeys for SchemaKeys<'_> {
 
     fn key(&self, alloc: Global, row: &[u8]) -> Result<Vec<u8>, AllocError> {
         row_form(alloc, self.schema, row)
+    }
+
+    fn put_key(&self, out: &mut Vec<u8>, row: &[u8]) -> Result<(), AllocError> {
+        put_row_form(out, self.schema, row)
     }
 
     fn compare(&self, key: &[u8], row: &[u8]) -> Ordering {
