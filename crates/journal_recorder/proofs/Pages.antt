@@ -15,10 +15,6 @@ use Rattle.journal_recorder.specs.Recording.{Fails, cache_of, disk_of, has_faile
 use Rattle.journal_recorder.specs.declared.recorder.DiskRecorder.{DiskRecorder}
 use Rattle.journal_recorder.proofs.Standing.{all_move, in_front}
 
--- no page that is kept is one too many
-pub none_read : (kept : Kept) (file : List ℕ) → kept ≡ [] → AreRead kept file
-none_read kept file none = subst (λ (k : Kept). AreRead k file) (sym none) (record { each = λ e there. absurd (search rules) })
-
 pub never : {b : Bool} → b ≡ true → b ≡ false → ⊥
 never is_true is_false = cc
 
