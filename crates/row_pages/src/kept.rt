@@ -118,11 +118,7 @@ impl KeptPage {
 /// The page that the disk reads at an offset, in memory of its own: for who reads it once, since no
 /// cache keeps it. The range lies inside the disk. `Damaged` is told only where the bytes there are no
 /// page.
-pub fn read_page<D: Disk>(
-    alloc: Global,
-    disk: &mut D,
-    at: usize,
-) -> Result<KeptPage, PageFault>
+pub fn read_page<D: Disk>(alloc: Global, disk: &mut D, at: usize) -> Result<KeptPage, PageFault>
     requires { at + 8192 ≤ length (D.life disk.old).seen }
     ensures page { IfOk result (λ page. IsTrue D.is_modelled → IsPage page (part (D.life disk.old).seen at 8192)) }
     ensures damaged { IsTrue D.is_modelled → TellsDamage (part (D.life disk.old).seen at 8192) result }

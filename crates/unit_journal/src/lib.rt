@@ -17,6 +17,6 @@ pub use journal::Journal;
 pub use kind::Kind;
 pub use laid_group::LaidGroup;
 pub use laid_record::LaidRecord;
-pub use lay::laid_len;
 pub use laws::{a_region_has_one_reading, a_region_has_some_reading};
+pub use lay::laid_len;
 pub use record::Record;
