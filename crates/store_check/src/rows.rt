@@ -1,5 +1,5 @@
 //! The rows of one page.
-ghost use Rattle.std.specs.Prelude.{◌≡◌, ◌++◌, Ok, Some, true, IfOk, OnOk};
+ghost use Rattle.std.specs.Prelude.{◌≡◌, ◌++◌, Ok, Some, true, IfOk};
 ghost use Rattle.std.specs.List.{AllByRecursion};
 ghost use Rattle.drda_words.specs.Bytes.{AreBytes};
 ghost use Rattle.table_map.specs.Keyed.{copied, first_of};
@@ -9,14 +9,15 @@ use row_pages::KeptPage;
 use row_values::{RowRef, Schema};
 use std::alloc::{AllocError, Global};
 use std::cmp::Ordering;
+use std::mem;
 use table_map::{NotedRows, RowKeys};
 
-/// Whether the key of a row comes behind the last one, where there is one.
-fn is_behind<K: RowKeys>(keys: &K, last: &Option<Vec<u8>>, row: &[u8]) -> bool
-    ensures { result ≡ is_behind (copied last.now) (K.key_of keys.now row.now) }
+/// Whether a key comes behind the last one, where there is one.
+fn is_behind(last: &Option<Vec<u8>>, key: &[u8]) -> bool
+    ensures { result ≡ is_behind (copied last.now) key.now }
 {
     match last {
-        Some(last) => match keys.compare(last, row) {
+        Some(last) => match last.as_slice().cmp(key) {
             Ordering::Less => true,
             Ordering::Equal => false,
             Ordering::Greater => false,
@@ -25,21 +26,14 @@ fn is_behind<K: RowKeys>(keys: &K, last: &Option<Vec<u8>>, row: &[u8]) -> bool
     }
 }
 
-/// Makes the key of a row the last one, in the memory of the one before it.
-fn keep_key<K: RowKeys>(
-    alloc: Global,
-    keys: &K,
-    last: &mut Option<Vec<u8>>,
-    row: &[u8],
-) -> Result<(), AllocError>
-    ensures { OnOk result (copied last.new ≡ Some (K.key_of keys.now row.now)) }
+/// Makes a key the last one. The list of the one before it takes its place, for the next key.
+fn make_last(alloc: Global, last: &mut Option<Vec<u8>>, key: &mut Vec<u8>)
+    ensures { copied last.new ≡ Some key.old.items }
 {
-    if let Some(key) = last {
-        key.clear();
-        return keys.put_key(key, row);
+    match last {
+        Some(last) => mem::swap(last, key),
+        None => *last = Some(mem::replace(key, Vec::new(alloc))),
     }
-    *last = Some(keys.key(alloc, row)?);
-    Ok(())
 }
 
 /// The key of the first row of a page, if it has one.
@@ -82,16 +76,19 @@ pub(crate) fn are_rows<K: RowKeys>(
     ensures noted { result ≡ Ok true → noted.new.listed.value ≡ noted.old.listed.value ++ page.now.rows }
 {
     let mut rows = page.page_ref().rows();
+    let mut key = Vec::new(alloc);
     while let Some(row) = rows.next() {
         if RowRef::parse(schema, row).is_err() {
             return Ok(false);
         }
-        if !is_behind(keys, last, row) {
+        key.clear();
+        keys.put_key(&mut key, row)?;
+        if !is_behind(last, &key) {
             return Ok(false);
         }
-        keep_key(alloc, keys, last, row)?;
         see_bytes(row);
         noted.note(row);
+        make_last(alloc, last, &mut key);
     }
     Ok(true)
 }
