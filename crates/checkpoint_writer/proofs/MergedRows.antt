@@ -6,7 +6,6 @@ use Rattle.std.specs.List.{AllByRecursion}
 use Rattle.drda_disk.specs.Disk.{Torn}
 use Rattle.drda_disk.proofs.Parts.{part_outside}
 use Rattle.row_pages.specs.Page.{IsPage}
-use Rattle.row_pages.specs.Keeping.{AreRead, Kept}
 use Rattle.row_pages.specs.Laying.{AreFilled, HasSome, IsLaid, IsShort, Laying, laid, laid_behind, rows_over}
 use Rattle.row_pages.specs.declared.page.PageKind.{PageKind}
 use Rattle.row_pages.specs.declared.page.PageKind.TheVariants as kind
@@ -39,14 +38,14 @@ pub record IsGiven (key_of : List ℕ → List ℕ) (file : List ℕ) (cursor : 
   pub same : given ++ without_keys left ≡ all
 
 -- the rows that were given are laid
-pub record Merges (modelled : Bool) (key_of : List ℕ → List ℕ) (table : Table) (cache : Kept) (first : List ℕ) (begun : ImageWriter) (file : List ℕ) (image : ImageWriter) (writer : TableWriter) (cursor : RowCursor) : Type 0 where
+pub record Merges (modelled : Bool) (key_of : List ℕ → List ℕ) (table : Table) (first : List ℕ) (begun : ImageWriter) (file : List ℕ) (image : ImageWriter) (writer : TableWriter) (cursor : RowCursor) : Type 0 where
   pub rows : List (List ℕ)
   pub laid : HasLaid modelled key_of file (next_of begun) image writer rows
-  pub given : (pages : List (List (List ℕ))) → IsTrue modelled → AreRead cache first → IsStored key_of table.places pages first → LieApart table.places begun → IsGiven key_of file cursor rows (without_keys (rows_of_table key_of table pages))
+  pub given : (pages : List (List (List ℕ))) → IsTrue modelled → IsStored key_of table.places pages first → LieApart table.places begun → IsGiven key_of file cursor rows (without_keys (rows_of_table key_of table pages))
 
 -- and those are noted
-pub record MergesNoted (modelled : Bool) (key_of : List ℕ → List ℕ) (table : Table) (cache : Kept) (first : List ℕ) (begun : ImageWriter) (file : List ℕ) (image : ImageWriter) (writer : TableWriter) (cursor : RowCursor) (noted : List (List ℕ)) : Type 0 where
-  pub held : Merges modelled key_of table cache first begun file image writer cursor
+pub record MergesNoted (modelled : Bool) (key_of : List ℕ → List ℕ) (table : Table) (first : List ℕ) (begun : ImageWriter) (file : List ℕ) (image : ImageWriter) (writer : TableWriter) (cursor : RowCursor) (noted : List (List ℕ)) : Type 0 where
+  pub held : Merges modelled key_of table first begun file image writer cursor
   pub same : noted ≡ held.rows
 
 -- ---- pages that stay where they are
@@ -92,38 +91,37 @@ told_so T S DeviceFailed end at tells = tt
 told_so T S Damaged end at tells = tt
 told_so T S (Full full) end at tells = tells
 
-module _ (modelled : Bool) (key_of : List ℕ → List ℕ) (table : Table) (cache : Kept) (first : List ℕ) (begun : ImageWriter) (file : List ℕ) (image : ImageWriter) (writer : TableWriter) (cursor : RowCursor)
-    (held : Merges modelled key_of table cache first begun file image writer cursor) where
+module _ (modelled : Bool) (key_of : List ℕ → List ℕ) (table : Table) (first : List ℕ) (begun : ImageWriter) (file : List ℕ) (image : ImageWriter) (writer : TableWriter) (cursor : RowCursor)
+    (held : Merges modelled key_of table first begun file image writer cursor) where
   -- the rows are laid in what is read now, too
   pub same_file : (now : List ℕ) → now ≡ file → HasLaid modelled key_of now (next_of begun) image writer held.rows
   same_file now same = subst (λ (f : List ℕ). HasLaid modelled key_of f (next_of begun) image writer held.rows) (sym same) held.laid
 
   -- a row that was given, laid and noted
-  pub one_more : (mid new : List ℕ) (after : ImageWriter) (more : TableWriter) (next : RowCursor) (row now : List ℕ) (noted noted_then : List (List ℕ)) → mid ≡ file → now ≡ row
-      → HasLaid modelled key_of new (next_of begun) after more (held.rows ++ now ∷ []) → Torn (next_of image) (end_of_half image - next_of image) mid new
+  pub one_more : (mid new : List ℕ) (after : ImageWriter) (more : TableWriter) (next : RowCursor) (row : List ℕ) (noted noted_then : List (List ℕ)) → mid ≡ file
+      → HasLaid modelled key_of new (next_of begun) after more (held.rows ++ row ∷ []) → Torn (next_of image) (end_of_half image - next_of image) mid new
       → from_of image ≡ from_of begun → half_bytes_of image ≡ half_bytes_of begun → next.base.at + 8192 * next.base.pages ≡ table.places.at + 8192 * length table.places.keys → table.places.at ≤ next.base.at
-      → ((left : Rows) → IsTrue modelled → AreRead cache first → IsLeft key_of file cursor left → GoesOn key_of file left row next)
-      → noted ≡ held.rows → noted_then ≡ noted ++ now ∷ [] → MergesNoted modelled key_of table cache first begun new after more next noted_then
-  one_more mid new after more next row now noted noted_then same is_row laid torn from half end forward gives old_noted noted_more = record {
+      → ((left : Rows) → IsTrue modelled → IsLeft key_of file cursor left → GoesOn key_of file left row next)
+      → noted ≡ held.rows → noted_then ≡ noted ++ row ∷ [] → MergesNoted modelled key_of table first begun new after more next noted_then
+  one_more mid new after more next row noted noted_then same laid torn from half end forward gives old_noted noted_more = record {
     held = record {
-      rows = held.rows ++ now ∷ [];
+      rows = held.rows ++ row ∷ [];
       laid = laid;
-      given = λ pages honest read is apart.
-          let so = held.given pages honest read is apart in
-          let goes = gives so.left honest read so.is in
+      given = λ pages honest is apart.
+          let so = held.given pages honest is apart in
+          let goes = gives so.left honest so.is in
           record {
             left = goes.more;
             is = left_moves key_of mid new (next_of image) (end_of_half image - next_of image) next goes.more torn
                 (⊎_elim (λ low. inl (omega (arith, low, end, from))) (λ high. inr (omega (arith, high, forward, from, half, image.fits))) apart)
                 (subst (λ (f : List ℕ). IsLeft key_of f next goes.more) (sym same) goes.is);
             same =
-                append_assoc held.rows (now ∷ []) (without_keys goes.more)
-                ∙ ap (λ (r : List ℕ). held.rows ++ r ∷ without_keys goes.more) is_row
+                append_assoc held.rows (row ∷ []) (without_keys goes.more)
                 ∙ ap (λ (l : Rows). held.rows ++ without_keys l) (sym goes.same)
                 ∙ so.same;
           };
     };
-    same = noted_more ∙ ap (λ (rows : List (List ℕ)). rows ++ now ∷ []) old_noted;
+    same = noted_more ∙ ap (λ (rows : List (List ℕ)). rows ++ row ∷ []) old_noted;
   }
 
   -- where a page has no room, all pages have none
@@ -134,43 +132,43 @@ module _ (modelled : Bool) (key_of : List ℕ → List ℕ) (table : Table) (cac
       (subst (λ n. TellsFull {T = S} (Err e) n (next_of begun + 8192 * length (laid all))) (ap₂ (λ a b. a + b) from half)
       (subst (λ (l : List (List ℕ)). TellsFull {T = S} (Err e) (end_of_half image) (next_of begun + 8192 * length (laid l))) same (told_so (Unit {0}) S e (end_of_half image) (next_of begun + 8192 * length (laid rows)) tells)))
 
-  pub full_before : {S : Type 0} (e : ImageError) (now row : List ℕ) (next : RowCursor) → now ≡ row → from_of image ≡ from_of begun → half_bytes_of image ≡ half_bytes_of begun
-      → ((left : Rows) → IsTrue modelled → AreRead cache first → IsLeft key_of file cursor left → GoesOn key_of file left row next)
-      → ((rest : List (List ℕ)) → TellsFull {T = Unit {0}} (Err e) (end_of_half image) (next_of begun + 8192 * length (laid (held.rows ++ now ∷ rest))))
+  pub full_before : {S : Type 0} (e : ImageError) (row : List ℕ) (next : RowCursor) → from_of image ≡ from_of begun → half_bytes_of image ≡ half_bytes_of begun
+      → ((left : Rows) → IsTrue modelled → IsLeft key_of file cursor left → GoesOn key_of file left row next)
+      → ((rest : List (List ℕ)) → TellsFull {T = Unit {0}} (Err e) (end_of_half image) (next_of begun + 8192 * length (laid (held.rows ++ row ∷ rest))))
       → (result : Result S ImageError) → result ≡ Err e
-      → (pages : List (List (List ℕ))) → IsTrue modelled → AreRead cache first → IsStored key_of table.places pages first → LieApart table.places begun
+      → (pages : List (List (List ℕ))) → IsTrue modelled → IsStored key_of table.places pages first → LieApart table.places begun
       → TellsFull result (end_of_half begun) (next_of begun + 8192 * length (laid (without_keys (rows_of_table key_of table pages))))
-  full_before e now row next is_row from half gives tells result is_err pages honest read is apart =
-      let so = held.given pages honest read is apart in
-      let goes = gives so.left honest read so.is in
-      told_all e result (held.rows ++ now ∷ without_keys goes.more) (without_keys (rows_of_table key_of table pages)) is_err from half
-      (ap (λ (r : List ℕ). held.rows ++ r ∷ without_keys goes.more) is_row ∙ ap (λ (l : Rows). held.rows ++ without_keys l) (sym goes.same) ∙ so.same)
+  full_before e row next from half gives tells result is_err pages honest is apart =
+      let so = held.given pages honest is apart in
+      let goes = gives so.left honest so.is in
+      told_all e result (held.rows ++ row ∷ without_keys goes.more) (without_keys (rows_of_table key_of table pages)) is_err from half
+      (ap (λ (l : Rows). held.rows ++ without_keys l) (sym goes.same) ∙ so.same)
       (tells (without_keys goes.more))
 
   -- where all rows are short, one that was given is
-  pub short_row : (now row : List ℕ) (next : RowCursor) → now ≡ row → ((left : Rows) → IsTrue modelled → AreRead cache first → IsLeft key_of file cursor left → GoesOn key_of file left row next)
-      → (pages : List (List (List ℕ))) → IsTrue modelled → AreRead cache first → IsStored key_of table.places pages first → LieApart table.places begun → AllByRecursion IsShort (without_keys (rows_of_table key_of table pages)) → IsShort now
-  short_row now row next is_row gives pages honest read is apart short =
-      let so = held.given pages honest read is apart in
-      let goes = gives so.left honest read so.is in
+  pub short_row : (row : List ℕ) (next : RowCursor) → ((left : Rows) → IsTrue modelled → IsLeft key_of file cursor left → GoesOn key_of file left row next)
+      → (pages : List (List (List ℕ))) → IsTrue modelled → IsStored key_of table.places pages first → LieApart table.places begun → AllByRecursion IsShort (without_keys (rows_of_table key_of table pages)) → IsShort row
+  short_row row next gives pages honest is apart short =
+      let so = held.given pages honest is apart in
+      let goes = gives so.left honest so.is in
       let all = subst (λ (l : List (List ℕ)). AllByRecursion IsShort l) (sym so.same) short in
-      subst (λ (b : List ℕ). IsShort b) (sym is_row) (subst (λ (l : Rows). AllByRecursion IsShort (without_keys l)) goes.same (all_behind IsShort held.rows (without_keys so.left) all)).0
+      (subst (λ (l : Rows). AllByRecursion IsShort (without_keys l)) goes.same (all_behind IsShort held.rows (without_keys so.left) all)).0
 
   -- ---- at the end
 
   -- all were given
-  pub all_given : ((left : Rows) → IsTrue modelled → AreRead cache first → IsLeft key_of file cursor left → left ≡ []) → (pages : List (List (List ℕ))) → IsTrue modelled → AreRead cache first → IsStored key_of table.places pages first → LieApart table.places begun
+  pub all_given : ((left : Rows) → IsTrue modelled → IsLeft key_of file cursor left → left ≡ []) → (pages : List (List (List ℕ))) → IsTrue modelled → IsStored key_of table.places pages first → LieApart table.places begun
       → held.rows ≡ without_keys (rows_of_table key_of table pages)
-  all_given none pages honest read is apart =
-      let so = held.given pages honest read is apart in
-      sym (append-nil held.rows) ∙ ap (λ (l : Rows). held.rows ++ without_keys l) (sym (none so.left honest read so.is)) ∙ so.same
+  all_given none pages honest is apart =
+      let so = held.given pages honest is apart in
+      sym (append-nil held.rows) ∙ ap (λ (l : Rows). held.rows ++ without_keys l) (sym (none so.left honest so.is)) ∙ so.same
 
-  pub full_last : {S : Type 0} (e : ImageError) → from_of image ≡ from_of begun → half_bytes_of image ≡ half_bytes_of begun → ((left : Rows) → IsTrue modelled → AreRead cache first → IsLeft key_of file cursor left → left ≡ [])
+  pub full_last : {S : Type 0} (e : ImageError) → from_of image ≡ from_of begun → half_bytes_of image ≡ half_bytes_of begun → ((left : Rows) → IsTrue modelled → IsLeft key_of file cursor left → left ≡ [])
       → TellsFull {T = Unit {0}} (Err e) (end_of_half image) (next_of begun + 8192 * length (laid held.rows)) → (result : Result S ImageError) → result ≡ Err e
-      → (pages : List (List (List ℕ))) → IsTrue modelled → AreRead cache first → IsStored key_of table.places pages first → LieApart table.places begun
+      → (pages : List (List (List ℕ))) → IsTrue modelled → IsStored key_of table.places pages first → LieApart table.places begun
       → TellsFull result (end_of_half begun) (next_of begun + 8192 * length (laid (without_keys (rows_of_table key_of table pages))))
-  full_last e from half none tells result is_err pages honest read is apart =
-      told_all e result held.rows (without_keys (rows_of_table key_of table pages)) is_err from half (all_given none pages honest read is apart) tells
+  full_last e from half none tells result is_err pages honest is apart =
+      told_all e result held.rows (without_keys (rows_of_table key_of table pages)) is_err from half (all_given none pages honest is apart) tells
 
 -- ---- the table that was written
 

@@ -152,12 +152,12 @@ pub fn merge_into<K: RowKeys, D: Disk>(
     one_laying();
     changes_win();
     let at = image.finish_pages().at;
-    let mut cursor = table.rows(alloc);
+    let mut cursor = table.rows();
     let mut writer = TableWriter::new(alloc)?;
     let mut noted = NotedRows::none();
-    while let Some(row) = cursor.next(alloc, keys, cache, disk)? {
-        writer.add(alloc, keys, cache, disk, image, &row)?;
-        noted.note(&row);
+    while let Some(row) = cursor.next(alloc, keys, disk)? {
+        writer.add(alloc, keys, cache, disk, image, row)?;
+        noted.note(row);
     }
     let TableWriter { rows, first_keys } = writer;
     rows.finish(cache, disk, image)?;

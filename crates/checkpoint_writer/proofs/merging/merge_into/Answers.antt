@@ -1,5 +1,6 @@
-use Rattle.std.proofs.Common.{rules, ◌≡◌, inl, inr, ⊎_elim, ℕ, ◌-◌, List, [], ◌∷◌, ◌++◌, ◌∙◌, length, map, sym, ap, subst, arith, refl}
+use Rattle.std.proofs.Common.{rules, ◌≡◌, inl, inr, ⊎_elim, ℕ, ◌-◌, List, [], ◌∙◌, length, map, sym, ap, subst, arith, refl}
 use Rattle.std.proofs.lemmas.List.{length-map}
+use Rattle.row_pages.specs.Keeping.{AreRead}
 use Rattle.row_pages.specs.Laying.{laid}
 use Rattle.half_store.specs.Writing.{next_of}
 use Rattle.table_map.specs.Damage.{HasNoRows}
@@ -31,7 +32,7 @@ loop-writer-init g c =
         held = record {
           rows = [];
           laid = begins g.D.Disk.is_modelled key_of file c.args.image.now c.in_ok-writer.writer c.in_ok-writer.ensures.rows c.in_ok-writer.ensures.empty c.in_ok-writer.ensures.keys;
-          given = λ pages honest read is apart. record { left = rows_of_table key_of c.args.table.now pages; is = c.rows-cursor.ensures.left key_of pages file is; same = refl };
+          given = λ pages honest is apart. record { left = rows_of_table key_of c.args.table.now pages; is = c.rows-cursor.ensures.left key_of pages file is; same = refl };
         };
         same = c.none-noted.ensures;
       };
@@ -45,17 +46,17 @@ returns-in_err-add-clause-adds g c =
     (and_more modelled (life c.loop-writer.disk) (life c.next.new.disk) (life c.add.new.disk) c.loop-writer.image c.loop-writer.image c.add.new.image (reads modelled (life c.loop-writer.disk) (life c.next.new.disk) c.loop-writer.image c.next.ensures.stays) c.add.ensures.adds)
 
 pub returns-in_err-add-clause-full : goal.returns-in_err-add-clause-full
-returns-in_err-add-clause-full g c =
+returns-in_err-add-clause-full g c pages honest read is apart =
     let inv = c.loop-writer.invariant in
     let key_of = g.K.RowKeys.key_of c.args.keys.now in
     let first = (g.D.Disk.life c.args.disk.now).seen in
     let file = (g.D.Disk.life c.loop-writer.disk).seen in
     let mid = (g.D.Disk.life c.next.new.disk).seen in
-    let there = same_file g.D.Disk.is_modelled key_of c.args.table.now c.args.cache.now first c.args.image.now file c.loop-writer.image c.loop-writer.writer c.loop-writer.cursor inv.merges.held mid c.next.ensures.stays.same in
-    full_before g.D.Disk.is_modelled key_of c.args.table.now c.args.cache.now first c.args.image.now file c.loop-writer.image c.loop-writer.writer c.loop-writer.cursor inv.merges.held
-    c.in_err-add.field-0.0 c.deref.result.now c.in-Some.row.items c.next.new.self c.deref.ensures.value (same_from c.args.image.now c.loop-writer.image inv.adds.half inv.adds.half_bytes) inv.adds.half_bytes
-    (λ left honest read is. rw c.in-Some.is at (c.in_ok-row.ensures.gives left honest (inv.kept honest read) is))
-    (λ rest. c.in_err-add.ensures.full (next_of c.args.image.now) inv.merges.held.rows rest there) c.from_residual-in_err-add.result (search rules)
+    let there = same_file g.D.Disk.is_modelled key_of c.args.table.now first c.args.image.now file c.loop-writer.image c.loop-writer.writer c.loop-writer.cursor inv.merges.held mid c.next.ensures.stays.same in
+    full_before g.D.Disk.is_modelled key_of c.args.table.now first c.args.image.now file c.loop-writer.image c.loop-writer.writer c.loop-writer.cursor inv.merges.held
+    c.in_err-add.field-0.0 c.in-Some.row.now c.next.follows.lender-at-none (same_from c.args.image.now c.loop-writer.image inv.adds.half inv.adds.half_bytes) inv.adds.half_bytes
+    (λ left honest is. rw (c.in_ok-row.was, c.in-Some.is) at (c.next.follows.holds-at-none.gives left honest is))
+    (λ rest. c.in_err-add.ensures.full (next_of c.args.image.now) inv.merges.held.rows rest there) c.from_residual-in_err-add.result (search rules) pages honest is apart
 
 pub loop-writer-preserved : goal.loop-writer-preserved
 loop-writer-preserved g c =
@@ -66,21 +67,21 @@ loop-writer-preserved g c =
     let first = (life c.args.disk.now).seen in
     let file = (life c.loop-writer.disk).seen in
     let mid = (life c.next.new.disk).seen in
-    let there = same_file modelled key_of c.args.table.now c.args.cache.now first c.args.image.now file c.loop-writer.image c.loop-writer.writer c.loop-writer.cursor inv.merges.held mid c.next.ensures.stays.same in
+    let there = same_file modelled key_of c.args.table.now first c.args.image.now file c.loop-writer.image c.loop-writer.writer c.loop-writer.cursor inv.merges.held mid c.next.ensures.stays.same in
     record {
       adds = and_more modelled (life c.args.disk.now) (life c.loop-writer.disk) (life c.add.new.disk) c.args.image.now c.loop-writer.image c.add.new.image inv.adds
           (and_more modelled (life c.loop-writer.disk) (life c.next.new.disk) (life c.add.new.disk) c.loop-writer.image c.loop-writer.image c.add.new.image (reads modelled (life c.loop-writer.disk) (life c.next.new.disk) c.loop-writer.image c.next.ensures.stays) c.add.ensures.adds);
       faults = c.in_ok-add.ensures.cause ∙ c.in_ok-row.ensures.cause ∙ inv.faults;
-      kept = λ honest read. c.add.ensures.kept honest (c.next.ensures.kept honest (inv.kept honest read));
-      end = c.next.ensures.end ∙ inv.end;
-      forward = omega (arith, inv.forward, c.next.ensures.forward);
+      kept = λ honest read. c.add.ensures.kept honest (subst (λ (f : List ℕ). AreRead c.loop-writer.cache f) (sym c.next.ensures.stays.same) (inv.kept honest read));
+      end = c.next.follows.holds-at-none.end ∙ inv.end;
+      forward = omega (arith, inv.forward, c.next.follows.holds-at-none.forward);
       at = inv.at;
-      merges = one_more modelled key_of c.args.table.now c.args.cache.now first c.args.image.now file c.loop-writer.image c.loop-writer.writer c.loop-writer.cursor inv.merges.held
-          mid (life c.add.new.disk).seen c.add.new.image c.add.new.self c.next.new.self c.in-Some.row.items c.deref.result.now c.loop-writer.noted.listed.value c.note.new.self.listed.value c.next.ensures.stays.same c.deref.ensures.value
+      merges = one_more modelled key_of c.args.table.now first c.args.image.now file c.loop-writer.image c.loop-writer.writer c.loop-writer.cursor inv.merges.held
+          mid (life c.add.new.disk).seen c.add.new.image c.add.new.self c.next.follows.lender-at-none c.in-Some.row.now c.loop-writer.noted.listed.value c.note.new.self.listed.value c.next.ensures.stays.same
           (c.in_ok-add.ensures.laid (next_of c.args.image.now) inv.merges.held.rows there) c.add.ensures.adds.others (same_from c.args.image.now c.loop-writer.image inv.adds.half inv.adds.half_bytes) inv.adds.half_bytes
-          (c.next.ensures.end ∙ inv.end) (omega (arith, inv.forward, c.next.ensures.forward))
-          (λ left honest read is. rw c.in-Some.is at (c.in_ok-row.ensures.gives left honest (inv.kept honest read) is))
-          inv.merges.same (c.note.ensures ∙ ap (λ (row : List ℕ). c.loop-writer.noted.listed.value ++ row ∷ []) (c.deref-in-Some.ensures.value ∙ sym c.deref.ensures.value));
+          (c.next.follows.holds-at-none.end ∙ inv.end) (omega (arith, inv.forward, c.next.follows.holds-at-none.forward))
+          (λ left honest is. rw (c.in_ok-row.was, c.in-Some.is) at (c.next.follows.holds-at-none.gives left honest is))
+          inv.merges.same c.note.ensures;
     }
 
 pub returns-in_err-finish-clause-adds : goal.returns-in_err-finish-clause-adds
@@ -91,17 +92,17 @@ returns-in_err-finish-clause-adds g c =
     (and_more modelled (life c.loop-writer.disk) (life c.next.new.disk) (life c.finish.new.disk) c.loop-writer.image c.loop-writer.image c.finish.new.image (reads modelled (life c.loop-writer.disk) (life c.next.new.disk) c.loop-writer.image c.next.ensures.stays) c.finish.ensures.adds)
 
 pub returns-in_err-finish-clause-full : goal.returns-in_err-finish-clause-full
-returns-in_err-finish-clause-full g c =
+returns-in_err-finish-clause-full g c pages honest read is apart =
     let inv = c.loop-writer.invariant in
     let key_of = g.K.RowKeys.key_of c.args.keys.now in
     let first = (g.D.Disk.life c.args.disk.now).seen in
     let file = (g.D.Disk.life c.loop-writer.disk).seen in
     let mid = (g.D.Disk.life c.next.new.disk).seen in
-    let there = same_file g.D.Disk.is_modelled key_of c.args.table.now c.args.cache.now first c.args.image.now file c.loop-writer.image c.loop-writer.writer c.loop-writer.cursor inv.merges.held mid c.next.ensures.stays.same in
-    full_last g.D.Disk.is_modelled key_of c.args.table.now c.args.cache.now first c.args.image.now file c.loop-writer.image c.loop-writer.writer c.loop-writer.cursor inv.merges.held
+    let there = same_file g.D.Disk.is_modelled key_of c.args.table.now first c.args.image.now file c.loop-writer.image c.loop-writer.writer c.loop-writer.cursor inv.merges.held mid c.next.ensures.stays.same in
+    full_last g.D.Disk.is_modelled key_of c.args.table.now first c.args.image.now file c.loop-writer.image c.loop-writer.writer c.loop-writer.cursor inv.merges.held
     c.in_err-finish.field-0.0 (same_from c.args.image.now c.loop-writer.image inv.adds.half inv.adds.half_bytes) inv.adds.half_bytes
-    (λ left honest read is. rw c.in_default.is at (c.in_ok-row.ensures.gives left honest (inv.kept honest read) is))
-    (c.in_err-finish.ensures.full (next_of c.args.image.now) inv.merges.held.rows there.laying) c.from_residual-in_err-finish.result (search rules)
+    (λ left honest is. rw (c.in_ok-row.was, c.in_default.is) at (c.next.follows.holds-at-none.gives left honest is))
+    (c.in_err-finish.ensures.full (next_of c.args.image.now) inv.merges.held.rows there.laying) c.from_residual-in_err-finish.result (search rules) pages honest is apart
 
 pub new-requires-2 : goal.new-requires-2
 new-requires-2 g c =
@@ -110,7 +111,7 @@ new-requires-2 g c =
     let first = (g.D.Disk.life c.args.disk.now).seen in
     let file = (g.D.Disk.life c.loop-writer.disk).seen in
     let mid = (g.D.Disk.life c.next.new.disk).seen in
-    let there = same_file g.D.Disk.is_modelled key_of c.args.table.now c.args.cache.now first c.args.image.now file c.loop-writer.image c.loop-writer.writer c.loop-writer.cursor inv.merges.held mid c.next.ensures.stays.same in
+    let there = same_file g.D.Disk.is_modelled key_of c.args.table.now first c.args.image.now file c.loop-writer.image c.loop-writer.writer c.loop-writer.cursor inv.merges.held mid c.next.ensures.stays.same in
     let count : length c.loop-writer.writer.first_keys.items ≡ length (laid inv.merges.held.rows) =
     sym (length-map c.loop-writer.writer.first_keys.items (λ key. key.items)) ∙ ap length there.keys ∙ many_keys key_of (laid inv.merges.held.rows) in
     omega (arith, inv.at, count, c.in_ok-finish.ensures.pages (next_of c.args.image.now) inv.merges.held.rows there.laying, c.finish.new.image.fits, end_small c.finish.new.image)
@@ -129,7 +130,7 @@ returns-clause-pages g c =
     let first = (g.D.Disk.life c.args.disk.now).seen in
     let file = (g.D.Disk.life c.loop-writer.disk).seen in
     let mid = (g.D.Disk.life c.next.new.disk).seen in
-    let there = same_file g.D.Disk.is_modelled key_of c.args.table.now c.args.cache.now first c.args.image.now file c.loop-writer.image c.loop-writer.writer c.loop-writer.cursor inv.merges.held mid c.next.ensures.stays.same in
+    let there = same_file g.D.Disk.is_modelled key_of c.args.table.now first c.args.image.now file c.loop-writer.image c.loop-writer.writer c.loop-writer.cursor inv.merges.held mid c.next.ensures.stays.same in
     let count : length c.new-2.result.keys ≡ length (laid inv.merges.held.rows) = ap (λ (p : Places). length p.keys) c.new-2.ensures ∙ ap length there.keys ∙ many_keys key_of (laid inv.merges.held.rows) in
     let at : c.new-2.result.at ≡ next_of c.args.image.now = ap (λ (p : Places). p.at) c.new-2.ensures ∙ inv.at in
     omega (arith, at, count, c.in_ok-finish.ensures.pages (next_of c.args.image.now) inv.merges.held.rows there.laying)
@@ -143,9 +144,9 @@ returns-clause-rows g c pages honest read is apart own =
     let file = (g.D.Disk.life c.loop-writer.disk).seen in
     let mid = (g.D.Disk.life c.next.new.disk).seen in
     let new = (g.D.Disk.life c.finish.new.disk).seen in
-    let there = same_file modelled key_of c.args.table.now c.args.cache.now first c.args.image.now file c.loop-writer.image c.loop-writer.writer c.loop-writer.cursor inv.merges.held mid c.next.ensures.stays.same in
-    let all = all_given modelled key_of c.args.table.now c.args.cache.now first c.args.image.now file c.loop-writer.image c.loop-writer.writer c.loop-writer.cursor inv.merges.held
-    (λ left honest read is. rw c.in_default.is at (c.in_ok-row.ensures.gives left honest (inv.kept honest read) is)) pages honest read is apart in
+    let there = same_file modelled key_of c.args.table.now first c.args.image.now file c.loop-writer.image c.loop-writer.writer c.loop-writer.cursor inv.merges.held mid c.next.ensures.stays.same in
+    let all = all_given modelled key_of c.args.table.now first c.args.image.now file c.loop-writer.image c.loop-writer.writer c.loop-writer.cursor inv.merges.held
+    (λ left honest is. rw (c.in_ok-row.was, c.in_default.is) at (c.next.follows.holds-at-none.gives left honest is)) pages honest is apart in
     subst (λ (p : Places). IsImageOf key_of (rows_of_table key_of c.args.table.now pages) p new) (sym (c.new-2.ensures ∙ ap (λ n. record { at = n; keys = map (λ key. key.items) c.loop-writer.writer.first_keys.items }) inv.at))
     (stored c.one_laying.ensures.laid c.changes_win.ensures.order key_of c.args.table.now pages first new (next_of c.args.image.now) c.loop-writer.writer.rows.page.kind (map (λ key. key.items) c.loop-writer.writer.first_keys.items) inv.merges.held.rows
     is own all there.kind (c.in_ok-finish.ensures.stand (next_of c.args.image.now) inv.merges.held.rows there.laying honest) there.keys there.laying.short)
@@ -157,8 +158,8 @@ returns-clause-noted g c pages honest read is apart =
     let first = (g.D.Disk.life c.args.disk.now).seen in
     let file = (g.D.Disk.life c.loop-writer.disk).seen in
     inv.merges.same
-    ∙ all_given g.D.Disk.is_modelled key_of c.args.table.now c.args.cache.now first c.args.image.now file c.loop-writer.image c.loop-writer.writer c.loop-writer.cursor inv.merges.held
-    (λ left honest read is. rw c.in_default.is at (c.in_ok-row.ensures.gives left honest (inv.kept honest read) is)) pages honest read is apart
+    ∙ all_given g.D.Disk.is_modelled key_of c.args.table.now first c.args.image.now file c.loop-writer.image c.loop-writer.writer c.loop-writer.cursor inv.merges.held
+    (λ left honest is. rw (c.in_ok-row.was, c.in_default.is) at (c.next.follows.holds-at-none.gives left honest is)) pages honest is apart
 
 pub returns-in_err-row-clause-damaged : goal.returns-in_err-row-clause-damaged
 returns-in_err-row-clause-damaged g c pages honest read is apart =
@@ -173,7 +174,7 @@ returns-in_err-row-clause-damaged g c pages honest read is apart =
     (λ some short. stored_is_whole key_of places pages first is
     (page_stays first file (next_of w) (end_of_half w - next_of w) places.at (length places.keys) inv.adds.others (⊎_elim (λ low. inl (omega (arith, low))) (λ high. inr (omega (arith, high, w.fits))) apart)
     (of_left HasNoRows file places.at (length places.keys) base.at base.pages inv.end inv.forward some)))
-    (c.next.ensures.damaged honest (inv.kept honest read))
+    (c.next.ensures.damaged honest)
 
 pub returns-in_err-add-clause-damaged : goal.returns-in_err-add-clause-damaged
 returns-in_err-add-clause-damaged g c pages honest read is apart =
@@ -183,6 +184,6 @@ returns-in_err-add-clause-damaged g c pages honest read is apart =
     let file = (g.D.Disk.life c.loop-writer.disk).seen in
     handed_on _ _ c.in_err-add.field-0.0 c.add.result c.from_residual-in_err-add.result (search rules) (search rules)
     (λ long short. long
-    (short_row g.D.Disk.is_modelled key_of c.args.table.now c.args.cache.now first c.args.image.now file c.loop-writer.image c.loop-writer.writer c.loop-writer.cursor inv.merges.held
-    c.deref.result.now c.in-Some.row.items c.next.new.self c.deref.ensures.value (λ left honest read is. rw c.in-Some.is at (c.in_ok-row.ensures.gives left honest (inv.kept honest read) is)) pages honest read is apart short))
+    (short_row g.D.Disk.is_modelled key_of c.args.table.now first c.args.image.now file c.loop-writer.image c.loop-writer.writer c.loop-writer.cursor inv.merges.held
+    c.in-Some.row.now c.next.follows.lender-at-none (λ left honest is. rw (c.in_ok-row.was, c.in-Some.is) at (c.next.follows.holds-at-none.gives left honest is)) pages honest is apart short))
     c.add.ensures.damaged

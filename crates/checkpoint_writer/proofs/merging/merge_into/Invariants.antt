@@ -15,7 +15,7 @@ invariant-loop-writer g l = record {
   end : l.cursor.base.at + 8192 * l.cursor.base.pages ≡ l.fn.table.places.at + 8192 * length l.fn.table.places.keys;
   forward : l.fn.table.places.at ≤ l.cursor.base.at;
   at : l.at ≡ next_of l.fn.image;
-  merges : MergesNoted g.D.Disk.is_modelled (g.K.RowKeys.key_of l.keys) l.fn.table l.fn.cache (g.D.Disk.life l.fn.disk).seen l.fn.image (g.D.Disk.life l.disk).seen l.image l.writer l.cursor l.noted.listed.value;
+  merges : MergesNoted g.D.Disk.is_modelled (g.K.RowKeys.key_of l.keys) l.fn.table (g.D.Disk.life l.fn.disk).seen l.fn.image (g.D.Disk.life l.disk).seen l.image l.writer l.cursor l.noted.listed.value;
 }
 
 abbrev pub decreases-loop-writer : goal.decreases-loop-writer
