@@ -1,10 +1,10 @@
 -- What a record or a read leaves of tables whose pages can be read.
-use Rattle.std.proofs.Common.{◌≡◌, ℕ, ◌-◌, Bool, true, false, IsTrue, List, [], length, sym, ap, subst, rules}
+use Rattle.std.proofs.Common.{◌≡◌, ℕ, ◌-◌, Bool, true, false, IsTrue, List, length, sym, ap, subst}
 use Rattle.drda_disk.specs.Disk.{Life}
 use Rattle.drda_disk.specs.Region.{SameOutside, end_of}
 use Rattle.drda_disk.specs.declared.region.Region.{Region}
 use Rattle.half_store.specs.Layout.{half_len}
-use Rattle.row_pages.specs.Keeping.{AreRead, Kept}
+use Rattle.row_pages.specs.Keeping.{AreRead}
 use Rattle.paged_tables.specs.TablesByName.{AreOnPages, LieInside, LieOutside, Tables}
 use Rattle.unit_journal.specs.Journal.{region_of}
 use Rattle.unit_records.specs.Records.{UnitRecord}

@@ -1,19 +1,17 @@
 -- A table over its pages that is laid anew.
-use Rattle.std.proofs.Common.{◌≡◌, ℕ, ◌+◌, ◌<◌, Bool, true, false, List, [], ◌∷◌, length, cond, refl, sym, ap, ap₂, subst, ◌∙◌, arith, eqb-true}
+use Rattle.std.proofs.Common.{◌≡◌, ℕ, ◌+◌, ◌<◌, Bool, true, false, List, length, cond, refl, sym, ap, ap₂, subst, ◌∙◌, arith, eqb-true}
 use Rattle.std.specs.Prelude.{◌==◌}
 use Rattle.std.specs.List.{AllByRecursion}
 use Rattle.std.specs.Map.{values_of}
 use Rattle.row_values.specs.Schema.{Schema, is_schema}
 use Rattle.row_values.specs.Row.{is_row}
-use Rattle.key_map.specs.Merging.{Rows, merged}
-use Rattle.key_map.specs.Overlay.{changes_of}
+use Rattle.key_map.specs.Merging.{Rows}
 use Rattle.key_map.specs.RowForm.{RowsHaveTheirForms, row_form}
 use Rattle.row_pages.specs.Keeping.{Kept}
-use Rattle.row_pages.specs.Laying.{IsShort, laid, rows_over}
+use Rattle.row_pages.specs.Laying.{IsShort, laid}
 use Rattle.table_map.specs.Keyed.{first_keys, keyed_rows}
 use Rattle.table_map.specs.Stored.{Places, IsStored as StandAt}
 use Rattle.table_map.specs.Table.{rows_of_table, without_keys}
-use Rattle.table_map.specs.Table.{Table as Mapped}
 use Rattle.half_store.specs.Writing.{from_of, pages_of}
 use Rattle.half_store.specs.declared.image.ImageWriter.{ImageWriter}
 use Rattle.checkpoint_writer.specs.Catalogue.{Entry}
@@ -24,9 +22,9 @@ use Rattle.store_check.specs.Half.{page_at}
 use Rattle.store_check.specs.Written.{IsWritten}
 use Rattle.checkpoints.specs.Laying.{IsGood, laid_at, rows_under}
 use Rattle.checkpoints.specs.Room.{entry_of_table, pages_of_table}
-use Rattle.checkpoints.proofs.Placing.{all_short, bare_under, good_rows}
+use Rattle.checkpoints.proofs.Placing.{bare_under, good_rows}
 use Rattle.paged_tables.specs.Lending.{IsLent}
-use Rattle.paged_tables.specs.Stored.{Stored, at_keys, rows_in, table_in}
+use Rattle.paged_tables.specs.Stored.{Stored, rows_in, table_in}
 use Rattle.paged_tables.specs.declared.lending.TableRef.{TableRef}
 use Rattle.paged_tables.proofs.Shown.{forms_back}
 use Rattle.paged_checkpoints.specs.Apart.{IsReadable}

@@ -1,6 +1,5 @@
 -- A table's pages are counted as they will be laid, and so is its row of the catalogue.
-use Rattle.std.proofs.Common.{rules, ℕ, List, length, sym, arith}
-use Rattle.std.proofs.lemmas.Result.{on_ok_weaker}
+use Rattle.std.proofs.Common.{rules, sym, arith}
 use Rattle.table_map.proofs.Damaged.{handed_on}
 use Rattle.checkpoints.specs.Room.{entry_of_table}
 use Rattle.paged_checkpoints.specs.Laying.{created_entry}
