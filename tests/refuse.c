@@ -1,17 +1,38 @@
 // Laid in front of the C library: counts the allocations of a program, refuses the one of the number REFUSED, and at the
-// end writes their count to the file descriptor 9.
+// end writes their count to the file descriptor 9. Each of those of the numbers FORKED, in rising order, is refused in a
+// fork of the program, which goes on alone, at most WAITS seconds, and whose standard output is a file of that number in
+// the current folder. The program waits for it, writes its status behind that, as four bytes, negative for a signal, and
+// goes on with the allocation granted; behind the last one it ends. Its standard input and output have to be regular files.
 #define _GNU_SOURCE
 #include <errno.h>
+#include <fcntl.h>
+#include <stdint.h>
 #include <stdio.h>
 #include <stdlib.h>
+#include <sys/sendfile.h>
+#include <sys/single_threaded.h>
 #include <sys/syscall.h>
+#include <sys/wait.h>
 #include <unistd.h>
 
-static unsigned long count, refused;
+enum { BROKEN = 99 };
+
+static unsigned long count, refused, forked;
+static char *numbers;
+static unsigned waits;
+
+static unsigned long number_of(const char *name) {
+    const char *text = getenv(name);
+    return text ? strtoul(text, 0, 10) : 0;
+}
+
+static void turn(void) { forked = numbers ? strtoul(numbers, &numbers, 10) : 0; }
 
 __attribute__((constructor)) static void begin(void) {
-    const char *text = getenv("REFUSED");
-    refused = text ? strtoul(text, 0, 10) : 0;
+    refused = number_of("REFUSED");
+    waits = number_of("WAITS");
+    numbers = getenv("FORKED");
+    turn();
     count = 0;
 }
 
@@ -26,8 +47,45 @@ void _exit(int status) {
     for (;;) syscall(SYS_exit_group, status);
 }
 
+static void needs(int is_well) {
+    if (!is_well) syscall(SYS_exit_group, BROKEN);
+}
+
+// A file that begins with what the program has written.
+static int begun_output(void) {
+    char name[32];
+    snprintf(name, sizeof name, "%lu", forked);
+    int out = open(name, O_WRONLY | O_CREAT | O_EXCL | O_CLOEXEC, 0600);
+    off_t written = lseek(1, 0, SEEK_CUR), from = 0;
+    needs(out >= 0 && written >= 0);
+    while (from < written) needs(sendfile(out, 1, &from, written - from) > 0);
+    return out;
+}
+
+// Whether this is the fork. _Fork runs no handlers, which could allocate.
+static int is_fork(void) {
+    int out = begun_output(), status;
+    off_t read = lseek(0, 0, SEEK_CUR);
+    needs(read >= 0 && __libc_single_threaded);
+    pid_t child = _Fork();
+    if (child == 0) {
+        needs(dup2(out, 1) == 1 && close(out) == 0);
+        forked = 0;
+        alarm(waits);
+        return 1;
+    }
+    needs(child > 0 && waitpid(child, &status, 0) == child);
+    int32_t how = WIFEXITED(status) ? WEXITSTATUS(status) : -WTERMSIG(status);
+    // The fork has read on in the same open file.
+    needs(lseek(0, read, SEEK_SET) == read && write(out, &how, sizeof how) == sizeof how && close(out) == 0);
+    turn();
+    if (!forked) syscall(SYS_exit_group, 0);
+    return 0;
+}
+
 static int is_refused(void) {
-    if (__atomic_add_fetch(&count, 1, __ATOMIC_SEQ_CST) != refused) return 0;
+    unsigned long number = __atomic_add_fetch(&count, 1, __ATOMIC_SEQ_CST);
+    if (number != refused && !(number == forked && is_fork())) return 0;
     errno = ENOMEM;
     return 1;
 }
