@@ -1,5 +1,5 @@
 -- What a checkpoint needs is counted before it is written: the disk was only read.
-use Rattle.std.proofs.Common.{◌≡◌, inl, ℕ, ◌+◌, ◌<◌, ◌≤◌, Bool, List, length, Result, Ok, Err, sym, ap, subst, ◌∙◌, arith}
+use Rattle.std.proofs.Common.{inl, ℕ, ◌≤◌, Bool, List, length, Result, Ok, Err, sym, ap, subst, ◌∙◌, arith}
 use Rattle.drda_disk.specs.Disk.{LeavesOnly, Life, Now, Stays}
 use Rattle.drda_disk.specs.Images.{Torn-refl}
 use Rattle.drda_disk.proofs.Moments.{Only-stays, stays_and, stays_leaves}

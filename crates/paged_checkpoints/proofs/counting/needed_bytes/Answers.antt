@@ -1,18 +1,11 @@
 -- What is left of the tables is counted behind those that were.
-use Rattle.std.proofs.Common.{rules, ◌≡◌, ◌+◌, ◌∙◌, ◌∷◌, ℕ, List, length, refl, sym, ap, subst, arith}
-use Rattle.drda_disk.proofs.Moments.{Stays-refl, Stays-trans}
-use Rattle.row_values.specs.Schema.{is_name}
-use Rattle.row_values.proofs.ValueLaws.{first_true}
-use Rattle.tables.specs.View.{is_table}
-use Rattle.table_map.proofs.Damaged.{handed_on}
+use Rattle.std.proofs.Common.{◌≡◌, ◌+◌, refl, ap, arith}
+use Rattle.drda_disk.proofs.Moments.{Stays-refl}
 use Rattle.row_pages.specs.Laying.{counted}
 use Rattle.checkpoint_writer.specs.Catalogue.{rows_of}
 use Rattle.checkpoints.specs.Room.{entries_from, pages_of_tables}
 use Rattle.checkpoints.proofs.Moving.{good_all}
-use Rattle.paged_tables.specs.Stored.{Stored, table_in}
 use Rattle.paged_checkpoints.specs.Laying.{all_shown}
-use Rattle.paged_checkpoints.proofs.Beside.{rest_inside}
-use Rattle.paged_checkpoints.proofs.Laid.{good_first}
 use Rattle.paged_checkpoints.proofs.counting.needed_bytes.Goals as goal
 
 pub loop-table-init : goal.loop-table-init

@@ -1,5 +1,5 @@
 -- What was counted fits, or nothing was written.
-use Rattle.std.proofs.Common.{rules, ◌≡◌, ◌<◌, ◌≤◌, ℕ, List, length, sym, ap, subst, ◌∙◌, arith}
+use Rattle.std.proofs.Common.{rules, ◌≡◌, ◌≤◌, ℕ, List, length, ap, subst, ◌∙◌, arith}
 use Rattle.std.proofs.lemmas.Result.{IfOk-weaker}
 use Rattle.drda_disk.specs.Disk.{Stays}
 use Rattle.half_store.specs.Layout.{half_len}
