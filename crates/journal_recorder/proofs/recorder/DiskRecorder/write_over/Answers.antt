@@ -102,7 +102,7 @@ returns-in-Err-Full-clause-told g c =
       },
       of (λ (s : Store). LacksRoom modelled life old rows es hold c.in-Err-Full.full.need c.in-Err-Full.full.room new)
           (λ rests apart. let says = (rw c.in-Err-Full.field-0-is at told.full) apart in
-          record { less = says.0; needed = says.1.0; has = says.1.1; unwritten = (rw c.in-Err-Full.field-0-is at told.unwritten) apart }),
+          record { less = says.0; needed = says.1; has = says.2; unwritten = (rw c.in-Err-Full.field-0-is at told.unwritten) apart }),
     )
 
 pub returns-in-Err-Full-clause-pages : goal.returns-in-Err-Full-clause-pages
