@@ -41,7 +41,12 @@ impl KeysBySchema for RowForms {
         row_form(alloc, schema, row)
     }
 
-    fn put_key(&self, out: &mut Vec<u8>, schema: &TableSchema, row: &[u8]) -> Result<(), AllocError> {
+    fn put_key(
+        &self,
+        out: &mut Vec<u8>,
+        schema: &TableSchema,
+        row: &[u8],
+    ) -> Result<(), AllocError> {
         put_row_form(out, schema, row)
     }
 
