@@ -67,13 +67,12 @@ fn tell_count<D: Disk>(
     alloc: Global,
     schema: &Schema,
     table: &TableMap,
-    cache: &mut PageCache,
     disk: &mut D,
     out: &mut Vec<u8>,
 ) -> Option<()>
     requires { table.now.places.at + 8192 * length table.now.places.keys ≤ length (D.life disk.old).seen }
 {
-    match table.page_count(alloc, &SchemaKeys { schema }, cache, disk) {
+    match table.page_count(alloc, &SchemaKeys { schema }, disk) {
         Ok(count) => tell(
             alloc,
             out,
@@ -101,7 +100,7 @@ pub fn tell_asked<D: Disk>(
         Ok(table) => match verb {
             "get" => tell_row(alloc, schema, &table, cache, disk, row, out),
             "rows" => tell_rows(alloc, schema, &table, cache, disk, out),
-            _ => tell_count(alloc, schema, &table, cache, disk, out),
+            _ => tell_count(alloc, schema, &table, disk, out),
         },
         Err(fault) => say(out, name_of(fault)),
     }
