@@ -1,8 +1,9 @@
 // Laid in front of the C library: counts the allocations of a program, refuses the one of the number REFUSED, and at the
-// end writes their count to the file descriptor 9. Each of those of the numbers FORKED, in rising order, is refused in a
-// fork of the program, which goes on alone, at most WAITS seconds, and whose standard output is a file of that number in
-// the current folder. The program waits for it, writes its status behind that, as four bytes, negative for a signal, and
-// goes on with the allocation granted; behind the last one it ends. Its standard input and output have to be regular files.
+// end writes their count to the file descriptor 9. At those of the numbers FORKED, in rising order, the program forks: the
+// fork has its allocation refused, WAITS seconds to end, and a file of that number in the current folder for its standard
+// output, behind what was written before. The program waits, adds the status as four bytes, negative for a signal, goes on
+// with the allocation granted, and ends behind the last number. Its standard input and output have to be regular files,
+// both open to be read.
 #define _GNU_SOURCE
 #include <errno.h>
 #include <fcntl.h>
@@ -26,13 +27,13 @@ static unsigned long number_of(const char *name) {
     return text ? strtoul(text, 0, 10) : 0;
 }
 
-static void turn(void) { forked = numbers ? strtoul(numbers, &numbers, 10) : 0; }
+static void take_next(void) { forked = numbers ? strtoul(numbers, &numbers, 10) : 0; }
 
 __attribute__((constructor)) static void begin(void) {
     refused = number_of("REFUSED");
     waits = number_of("WAITS");
     numbers = getenv("FORKED");
-    turn();
+    take_next();
     count = 0;
 }
 
@@ -55,30 +56,30 @@ static void needs(int is_well) {
 static int begun_output(void) {
     char name[32];
     snprintf(name, sizeof name, "%lu", forked);
-    int out = open(name, O_WRONLY | O_CREAT | O_EXCL | O_CLOEXEC, 0600);
+    int out = open(name, O_WRONLY | O_CREAT | O_EXCL, 0600);
     off_t written = lseek(1, 0, SEEK_CUR), from = 0;
     needs(out >= 0 && written >= 0);
     while (from < written) needs(sendfile(out, 1, &from, written - from) > 0);
     return out;
 }
 
-// Whether this is the fork. _Fork runs no handlers, which could allocate.
+// Whether this is the fork. _Fork runs no handlers, which could allocate, and copies one thread alone.
 static int is_fork(void) {
     int out = begun_output(), status;
-    off_t read = lseek(0, 0, SEEK_CUR);
-    needs(read >= 0 && __libc_single_threaded);
+    off_t place = lseek(0, 0, SEEK_CUR);
+    needs(place >= 0 && __libc_single_threaded);
     pid_t child = _Fork();
     if (child == 0) {
+        alarm(waits);
         needs(dup2(out, 1) == 1 && close(out) == 0);
         forked = 0;
-        alarm(waits);
         return 1;
     }
     needs(child > 0 && waitpid(child, &status, 0) == child);
     int32_t how = WIFEXITED(status) ? WEXITSTATUS(status) : -WTERMSIG(status);
-    // The fork has read on in the same open file.
-    needs(lseek(0, read, SEEK_SET) == read && write(out, &how, sizeof how) == sizeof how && close(out) == 0);
-    turn();
+    // The fork has read on, and both share one place in the input.
+    needs(lseek(0, place, SEEK_SET) == place && write(out, &how, sizeof how) == sizeof how && close(out) == 0);
+    take_next();
     if (!forked) syscall(SYS_exit_group, 0);
     return 0;
 }
