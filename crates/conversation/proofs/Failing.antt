@@ -122,14 +122,13 @@ executed_with_mild : (rdb : List ℕ) (k : Statements) (s : Statement) (values :
 executed_with_mild rdb k s None = refl
 executed_with_mild rdb k s (Some values) = running_mild rdb k s values
 
-executed_by_mild : (rdb : List ℕ) (k : Statements) (brought : Option DescribedData) (r : Result Statement SqlFault) → AreMild (sql_does.executed_by rdb k brought r)
-executed_by_mild rdb k brought (Err f) = refl
-executed_by_mild rdb k brought (Ok s) =
+executed_as_mild : (rdb : List ℕ) (k : Statements) (brought : Option DescribedData) (s : Statement) → AreMild (sql_does.executed_as rdb k brought s)
+executed_as_mild rdb k brought s =
     either_doing (is_select s.command) (finished (answered k (fault_card NotPrepared ∷ []))) (sql_does.executed_with rdb k s (values_of brought)) refl (executed_with_mild rdb k s (values_of brought))
 
 executed_mild : (rdb : List ℕ) (k : Statements) (brought : Option DescribedData) (section : Option Section) → AreMild (sql_does.executed_in rdb k brought section)
 executed_mild rdb k brought None = refl
-executed_mild rdb k brought (Some section) = executed_by_mild rdb k brought (statement_of section.text)
+executed_mild rdb k brought (Some section) = executed_as_mild rdb k brought section.statement
 
 after_describe_mild : (unicode : Bool) (k prepared : Statements) (answer : core.Answer) → IsMild (sql_does.after_describe unicode k prepared answer).replies (is_description answer)
 after_describe_mild unicode k prepared (output columns) = inl refl
@@ -139,21 +138,17 @@ after_describe_mild unicode k prepared answer = not_done_mild k answer
 describing_mild : (unicode : Bool) (k prepared : Statements) (s : Statement) (which : Side) → AreMild (sql_does.describing unicode k prepared s which)
 describing_mild unicode k prepared s which = either_doing (sql_does.is_create s.command) (finished (answered prepared (description unicode [] ∷ []))) (asking (describe s which) (sql_does.after_describe unicode k prepared)) refl (after_describe_mild unicode k prepared)
 
-prepared_as_mild : (unicode : Bool) (k : Statements) (p : Preparation) (wanted : Option Side) (s : Statement) → AreMild (sql_does.prepared_as unicode k p wanted s)
-prepared_as_mild unicode k p None s = refl
-prepared_as_mild unicode k p (Some which) s = describing_mild unicode (sql_does.unprepared k) (sql_does.with_prepared k p) s which
+prepared_as_mild : (unicode : Bool) (k : Statements) (p : Preparation) (wanted : Option Side) → AreMild (sql_does.prepared_as unicode k p wanted)
+prepared_as_mild unicode k p None = refl
+prepared_as_mild unicode k p (Some which) = describing_mild unicode (sql_does.unprepared k) (sql_does.with_prepared k p) p.statement which
 
-prepared_mild : (unicode : Bool) (k : Statements) (p : Preparation) (wanted : Option Side) (r : Result Statement SqlFault) → AreMild (sql_does.prepared_by unicode k p wanted r)
-prepared_mild unicode k p wanted (Err f) = refl
-prepared_mild unicode k p wanted (Ok s) = prepared_as_mild unicode k p wanted s
-
-described_as_mild : (unicode : Bool) (k : Statements) (which : Side) (r : Result Statement SqlFault) → AreMild (sql_does.described_as unicode k which r)
-described_as_mild unicode k which (Err f) = refl
-described_as_mild unicode k which (Ok s) = describing_mild unicode k k s which
+prepared_mild : (unicode : Bool) (k : Statements) (prepared : Statement → Preparation) (wanted : Option Side) (r : Result Statement SqlFault) → AreMild (sql_does.prepared_by unicode k prepared wanted r)
+prepared_mild unicode k prepared wanted (Err f) = refl
+prepared_mild unicode k prepared wanted (Ok s) = prepared_as_mild unicode k (prepared s) wanted
 
 described_mild : (unicode : Bool) (k : Statements) (which : Side) (section : Option Section) → AreMild (sql_does.described_in unicode k which section)
 described_mild unicode k which None = refl
-described_mild unicode k which (Some section) = described_as_mild unicode k which (statement_of section.text)
+described_mild unicode k which (Some section) = describing_mild unicode k k section.statement which
 
 sql_mild : (unicode : Bool) (rdb : List ℕ) (command : Command) (given : Given) (k : Statements) → AreMild (sql_does.doing unicode rdb command given k)
 sql_mild unicode rdb Excsqlimm given k = immediate_mild rdb k (statement_of (sql_does.statement_text given))

@@ -82,15 +82,14 @@ executed_with_sent : (rdb : List ℕ) (k : Statements) (s : Statement) (values :
 executed_with_sent rdb k s None = (fault_sent ParameterMismatch, tt)
 executed_with_sent rdb k s (Some values) = running_sent rdb k s values
 
-executed_by_sent : (rdb : List ℕ) (k : Statements) (brought : Option DescribedData) (r : Result Statement SqlFault) → SendsObjects (does.executed_by rdb k brought r)
-executed_by_sent rdb k brought (Err f) = (fault_sent f, tt)
-executed_by_sent rdb k brought (Ok s) =
+executed_as_sent : (rdb : List ℕ) (k : Statements) (brought : Option DescribedData) (s : Statement) → SendsObjects (does.executed_as rdb k brought s)
+executed_as_sent rdb k brought s =
     either_doing (is_select s.command) (finished (answered k (fault_card NotPrepared ∷ []))) (does.executed_with rdb k s (values_of brought))
     (fault_sent NotPrepared, tt) (executed_with_sent rdb k s (values_of brought))
 
 executed_sent : (rdb : List ℕ) (k : Statements) (brought : Option DescribedData) (section : Option Section) → SendsObjects (does.executed_in rdb k brought section)
 executed_sent rdb k brought None = (fault_sent NotPrepared, tt)
-executed_sent rdb k brought (Some section) = executed_by_sent rdb k brought (statement_of section.text)
+executed_sent rdb k brought (Some section) = executed_as_sent rdb k brought section.statement
 
 -- ---- PRPSQLSTT and DSCSQLSTT
 
@@ -104,21 +103,17 @@ describing_sent unicode k prepared s which =
     either_doing (does.is_create s.command) (finished (answered prepared (description unicode [] ∷ []))) (asking (describe s which) (does.after_describe unicode k prepared))
     (description_sent unicode [], tt) (after_describe_sent unicode k prepared)
 
-prepared_as_sent : (unicode : Bool) (k : Statements) (p : Preparation) (wanted : Option Side) (s : Statement) → SendsObjects (does.prepared_as unicode k p wanted s)
-prepared_as_sent unicode k p None s = (null_sent, tt)
-prepared_as_sent unicode k p (Some which) s = describing_sent unicode (does.unprepared k) (does.with_prepared k p) s which
+prepared_as_sent : (unicode : Bool) (k : Statements) (p : Preparation) (wanted : Option Side) → SendsObjects (does.prepared_as unicode k p wanted)
+prepared_as_sent unicode k p None = (null_sent, tt)
+prepared_as_sent unicode k p (Some which) = describing_sent unicode (does.unprepared k) (does.with_prepared k p) p.statement which
 
-prepared_sent : (unicode : Bool) (k : Statements) (p : Preparation) (wanted : Option Side) (r : Result Statement SqlFault) → SendsObjects (does.prepared_by unicode k p wanted r)
-prepared_sent unicode k p wanted (Err f) = (fault_sent f, tt)
-prepared_sent unicode k p wanted (Ok s) = prepared_as_sent unicode k p wanted s
-
-described_as_sent : (unicode : Bool) (k : Statements) (which : Side) (r : Result Statement SqlFault) → SendsObjects (does.described_as unicode k which r)
-described_as_sent unicode k which (Err f) = (fault_sent f, tt)
-described_as_sent unicode k which (Ok s) = describing_sent unicode k k s which
+prepared_sent : (unicode : Bool) (k : Statements) (prepared : Statement → Preparation) (wanted : Option Side) (r : Result Statement SqlFault) → SendsObjects (does.prepared_by unicode k prepared wanted r)
+prepared_sent unicode k prepared wanted (Err f) = (fault_sent f, tt)
+prepared_sent unicode k prepared wanted (Ok s) = prepared_as_sent unicode k (prepared s) wanted
 
 described_sent : (unicode : Bool) (k : Statements) (which : Side) (section : Option Section) → SendsObjects (does.described_in unicode k which section)
 described_sent unicode k which None = (fault_sent NotPrepared, tt)
-described_sent unicode k which (Some section) = described_as_sent unicode k which (statement_of section.text)
+described_sent unicode k which (Some section) = describing_sent unicode k k section.statement which
 
 -- ---- all of them
 

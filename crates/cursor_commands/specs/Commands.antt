@@ -20,7 +20,7 @@ use Rattle.sections.specs.Kept.{Cursor, Section}
 use Rattle.sqlam_replies.specs.Reply.{Reply}
 use Rattle.command_kit.specs.Reply.{null_card}
 use Rattle.command_kit.specs.declared.statements.Statements.{Statements}
-use Rattle.command_kit.specs.Text.{is_select, statement_of, values_of}
+use Rattle.command_kit.specs.Text.{is_select, values_of}
 use Rattle.command_kit.specs.Doing.{Doing, Done, answered, asking, finished}
 use Rattle.command_kit.specs.NotDone.{not_done}
 use Rattle.cursor_commands.specs.Blocks.{rows_in_block}
@@ -49,17 +49,12 @@ with_values s (Err f) = Err f
 with_values s (Ok values) = Ok (s, values)
 
 -- the kind of the statement is judged before the values of its markers
-abbrev pub as_query : Option DescribedData → Result Statement SqlFault → Result (Statement × List Value) SqlFault
-as_query parameters (Err f) = Err f
-as_query parameters (Ok s) = if is_select s.command then with_values s (or_mismatch (values_of parameters)) else Err fault.NotPrepared
-
--- the query that a text is, with the values of its markers
-abbrev pub query_of : List ℕ → Option DescribedData → Result (Statement × List Value) SqlFault
-query_of text parameters = as_query parameters (statement_of text)
+abbrev pub as_query : Option DescribedData → Statement → Result (Statement × List Value) SqlFault
+as_query parameters s = if is_select s.command then with_values s (or_mismatch (values_of parameters)) else Err fault.NotPrepared
 
 abbrev pub query_in : Option DescribedData → Option Section → Result (Statement × List Value) SqlFault
 query_in parameters None = Err fault.NotPrepared
-query_in parameters (Some section) = query_of section.text parameters
+query_in parameters (Some section) = as_query parameters section.statement
 
 -- whether the section's cursors are held over a commit, by what is prepared there now
 abbrev pub is_held_in : Option Section → Bool

@@ -1,6 +1,6 @@
 //! The query that is prepared in a section, and what the core answers it.
 
-ghost use Rattle.std.specs.Prelude.{◌≡◌, IfErr, IfOk, IfSome, Err, Ok, OnErr, Some, map, option_map};
+ghost use Rattle.std.specs.Prelude.{◌≡◌, IfErr, IfOk, IfSome, Err, OnErr, Some, map, option_map};
 ghost use Rattle.core_calls.specs.Answer.{answer_of};
 ghost use Rattle.core_calls.specs.Call.{query};
 ghost use Rattle.row_values.specs.Value.{value_of};
@@ -11,7 +11,7 @@ ghost use Rattle.sections.specs.Cursors.{section_of};
 ghost use Rattle.cursor_commands.specs.Asking.{WasQueried};
 ghost use Rattle.cursor_commands.specs.Commands as commands;
 
-use command_kit::{Ask, is_select, read_values, statement_of};
+use command_kit::{Ask, is_select, read_values};
 use core_calls::{Answer, CoreCall, SqlFault, StatementError};
 use drda_commands::DescribedData;
 use fdoca::DescriptorFault;
@@ -63,35 +63,14 @@ fn ask_statement<'t, A: Ask>(
     parameters: Option<DescribedData<'t>>,
     asker: &mut A,
 ) -> Result<Answer, StatementError>
-    ensures ok { IfOk result (λ answer. WasQueried A.asks (commands.as_query (option_map described_of parameters.entry) (Ok statement.now)) (answer_of answer) asker.old asker.new) }
-    ensures err { IfErr result (λ error. IfSome (fault_of error) (λ fault. commands.as_query (option_map described_of parameters.entry) (Ok statement.now) ≡ Err fault)) }
+    ensures ok { IfOk result (λ answer. WasQueried A.asks (commands.as_query (option_map described_of parameters.entry) statement.now) (answer_of answer) asker.old asker.new) }
+    ensures err { IfErr result (λ error. IfSome (fault_of error) (λ fault. commands.as_query (option_map described_of parameters.entry) statement.now ≡ Err fault)) }
     ensures asker { OnErr result (asker.new ≡ asker.old) }
 {
     if is_select(&statement.command) {
         ask_select(alloc, statement, parameters, asker)
     } else {
         Err(StatementError::Fault(SqlFault::NotPrepared))
-    }
-}
-
-// Asks the query that a text is.
-fn ask_text<'t, A: Ask>(
-    alloc: Global,
-    text: &'t [u8],
-    parameters: Option<DescribedData<'t>>,
-    asker: &mut A,
-) -> Result<Answer, StatementError>
-    ensures ok { IfOk result (λ answer. WasQueried A.asks (commands.query_of text.now (option_map described_of parameters.entry)) (answer_of answer) asker.old asker.new) }
-    ensures err { IfErr result (λ error. IfSome (fault_of error) (λ fault. commands.query_of text.now (option_map described_of parameters.entry) ≡ Err fault)) }
-    ensures asker { OnErr result (asker.new ≡ asker.old) }
-{
-    match statement_of(alloc, text) {
-        Ok(statement) => {
-            let answered = ask_statement(alloc, &statement, parameters, asker);
-            drop(statement);
-            answered
-        }
-        Err(error) => Err(error),
     }
 }
 
@@ -109,7 +88,7 @@ pub fn ask_section<A: Ask>(
     ensures asker { OnErr result (asker.new ≡ asker.old) }
 {
     match sections.statement(name) {
-        Ok(text) => ask_text(alloc, text.as_bytes(), parameters, asker),
+        Ok(statement) => ask_statement(alloc, statement, parameters, asker),
         Err(NotPrepared) => Err(StatementError::Fault(SqlFault::NotPrepared)),
     }
 }

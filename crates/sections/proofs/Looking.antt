@@ -74,17 +74,17 @@ last name other section (x ∷ xs) none =
 pub prepared_keeps : (p : Preparation) (xs : Named) (other : List ℕ) → cursor_in (lookup (bytes_eq other) (with_statement p xs)) ≡ cursor_in (lookup (bytes_eq other) xs)
 prepared_keeps p xs other = by (is_some (lookup (bytes_eq p.name) xs))
   where
-    by : (b : Bool) → cursor_in (lookup (bytes_eq other) (cond b (changed_at p.name (λ section. record section { text = p.text; is_held = p.is_held }) xs) (xs ++ (p.name, record { text = p.text; is_held = p.is_held; cursor = None }) ∷ []))) ≡ cursor_in (lookup (bytes_eq other) xs)
-    by true = kept p.name other (λ section. record section { text = p.text; is_held = p.is_held }) (λ section. refl) xs
-    by false = last p.name other (record { text = p.text; is_held = p.is_held; cursor = None }) xs refl
+    by : (b : Bool) → cursor_in (lookup (bytes_eq other) (cond b (changed_at p.name (λ section. record section { statement = p.statement; is_held = p.is_held }) xs) (xs ++ (p.name, record { statement = p.statement; is_held = p.is_held; cursor = None }) ∷ []))) ≡ cursor_in (lookup (bytes_eq other) xs)
+    by true = kept p.name other (λ section. record section { statement = p.statement; is_held = p.is_held }) (λ section. refl) xs
+    by false = last p.name other (record { statement = p.statement; is_held = p.is_held; cursor = None }) xs refl
 
 pub ended_in : (keeps_held : Bool) (o : Option Section) → cursor_in (option_map (section_ended keeps_held) o) ≡ option_and_then (cursor_ended keeps_held) (cursor_in o)
 ended_in keeps_held None = refl
 ended_in keeps_held (Some section) = refl
 
-pub text_stays : (keeps_held : Bool) (o : Option Section) → option_map (λ (s : Section). s.text) (option_map (section_ended keeps_held) o) ≡ option_map (λ (s : Section). s.text) o
-text_stays keeps_held None = refl
-text_stays keeps_held (Some section) = refl
+pub statement_stays : (keeps_held : Bool) (o : Option Section) → option_map (λ (s : Section). s.statement) (option_map (section_ended keeps_held) o) ≡ option_map (λ (s : Section). s.statement) o
+statement_stays keeps_held None = refl
+statement_stays keeps_held (Some section) = refl
 
 pub closed_in : (o : Option Section) → cursor_in (option_map closed o) ≡ None
 closed_in None = refl

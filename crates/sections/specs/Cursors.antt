@@ -21,12 +21,12 @@ abbrev pub changed_at : List ℕ → (Section → Section) → List (List ℕ ×
 changed_at name change [] = []
 changed_at name change (s ∷ rest) = if bytes_eq name s.0 then (s.0, change s.1) ∷ rest else s ∷ changed_at name change rest
 
--- PRPSQLSTT: a section of this name takes the text and keeps its cursor as it is; else a section comes last
+-- PRPSQLSTT: a section of this name takes the statement and keeps its cursor as it is; else a section comes last
 abbrev pub with_statement : Preparation → List (List ℕ × Section) → List (List ℕ × Section)
 with_statement p sections =
     if is_some (lookup (bytes_eq p.name) sections)
-    then changed_at p.name (λ section. record section { text = p.text; is_held = p.is_held }) sections
-    else sections ++ (p.name, record { text = p.text; is_held = p.is_held; cursor = None }) ∷ []
+    then changed_at p.name (λ section. record section { statement = p.statement; is_held = p.is_held }) sections
+    else sections ++ (p.name, record { statement = p.statement; is_held = p.is_held; cursor = None }) ∷ []
 
 abbrev pub after_prepare : Preparation → Sections → Sections
 after_prepare p s = record s { sections = with_statement p s.sections; reserved = None }
@@ -46,7 +46,7 @@ fault_in (Some section) openings =
 abbrev pub opening_fault : List ℕ → Sections → Option OpenFault
 opening_fault name s = fault_in (section_of name s) s.openings
 
--- a cursor before the first of these rows, held as the section's text says now
+-- a cursor before the first of these rows, held as what is prepared in the section says now
 abbrev pub with_cursor : RowList → ℕ → ℕ → Section → Section
 with_cursor rows instance size section =
     record section { cursor = Some (record { rows = rows; place = 0; instance = instance; is_held = section.is_held; block_size = size }) }

@@ -1,6 +1,7 @@
 -- What a conversation keeps of its statements and queries (DRDA V5 volume 3: PKGNAMCSN, PRPSQLSTT, OPNQRY,
 -- QRYINSID).
 use Rattle.std.specs.Prelude.{ℕ, Bool, List, Option}
+use Rattle.sql_text.specs.declared.tree.Statement.{Statement}
 use Rattle.tables.specs.RowList.{RowList}
 
 -- an open cursor: the rows of its query as they were at its opening, how many of them were sent, its instance
@@ -12,16 +13,16 @@ pub record Cursor : Type 0 where
   pub is_held : Bool
   pub block_size : ℕ
 
--- a section: the text that was prepared in it, whether WITH HOLD, and its cursor where one is open
+-- a section: the statement that was prepared in it, whether WITH HOLD, and its cursor where one is open
 pub record Section : Type 0 where
-  pub text : List ℕ
+  pub statement : Statement
   pub is_held : Bool
   pub cursor : Option Cursor
 
 -- a statement to be prepared in the section of this name
 pub record Preparation : Type 0 where
   pub name : List ℕ
-  pub text : List ℕ
+  pub statement : Statement
   pub is_held : Bool
 
 -- a conversation's sections by their names, the statement for which room was made, and how many cursors were

@@ -11,13 +11,13 @@ use Rattle.sections.specs.Units.{after_unit, cursor_ended}
 abbrev pub PreparingKeepsCursors : Type 0
 PreparingKeepsCursors = (p : Preparation) (s : Sections) (name : List ℕ) → cursor_of name (after_prepare p s) ≡ cursor_of name s
 
--- the end of a unit ends each cursor by itself, and keeps every text
+-- the end of a unit ends each cursor by itself, and keeps every statement
 abbrev pub UnitsEndCursors : Type 0
 UnitsEndCursors = (keeps_held : Bool) (s : Sections) (name : List ℕ) → cursor_of name (after_unit keeps_held s) ≡ option_and_then (cursor_ended keeps_held) (cursor_of name s)
 
 abbrev pub UnitsKeepStatements : Type 0
 UnitsKeepStatements = (keeps_held : Bool) (s : Sections) (name : List ℕ)
-    → option_map (λ section. section.text) (section_of name (after_unit keeps_held s)) ≡ option_map (λ section. section.text) (section_of name s)
+    → option_map (λ section. section.statement) (section_of name (after_unit keeps_held s)) ≡ option_map (λ section. section.statement) (section_of name s)
 
 -- a cursor that is closed is none
 abbrev pub ClosingCloses : Type 0

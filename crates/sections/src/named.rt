@@ -33,7 +33,7 @@ pub fn prepare(sections: &mut IndexMap<Name, Section>, preparation: Preparation)
 
 fn prepare_again(sections: &mut IndexMap<Name, Section>, preparation: Preparation)
     requires { is_some (lookup (bytes_eq preparation.name) sections.old.entries) ≡ true }
-    ensures { sections.new.entries ≡ changed_at preparation.name (λ section. record section { text = preparation.text; is_held = preparation.is_held }) sections.old.entries }
+    ensures { sections.new.entries ≡ changed_at preparation.name (λ section. record section { statement = preparation.statement; is_held = preparation.is_held }) sections.old.entries }
 {
     match sections.get_mut(Sought {
         bytes: preparation.name(),
@@ -46,7 +46,7 @@ fn prepare_again(sections: &mut IndexMap<Name, Section>, preparation: Preparatio
 fn add(sections: &mut IndexMap<Name, Section>, preparation: Preparation)
     requires room { 0 < spare sections.old }
     requires absent { lookup (bytes_eq preparation.name) sections.old.entries ≡ None }
-    ensures { sections.new.entries ≡ sections.old.entries ++ (preparation.name, record { text = preparation.text; is_held = preparation.is_held; cursor = None }) ∷ [] }
+    ensures { sections.new.entries ≡ sections.old.entries ++ (preparation.name, record { statement = preparation.statement; is_held = preparation.is_held; cursor = None }) ∷ [] }
 {
     let (name, section) = preparation.into_section();
     match sections.insert(name, section) {

@@ -2,11 +2,12 @@
 
 ghost use Rattle.std.specs.Prelude.{◌≡◌, None, IfOk, option_copied};
 ghost use Rattle.std.specs.Option.{option_and_then};
-ghost use Rattle.std.specs.String.{string_bytes};
 ghost use Rattle.sections.specs.Units.{section_ended};
 
 use crate::cursor::Cursor;
 use crate::name::Name;
+use sql_copies::copy_statement;
+use sql_text::Statement;
 use std::alloc::{AllocError, Global};
 use std::marker::Model;
 use tables::RowList;
@@ -14,45 +15,44 @@ use tables::RowList;
 /// A statement that was prepared, and its cursor where one is open.
 #[derive(Drop)]
 pub struct Section {
-    text: String,
+    statement: Statement<'static>,
     is_held: bool,
     cursor: Option<Cursor>,
 }
 
 impl Model for Section {
-    ghost use Rattle.std.specs.String.{string_bytes};
     ghost use Rattle.sections.specs.Kept.{Section};
 
     ghost Value = { Section };
 
-    ghost view = { λ s. record { text = string_bytes s.text; is_held = s.is_held; cursor = s.cursor } };
+    ghost view = { λ s. record { statement = s.statement; is_held = s.is_held; cursor = s.cursor } };
 }
 
 impl Section {
     ghost use Rattle.sections.specs.Cursors.{closed, with_cursor};
     ghost use Rattle.sections.specs.Blocks.{section_advanced};
 
-    pub(crate) fn new(text: String, is_held: bool) -> Section
-        ensures { result ≡ record { text = string_bytes text; is_held = is_held; cursor = None } }
+    pub(crate) fn new(statement: Statement<'static>, is_held: bool) -> Section
+        ensures { result ≡ record { statement = statement; is_held = is_held; cursor = None } }
     {
         Section {
-            text,
+            statement,
             is_held,
             cursor: None,
         }
     }
 
-    pub(crate) fn prepare(&mut self, text: String, is_held: bool)
-        ensures { self.new ≡ record self.old { text = string_bytes text; is_held = is_held } }
+    pub(crate) fn prepare(&mut self, statement: Statement<'static>, is_held: bool)
+        ensures { self.new ≡ record self.old { statement = statement; is_held = is_held } }
     {
-        self.text = text;
+        self.statement = statement;
         self.is_held = is_held;
     }
 
-    pub(crate) fn text(&self) -> &str
-        ensures { result.now ≡ self.now.text }
+    pub(crate) fn statement(&self) -> &Statement<'static>
+        ensures { result.now ≡ self.now.statement }
     {
-        self.text.as_str()
+        &self.statement
     }
 
     pub(crate) fn cursor(&self) -> Option<&Cursor>
@@ -96,31 +96,30 @@ impl Section {
 #[derive(Drop)]
 pub struct Preparation {
     name: Name,
-    text: String,
+    statement: Statement<'static>,
     is_held: bool,
 }
 
 impl Model for Preparation {
-    ghost use Rattle.std.specs.String.{string_bytes};
     ghost use Rattle.sections.specs.Kept.{Preparation};
 
     ghost Value = { Preparation };
 
-    ghost view = { λ p. record { name = p.name; text = string_bytes p.text; is_held = p.is_held } };
+    ghost view = { λ p. record { name = p.name; statement = p.statement; is_held = p.is_held } };
 }
 
 impl Preparation {
     pub(crate) fn new(
         alloc: Global,
         name: &[u8],
-        text: &str,
+        statement: &Statement<'_>,
         is_held: bool,
     ) -> Result<Preparation, AllocError>
-        ensures { IfOk result (λ p. p ≡ record { name = name.now; text = text.now; is_held = is_held }) }
+        ensures { IfOk result (λ p. p ≡ record { name = name.now; statement = statement.now; is_held = is_held }) }
     {
         Ok(Preparation {
             name: Name::new(name.to_vec(alloc)?),
-            text: String::from_str(alloc, text)?,
+            statement: copy_statement(alloc, statement)?,
             is_held,
         })
     }
@@ -134,14 +133,14 @@ impl Preparation {
     // The name, and the section that is made where none of this name is there.
     pub(crate) fn into_section(self) -> (Name, Section)
         ensures name { result.0 ≡ self.name }
-        ensures section { result.1 ≡ record { text = self.text; is_held = self.is_held; cursor = None } }
+        ensures section { result.1 ≡ record { statement = self.statement; is_held = self.is_held; cursor = None } }
     {
-        (self.name, Section::new(self.text, self.is_held))
+        (self.name, Section::new(self.statement, self.is_held))
     }
 
     pub(crate) fn prepare_again(self, section: &mut Section)
-        ensures { section.new ≡ record section.old { text = self.text; is_held = self.is_held } }
+        ensures { section.new ≡ record section.old { statement = self.statement; is_held = self.is_held } }
     {
-        section.prepare(self.text, self.is_held);
+        section.prepare(self.statement, self.is_held);
     }
 }

@@ -12,11 +12,12 @@ use crate::name::Name;
 use crate::named;
 use crate::section::{Preparation, Section};
 use indexmap::IndexMap;
+use sql_text::Statement;
 use std::alloc::{AllocError, Global};
 use std::marker::Model;
 use tables::RowList;
 
-/// The sections of a conversation by their names (all bytes of PKGNAMCSN), each with the text that was
+/// The sections of a conversation by their names (all bytes of PKGNAMCSN), each with the statement that was
 /// prepared in it and its cursor where one is open.
 #[derive(Drop)]
 pub struct Sections {
@@ -55,11 +56,16 @@ impl Sections {
     /// Prepares a statement in the section of this name, in place of the one that was there, and gives
     /// up one for which room was made. A cursor that is open there stays as it is. Where memory is
     /// refused, nothing changes.
-    pub fn prepare(&mut self, name: &[u8], text: &str, is_held: bool) -> Result<(), AllocError>
-        ensures ok { OnOk result (self.new ≡ after_prepare (record { name = name.now; text = text.now; is_held = is_held }) self.old) }
+    pub fn prepare(
+        &mut self,
+        name: &[u8],
+        statement: &Statement<'_>,
+        is_held: bool,
+    ) -> Result<(), AllocError>
+        ensures ok { OnOk result (self.new ≡ after_prepare (record { name = name.now; statement = statement.now; is_held = is_held }) self.old) }
         ensures err { OnErr result (self.new ≡ self.old) }
     {
-        self.reserve_prepare(name, text, is_held)?;
+        self.reserve_prepare(name, statement, is_held)?;
         self.prepare_reserved();
         Ok(())
     }
@@ -70,13 +76,13 @@ impl Sections {
     pub fn reserve_prepare(
         &mut self,
         name: &[u8],
-        text: &str,
+        statement: &Statement<'_>,
         is_held: bool,
     ) -> Result<(), AllocError>
-        ensures ok { OnOk result (self.new ≡ record self.old { reserved = Some (record { name = name.now; text = text.now; is_held = is_held }) }) }
+        ensures ok { OnOk result (self.new ≡ record self.old { reserved = Some (record { name = name.now; statement = statement.now; is_held = is_held }) }) }
         ensures err { OnErr result (self.new ≡ self.old) }
     {
-        let preparation = Preparation::new(self.alloc, name, text, is_held)?;
+        let preparation = Preparation::new(self.alloc, name, statement, is_held)?;
         self.sections.reserve(1)?;
         self.reserved = Some(preparation);
         Ok(())
@@ -99,12 +105,12 @@ impl Sections {
         self.reserved = None;
     }
 
-    /// The text that is prepared in the section of this name, or `NotPrepared` where there is none.
-    pub fn statement(&self, name: &[u8]) -> Result<&str, NotPrepared>
-        ensures { MatchResult result (λ text. option_map (λ section. section.text) (section_of name.now self.now) ≡ Some text.now) (λ _. section_of name.now self.now ≡ None) }
+    /// The statement that is prepared in the section of this name, or `NotPrepared` where there is none.
+    pub fn statement(&self, name: &[u8]) -> Result<&Statement<'static>, NotPrepared>
+        ensures { MatchResult result (λ statement. option_map (λ section. section.statement) (section_of name.now self.now) ≡ Some statement.now) (λ _. section_of name.now self.now ≡ None) }
     {
         match named::find(&self.sections, name) {
-            Some(section) => Ok(section.text()),
+            Some(section) => Ok(section.statement()),
             None => Err(NotPrepared),
         }
     }

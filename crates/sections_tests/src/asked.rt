@@ -2,6 +2,7 @@
 
 use crate::rows::rows_of;
 use sections::{NotPrepared, OpenFault, QueryNotOpen, Sections};
+use sql_text::{Command, parse};
 use std::alloc::{AllocError, Global};
 use test_bytes::bytes_of;
 
@@ -69,10 +70,31 @@ fn said_closed(sections: &mut Sections, name: &[u8], instance: &str) -> &'static
     }
 }
 
-fn said_statement<'s>(sections: &'s Sections, name: &[u8]) -> &'s str {
+fn said_statement(sections: &Sections, name: &[u8]) -> &'static str {
     match sections.statement(name) {
-        Ok(text) => text,
+        Ok(statement) => match statement.command {
+            Command::Select { .. } => "a SELECT",
+            Command::Insert { .. } => "an INSERT",
+            _ => "another statement",
+        },
         Err(NotPrepared) => "not prepared",
+    }
+}
+
+// Prepares the statement that a text is, or makes room for it.
+fn prepare(
+    alloc: Global,
+    sections: &mut Sections,
+    verb: &str,
+    name: &[u8],
+    text: &str,
+) -> Result<(), AllocError> {
+    let Ok(statement) = parse(alloc, text) else {
+        return Err(AllocError);
+    };
+    match verb {
+        "reserve" => sections.reserve_prepare(name, &statement, false),
+        _ => sections.prepare(name, &statement, verb == "hold"),
     }
 }
 
@@ -87,8 +109,7 @@ fn tell_section(
     match verb {
         "open" => return open(alloc, sections, name, rest, told),
         "look" | "fetch" => return tell_block(sections, name, rest, verb == "fetch", told),
-        "prepare" | "hold" => sections.prepare(name, rest, verb == "hold")?,
-        "reserve" => sections.reserve_prepare(name, rest, false)?,
+        "prepare" | "hold" | "reserve" => prepare(alloc, sections, verb, name, rest)?,
         "check" => return told.push_str(said_opening(sections.check_opening(name))),
         "close" => return told.push_str(said_closed(sections, name, rest)),
         "statement" => return told.push_str(said_statement(sections, name)),

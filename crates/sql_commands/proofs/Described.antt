@@ -10,10 +10,10 @@ use Rattle.core_calls.specs.declared.call.Side.{Side}
 use Rattle.core_calls.specs.declared.described.ParameterType.{ParameterType}
 use Rattle.sections.specs.Kept.{Section}
 use Rattle.sqlam_replies.specs.Sqldard.{are_described}
-use Rattle.sql_commands.specs.Commands.{described_as, described_in}
+use Rattle.sql_commands.specs.Commands.{described_in, describing}
 use Rattle.command_kit.specs.Reply.{parameter_column, parameter_columns}
 use Rattle.command_kit.specs.declared.statements.Statements.{Statements}
-use Rattle.command_kit.specs.Text.{statement_of}
+use Rattle.sql_text.specs.declared.tree.Statement.{Statement}
 
 -- a parameter has no name
 names_short : (types : List ParameterType) → list_all (λ (c : Column). nat_le (length c.name) 30) (parameter_columns types) ≡ true
@@ -26,6 +26,6 @@ parameters_described types few =
     let within : nat_le (length (parameter_columns types)) 128 ≡ true = grind (arith, nat_tests) in
     both_true _ _ within (names_short types)
 
-pub in_section : (unicode : Bool) (k : Statements) (which : Side) (o : Option Section) (text : List ℕ) → option_map (λ (s : Section). s.text) o ≡ Some text → described_in unicode k which o ≡ described_as unicode k which (statement_of text)
-in_section unicode k which None text is = absurd cc
-in_section unicode k which (Some s) text is = let same : s.text ≡ text = cc in ap (λ (t : List ℕ). described_as unicode k which (statement_of t)) same
+pub in_section : (unicode : Bool) (k : Statements) (which : Side) (o : Option Section) (t : Statement) → option_map (λ (s : Section). s.statement) o ≡ Some t → described_in unicode k which o ≡ describing unicode k k t which
+in_section unicode k which None t is = absurd cc
+in_section unicode k which (Some s) t is = let same : s.statement ≡ t = cc in ap (λ (u : Statement). describing unicode k k u which) same

@@ -54,8 +54,9 @@ section_name given = unwrap_or (section_in given) []
 abbrev pub statement_text : Given → List ℕ
 statement_text given = unwrap_or (statement_in given) []
 
-abbrev pub preparation : Given → Preparation
-preparation given = record { name = section_name given; text = statement_text given; is_held = is_held_by (attributes_in given) }
+-- a statement that an accepted command prepares
+abbrev pub preparation : Given → Statement → Preparation
+preparation given s = record { name = section_name given; statement = s; is_held = is_held_by (attributes_in given) }
 
 -- what a PRPSQLSTT is to describe, if anything
 abbrev pub wanted_side : Given → Option Side
@@ -69,11 +70,11 @@ end_call RolledBack = roll_back
 abbrev pub with_told : Bool → Statements → Statements
 with_told is_told k = record k { is_change_told = is_told }
 
--- the text is prepared where the reply is no refusal
+-- the statement is prepared where the reply is no refusal
 abbrev pub with_prepared : Statements → Preparation → Statements
 with_prepared k p = record k { sections = after_prepare p k.sections }
 
--- else every section is as it was, and none waits for a text
+-- else every section is as it was, and none waits for a statement
 abbrev pub unprepared : Statements → Statements
 unprepared k = record k { sections = record k.sections { reserved = None } }
 
@@ -119,13 +120,9 @@ module _ (rdb : List ℕ) where
       if is_select s.command then finished (answered k (fault_card fault.NotPrepared ∷ []))
       else executed_with k s (values_of sent)
 
-  abbrev pub executed_by : Statements → Option DescribedData → Result Statement SqlFault → Doing
-  executed_by k sent (Err f) = finished (answered k (fault_card f ∷ []))
-  executed_by k sent (Ok s) = executed_as k sent s
-
   abbrev pub executed_in : Statements → Option DescribedData → Option Section → Doing
   executed_in k sent None = finished (answered k (fault_card fault.NotPrepared ∷ []))
-  executed_in k sent (Some section) = executed_by k sent (statement_of section.text)
+  executed_in k sent (Some section) = executed_as k sent section.statement
 
   abbrev pub executed : Statements → Given → Doing
   executed k given = executed_in k (described_data_in given) (section_of (section_name given) k.sections)
@@ -145,25 +142,21 @@ module _ (unicode : Bool) where
       if is_create s.command then finished (answered prepared (description unicode [] ∷ []))
       else asking (describe s which) (after_describe k prepared)
 
-  -- a text is prepared, and described too where that is wanted
-  abbrev pub prepared_as : Statements → Preparation → Option Side → Statement → Doing
-  prepared_as k p None s = finished (answered (with_prepared k p) (null_card ∷ []))
-  prepared_as k p (Some which) s = describing (unprepared k) (with_prepared k p) s which
+  -- a statement is prepared, and described too where that is wanted
+  abbrev pub prepared_as : Statements → Preparation → Option Side → Doing
+  prepared_as k p None = finished (answered (with_prepared k p) (null_card ∷ []))
+  prepared_as k p (Some which) = describing (unprepared k) (with_prepared k p) p.statement which
 
-  abbrev pub prepared_by : Statements → Preparation → Option Side → Result Statement SqlFault → Doing
-  prepared_by k p wanted (Err f) = finished (answered k (fault_card f ∷ []))
-  prepared_by k p wanted (Ok s) = prepared_as k p wanted s
+  abbrev pub prepared_by : Statements → (Statement → Preparation) → Option Side → Result Statement SqlFault → Doing
+  prepared_by k prepared wanted (Err f) = finished (answered k (fault_card f ∷ []))
+  prepared_by k prepared wanted (Ok s) = prepared_as k (prepared s) wanted
 
   abbrev pub preparing : Statements → Given → Doing
   preparing k given = prepared_by k (preparation given) (wanted_side given) (statement_of (statement_text given))
 
-  abbrev pub described_as : Statements → Side → Result Statement SqlFault → Doing
-  described_as k which (Err f) = finished (answered k (fault_card f ∷ []))
-  described_as k which (Ok s) = describing k k s which
-
   abbrev pub described_in : Statements → Side → Option Section → Doing
   described_in k which None = finished (answered k (fault_card fault.NotPrepared ∷ []))
-  described_in k which (Some section) = described_as k which (statement_of section.text)
+  described_in k which (Some section) = describing k k section.statement which
 
   abbrev pub describing_section : Statements → Given → Doing
   describing_section k given = described_in k (side_for (side_in given)) (section_of (section_name given) k.sections)

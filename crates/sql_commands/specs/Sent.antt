@@ -3,4 +3,4 @@ use Rattle.sections.specs.Kept.{Preparation}
 use Rattle.sql_commands.specs.declared.preparing.Preparing.{Preparing}
 
 abbrev pub preparation_of : Preparing → Preparation
-preparation_of p = record { name = p.name.now; text = p.text.now; is_held = p.is_held }
+preparation_of p = record { name = p.name.now; statement = p.statement.now; is_held = p.is_held }

@@ -9,15 +9,13 @@ ghost use Rattle.command_kit.specs.Reply as spec;
 ghost use Rattle.command_kit.specs.Sizes.{written_lengths};
 ghost use Rattle.command_kit.specs.declared.statements.Statements as kept;
 ghost use Rattle.sections.specs.Cursors.{section_of};
-ghost use Rattle.command_kit.specs.Text.{statement_of};
 
 use crate::brought::{section_name, side_for};
 use crate::replying::MAX_REPLIES_LENGTH;
 use command_kit::{
     Ask, ColumnDescription, Replies, SelectionDescription, Statements, add_not_done, refuse,
-    statement_of,
 };
-use core_calls::{Answer, CoreCall, MAX_PARAMETERS, ParameterType, Side, SqlFault, StatementError};
+use core_calls::{Answer, CoreCall, MAX_PARAMETERS, ParameterType, Side, SqlFault};
 use drda_commands::Accepted;
 use row_values::Column;
 use sections::NotPrepared;
@@ -132,33 +130,6 @@ fn describe_prepared<A: Ask>(
     Ok(())
 }
 
-fn describe_text<A: Ask>(
-    alloc: Global,
-    text: &[u8],
-    side: Side,
-    unicode: bool,
-    statements: &Statements,
-    asker: &mut A,
-    replies: &mut Replies,
-) -> Result<(), AllocError>
-    ensures ok { OnOk result (WasDone A.asks (commands.described_as unicode statements.now side (statement_of text.now)) asker.old asker.new statements.now replies.old.list replies.new.list) }
-    ensures size { OnOk result (written_lengths replies.new.list ≤ written_lengths replies.old.list + MAX_REPLIES_LENGTH) }
-    ensures asker { OnErr result (asker.new ≡ asker.old) }
-    ensures replies { OnErr result (replies.new.list ≡ replies.old.list) }
-{
-    match statement_of(alloc, text) {
-        Ok(statement) => {
-            let done = describe_prepared(
-                alloc, &statement, side, unicode, statements, asker, replies,
-            );
-            drop(statement);
-            done
-        }
-        Err(StatementError::Fault(fault)) => refuse(fault, replies),
-        Err(StatementError::NoMemory) => Err(AllocError),
-    }
-}
-
 fn describe_section<A: Ask>(
     alloc: Global,
     name: &[u8],
@@ -174,15 +145,9 @@ fn describe_section<A: Ask>(
     ensures replies { OnErr result (replies.new.list ≡ replies.old.list) }
 {
     match statements.sections.statement(name) {
-        Ok(text) => describe_text(
-            alloc,
-            text.as_bytes(),
-            side,
-            unicode,
-            statements,
-            asker,
-            replies,
-        ),
+        Ok(statement) => {
+            describe_prepared(alloc, statement, side, unicode, statements, asker, replies)
+        }
         Err(NotPrepared) => refuse(SqlFault::NotPrepared, replies),
     }
 }

@@ -6,13 +6,13 @@ ghost use Rattle.sections.specs.Cursors.{section_of};
 ghost use Rattle.sql_commands.specs.Commands as commands;
 ghost use Rattle.command_kit.specs.Done.{WasDone};
 ghost use Rattle.command_kit.specs.Sizes.{written_lengths};
-ghost use Rattle.command_kit.specs.Text.{statement_of, values_of};
+ghost use Rattle.command_kit.specs.Text.{values_of};
 
 use crate::brought::section_name;
 use crate::replying::MAX_REPLIES_LENGTH;
 use crate::running::{refuse_run, run};
-use command_kit::{Ask, Replies, Statements, is_select, read_values, statement_of};
-use core_calls::{SqlFault, StatementError};
+use command_kit::{Ask, Replies, Statements, is_select, read_values};
+use core_calls::SqlFault;
 use drda_commands::{Accepted, DescribedData};
 use fdoca::DescriptorFault;
 use sections::NotPrepared;
@@ -78,32 +78,6 @@ fn execute_statement<'t, A: Ask>(
     }
 }
 
-fn execute_text<A: Ask>(
-    alloc: Global,
-    text: &[u8],
-    sent: Option<DescribedData<'_>>,
-    rdb: &[u8],
-    statements: &Statements,
-    asker: &mut A,
-    replies: &mut Replies,
-) -> Result<bool, AllocError>
-    requires { length rdb.now ≤ 791 }
-    ensures ok { IfOk result (λ is_told. WasDone A.asks (commands.executed_by rdb.now statements.now (option_map described_of sent.entry) (statement_of text.now)) asker.old asker.new (commands.with_told is_told statements.now) replies.old.list replies.new.list) }
-    ensures size { OnOk result (written_lengths replies.new.list ≤ written_lengths replies.old.list + MAX_REPLIES_LENGTH) }
-    ensures asker { OnErr result (asker.new ≡ asker.old) }
-    ensures replies { OnErr result (replies.new.list ≡ replies.old.list) }
-{
-    match statement_of(alloc, text) {
-        Ok(statement) => {
-            let done = execute_statement(alloc, &statement, sent, rdb, statements, asker, replies);
-            drop(statement);
-            done
-        }
-        Err(StatementError::Fault(fault)) => refuse_run(fault, statements, replies),
-        Err(StatementError::NoMemory) => Err(AllocError),
-    }
-}
-
 fn execute_section<A: Ask>(
     alloc: Global,
     name: &[u8],
@@ -120,15 +94,9 @@ fn execute_section<A: Ask>(
     ensures replies { OnErr result (replies.new.list ≡ replies.old.list) }
 {
     match statements.sections.statement(name) {
-        Ok(text) => execute_text(
-            alloc,
-            text.as_bytes(),
-            sent,
-            rdb,
-            statements,
-            asker,
-            replies,
-        ),
+        Ok(statement) => {
+            execute_statement(alloc, statement, sent, rdb, statements, asker, replies)
+        }
         Err(NotPrepared) => refuse_run(SqlFault::NotPrepared, statements, replies),
     }
 }

@@ -1,7 +1,6 @@
 //! PRPSQLSTT.
 
 ghost use Rattle.std.specs.Prelude.{◌≡◌, ◌≤◌, ◌+◌, ◌++◌, ◌∷◌, [], None, OnErr, OnOk, Some, true};
-ghost use Rattle.std.specs.Str.{is_utf8};
 ghost use Rattle.drda_commands.specs.Views.{given_of};
 ghost use Rattle.command_kit.specs.Done.{WasDone};
 ghost use Rattle.command_kit.specs.Reply.{null_card};
@@ -24,26 +23,15 @@ use std::alloc::{AllocError, Global};
 
 /// What is to be prepared.
 #[derive(Clone, Copy)]
-pub(crate) struct Preparing<'a> {
+pub(crate) struct Preparing<'a, 't> {
     name: &'a [u8],
-    text: &'a str,
+    statement: &'a Statement<'t>,
     is_held: bool,
 }
 
-// The text of a statement that was read, which is UTF-8.
-fn utf8_of(text: &[u8]) -> &str
-    requires { is_utf8 text.now ≡ true }
-    ensures { result.now ≡ text.now }
-{
-    match str::from_utf8(text) {
-        Ok(text) => text,
-        Err(_) => unreachable!(),
-    }
-}
-
-// Prepares a text, of which nothing is to be told.
+// Prepares a statement, of which nothing is to be told.
 fn prepare_alone(
-    preparing: Preparing<'_>,
+    preparing: Preparing<'_, '_>,
     statements: &mut Statements,
     replies: &mut Replies,
 ) -> Result<(), AllocError>
@@ -56,23 +44,22 @@ fn prepare_alone(
     replies.reserve(1, SQLCARD_LENGTH)?;
     statements
         .sections
-        .prepare(preparing.name, preparing.text, preparing.is_held)?;
+        .prepare(preparing.name, preparing.statement, preparing.is_held)?;
     replies.add(&Card::Null);
     Ok(())
 }
 
-// Prepares a text and describes its statement, if that is not refused.
+// Prepares a statement and describes it, if that is not refused.
 fn prepare_described<A: Ask>(
     alloc: Global,
-    preparing: Preparing<'_>,
-    statement: &Statement<'_>,
+    preparing: Preparing<'_, '_>,
     side: Side,
     unicode: bool,
     statements: &mut Statements,
     asker: &mut A,
     replies: &mut Replies,
 ) -> Result<(), AllocError>
-    ensures ok { OnOk result (WasDone A.asks (commands.prepared_as unicode statements.old (preparation_of preparing.entry) (Some side) statement.now) asker.old asker.new statements.new replies.old.list replies.new.list) }
+    ensures ok { OnOk result (WasDone A.asks (commands.prepared_as unicode statements.old (preparation_of preparing.entry) (Some side)) asker.old asker.new statements.new replies.old.list replies.new.list) }
     ensures size { OnOk result (written_lengths replies.new.list ≤ written_lengths replies.old.list + MAX_REPLIES_LENGTH) }
     ensures asker { OnErr result (asker.new ≡ asker.old) }
     ensures statements { OnErr result (statements.new ≡ statements.old) }
@@ -82,8 +69,16 @@ fn prepare_described<A: Ask>(
     let columns: Vec<Column> = Vec::with_capacity(alloc, MAX_PARAMETERS)?;
     statements
         .sections
-        .reserve_prepare(preparing.name, preparing.text, preparing.is_held)?;
-    let is_described = describe_statement(alloc, statement, side, unicode, columns, asker, replies);
+        .reserve_prepare(preparing.name, preparing.statement, preparing.is_held)?;
+    let is_described = describe_statement(
+        alloc,
+        preparing.statement,
+        side,
+        unicode,
+        columns,
+        asker,
+        replies,
+    );
     if is_described {
         statements.sections.prepare_reserved();
     } else {
@@ -94,15 +89,14 @@ fn prepare_described<A: Ask>(
 
 fn prepare_statement<A: Ask>(
     alloc: Global,
-    preparing: Preparing<'_>,
+    preparing: Preparing<'_, '_>,
     wanted: Option<Side>,
-    statement: &Statement<'_>,
     unicode: bool,
     statements: &mut Statements,
     asker: &mut A,
     replies: &mut Replies,
 ) -> Result<(), AllocError>
-    ensures ok { OnOk result (WasDone A.asks (commands.prepared_as unicode statements.old (preparation_of preparing.entry) wanted statement.now) asker.old asker.new statements.new replies.old.list replies.new.list) }
+    ensures ok { OnOk result (WasDone A.asks (commands.prepared_as unicode statements.old (preparation_of preparing.entry) wanted) asker.old asker.new statements.new replies.old.list replies.new.list) }
     ensures size { OnOk result (written_lengths replies.new.list ≤ written_lengths replies.old.list + MAX_REPLIES_LENGTH) }
     ensures asker { OnErr result (asker.new ≡ asker.old) }
     ensures statements { OnErr result (statements.new ≡ statements.old) }
@@ -111,7 +105,7 @@ fn prepare_statement<A: Ask>(
     match wanted {
         None => prepare_alone(preparing, statements, replies),
         Some(side) => prepare_described(
-            alloc, preparing, statement, side, unicode, statements, asker, replies,
+            alloc, preparing, side, unicode, statements, asker, replies,
         ),
     }
 }
@@ -127,7 +121,7 @@ fn prepare_text<A: Ask>(
     asker: &mut A,
     replies: &mut Replies,
 ) -> Result<(), AllocError>
-    ensures ok { OnOk result (WasDone A.asks (commands.prepared_by unicode statements.old (record { name = name.now; text = text.now; is_held = is_held }) wanted (statement_of text.now)) asker.old asker.new statements.new replies.old.list replies.new.list) }
+    ensures ok { OnOk result (WasDone A.asks (commands.prepared_by unicode statements.old (λ s. record { name = name.now; statement = s; is_held = is_held }) wanted (statement_of text.now)) asker.old asker.new statements.new replies.old.list replies.new.list) }
     ensures size { OnOk result (written_lengths replies.new.list ≤ written_lengths replies.old.list + MAX_REPLIES_LENGTH) }
     ensures asker { OnErr result (asker.new ≡ asker.old) }
     ensures statements { OnErr result (statements.new ≡ statements.old) }
@@ -137,11 +131,11 @@ fn prepare_text<A: Ask>(
         Ok(statement) => {
             let preparing = Preparing {
                 name,
-                text: utf8_of(text),
+                statement: &statement,
                 is_held,
             };
             let done = prepare_statement(
-                alloc, preparing, wanted, &statement, unicode, statements, asker, replies,
+                alloc, preparing, wanted, unicode, statements, asker, replies,
             );
             drop(statement);
             done
@@ -151,7 +145,7 @@ fn prepare_text<A: Ask>(
     }
 }
 
-/// Prepares the text that the command brings in its section (PRPSQLSTT), WITH HOLD where SQLATTR says so.
+/// Prepares the statement that the command brings in its section (PRPSQLSTT), WITH HOLD where SQLATTR says so.
 /// The reply is a null SQLCARD, or with RTNSQLDA the SQLDARD of the statement's columns or parameters; or
 /// why it was refused, and then the section is as it was. Names are answered as UTF-8 with `unicode`, else
 /// in code page 500. Out of memory, nothing is asked and nothing changes.

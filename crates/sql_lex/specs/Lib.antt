@@ -1,4 +1,5 @@
 pub mod Markers
+pub mod Part
 pub mod Spelling
 pub mod Stands
 pub mod Terminal

@@ -83,14 +83,14 @@ fn column_type(draft: DraftType) -> ColumnType
     }
 }
 
-fn definition<'a>(column: &DraftColumn<'a>) -> Definition<'a>
-    ensures { result ≡ plain.definition column.now }
+fn definition<'a>(alloc: Global, column: &DraftColumn<'a>) -> Result<Definition<'a>, AllocError>
+    ensures { IfOk result (λ d. d ≡ plain.definition column.now) }
 {
-    Definition {
-        name: column.name.again(),
+    Ok(Definition {
+        name: column.name.again(alloc)?,
         column_type: column_type(column.column_type),
         nullable: column.nullable,
-    }
+    })
 }
 
 fn definitions<'a>(
@@ -101,18 +101,17 @@ fn definitions<'a>(
 {
     let mut made = Items::new(alloc);
     for column in columns {
-        let definition = definition(column);
-        made.push(definition)?;
+        made.push(definition(alloc, column)?)?;
     }
     Ok(made)
 }
 
-fn key_column<'a>(column: &DraftKey<'a>) -> KeyColumn<'a>
-    ensures { result ≡ plain.key_column column.now }
+fn key_column<'a>(alloc: Global, column: &DraftKey<'a>) -> Result<KeyColumn<'a>, AllocError>
+    ensures { IfOk result (λ k. k ≡ plain.key_column column.now) }
 {
-    KeyColumn {
-        name: column.name.again(),
-    }
+    Ok(KeyColumn {
+        name: column.name.again(alloc)?,
+    })
 }
 
 fn key_columns<'a>(alloc: Global, key: &[DraftKey<'a>]) -> Result<Items<KeyColumn<'a>>, AllocError>
@@ -120,8 +119,7 @@ fn key_columns<'a>(alloc: Global, key: &[DraftKey<'a>]) -> Result<Items<KeyColum
 {
     let mut made = Items::new(alloc);
     for column in key {
-        let column = key_column(column);
-        made.push(column)?;
+        made.push(key_column(alloc, column)?)?;
     }
     Ok(made)
 }

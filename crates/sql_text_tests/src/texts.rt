@@ -1,6 +1,7 @@
 //! Texts, and what each is answered.
 
 use crate::show;
+use sql_copies::copy_statement;
 use sql_text::{SqlError, Statement, parse};
 use std::alloc::{AllocError, Global};
 
@@ -16,8 +17,10 @@ enum Answered {
     NoMemory,
 }
 
-fn parsed<'a>(alloc: Global, text: &'a str) -> Result<Statement<'a>, SqlError> {
-    parse(alloc, text)
+// A copy of the statement, so that each line tells of what was read and of its copy.
+fn parsed(alloc: Global, text: &str) -> Result<Statement<'static>, SqlError> {
+    let statement = parse(alloc, text)?;
+    Ok(copy_statement(alloc, &statement)?)
 }
 
 fn shown(alloc: Global, statement: &Statement<'_>) -> Result<String, AllocError> {

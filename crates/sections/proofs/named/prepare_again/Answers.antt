@@ -9,6 +9,6 @@ unreachable-requires c = there c.args.preparation.name c.name.result.now c.args.
 
 pub returns : goal.returns
 returns c =
-    let change = λ (section : Section). record section { text = c.args.preparation.text; is_held = c.args.preparation.is_held } in
+    let change = λ (section : Section). record section { statement = c.args.preparation.statement; is_held = c.args.preparation.is_held } in
     changed_by c.name.result.now change c.args.sections.now.entries _ c.in-Some.section.now c.prepare_again.new.section c.in-Some.ensures.value c.prepare_again.ensures (c.get_mut.follows.holds c.prepare_again.new.section).0
     ∙ ap (λ (name : List ℕ). changed_at name change c.args.sections.now.entries) c.name.ensures
