@@ -1,5 +1,5 @@
 -- What each kind of part means, by what its parts mean.
-use Rattle.std.proofs.Common.{◌≡◌, List, sym, ap, ◌∙◌, map}
+use Rattle.std.proofs.Common.{◌≡◌, ◌≤◌, ◌<◌, List, [], ◌∷◌, length, slice_index_or, refl, sym, ap, ◌∙◌, map, arith}
 use Rattle.row_values.specs.Value.{Value}
 use Rattle.row_values.specs.Column.{Column}
 use Rattle.sql_text.specs.declared.tree.Predicate.{Predicate}
@@ -9,6 +9,7 @@ use Rattle.sql_text.specs.declared.tree.Predicate.TheVariants as predicate
 use Rattle.sql_text.specs.declared.tree.Predicate.TheVariants.{rolls-All, rolls-Any, rolls-Group, rolls-Not}
 use Rattle.sql_semantics.specs.Truth.{all_of, any_of, layer_truth, negated, truth}
 use Rattle.sql_semantics.specs.declared.truth.Truth.{Truth}
+use Rattle.sql_semantics.specs.declared.truth.Truth.TheVariants.{Fails, Holds, Unknown}
 use Rattle.sql_predicates.specs.declared.test.Test.{Test}
 use Rattle.sql_predicates.specs.declared.test.Test.TheOpen.{Test-F}
 use Rattle.sql_predicates.specs.declared.test.Test.TheFolds.{fold-Test, fold-roll-Test}
@@ -27,6 +28,21 @@ met_all values tests = ap (fold-Test Truth (layer_met values)) (sym (test_rolls-
 met_not : (values : List Value) (inner : Test) → met values (test.Not inner) ≡ negated (met values inner)
 unfolding met
 met_not values inner = ap (fold-Test Truth (layer_met values)) (sym (test_rolls-Not inner)) ∙ fold-roll-Test Truth (layer_met values) (Test-F.Not inner)
+
+one_part : (ps : List Predicate) (part : Predicate) → 1 ≤ length ps → length ps < 2 → part ≡ slice_index_or ps 0 part → ps ≡ part ∷ []
+one_part [] part some few first = absurd (omega arith)
+one_part (p ∷ []) part some few first = ap (λ (q : Predicate). q ∷ []) (sym first)
+one_part (p ∷ q ∷ ps) part some few first = absurd (omega arith)
+
+either_fails : (t : Truth) → any_of (t ∷ []) ≡ t
+either_fails Holds = refl
+either_fails Fails = refl
+either_fails Unknown = refl
+
+both_holds : (t : Truth) → all_of (t ∷ []) ≡ t
+both_holds Holds = refl
+both_holds Fails = refl
+both_holds Unknown = refl
 
 module _ (params : List Value) (cs : List Column) where
   truth_any : (values : List Value) (parts : List Predicate) → truth params cs values (predicate.Any parts) ≡ any_of (map (truth params cs values) parts)
@@ -54,6 +70,19 @@ module _ (params : List Value) (cs : List Column) where
       → (values : List Value) → met values (test.All tests) ≡ truth params cs values p
   all_means parts got p tests same is bound values =
       met_all values tests ∙ ap all_of (bound values) ∙ ap (λ (ps : List Predicate). all_of (map (truth params cs values) ps)) same ∙ sym (ap (λ (q : Predicate). truth params cs values q) is ∙ truth_all values parts)
+
+  -- one part alone
+  pub any_of_one : (parts got : List Predicate) (part p : Predicate) (inner : Test) → got ≡ parts → 1 ≤ length got → length got < 2 → part ≡ slice_index_or got 0 part
+      → p ≡ predicate.Any parts → ((values : List Value) → met values inner ≡ truth params cs values part) → (values : List Value) → met values inner ≡ truth params cs values p
+  any_of_one parts got part p inner same some few first is bound values =
+      let alone : parts ≡ part ∷ [] = sym same ∙ one_part got part some few first in
+      bound values ∙ sym (ap (λ (q : Predicate). truth params cs values q) is ∙ truth_any values parts ∙ ap (λ (ps : List Predicate). any_of (map (truth params cs values) ps)) alone ∙ either_fails (truth params cs values part))
+
+  pub all_of_one : (parts got : List Predicate) (part p : Predicate) (inner : Test) → got ≡ parts → 1 ≤ length got → length got < 2 → part ≡ slice_index_or got 0 part
+      → p ≡ predicate.All parts → ((values : List Value) → met values inner ≡ truth params cs values part) → (values : List Value) → met values inner ≡ truth params cs values p
+  all_of_one parts got part p inner same some few first is bound values =
+      let alone : parts ≡ part ∷ [] = sym same ∙ one_part got part some few first in
+      bound values ∙ sym (ap (λ (q : Predicate). truth params cs values q) is ∙ truth_all values parts ∙ ap (λ (ps : List Predicate). all_of (map (truth params cs values) ps)) alone ∙ both_holds (truth params cs values part))
 
   pub not_means : (part got p : Predicate) (inner boxed : Test) → got ≡ part → p ≡ predicate.Not part → boxed ≡ inner → ((values : List Value) → met values inner ≡ truth params cs values got)
       → (values : List Value) → met values (test.Not boxed) ≡ truth params cs values p

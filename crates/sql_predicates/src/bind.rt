@@ -39,7 +39,7 @@ fn comparison(
     Ok(Test::Compare(first, comparison, second))
 }
 
-/// A predicate with its names and literals resolved. It is refused for the first fault from left to
+/// A predicate with its names and literals resolved; of one part alone it is that part. It is refused for the first fault from left to
 /// right: a name that is no column, or terms of two classes.
 #[cycle(bind)]
 #[tactic(auto, unfolding(crate::specs::Test::met, sql_semantics::specs::Truth::truth, sql_semantics::specs::Classes::predicate_fault))]
@@ -54,11 +54,21 @@ pub(crate) fn bound<'a, 'b, 'v>(
 {
     match predicate {
         Predicate::Any(parts) => {
-            let tests = parts_bound(alloc, columns, params, parts.as_slice())?;
+            let parts = parts.as_slice();
+            if let [part] = parts {
+                let test = bound(alloc, columns, params, part)?;
+                return Ok(test);
+            }
+            let tests = parts_bound(alloc, columns, params, parts)?;
             Ok(Test::Any(tests))
         }
         Predicate::All(parts) => {
-            let tests = parts_bound(alloc, columns, params, parts.as_slice())?;
+            let parts = parts.as_slice();
+            if let [part] = parts {
+                let test = bound(alloc, columns, params, part)?;
+                return Ok(test);
+            }
+            let tests = parts_bound(alloc, columns, params, parts)?;
             Ok(Test::All(tests))
         }
         Predicate::Not(part) => {
