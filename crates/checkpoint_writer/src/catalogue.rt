@@ -1,6 +1,5 @@
 //! The catalogue of an image: where each of its tables lies.
-ghost use Rattle.std.specs.Prelude.{◌≡◌, ◌+◌, ◌*◌, ◌≤◌, ◌∷◌, ◌^◌, ℕ, List, true, IsTrue, OnOk, IfOk, length, map};
-ghost use Rattle.drda_disk.specs.Disk.{Stays};
+ghost use Rattle.std.specs.Prelude.{◌≡◌, ◌+◌, ◌*◌, ◌≤◌, ◌∷◌, ℕ, List, true, IsTrue, OnOk, length, map};
 ghost use Rattle.row_pages.specs.Keeping.{AreRead};
 ghost use Rattle.row_pages.specs.Laying.{IsShort, laid, pages_with};
 ghost use Rattle.row_values.specs.Schema.{is_name};

@@ -10,7 +10,7 @@ use Rattle.row_values.specs.Key.{key_cmp, row_key}
 use Rattle.row_values.proofs.ValueLaws.{first_true, second_true}
 use Rattle.row_values.proofs.RowColumns.{row_is}
 use Rattle.key_map.specs.Merging.{Rows}
-use Rattle.row_pages.specs.Laying.{IsShort, laid}
+use Rattle.row_pages.specs.Laying.{IsShort}
 use Rattle.tables.specs.Tables.{Table}
 use Rattle.tables.specs.View.{is_entry, is_table}
 use Rattle.table_map.specs.Keyed.{keyed_rows}
