@@ -10,6 +10,7 @@ use Rattle.row_values.specs.Schema.{Schema}
 use Rattle.row_values.specs.Row.{is_row, values_in}
 use Rattle.row_values.specs.declared.row.ReadError.{ReadError}
 use Rattle.row_values.specs.declared.row.ReadError.TheVariants.{Damaged, NoMemory}
+use Rattle.row_values.specs.Value.{Value}
 use Rattle.tables.specs.RowList.{RowList}
 use Rattle.sql_predicates.specs.Test.{passes}
 use Rattle.sql_predicates.specs.declared.filter.Filter.{Filter}
@@ -67,3 +68,10 @@ damage_told A B start at rows i row NoMemory same there bad = tt
 pub with_damage : (A B : Type 0) (start : Schema) (at : Schema) (rows : List (List ℕ)) (i : ℕ) (row : List ℕ) (e : ReadError) (result : Result B ReadError) → at ≡ start → slice_get rows i ≡ Some row
     → DamagedBy {A = A} at (row ∷ []) (Err e) → result ≡ Err e → DamagedBy start rows result
 with_damage A B start at rows i row e result same there bad is = subst (DamagedBy {A = B} start rows) (sym is) (damage_told A B start at rows i row e same there bad)
+
+-- where every row passes, none is left out
+pub all_pass : (f : Filter) (schema : Schema) (rows : List (List ℕ)) → ((values : List Value) → passes f values ≡ true) → filter (λ row. passes f (values_in schema row)) rows ≡ rows
+all_pass f schema [] every = refl
+all_pass f schema (row ∷ rows) every =
+    let others : List (List ℕ) = filter (λ r. passes f (values_in schema r)) rows in
+    ap (λ (b : Bool). if b then row ∷ others else others) (every (values_in schema row)) ∙ ap (λ (rs : List (List ℕ)). row ∷ rs) (all_pass f schema rows every)

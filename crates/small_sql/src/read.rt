@@ -81,17 +81,18 @@ fn counted_of_many(
     Ok(list)
 }
 
-// The rows that count.
+// The rows that count. All rows of a view that is trusted, where there is no WHERE, are handed on as they are.
+#[tactic(auto, using(crate::proofs::Counting::all_pass))]
 fn counted(
     list: RowList,
-    given: &Given,
+    given: Given,
     wanted: &Filter,
     is_trusted: bool,
 ) -> Result<RowList, ReadError>
     requires fresh { list.rows ≡ [] }
-    requires trusted { is_trusted ≡ true → list_all (is_row list.schema) (rows_given given.now) ≡ true }
-    ensures found { IfOk result (λ found. found ≡ record list { rows = filter (λ row. passes wanted.now (values_in list.schema row)) (rows_given given.now) }) }
-    ensures damaged { DamagedBy list.schema (rows_given given.now) result }
+    requires trusted { is_trusted ≡ true → list_all (is_row list.schema) (rows_given given) ≡ true }
+    ensures found { IfOk result (λ found. found ≡ record list { rows = filter (λ row. passes wanted.now (values_in list.schema row)) (rows_given given) }) }
+    ensures damaged { DamagedBy list.schema (rows_given given) result }
 {
     match given {
         Given::None => Ok(list),
@@ -100,7 +101,12 @@ fn counted(
             add_counted(&mut list, row.as_slice(), wanted, is_trusted)?;
             Ok(list)
         }
-        Given::Many(rows) => counted_of_many(list, rows, wanted, is_trusted),
+        Given::Many(rows) => {
+            if is_trusted && wanted.takes_all() {
+                return Ok(list.with_rows(rows));
+            }
+            counted_of_many(list, &rows, wanted, is_trusted)
+        }
     }
 }
 
@@ -151,7 +157,7 @@ pub(crate) fn rows_found<V: TableView>(
 {
     stores_hold_tables();
     let given = looked_up(alloc, view, table, scope)?;
-    match counted(list, &given, wanted, view.is_trusted()) {
+    match counted(list, given, wanted, view.is_trusted()) {
         Ok(found) => Ok(found),
         Err(ReadError::Damaged) => Err(view.damaged()),
         Err(ReadError::NoMemory) => Err(no_memory::<V>()),

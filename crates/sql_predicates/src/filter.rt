@@ -1,6 +1,6 @@
 //! Which rows of a table match.
 
-ghost use Rattle.std.specs.Prelude.{◌≡◌, IfOk, List, map};
+ghost use Rattle.std.specs.Prelude.{◌≡◌, IfOk, List, map, true};
 ghost use Rattle.std.specs.Option.{option_copied};
 ghost use Rattle.row_values.specs.Row.{values_in};
 ghost use Rattle.row_values.specs.RowView.{row_in, schema_in};
@@ -47,6 +47,13 @@ impl Filter {
                 Ok(Filter { test: Some(test) })
             }
         }
+    }
+
+    /// Whether there is no WHERE, so that every row matches.
+    pub fn takes_all(&self) -> bool
+        ensures { result ≡ true → (values : List SqlValue) → passes self.now values ≡ true }
+    {
+        self.test.is_none()
     }
 
     /// Whether a row matches: no WHERE, or one that is true of it. Takes no memory, compares no name,

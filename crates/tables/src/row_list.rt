@@ -2,6 +2,7 @@
 
 ghost use Rattle.std.specs.Prelude.{◌≡◌, ◌<◌, ◌∷◌, [], ◌++◌, OnErr, OnOk, ◌==◌, length, true};
 ghost use Rattle.row_values.specs.Row.{is_row};
+ghost use Rattle.std.specs.List.{list_all};
 ghost use Rattle.tables.specs.RowList.{is_list, is_selection};
 ghost use Rattle.tables.specs.Lent.{IsRowAt};
 ghost use Rattle.std.specs.Arc.{arc_value};
@@ -58,6 +59,23 @@ impl RowList {
     {
         self.rows.push(row)?;
         Ok(())
+    }
+
+    /// The list with these rows of its schema in place of its own. Takes no memory.
+    pub fn with_rows(self, rows: Rows) -> RowList
+        requires { list_all (is_row self.schema) rows ≡ true }
+        ensures { result ≡ record self { rows = rows } }
+    {
+        let RowList {
+            schema,
+            selected,
+            rows: _,
+        } = self;
+        RowList {
+            schema,
+            selected,
+            rows,
+        }
     }
 
     /// How many rows there are.
