@@ -1,5 +1,5 @@
 -- What is taken for all columns, one after another.
-use Rattle.std.proofs.Common.{◌≡◌, ◌≤◌, ◌<◌, ◌==◌, ℕ, zero, suc, ◌+◌, Bool, true, false, List, [], ◌∷◌, ◌++◌, Some, None, Ok, Err, length, drop, get_or, map, cond, nat_eq, if◌then◌else◌, arith, refl, sym, ap, ap₂, subst, ◌∙◌, append_assoc}
+use Rattle.std.proofs.Common.{◌≡◌, ◌<◌, ◌==◌, ℕ, zero, suc, ◌+◌, true, false, List, [], ◌∷◌, ◌++◌, Some, None, Ok, Err, length, drop, get_or, map, cond, if◌then◌else◌, arith, refl, sym, ap, ap₂, subst, ◌∙◌, append_assoc}
 use Rattle.std.specs.Prelude.{nat_lt, unwrap_or}
 use Rattle.std.specs.List.{position, position_or_len, slice_get}
 use Rattle.std.specs.Option.{option_and_then}
@@ -9,9 +9,7 @@ use Rattle.std.proofs.lemmas.Option.{unwrap_or-slice_get}
 use Rattle.row_values.specs.Value.{Value, null}
 use Rattle.row_values.specs.Schema.{Schema}
 use Rattle.sql_text.specs.declared.tree.Columns.TheVariants as columns
-use Rattle.core_calls.specs.declared.sql_fault.SqlFault.{SqlFault}
 use Rattle.core_calls.specs.declared.sql_fault.SqlFault.TheVariants as fault
-use Rattle.sql_semantics.specs.Checked.{Checked, unless}
 use Rattle.sql_semantics.specs.Values.{all_places}
 use Rattle.sql_semantics.specs.Insert.{given, given_row, row_values}
 
