@@ -12,14 +12,16 @@ ghost use Rattle.sql_semantics.specs.Insert as insert;
 ghost use Rattle.sql_semantics.specs.Keys.{key_of_values};
 ghost use Rattle.sql_semantics.specs.Meaning.{Changes, insert_answer, put_answer, within_room};
 ghost use Rattle.sql_semantics.specs.Values.{literal_value};
+ghost use Rattle.sql_text.specs.declared.tree.Columns.TheVariants as columns;
 ghost use Rattle.sql_predicates.specs.Constant.{constant_value};
 ghost use Rattle.core_calls.specs.StatementError.{fault_of};
 ghost use Rattle.sql_changes.specs.Given.{values_given};
 
-use crate::place::{all_places, given_places, place_of};
-use crate::row::{borrowed, first_misfit, new_row};
+use crate::place::{new_places, place_of};
+use crate::row::{borrowed, encoded, judge};
 use core_calls::{SqlFault, StatementError};
 use row_values::{Column, Schema, Value, are_key, encode_key};
+use sql_lex::Part;
 use sql_predicates::Constant;
 use sql_text::{Columns, Literal};
 use std::alloc::{AllocError, Global};
@@ -35,7 +37,6 @@ impl GivenRow {
     /// The row of these values for these columns, NULL in each other one. The columns are judged
     /// from left to right: one that the table has not is unknown, one that stands twice is a syntax
     /// error; and so is another number of values than of columns.
-    #[tactic(auto, unfolding(sql_semantics::specs::Insert::given_row))]
     pub fn bind(
         alloc: Global,
         schema: &Schema,
@@ -45,25 +46,27 @@ impl GivenRow {
     ) -> Result<GivenRow, StatementError>
         ensures { Answers values_given fault_of result (insert.given_row schema.now columns.now (map (literal_value (map value_of params.now)) values.now)) }
     {
-        let places = given_places(alloc, schema.columns(), columns)?;
-        if places.len() != values.len() {
-            return Err(StatementError::Fault(SqlFault::Syntax));
-        }
-        let values = row_values(alloc, schema.columns(), places.as_slice(), values, params)?;
+        let values = match columns {
+            Columns::All => in_order(alloc, schema, values, params)?,
+            Columns::Named(names) => by_names(alloc, schema, names.as_slice(), values, params)?,
+        };
         Ok(GivenRow { values })
     }
 
     /// The key of the row, at most 8,012 bytes, where the values of its columns fit them.
-    #[tactic(auto, unfolding(sql_semantics::specs::Keys::key_of_values))]
     pub fn key(&self, alloc: Global, schema: &Schema) -> Result<Option<Vec<u8>>, AllocError>
         ensures key { IfOk result (λ key. option_map (λ k. k.items) key ≡ key_of_values schema.now (picked (values_given self.now) schema.now.key)) }
         ensures short { IfOk result (λ key. IfSome key (λ k. length k.items ≤ 8012)) }
     {
-        let values = picked(alloc, self.values.as_slice(), schema.key())?;
-        if !are_key(schema, values.as_slice()) {
-            return Ok(None);
+        let constants = self.values.as_slice();
+        if let [place] = schema.key() {
+            return match value_at(constants, *place) {
+                Some(value) => key_of_values(alloc, schema, &[value]),
+                None => key_of_values(alloc, schema, &[]),
+            };
         }
-        Ok(Some(encode_key(alloc, schema, values.as_slice())?))
+        let values = picked(alloc, constants, schema.key())?;
+        key_of_values(alloc, schema, values.as_slice())
     }
 
     /// The change that puts the row into the table of this name, which is in capitals, where no row
@@ -93,11 +96,9 @@ impl GivenRow {
         ensures exact { Answers (λ row. row.items) fault_of result (if_none (insert.first_misfit schema.now.columns (values_given self.now)) (insert.new_row schema.now (values_given self.now))) }
         ensures short { IfOk result (λ row. length row.items ≤ 4000) }
     {
+        judge(schema.columns(), self.values.as_slice())?;
         let values = borrowed(alloc, self.values.as_slice())?;
-        if let Some(fault) = first_misfit(schema.columns(), values.as_slice()) {
-            return Err(StatementError::Fault(fault));
-        }
-        new_row(alloc, schema, values.as_slice())
+        encoded(alloc, schema, values.as_slice())
     }
 }
 
@@ -130,8 +131,49 @@ pub fn insert(
     row.put(alloc, table, schema, is_free, left)
 }
 
+// A value for each column, in their order. No list of places is made of it.
+#[tactic(auto, unfolding(sql_semantics::specs::Insert::given_row))]
+fn in_order(
+    alloc: Global,
+    schema: &Schema,
+    literals: &[Literal<'_>],
+    params: &[Value<'_>],
+) -> Result<Vec<Constant>, StatementError>
+    ensures { Answers (λ row. map constant_value row.items) fault_of result (insert.given_row schema.now columns.All (map (literal_value (map value_of params.now)) literals.now)) }
+{
+    if schema.columns().len() != literals.len() {
+        return Err(StatementError::Fault(SqlFault::Syntax));
+    }
+    let mut row = Vec::with_capacity(alloc, literals.len())?;
+    let mut left = literals;
+    'literals: while let [literal, rest @ ..] = left {
+        row.push(Constant::of_literal(alloc, literal, params)?)?;
+        left = rest;
+    }
+    Ok(row)
+}
+
+// The values that are given for these names, NULL in each other column.
+#[tactic(auto, unfolding(sql_semantics::specs::Insert::given_row))]
+fn by_names(
+    alloc: Global,
+    schema: &Schema,
+    names: &[Part<'_>],
+    literals: &[Literal<'_>],
+    params: &[Value<'_>],
+) -> Result<Vec<Constant>, StatementError>
+    ensures { Answers (λ row. map constant_value row.items) fault_of result (insert.given_row schema.now (columns.Named names.now) (map (literal_value (map value_of params.now)) literals.now)) }
+{
+    let places = new_places(alloc, schema.columns(), names)?;
+    if places.len() != literals.len() {
+        return Err(StatementError::Fault(SqlFault::Syntax));
+    }
+    let row = given_values(alloc, schema.columns(), places.as_slice(), literals, params)?;
+    Ok(row)
+}
+
 // A value for each column.
-fn row_values(
+fn given_values(
     alloc: Global,
     columns: &[Column],
     places: &[usize],
@@ -140,25 +182,9 @@ fn row_values(
 ) -> Result<Vec<Constant>, AllocError>
     ensures { IfOk result (λ row. map constant_value row.items ≡ insert.row_values (map column_of columns.now) (map (literal_value (map value_of params.now)) literals.now) places.now) }
 {
-    let all = all_places(alloc, columns)?;
-    given_values(alloc, all.as_slice(), places, literals, params)
-}
-
-// The values that are given for these columns.
-fn given_values(
-    alloc: Global,
-    columns: &[usize],
-    places: &[usize],
-    literals: &[Literal<'_>],
-    params: &[Value<'_>],
-) -> Result<Vec<Constant>, AllocError>
-    ensures { IfOk result (λ row. map constant_value row.items ≡ map (insert.given places.now (map (literal_value (map value_of params.now)) literals.now)) columns.now) }
-{
     let mut row = Vec::with_capacity(alloc, columns.len())?;
-    let mut left = columns;
-    'columns: while let [column, rest @ ..] = left {
-        row.push(given(alloc, places, literals, params, *column)?)?;
-        left = rest;
+    for column in 0..columns.len() {
+        row.push(given(alloc, places, literals, params, column)?)?;
     }
     Ok(row)
 }
@@ -180,6 +206,22 @@ fn given(
         Some(literal) => Constant::of_literal(alloc, literal, params),
         None => Ok(Constant::Null),
     }
+}
+
+// The key of these values, where each fits its column.
+#[tactic(auto, unfolding(sql_semantics::specs::Keys::key_of_values))]
+fn key_of_values(
+    alloc: Global,
+    schema: &Schema,
+    values: &[Value<'_>],
+) -> Result<Option<Vec<u8>>, AllocError>
+    ensures key { IfOk result (λ key. option_map (λ k. k.items) key ≡ key_of_values schema.now (map value_of values.now)) }
+    ensures short { IfOk result (λ key. IfSome key (λ k. length k.items ≤ 8012)) }
+{
+    if !are_key(schema, values) {
+        return Ok(None);
+    }
+    Ok(Some(encode_key(alloc, schema, values)?))
 }
 
 // The values of the columns at these places.

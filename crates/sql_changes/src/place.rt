@@ -1,10 +1,9 @@
 //! The columns that an INSERT gives.
 
-ghost use Rattle.std.specs.Prelude.{◌≡◌, ◌==◌, [], IfOk, map, nat_eq};
+ghost use Rattle.std.specs.Prelude.{◌≡◌, ◌==◌, [], map, nat_eq};
 ghost use Rattle.std.specs.List.{list_any, position};
 ghost use Rattle.drda_words.specs.Excuse.{Answers};
 ghost use Rattle.row_values.specs.Column.{column_of};
-ghost use Rattle.sql_semantics.specs.Values as values;
 ghost use Rattle.sql_semantics.specs.Insert as insert;
 ghost use Rattle.core_calls.specs.StatementError.{fault_of};
 
@@ -12,36 +11,10 @@ use core_calls::{SqlFault, StatementError};
 use row_values::Column;
 use sql_lex::Part;
 use sql_predicates::column_place;
-use sql_text::Columns;
-use std::alloc::{AllocError, Global};
+use std::alloc::Global;
 
-/// The places of the columns that are given, from left to right.
-pub(crate) fn given_places(
-    alloc: Global,
-    columns: &[Column],
-    named: &Columns<'_>,
-) -> Result<Vec<usize>, StatementError>
-    ensures { Answers (λ places. places.items) fault_of result (insert.given_places (map column_of columns.now) named.now) }
-{
-    match named {
-        Columns::All => Ok(all_places(alloc, columns)?),
-        Columns::Named(names) => new_places(alloc, columns, names.as_slice()),
-    }
-}
-
-/// The places of all columns.
-pub(crate) fn all_places(alloc: Global, columns: &[Column]) -> Result<Vec<usize>, AllocError>
-    ensures { IfOk result (λ places. places.items ≡ values.all_places 0 (map column_of columns.now)) }
-{
-    let mut places = Vec::with_capacity(alloc, columns.len())?;
-    for i in 0..columns.len() {
-        places.push(i)?;
-    }
-    Ok(places)
-}
-
-// The places of these names: each is a column's, and none stands twice.
-fn new_places(
+/// The places of these names: each is a column's, and none stands twice.
+pub(crate) fn new_places(
     alloc: Global,
     columns: &[Column],
     names: &[Part<'_>],
