@@ -66,16 +66,9 @@ impl RowList {
         requires { list_all (is_row self.schema) rows ≡ true }
         ensures { result ≡ record self { rows = rows } }
     {
-        let RowList {
-            schema,
-            selected,
-            rows: _,
-        } = self;
-        RowList {
-            schema,
-            selected,
-            rows,
-        }
+        let mut list = self;
+        list.rows = rows;
+        list
     }
 
     /// How many rows there are.
