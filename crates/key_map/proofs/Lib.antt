@@ -10,3 +10,4 @@ pub mod Values
 pub mod Joined
 pub mod Picked
 pub mod RowForms
+pub mod KeyBytes

@@ -73,6 +73,11 @@ module _ {K X : Type 0} where
     insert_here [] q w = rw ((eq_by_cmp_equiv o).refl q) refl
     insert_here (e ∷ es) q w = insert_here_step (R q e.0) q e.0 e.1 w es (insert_entry R es q w) refl ((eq_by_cmp_equiv o).refl q) (insert_here es q w)
 
+-- what is above a key is above those below it
+below_too : {K : Type 0} {R : K → K → Ordering} → IsTotalOrder R → (q k : K) (ks : List K) → R q k ≡ Less → AllByRecursion (λ y. R k y ≡ Less) ks → AllByRecursion (λ y. R q y ≡ Less) ks
+below_too o q k [] first h = tt
+below_too o q k (y ∷ ks) first h = (o.trans q k y first h.0, below_too o q k ks first h.1)
+
 -- ---- what the rows are
 
 module _ {K X : Type 0} {R : K → K → Ordering} (o : IsTotalOrder R) where
@@ -168,6 +173,20 @@ module _ {K X : Type 0} {R : K → K → Ordering} (o : IsTotalOrder R) where
         put_step (R q s.0) q s.0 x s.1 ss (set_value (is_at (R q)) ss (Some x)) refl (not_there q s ss up room)
         (λ _. put_front s.0 x ss (sorted_head R s.0 (keys_of ss) up))
         (λ above. put_row q x ss (sorted_tail R s.0 (keys_of ss) up) (there_step (R q s.0) s.1 (lookup (is_at (R q)) ss) room above))
+
+    place_step : (r : Ordering) (q k : K) (x : X) (v : Option X) (ss ts : List (K × Option X)) → R q k ≡ r → (r ≡ Less → insert_entry R (rows_of ss) q x ≡ (q, x) ∷ rows_of ss) → (r ≡ Equal → insert_entry R (rows_of ss) k x ≡ (k, x) ∷ rows_of ss) → (r ≡ Greater → rows_of ts ≡ insert_entry R (rows_of ss) q x)
+        → rows_of (match_ordering r ((q, Some x) ∷ (k, v) ∷ ss) ((k, Some x) ∷ ss) ((k, v) ∷ ts)) ≡ insert_entry R (with_row k v (rows_of ss)) q x
+    place_step Less q k x v ss ts is below front f = sym (front_step q k x v (rows_of ss) is (below refl))
+    place_step Equal q k x v ss ts is below front f = put_step Equal q k x v ss ts is (λ h. absurd cc) front (λ h. absurd cc)
+    place_step Greater q k x v ss ts is below front f = put_step Greater q k x v ss ts is (λ h. absurd cc) (λ h. absurd cc) f
+
+    -- a slot with a row, in place of its key's own or new, brings the row to its place
+    pub place_row : (q : K) (x : X) (ss : List (K × Option X)) → IsStrictlySortedBy R (keys_of ss) → rows_of (insert_entry R ss q (Some x)) ≡ insert_entry R (rows_of ss) q x
+    place_row q x [] up = refl
+    place_row q x (s ∷ ss) up =
+        let head = sorted_head R s.0 (keys_of ss) up in
+        place_step (R q s.0) q s.0 x s.1 ss (insert_entry R ss q (Some x)) refl (λ below. put_front q x ss (below_too o q s.0 (keys_of ss) below head)) (λ _. put_front s.0 x ss head)
+        (λ above. place_row q x ss (sorted_tail R s.0 (keys_of ss) up))
 
   drop_step : (b : Bool) (k : K) (v : Option X) (ss ts : List (K × Option X)) (more : Option (Option X)) → cond b (Some v) more ≡ Some None → (more ≡ Some None → rows_of ts ≡ rows_of ss) → rows_of (cond b ss ((k, v) ∷ ts)) ≡ with_row k v (rows_of ss)
   drop_step true k None ss ts more h f = refl

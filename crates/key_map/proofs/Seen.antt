@@ -10,7 +10,7 @@ use Rattle.std.specs.List.Sorted.{IsStrictlySortedBy}
 use Rattle.std.specs.Map.{remove_entry}
 use Rattle.std.proofs.lemmas.Cmp.{nat_list_cmp_total}
 use Rattle.std.proofs.lemmas.Map.Lookups.{exact_bytes}
-use Rattle.key_map.proofs.RowLaws.{rows_rise, row_in, get_row, put_row, remove_row, kept_row, drop_row, drop_room, set_room, insert_room, insert_here}
+use Rattle.key_map.proofs.RowLaws.{rows_rise, row_in, get_row, place_row, put_row, remove_row, kept_row, drop_row, drop_room, set_room, insert_room, insert_here}
 use Rattle.key_map.specs.Slots.{HasRoom, is_blank, rows_of, with_row, Slots, by_bytes, by_key, slots_in, finds}
 
 abbrev pub Entry : Type 0
@@ -132,6 +132,16 @@ module _ (es : List Entry) (s : Slots) (seen : slots_in es ≡ s) (up : IsStrict
 
     pub other_room : (p : List ℕ) → HasRoom p s → HasRoom p (slots_in fs)
     other_room p h = subst (λ (t : Slots). HasRoom p t) (sym added) (insert_room nat_list_cmp_total (by_key p) s q (row_in (lookup (by_key q) s)) h)
+
+  module _ (k r : Vec ℕ) (fs : List Entry) (is : fs ≡ insert_entry cmp es k (Some r)) where
+    placed : slots_in fs ≡ insert_entry by_bytes s k.items (Some r.items)
+    placed = ap slots_in is ∙ insert_seen es k (Some r) ∙ ap (λ (t : Slots). insert_entry by_bytes t k.items (Some r.items)) seen
+
+    pub placed_rows : rows_of (slots_in fs) ≡ insert_entry by_bytes (rows_of s) k.items r.items
+    placed_rows = ap rows_of placed ∙ place_row nat_list_cmp_total exact_bytes k.items r.items s rising
+
+    pub placed_room : (p : List ℕ) → HasRoom p s → HasRoom p (slots_in fs)
+    placed_room p h = subst (λ (t : Slots). HasRoom p t) (sym placed) (insert_room nat_list_cmp_total (by_key p) s k.items (Some r.items) h)
 
   module _ (q : List ℕ) (fs : List Entry) (is : fs ≡ remove_entry (finds q) es) where
     dropped : slots_in fs ≡ remove_entry (by_key q) s

@@ -1,6 +1,6 @@
 //! The changes of a table since its pages were written.
 
-ghost use Rattle.std.specs.Prelude.{◌≡◌, ◌<◌, ℕ, List, [], Some, None, OnOk, false, length, map, option_map};
+ghost use Rattle.std.specs.Prelude.{◌≡◌, ◌<◌, ℕ, List, [], Some, None, OnErr, OnOk, false, length, map, option_map};
 ghost use Rattle.std.specs.BTreeMap.{insert_entry};
 ghost use Rattle.key_map.specs.Slots.{HasRoom, by_bytes, by_key};
 ghost use Rattle.key_map.specs.Walk.{rows_left};
@@ -39,8 +39,8 @@ impl Overlay {
         }
     }
 
-    /// Makes room for a change of this key: the one call here that takes memory. Whether or not it
-    /// finds that, all changes and all room stay.
+    /// Makes room for a change of this key, so that what is said of the key later takes no memory.
+    /// Whether or not it finds that, all changes and all room stay.
     pub fn reserve(&mut self, alloc: Global, key: &[u8]) -> Result<(), AllocError>
         ensures changes { changes_of self.new ≡ changes_of self.old }
         ensures room { OnOk result (HasRoom key.now self.new) }
@@ -68,6 +68,31 @@ impl Overlay {
         ensures room { (q : List ℕ) → HasRoom q self.old → HasRoom q self.new }
     {
         self.entries.put_reserved(key, Vec::new(alloc));
+    }
+
+    /// Puts a row, of one byte at least, at a key, by one search. Only a key without room takes memory;
+    /// where that is refused, the changes stay. All room stays.
+    pub fn put(&mut self, key: Vec<u8>, row: Vec<u8>) -> Result<(), AllocError>
+        requires { 0 < length row.items }
+        ensures changes { OnOk result (changes_of self.new ≡ insert_entry by_bytes (changes_of self.old) key.items (Some row.items)) }
+        ensures rows { OnOk result ((rows : Rows) → InOrder rows → merged rows (changes_of self.new) ≡ changed (merged rows (changes_of self.old)) key.items (Some row.items)) }
+        ensures kept { OnErr result (changes_of self.new ≡ changes_of self.old) }
+        ensures room { (q : List ℕ) → HasRoom q self.old → HasRoom q self.new }
+    {
+        self.entries.put(key, row)?;
+        Ok(())
+    }
+
+    /// Marks the row of a key as taken out, by one search. Only a key without room takes memory; where
+    /// that is refused, the changes stay. All room stays.
+    pub fn remove(&mut self, alloc: Global, key: Vec<u8>) -> Result<(), AllocError>
+        ensures changes { OnOk result (changes_of self.new ≡ insert_entry by_bytes (changes_of self.old) key.items None) }
+        ensures rows { OnOk result ((rows : Rows) → InOrder rows → merged rows (changes_of self.new) ≡ changed (merged rows (changes_of self.old)) key.items None) }
+        ensures kept { OnErr result (changes_of self.new ≡ changes_of self.old) }
+        ensures room { (q : List ℕ) → HasRoom q self.old → HasRoom q self.new }
+    {
+        self.entries.put(key, Vec::new(alloc))?;
+        Ok(())
     }
 
     /// Gives up the room of a key of which there is no change. A change that is there stays: a row that

@@ -1,13 +1,13 @@
 //! Rows by their keys.
 
-ghost use Rattle.std.specs.Prelude.{◌≡◌, ℕ, List, [], None, OnOk, false, filter, option_map};
+ghost use Rattle.std.specs.Prelude.{◌≡◌, ℕ, List, [], None, OnErr, OnOk, false, filter, option_map};
 ghost use Rattle.std.specs.List.Sorted.{IsStrictlySortedBy};
 ghost use Rattle.std.specs.Map.{keys_of, lookup, remove_entry};
 ghost use Rattle.std.specs.BTreeMap.{insert_entry};
 ghost use Rattle.key_map.specs.Slots.{Slots, HasRoom, by_bytes, by_key, has_room, IsInOrder, rows_of, slots_in};
 ghost use Rattle.key_map.specs.Walk.{from_key, rows_left};
 
-use crate::slots::{drop_slot, is_blank, make_slot, write_slot};
+use crate::slots::{drop_slot, is_blank, make_slot, put_slot, write_slot};
 use crate::walk::Rows;
 use std::alloc::{AllocError, Global};
 use std::collections::BTreeMap;
@@ -61,8 +61,8 @@ impl OrderedRows {
         self.slots.contains_key(key)
     }
 
-    /// Makes room for a row of this key: the one call here that takes memory. Whether or not it
-    /// finds that, all rows and all room stay.
+    /// Makes room for a row of this key, so that what is done to the key later takes no memory.
+    /// Whether or not it finds that, all rows and all room stay.
     pub fn reserve(&mut self, alloc: Global, key: &[u8]) -> Result<(), AllocError>
         ensures rows { rows_of self.new ≡ rows_of self.old }
         ensures room { OnOk result (HasRoom key.now self.new) }
@@ -80,6 +80,17 @@ impl OrderedRows {
         ensures room { (q : List ℕ) → HasRoom q self.old → HasRoom q self.new }
     {
         write_slot(&mut self.slots, key, Some(row));
+    }
+
+    /// Puts a row at a key, in place of the one that is there, by one search. Only a key without
+    /// room takes memory; where that is refused, the rows stay. All room stays.
+    pub fn put(&mut self, key: Vec<u8>, row: Vec<u8>) -> Result<(), AllocError>
+        ensures rows { OnOk result (rows_of self.new ≡ insert_entry by_bytes (rows_of self.old) key.items row.items) }
+        ensures kept { OnErr result (rows_of self.new ≡ rows_of self.old) }
+        ensures room { (q : List ℕ) → HasRoom q self.old → HasRoom q self.new }
+    {
+        put_slot(&mut self.slots, key, row)?;
+        Ok(())
     }
 
     /// Takes the row of a key out, where there is one. The key keeps its room.

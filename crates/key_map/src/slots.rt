@@ -1,6 +1,6 @@
 //! What is done to one slot of the tree.
 
-ghost use Rattle.std.specs.Prelude.{◌≡◌, None, OnErr, OnOk, unwrap_or};
+ghost use Rattle.std.specs.Prelude.{◌≡◌, None, OnErr, OnOk, Some, unwrap_or};
 ghost use Rattle.std.specs.BTreeMap.{insert_entry};
 ghost use Rattle.std.specs.Map.{lookup, remove_entry, set_value};
 ghost use Rattle.key_map.specs.Slots.{by_bytes, finds, is_blank, IsInOrder};
@@ -18,6 +18,20 @@ pub(crate) fn make_slot(
     ensures ordered { IsInOrder slots.new }
 {
     let _slot = slots.entry(key)?.or_insert(None);
+    Ok(())
+}
+
+/// Puts a row into a key's slot, or into a new one where the key has none, by one search.
+pub(crate) fn put_slot(
+    slots: &mut BTreeMap<Vec<u8>, Option<Vec<u8>>>,
+    key: Vec<u8>,
+    row: Vec<u8>,
+) -> Result<(), AllocError>
+    ensures entries { OnOk result (slots.new.entries ≡ insert_entry (λ x y. by_bytes x.items y.items) slots.old.entries key (Some row)) }
+    ensures kept { OnErr result (slots.new.entries ≡ slots.old.entries) }
+    ensures ordered { IsInOrder slots.new }
+{
+    slots.insert(key, Some(row))?;
     Ok(())
 }
 

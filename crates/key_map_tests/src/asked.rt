@@ -73,6 +73,15 @@ fn change(alloc: Global, overlay: &mut Overlay, key: &[u8], row: Vec<u8>) -> Opt
     Some(())
 }
 
+// Says the same of a key in one search, without room made for it before.
+fn say_change(alloc: Global, overlay: &mut Overlay, key: Vec<u8>, row: Vec<u8>) -> Option<()> {
+    if row.is_empty() {
+        overlay.remove(alloc, key).ok()
+    } else {
+        overlay.put(key, row).ok()
+    }
+}
+
 impl Asked {
     /// No schema, no row and no change.
     pub fn new(alloc: Global) -> Asked {
@@ -119,7 +128,7 @@ impl Asked {
             [verb, key, row] => {
                 let key = bytes_of(self.alloc, &[*key]).ok()?;
                 let row = bytes_of(self.alloc, &[*row]).ok()?;
-                self.answer_of_row(verb, &key, row)
+                self.answer_of_row(verb, key, row)
             }
             _ => None,
         }
@@ -159,15 +168,17 @@ impl Asked {
         }
     }
 
-    // `change` puts a row to the overlay, or takes it out where it has no bytes; `found` shows the row of a key where the pages have
-    // this row of it.
-    fn answer_of_row(&mut self, verb: &str, key: &[u8], row: Vec<u8>) -> Option<()> {
+    // `change` puts a row to the overlay, or takes it out where it has no bytes; `place` and `say` do what `put` and `change` do,
+    // without room made before; `found` shows the row of a key where the pages have this row of it.
+    fn answer_of_row(&mut self, verb: &str, key: Vec<u8>, row: Vec<u8>) -> Option<()> {
         match verb {
-            "put" => put(self.alloc, &mut self.rows, key, row),
-            "change" => change(self.alloc, &mut self.overlay, key, row),
+            "put" => put(self.alloc, &mut self.rows, &key, row),
+            "place" => self.rows.put(key, row).ok(),
+            "change" => change(self.alloc, &mut self.overlay, &key, row),
+            "say" => say_change(self.alloc, &mut self.overlay, key, row),
             "found" => {
                 let base: Option<&[u8]> = if row.is_empty() { None } else { Some(&row) };
-                tell_row(self.alloc, self.overlay.get(key, base), &mut self.written)
+                tell_row(self.alloc, self.overlay.get(&key, base), &mut self.written)
             }
             _ => None,
         }

@@ -57,13 +57,6 @@ created_shown schema false rows none = ap (λ l. Some (record { schema = schema;
 pub row_there : (s t : Stored) (row form : List ℕ) → s ≡ t → s.is_created ≡ true → (t.is_created ≡ true → IsRowAt t.schema row form) → IsRowAt s.schema row form
 row_there s t row form same here one = subst (λ (u : Stored). IsRowAt u.schema row form) (sym same) (one (sym (ap (λ (u : Stored). u.is_created) same) ∙ here))
 
--- the form of a row's key
-pub row_formed : (schema s : Schema) (row r key lent form : List ℕ) → s ≡ schema → r ≡ row → true ≡ is_row schema row → key ≡ row_key s r → lent ≡ key → IsFormOf schema lent form → IsRowAt schema row form
-row_formed schema s row r key lent form one two good is seen made = record {
-  good = sym good;
-  key = subst (λ (k : List ℕ). IsFormOf schema k form) (seen ∙ is ∙ ap (λ (t : Schema). row_key t r) one ∙ ap (row_key schema) two) made;
-}
-
 same_row : (row : List ℕ) (t : Table) (b : Bool) → b ≡ false → t ≡ (if b then record { schema = t.schema; rows = insert_entry (key_cmp t.schema) t.rows (row_key t.schema row) row } else t)
 same_row row t true h = absurd cc
 same_row row t false h = refl

@@ -19,8 +19,9 @@ ghost use Rattle.paged_tables.specs.Stored.{AreRowsOf, FormsKey, FormsRow, HasRo
 
 use drda_disk::Disk;
 use key_map::laws::rows_have_their_forms;
-use key_map::sort_form;
+use key_map::{row_form, sort_form};
 use row_pages::{PageCache, PageFault};
+use row_values::laws::rows_have_values_and_keys;
 use row_values::{RowRef, Schema, is_key};
 use std::alloc::{AllocError, Global};
 use std::marker::Model;
@@ -323,11 +324,13 @@ fn form_of_key(alloc: Global, schema: &Schema, key: &[u8]) -> Result<Option<Vec<
 fn form_of_row(alloc: Global, schema: &Schema, row: &[u8]) -> Result<Option<Vec<u8>>, AllocError>
     ensures { IfOk result (λ form. FormsRow schema.now row.now (form_in form)) }
 {
-    let key = match RowRef::parse(schema, row) {
-        Ok(parsed) => parsed.key(alloc)?,
-        Err(_) => return Ok(None),
+    let _columns = schema.columns();
+    rows_have_their_forms();
+    rows_have_values_and_keys();
+    let Ok(_parsed) = RowRef::parse(schema, row) else {
+        return Ok(None);
     };
-    Ok(Some(form_of_good(alloc, schema, key.as_slice())?))
+    Ok(Some(row_form(alloc, schema, row)?))
 }
 
 // The form of a key of the schema.

@@ -9,7 +9,9 @@ ghost use Rattle.unit_changes.specs.KeyChanges.{said_in, step_of};
 ghost use Rattle.unit_changes.specs.UnitTable.{SaysKeys, said_by};
 
 use crate::bytes::see_bytes;
-use key_map::sort_form;
+use key_map::laws::rows_have_their_forms;
+use key_map::{row_form, sort_form};
+use row_values::laws::rows_have_values_and_keys;
 use row_values::{RowRef, Schema, is_key};
 use std::alloc::{AllocError, Global};
 use tables::{Action, Change};
@@ -44,8 +46,8 @@ pub(crate) fn key_changes(
     Ok(steps)
 }
 
-// What the change says of a key, if it says anything.
-fn key_change(
+/// What the change says of a key, if it says anything.
+pub(crate) fn key_change(
     alloc: Global,
     schema: &Schema,
     change: &Change,
@@ -70,12 +72,12 @@ fn put_of(
     ensures bytes { OnOk result (SaysKeys schema.now (put_change table.now row.now)) }
 {
     let _columns = schema.columns();
-    let Ok(parsed) = RowRef::parse(schema, row) else {
+    rows_have_their_forms();
+    rows_have_values_and_keys();
+    let Ok(_parsed) = RowRef::parse(schema, row) else {
         return Ok(None);
     };
-    let key = parsed.key(alloc)?;
-    see_bytes(key.as_slice());
-    let form = sort_form(alloc, schema, key.as_slice())?;
+    let form = row_form(alloc, schema, row)?;
     let row = Vec::from_slice(alloc, row)?;
     Ok(Some(KeyChange { form, row }))
 }

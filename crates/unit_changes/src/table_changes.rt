@@ -11,13 +11,13 @@ ghost use Rattle.key_map.specs.Merging.{InOrder, Rows as KeyedRows, changed, mer
 ghost use Rattle.key_map.specs.Overlay.{changes_of, said};
 ghost use Rattle.tables.specs.ChangeView.{change_of};
 ghost use Rattle.unit_changes.specs.KeyChanges.{HaveRoom, step_of};
-ghost use Rattle.unit_changes.specs.UnitTable.{IsKey, all_changed};
+ghost use Rattle.unit_changes.specs.UnitTable.{IsKey, SaysKeys, all_changed, said_by};
 ghost use Rattle.unit_changes.specs.TableChanges.{Records, table_of};
 ghost use Rattle.unit_changes.specs.TableRows.{HaveRowKeys, by_forms, in_turn};
 ghost use Rattle.std.specs.Map.{values_of};
 
 use crate::bytes::see_bytes;
-use crate::key_change::{KeyChange, key_changes};
+use crate::key_change::{KeyChange, key_change, key_changes};
 use crate::table_rows::{formed_rows, merged_rows};
 use key_map::{Overlay, sort_form};
 use row_values::Schema;
@@ -43,11 +43,15 @@ impl TableChanges {
         ensures recorded { OnOk result (Records (map change_of changes.now) (table_of self.old) (table_of self.new)) }
         ensures kept { OnErr result (table_of self.new ≡ table_of self.old) }
     {
+        if let [change] = changes {
+            return record_one(&mut self.rows, alloc, &self.schema, change);
+        }
         let steps = key_changes(alloc, &self.schema, changes)?;
         reserve_all(&mut self.rows, alloc, steps.as_slice())?;
         make_all(&mut self.rows, alloc, steps);
         Ok(())
     }
+
     /// The row of a key of the table's schema, where `below` is the one that was there before: what is
     /// recorded of the key wins.
     pub fn row_over(
@@ -83,6 +87,28 @@ impl TableChanges {
         let formed = formed_rows(alloc, &self.schema, below)?;
         merged_rows(alloc, formed.as_slice(), &self.rows)
     }
+}
+
+// Adds what one change says of a key, by one search of the rows. Out of memory, nothing is added.
+fn record_one(
+    rows: &mut Overlay,
+    alloc: Global,
+    schema: &Schema,
+    change: &Change,
+) -> Result<(), AllocError>
+    ensures said { OnOk result ((base : KeyedRows) → InOrder base → merged base (changes_of rows.new) ≡ all_changed (merged base (changes_of rows.old)) (said_by schema.now (change_of change.now))) }
+    ensures bytes { OnOk result (SaysKeys schema.now (change_of change.now)) }
+    ensures kept { OnErr result (changes_of rows.new ≡ changes_of rows.old) }
+{
+    let Some(KeyChange { form, row }) = key_change(alloc, schema, change)? else {
+        return Ok(());
+    };
+    if row.is_empty() {
+        rows.remove(alloc, form)?;
+    } else {
+        rows.put(form, row)?;
+    }
+    Ok(())
 }
 
 // Makes room for all steps. Whether or not it finds that, nothing has changed.

@@ -1,8 +1,9 @@
 -- The form is that of the row's key.
-use Rattle.paged_tables.proofs.Shown.{row_formed}
+use Rattle.std.proofs.Common.{sym}
+use Rattle.paged_tables.proofs.KeyBytes.{row_formed}
 use Rattle.paged_tables.proofs.stored_table.form_of_row.Goals as goal
 
 pub returns : goal.returns
 returns c =
-    row_formed c.args.schema.now c.in-Ok.parsed.schema.now c.args.row.now c.in-Ok.parsed.bytes.now c.in_ok-key-in-Ok.key.items c.as_slice.result.now c.in_ok-form_of_good.field-0.items
-    c.in-Ok.ensures.parsed.0 c.in-Ok.ensures.parsed.1 c.in-Ok.ensures.only c.in_ok-key-in-Ok.ensures.key c.as_slice.ensures.value c.in_ok-form_of_good.ensures
+    row_formed c.rows_have_values_and_keys.ensures.values c.rows_have_values_and_keys.ensures.keys c.rows_have_their_forms.ensures c.args.schema.now c.args.row.now c.in_ok-row_form.field-0.items
+    c.columns-columns.ensures.good (λ i. (c.type_inv.row i).fits) (sym c.in-Ok.ensures.only) c.in_ok-row_form.ensures
