@@ -170,7 +170,7 @@ impl PagedTables {
         reserve_all(&mut self.tables, &mut self.steps, alloc, changes)
     }
 
-    /// Makes the changes, for which there is room, in their order, and gives up the room that is left.
+    /// Makes the changes, for which there is room, in their order, and so uses all of it.
     /// A table that is there already is not created again; into no table nothing is put, and neither is
     /// what is no row of the table. Rows are moved out of the changes. Takes no memory; no page is read.
     pub fn apply_reserved(&mut self, alloc: Global, changes: Vec<Change>)
@@ -179,9 +179,9 @@ impl PagedTables {
         ensures pages { PagesStay self.old.tables self.new.tables }
     {
         apply_all(&mut self.tables, alloc, self.steps.as_slice(), changes);
-        // Each row that was put, and each mark of one that was taken out, is in its room.
+        // No room is left: each row that was put, each mark of one that was taken out and each table that was
+        // created is in its own.
         self.steps.clear();
-        self.release();
     }
 
     /// Gives up the room that is reserved and not used. The tables stay. No page is read.
