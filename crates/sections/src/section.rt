@@ -21,9 +21,13 @@ pub struct Section {
 }
 
 impl Model for Section {
+    ghost use Rattle.std.specs.Coded.{codes};
     ghost use Rattle.sections.specs.Kept.{Section};
+    ghost use Rattle.sql_copies.specs.Stored.{coded_predicate};
 
     ghost Value = { Section };
+
+    ghost coded = { Prim.hlevel (codes, coded_predicate) };
 
     ghost view = { λ s. record { statement = s.statement; is_held = s.is_held; cursor = s.cursor } };
 }
@@ -33,7 +37,7 @@ impl Section {
     ghost use Rattle.sections.specs.Blocks.{section_advanced};
 
     pub(crate) fn new(statement: Statement<'static>, is_held: bool) -> Section
-        ensures { result ≡ record { statement = statement; is_held = is_held; cursor = None } }
+        ensures { result ≡ record { statement = statement.entry; is_held = is_held; cursor = None } }
     {
         Section {
             statement,
@@ -43,7 +47,7 @@ impl Section {
     }
 
     pub(crate) fn prepare(&mut self, statement: Statement<'static>, is_held: bool)
-        ensures { self.new ≡ record self.old { statement = statement; is_held = is_held } }
+        ensures { self.new ≡ record self.old { statement = statement.entry; is_held = is_held } }
     {
         self.statement = statement;
         self.is_held = is_held;
@@ -101,9 +105,13 @@ pub struct Preparation {
 }
 
 impl Model for Preparation {
+    ghost use Rattle.std.specs.Coded.{codes};
     ghost use Rattle.sections.specs.Kept.{Preparation};
+    ghost use Rattle.sql_copies.specs.Stored.{coded_predicate};
 
     ghost Value = { Preparation };
+
+    ghost coded = { Prim.hlevel (codes, coded_predicate) };
 
     ghost view = { λ p. record { name = p.name; statement = p.statement; is_held = p.is_held } };
 }

@@ -31,8 +31,12 @@ impl Model for Sections {
     ghost use Rattle.std.specs.Prelude.{◌<◌, IsSome};
     ghost use Rattle.indexmap.specs.IndexMap.{spare};
     ghost use Rattle.sections.specs.Kept.{Sections};
+    ghost use Rattle.sql_copies.specs.Stored.{coded_predicate};
+    ghost use Rattle.std.specs.Coded.{codes};
 
     ghost Value = { Sections };
+
+    ghost coded = { Prim.hlevel (codes, coded_predicate) };
 
     ghost view = { λ s. record { sections = s.sections.entries; reserved = s.reserved; openings = s.openings } };
 

@@ -1,4 +1,3 @@
-pub mod Stored
 pub mod Wishes
 pub mod LeftAnswers
 pub mod Books

@@ -31,7 +31,7 @@ pub struct Book<D: Disk> {
 impl<D: Disk> Model for Book<D> {
     ghost use Rattle.std.specs.Coded.{codes};
     ghost use Rattle.shared_node.specs.Books.{IsKept, Told};
-    ghost use Rattle.shared_node.specs.Stored.{coded_predicate};
+    ghost use Rattle.sql_copies.specs.Stored.{coded_predicate};
 
     ghost Value = { Told D };
 

@@ -7,7 +7,7 @@ ghost use Rattle.core_calls.specs.Answer.{answer_of};
 ghost use Rattle.core_calls.specs.Call.{call_of};
 ghost use Rattle.core_model.specs.Step.{Kept, Taken};
 ghost use Rattle.serializability.specs.Answered.{AnsweredCall};
-ghost use Rattle.shared_node.specs.Stored.{coded_predicate};
+ghost use Rattle.sql_copies.specs.Stored.{coded_predicate};
 ghost use Rattle.shared_node.specs.Wishes.{listed_wish};
 
 use crate::wish::Wished;

@@ -1,4 +1,4 @@
--- How the logic stores a call. No clause reads these words.
+-- How the logic stores a statement. No clause reads these words.
 use Rattle.std.specs.Prelude.{[]}
 use Rattle.std.specs.Coded.{Coded}
 use mir.Syntax.{static}
