@@ -82,7 +82,6 @@ fn counted_of_many(
 }
 
 // The rows that count. All rows of a view that is trusted, where there is no WHERE, are handed on as they are.
-#[tactic(auto, using(crate::proofs::Counting::all_pass))]
 fn counted(
     list: RowList,
     given: Given,
