@@ -15,7 +15,7 @@ use tables::RowList;
 /// A statement that was prepared, and its cursor where one is open.
 #[derive(Drop)]
 pub struct Section {
-    statement: Statement<'static>,
+    statement: Box<Statement<'static>>,
     is_held: bool,
     cursor: Option<Cursor>,
 }
@@ -29,15 +29,15 @@ impl Model for Section {
 
     ghost coded = { Prim.hlevel (codes, coded_predicate) };
 
-    ghost view = { λ s. record { statement = s.statement; is_held = s.is_held; cursor = s.cursor } };
+    ghost view = { λ s. record { statement = s.statement.value; is_held = s.is_held; cursor = s.cursor } };
 }
 
 impl Section {
     ghost use Rattle.sections.specs.Cursors.{closed, with_cursor};
     ghost use Rattle.sections.specs.Blocks.{section_advanced};
 
-    pub(crate) fn new(statement: Statement<'static>, is_held: bool) -> Section
-        ensures { result ≡ record { statement = statement.entry; is_held = is_held; cursor = None } }
+    pub(crate) fn new(statement: Box<Statement<'static>>, is_held: bool) -> Section
+        ensures { result ≡ record { statement = statement.entry.value; is_held = is_held; cursor = None } }
     {
         Section {
             statement,
@@ -46,8 +46,8 @@ impl Section {
         }
     }
 
-    pub(crate) fn prepare(&mut self, statement: Statement<'static>, is_held: bool)
-        ensures { self.new ≡ record self.old { statement = statement.entry; is_held = is_held } }
+    pub(crate) fn prepare(&mut self, statement: Box<Statement<'static>>, is_held: bool)
+        ensures { self.new ≡ record self.old { statement = statement.entry.value; is_held = is_held } }
     {
         self.statement = statement;
         self.is_held = is_held;
@@ -100,7 +100,7 @@ impl Section {
 #[derive(Drop)]
 pub struct Preparation {
     name: Name,
-    statement: Statement<'static>,
+    statement: Box<Statement<'static>>,
     is_held: bool,
 }
 
@@ -113,7 +113,7 @@ impl Model for Preparation {
 
     ghost coded = { Prim.hlevel (codes, coded_predicate) };
 
-    ghost view = { λ p. record { name = p.name; statement = p.statement; is_held = p.is_held } };
+    ghost view = { λ p. record { name = p.name; statement = p.statement.value; is_held = p.is_held } };
 }
 
 impl Preparation {
@@ -127,7 +127,7 @@ impl Preparation {
     {
         Ok(Preparation {
             name: Name::new(name.to_vec(alloc)?),
-            statement: copy_statement(alloc, statement)?,
+            statement: Box::new(alloc, copy_statement(alloc, statement)?)?,
             is_held,
         })
     }
@@ -143,12 +143,22 @@ impl Preparation {
         ensures name { result.0 ≡ self.name }
         ensures section { result.1 ≡ record { statement = self.statement; is_held = self.is_held; cursor = None } }
     {
-        (self.name, Section::new(self.statement, self.is_held))
+        let Preparation {
+            name,
+            statement,
+            is_held,
+        } = self;
+        (name, Section::new(statement, is_held))
     }
 
     pub(crate) fn prepare_again(self, section: &mut Section)
         ensures { section.new ≡ record section.old { statement = self.statement; is_held = self.is_held } }
     {
-        section.prepare(self.statement, self.is_held);
+        let Preparation {
+            name: _,
+            statement,
+            is_held,
+        } = self;
+        section.prepare(statement, is_held);
     }
 }
