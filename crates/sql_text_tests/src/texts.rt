@@ -19,8 +19,14 @@ enum Answered {
 
 // A copy of the statement, so that each line tells of what was read and of its copy.
 fn parsed(alloc: Global, text: &str) -> Result<Statement<'static>, SqlError> {
-    let statement = parse(alloc, text)?;
-    Ok(copy_statement(alloc, &statement)?)
+    match parse(alloc, text) {
+        Ok(statement) => {
+            let copy = copy_statement(alloc, &statement);
+            drop(statement);
+            Ok(copy?)
+        }
+        Err(error) => Err(error),
+    }
 }
 
 fn shown(alloc: Global, statement: &Statement<'_>) -> Result<String, AllocError> {
