@@ -17,8 +17,9 @@ use drda_commands::DescribedData;
 use fdoca::DescriptorFault;
 use row_values::Value;
 use sections::{NotPrepared, Sections};
+use sql_loans::lend_statement;
 use sql_text::Statement;
-use std::alloc::Global;
+use std::alloc::{AllocError, Global};
 
 // Asks a query with these values for its markers.
 fn ask_with<'t, A: Ask>(statement: &Statement<'t>, values: &[Value<'t>], asker: &mut A) -> Answer
@@ -74,6 +75,27 @@ fn ask_statement<'t, A: Ask>(
     }
 }
 
+// Asks the statement that is kept, where it is a query.
+fn ask_kept<A: Ask>(
+    alloc: Global,
+    kept: &Statement<'_>,
+    parameters: Option<DescribedData<'_>>,
+    asker: &mut A,
+) -> Result<Answer, StatementError>
+    ensures ok { IfOk result (λ answer. WasQueried A.asks (commands.as_query (option_map described_of parameters.entry) kept.now) (answer_of answer) asker.old asker.new) }
+    ensures err { IfErr result (λ error. IfSome (fault_of error) (λ fault. commands.as_query (option_map described_of parameters.entry) kept.now ≡ Err fault)) }
+    ensures asker { OnErr result (asker.new ≡ asker.old) }
+{
+    match lend_statement(alloc, kept) {
+        Ok(statement) => {
+            let answered = ask_statement(alloc, &statement, parameters, asker);
+            drop(statement);
+            answered
+        }
+        Err(AllocError) => Err(StatementError::NoMemory),
+    }
+}
+
 /// Asks the query of a section, with the values that came for its markers; or says why there is none. Out of
 /// memory, nothing is asked.
 pub fn ask_section<A: Ask>(
@@ -88,7 +110,7 @@ pub fn ask_section<A: Ask>(
     ensures asker { OnErr result (asker.new ≡ asker.old) }
 {
     match sections.statement(name) {
-        Ok(statement) => ask_statement(alloc, statement, parameters, asker),
+        Ok(kept) => ask_kept(alloc, kept, parameters, asker),
         Err(NotPrepared) => Err(StatementError::Fault(SqlFault::NotPrepared)),
     }
 }
