@@ -33,10 +33,14 @@ pub struct Front {
 }
 
 impl Model for Front {
+    ghost use Rattle.std.specs.Coded.{codes};
+    ghost use Rattle.sql_copies.specs.Stored.{coded_predicate};
     ghost use Rattle.conversation.specs.Held.{Held};
     ghost use Rattle.conversation.specs.Closing.{IsOpenAtFault};
 
     ghost Value = { Held };
+
+    ghost coded = { Prim.hlevel (codes, coded_predicate) };
 
     ghost view = { λ f. record { settings = f.settings; rest = f.segments.rest; session = f.state.session; statements = f.state.statements } };
 
