@@ -109,13 +109,6 @@ const CASES: [Case; 9] = [
         0,
     ),
     (
-        "SELECT FROM",
-        Script::Rows(&[1]),
-        &[OPEN],
-        &[(OPNQFLRM, 0), (SQLCARD, -104)],
-        0,
-    ),
-    (
         "SELECT * FROM T",
         Script::NoMemory,
         &[OPEN, FETCH],

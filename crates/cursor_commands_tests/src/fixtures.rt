@@ -2,7 +2,7 @@
 
 ghost use Rattle.std.specs.Prelude.{⊤};
 
-use command_kit::{Ask, Replies, ReplyList, Statements};
+use command_kit::{Ask, Replies, ReplyList, Statements, statement_of};
 use core_calls::{Answer, CoreCall, Refusal, SqlFault};
 use cursor_commands::{do_command, most_length};
 use ddm_objects::{code_point, put};
@@ -157,8 +157,17 @@ fn command(alloc: Global, asked: Asked) -> Result<Vec<u8>, AllocError> {
 /// Statements with a query prepared in the section that commands mean.
 pub fn prepared(alloc: Global, text: &str, is_held: bool) -> Result<Statements, AllocError> {
     let mut statements = Statements::new(alloc);
-    statements.sections.prepare(&[0x40; 64], text, is_held)?;
-    Ok(statements)
+    match statement_of(alloc, text.as_bytes()) {
+        Ok(statement) => {
+            let done = statements
+                .sections
+                .prepare(&[0x40; 64], &statement, is_held);
+            drop(statement);
+            done?;
+            Ok(statements)
+        }
+        Err(_) => Err(AllocError),
+    }
 }
 
 // The bytes that replies take as DSSs.
