@@ -37,7 +37,7 @@ const CLOSE: Asked = Asked {
 /// A text, what the core answers, commands, what is replied in all, and how often the core is asked.
 type Case = (&'static str, Script, &'static [Asked], &'static [Told], u32);
 
-const CASES: [Case; 9] = [
+const CASES: [Case; 8] = [
     (
         "SELECT * FROM T",
         Script::Rows(&[]),
