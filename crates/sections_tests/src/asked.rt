@@ -89,12 +89,16 @@ fn prepare(
     name: &[u8],
     text: &str,
 ) -> Result<(), AllocError> {
-    let Ok(statement) = parse(alloc, text) else {
-        return Err(AllocError);
-    };
-    match verb {
-        "reserve" => sections.reserve_prepare(name, &statement, false),
-        _ => sections.prepare(name, &statement, verb == "hold"),
+    match parse(alloc, text) {
+        Ok(statement) => {
+            let done = match verb {
+                "reserve" => sections.reserve_prepare(name, &statement, false),
+                _ => sections.prepare(name, &statement, verb == "hold"),
+            };
+            drop(statement);
+            done
+        }
+        Err(_) => Err(AllocError),
     }
 }
 
