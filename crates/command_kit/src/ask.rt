@@ -11,6 +11,6 @@ pub trait Ask {
     ghost asks: { Self → Call → AnswerIs → Self → Type 0 };
 
     /// Does a call.
-    fn ask(&mut self, call: &CoreCall<'_, '_>) -> Answer
+    fn ask(&mut self, call: &CoreCall<'_, '_, '_>) -> Answer
         ensures { asks self.old (call_of call.now) (answer_of result) self.new };
 }

@@ -16,26 +16,27 @@ pub enum Side {
     Input,
 }
 
-/// What a conversation asks of the core. Statements and parameters are lent, for `'a`, and what they
-/// borrow lives as long as `'t`: nothing in a call owns memory, so that a call can be lent itself, and
-/// copied.
+/// What a conversation asks of the core. Statements and parameters are lent, for `'a`; what a statement
+/// borrows lives as long as `'s`, what a parameter borrows as long as `'v`, so that a statement that was
+/// kept can be asked with the values of one command. Nothing in a call owns memory: a call can be lent
+/// itself, and copied.
 #[derive(Clone, Copy)]
-pub enum CoreCall<'a, 't> {
+pub enum CoreCall<'a, 's, 'v> {
     /// A statement that is no SELECT is run, with these values for its markers (DDM EXCSQLIMM and
     /// EXCSQLSTT).
     Run {
-        statement: &'a Statement<'t>,
-        parameters: &'a [Value<'t>],
+        statement: &'a Statement<'s>,
+        parameters: &'a [Value<'v>],
     },
     /// A SELECT is evaluated, with these values for its markers (DDM OPNQRY).
     Query {
-        statement: &'a Statement<'t>,
-        parameters: &'a [Value<'t>],
+        statement: &'a Statement<'s>,
+        parameters: &'a [Value<'v>],
     },
     /// The columns or the parameters of a statement are described (DDM DSCSQLSTT, and PRPSQLSTT with
     /// RTNSQLDA).
     Describe {
-        statement: &'a Statement<'t>,
+        statement: &'a Statement<'s>,
         side: Side,
     },
     /// The local unit is committed (DDM RDBCMM).

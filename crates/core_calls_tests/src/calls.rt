@@ -7,7 +7,7 @@ use std::test::Fail;
 use xa_calls::{InvalidRequest, Request};
 
 // How many markers and parameters a call brings.
-fn counts(call: &CoreCall<'_, '_>) -> (usize, usize) {
+fn counts(call: &CoreCall<'_, '_, '_>) -> (usize, usize) {
     match call {
         CoreCall::Run {
             statement,

@@ -141,7 +141,7 @@ impl Bench {
 }
 
 impl Calls for Bench {
-    fn step(&mut self, conversation: u64, call: &CoreCall<'_, '_>) -> Option<Answer> {
+    fn step(&mut self, conversation: u64, call: &CoreCall<'_, '_, '_>) -> Option<Answer> {
         Some(self.core.step(conversation, call))
     }
 

@@ -118,7 +118,7 @@ impl Bench {
 }
 
 impl Calls for Bench {
-    fn step(&mut self, conversation: u64, call: &CoreCall<'_, '_>) -> Option<Answer> {
+    fn step(&mut self, conversation: u64, call: &CoreCall<'_, '_, '_>) -> Option<Answer> {
         let answer = self.core.step(conversation, call);
         match push_besides(&answer, &mut self.besides) {
             Some(()) => Some(answer),

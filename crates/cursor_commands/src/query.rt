@@ -17,12 +17,11 @@ use drda_commands::DescribedData;
 use fdoca::DescriptorFault;
 use row_values::Value;
 use sections::{NotPrepared, Sections};
-use sql_loans::lend_statement;
 use sql_text::Statement;
-use std::alloc::{AllocError, Global};
+use std::alloc::Global;
 
 // Asks a query with these values for its markers.
-fn ask_with<'t, A: Ask>(statement: &Statement<'t>, values: &[Value<'t>], asker: &mut A) -> Answer
+fn ask_with<A: Ask>(statement: &Statement<'_>, values: &[Value<'_>], asker: &mut A) -> Answer
     ensures { A.asks asker.old (query statement.now (map value_of values.now)) (answer_of result) asker.new }
 {
     asker.ask(&CoreCall::Query {
@@ -32,10 +31,10 @@ fn ask_with<'t, A: Ask>(statement: &Statement<'t>, values: &[Value<'t>], asker: 
 }
 
 // Asks a query with the values that came for its markers.
-fn ask_select<'t, A: Ask>(
+fn ask_select<A: Ask>(
     alloc: Global,
-    statement: &Statement<'t>,
-    parameters: Option<DescribedData<'t>>,
+    statement: &Statement<'_>,
+    parameters: Option<DescribedData<'_>>,
     asker: &mut A,
 ) -> Result<Answer, StatementError>
     ensures ok { IfOk result (λ answer. WasQueried A.asks (commands.with_values statement.now (commands.or_mismatch (text_spec.values_of (option_map described_of parameters.entry)))) (answer_of answer) asker.old asker.new) }
@@ -58,10 +57,10 @@ fn ask_select<'t, A: Ask>(
 }
 
 // Asks a statement, where it is a query.
-fn ask_statement<'t, A: Ask>(
+fn ask_statement<A: Ask>(
     alloc: Global,
-    statement: &Statement<'t>,
-    parameters: Option<DescribedData<'t>>,
+    statement: &Statement<'_>,
+    parameters: Option<DescribedData<'_>>,
     asker: &mut A,
 ) -> Result<Answer, StatementError>
     ensures ok { IfOk result (λ answer. WasQueried A.asks (commands.as_query (option_map described_of parameters.entry) statement.now) (answer_of answer) asker.old asker.new) }
@@ -72,27 +71,6 @@ fn ask_statement<'t, A: Ask>(
         ask_select(alloc, statement, parameters, asker)
     } else {
         Err(StatementError::Fault(SqlFault::NotPrepared))
-    }
-}
-
-// Asks the statement that is kept, where it is a query.
-fn ask_kept<A: Ask>(
-    alloc: Global,
-    kept: &Statement<'_>,
-    parameters: Option<DescribedData<'_>>,
-    asker: &mut A,
-) -> Result<Answer, StatementError>
-    ensures ok { IfOk result (λ answer. WasQueried A.asks (commands.as_query (option_map described_of parameters.entry) kept.now) (answer_of answer) asker.old asker.new) }
-    ensures err { IfErr result (λ error. IfSome (fault_of error) (λ fault. commands.as_query (option_map described_of parameters.entry) kept.now ≡ Err fault)) }
-    ensures asker { OnErr result (asker.new ≡ asker.old) }
-{
-    match lend_statement(alloc, kept) {
-        Ok(statement) => {
-            let answered = ask_statement(alloc, &statement, parameters, asker);
-            drop(statement);
-            answered
-        }
-        Err(AllocError) => Err(StatementError::NoMemory),
     }
 }
 
@@ -110,7 +88,7 @@ pub fn ask_section<A: Ask>(
     ensures asker { OnErr result (asker.new ≡ asker.old) }
 {
     match sections.statement(name) {
-        Ok(kept) => ask_kept(alloc, kept, parameters, asker),
+        Ok(statement) => ask_statement(alloc, statement, parameters, asker),
         Err(NotPrepared) => Err(StatementError::Fault(SqlFault::NotPrepared)),
     }
 }

@@ -35,7 +35,7 @@ pub struct Scripted {
 impl Ask for Scripted {
     ghost asks = { λ _ _ _ _. ⊤ };
 
-    fn ask(&mut self, _call: &CoreCall<'_, '_>) -> Answer {
+    fn ask(&mut self, _call: &CoreCall<'_, '_, '_>) -> Answer {
         self.asked = self.asked.saturating_add(1);
         match self.script {
             Script::Rows(lengths) => match rows(self.alloc, lengths) {

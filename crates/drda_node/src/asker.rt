@@ -19,7 +19,7 @@ impl<D: Disk> Ask for CoreAsker<'_, D> {
 
     ghost asks = { λ old call answer new. asks_of D.is_modelled D.life old call answer new };
 
-    fn ask(&mut self, call: &CoreCall<'_, '_>) -> Answer {
+    fn ask(&mut self, call: &CoreCall<'_, '_, '_>) -> Answer {
         self.core.step(self.conversation, call)
     }
 }

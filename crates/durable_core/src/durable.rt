@@ -64,7 +64,7 @@ impl<D: Disk> DurableCore<D> {
     /// A device that need not give back what was written may give a statement other rows of the same tables: then
     /// its answer and its unit are those of the step over these rows, and what is committed stays. Where it gives
     /// what is no page, or no rows of the table, it counts as failed.
-    pub fn step(&mut self, conversation: u64, call: &CoreCall<'_, '_>) -> Answer
+    pub fn step(&mut self, conversation: u64, call: &CoreCall<'_, '_, '_>) -> Answer
         ensures step { Steps D.is_modelled (shown_on D.life self.old) conversation (call_of call.now) (answer_of result) (shown_on D.life self.new) }
         ensures journaled { Journaled D.is_modelled (shown_on D.life self.old) (shown_on D.life self.new) }
     {

@@ -176,7 +176,7 @@ impl Bench {
 }
 
 impl Calls for Bench {
-    fn step(&mut self, conversation: u64, call: &CoreCall<'_, '_>) -> Option<Answer> {
+    fn step(&mut self, conversation: u64, call: &CoreCall<'_, '_, '_>) -> Option<Answer> {
         let Some(core) = &mut self.core else {
             return None;
         };

@@ -18,7 +18,7 @@ struct Scripted {
 impl Ask for Scripted {
     ghost asks = { λ _ _ _ _. ⊤ };
 
-    fn ask(&mut self, call: &CoreCall<'_, '_>) -> Answer {
+    fn ask(&mut self, call: &CoreCall<'_, '_, '_>) -> Answer {
         self.asked = self.asked.saturating_add(1);
         match call {
             _ if self.is_lost => Answer::Closed,

@@ -38,7 +38,7 @@ pub(crate) fn ask_unit<R: Source>(
     source: &mut R,
     alloc: Global,
     owner: &Owner,
-    question: Question<'_, '_>,
+    question: Question<'_, '_, '_>,
 ) -> Result<Answer, ReadError>
     requires fit { unfit (question_of question) ≡ None }
     requires holds { R.holds source.old tables.now.tables }
@@ -81,7 +81,7 @@ fn look<R: Source>(
     source: &mut R,
     alloc: Global,
     owner: &Owner,
-    question: Question<'_, '_>,
+    question: Question<'_, '_, '_>,
 ) -> Result<Option<Found>, ReadError>
     requires holds { R.holds source.old tables.now.tables }
     ensures found { IfOk result (λ found. IsGiven R.is_told R.reads (store_in tables.now) source.old source.new (λ given. FindsOver found (others (plain_owner owner.now) units.now) (question_of question.entry) (left_of (unit_of (plain_owner owner.now) units.now)) (view given (unit_of (plain_owner owner.now) units.now)))) }

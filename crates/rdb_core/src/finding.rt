@@ -52,7 +52,7 @@ pub(crate) fn find<R: Source>(
     source: &mut R,
     units: &Units,
     owner: &Owner,
-    question: Question<'_, '_>,
+    question: Question<'_, '_, '_>,
 ) -> Result<Option<Found>, ReadError>
     requires holds { R.holds source.old sight.now.tables.now.tables }
     ensures found { IfOk result (λ found. IsGiven R.is_told R.reads (store_in sight.now.tables.now) source.old source.new (λ given. FindsOver found (others (plain_owner owner.now) units.now) (question_of question.entry) (left_of (unit_of (plain_owner owner.now) units.now)) (apply_all sight.now.changes.now given))) }

@@ -11,21 +11,21 @@ use sql_text::{Command, Statement};
 
 /// A statement that is asked of a unit. Contracts see it by `question_of`.
 #[derive(Clone, Copy)]
-pub(crate) enum Question<'a, 't> {
+pub(crate) enum Question<'a, 's, 'v> {
     /// A statement that is no SELECT is run, with these values for its markers.
     Running {
-        statement: &'a Statement<'t>,
-        parameters: &'a [Value<'t>],
+        statement: &'a Statement<'s>,
+        parameters: &'a [Value<'v>],
     },
     /// A SELECT is evaluated, with these values for its markers.
     Querying {
-        statement: &'a Statement<'t>,
-        parameters: &'a [Value<'t>],
+        statement: &'a Statement<'s>,
+        parameters: &'a [Value<'v>],
     },
 }
 
 /// Why a question is refused before it claims anything.
-pub(crate) fn unfit(question: Question<'_, '_>) -> Option<SqlFault>
+pub(crate) fn unfit(question: Question<'_, '_, '_>) -> Option<SqlFault>
     ensures { result ≡ unfit (question_of question.entry) }
 {
     match question {

@@ -34,7 +34,7 @@ impl<R: Recorder + Source> Core<R> {
     ///
     /// Of a source that is not told a statement may be given other rows of the same tables: then its answer and its
     /// unit are those of the step over these, and what is committed stays.
-    pub fn step(&mut self, conversation: u64, call: &CoreCall<'_, '_>) -> Answer
+    pub fn step(&mut self, conversation: u64, call: &CoreCall<'_, '_, '_>) -> Answer
         requires allowed { (r : UnitRecord) → record_due (state_of self.old) conversation (call_of call.now) ≡ Some r → R.allows (recorder_of self.old) r }
         requires holds { R.holds (recorder_of self.old) (pages_of self.old) }
         ensures step { StepsOver R.is_told R.records R.fails R.reads R.fails_to_read (state_of self.old) conversation (call_of call.now) (answer_of result) (state_of self.new) (recorder_of self.old) (recorder_of self.new) }
@@ -109,7 +109,7 @@ impl<R: Recorder + Source> Core<R> {
     }
 
     // A statement of the unit that a conversation works in.
-    fn ask(&mut self, conversation: u64, question: Question<'_, '_>) -> Answer
+    fn ask(&mut self, conversation: u64, question: Question<'_, '_, '_>) -> Answer
         requires holds { R.holds (recorder_of self.old) (pages_of self.old) }
         ensures step { StepsOver R.is_told R.records R.fails R.reads R.fails_to_read (state_of self.old) conversation (call_asking (question_of question.entry)) (answer_of result) (state_of self.new) (recorder_of self.old) (recorder_of self.new) }
         ensures sure { is_fit (unfit (question_of question.entry)) ≡ false → Takes R.records (state_of self.old) conversation (call_asking (question_of question.entry)) (answer_of result) (state_of self.new) (recorder_of self.old) (recorder_of self.new) }

@@ -50,7 +50,7 @@ fn add(sections: &mut IndexMap<Name, Section>, preparation: Preparation)
 {
     let (name, section) = preparation.into_section();
     match sections.insert(name, section) {
-        Ok(_) => {}
+        Ok(before) => drop(before),
         Err(_) => unreachable!(),
     }
 }

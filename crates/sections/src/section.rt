@@ -10,6 +10,7 @@ use sql_copies::copy_statement;
 use sql_text::Statement;
 use std::alloc::{AllocError, Global};
 use std::marker::Model;
+use std::mem;
 use tables::RowList;
 
 /// A statement that was prepared, and its cursor where one is open.
@@ -49,7 +50,8 @@ impl Section {
     pub(crate) fn prepare(&mut self, statement: Box<Statement<'static>>, is_held: bool)
         ensures { self.new ≡ record self.old { statement = statement.entry.value; is_held = is_held } }
     {
-        self.statement = statement;
+        let before = mem::replace(&mut self.statement, statement);
+        drop(before);
         self.is_held = is_held;
     }
 

@@ -15,6 +15,7 @@ use indexmap::IndexMap;
 use sql_text::Statement;
 use std::alloc::{AllocError, Global};
 use std::marker::Model;
+use std::mem;
 use tables::RowList;
 
 /// The sections of a conversation by their names (all bytes of PKGNAMCSN), each with the statement that was
@@ -88,7 +89,8 @@ impl Sections {
     {
         let preparation = Preparation::new(self.alloc, name, statement, is_held)?;
         self.sections.reserve(1)?;
-        self.reserved = Some(preparation);
+        let before = mem::replace(&mut self.reserved, Some(preparation));
+        drop(before);
         Ok(())
     }
 
@@ -106,7 +108,7 @@ impl Sections {
     pub fn drop_reserved(&mut self)
         ensures { self.new ≡ record self.old { reserved = None } }
     {
-        self.reserved = None;
+        drop(self.reserved.take());
     }
 
     /// The statement that is prepared in the section of this name, or `NotPrepared` where there is none.

@@ -99,7 +99,7 @@ impl<D: Disk> Book<D> {
     /// `NoMemory`, which is not listed, comes where the core wants memory and none is there, and where the
     /// conversation has made 2^64 - 2 calls; of a loss only behind 2^64 - 1. `StrangerPass` comes where the book
     /// does not count as many calls of the conversation as the pass: then nothing was done.
-    pub fn act(&mut self, pass: &mut Pass, call: &CoreCall<'_, '_>) -> Acted
+    pub fn act(&mut self, pass: &mut Pass, call: &CoreCall<'_, '_, '_>) -> Acted
         ensures acts { Acts D.is_modelled D.life self.old pass.old (call_of call.now) result self.new pass.new }
         ensures journaled { Journaled D.is_modelled (shown_on D.life self.old.core) (shown_on D.life self.new.core) }
     {

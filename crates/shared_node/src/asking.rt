@@ -29,7 +29,7 @@ pub(crate) fn ask<D: Disk>(
     core: &mut DurableCore<D>,
     renewals: &mut Renewals,
     conversation: u64,
-    call: &CoreCall<'_, '_>,
+    call: &CoreCall<'_, '_, '_>,
 ) -> Answer
     ensures answered { IsAnswered D.is_modelled D.life core.old conversation (call_of call.now) (answer_of result) core.new }
     ensures journaled { Journaled D.is_modelled (shown_on D.life core.old) (shown_on D.life core.new) }
@@ -127,7 +127,7 @@ pub(crate) fn is_done(answer: &Answer) -> bool
 
 /// What a conversation wishes that is about to make this call, where calls of its kind are made together: a commit, but
 /// for one behind no statement that may have changed rows, and a phase of two-phase commit.
-pub(crate) fn wished_by(has_run: bool, call: &CoreCall<'_, '_>) -> Option<Wished>
+pub(crate) fn wished_by(has_run: bool, call: &CoreCall<'_, '_, '_>) -> Option<Wished>
     ensures { IfSome result (λ wished. call_of call.now ≡ call_wished wished) }
 {
     match call {
@@ -146,7 +146,7 @@ fn through(verb: Verb, xid: &Xid) -> Option<Wished>
 }
 
 /// Whether a statement was run that may have changed rows, and no commit and no rollback came behind it.
-pub(crate) fn has_run_behind(has_run: bool, call: &CoreCall<'_, '_>) -> bool {
+pub(crate) fn has_run_behind(has_run: bool, call: &CoreCall<'_, '_, '_>) -> bool {
     match call {
         CoreCall::Run { .. } => true,
         CoreCall::Commit | CoreCall::RollBack => false,

@@ -39,7 +39,7 @@ impl CallList {
     pub fn note(
         &mut self,
         _conversation: u64,
-        _call: &CoreCall<'_, '_>,
+        _call: &CoreCall<'_, '_, '_>,
         _answer: &Answer,
         _is_taken: bool,
     )

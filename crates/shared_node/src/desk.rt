@@ -87,7 +87,7 @@ impl<'a, D: Disk, R: Wait + Clock, G: Gate> Ask for Desk<'a, D, R, G> {
 
     ghost asks = { λ old call answer new. DeskAsks old.pass call answer new.pass };
 
-    fn ask(&mut self, call: &CoreCall<'_, '_>) -> Answer {
+    fn ask(&mut self, call: &CoreCall<'_, '_, '_>) -> Answer {
         self.gate.turn(self.pass.conversation(), self.asked);
         self.asked = self.asked.wrapping_add(1);
         let wished = wished_by(self.has_run, call);

@@ -39,7 +39,7 @@ impl<D: Disk> Held<D> {
         rt: &R,
         waiting: &Waiting,
         pass: &mut Pass,
-        call: &CoreCall<'_, '_>,
+        call: &CoreCall<'_, '_, '_>,
         wished: &Option<Wished>,
     ) -> Acted
         requires { (w : _) → wished.now ≡ Some w → call_of call.now ≡ call_wished w }

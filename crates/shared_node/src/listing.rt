@@ -22,7 +22,7 @@ pub(crate) fn list(
     calls: &mut CallList,
     places: &mut Vec<Option<Count>>,
     pass: &mut Pass,
-    call: &CoreCall<'_, '_>,
+    call: &CoreCall<'_, '_, '_>,
     answer: &Answer,
     is_taken: bool,
 )

@@ -39,7 +39,7 @@ pub(crate) fn knows(places: &[Option<Count>], pass: &Pass) -> bool
 }
 
 /// Whether there is no number left for a call. The last one is kept for the loss.
-pub(crate) fn is_out_of_numbers(count: u64, call: &CoreCall<'_, '_>) -> bool
+pub(crate) fn is_out_of_numbers(count: u64, call: &CoreCall<'_, '_, '_>) -> bool
     ensures left { result ≡ false → count + 1 < 2 ^ 64 }
     ensures few { result ≡ true → 2 ^ 64 ≤ count + 2 }
     ensures lost { result ≡ true → call_of call.now ≡ lost → count + 1 ≡ 2 ^ 64 }

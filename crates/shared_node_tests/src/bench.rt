@@ -82,7 +82,7 @@ impl<'r, R: Wait + Clock> Bench<'r, R> {
 }
 
 impl<'r, R: Wait + Clock> Calls for Bench<'r, R> {
-    fn step(&mut self, conversation: u64, call: &CoreCall<'_, '_>) -> Option<Answer> {
+    fn step(&mut self, conversation: u64, call: &CoreCall<'_, '_, '_>) -> Option<Answer> {
         self.desks.ask(conversation, call)
     }
 

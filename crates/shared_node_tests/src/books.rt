@@ -71,7 +71,7 @@ impl Desks {
     }
 
     /// What the book answers to a call with the pass of this number: to a stranger's, which is counted, as where it is closed.
-    pub fn ask(&mut self, number: u64, call: &CoreCall<'_, '_>) -> Option<Answer> {
+    pub fn ask(&mut self, number: u64, call: &CoreCall<'_, '_, '_>) -> Option<Answer> {
         let Some(Some(pass)) = self.passes.get_mut(place_of(number)?) else {
             return None;
         };

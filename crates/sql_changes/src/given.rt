@@ -20,9 +20,9 @@ ghost use Rattle.sql_changes.specs.Given.{values_given};
 use crate::place::{new_places, place_of};
 use crate::row::{borrowed, encoded, judge};
 use core_calls::{SqlFault, StatementError};
-use row_values::{Column, Schema, Value, are_key, encode_key};
+use row_values::{Column, Schema, Value};
 use sql_lex::Part;
-use sql_predicates::Constant;
+use sql_predicates::{Constant, key_of_values};
 use sql_text::{Columns, Literal};
 use std::alloc::{AllocError, Global};
 use tables::Change;
@@ -206,22 +206,6 @@ fn given(
         Some(literal) => Constant::of_literal(alloc, literal, params),
         None => Ok(Constant::Null),
     }
-}
-
-// The key of these values, where each fits its column.
-#[tactic(auto, unfolding(sql_semantics::specs::Keys::key_of_values))]
-fn key_of_values(
-    alloc: Global,
-    schema: &Schema,
-    values: &[Value<'_>],
-) -> Result<Option<Vec<u8>>, AllocError>
-    ensures key { IfOk result (λ key. option_map (λ k. k.items) key ≡ key_of_values schema.now (map value_of values.now)) }
-    ensures short { IfOk result (λ key. IfSome key (λ k. length k.items ≤ 8012)) }
-{
-    if !are_key(schema, values) {
-        return Ok(None);
-    }
-    Ok(Some(encode_key(alloc, schema, values)?))
 }
 
 // The values of the columns at these places.

@@ -21,7 +21,7 @@ fn keeps_held(end: UnitEnd) -> bool
     }
 }
 
-fn call_of(end: UnitEnd) -> CoreCall<'static, 'static>
+fn call_of(end: UnitEnd) -> CoreCall<'static, 'static, 'static>
     ensures { call_of result ≡ commands.end_call end }
 {
     match end {

@@ -16,15 +16,14 @@ use core_calls::SqlFault;
 use drda_commands::{Accepted, DescribedData};
 use fdoca::DescriptorFault;
 use sections::NotPrepared;
-use sql_loans::lend_statement;
 use sql_text::Statement;
 use std::alloc::{AllocError, Global};
 
 // Runs a statement with the values that a descriptor and a row give.
-fn execute_with<'t, A: Ask>(
+fn execute_with<A: Ask>(
     alloc: Global,
-    statement: &Statement<'t>,
-    sent: DescribedData<'t>,
+    statement: &Statement<'_>,
+    sent: DescribedData<'_>,
     rdb: &[u8],
     statements: &Statements,
     asker: &mut A,
@@ -55,10 +54,10 @@ fn execute_with<'t, A: Ask>(
     }
 }
 
-fn execute_statement<'t, A: Ask>(
+fn execute_statement<A: Ask>(
     alloc: Global,
-    statement: &Statement<'t>,
-    sent: Option<DescribedData<'t>>,
+    statement: &Statement<'_>,
+    sent: Option<DescribedData<'_>>,
     rdb: &[u8],
     statements: &Statements,
     asker: &mut A,
@@ -79,31 +78,6 @@ fn execute_statement<'t, A: Ask>(
     }
 }
 
-fn execute_kept<A: Ask>(
-    alloc: Global,
-    kept: &Statement<'_>,
-    sent: Option<DescribedData<'_>>,
-    rdb: &[u8],
-    statements: &Statements,
-    asker: &mut A,
-    replies: &mut Replies,
-) -> Result<bool, AllocError>
-    requires { length rdb.now ≤ 791 }
-    ensures ok { IfOk result (λ is_told. WasDone A.asks (commands.executed_as rdb.now statements.now (option_map described_of sent.entry) kept.now) asker.old asker.new (commands.with_told is_told statements.now) replies.old.list replies.new.list) }
-    ensures size { OnOk result (written_lengths replies.new.list ≤ written_lengths replies.old.list + MAX_REPLIES_LENGTH) }
-    ensures asker { OnErr result (asker.new ≡ asker.old) }
-    ensures replies { OnErr result (replies.new.list ≡ replies.old.list) }
-{
-    match lend_statement(alloc, kept) {
-        Ok(statement) => {
-            let done = execute_statement(alloc, &statement, sent, rdb, statements, asker, replies);
-            drop(statement);
-            done
-        }
-        Err(AllocError) => Err(AllocError),
-    }
-}
-
 fn execute_section<A: Ask>(
     alloc: Global,
     name: &[u8],
@@ -120,7 +94,7 @@ fn execute_section<A: Ask>(
     ensures replies { OnErr result (replies.new.list ≡ replies.old.list) }
 {
     match statements.sections.statement(name) {
-        Ok(kept) => execute_kept(alloc, kept, sent, rdb, statements, asker, replies),
+        Ok(statement) => execute_statement(alloc, statement, sent, rdb, statements, asker, replies),
         Err(NotPrepared) => refuse_run(SqlFault::NotPrepared, statements, replies),
     }
 }

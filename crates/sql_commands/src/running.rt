@@ -44,9 +44,9 @@ fn tell(is_told: bool, rdb: &[u8], card: Card, replies: &mut Replies)
 }
 
 // Runs a statement with these values for its markers; whether a change is told then.
-pub(crate) fn run<'t, A: Ask>(
-    statement: &Statement<'t>,
-    parameters: &[Value<'t>],
+pub(crate) fn run<A: Ask>(
+    statement: &Statement<'_>,
+    parameters: &[Value<'_>],
     rdb: &[u8],
     statements: &Statements,
     asker: &mut A,

@@ -69,7 +69,7 @@ pub fn text_object(alloc: Global, code: u16, text: &[u8]) -> Result<Vec<u8>, All
 impl Ask for Scripted {
     ghost asks = { λ _ _ _ _. ⊤ };
 
-    fn ask(&mut self, call: &CoreCall<'_, '_>) -> Answer {
+    fn ask(&mut self, call: &CoreCall<'_, '_, '_>) -> Answer {
         self.asked = self.asked.saturating_add(1);
         if let CoreCall::Run { parameters, .. } = call {
             self.seen = with_digits(self.seen, parameters);

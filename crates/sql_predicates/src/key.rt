@@ -154,9 +154,10 @@ fn all_fixed(
     Ok(Some(constants))
 }
 
-// The key of these values, where each fits its column.
+/// The key of these values, one for each column of the key, where each fits its column; at most 8,012
+/// bytes, in new memory.
 #[tactic(auto, unfolding(sql_semantics::specs::Keys::key_of_values))]
-fn key_of_values(
+pub fn key_of_values(
     alloc: Global,
     schema: &Schema,
     values: &[Value<'_>],

@@ -15,7 +15,7 @@ mod test;
 
 pub use constant::Constant;
 pub use filter::Filter;
-pub use key::fixed_key;
+pub use key::{fixed_key, key_of_values};
 pub use name::{column_place, table_name};
 pub use operand::{Operand, are_one_class, kind_class};
 pub use selection::selected_places;

@@ -28,7 +28,7 @@ struct Asker<'a, D: Disk> {
 impl<D: Disk> Ask for Asker<'_, D> {
     ghost asks = { λ _ _ _ _. ⊤ };
 
-    fn ask(&mut self, call: &CoreCall<'_, '_>) -> Answer {
+    fn ask(&mut self, call: &CoreCall<'_, '_, '_>) -> Answer {
         self.core.step(0, call)
     }
 }

@@ -12,7 +12,7 @@ use xa_calls::{InvalidRequest, Request};
 /// Who is asked.
 pub trait Calls {
     /// A statement is run, evaluated or described.
-    fn step(&mut self, conversation: u64, call: &CoreCall<'_, '_>) -> Option<Answer>;
+    fn step(&mut self, conversation: u64, call: &CoreCall<'_, '_, '_>) -> Option<Answer>;
 
     fn commit(&mut self, conversation: u64) -> Option<Answer>;
 

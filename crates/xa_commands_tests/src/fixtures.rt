@@ -43,7 +43,7 @@ impl Scripted {
 impl Ask for Scripted {
     ghost asks = { λ _ _ _ _. ⊤ };
 
-    fn ask(&mut self, call: &CoreCall<'_, '_>) -> Answer {
+    fn ask(&mut self, call: &CoreCall<'_, '_, '_>) -> Answer {
         match call {
             CoreCall::Xa(Ok(Request::Recover)) => self.recovered(),
             CoreCall::Xa(Ok(Request::Branch(verb, xid))) => self.of_branch(*verb, xid.as_bytes()),
