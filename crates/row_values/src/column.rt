@@ -48,6 +48,7 @@ pub struct Column {
 impl Column {
     /// Whether the value fits the column, and else the first reason why not: its class, NULL, its
     /// range, its length. NULL is of every class.
+    #[inline(always)]
     pub fn admit(&self, value: &Value<'_>) -> Result<(), Misfit>
         ensures reason { result_err result ≡ misfit_of (column_of self.now) (value_of value.now) }
         ensures fits { is_ok result ≡ fits (column_of self.now) (value_of value.now) }
@@ -80,6 +81,7 @@ impl Column {
         })
     }
 
+    #[inline(always)]
     fn admit_number(&self, number: i64) -> Result<(), Misfit>
         ensures { result_err result ≡ misfit_of (column_of self.now) (number_value number) }
     {
@@ -94,6 +96,7 @@ impl Column {
         }
     }
 
+    #[inline(always)]
     fn admit_text(&self, text: &[u8]) -> Result<(), Misfit>
         ensures { result_err result ≡ misfit_of (column_of self.now) (text_value text.now) }
     {
@@ -103,6 +106,7 @@ impl Column {
         }
     }
 
+    #[inline(always)]
     fn admit_bytes(&self, bytes: &[u8]) -> Result<(), Misfit>
         ensures { result_err result ≡ misfit_of (column_of self.now) (binary_value bytes.now) }
     {
@@ -114,6 +118,7 @@ impl Column {
 }
 
 // The misfit where the test fails.
+#[inline(always)]
 fn check(test: bool, misfit: Misfit) -> Result<(), Misfit>
     ensures { result_err result ≡ within test misfit }
 {

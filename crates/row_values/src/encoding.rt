@@ -121,6 +121,7 @@ pub(crate) fn has_values(columns: &[Column], bytes: &[u8]) -> bool
 }
 
 /// A value that fits the column, in front of the bytes, with what follows it.
+#[inline(always)]
 #[tactic(auto, unfolding(crate::specs::Row::value_at))]
 pub(crate) fn split_value<'a>(column: &Column, bytes: &'a [u8]) -> Option<(Value<'a>, &'a [u8])>
     ensures { option_map (λ x. (value_of x.0, x.1.now)) result ≡ value_at (column_of column.now) bytes.now }
@@ -133,6 +134,7 @@ pub(crate) fn split_value<'a>(column: &Column, bytes: &'a [u8]) -> Option<(Value
 }
 
 /// A value of a type, with what follows.
+#[inline(always)]
 pub(crate) fn split_any(kind: Kind, bytes: &[u8]) -> Option<(Value<'_>, &[u8])>
     ensures { option_map (λ x. (value_of x.0, x.1.now)) result ≡ typed_value_at kind bytes.now }
 {
@@ -147,6 +149,7 @@ pub(crate) fn split_any(kind: Kind, bytes: &[u8]) -> Option<(Value<'_>, &[u8])>
 }
 
 // The bytes of a value of a type behind its mark, with what follows.
+#[inline(always)]
 fn split_content(kind: Kind, bytes: &[u8]) -> Option<(Value<'_>, &[u8])>
     ensures { option_map (λ x. (value_of x.0, x.1.now)) result ≡ content_at kind bytes.now }
 {
@@ -175,6 +178,7 @@ fn split_content(kind: Kind, bytes: &[u8]) -> Option<(Value<'_>, &[u8])>
 }
 
 /// The first bytes, with what follows.
+#[inline(always)]
 #[tactic(auto, unfolding(crate::specs::Row::front_of))]
 pub(crate) fn split_front(bytes: &[u8], count: usize) -> Option<(&[u8], &[u8])>
     ensures parts { option_map (λ x. (x.0.now, x.1.now)) result ≡ front_of count bytes.now }
@@ -187,6 +191,7 @@ pub(crate) fn split_front(bytes: &[u8], count: usize) -> Option<(&[u8], &[u8])>
 }
 
 /// The bytes behind a length of two bytes in front, with what follows.
+#[inline(always)]
 pub fn split_counted(bytes: &[u8]) -> Option<(&[u8], &[u8])>
     ensures { option_map (λ x. (x.0.now, x.1.now)) result ≡ counted_at bytes.now }
 {

@@ -11,6 +11,7 @@ use crate::value::Value;
 
 /// The value in front of bytes of which it is known that one of the column stands there, with what
 /// follows it.
+#[inline(always)]
 pub(crate) fn take_value<'a>(column: &Column, bytes: &'a [u8]) -> (Value<'a>, &'a [u8])
     requires { IsSome (value_at (column_of column.now) bytes.now) }
     ensures { Some (value_of result.0, result.1.now) ≡ value_at (column_of column.now) bytes.now }
@@ -19,6 +20,7 @@ pub(crate) fn take_value<'a>(column: &Column, bytes: &'a [u8]) -> (Value<'a>, &'
 }
 
 /// The bytes from the value of column `i` on.
+#[inline(always)]
 pub(crate) fn from_column<'a>(columns: &[Column], bytes: &'a [u8], i: usize) -> &'a [u8]
     requires values { IsSome (values_at (map column_of columns.now) bytes.now) }
     requires inside { i < length columns.now }
@@ -32,6 +34,7 @@ pub(crate) fn from_column<'a>(columns: &[Column], bytes: &'a [u8], i: usize) -> 
 }
 
 // A value of a type, of which it is known that it stands there, with what follows.
+#[inline(always)]
 fn take_typed(kind: Kind, bytes: &[u8]) -> Option<(Value<'_>, &[u8])>
     requires { IsSome (typed_value_at kind bytes.now) }
     ensures { option_map (λ x. (value_of x.0, x.1.now)) result ≡ typed_value_at kind bytes.now }
