@@ -102,6 +102,7 @@ fn do_rise(schema: &Schema, rows: &Rows) -> bool
 }
 
 // Whether a row comes behind the last one, where there is one.
+#[inline(always)]
 fn is_behind(last: &Option<RowRef<'_>>, row: &RowRef<'_>) -> bool
     requires { IfSome last.now (λ last. schema_in last ≡ schema_in row.now) }
     ensures { result ≡ comes_behind (schema_in row.now) (option_map row_in last.now) (row_in row.now) }
@@ -113,6 +114,7 @@ fn is_behind(last: &Option<RowRef<'_>>, row: &RowRef<'_>) -> bool
 }
 
 // Whether the first of two rows of one schema has the key that comes first.
+#[inline(always)]
 fn comes_before(first: &RowRef<'_>, second: &RowRef<'_>) -> bool
     requires { schema_in first.now ≡ schema_in second.now }
     ensures { result ≡ comes_before (schema_in second.now) (row_in first.now) (row_in second.now) }

@@ -1,5 +1,5 @@
 -- The slots that a tree of byte vectors has.
-use Rattle.std.proofs.Common.{◌≡◌, ℕ, List, [], ◌∷◌, Bool, true, false, cond, refl, sym, ap, subst, ◌∙◌, Option, Some, None, is_some, option_map, filter, Ordering, Less, Equal, Greater}
+use Rattle.std.proofs.Common.{◌≡◌, ℕ, List, [], ◌∷◌, Bool, true, false, cond, refl, sym, ap, subst, ◌∙◌, Option, Some, None, is_some, option_map, filter, Ordering, Less, Equal, Greater, Result, Ok, Err, OnErr}
 use Rattle.std.specs.Prelude.{unwrap_or}
 use Rattle.std.specs.Ordering.{match_ordering}
 use Rattle.std.specs.Global.{Vec}
@@ -11,7 +11,7 @@ use Rattle.std.specs.Map.{remove_entry}
 use Rattle.std.proofs.lemmas.Cmp.{nat_list_cmp_total}
 use Rattle.std.proofs.lemmas.Map.Lookups.{exact_bytes}
 use Rattle.key_map.proofs.RowLaws.{rows_rise, row_in, get_row, place_row, put_row, remove_row, kept_row, drop_row, drop_room, set_room, insert_room, insert_here}
-use Rattle.key_map.specs.Slots.{HasRoom, is_blank, rows_of, with_row, Slots, by_bytes, by_key, slots_in, finds}
+use Rattle.key_map.specs.Slots.{HasRoom, has_room, is_blank, rows_of, with_row, Slots, by_bytes, by_key, slots_in, finds}
 
 abbrev pub Entry : Type 0
 Entry = Vec ℕ × Option (Vec ℕ)
@@ -110,6 +110,11 @@ module _ (es : List Entry) (s : Slots) (seen : slots_in es ≡ s) (up : IsStrict
       some_step : (o : Option (Option (Vec ℕ))) → is_some (option_map bytes_in o) ≡ is_some o
       some_step None = refl
       some_step (Some v) = refl
+
+  -- where memory is refused only for a key that is not found, it is refused only for one without room
+  pub refused_room : {T E : Type 0} (r : Result T E) (q : List ℕ) → lookup (finds q) es ≡ None → OnErr r (has_room q s ≡ false)
+  refused_room (Ok x) q none = tt
+  refused_room (Err e) q none = lookup_some q ∙ ap is_some none
 
   module _ (k : Vec ℕ) (q : List ℕ) (same : k.items ≡ q) (fs : List Entry) (is : fs ≡ insert_entry cmp es k (unwrap_or (lookup (finds k.items) es) None)) where
     row_seen : (o : Option (Option (Vec ℕ))) → bytes_in (unwrap_or o None) ≡ row_in (option_map bytes_in o)

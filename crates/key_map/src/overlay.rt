@@ -2,7 +2,7 @@
 
 ghost use Rattle.std.specs.Prelude.{◌≡◌, ◌<◌, ℕ, List, [], Some, None, OnErr, OnOk, false, length, map, option_map};
 ghost use Rattle.std.specs.BTreeMap.{insert_entry};
-ghost use Rattle.key_map.specs.Slots.{HasRoom, by_bytes, by_key};
+ghost use Rattle.key_map.specs.Slots.{HasRoom, by_bytes, by_key, has_room};
 ghost use Rattle.key_map.specs.Walk.{rows_left};
 ghost use Rattle.key_map.specs.Merging.{InOrder, Rows, changed, merged, over, row_at};
 ghost use Rattle.key_map.specs.Overlay.{change_of, changes_of, said, seen};
@@ -77,6 +77,7 @@ impl Overlay {
         ensures changes { OnOk result (changes_of self.new ≡ insert_entry by_bytes (changes_of self.old) key.items (Some row.items)) }
         ensures rows { OnOk result ((rows : Rows) → InOrder rows → merged rows (changes_of self.new) ≡ changed (merged rows (changes_of self.old)) key.items (Some row.items)) }
         ensures kept { OnErr result (changes_of self.new ≡ changes_of self.old) }
+        ensures absent { OnErr result (has_room key.items self.old ≡ false) }
         ensures room { (q : List ℕ) → HasRoom q self.old → HasRoom q self.new }
     {
         self.entries.put(key, row)?;
@@ -89,6 +90,7 @@ impl Overlay {
         ensures changes { OnOk result (changes_of self.new ≡ insert_entry by_bytes (changes_of self.old) key.items None) }
         ensures rows { OnOk result ((rows : Rows) → InOrder rows → merged rows (changes_of self.new) ≡ changed (merged rows (changes_of self.old)) key.items None) }
         ensures kept { OnErr result (changes_of self.new ≡ changes_of self.old) }
+        ensures absent { OnErr result (has_room key.items self.old ≡ false) }
         ensures room { (q : List ℕ) → HasRoom q self.old → HasRoom q self.new }
     {
         self.entries.put(key, Vec::new(alloc))?;

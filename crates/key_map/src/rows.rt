@@ -87,6 +87,7 @@ impl OrderedRows {
     pub fn put(&mut self, key: Vec<u8>, row: Vec<u8>) -> Result<(), AllocError>
         ensures rows { OnOk result (rows_of self.new ≡ insert_entry by_bytes (rows_of self.old) key.items row.items) }
         ensures kept { OnErr result (rows_of self.new ≡ rows_of self.old) }
+        ensures absent { OnErr result (has_room key.items self.old ≡ false) }
         ensures room { (q : List ℕ) → HasRoom q self.old → HasRoom q self.new }
     {
         put_slot(&mut self.slots, key, row)?;

@@ -29,6 +29,7 @@ pub(crate) fn put_slot(
 ) -> Result<(), AllocError>
     ensures entries { OnOk result (slots.new.entries ≡ insert_entry (λ x y. by_bytes x.items y.items) slots.old.entries key (Some row)) }
     ensures kept { OnErr result (slots.new.entries ≡ slots.old.entries) }
+    ensures absent { OnErr result (lookup (finds key.items) slots.old.entries ≡ None) }
     ensures ordered { IsInOrder slots.new }
 {
     slots.insert(key, Some(row))?;

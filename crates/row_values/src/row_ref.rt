@@ -90,6 +90,7 @@ impl<'a> RowRef<'a> {
 
     /// The value of column `i`, counted from 0. A text or bytes are lent from the row: the value's
     /// bytes stand in it where those of the earlier columns end.
+    #[inline(always)]
     pub fn column(&self, i: usize) -> Value<'a>
         requires { i < length (schema_in self.now).columns }
         ensures value { slice_get (values_in (schema_in self.now) (row_in self.now)) i ≡ Some (value_of result) }

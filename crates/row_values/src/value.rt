@@ -21,6 +21,7 @@ pub enum Value<'a> {
 impl Value<'_> {
     /// The order of values: numbers by value, texts and bytes by their bytes; of two classes NULL
     /// comes first, then numbers, texts and bytes.
+    #[inline(always)]
     pub fn order(&self, other: &Value<'_>) -> Ordering
         ensures { result ≡ value_cmp (value_of self.now) (value_of other.now) }
     {

@@ -30,8 +30,8 @@ use Rattle.shared_node.proofs.calls.CallList.note.Statement.{statement}
 use Rattle.shared_node.proofs.calls.CallList.note.Code as code
 
 -- the type of the call, at the lifetimes of what it borrows
-abbrev Call : Lfts 5 → RattleType
-Call κs = call.the_row (named_lft 5 2 tt κs) (named_lft 5 3 tt κs)
+abbrev Call : Lfts 6 → RattleType
+Call κs = call.the_row (named_lft 6 2 tt κs) (named_lft 6 3 tt κs) (named_lft 6 4 tt κs)
 
 abbrev stayed : Stays f.ended.signature.params f.ended.kept
 stayed = (
@@ -40,7 +40,7 @@ stayed = (
     stay_none (λ _. u64) yes,
     (
       stay_none_ref (1 ∷ []) tt (plain Call) yes,
-      (stay_none_ref (4 ∷ []) tt (plain (λ _. answer.the_row)) yes, (stay_none (λ _. bool) yes, tt)),
+      (stay_none_ref (5 ∷ []) tt (plain (λ _. answer.the_row)) yes, (stay_none (λ _. bool) yes, tt)),
     ),
   ),
 )
@@ -49,12 +49,12 @@ pub note_spec : {M : Type 1} → statement M
 note_spec 𝓤 𝓛 𝓜 𝓡 wired =
     let c = f.clauses 𝓛 𝓜.mem 𝓡.returns in let W = walk_of 𝓛 f.ended stayed c in
     proved 𝓛 f.ended stayed c 𝓜 𝓡 (
-      Goes-ref 𝓛 5 0 tt (plain (λ _. R)),
+      Goes-ref 𝓛 6 0 tt (plain (λ _. R)),
       (
-        Goes-none 𝓛 5 (λ _. u64) yes (λ κs x w. refl),
+        Goes-none 𝓛 6 (λ _. u64) yes (λ κs x w. refl),
         (
-          Goes-none_ref 𝓛 5 (1 ∷ []) tt (plain Call) yes,
-          (Goes-none_ref 𝓛 5 (4 ∷ []) tt (plain (λ _. answer.the_row)) yes, (Goes-none 𝓛 5 (λ _. bool) yes (λ κs x w. refl), tt)),
+          Goes-none_ref 𝓛 6 (1 ∷ []) tt (plain Call) yes,
+          (Goes-none_ref 𝓛 6 (5 ∷ []) tt (plain (λ _. answer.the_row)) yes, (Goes-none 𝓛 6 (λ _. bool) yes (λ κs x w. refl), tt)),
         ),
       ),
     )
@@ -66,7 +66,7 @@ note_spec 𝓤 𝓛 𝓜 𝓡 wired =
         uint_Tells w64,
         (
           shr_Tells (named 1) κs.1.0 (Call κs),
-          (shr_Tells (named 4) κs.1.1.1.1.0 answer.the_row, (bool_Tells, tt)),
+          (shr_Tells (named 5) κs.1.1.1.1.1.0 answer.the_row, (bool_Tells, tt)),
         ),
       ),
     ))
@@ -75,8 +75,8 @@ note_spec 𝓤 𝓛 𝓜 𝓡 wired =
     let more : AnsweredCall = record { conversation = a.1.0; call = call_of a.1.1.0.now; mark = if a.1.1.1.1.0 then Taken else Kept; answer = answer_of a.1.1.1.0.now } in
     let h' : CallList = record h { listed = h.listed ++ more ∷ [] } in
     let y : W.Ghost = ((κs, qs, bounds, a, (vs, (uint_vals w64 a.1.0, (shr_vals a.1.1.0, (shr_vals a.1.1.1.0, (bool_vals a.1.1.1.1.0, tt)))))), tt) in
-    let rest = owns (u64 ∷ ShrRef (named 1) κs.1.0 (Call κs) ∷ ShrRef (named 4) κs.1.1.1.1.0 answer.the_row ∷ bool ∷ []) a.1 y.0.4.1 in
-    let tokens = ‵ (flft κs.1.0 qs.1.0) ⊛ ‵ (flft κs.1.1.0 qs.1.1.0) ⊛ ‵ (flft κs.1.1.1.0 qs.1.1.1.0) ⊛ ‵ (flft κs.1.1.1.1.0 qs.1.1.1.1.0) ⊛ ‵ ftrue in
+    let rest = owns (u64 ∷ ShrRef (named 1) κs.1.0 (Call κs) ∷ ShrRef (named 5) κs.1.1.1.1.1.0 answer.the_row ∷ bool ∷ []) a.1 y.0.4.1 in
+    let tokens = ‵ (flft κs.1.0 qs.1.0) ⊛ ‵ (flft κs.1.1.0 qs.1.1.0) ⊛ ‵ (flft κs.1.1.1.0 qs.1.1.1.0) ⊛ ‵ (flft κs.1.1.1.1.0 qs.1.1.1.1.0) ⊛ ‵ (flft κs.1.1.1.1.1.0 qs.1.1.1.1.1.0) ⊛ ‵ ftrue in
     qed 𝓛 (((‵ (flft κs.0 qs.0) ⊛ tokens) ⊛ ‵ ((MutRef (named 0) κs.0 R).own_val a.0 vs) ⊛ ‵ rest) ∷ ‵ ftrue ∷ []) ∵
     split ! $ split ! $ move ! (2 ∷ []) $ split ! $ keep ! (0 ∷ 2 ∷ 3 ∷ 1 ∷ []) $
     enter ! _ _ _ _ _ $ alloc_all ! (λ l. pass_all ! refl ((tt, tt), ((tt, record { fits = are.1.0.1 }), ((tt, tt), ((tt, tt), ((tt, tt), tt))))) $
