@@ -62,6 +62,26 @@ fn add_counted(
     Ok(())
 }
 
+// The one row, where it counts, in the list that takes it over.
+fn counted_of_one(
+    alloc: Global,
+    list: RowList,
+    row: Vec<u8>,
+    wanted: &Filter,
+    is_trusted: bool,
+) -> Result<RowList, ReadError>
+    requires fresh { list.rows ≡ [] }
+    requires trusted { is_trusted ≡ true → is_row list.schema row.items ≡ true }
+    ensures found { IfOk result (λ found. found ≡ record list { rows = filter (λ row. passes wanted.now (values_in list.schema row)) (row.items ∷ []) }) }
+    ensures damaged { DamagedBy list.schema (row.items ∷ []) result }
+{
+    match matches(list.schema(), row.as_slice(), wanted, is_trusted) {
+        Ok(true) => Ok(list.with_rows(Rows::one(alloc, row)?)),
+        Ok(false) => Ok(list),
+        Err(Damaged) => Err(ReadError::Damaged),
+    }
+}
+
 // The rows that count of many.
 fn counted_of_many(
     list: RowList,
@@ -83,6 +103,7 @@ fn counted_of_many(
 
 // The rows that count. All rows of a view that is trusted, where there is no WHERE, are handed on as they are.
 fn counted(
+    alloc: Global,
     list: RowList,
     given: Given,
     wanted: &Filter,
@@ -95,11 +116,7 @@ fn counted(
 {
     match given {
         Given::None => Ok(list),
-        Given::One(row) => {
-            let mut list = list;
-            add_counted(&mut list, row.as_slice(), wanted, is_trusted)?;
-            Ok(list)
-        }
+        Given::One(row) => counted_of_one(alloc, list, row, wanted, is_trusted),
         Given::Many(rows) => {
             if is_trusted && wanted.takes_all() {
                 return Ok(list.with_rows(rows));
@@ -156,7 +173,7 @@ pub(crate) fn rows_found<V: TableView>(
 {
     stores_hold_tables();
     let given = looked_up(alloc, view, table, scope)?;
-    match counted(list, given, wanted, view.is_trusted()) {
+    match counted(alloc, list, given, wanted, view.is_trusted()) {
         Ok(found) => Ok(found),
         Err(ReadError::Damaged) => Err(view.damaged()),
         Err(ReadError::NoMemory) => Err(no_memory::<V>()),

@@ -54,6 +54,13 @@ pub ends_push : (start : ℕ) (ends : List ℕ) (n m : ℕ) → are_ends start e
 ends_push start [] n m h le = let same : start ≡ n = eqb-true start n h in last_end start m (omega arith)
 ends_push start (e ∷ es) n m h le = both_true (nat_le start e) (are_ends e (es ++ m ∷ []) m) (first_true (nat_le start e) (are_ends e es n) h) (ends_push e es n m (later_ends start e es n h) le)
 
+-- bytes that end in one place are one piece
+pub one_piece : (row : List ℕ) → pieces 0 (length row ∷ []) row ≡ row ∷ []
+one_piece row = pieces_push 0 [] [] row refl
+
+pub one_end : (row : List ℕ) → are_ends 0 (length row ∷ []) (length row) ≡ true
+one_end row = last_end 0 (length row) (omega arith)
+
 -- a row that is pushed ends where the bytes do
 pub ends_pushed : (ends bytes row : List ℕ) → are_ends 0 ends (length bytes) ≡ true → are_ends 0 (ends ++ length (bytes ++ row) ∷ []) (length (bytes ++ row)) ≡ true
 ends_pushed ends bytes row h = let sum = length-append bytes row in ends_push 0 ends (length bytes) (length (bytes ++ row)) h (omega arith)

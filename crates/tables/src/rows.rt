@@ -1,6 +1,6 @@
 //! Rows in one buffer.
 
-ghost use Rattle.std.specs.Prelude.{◌≡◌, ◌<◌, ◌∷◌, [], ◌++◌, OnErr, OnOk, Some, ◌==◌, length, true};
+ghost use Rattle.std.specs.Prelude.{◌≡◌, ◌<◌, ◌∷◌, [], ◌++◌, IfOk, OnErr, OnOk, Some, ◌==◌, length, true};
 ghost use Rattle.std.specs.List.{slice_get};
 ghost use Rattle.tables.specs.Rows.{are_ends, pieces};
 
@@ -34,6 +34,16 @@ impl Rows {
             bytes: Vec::new(alloc),
             ends: Vec::new(alloc),
         }
+    }
+
+    /// One row, whose bytes are taken over.
+    #[tactic(auto, using(crate::proofs::Pieces::one_piece, crate::proofs::Pieces::one_end))]
+    pub fn one(alloc: Global, row: Vec<u8>) -> Result<Rows, AllocError>
+        ensures { IfOk result (λ rows. rows ≡ row.items ∷ []) }
+    {
+        let mut ends = Vec::new(alloc);
+        ends.push(row.len())?;
+        Ok(Rows { bytes: row, ends })
     }
 
     /// Adds a copy of the row. Out of memory, nothing is added.
