@@ -63,11 +63,11 @@ impl<R: Recorder + Source> Core<R> {
     /// and EXCSQLSTT), over that unit's view, with these values for its markers. A SELECT is refused,
     /// and so is another number of values. Where a claim of it clashes with one of another unit, it is
     /// refused, no row is read and nothing is kept; else its claims and its changes are kept together.
-    pub fn run<'a, 't>(
+    pub fn run(
         &mut self,
         conversation: u64,
-        statement: &'a Statement<'t>,
-        parameters: &'a [Value<'t>],
+        statement: &Statement<'_>,
+        parameters: &[Value<'_>],
     ) -> Answer
         requires holds { R.holds (recorder_of self.old) (pages_of self.old) }
         ensures step { StepsOver R.is_told R.records R.fails R.reads R.fails_to_read (state_of self.old) conversation (run statement.now (map value_of parameters.now)) (answer_of result) (state_of self.new) (recorder_of self.old) (recorder_of self.new) }
@@ -87,11 +87,11 @@ impl<R: Recorder + Source> Core<R> {
     /// A SELECT is evaluated over the view of the unit that the conversation works in (DDM OPNQRY), with
     /// these values for its markers. No other statement is, nor one with another number of values. The
     /// unit keeps its claims and changes nothing. Where a claim of it clashes, no row is read.
-    pub fn query<'a, 't>(
+    pub fn query(
         &mut self,
         conversation: u64,
-        statement: &'a Statement<'t>,
-        parameters: &'a [Value<'t>],
+        statement: &Statement<'_>,
+        parameters: &[Value<'_>],
     ) -> Answer
         requires holds { R.holds (recorder_of self.old) (pages_of self.old) }
         ensures step { StepsOver R.is_told R.records R.fails R.reads R.fails_to_read (state_of self.old) conversation (query statement.now (map value_of parameters.now)) (answer_of result) (state_of self.new) (recorder_of self.old) (recorder_of self.new) }
