@@ -15,7 +15,8 @@ LINES, FEW = 60, 8
 SECTIONS = "Promise", "Calls", "Proved, tested, taken", "Why", "Edits", "Before a change"
 GATHERED = "docs/PROVED.md", "docs/DECISIONS.md", "docs/PROOFS.md"
 OF_CODE, OF_LOGIC = "src/**/*.rt", ("specs/**/*.antt", "proofs/**/*.antt")
-IS_NAME = re.compile(r"[\w.*][\w.*/-]*(?:::[\w*]+)*")
+IS_NAME = re.compile(r"[\w.][\w./-]*(?:::\w+)*")
+IS_EDIT = re.compile(r"[\w*/]+")
 WORD = re.compile(r"\w+(?:[-']\w+)*")
 # Files beside the crates whose words a document may name.
 OTHERS = "tests/**/*", "tools/*", "bench/**/*", "edits/**/*", "crates/*/must-fail/*", "Makefile", "crates.txt"
@@ -71,8 +72,8 @@ def is_there(name, crate):
     return (crate and parts <= known(crate)) or parts <= known_anywhere() or is_path(name, crate)
 
 
-def names_in(text):
-    return [name for name in re.findall(r"`([^`]+)`", text) if IS_NAME.fullmatch(name)]
+def names_in(text, is_name=IS_NAME):
+    return [name for name in re.findall(r"`([^`]+)`", text) if is_name.fullmatch(name)]
 
 
 def faults_of_calls(crate, text):
@@ -86,7 +87,7 @@ def faults_of_calls(crate, text):
 
 def faults_of_edits(crate, text):
     edits, _ = edits_of(crate)
-    for name in names_in(text):
+    for name in names_in(text, IS_EDIT):
         if not (is_path(name, crate) if "/" in name else fnmatch.filter(edits, name)):
             yield f"no edit {name}"
 
