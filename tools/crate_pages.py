@@ -1,7 +1,7 @@
 """The page of each crate of the product, crates/NAME/README.md, and the three documents that gather what belongs to no crate.
 
 A page has the crate's name as its heading, a line that says its subject, and the sections of SECTIONS in their order, none of them
-empty, in LINES lines at most. The other crates (tests, fixtures) may have a page; it has no sections, and FEW lines at most.
+empty, in LINES lines of WIDTH letters at most. The other crates (tests, fixtures) may have a page; it has no sections, and FEW lines at most.
 
 What stands in backquotes is there. A point of "Calls" begins with calls and types that the crate's sources declare, and what else it
 names is a word of the crate's sources or definitions. A name in "Edits" is an edit's of the crate; a `*` stands for any end of a
@@ -11,7 +11,7 @@ import fnmatch, functools, glob, os, re
 
 from crates import TOP, crates_now, edits_of
 
-LINES, FEW = 60, 8
+LINES, WIDTH, FEW = 60, 150, 8
 SECTIONS = "Promise", "Calls", "Proved, tested, taken", "Why", "Edits", "Before a change"
 GATHERED = "docs/PROVED.md", "docs/DECISIONS.md", "docs/PROOFS.md"
 OF_CODE, OF_LOGIC = "src/**/*.rt", ("specs/**/*.antt", "proofs/**/*.antt")
@@ -27,6 +27,11 @@ def text_of(path):
         return file.read()
 
 
+def code_of(path):
+    """The text of a source or a definition without its comments."""
+    return re.sub(r"^\s*--.*$|(?<!:)//.*$", "", text_of(path), flags=re.MULTILINE)
+
+
 def words_of(text):
     return {part for word in WORD.findall(text) for part in (word, *re.split(r"[-']", word))}
 
@@ -39,15 +44,15 @@ def files_of(crate, *patterns):
 @functools.cache
 def declared(crate):
     """What the crate's sources declare, in clauses too."""
-    texts = "\n".join(text_of(path) for path in files_of(crate, OF_CODE))
+    texts = "\n".join(code_of(path) for path in files_of(crate, OF_CODE))
     return set(re.findall(r"\b(?:fn|struct|enum|trait|const|static|type|ghost|mod)\s+(\w+)", texts))
 
 
 @functools.cache
 def known(crate):
-    """The words of the crate's sources and definitions, and the names of their files."""
+    """The words of the crate's sources and definitions but for their comments, and the names of their files."""
     paths = files_of(crate, OF_CODE, *OF_LOGIC)
-    return {word for path in paths for word in words_of(text_of(path))} | {os.path.splitext(os.path.basename(path))[0] for path in paths}
+    return {word for path in paths for word in words_of(code_of(path))} | {os.path.splitext(os.path.basename(path))[0] for path in paths}
 
 
 @functools.cache
@@ -62,7 +67,7 @@ def known_anywhere():
 
 
 def is_path(name, crate):
-    return any(glob.glob(f"{top}/{name}") for top in (TOP, *([f"{TOP}/crates/{crate}"] if crate else [])))
+    return any(glob.glob(f"{top}/{name}") for top in (TOP, f"{TOP}/crates/{crate or '*'}"))
 
 
 def is_there(name, crate):
@@ -102,8 +107,8 @@ CHECKS = {"Calls": faults_of_calls, "Edits": faults_of_edits}
 def faults_of_page(crate, text):
     head, *parts = re.split(r"^## (.*)\n", text, flags=re.MULTILINE)
     sections = dict(zip(parts[::2], parts[1::2]))
-    if text.count("\n") > LINES:
-        yield f"more than {LINES} lines"
+    if text.count("\n") > LINES or any(len(line) > WIDTH for line in text.split("\n")):
+        yield f"more than {LINES} lines of {WIDTH} letters"
     if not re.match(rf"# {crate}\n\n\S.*\n", head):
         yield "not its name and a line that says its subject"
     if tuple(parts[::2]) != SECTIONS:
@@ -121,7 +126,7 @@ def is_of_tests(crate):
 def faults_of_crate(crate):
     path = f"{TOP}/crates/{crate}/README.md"
     if not os.path.isfile(path):
-        return []
+        return [] if is_of_tests(crate) else ["no page"]
     text = text_of(path)
     if not is_of_tests(crate):
         return faults_of_page(crate, text)
@@ -131,4 +136,4 @@ def faults_of_crate(crate):
 def faults():
     """What is missing in the pages and in the three documents, each with its path."""
     pages = [f"crates/{crate}/README.md: {fault}" for crate in crates_now() for fault in faults_of_crate(crate)]
-    return pages
+    return pages + [f"{path}: {fault}" for path in GATHERED for fault in faults_of_names(None, text_of(f"{TOP}/{path}"))]
