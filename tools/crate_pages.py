@@ -18,7 +18,7 @@ OF_CODE, OF_LOGIC = "src/**/*.rt", ("specs/**/*.antt", "proofs/**/*.antt")
 IS_NAME = re.compile(r"[\w.][\w./-]*(?:::\w+)*")
 IS_EDIT = re.compile(r"[\w*/]+")
 WORD = re.compile(r"\w+(?:[-']\w+)*")
-# Files beside the crates whose words a document may name.
+# Files beside the crates that a document may name.
 OTHERS = "tests/**/*", "tools/*", "bench/**/*", "edits/**/*", "crates/*/must-fail/*", "Makefile", "crates.txt"
 
 
@@ -57,12 +57,10 @@ def known(crate):
 
 @functools.cache
 def known_anywhere():
-    """The words of all crates, their names, those of the files beside them, and the words of the programs among these."""
+    """The words of all crates, their names, and those of the files beside them."""
     found = set(crates_now()).union(*(known(crate) for crate in crates_now()))
     for path in (path for pattern in OTHERS for path in glob.glob(f"{TOP}/{pattern}", recursive=True)):
         found |= {os.path.basename(path), os.path.splitext(os.path.basename(path))[0]}
-        if os.path.isfile(path) and path.startswith((f"{TOP}/tests/", f"{TOP}/tools/", f"{TOP}/Makefile")):
-            found |= words_of(text_of(path))
     return found
 
 
@@ -73,7 +71,7 @@ def is_path(name, crate):
 def is_there(name, crate):
     if "/" in name:
         return is_path(name, crate)
-    parts = set(re.split(r"::|\.", name)) - {""}
+    parts = set(re.split(r"::|\.", re.sub(r"\.(antt|rt|edit)$", "", name))) - {""}
     return (crate and parts <= known(crate)) or parts <= known_anywhere() or is_path(name, crate)
 
 
