@@ -1,5 +1,5 @@
 -- Calls of the core over its disk, as those who ask it see them.
-use Rattle.std.proofs.Common.{◌≡◌, ℕ, Bool, true, false, [], ◌++◌, refl, sym, ap, ◌∙◌, inl, inr, append-nil}
+use Rattle.std.proofs.Common.{◌≡◌, ℕ, Bool, true, false, [], refl, sym, ap, ◌∙◌, inl, inr}
 use Rattle.std.specs.Prelude.{if◌then◌else◌}
 use Rattle.drda_disk.specs.Disk.{Life}
 use Rattle.core_calls.specs.Call.{Call}
@@ -9,7 +9,9 @@ use Rattle.core_model.specs.Step.{step_state}
 use Rattle.half_store.specs.declared.header.Layout.{Layout}
 use Rattle.half_store.specs.declared.header.Layout.TheVariants.{Two}
 use Rattle.recovery.specs.Journaled.{IsRead, IsUnchanged, OnDisk, shown_on}
+use Rattle.unit_records.specs.MadeRecords.{with_done}
 use Rattle.durable_core.specs.Steps.{Loses, Steps}
+use Rattle.durable_core.proofs.Recording.{nothing_done}
 use Rattle.durable_core.specs.Checkpointing.{Becomes, Checkpoints, IsSameCore}
 use Rattle.durable_core.specs.declared.checkpointing.Checkpointed.{Checkpointed}
 use Rattle.durable_core.specs.declared.checkpointing.Checkpointed.TheVariants.{Closed, DeviceFailed, Done, Full, NoMemory}
@@ -54,7 +56,7 @@ module _ {D : Type 0} (modelled : Bool) (life : D → Life) where
     layout = t.layout;
     room = t.room;
     failed = t.failed;
-    made = t.made;
+    begun = t.begun;
   })))))
   core_asks old new place call answer (inr (inr (inr (inr (inr (inl t)))))) = inr (inr (inr (inr (inr (inl (record {
     going = t.going;
@@ -66,14 +68,14 @@ module _ {D : Type 0} (modelled : Bool) (life : D → Life) where
 
   -- ---- what a loss leaves
 
-  left_going : (old : OnDisk D) (place : ℕ) (new : AskedCore) → new.is_told ≡ modelled → old.is_failed ≡ false → new.state ≡ step_state old.state place call.lost → new.layout ≡ old.layout → new.room ≡ old.room → new.has_failed ≡ false → new.made ≡ old.made ++ [] → new ≡ left_by (asked old) place
+  left_going : (old : OnDisk D) (place : ℕ) (new : AskedCore) → new.is_told ≡ modelled → old.is_failed ≡ false → new.state ≡ step_state old.state place call.lost → new.layout ≡ old.layout → new.room ≡ old.room → new.has_failed ≡ false → new.made ≡ with_done old.made [] → new ≡ left_by (asked old) place
   left_going old place new told going state layout room still made = λ i. record {
     is_told = told i;
     state = (state ∙ ap (λ (b : Bool). if b then old.state else step_state old.state place call.lost) (sym going)) i;
     layout = layout i;
     room = room i;
     has_failed = (still ∙ sym going) i;
-    made = (made ∙ append-nil old.made) i;
+    made = (made ∙ sym (nothing_done old.made)) i;
   }
 
   left_failed : (old : OnDisk D) (place : ℕ) (new : AskedCore) → old.is_failed ≡ true → new ≡ asked old → new ≡ left_by (asked old) place

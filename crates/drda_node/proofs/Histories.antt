@@ -1,5 +1,5 @@
 -- What a machine does to its core is a history of calls.
-use Rattle.std.proofs.Common.{◌≡◌, ◌⊎◌, ℕ, Bool, true, false, List, [], ◌∷◌, ◌++◌, Option, Some, None, slice_get, refl, sym, ap, subst, ◌∙◌, inl, inr, append-nil}
+use Rattle.std.proofs.Common.{◌≡◌, ◌⊎◌, ℕ, Bool, true, false, List, [], ◌∷◌, ◌++◌, Option, Some, None, slice_get, refl, sym, ap, subst, ◌∙◌, inl, inr}
 use Rattle.std.proofs.lemmas.Bool.{false≢true}
 use Rattle.std.specs.Prelude.{if◌then◌else◌}
 use Rattle.dss_frames.specs.Dss.{Dss}
@@ -18,6 +18,7 @@ use Rattle.core_calls.specs.Answer.{Answer}
 use Rattle.core_model.specs.Step.{CoreState, Kept, Mark, Taken, answer, replay, step_by, step_state}
 use Rattle.durable_core.specs.declared.checkpointing.Checkpointed.{Checkpointed}
 use Rattle.durable_core.specs.declared.checkpointing.Checkpointed.TheVariants.{Closed, DeviceFailed, Done, Full, NoMemory}
+use Rattle.durable_core.proofs.Recording.{nothing_done}
 use Rattle.drda_node.specs.Asking.{AskedCore, IsExcused, asks, left_by}
 use Rattle.drda_node.specs.Machine as machine
 use Rattle.drda_node.specs.Machine.{Conversation, Machine}
@@ -112,7 +113,7 @@ lost_by false old place is =
       layout = refl;
       room = refl;
       still = is;
-      made = sym (append-nil old.made);
+      made = nothing_done old.made;
     }))
 
 lost : (old : Machine) (place : ℕ) → Calls place old.core (machine.lost old place).core

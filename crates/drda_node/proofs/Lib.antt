@@ -6,6 +6,7 @@ pub mod Journal
 pub mod Placed
 pub mod Recording
 pub mod Runs
+pub mod Stations
 pub mod Rows
 pub mod Refusing
 pub mod Histories

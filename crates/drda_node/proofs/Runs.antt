@@ -92,7 +92,7 @@ whole first now input left gathered w0 w w' so_far wrote = record {
 -- ---- what is left behind the events that are answered
 
 same_goes_on : (m : Machine) → GoesOn m m
-same_goes_on m = record { settings = refl; more = []; made = sym (append-nil m.core.made); failed = λ failed. failed }
+same_goes_on m = record { settings = refl; more = []; done = sym (append-nil m.core.made.done); failed = λ failed. failed }
 
 none_begun : (m : Machine) (rest : List ℕ) → Leaves m rest m
 none_begun m rest = record { goes_on = same_goes_on m; begun = inl refl }

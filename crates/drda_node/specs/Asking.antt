@@ -1,9 +1,9 @@
 -- Who is asked: the core, for one conversation, which it knows by its place in the row. What a conversation
 -- leaves unfinished goes with it when it is lost, so that another one may have its place.
-use Rattle.std.specs.Prelude.{◌≡◌, ◌⊎◌, ℕ, ◌+◌, ◌-◌, ◌^◌, ◌<◌, min, Bool, true, false, List, [], ◌∷◌, ◌++◌, Some, if◌then◌else◌}
+use Rattle.std.specs.Prelude.{◌≡◌, ◌⊎◌, ℕ, ◌+◌, ◌-◌, ◌^◌, ◌<◌, min, Bool, true, false, [], ◌∷◌, Some, if◌then◌else◌}
 use Rattle.drda_disk.specs.Disk.{Life}
 use Rattle.half_store.specs.declared.header.Layout.{Layout}
-use Rattle.unit_journal.specs.Record.{Entry}
+use Rattle.unit_records.specs.MadeRecords.{MadeRecords, with_begun, with_done}
 use Rattle.unit_records.specs.Records.{UnitRecord, entry_of}
 use Rattle.unit_records.specs.Room.{held, released, taken}
 use Rattle.core_calls.specs.Call as call
@@ -13,19 +13,19 @@ use Rattle.core_model.specs.Misread.{Misreads, reads_rows}
 use Rattle.core_model.specs.Step.{CoreState, answer as answer_to, step_state}
 use Rattle.unit_records.specs.Due.{record_due}
 use Rattle.recovery.specs.Journaled.{Journaled, OnDisk, shown_on}
-use Rattle.durable_core.specs.Steps.{MayWantMemory, RoomAfter, due_entries}
+use Rattle.durable_core.specs.Steps.{MayWantMemory, RoomAfter, due_groups}
 use Rattle.drda_node.specs.declared.asker.CoreAsker.{CoreAsker}
 
 -- what a core is to those who ask it: whether its device gives back what was written, its state, its store's layout, the bytes that
--- are left for records, whether the device has failed, and the records that were due of its calls so far, in their order; the last
--- may be of a call in which the device failed
+-- are left for records, whether the device has failed, and the records of its calls so far: those that were made, and those that
+-- were begun in the call in which the device failed
 pub record AskedCore : Type 0 where
   pub is_told : Bool
   pub state : CoreState
   pub layout : Layout
   pub room : ℕ
   pub has_failed : Bool
-  pub made : List Entry
+  pub made : MadeRecords
 
 -- the answer and the state behind it are those of the step; a record that was due is in the room
 pub record IsTaken (old : AskedCore) (place : ℕ) (call : Call) (answer : Answer) (new : AskedCore) : Type 0 where
@@ -36,7 +36,7 @@ pub record IsTaken (old : AskedCore) (place : ℕ) (call : Call) (answer : Answe
   pub layout : new.layout ≡ old.layout
   pub room : RoomAfter old.layout (record_due old.state place call) old.room new.room
   pub still : new.has_failed ≡ false
-  pub made : new.made ≡ old.made ++ due_entries (record_due old.state place call)
+  pub made : new.made ≡ with_done old.made (due_groups (record_due old.state place call))
 
 -- The device, which need not give back what was written, gave other rows of the tables to a statement: the answer and the units
 -- are those of the step over them. What is committed stays.
@@ -64,7 +64,7 @@ pub record FindsNoRoom (old : AskedCore) (place : ℕ) (call : Call) (answer : A
   pub less : old.room + released old.layout record_is < taken record_is + held old.layout record_is
   pub same : new ≡ old
 
--- the device failed where the call's record was to be made
+-- the device failed where the call's record was to be made, which was begun
 pub record FailsHere (old : AskedCore) (place : ℕ) (call : Call) (answer : Answer) (new : AskedCore) : Type 0 where
   pub told : new.is_told ≡ old.is_told
   pub going : old.has_failed ≡ false
@@ -75,7 +75,7 @@ pub record FailsHere (old : AskedCore) (place : ℕ) (call : Call) (answer : Ans
   pub layout : new.layout ≡ old.layout
   pub room : new.room ≡ old.room
   pub failed : new.has_failed ≡ true
-  pub made : new.made ≡ old.made ++ entry_of record_is ∷ []
+  pub begun : new.made ≡ with_begun old.made ((entry_of record_is ∷ []) ∷ [])
 
 -- the device failed where rows were read for a statement; no record was due
 pub record FailsToRead (old : AskedCore) (place : ℕ) (call : Call) (answer : Answer) (new : AskedCore) : Type 0 where

@@ -9,6 +9,7 @@ pub mod Feeding
 pub mod Gathering
 pub mod Register
 pub mod Serving
+pub mod Stations
 pub mod Sharing
 pub mod Calls
 pub mod Serial

@@ -26,8 +26,8 @@ pub record Serves (first : Machine) (input : List ℕ) (before : Option (List �
 -- what was made before was made, what it was started with is the same, and a core that has failed stays so
 pub record GoesOn (old new : Machine) : Type 0 where
   pub settings : new.settings ≡ old.settings
-  pub more : List Entry
-  pub made : new.core.made ≡ old.core.made ++ more
+  pub more : List (List Entry)
+  pub done : new.core.made.done ≡ old.core.made.done ++ more
   pub failed : old.core.has_failed ≡ true → new.core.has_failed ≡ true
 
 -- where memory is refused, an event may have begun that is not answered

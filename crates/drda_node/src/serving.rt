@@ -4,6 +4,7 @@ ghost use Rattle.std.specs.Prelude.{IfSome};
 ghost use Rattle.drda_node.specs.Asking.{IsJournaled};
 ghost use Rattle.drda_node.specs.Register.{core_in, machine};
 ghost use Rattle.drda_node.specs.Serving.{Runs};
+ghost use Rattle.drda_node.specs.Stations.{RunsAlong, first_station};
 
 use crate::answering::answer;
 use crate::event::MAX_DATA_BYTES;
@@ -38,9 +39,12 @@ pub enum RunEnd {
 /// What is written is what the machine answers: on Ended to exactly the events of the input; on BadEvent to
 /// exactly the events before what is no event; on ReadFault and NoMemory to some events at its beginning; on
 /// WriteFault a prefix of such answers. Where memory was refused one more event may have begun, which is not
-/// answered. A crash at any moment leaves a disk that opens to the tables and the units in doubt after the
-/// first of the records that the events made due; a crash now, after all of them, or all but the last where
-/// the device failed.
+/// answered.
+///
+/// A run is a chain of stations, one behind each event: what an event left on the disk is journaled before its answer
+/// is written. So a crash at any moment leaves a disk that opens to the tables and the units in doubt after all
+/// records of the events that were answered until then, and perhaps of some more; a crash behind the run, after all
+/// that was made, or with it all that was begun in the call in which the device failed.
 pub fn run<D: Disk, R: Ready, W: Write>(
     alloc: Global,
     node: &mut Node<D>,
@@ -49,6 +53,8 @@ pub fn run<D: Disk, R: Ready, W: Write>(
 ) -> RunEnd
     ensures runs { IfSome (R.remaining reader.old) (λ input.
         Runs (machine node.old) input (W.contents writer.old) result (W.contents writer.new) (machine node.new)) }
+    ensures stations { IfSome (R.remaining reader.old) (λ input.
+        RunsAlong D.is_modelled D.life (first_station (machine node.old) (core_in node.old)) input (W.contents writer.old) (W.contents writer.new) (core_in node.new)) }
     ensures journaled { IsJournaled D.is_modelled D.life (core_in node.old) (core_in node.new) }
 {
     calls_go_on::<D>();

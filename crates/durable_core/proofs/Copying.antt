@@ -10,7 +10,7 @@ use Rattle.ahead_view.specs.Source.{LeavesReader}
 use Rattle.ahead_view.specs.declared.source.ReadError.{ReadError}
 use Rattle.ahead_view.specs.declared.source.ReadError.TheVariants as error
 use Rattle.journal_recorder.specs.Reading.{FailsToRead, HasPages, Reads}
-use Rattle.journal_recorder.specs.Recording.{disk_of, has_failed, journal_of}
+use Rattle.journal_recorder.specs.Recording.{disk_of, has_failed}
 use Rattle.journal_recorder.specs.declared.recorder.DiskRecorder.{DiskRecorder}
 use Rattle.recovery.specs.Journaled.{Journaled, shown_on}
 use Rattle.rdb_core.specs.Copied.{FailsOn, ReadsAlong, ReadsOn}

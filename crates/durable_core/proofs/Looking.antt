@@ -1,11 +1,12 @@
 -- What a statement makes of a core and of who records and reads, where rows are read ahead of it: it stays recorded, and each
 -- answer is one of `Steps`.
-use Rattle.std.proofs.Common.{◌≡◌, ◌⊎◌, inl, inr, ℕ, ◌+◌, Bool, IsTrue, true, false, List, ◌++◌, Option, None, Err, refl, sym, ◌∙◌, ap, subst, append-nil}
+use Rattle.std.proofs.Common.{◌≡◌, ◌⊎◌, inl, inr, ℕ, ◌+◌, Bool, IsTrue, true, false, List, Option, None, Err, refl, sym, ◌∙◌, ap, subst}
 use Rattle.std.proofs.lemmas.Bool.{false≢true}
 use Rattle.drda_disk.specs.Disk.{Life}
 use Rattle.unit_journal.specs.Journal.{room_of}
 use Rattle.unit_journal.specs.declared.journal.Journal.{Journal}
 use Rattle.unit_records.specs.Due.{record_due}
+use Rattle.unit_records.specs.MadeRecords.{with_done}
 use Rattle.unit_records.specs.Records.{UnitRecord}
 use Rattle.core_calls.specs.Answer.{Answer, device_failed, no_memory}
 use Rattle.core_calls.specs.Call as call
@@ -19,12 +20,11 @@ use Rattle.recovery.specs.Part.{durable_part}
 use Rattle.journal_recorder.specs.Reading.{FailsToRead, Reads}
 use Rattle.journal_recorder.specs.Recording.{Fails, Records, disk_of, has_failed, journal_of, layout_of, made_of}
 use Rattle.journal_recorder.specs.declared.recorder.DiskRecorder.{DiskRecorder}
-use Rattle.recovery.specs.Journaled.{shown_on}
 use Rattle.rdb_core.specs.Looks as core
 use Rattle.rdb_core.specs.Steps.{IsTaken, Takes, may_want_any}
-use Rattle.durable_core.specs.Recorded.{IsRecorded, core_on}
-use Rattle.durable_core.specs.Steps.{MayWantMemory, RoomAfter, due_entries}
-use Rattle.durable_core.proofs.Recording.{RestsOn, no_faults, only_read, read_journaled, read_recorded, some_fault}
+use Rattle.durable_core.specs.Recorded.{IsRecorded}
+use Rattle.durable_core.specs.Steps.{MayWantMemory, RoomAfter, due_groups}
+use Rattle.durable_core.proofs.Recording.{RestsOn, no_faults, nothing_done, only_read, read_journaled, read_recorded, some_fault}
 use Rattle.durable_core.proofs.Stepping.{IsDone, StepLaws, plain_step, unless_sure}
 
 -- no record is due of a statement
@@ -68,7 +68,7 @@ module _ {D : Type 0} (modelled : Bool) (life : D → Life) (name : List ℕ) (a
               room = subst (λ (o : Option UnitRecord). RoomAfter (layout_of r) o (room_of (journal_of r)) (room_of (journal_of after))) (sym none) (ap (λ (j : Journal). room_of j) read.journal);
               faults = read.faults;
               still = still;
-              made = read.made ∙ sym (append-nil (made_of r)) ∙ ap (λ (o : Option UnitRecord). made_of r ++ due_entries o) (sym none);
+              made = read.made ∙ nothing_done (made_of r) ∙ ap (λ (o : Option UnitRecord). with_done (made_of r) (due_groups o)) (sym none);
             });
             journaled = read_journaled modelled life name all.laws s r is going (step_state s conversation k) same after rests (no_faults modelled (has_failed after) (life (disk_of r)).faults (life (disk_of after)).faults still read.faults);
           }

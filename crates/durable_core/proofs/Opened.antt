@@ -1,5 +1,5 @@
 -- A core over what was read of a store.
-use Rattle.std.proofs.Common.{◌≡◌, ◌-◌, ◌≤◌, Bool, IsTrue, arith, length, sym, ◌∙◌, ap, subst}
+use Rattle.std.proofs.Common.{◌≡◌, ◌-◌, ◌≤◌, Bool, IsTrue, [], arith, length, sym, ◌∙◌, ap, subst}
 use Rattle.drda_disk.specs.Disk.{Life}
 use Rattle.drda_disk.specs.Region.{end_of}
 use Rattle.half_store.specs.Layout.{half_len}
@@ -15,7 +15,7 @@ use Rattle.recovery.specs.Kept.{IsKept}
 use Rattle.recovery.specs.StepLaws.{OpeningsAreKept}
 use Rattle.recovery.specs.Part.{durable_part, opened}
 use Rattle.journal_recorder.specs.Reading.{HasPages}
-use Rattle.journal_recorder.specs.Recording.{cache_of, disk_of, journal_of, layout_of}
+use Rattle.journal_recorder.specs.Recording.{cache_of, disk_of, journal_of, layout_of, made_of}
 use Rattle.journal_recorder.specs.declared.recorder.DiskRecorder.{DiskRecorder}
 use Rattle.recovery.specs.Opens.{Holds}
 use Rattle.durable_core.specs.Recorded.{IsOnDisk, IsRecorded}
@@ -27,8 +27,8 @@ module _ {D : Type 0} (modelled : Bool) (life : D → Life) (laws : OpeningsAreK
   part_is : durable_part s ≡ durable_in f
   part_is = ap (λ (t : CoreState). durable_part t) state ∙ (laws (durable_in f) found.sound).part
 
-  on_disk : IsTrue modelled → IsOnDisk modelled life (name_in f) s r
-  on_disk is =
+  on_disk : (made_of r).begun ≡ [] → IsTrue modelled → IsOnDisk modelled life (name_in f) s r
+  on_disk none_begun is =
       let there = found.stands is in
       record {
         entries = there.entries;
@@ -38,15 +38,16 @@ module _ {D : Type 0} (modelled : Bool) (life : D → Life) (laws : OpeningsAreK
             (subst (λ (j : Journal). Holds (name_in f) f.layout (region_of j) there.entries (durable_part s) (life (disk_of r)).seen) (sym same_journal)
             (subst (λ (d : Durable). Holds (name_in f) f.layout (region_of f.journal) there.entries d (life (disk_of r)).seen) (sym part_is)
             (subst (λ (x : D). Holds (name_in f) f.layout (region_of f.journal) there.entries (durable_in f) (life x).seen) (sym same_disk) there.holds)));
+        none_begun = none_begun;
       }
 
-  pub is_recorded : IsRecorded modelled life (name_in f) s r
-  is_recorded = record {
+  pub is_recorded : (made_of r).begun ≡ [] → IsRecorded modelled life (name_in f) s r
+  is_recorded none_begun = record {
     kept = subst (λ (t : CoreState). IsKept t) (sym state) (laws (durable_in f) found.sound).kept;
     held = ap (λ (j : Journal). held_of j) same_journal ∙ found.held ∙ ap (λ (d : Durable). held_for f.layout d.doubts) (sym part_is) ∙ ap (λ (l : Layout). held_for l (durable_part s).doubts) (sym same_layout);
     inside = subst (λ (j : Journal). end_of (region_of j) ≤ length (life (disk_of r)).seen) (sym same_journal)
         (subst (λ (x : D). end_of (region_of f.journal) ≤ length (life x).seen) (sym same_disk) found.inside);
-    on_disk = λ is going. on_disk is;
+    on_disk = λ is going. on_disk none_begun is;
   }
 
   -- and the pages of its tables can be read

@@ -1,7 +1,6 @@
 -- Branches that go through a phase together leave a core that is recorded, and what is made of its disk is journaled.
-use Rattle.std.proofs.Common.{◌≡◌, ℕ, ◌+◌, ◌-◌, ◌≤◌, Bool, true, false, IsTrue, List, [], ◌++◌, length, map, Some, Result, Ok, Err, IfErr, OnErr, OnOk, refl, sym, ◌∙◌, ap, subst, arith, append-nil}
+use Rattle.std.proofs.Common.{◌≡◌, ℕ, ◌+◌, ◌-◌, ◌≤◌, Bool, true, false, IsTrue, List, [], ◌∷◌, ◌++◌, length, map, Some, Result, Ok, Err, IfErr, OnErr, OnOk, refl, sym, ◌∙◌, ap, subst, arith, append-nil}
 use Rattle.std.proofs.lemmas.Bool.{false≢true}
-use Rattle.std.proofs.lemmas.List.{length-map}
 use Rattle.drda_disk.specs.Disk.{Life}
 use Rattle.drda_disk.specs.Region.{end_of}
 use Rattle.drda_disk.specs.declared.region.Region.{Region}
@@ -11,9 +10,10 @@ use Rattle.unit_journal.specs.Journal.{held_of, region_of, room_of}
 use Rattle.unit_journal.specs.declared.journal.Journal.{Journal}
 use Rattle.unit_journal.specs.Record.{laid}
 use Rattle.unit_journal.specs.Stands.{Stands}
+use Rattle.unit_records.specs.MadeRecords.{MadeRecords}
 use Rattle.unit_records.specs.Records.{UnitRecord, entry_of}
 use Rattle.unit_records.specs.Room.{held_by, released_by, taken_by}
-use Rattle.unit_records.specs.Phases.{all_through, may_go_through, record_in, records_in}
+use Rattle.unit_records.specs.Phases.{all_through, may_go_through, records_in}
 use Rattle.unit_records.specs.Together.{FailsTogether}
 use Rattle.unit_records.specs.declared.group_error.GroupError.{GroupError}
 use Rattle.unit_records.specs.declared.group_error.GroupError.TheVariants.{DeviceFailed, Refused}
@@ -27,11 +27,11 @@ use Rattle.core_model.specs.Step.{CoreState}
 use Rattle.recovery.specs.Part.{durable_part}
 use Rattle.recovery.specs.Opens.{Holds}
 use Rattle.recovery.specs.ImageLaws.{GroupsStay}
-use Rattle.recovery.specs.Journaled.{GroupsGoOn, IsDurable, JournaledBy, MadeBy, OnDisk, OneCallIsMade, OneGroupIsMade, shown_on}
-use Rattle.journal_recorder.specs.Recording.{AllowsAll, AreLeftOpen, RecordsAll, disk_of, has_failed, journal_of, layout_of}
+use Rattle.recovery.specs.Journaled.{CallsGoOn, IsDurable, Journaled, Made, OneCallIsMade, OneGroupIsMade, shown_on}
+use Rattle.journal_recorder.specs.Recording.{AllowsAll, AreLeftOpen, RecordsAll, disk_of, has_failed, journal_of, layout_of, made_of}
 use Rattle.journal_recorder.specs.declared.recorder.DiskRecorder.{DiskRecorder}
 use Rattle.durable_core.specs.Recorded.{IsOnDisk, IsRecorded, core_on}
-use Rattle.durable_core.proofs.Recording.{durable_from, no_faults, one_fault}
+use Rattle.durable_core.proofs.Recording.{done_in, durable_from, no_faults, one_fault}
 
 -- the laws that it rests on
 pub record PhaseLaws {D : Type 0} (life : D → Life) : Type 0 where
@@ -43,31 +43,20 @@ pub record PhaseLaws {D : Type 0} (life : D → Life) : Type 0 where
   pub stay : GroupsStay
   pub calls : OneCallIsMade life
   pub groups : OneGroupIsMade life
-  pub go_on : GroupsGoOn life
+  pub go_on : CallsGoOn life
 
 -- records that find room fit behind the others, with the bytes that are held then
 fits : (at len l need hold free before after room : ℕ) → room ≡ at + len - (at + l) - 1 - before → l + 1 + before ≤ len → need + hold ≤ room + free → after + free ≡ before + hold → l + need + 1 + after ≤ len
 fits at len l need hold free before after room is inside less same = omega (arith, is, inside, less, same)
 
--- a core that has failed does nothing
-pub phase_closed : {D : Type 0} (modelled : Bool) (life : D → Life) → OneCallIsMade life → (most : ℕ) (s : OnDisk D) → s.is_failed ≡ true → JournaledBy most modelled (shown_on life s) (shown_on life s)
-phase_closed modelled life made most s failed = record {
-  name = refl;
-  more = [];
-  made = sym (append-nil s.made);
-  faults = λ going. absurd (false≢true (sym going ∙ failed));
-  failed = λ before. made.failed s s before refl;
-  records = λ modelled_disk going. absurd (false≢true (sym going ∙ failed));
-}
-
 module _ {D : Type 0} (modelled : Bool) (life : D → Life) (name : List ℕ) (all : PhaseLaws life) (s : CoreState) (r : DiskRecorder D) (is : IsRecorded modelled life name s r) (going : has_failed r ≡ false) where
-  pub record IsLeft (most : ℕ) (new : CoreState) (after : DiskRecorder D) : Type 0 where
+  pub record IsLeft (new : CoreState) (after : DiskRecorder D) : Type 0 where
     pub recorded : IsRecorded modelled life name new after
-    pub journaled : JournaledBy most modelled (shown_on life (core_on name s r)) (shown_on life (core_on name new after))
+    pub journaled : Journaled modelled (shown_on life (core_on name s r)) (shown_on life (core_on name new after))
 
   -- nothing was done
-  pub same_left : (most : ℕ) → IsLeft most s r
-  same_left most = record { recorded = is; journaled = all.go_on.none most modelled (core_on name s r) (λ modelled_disk still. durable_from modelled life name all.calls s r is modelled_disk still) }
+  pub same_left : IsLeft s r
+  same_left = record { recorded = is; journaled = all.go_on.none modelled (core_on name s r) (λ modelled_disk still. durable_from modelled life name all.calls s r is modelled_disk still) }
 
   module _ (phase : Phase) (cs : List BranchCall) (may : may_go_through phase s cs ≡ true) where
     abbrev behind : CoreState
@@ -78,9 +67,6 @@ module _ {D : Type 0} (modelled : Bool) (life : D → Life) (name : List ℕ) (a
 
     leads : replayed_from (durable_part s) said ≡ Some (durable_part behind)
     leads = all.lead s phase cs is.kept may
-
-    as_many : length said ≡ length cs
-    as_many = length-map cs (λ (c : BranchCall). record_in phase s.base.units c.xid)
 
     abbrev hold : ℕ
     hold = held_by (layout_of r) said
@@ -111,10 +97,6 @@ module _ {D : Type 0} (modelled : Bool) (life : D → Life) (name : List ℕ) (a
         (subst (λ (n : ℕ). length (laid there.entries) + 1 + n ≤ (region_of (journal_of r)).length) (sym is.held) there.holds.room)
         less (holds_for ∙ ap (λ (n : ℕ). n + hold) (sym is.held))
 
-    made_for : (new : CoreState) (after : DiskRecorder D) → MadeBy (length said) said (shown_on life (core_on name s r)) (shown_on life (core_on name new after))
-        → MadeBy (length cs) said (shown_on life (core_on name s r)) (shown_on life (core_on name new after))
-    made_for new after made = subst (λ (n : ℕ). MadeBy n said (shown_on life (core_on name s r)) (shown_on life (core_on name new after))) as_many made
-
     -- ---- the records are made
 
     module _ (after : DiskRecorder D) (made : RecordsAll modelled life r said after) where
@@ -133,20 +115,21 @@ module _ {D : Type 0} (modelled : Bool) (life : D → Life) (name : List ℕ) (a
                 (subst (λ (g : Region). Holds name (layout_of r) g (there.entries ++ map entry_of said) (durable_part behind) (life (disk_of after)).seen) (sym made.region)
                 (all.stay name (layout_of r) (region_of (journal_of r)) there.entries (durable_part s) (durable_part behind) said (life (disk_of r)).seen (life (disk_of after)).seen
                 there.holds made.good known leads (fit there less) made.others here));
+            none_begun = ap (λ (m : MadeRecords). m.begun) made.made ∙ there.none_begun;
           }
 
       durable_after : IsTrue modelled → IsDurable (shown_on life (core_on name behind after))
       durable_after modelled_disk =
           let here = on_disk modelled_disk in
-          all.calls.durable (core_on name behind after) (layout_of after) (region_of (journal_of after)) here.entries here.settled.durable here.holds
+          all.calls.durable (core_on name behind after) (layout_of after) (region_of (journal_of after)) here.entries here.settled.durable here.holds here.none_begun
 
-      all_made : IsTrue modelled → MadeBy (length said) said (shown_on life (core_on name s r)) (shown_on life (core_on name behind after))
+      all_made : IsTrue modelled → Made (said ∷ []) [] (shown_on life (core_on name s r)) (shown_on life (core_on name behind after))
       all_made modelled_disk =
           let there = is.on_disk modelled_disk going in
-          all.groups (core_on name s r) (core_on name behind after) (layout_of r) (region_of (journal_of r)) there.entries said
-          (durable_part behind) there.holds made.good known leads (fit there less) (made.moments there.entries there.settled) refl (λ more. refl) (λ more. durable_after modelled_disk) made.made
+          all.groups.made (core_on name s r) (core_on name behind after) (layout_of r) (region_of (journal_of r)) there.entries said
+          there.holds made.good known leads (fit there less) (made.moments there.entries there.settled) refl (durable_after modelled_disk) made.made
 
-      pub done_left : IsLeft (length cs) behind after
+      pub done_left : IsLeft behind after
       done_left = record {
         recorded = record {
           kept = all.keep s phase cs is.kept may;
@@ -156,25 +139,24 @@ module _ {D : Type 0} (modelled : Bool) (life : D → Life) (name : List ℕ) (a
         };
         journaled = record {
           name = refl;
-          more = map entry_of said;
-          made = made.made;
+          more = map entry_of said ∷ [];
+          done = ap done_in made.made;
           faults = λ still. no_faults modelled (has_failed after) (life (disk_of r)).faults (life (disk_of after)).faults made.going made.faults;
           failed = λ is_failed. absurd (false≢true (sym going ∙ is_failed));
-          records = λ modelled_disk still. (said, made_for behind after (all_made modelled_disk));
+          records = λ modelled_disk still. (said ∷ [], [], all_made modelled_disk);
         };
       }
 
     -- ---- the device failed: the core is as it was
 
     module _ (after : DiskRecorder D) (left : AreLeftOpen modelled life r said after) where
-      left_made : IsTrue modelled → MadeBy (length said) said (shown_on life (core_on name s r)) (shown_on life (core_on name s after))
-      left_made modelled_disk =
+      left_begun : IsTrue modelled → Made [] (said ∷ []) (shown_on life (core_on name s r)) (shown_on life (core_on name s after))
+      left_begun modelled_disk =
           let there = is.on_disk modelled_disk going in
-          all.groups (core_on name s r) (core_on name s after) (layout_of r) (region_of (journal_of r)) there.entries said
-          (durable_part behind) there.holds left.good known leads (fit there left.fits) (left.moments there.entries there.settled) refl
-          (λ more. absurd (false≢true (sym more ∙ left.failed))) (λ more. absurd (false≢true (sym more ∙ left.failed))) left.made
+          all.groups.begun (core_on name s r) (core_on name s after) (layout_of r) (region_of (journal_of r)) there.entries said
+          (durable_part behind) there.holds left.good known leads (fit there left.fits) (left.moments there.entries there.settled) refl left.failed left.begun
 
-      pub open_left : IsLeft (length cs) s after
+      pub open_left : IsLeft s after
       open_left = record {
         recorded = record {
           kept = is.kept;
@@ -184,20 +166,20 @@ module _ {D : Type 0} (modelled : Bool) (life : D → Life) (name : List ℕ) (a
         };
         journaled = record {
           name = refl;
-          more = map entry_of said;
-          made = left.made;
+          more = [];
+          done = ap done_in left.begun ∙ sym (append-nil (made_of r).done);
           faults = λ still. one_fault modelled (has_failed after) (life (disk_of r)).faults (life (disk_of after)).faults left.failed left.faults;
           failed = λ is_failed. absurd (false≢true (sym going ∙ is_failed));
-          records = λ modelled_disk still. (said, made_for s after (left_made modelled_disk));
+          records = λ modelled_disk still. ([], said ∷ [], left_begun modelled_disk);
         };
       }
 
-    kept_by : (fault : GroupError) (after : DiskRecorder D) → FailsTogether (AreLeftOpen modelled life) said fault r after → IsLeft (length cs) s after
-    kept_by Refused after same = subst (λ (x : DiskRecorder D). IsLeft (length cs) s x) (sym same) (same_left (length cs))
+    kept_by : (fault : GroupError) (after : DiskRecorder D) → FailsTogether (AreLeftOpen modelled life) said fault r after → IsLeft s after
+    kept_by Refused after same = subst (λ (x : DiskRecorder D). IsLeft s x) (sym same) same_left
     kept_by DeviceFailed after left = open_left after left
 
     -- whatever the core answers
     pub left_by : {X : Type 0} (result : Result X GroupError) (new : CoreState) (after : DiskRecorder D) → OnOk result (new ≡ behind) → OnOk result (RecordsAll modelled life r said after)
-        → OnErr result (new ≡ s) → IfErr result (λ fault. FailsTogether (AreLeftOpen modelled life) said fault r after) → IsLeft (length cs) new after
-    left_by (Ok x) new after is_new made same refused = subst (λ (n : CoreState). IsLeft (length cs) n after) (sym is_new) (done_left after made)
-    left_by (Err fault) new after is_new made same refused = subst (λ (n : CoreState). IsLeft (length cs) n after) (sym same) (kept_by fault after refused)
+        → OnErr result (new ≡ s) → IfErr result (λ fault. FailsTogether (AreLeftOpen modelled life) said fault r after) → IsLeft new after
+    left_by (Ok x) new after is_new made same refused = subst (λ (n : CoreState). IsLeft n after) (sym is_new) (done_left after made)
+    left_by (Err fault) new after is_new made same refused = subst (λ (n : CoreState). IsLeft n after) (sym same) (kept_by fault after refused)

@@ -11,6 +11,7 @@ use Rattle.unit_journal.specs.Journal.{IsSettled, held_of, region_of, room_of}
 use Rattle.unit_journal.specs.declared.journal.Journal.{Journal}
 use Rattle.unit_journal.specs.Record.{Entry, laid}
 use Rattle.unit_journal.specs.Stands.{Stands}
+use Rattle.unit_records.specs.MadeRecords.{MadeRecords, with_done}
 use Rattle.unit_records.specs.Records.{UnitRecord, entry_of}
 use Rattle.unit_records.specs.Room.{held, released, taken}
 use Rattle.recovery.specs.Durable.{Durable, next}
@@ -49,6 +50,14 @@ some_fault modelled is_failed old new failed told (inl more) = one_fault modelle
 some_fault true is_failed old new failed told (inr same) = one_fault true is_failed old new failed (told refl)
 some_fault false is_failed old new failed told (inr same) = inr (record { untold = refl; failed = failed; faults = same })
 
+-- no record was made
+pub nothing_done : (m : MadeRecords) → m ≡ with_done m []
+nothing_done m = λ i. record { done = sym (append-nil m.done) i; begun = m.begun }
+
+-- the groups that were made stay in front
+abbrev pub done_in : MadeRecords → List (List Entry)
+done_in m = m.done
+
 -- records that are on a disk to stay are so where nothing is written
 settled_still : (modelled : Bool) (old new : Life) (j : Journal) (es : List Entry) → Stays old new → IsSettled modelled old j es → IsSettled modelled new j es
 settled_still modelled old new j es stays settled = record {
@@ -70,7 +79,7 @@ pub stays_failed : {D : Type 0} (modelled : Bool) (life : D → Life) → OneCal
 stays_failed modelled life made s failed = record {
   name = refl;
   more = [];
-  made = sym (append-nil s.made);
+  done = sym (append-nil s.made.done);
   faults = λ going. absurd (false≢true (sym going ∙ failed));
   failed = λ before. made.failed s s before refl;
   records = λ modelled_disk going. absurd (false≢true (sym going ∙ failed));
@@ -103,7 +112,7 @@ module _ {D : Type 0} (modelled : Bool) (life : D → Life) (name : List ℕ) wh
   pub durable_from : OneCallIsMade life → (s : CoreState) (r : DiskRecorder D) → IsRecorded modelled life name s r → IsTrue modelled → has_failed r ≡ false → IsDurable (shown_on life (core_on name s r))
   durable_from made s r is modelled_disk going =
       let there = is.on_disk modelled_disk going in
-      made.durable (core_on name s r) (layout_of r) (region_of (journal_of r)) there.entries there.settled.durable there.holds
+      made.durable (core_on name s r) (layout_of r) (region_of (journal_of r)) there.entries there.settled.durable there.holds there.none_begun
 
   module _ (laws : Laws life) (s : CoreState) (r : DiskRecorder D) (is : IsRecorded modelled life name s r) (going : has_failed r ≡ false) where
     -- ---- no record: nothing durable changes
@@ -115,10 +124,10 @@ module _ {D : Type 0} (modelled : Bool) (life : D → Life) (name : List ℕ) wh
         read_journaled faults = record {
           name = refl;
           more = [];
-          made = stays.made ∙ sym (append-nil (made_of r));
+          done = ap done_in stays.made ∙ sym (append-nil (made_of r).done);
           faults = λ still. faults;
           failed = λ is_failed. absurd (false≢true (sym going ∙ is_failed));
-          records = λ modelled_disk still. ([], laws.calls_made.silent (core_on name s r) (core_on name new after) (durable_from laws.calls_made s r is modelled_disk going) stays.disk same stays.made);
+          records = λ modelled_disk still. ([], [], laws.calls_made.silent (core_on name s r) (core_on name new after) (durable_from laws.calls_made s r is modelled_disk going) stays.disk same stays.made);
         }
 
         here : (there : IsOnDisk modelled life name s r) → Holds name (layout_of after) (region_of (journal_of after)) there.entries (durable_part new) (life (disk_of after)).seen
@@ -140,6 +149,7 @@ module _ {D : Type 0} (modelled : Bool) (life : D → Life) (name : List ℕ) wh
                 entries = there.entries;
                 settled = subst (λ (j : Journal). IsSettled modelled (life (disk_of after)) j there.entries) (sym stays.journal) (settled_still modelled (life (disk_of r)) (life (disk_of after)) (journal_of r) there.entries stays.disk there.settled);
                 holds = here there;
+                none_begun = ap (λ (m : MadeRecords). m.begun) stays.made ∙ there.none_begun;
               };
         }
 
@@ -185,27 +195,28 @@ module _ {D : Type 0} (modelled : Bool) (life : D → Life) (name : List ℕ) wh
                   (subst (λ (g : Region). Holds name (layout_of r) g (there.entries ++ entry_of said ∷ []) (durable_part new) (life (disk_of after)).seen) (sym made.region)
                   (laws.records_stay name (layout_of r) (region_of (journal_of r)) there.entries (durable_part s) (durable_part new) said (life (disk_of r)).seen (life (disk_of after)).seen
                   there.holds made.good (known there) leads (fit there less) made.others here));
+              none_begun = ap (λ (m : MadeRecords). m.begun) made.made ∙ there.none_begun;
             }
 
         durable_after : IsTrue modelled → IsDurable (shown_on life (core_on name new after))
         durable_after modelled_disk =
             let here = record_on_disk modelled_disk in
-            laws.calls_made.durable (core_on name new after) (layout_of after) (region_of (journal_of after)) here.entries here.settled.durable here.holds
+            laws.calls_made.durable (core_on name new after) (layout_of after) (region_of (journal_of after)) here.entries here.settled.durable here.holds here.none_begun
 
-        record_made : IsTrue modelled → Made (said ∷ []) (shown_on life (core_on name s r)) (shown_on life (core_on name new after))
+        record_made : IsTrue modelled → Made ((said ∷ []) ∷ []) [] (shown_on life (core_on name s r)) (shown_on life (core_on name new after))
         record_made modelled_disk =
             let there = is.on_disk modelled_disk going in
             laws.calls_made.recorded (core_on name s r) (core_on name new after) (layout_of r) (region_of (journal_of r)) there.entries said
-            (durable_part new) there.holds made.good (known there) leads (fit there less) (made.moments there.entries there.settled) refl (λ more. refl) (λ more. durable_after modelled_disk) made.made
+            there.holds made.good (known there) leads (fit there less) (made.moments there.entries there.settled) refl (durable_after modelled_disk) made.made
 
         pub record_journaled : Journaled modelled (shown_on life (core_on name s r)) (shown_on life (core_on name new after))
         record_journaled = record {
           name = refl;
-          more = entry_of said ∷ [];
-          made = made.made;
+          more = (entry_of said ∷ []) ∷ [];
+          done = ap done_in made.made;
           faults = λ still. no_faults modelled (has_failed after) (life (disk_of r)).faults (life (disk_of after)).faults made.going made.faults;
           failed = λ is_failed. absurd (false≢true (sym going ∙ is_failed));
-          records = λ modelled_disk still. (said ∷ [], record_made modelled_disk);
+          records = λ modelled_disk still. ((said ∷ []) ∷ [], [], record_made modelled_disk);
         }
 
         pub record_recorded : IsKept new → IsRecorded modelled life name new after
@@ -219,21 +230,20 @@ module _ {D : Type 0} (modelled : Bool) (life : D → Life) (name : List ℕ) wh
       -- ---- the device failed: the core is as it was
 
       module _ (after : DiskRecorder D) (left : IsLeftOpen modelled life r said after) where
-        left_made : IsTrue modelled → Made (said ∷ []) (shown_on life (core_on name s r)) (shown_on life (core_on name s after))
-        left_made modelled_disk =
+        left_begun : IsTrue modelled → Made [] ((said ∷ []) ∷ []) (shown_on life (core_on name s r)) (shown_on life (core_on name s after))
+        left_begun modelled_disk =
             let there = is.on_disk modelled_disk going in
-            laws.calls_made.recorded (core_on name s r) (core_on name s after) (layout_of r) (region_of (journal_of r)) there.entries said
-            (durable_part new) there.holds left.good (known there) leads (fit there left.fits) (left.moments there.entries there.settled) refl
-            (λ more. absurd (false≢true (sym more ∙ left.failed))) (λ more. absurd (false≢true (sym more ∙ left.failed))) left.made
+            laws.calls_made.begun (core_on name s r) (core_on name s after) (layout_of r) (region_of (journal_of r)) there.entries said
+            (durable_part new) there.holds left.good (known there) leads (fit there left.fits) (left.moments there.entries there.settled) refl left.failed left.begun
 
         pub left_journaled : Journaled modelled (shown_on life (core_on name s r)) (shown_on life (core_on name s after))
         left_journaled = record {
           name = refl;
-          more = entry_of said ∷ [];
-          made = left.made;
+          more = [];
+          done = ap done_in left.begun ∙ sym (append-nil (made_of r).done);
           faults = λ still. one_fault modelled (has_failed after) (life (disk_of r)).faults (life (disk_of after)).faults left.failed left.faults;
           failed = λ is_failed. absurd (false≢true (sym going ∙ is_failed));
-          records = λ modelled_disk still. (said ∷ [], left_made modelled_disk);
+          records = λ modelled_disk still. ([], (said ∷ []) ∷ [], left_begun modelled_disk);
         }
 
         pub left_recorded : IsRecorded modelled life name s after

@@ -1,8 +1,9 @@
 -- What a call of the core makes of it and of who records and reads: it stays recorded, and each answer is one of `Steps`.
-use Rattle.std.proofs.Common.{◌≡◌, inl, inr, ℕ, ◌+◌, ◌-◌, ◌^◌, ◌≤◌, min, Bool, true, false, List, ◌++◌, Option, Some, None, refl, sym, ◌∙◌, ap, subst, append-nil}
+use Rattle.std.proofs.Common.{◌≡◌, inl, inr, ℕ, ◌+◌, ◌-◌, ◌^◌, ◌≤◌, min, Bool, true, false, List, Option, Some, None, refl, sym, ◌∙◌, ap, subst}
 use Rattle.drda_disk.specs.Disk.{Life}
 use Rattle.unit_journal.specs.Journal.{room_of}
 use Rattle.unit_journal.specs.declared.journal.Journal.{Journal}
+use Rattle.unit_records.specs.MadeRecords.{with_done}
 use Rattle.unit_records.specs.Records.{UnitRecord}
 use Rattle.unit_records.specs.Room.{held, released, taken}
 use Rattle.recovery.specs.Durable.{next}
@@ -21,8 +22,8 @@ use Rattle.recovery.specs.Journaled.{Journaled, shown_on}
 use Rattle.rdb_core.specs.Recorded as told
 use Rattle.rdb_core.specs.Steps as core
 use Rattle.durable_core.specs.Recorded.{IsOnDisk, IsRecorded, core_on}
-use Rattle.durable_core.specs.Steps.{IsClosed, MayWantMemory, RoomAfter, Steps, due_entries}
-use Rattle.durable_core.proofs.Recording.{Laws, left_journaled, left_recorded, record_journaled, record_recorded, only_read, rests, silent_journaled, silent_recorded, unchanged, untouched}
+use Rattle.durable_core.specs.Steps.{IsClosed, MayWantMemory, RoomAfter, Steps, due_groups}
+use Rattle.durable_core.proofs.Recording.{Laws, left_journaled, left_recorded, nothing_done, record_journaled, record_recorded, only_read, rests, silent_journaled, silent_recorded, unchanged, untouched}
 
 -- the laws of steps
 pub record StepLaws {D : Type 0} (life : D → Life) : Type 0 where
@@ -71,7 +72,7 @@ module _ {D : Type 0} (modelled : Bool) (life : D → Life) (name : List ℕ) wh
               room = subst (λ (o : Option UnitRecord). RoomAfter (layout_of r) o (room_of (journal_of r)) (room_of (journal_of r))) (sym none) refl;
               faults = refl;
               still = going;
-              made = sym (append-nil (made_of r)) ∙ ap (λ (o : Option UnitRecord). made_of r ++ due_entries o) (sym none);
+              made = nothing_done (made_of r) ∙ ap (λ (o : Option UnitRecord). with_done (made_of r) (due_groups o)) (sym none);
             });
             journaled = silent_journaled modelled life name all.laws s r is going (step_state s conversation k) same;
           }
@@ -112,7 +113,7 @@ module _ {D : Type 0} (modelled : Bool) (life : D → Life) (name : List ℕ) wh
             room = subst (λ (o : Option UnitRecord). RoomAfter (layout_of r) o (room_of (journal_of r)) (room_of (journal_of after))) (sym due) made.room;
             faults = made.faults;
             still = made.going;
-            made = made.made ∙ ap (λ (o : Option UnitRecord). made_of r ++ due_entries o) (sym due);
+            made = made.made ∙ ap (λ (o : Option UnitRecord). with_done (made_of r) (due_groups o)) (sym due);
           });
           journaled = record_journaled modelled life name all.laws s r is going (step_state s conversation k) said leads known releases after made;
         }
@@ -132,7 +133,7 @@ module _ {D : Type 0} (modelled : Bool) (life : D → Life) (name : List ℕ) wh
             room = ap (λ (j : Journal). room_of j) left.journal;
             faults = left.faults;
             failed = left.failed;
-            made = left.made;
+            begun = left.begun;
           })))));
           journaled = left_journaled modelled life name all.laws s r is going (step_state s conversation k) said leads known releases after left;
         }

@@ -17,6 +17,7 @@ use Rattle.unit_journal.specs.Journal.{IsSettled, held_of, region_of, room_of}
 use Rattle.unit_journal.specs.declared.journal.Journal.{Journal}
 use Rattle.unit_journal.specs.Record.{Entry}
 use Rattle.unit_journal.specs.Stands.{StandsFrom}
+use Rattle.unit_records.specs.MadeRecords.{MadeRecords}
 use Rattle.unit_records.specs.Records.{entry_of}
 use Rattle.store_check.specs.Checkpoint.{CheckpointsAreStores, half_pages}
 use Rattle.checkpoints.specs.Holds as image
@@ -34,6 +35,7 @@ use Rattle.core_model.specs.Step.{CoreState}
 use Rattle.recovery.specs.Part.{durable_part}
 use Rattle.recovery.specs.Opens.{Holds, IsJournal, OpensTo}
 use Rattle.recovery.specs.Journaled.{FaultsAfter, Journaled, Made, OneCallIsMade, OpensAfterSome, shown_on}
+use Rattle.recovery.proofs.Going.{made_nothing}
 use Rattle.recovery.proofs.Reading.{active_sized, half_large, one_store}
 use Rattle.journal_recorder.specs.Checkpointing as recorder
 use Rattle.journal_recorder.specs.Checkpointing.{HasStore, IsSwitched, KeepsOld, LeavesOldOrNew, LeavesOpen, OfStore, RestsWith, StaysOn, Switches}
@@ -46,7 +48,7 @@ use Rattle.durable_core.specs.Recorded.{IsOnDisk, IsRecorded, core_on}
 use Rattle.durable_core.specs.declared.checkpointing.Checkpointed.{Checkpointed}
 use Rattle.durable_core.specs.declared.checkpointing.Checkpointed.TheVariants.{DeviceFailed, Done, Full, NoMemory}
 use Rattle.durable_core.proofs.Heads.{ends_in}
-use Rattle.durable_core.proofs.Recording.{durable_from, no_faults, some_fault}
+use Rattle.durable_core.proofs.Recording.{done_in, durable_from, no_faults, some_fault}
 
 -- ---- images
 
@@ -209,15 +211,16 @@ module _ {D : Type 0} (modelled : Bool) (life : D → Life) (name : List ℕ) (l
   opens_here : (c : List ℕ) → OpensTo name (durable_part s) c → OpensAfterSome name (durable_part s) [] c
   opens_here c opens = record { count = 0; state = durable_part s; leads = refl; opens = opens }
 
-  made : (new : DiskRecorder D) → LeavesOldOrNew modelled life r tables fs hold new → made_of new ≡ made_of r → IsTrue modelled → Made [] (shown_on life (core_on name s r)) (shown_on life (core_on name s new))
+  made : (new : DiskRecorder D) → LeavesOldOrNew modelled life r tables fs hold new → made_of new ≡ made_of r → IsTrue modelled → Made [] [] (shown_on life (core_on name s r)) (shown_on life (core_on name s new))
   made new leaves same m =
       let all = moments new leaves m in
       record {
         moments = weaker (life (disk_of r)) (life (disk_of new)) _ _ all opens_here;
-        left = λ c now. record { after = opens_here c (all.now c now); all = omega arith };
-        state = λ still. refl;
+        left = λ c now. inl (record { state = durable_part s; leads = refl; opens = all.now c now });
+        state = refl;
         good = tt;
-        made = same ∙ sym (append-nil (made_of r));
+        made = same ∙ made_nothing (made_of r);
+        settled = λ still. refl;
       }
 
   journaled : (new : DiskRecorder D) → LeavesOldOrNew modelled life r tables fs hold new → made_of new ≡ made_of r → FaultsAfter modelled (has_failed new) (life (disk_of r)).faults (life (disk_of new)).faults
@@ -225,10 +228,10 @@ module _ {D : Type 0} (modelled : Bool) (life : D → Life) (name : List ℕ) (l
   journaled new leaves same faults = record {
     name = refl;
     more = [];
-    made = same ∙ sym (append-nil (made_of r));
+    done = ap done_in same ∙ sym (append-nil (made_of r).done);
     faults = λ still. faults;
     failed = λ failed. absurd (false≢true (sym going ∙ failed));
-    records = λ m still. ([], made new leaves same m);
+    records = λ m still. ([], [], made new leaves same m);
   }
 
   switched : (new : DiskRecorder D) → Switches modelled life r tables fs hold new → IsRecorded modelled life name s new
@@ -244,6 +247,7 @@ module _ {D : Type 0} (modelled : Bool) (life : D → Life) (name : List ℕ) (l
           settled = after.settled;
           holds = subst (λ (l : Layout). Holds name l (region_of (journal_of new)) fs (durable_part s) (life (disk_of new)).seen) (sym w.layout)
               (switched_there laws.moments name (layout_of r) (region_of (journal_of r)) (disk_there m).entries (durable_part s) (life (disk_of r)).seen h fs (leads m) modelled (life (disk_of new)) (journal_of new) after);
+          none_begun = ap (λ (n : MadeRecords). n.begun) w.stays.made ∙ (disk_there m).none_begun;
         };
   }
 
@@ -271,6 +275,7 @@ module _ {D : Type 0} (modelled : Bool) (life : D → Life) (name : List ℕ) (l
               (record { modelled_disk = m; durable = goes.durable; stands = holds.stands; next = old.next });
           holds = subst (λ (l : Layout). Holds name l (region_of (journal_of new)) (disk_there m).entries (durable_part s) (life (disk_of new)).seen) (sym k.layout)
               (subst (λ (j : Journal). Holds name (layout_of r) (region_of j) (disk_there m).entries (durable_part s) (life (disk_of new)).seen) (sym k.journal) holds);
+          none_begun = ap (λ (n : MadeRecords). n.begun) k.stays.made ∙ (disk_there m).none_begun;
         };
   }
 
@@ -368,8 +373,8 @@ untouched_journaled modelled life name made s t r is going same =
     subst (λ (x : CoreState). Journaled modelled (shown_on life (core_on name s r)) (shown_on life (core_on name x r))) (sym same) (record {
       name = refl;
       more = [];
-      made = sym (append-nil (made_of r));
+      done = sym (append-nil (made_of r).done);
       faults = λ still. no_faults modelled (has_failed r) (life (disk_of r)).faults (life (disk_of r)).faults going refl;
       failed = λ failed. absurd (false≢true (sym going ∙ failed));
-      records = λ m still. ([], made.silent (core_on name s r) (core_on name s r) (durable_from modelled life name made s r is m going) (Stays-refl (life (disk_of r))) refl refl);
+      records = λ m still. ([], [], made.silent (core_on name s r) (core_on name s r) (durable_from modelled life name made s r is m going) (Stays-refl (life (disk_of r))) refl refl);
     })

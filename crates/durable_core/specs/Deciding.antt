@@ -1,11 +1,12 @@
 -- What a heuristic decision makes of a core whose units are recorded on a disk. The refusals stand in their order: closed, of layout
 -- 1, not in doubt, out of memory; then the device may fail.
-use Rattle.std.specs.Prelude.{◌≡◌, ℕ, ◌+◌, true, false, List, [], ◌∷◌, ◌++◌, Some}
+use Rattle.std.specs.Prelude.{◌≡◌, ℕ, ◌+◌, true, false, List, [], ◌∷◌, Some}
 use Rattle.half_store.specs.declared.header.Layout.TheVariants.{One, Two}
 use Rattle.xa_manager.specs.declared.branch.BranchState.TheVariants.{Prepared}
 use Rattle.xa_manager.specs.declared.due.Decision.{Decision}
 use Rattle.xa_manager.specs.Branch.{state_of}
 use Rattle.core_model.specs.Step.{decided_state}
+use Rattle.unit_records.specs.MadeRecords.{with_begun, with_done}
 use Rattle.unit_records.specs.Records.{entry_of, heuristic}
 use Rattle.recovery.specs.Journaled.{IsUnchanged, Shown}
 use Rattle.durable_core.specs.declared.deciding.Decided.{Decided}
@@ -26,7 +27,7 @@ pub record IsDecided (old : Shown) (xid : List ℕ) (d : Decision) (new : Shown)
   pub room : new.room ≡ old.room
   pub faults : new.disk.faults ≡ old.disk.faults
   pub still : new.is_failed ≡ false
-  pub made : new.made ≡ old.made ++ entry_of (heuristic xid d) ∷ []
+  pub made : new.made ≡ with_done old.made ((entry_of (heuristic xid d) ∷ []) ∷ [])
 
 -- no branch of this XID waits for its decision
 pub record IsNotInDoubt (old : Shown) (xid : List ℕ) (new : Shown) : Type 0 where
@@ -46,7 +47,7 @@ pub record FindsNoMemory (old : Shown) (xid : List ℕ) (new : Shown) : Type 0 w
   pub may : MayDecide old xid
   pub same : IsUnchanged old new
 
--- the device failed in this call; what of the record a crash leaves, `Journaled` says
+-- the device failed in this call, whose record was begun: a crash leaves it or not
 pub record FailsDeciding (old : Shown) (xid : List ℕ) (d : Decision) (new : Shown) : Type 0 where
   pub may : MayDecide old xid
   pub name : new.name ≡ old.name
@@ -55,7 +56,7 @@ pub record FailsDeciding (old : Shown) (xid : List ℕ) (d : Decision) (new : Sh
   pub room : new.room ≡ old.room
   pub faults : new.disk.faults ≡ old.disk.faults + 1
   pub failed : new.is_failed ≡ true
-  pub made : new.made ≡ old.made ++ entry_of (heuristic xid d) ∷ []
+  pub begun : new.made ≡ with_begun old.made ((entry_of (heuristic xid d) ∷ []) ∷ [])
 
 -- the device failed before: nothing is done
 pub record IsClosed (old new : Shown) : Type 0 where

@@ -1,7 +1,8 @@
 -- What opening a store answers.
-use Rattle.std.specs.Prelude.{◌≡◌, ℕ, ◌+◌, false, List, [], length, Result, Ok, Err}
+use Rattle.std.specs.Prelude.{◌≡◌, ℕ, ◌+◌, false, List, length, Result, Ok, Err}
 use Rattle.drda_disk.specs.declared.region.Region.{Region}
 use Rattle.unit_journal.specs.Record.{Entry, laid}
+use Rattle.unit_records.specs.MadeRecords.{none_made}
 use Rattle.recovery.specs.Durable.{Durable}
 use Rattle.recovery.specs.Laws.{held_for}
 use Rattle.recovery.specs.Part.{opened}
@@ -20,7 +21,7 @@ pub record IsOpenedTo {D : Type 0} (name : List ℕ) (d : Durable) (core : OnDis
   pub named : core.name ≡ name
   pub state : core.state ≡ opened d
   pub going : core.is_failed ≡ false
-  pub made : core.made ≡ []
+  pub made : core.made ≡ none_made
 
 -- just this is opened, or memory or the device is told
 abbrev pub Finds : {D : Type 0} → List ℕ → Durable → Result (OnDisk D) (Refused D) → Type 0

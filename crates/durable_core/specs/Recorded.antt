@@ -1,5 +1,5 @@
 -- What holds of every core over a disk.
-use Rattle.std.specs.Prelude.{◌≡◌, ℕ, ◌≤◌, Bool, false, IsTrue, List, length}
+use Rattle.std.specs.Prelude.{◌≡◌, ℕ, ◌≤◌, Bool, false, IsTrue, List, [], length}
 use Rattle.drda_disk.specs.Disk.{Life}
 use Rattle.drda_disk.specs.Region.{end_of}
 use Rattle.unit_journal.specs.Journal.{IsSettled, held_of, region_of, room_of}
@@ -18,11 +18,12 @@ abbrev pub core_on : {D : Type 0} → List ℕ → CoreState → DiskRecorder D 
 core_on name state r = record { name = name; state = state; disk = disk_of r; layout = layout_of r; room = room_of (journal_of r); is_failed = has_failed r; made = made_of r }
 
 module _ {D : Type 0} (modelled : Bool) (life : D → Life) where
-  -- the records on the disk, which are there to stay, lead to what is durable of the core
+  -- the records on the disk, which are there to stay, lead to what is durable of the core, and none is begun
   pub record IsOnDisk (name : List ℕ) (state : CoreState) (r : DiskRecorder D) : Type 0 where
     pub entries : List Entry
     pub settled : IsSettled modelled (life (disk_of r)) (journal_of r) entries
     pub holds : Holds name (layout_of r) (region_of (journal_of r)) entries (durable_part state) (life (disk_of r)).seen
+    pub none_begun : (made_of r).begun ≡ []
 
   -- The core is kept, and its journal, which lies in the disk, holds back what its branches in doubt do by its layout. Until
   -- the device fails, all that is durable of it is on the disk.

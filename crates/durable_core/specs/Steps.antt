@@ -1,7 +1,8 @@
 -- What a call makes of a core whose units are recorded on a disk.
-use Rattle.std.specs.Prelude.{◌≡◌, ◌⊎◌, ℕ, ◌+◌, ◌-◌, ◌^◌, ◌<◌, Bool, min, true, false, List, [], ◌∷◌, ◌++◌, Option, Some, None}
+use Rattle.std.specs.Prelude.{◌≡◌, ◌⊎◌, ℕ, ◌+◌, ◌-◌, ◌^◌, ◌<◌, Bool, min, true, false, List, [], ◌∷◌, Option, Some, None}
 use Rattle.half_store.specs.declared.header.Layout.{Layout}
 use Rattle.unit_journal.specs.Record.{Entry}
+use Rattle.unit_records.specs.MadeRecords.{with_begun, with_done}
 use Rattle.unit_records.specs.Records.{UnitRecord, entry_of}
 use Rattle.unit_records.specs.Room.{held, released, taken}
 use Rattle.core_calls.specs.Call.{Call, lost}
@@ -17,10 +18,10 @@ abbrev pub RoomAfter : Layout → Option UnitRecord → ℕ → ℕ → Type 0
 RoomAfter layout None old new = new ≡ old
 RoomAfter layout (Some r) old new = new + (taken r + held layout r) ≡ old + released layout r
 
--- the record that is due, as the journal has it
-abbrev pub due_entries : Option UnitRecord → List Entry
-due_entries None = []
-due_entries (Some r) = entry_of r ∷ []
+-- the group of the record that is due, as the journal has it
+abbrev pub due_groups : Option UnitRecord → List (List Entry)
+due_groups None = []
+due_groups (Some r) = (entry_of r ∷ []) ∷ []
 
 -- the answer and the state behind it are those of the step
 pub record IsTaken (old : Shown) (conversation : ℕ) (k : Call) (told : Answer) (new : Shown) : Type 0 where
@@ -31,7 +32,7 @@ pub record IsTaken (old : Shown) (conversation : ℕ) (k : Call) (told : Answer)
   pub room : RoomAfter old.layout (record_due old.state conversation k) old.room new.room
   pub faults : new.disk.faults ≡ old.disk.faults
   pub still : new.is_failed ≡ false
-  pub made : new.made ≡ old.made ++ due_entries (record_due old.state conversation k)
+  pub made : new.made ≡ with_done old.made (due_groups (record_due old.state conversation k))
 
 -- The device, which need not give back what was written, gave other rows of the tables: the answer and the units are those of
 -- the step over them. What is committed stays.
@@ -68,7 +69,7 @@ pub record FindsNoRoom (old : Shown) (conversation : ℕ) (k : Call) (told : Ans
   pub less : old.room + released old.layout record_is < taken record_is + held old.layout record_is
   pub same : IsUnchanged old new
 
--- the device failed in this call; what of its record a crash leaves, `Journaled` says
+-- the device failed in this call, whose record was begun: a crash leaves it or not
 pub record FailsHere (old : Shown) (conversation : ℕ) (k : Call) (told : Answer) (new : Shown) : Type 0 where
   pub going : old.is_failed ≡ false
   pub record_is : UnitRecord
@@ -80,7 +81,7 @@ pub record FailsHere (old : Shown) (conversation : ℕ) (k : Call) (told : Answe
   pub room : new.room ≡ old.room
   pub faults : new.disk.faults ≡ old.disk.faults + 1
   pub failed : new.is_failed ≡ true
-  pub made : new.made ≡ old.made ++ entry_of record_is ∷ []
+  pub begun : new.made ≡ with_begun old.made ((entry_of record_is ∷ []) ∷ [])
 
 -- The device failed as rows were read for a statement; or it gave what is no page and no row, as only one may that need not give
 -- back what was written. No record was due.

@@ -1,9 +1,10 @@
 -- What conversations that commit together make of a core whose units are recorded on a disk.
-use Rattle.std.specs.Prelude.{◌≡◌, ℕ, ◌+◌, true, false, List, [], ◌∷◌, ◌++◌, Some}
+use Rattle.std.specs.Prelude.{◌≡◌, ℕ, ◌+◌, true, false, List, [], ◌∷◌, Some}
+use Rattle.unit_records.specs.MadeRecords.{with_begun, with_done}
 use Rattle.unit_records.specs.Records.{UnitRecord, entry_of}
 use Rattle.unit_records.specs.Together.{all_committed, are_apart, are_local, due_together}
 use Rattle.recovery.specs.Journaled.{IsUnchanged, Shown}
-use Rattle.durable_core.specs.Steps.{RoomAfter, due_entries}
+use Rattle.durable_core.specs.Steps.{RoomAfter, due_groups}
 use Rattle.durable_core.specs.declared.together.Together.{Together}
 use Rattle.durable_core.specs.declared.together.Together.TheVariants.{Alone, Closed, DeviceFailed, Done}
 
@@ -18,14 +19,14 @@ pub record HaveCommitted (old : Shown) (conversations : List ℕ) (new : Shown) 
   pub room : RoomAfter old.layout (due_together conversations old.state) old.room new.room
   pub faults : new.disk.faults ≡ old.disk.faults
   pub still : new.is_failed ≡ false
-  pub made : new.made ≡ old.made ++ due_entries (due_together conversations old.state)
+  pub made : new.made ≡ with_done old.made (due_groups (due_together conversations old.state))
 
 -- nothing was done: each may go alone
 pub record MayGoAlone (old new : Shown) : Type 0 where
   pub going : old.is_failed ≡ false
   pub same : IsUnchanged old new
 
--- the device failed as their record was made; what of it a crash leaves, `Journaled` says
+-- the device failed as their record was made, which was begun: a crash leaves it or not
 pub record FailTogether (old : Shown) (conversations : List ℕ) (new : Shown) : Type 0 where
   pub going : old.is_failed ≡ false
   pub record_is : UnitRecord
@@ -36,7 +37,7 @@ pub record FailTogether (old : Shown) (conversations : List ℕ) (new : Shown) :
   pub room : new.room ≡ old.room
   pub faults : new.disk.faults ≡ old.disk.faults + 1
   pub failed : new.is_failed ≡ true
-  pub made : new.made ≡ old.made ++ entry_of record_is ∷ []
+  pub begun : new.made ≡ with_begun old.made ((entry_of record_is ∷ []) ∷ [])
 
 -- the device failed before: nothing is done
 pub record AreClosed (old new : Shown) : Type 0 where

@@ -1,7 +1,6 @@
 //! Conversations that commit together, and branches that are prepared or decided together.
 
-ghost use Rattle.std.specs.Prelude.{length};
-ghost use Rattle.recovery.specs.Journaled.{Journaled, JournaledBy, shown_on};
+ghost use Rattle.recovery.specs.Journaled.{Journaled, shown_on};
 ghost use Rattle.durable_core.specs.Through.{GoThrough};
 ghost use Rattle.durable_core.specs.Together.{CommitTogether};
 
@@ -9,7 +8,7 @@ use crate::durable::DurableCore;
 use drda_disk::Disk;
 use journal_recorder::pages_are_kept;
 use recovery::images::{
-    calls_make_groups, calls_make_records, groups_go_on, groups_stay, records_stay,
+    calls_go_on, calls_make_groups, calls_make_records, groups_stay, records_stay,
 };
 use recovery::laws::{decisions_of_all_are_held, doubts_hold_their_decisions};
 use recovery::step_laws::{commits_are_recorded, phases_are_recorded};
@@ -64,7 +63,7 @@ impl<D: Disk> DurableCore<D> {
     /// after them all.
     pub fn go_through(&mut self, phase: Phase, calls: &[BranchCall]) -> Together
         ensures goes { GoThrough (shown_on D.life self.old) phase calls.now result (shown_on D.life self.new) }
-        ensures journaled { JournaledBy (length calls.now) D.is_modelled (shown_on D.life self.old) (shown_on D.life self.new) }
+        ensures journaled { Journaled D.is_modelled (shown_on D.life self.old) (shown_on D.life self.new) }
     {
         branches_go_through();
         phases_are_recorded();
@@ -72,7 +71,7 @@ impl<D: Disk> DurableCore<D> {
         groups_stay();
         calls_make_records::<D>();
         calls_make_groups::<D>();
-        groups_go_on::<D>();
+        calls_go_on::<D>();
         pages_are_kept::<D>();
         if self.core.recorder().is_failed() {
             return Together::Closed;

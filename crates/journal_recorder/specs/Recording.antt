@@ -9,6 +9,7 @@ use Rattle.unit_journal.specs.declared.journal.Journal.{Journal}
 use Rattle.unit_journal.specs.Journal.{IsSettled, held_of, region_of, room_of}
 use Rattle.unit_journal.specs.Record.{Entry}
 use Rattle.unit_journal.specs.Stands.{IsBeforeOrAfter, IsBeforeOrAfterAll}
+use Rattle.unit_records.specs.MadeRecords.{MadeRecords, with_begun, with_done}
 use Rattle.unit_records.specs.Records.{IsGood, UnitRecord, entry_of}
 use Rattle.unit_records.specs.Room.{held, held_by, released, released_by, taken, taken_by}
 use Rattle.unit_records.specs.declared.record_error.RecordError.{RecordError}
@@ -33,9 +34,9 @@ layout_of r = r.layout
 abbrev pub has_failed : {D : Type 0} → DiskRecorder D → Bool
 has_failed r = r.is_failed
 
--- the records that it made, or began where the device failed, in their order
-abbrev pub made_of : {D : Type 0} → DiskRecorder D → List Entry
-made_of r = r.made.entries.value
+-- the records that it made, and those that it began where the device failed
+abbrev pub made_of : {D : Type 0} → DiskRecorder D → MadeRecords
+made_of r = r.made.groups.value
 
 module _ {D : Type 0} (modelled : Bool) (life : D → Life) where
   abbrev pub life_of : DiskRecorder D → Life
@@ -66,7 +67,7 @@ module _ {D : Type 0} (modelled : Bool) (life : D → Life) where
     pub cache : AreRead (cache_of old) (life_of old).seen → AreRead (cache_of new) (life_of new).seen
     pub was_going : has_failed old ≡ false
     pub going : has_failed new ≡ false
-    pub made : made_of new ≡ made_of old ++ entry_of said ∷ []
+    pub made : made_of new ≡ with_done (made_of old) ((entry_of said ∷ []) ∷ [])
 
   -- the record and what it holds back are longer than the room and what it releases; what is needed stops at 2^64 - 1
   pub record HasNoRoom (old : DiskRecorder D) (said : UnitRecord) (need room : ℕ) : Type 0 where
@@ -74,7 +75,7 @@ module _ {D : Type 0} (modelled : Bool) (life : D → Life) where
     pub room_is : room ≡ room_of (journal_of old)
     pub less : room_of (journal_of old) + released (layout_of old) said < taken said + held (layout_of old) said
 
-  -- whether the record is there shows when the store is opened again
+  -- it was begun: whether it is there shows when the store is opened again
   pub record IsLeftOpen (old : DiskRecorder D) (said : UnitRecord) (new : DiskRecorder D) : Type 0 where
     pub good : IsGood said
     pub fits : taken said + held (layout_of old) said ≤ room_of (journal_of old) + released (layout_of old) said
@@ -84,7 +85,7 @@ module _ {D : Type 0} (modelled : Bool) (life : D → Life) where
     pub layout : layout_of new ≡ layout_of old
     pub faults : (life_of new).faults ≡ (life_of old).faults + 1
     pub failed : has_failed new ≡ true
-    pub made : made_of new ≡ made_of old ++ entry_of said ∷ []
+    pub begun : made_of new ≡ with_begun (made_of old) ((entry_of said ∷ []) ∷ [])
 
   abbrev pub Fails : DiskRecorder D → UnitRecord → RecordError → DiskRecorder D → Type 0
   Fails old said NoMemory new = new ≡ old
@@ -117,9 +118,9 @@ module _ {D : Type 0} (modelled : Bool) (life : D → Life) where
     pub cache : AreRead (cache_of old) (life_of old).seen → AreRead (cache_of new) (life_of new).seen
     pub was_going : has_failed old ≡ false
     pub going : has_failed new ≡ false
-    pub made : made_of new ≡ made_of old ++ map entry_of records
+    pub made : made_of new ≡ with_done (made_of old) (map entry_of records ∷ [])
 
-  -- whether the records are there, all or none, shows when the store is opened again
+  -- they were begun: whether they are there, all or none, shows when the store is opened again
   pub record AreLeftOpen (old : DiskRecorder D) (records : List UnitRecord) (new : DiskRecorder D) : Type 0 where
     pub good : AllByRecursion IsGood records
     pub fits : taken_by records + held_by (layout_of old) records ≤ room_of (journal_of old) + released_by (layout_of old) records
@@ -129,4 +130,4 @@ module _ {D : Type 0} (modelled : Bool) (life : D → Life) where
     pub layout : layout_of new ≡ layout_of old
     pub faults : (life_of new).faults ≡ (life_of old).faults + 1
     pub failed : has_failed new ≡ true
-    pub made : made_of new ≡ made_of old ++ map entry_of records
+    pub begun : made_of new ≡ with_begun (made_of old) (map entry_of records ∷ [])

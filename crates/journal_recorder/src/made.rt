@@ -1,50 +1,64 @@
 //! The records that were made, which clauses alone read.
 
-ghost use Rattle.std.specs.Prelude.{◌≡◌, List, [], ◌∷◌, ◌++◌};
-ghost use Rattle.unit_journal.specs.Record.{Entry};
+ghost use Rattle.std.specs.Prelude.{◌≡◌, [], ◌∷◌};
+ghost use Rattle.unit_records.specs.MadeRecords.{MadeRecords as Made, none_made, with_begun, with_done};
 
 use drda_words::GhostValue;
 use std::marker::Model;
 use unit_journal::{Kind, LaidGroup};
 
-/// A list of records, as clauses see it.
+/// Groups of records, as clauses see them.
 #[derive(Drop)]
-pub(crate) struct EntryList {}
+pub(crate) struct RecordGroups {}
 
-impl Model for EntryList {
-    ghost Value = { List Entry };
+impl Model for RecordGroups {
+    ghost Value = { Made };
 
-    ghost view = { λ _. [] };
+    ghost view = { λ _. none_made };
 }
 
-/// The records that were made so far, or begun where the device failed, in their order. It takes no
-/// memory.
+/// The records that were made so far, and those that were begun where the device failed, in their order. Records
+/// that are made at once are one group. It takes no memory.
 #[derive(Drop)]
 pub(crate) struct MadeRecords {
-    pub(crate) entries: GhostValue<EntryList>,
+    pub(crate) groups: GhostValue<RecordGroups>,
 }
 
 impl MadeRecords {
     /// No records.
     pub(crate) fn none() -> MadeRecords
-        ensures { result.entries.value ≡ [] }
+        ensures { result.groups.value ≡ none_made }
     {
         MadeRecords {
-            entries: GhostValue::of(&()),
+            groups: GhostValue::of(&()),
         }
     }
 
-    /// One record more.
+    /// One record was made, alone.
     pub(crate) fn note(&mut self, kind: Kind, body: &[u8])
-        ensures { self.new.entries.value ≡ self.old.entries.value ++ record { kind = kind; body = body.now } ∷ [] }
+        ensures { self.new.groups.value ≡ with_done self.old.groups.value ((record { kind = kind; body = body.now } ∷ []) ∷ []) }
     {
-        self.entries.set(&(kind, body));
+        self.groups.set(&(kind, body));
     }
 
-    /// All records of a group more.
+    /// A group was made.
     pub(crate) fn note_all(&mut self, group: &LaidGroup)
-        ensures { self.new.entries.value ≡ self.old.entries.value ++ group.now }
+        ensures { self.new.groups.value ≡ with_done self.old.groups.value (group.now ∷ []) }
     {
-        self.entries.set(group);
+        self.groups.set(group);
+    }
+
+    /// One record was begun, alone.
+    pub(crate) fn leave_open(&mut self, kind: Kind, body: &[u8])
+        ensures { self.new.groups.value ≡ with_begun self.old.groups.value ((record { kind = kind; body = body.now } ∷ []) ∷ []) }
+    {
+        self.groups.set(&(kind, body));
+    }
+
+    /// A group was begun.
+    pub(crate) fn leave_all_open(&mut self, group: &LaidGroup)
+        ensures { self.new.groups.value ≡ with_begun self.old.groups.value (group.now ∷ []) }
+    {
+        self.groups.set(group);
     }
 }

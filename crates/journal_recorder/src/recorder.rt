@@ -1,11 +1,12 @@
 //! Who records in a journal.
 
-ghost use Rattle.std.specs.Prelude.{◌≡◌, ◌+◌, ◌<◌, ◌≤◌, ◌^◌, false, ℕ, List, [], IfErr, OnOk, length, take};
+ghost use Rattle.std.specs.Prelude.{◌≡◌, ◌+◌, ◌<◌, ◌≤◌, ◌^◌, false, ℕ, List, IfErr, OnOk, length, take};
 ghost use Rattle.drda_disk.specs.Region.{end_of};
 ghost use Rattle.row_pages.specs.Keeping.{AreRead};
 ghost use Rattle.unit_journal.specs.Journal.{held_of, region_of, room_of};
 ghost use Rattle.unit_journal.specs.LaidRecord.{entry_in};
 ghost use Rattle.unit_journal.specs.Record.{laid as spelled};
+ghost use Rattle.unit_records.specs.MadeRecords.{none_made};
 ghost use Rattle.unit_records.specs.Records.{UnitRecord};
 ghost use Rattle.unit_records.specs.Together.{FailsTogether};
 
@@ -54,7 +55,7 @@ impl<D: Disk> DiskRecorder<D> {
         ensures journal { journal_of result ≡ journal }
         ensures layout { layout_of result ≡ layout }
         ensures going { has_failed result ≡ false }
-        ensures made { made_of result ≡ [] }
+        ensures made { made_of result ≡ none_made }
     {
         DiskRecorder {
             alloc,
@@ -145,7 +146,7 @@ impl<D: Disk> DiskRecorder<D> {
             }),
             Err(AppendError::DeviceFailed) => {
                 self.is_failed = true;
-                self.made.note(laid.kind(), laid.body());
+                self.made.leave_open(laid.kind(), laid.body());
                 Err(RecordError::DeviceFailed)
             }
         }
@@ -172,7 +173,7 @@ impl<D: Disk> DiskRecorder<D> {
             Err(AppendError::Full(_)) => Err(GroupError::Refused),
             Err(AppendError::DeviceFailed) => {
                 self.is_failed = true;
-                self.made.note_all(&laid.group);
+                self.made.leave_all_open(&laid.group);
                 Err(GroupError::DeviceFailed)
             }
         }

@@ -1,5 +1,5 @@
 -- Calls one after another.
-use Rattle.std.proofs.Common.{◌≡◌, ℕ, ◌+◌, ◌≤◌, min, if◌then◌else◌, Bool, true, false, IsTrue, List, [], ◌∷◌, ◌++◌, length, length-append, take, drop, Some, inl, inr, refl, sym, ◌∙◌, ap, subst, arith, take-add, map, append_assoc, append-nil}
+use Rattle.std.proofs.Common.{◌≡◌, ℕ, ◌+◌, min, Bool, true, false, IsTrue, List, [], ◌∷◌, ◌++◌, length, take, drop, Some, inl, inr, refl, sym, ◌∙◌, ap, subst, arith, take-add, map, append_assoc, append-nil}
 use Rattle.std.specs.List.{AllByRecursion}
 use Rattle.std.specs.Option.{option_and_then}
 use Rattle.std.proofs.lemmas.Bool.{false≢true}
@@ -7,53 +7,76 @@ use Rattle.std.proofs.lemmas.List.{take_at, drop_at, take-append-le, take_min, m
 use Rattle.drda_disk.specs.Disk.{Life, Now}
 use Rattle.drda_disk.proofs.Moments.{and_stays, and_then, no_call, Stays-refl, Stays-trans}
 use Rattle.unit_journal.specs.Record.{Entry}
+use Rattle.unit_records.specs.MadeRecords.{MadeRecords, groups_of, with_begun, with_done}
 use Rattle.unit_records.specs.Records.{IsGood, UnitRecord, entry_of}
 use Rattle.recovery.specs.Durable.{Durable, replayed_from}
 use Rattle.recovery.specs.Laws.{GoesOn}
 use Rattle.recovery.specs.Part.{durable_part}
 use Rattle.recovery.specs.Opens.{OpensTo}
-use Rattle.recovery.specs.Journaled.{CallsGoOn, GroupsGoOn, IsDurable, FaultsAfter, IsUnchanged, IsUntouched, JournaledBy, MadeBy, OpensAfterAllBut, OpensAfterSome, Shown, StaysFailed, shown_on}
+use Rattle.recovery.specs.Journaled.{CallsGoOn, IsDurable, FaultsAfter, IsUnchanged, IsUntouched, Journaled, Made, OpensAfter, OpensAfterAll, OpensAfterSome, Shown, StaysFailed, all_in, shown_on}
 
 -- ---- fronts of two lists
 
 -- at most all of the first
-front_first : (rs ss : List UnitRecord) (n : ℕ) → take (min n (length rs)) (rs ++ ss) ≡ take n rs
-front_first rs ss n = take-append-le (min n (length rs)) rs ss (omega arith) ∙ take_min n rs
+front_first : (gs hs : List (List UnitRecord)) (n : ℕ) → take (min n (length gs)) (gs ++ hs) ≡ take n gs
+front_first gs hs n = take-append-le (min n (length gs)) gs hs (omega arith) ∙ take_min n gs
 
 -- or all of it and more
-front_both : (rs ss : List UnitRecord) (n : ℕ) → take (length rs + n) (rs ++ ss) ≡ rs ++ take n ss
-front_both rs ss n =
-    take-add (length rs) n (rs ++ ss) ∙ ap (λ (l : List UnitRecord). l ++ take n (drop (length rs) (rs ++ ss))) (take_at rs ss (length rs) refl)
-    ∙ ap (λ (l : List UnitRecord). rs ++ take n l) (drop_at rs ss (length rs) refl)
+front_both : (gs hs : List (List UnitRecord)) (n : ℕ) → take (length gs + n) (gs ++ hs) ≡ gs ++ take n hs
+front_both gs hs n =
+    take-add (length gs) n (gs ++ hs) ∙ ap (λ (l : List (List UnitRecord)). l ++ take n (drop (length gs) (gs ++ hs))) (take_at gs hs (length gs) refl)
+    ∙ ap (λ (l : List (List UnitRecord)). gs ++ take n l) (drop_at gs hs (length gs) refl)
 
-good_both : (rs ss : List UnitRecord) → AllByRecursion IsGood rs → AllByRecursion IsGood ss → AllByRecursion IsGood (rs ++ ss)
-good_both [] ss first second = second
-good_both (r ∷ rs) ss (good, first) second = (good, good_both rs ss first second)
+good_both : (gs hs : List (List UnitRecord)) → AllByRecursion (AllByRecursion IsGood) gs → AllByRecursion (AllByRecursion IsGood) hs → AllByRecursion (AllByRecursion IsGood) (gs ++ hs)
+good_both [] hs first second = second
+good_both (g ∷ gs) hs (good, first) second = (good, good_both gs hs first second)
 
-noted_both : (a b c : List Entry) (rs ss : List UnitRecord) → b ≡ a ++ map entry_of rs → c ≡ b ++ map entry_of ss → c ≡ a ++ map entry_of (rs ++ ss)
-noted_both a b c rs ss first second =
-    second ∙ ap (λ (l : List Entry). l ++ map entry_of ss) first ∙ append_assoc a (map entry_of rs) (map entry_of ss) ∙ ap (λ (l : List Entry). a ++ l) (sym (map-append entry_of rs ss))
+pub all_both : (gs hs : List (List UnitRecord)) → all_in (gs ++ hs) ≡ all_in gs ++ all_in hs
+all_both [] hs = refl
+all_both (g ∷ gs) hs = ap (λ (l : List UnitRecord). g ++ l) (all_both gs hs) ∙ sym (append_assoc g (all_in gs) (all_in hs))
+
+-- nothing that was begun is in between
+made_then : (m : MadeRecords) (gs none hs begun : List (List UnitRecord)) → none ≡ []
+    → with_begun (with_done (with_begun (with_done m (groups_of gs)) (groups_of none)) (groups_of hs)) (groups_of begun) ≡ with_begun (with_done m (groups_of (gs ++ hs))) (groups_of begun)
+made_then m gs none hs begun is = λ i. record {
+  done = (append_assoc m.done (groups_of gs) (groups_of hs) ∙ ap (λ (l : List (List Entry)). m.done ++ l) (sym (map-append (map entry_of) gs hs))) i;
+  begun = (ap (λ (l : List (List UnitRecord)). (m.begun ++ groups_of l) ++ groups_of begun) is ∙ ap (λ (l : List (List Entry)). l ++ groups_of begun) (append-nil m.begun)) i;
+}
 
 module _ (goes_on : GoesOn) where
-  led_on : (d e : Durable) (rs ss : List UnitRecord) → replayed_from d rs ≡ Some e → replayed_from d (rs ++ ss) ≡ replayed_from e ss
+  pub led_on : (d e : Durable) (rs ss : List UnitRecord) → replayed_from d rs ≡ Some e → replayed_from d (rs ++ ss) ≡ replayed_from e ss
   led_on d e rs ss led = goes_on d rs ss ∙ ap (option_and_then (λ (f : Durable). replayed_from f ss)) led
 
-  opens_first : (name : List ℕ) (d : Durable) (rs ss : List UnitRecord) (c : List ℕ) → OpensAfterSome name d rs c → OpensAfterSome name d (rs ++ ss) c
-  opens_first name d rs ss c o = record { count = min o.count (length rs); state = o.state; leads = ap (replayed_from d) (front_first rs ss o.count) ∙ o.leads; opens = o.opens }
+  pub led_all : (d e : Durable) (gs hs : List (List UnitRecord)) → replayed_from d (all_in gs) ≡ Some e → replayed_from d (all_in (gs ++ hs)) ≡ replayed_from e (all_in hs)
+  led_all d e gs hs led = ap (replayed_from d) (all_both gs hs) ∙ led_on d e (all_in gs) (all_in hs) led
 
-  abbrev opens_both : (name other : List ℕ) (d e : Durable) (rs ss : List UnitRecord) (c : List ℕ) → other ≡ name → replayed_from d rs ≡ Some e → OpensAfterSome other e ss c → OpensAfterSome name d (rs ++ ss) c
-  opens_both name other d e rs ss c same led o = record {
-    count = length rs + o.count;
+  opens_first : (name : List ℕ) (d : Durable) (gs hs : List (List UnitRecord)) (c : List ℕ) → OpensAfterSome name d gs c → OpensAfterSome name d (gs ++ hs) c
+  opens_first name d gs hs c o = record {
+    count = min o.count (length gs);
     state = o.state;
-    leads = ap (replayed_from d) (front_both rs ss o.count) ∙ led_on d e rs (take o.count ss) led ∙ o.leads;
+    leads = ap (λ (l : List (List UnitRecord)). replayed_from d (all_in l)) (front_first gs hs o.count) ∙ o.leads;
+    opens = o.opens;
+  }
+
+  opens_both : (name other : List ℕ) (d e : Durable) (gs hs : List (List UnitRecord)) (c : List ℕ) → other ≡ name → replayed_from d (all_in gs) ≡ Some e → OpensAfterSome other e hs c → OpensAfterSome name d (gs ++ hs) c
+  opens_both name other d e gs hs c same led o = record {
+    count = length gs + o.count;
+    state = o.state;
+    leads = ap (λ (l : List (List UnitRecord)). replayed_from d (all_in l)) (front_both gs hs o.count) ∙ led_all d e gs (take o.count hs) led ∙ o.leads;
     opens = subst (λ (n : List ℕ). OpensTo n o.state c) same o.opens;
   }
 
-  all_both : (few : ℕ) (name other : List ℕ) (d e : Durable) (rs ss : List UnitRecord) (c : List ℕ) → other ≡ name → replayed_from d rs ≡ Some e → OpensAfterAllBut few other e ss c → OpensAfterAllBut few name d (rs ++ ss) c
-  all_both few name other d e rs ss c same led o =
-      let more = o.all in
-      let count : (opens_both name other d e rs ss c same led o.after).count ≡ length rs + o.after.count = refl in
-      record { after = opens_both name other d e rs ss c same led o.after; all = omega (arith, more, count, length-append rs ss) }
+  after_both : (name other : List ℕ) (d e : Durable) (gs hs : List (List UnitRecord)) (c : List ℕ) → other ≡ name → replayed_from d (all_in gs) ≡ Some e → OpensAfter other e hs c → OpensAfter name d (gs ++ hs) c
+  after_both name other d e gs hs c same led o = record {
+    state = o.state;
+    leads = led_all d e gs hs led ∙ o.leads;
+    opens = subst (λ (n : List ℕ). OpensTo n o.state c) same o.opens;
+  }
+
+  left_both : (name other : List ℕ) (d e : Durable) (gs hs begun : List (List UnitRecord)) (c : List ℕ) → other ≡ name → replayed_from d (all_in gs) ≡ Some e → OpensAfterAll other e hs begun c → OpensAfterAll name d (gs ++ hs) begun c
+  left_both name other d e gs hs begun c same led (inl o) = inl (after_both name other d e gs hs c same led o)
+  left_both name other d e gs hs begun c same led (inr o) =
+      inr (subst (λ (l : List (List UnitRecord)). OpensAfter name d l c) (sym (append_assoc gs hs begun)) (after_both name other d e gs (hs ++ begun) c same led o))
 
   -- ---- two runs of calls
 
@@ -63,17 +86,34 @@ module _ (goes_on : GoesOn) where
   faults_both modelled a b c failed (inl first) (inr damage) = inr (record { untold = damage.untold; failed = damage.failed; faults = omega (arith, first, damage.faults) })
   faults_both modelled a b c failed (inr damage) second = absurd (false≢true damage.failed)
 
-  made_both : (most : ℕ) (a b c : Shown) (rs ss : List UnitRecord) → b.is_failed ≡ false → b.name ≡ a.name → MadeBy most rs a b → MadeBy most ss b c → MadeBy most (rs ++ ss) a c
-  made_both most a b c rs ss going name first second =
-      let led : replayed_from (durable_part a.state) rs ≡ Some (durable_part b.state) = first.state going in
-      record {
-        moments = and_then a.disk b.disk c.disk _ _ _ first.moments second.moments (λ i. opens_first a.name (durable_part a.state) rs ss i)
-            (λ i. opens_both a.name b.name (durable_part a.state) (durable_part b.state) rs ss i name led);
-        left = λ i now. all_both (if c.is_failed then most else 0) a.name b.name (durable_part a.state) (durable_part b.state) rs ss i name led (second.left i now);
-        state = λ still. led_on (durable_part a.state) (durable_part b.state) rs ss led ∙ second.state still;
-        good = good_both rs ss first.good second.good;
-        made = noted_both a.made b.made c.made rs ss first.made second.made;
-      }
+  module _ (a b c : Shown) (gs none hs begun : List (List UnitRecord)) (nothing : none ≡ []) (name : b.name ≡ a.name) (first : Made gs none a b) (second : Made hs begun b c) where
+    abbrev d : Durable
+    d = durable_part a.state
+
+    front : gs ++ none ≡ gs
+    front = ap (λ (l : List (List UnitRecord)). gs ++ l) nothing ∙ append-nil gs
+
+    whole : gs ++ (hs ++ begun) ≡ (gs ++ hs) ++ begun
+    whole = sym (append_assoc gs hs begun)
+
+    before : (i : List ℕ) → OpensAfterSome a.name d (gs ++ none) i → OpensAfterSome a.name d ((gs ++ hs) ++ begun) i
+    before i o =
+        subst (λ (l : List (List UnitRecord)). OpensAfterSome a.name d l i) whole
+        (opens_first a.name d gs (hs ++ begun) i (subst (λ (l : List (List UnitRecord)). OpensAfterSome a.name d l i) front o))
+
+    after : (i : List ℕ) → OpensAfterSome b.name (durable_part b.state) (hs ++ begun) i → OpensAfterSome a.name d ((gs ++ hs) ++ begun) i
+    after i o = subst (λ (l : List (List UnitRecord)). OpensAfterSome a.name d l i) whole (opens_both a.name b.name d (durable_part b.state) gs (hs ++ begun) i name first.state o)
+
+    made_both : Made (gs ++ hs) begun a c
+    made_both = record {
+      moments = and_then a.disk b.disk c.disk _ _ _ first.moments second.moments before after;
+      left = λ i now. left_both a.name b.name d (durable_part b.state) gs hs begun i name first.state (second.left i now);
+      state = led_all d (durable_part b.state) gs hs first.state ∙ second.state;
+      good = subst (λ (l : List (List UnitRecord)). AllByRecursion (AllByRecursion IsGood) l) whole
+          (good_both gs (hs ++ begun) (subst (λ (l : List (List UnitRecord)). AllByRecursion (AllByRecursion IsGood) l) front first.good) second.good);
+      made = second.made ∙ ap (λ (m : MadeRecords). with_begun (with_done m (groups_of hs)) (groups_of begun)) first.made ∙ made_then a.made gs none hs begun nothing;
+      settled = second.settled;
+    }
 
 -- ---- no device call
 
@@ -86,72 +126,54 @@ unchanged s = record { name = refl; state = refl; disk = untouched s.disk; layou
 untouched_both : (a b c : Life) → IsUntouched a b → IsUntouched b c → IsUntouched a c
 untouched_both a b c first second = record { stays = Stays-trans a b c first.stays second.stays; moment = second.moment ∙ first.moment; faults = second.faults ∙ first.faults }
 
-made_failed : (most : ℕ) (a b c : Shown) (rs : List UnitRecord) → b.is_failed ≡ true → MadeBy most rs a b → StaysFailed b c → MadeBy most rs a c
-made_failed most a b c rs failed first stays = record {
-  moments = and_stays a.disk b.disk c.disk (OpensAfterSome a.name (durable_part a.state) rs) first.moments stays.disk.stays;
-  left = λ i now. subst (λ (f : Bool). OpensAfterAllBut (if f then most else 0) a.name (durable_part a.state) rs i) (failed ∙ sym stays.failed) (first.left i (stays.disk.stays.no_more i now));
-  state = λ still. absurd (false≢true (sym still ∙ stays.failed));
+made_failed : (a b c : Shown) (gs begun : List (List UnitRecord)) → Made gs begun a b → StaysFailed b c → Made gs begun a c
+made_failed a b c gs begun first stays = record {
+  moments = and_stays a.disk b.disk c.disk (OpensAfterSome a.name (durable_part a.state) (gs ++ begun)) first.moments stays.disk.stays;
+  left = λ i now. first.left i (stays.disk.stays.no_more i now);
+  state = first.state ∙ ap (λ s. Some (durable_part s)) (sym stays.state);
   good = first.good;
   made = stays.made ∙ first.made;
+  settled = λ still. absurd (false≢true (sym still ∙ stays.failed));
 }
 
 failed_both : (a b c : Shown) → StaysFailed a b → StaysFailed b c → StaysFailed a c
 failed_both a b c first second = record { failed = second.failed; name = second.name ∙ first.name; state = second.state ∙ first.state; disk = untouched_both a.disk b.disk c.disk first.disk second.disk; layout = second.layout ∙ first.layout; made = second.made ∙ first.made }
 
-made_none : (most : ℕ) (s : Shown) → IsDurable s → MadeBy most [] s s
-made_none most s durable =
-    let here : (c : List ℕ) → Now s.disk c → OpensAfterSome s.name (durable_part s.state) [] c
-    = λ c now. record { count = 0; state = durable_part s.state; leads = refl; opens = subst (λ (l : List ℕ). OpensTo s.name (durable_part s.state) l) (sym (durable.only c now)) durable.opens } in
+-- nothing was made or begun
+pub made_nothing : (m : MadeRecords) → m ≡ with_begun (with_done m []) []
+made_nothing m = λ i. record { done = sym (append-nil m.done) i; begun = sym (append-nil m.begun) i }
+
+made_none : (s : Shown) → IsDurable s → Made [] [] s s
+made_none s durable =
+    let opens : (c : List ℕ) → Now s.disk c → OpensTo s.name (durable_part s.state) c
+    = λ c now. subst (λ (l : List ℕ). OpensTo s.name (durable_part s.state) l) (sym (durable.only c now)) durable.opens in
     record {
-      moments = no_call s.disk _ here;
-      left = λ c now. record { after = here c now; all = omega arith };
-      state = λ still. refl;
+      moments = no_call s.disk _ (λ c now. record { count = 0; state = durable_part s.state; leads = refl; opens = opens c now });
+      left = λ c now. inl (record { state = durable_part s.state; leads = refl; opens = opens c now });
+      state = refl;
       good = tt;
-      made = sym (append-nil s.made);
+      made = made_nothing s.made;
+      settled = λ still. refl;
     }
-
--- ---- calls that make no more than others might
-
-few_of_more : (fewer most : ℕ) (failed : Bool) (size count : ℕ) → fewer ≤ most → size ≤ count + (if failed then fewer else 0) → size ≤ count + (if failed then most else 0)
-few_of_more fewer most true size count few all = omega (arith, few, all)
-few_of_more fewer most false size count few all = all
-
-made_wider : (fewer most : ℕ) (a b : Shown) (rs : List UnitRecord) → fewer ≤ most → MadeBy fewer rs a b → MadeBy most rs a b
-made_wider fewer most a b rs few made = record {
-  moments = made.moments;
-  left = λ i now. let o = made.left i now in record { after = o.after; all = few_of_more fewer most b.is_failed (length rs) o.after.count few o.all };
-  state = made.state;
-  good = made.good;
-  made = made.made;
-}
-
-goes_wider : (fewer most : ℕ) (modelled : Bool) (a b : Shown) → fewer ≤ most → JournaledBy fewer modelled a b → JournaledBy most modelled a b
-goes_wider fewer most modelled a b few goes = record {
-  name = goes.name;
-  more = goes.more;
-  made = goes.made;
-  faults = goes.faults;
-  failed = goes.failed;
-  records = λ honest going. let o = goes.records honest going in (o.0, made_wider fewer most a b o.0 few o.1);
-}
 
 -- ---- calls
 
-pub goes_none : (most : ℕ) (modelled : Bool) (s : Shown) → (IsTrue modelled → s.is_failed ≡ false → IsDurable s) → JournaledBy most modelled s s
-goes_none most modelled s durable = record {
+pub goes_none : (modelled : Bool) (s : Shown) → (IsTrue modelled → s.is_failed ≡ false → IsDurable s) → Journaled modelled s s
+goes_none modelled s durable = record {
   name = refl;
   more = [];
-  made = sym (append-nil s.made);
+  done = sym (append-nil s.made.done);
   faults = λ going. subst (λ (f : Bool). FaultsAfter modelled f s.disk.faults s.disk.faults) (sym going) (inl (omega arith));
   failed = λ failed. record { failed = failed; name = refl; state = refl; disk = untouched s.disk; layout = refl; made = refl };
-  records = λ honest going. ([], made_none most s (durable honest going));
+  records = λ honest going. ([], [], made_none s (durable honest going));
 }
 
 module _ (goes_on : GoesOn) where
-  module _ (most : ℕ) (modelled : Bool) (a b c : Shown) (first : JournaledBy most modelled a b) (second : JournaledBy most modelled b c) where
-    records_both : (failed : Bool) → b.is_failed ≡ failed → IsTrue modelled → ((rs : List UnitRecord) × MadeBy most rs a b) → (rs : List UnitRecord) × MadeBy most rs a c
-    records_both true is honest (rs, made) = (rs, made_failed most a b c rs is made (second.failed is))
-    records_both false is honest (rs, made) = let more = second.records honest is in (rs ++ more.0, made_both goes_on most a b c rs more.0 is first.name made more.1)
+  module _ (modelled : Bool) (a b c : Shown) (first : Journaled modelled a b) (second : Journaled modelled b c) where
+    records_both : (failed : Bool) → b.is_failed ≡ failed → IsTrue modelled → ((gs begun : List (List UnitRecord)) × Made gs begun a b) → (gs begun : List (List UnitRecord)) × Made gs begun a c
+    records_both true is honest (gs, begun, made) = (gs, begun, made_failed a b c gs begun made (second.failed is))
+    records_both false is honest (gs, begun, made) =
+        let more = second.records honest is in (gs ++ more.0, more.1, made_both goes_on a b c gs begun more.0 more.1 (made.settled is) first.name made more.2)
 
     faults_of_both : (failed : Bool) → b.is_failed ≡ failed → a.is_failed ≡ false → FaultsAfter modelled c.is_failed a.disk.faults c.disk.faults
     faults_of_both true is going =
@@ -161,22 +183,18 @@ module _ (goes_on : GoesOn) where
     faults_of_both false is going =
         faults_both goes_on modelled a.disk.faults b.disk.faults c.disk.faults c.is_failed (subst (λ (f : Bool). FaultsAfter modelled f a.disk.faults b.disk.faults) is (first.faults going)) (second.faults is)
 
-    pub goes_both : JournaledBy most modelled a c
+    pub goes_both : Journaled modelled a c
     goes_both = record {
       name = second.name ∙ first.name;
       more = first.more ++ second.more;
-      made = second.made ∙ ap (λ (l : List Entry). l ++ second.more) first.made ∙ append_assoc a.made first.more second.more;
+      done = second.done ∙ ap (λ (l : List (List Entry)). l ++ second.more) first.done ∙ append_assoc a.made.done first.more second.more;
       faults = faults_of_both b.is_failed refl;
       failed = λ failed. let stays = first.failed failed in failed_both a b c stays (second.failed stays.failed);
       records = λ honest going. records_both b.is_failed refl honest (first.records honest going);
     }
 
-  pub groups_go_on : {D : Type 0} (life : D → Life) → GroupsGoOn life
-  groups_go_on life = record {
-    none = λ most modelled s. goes_none most modelled (shown_on life s);
-    both = λ most modelled a b c. goes_both most modelled (shown_on life a) (shown_on life b) (shown_on life c);
-    wider = λ fewer most modelled a b. goes_wider fewer most modelled (shown_on life a) (shown_on life b);
-  }
-
   pub calls_go_on : {D : Type 0} (life : D → Life) → CallsGoOn life
-  calls_go_on life = let groups = groups_go_on life in record { none = groups.none 1; both = groups.both 1 }
+  calls_go_on life = record {
+    none = λ modelled s. goes_none modelled (shown_on life s);
+    both = λ modelled a b c. goes_both modelled (shown_on life a) (shown_on life b) (shown_on life c);
+  }

@@ -1,15 +1,13 @@
 -- A statement that is given other rows keeps a core, and changes nothing durable.
-use Rattle.std.proofs.Common.{◌≡◌, ℕ, Bool, true, false, Option, None, refl, sym, ◌∙◌, ap, subst}
+use Rattle.std.proofs.Common.{◌≡◌, ℕ, true, None, refl, sym, ◌∙◌, ap, subst}
 use Rattle.std.proofs.lemmas.Bool.{false≢true}
-use Rattle.std.specs.Map.{keys_of}
 use Rattle.tables.specs.Tables.{Store}
 use Rattle.tables.specs.View.{is_store}
-use Rattle.core_calls.specs.Answer.{Answer}
 use Rattle.core_calls.specs.Call as call
 use Rattle.core_calls.specs.Call.{Call}
 use Rattle.core_model.specs.Asked.{querying, running}
 use Rattle.core_model.specs.Events.{asked_of}
-use Rattle.core_model.specs.Misread.{Misreads, SameTables, base_over, over, reads_rows}
+use Rattle.core_model.specs.Misread.{SameTables, over, reads_rows}
 use Rattle.core_model.specs.Step.{CoreState, owner_of, step_state}
 use Rattle.core_model.specs.Units.{unit_of}
 use Rattle.core_model.proofs.Happening.{store_stays}

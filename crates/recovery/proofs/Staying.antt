@@ -1,51 +1,32 @@
 -- What was answered stays.
-use Rattle.std.proofs.Common.{◌≡◌, ◌⊎◌, ◌≤◌, ◌<◌, ◌+◌, if◌then◌else◌, ℕ, Bool, false, true, List, [], ◌∷◌, ◌++◌, length, take, take_all, Some, inl, inr, sym, ◌∙◌, ap, subst, arith, length-append}
-use Rattle.std.specs.Prelude.{nat_le}
-use Rattle.std.proofs.lemmas.List.{take_at}
-use Rattle.std.proofs.lemmas.Bool.Decides.{leb_tells}
+use Rattle.std.proofs.Common.{◌≡◌, ◌⊎◌, ℕ, List, [], Some, inl, inr, sym, ◌∙◌, subst, append-nil}
 use Rattle.drda_disk.specs.Disk.{Life}
 use Rattle.unit_records.specs.Records.{UnitRecord}
 use Rattle.recovery.specs.Durable.{Durable, replayed_from}
+use Rattle.recovery.specs.Laws.{GoesOn}
 use Rattle.recovery.specs.Part.{durable_part}
 use Rattle.recovery.specs.Opens.{OpensTo}
-use Rattle.recovery.specs.Journaled.{AnsweredStays, OpensAfterAll}
+use Rattle.recovery.specs.Journaled.{AnsweredStays, OpensAfter, OpensAfterAll, all_in}
+use Rattle.recovery.proofs.Going.{led_all}
 
--- with none or with one that may be missing
-few : (failed : Bool) (whole count front : ℕ) → whole ≡ front + 1 → whole ≤ count + (if failed then 1 else 0) → front ≤ count
-few true whole count front is all = omega (arith, is, all)
-few false whole count front is all = omega (arith, is, all)
+module _ (name : List ℕ) (d e : Durable) (groups : List (List UnitRecord)) (leads : replayed_from d (all_in groups) ≡ Some e) (image : List ℕ) where
+  -- what all groups lead to is one state
+  opens_there : OpensAfter name d groups image → OpensTo name e image
+  opens_there o =
+      let both : Some o.state ≡ Some e = sym o.leads ∙ leads in
+      let same : o.state ≡ e = cc both in
+      subst (λ (f : Durable). OpensTo name f image) same o.opens
 
-module _ (name : List ℕ) (d : Durable) (image : List ℕ) where
-  none_missing : (records : List UnitRecord) (e : Durable) → OpensAfterAll name d records false image → replayed_from d records ≡ Some e → OpensTo name e image
-  none_missing records e o leads =
-      let all = o.all in
-      let whole : take o.after.count records ≡ records = take_all o.after.count records (omega (arith, all)) in
-      let both : Some o.after.state ≡ Some e = sym o.after.leads ∙ ap (replayed_from d) whole ∙ leads in
-      let same : o.after.state ≡ e = cc both in
-      subst (λ (f : Durable). OpensTo name f image) same o.after.opens
+  none_begun : OpensAfterAll name d groups [] image → OpensTo name e image
+  none_begun (inl o) = opens_there o
+  none_begun (inr o) = opens_there (subst (λ (l : List (List UnitRecord)). OpensAfter name d l image) (append-nil groups) o)
 
-  module _ (answered : List UnitRecord) (last : UnitRecord) (failed : Bool) (o : OpensAfterAll name d (answered ++ last ∷ []) failed image) where
-    count_is : length (answered ++ last ∷ []) ≡ length answered + 1
-    count_is = length-append answered (last ∷ [])
+  some_begun : GoesOn → (begun : List (List UnitRecord)) → OpensAfterAll name d groups begun image → OpensTo name e image ⊎ ((state : Durable) × (replayed_from e (all_in begun) ≡ Some state) × OpensTo name state image)
+  some_begun goes_on begun (inl o) = inl (opens_there o)
+  some_begun goes_on begun (inr o) = inr (o.state, sym (led_all goes_on d e groups begun leads) ∙ o.leads, o.opens)
 
-    at_least : length answered ≤ o.after.count
-    at_least = few failed (length (answered ++ last ∷ [])) o.after.count (length answered) count_is o.all
-
-    which : ((nat_le o.after.count (length answered) ≡ true) × (o.after.count ≤ length answered)) ⊎ ((nat_le o.after.count (length answered) ≡ false) × (length answered < o.after.count))
-        → (replayed_from d answered ≡ Some o.after.state) ⊎ (replayed_from d (answered ++ last ∷ []) ≡ Some o.after.state)
-    which (inl at_most) =
-        let front : take o.after.count (answered ++ last ∷ []) ≡ answered = take_at answered (last ∷ []) o.after.count (omega (arith, at_most.1, at_least)) in
-        inl (ap (replayed_from d) (sym front) ∙ o.after.leads)
-    which (inr more) =
-        let whole : take o.after.count (answered ++ last ∷ []) ≡ answered ++ last ∷ [] = take_all o.after.count (answered ++ last ∷ []) (omega (arith, more.1, count_is)) in
-        inr (ap (replayed_from d) (sym whole) ∙ o.after.leads)
-
-    one_missing : (state : Durable) × OpensTo name state image × ((replayed_from d answered ≡ Some state) ⊎ (replayed_from d (answered ++ last ∷ []) ≡ Some state))
-    one_missing = (o.after.state, o.after.opens, which (leb_tells o.after.count (length answered)))
-
-pub answered_stays : {D : Type 0} (life : D → Life) → AnsweredStays life
-answered_stays life = record {
-  going = λ records old new image made going now.
-      none_missing old.name (durable_part old.state) image records (durable_part new.state) (subst (λ (f : Bool). OpensAfterAll old.name (durable_part old.state) records f image) going (made.left image now)) (made.state going);
-  failed = λ answered last old new image made now. one_missing old.name (durable_part old.state) image answered last new.is_failed (made.left image now);
+pub answered_stays : GoesOn → {D : Type 0} (life : D → Life) → AnsweredStays life
+answered_stays goes_on life = record {
+  going = λ groups old new image made now. none_begun old.name (durable_part old.state) (durable_part new.state) groups made.state image (made.left image now);
+  failed = λ groups begun old new image made now. some_begun old.name (durable_part old.state) (durable_part new.state) groups made.state image goes_on begun (made.left image now);
 }

@@ -1,6 +1,6 @@
 //! Laws of the definitions. The functions do nothing: their contracts are the laws.
 
-ghost use Rattle.recovery.specs.Journaled.{AnsweredStays, CallsGoOn, GroupsGoOn, OneCallIsMade, OneGroupIsMade};
+ghost use Rattle.recovery.specs.Journaled.{AnsweredStays, CallsGoOn, OneCallIsMade, OneGroupIsMade};
 ghost use Rattle.recovery.specs.ImageLaws.{FreshStoresOpen, GroupsOpen, GroupsStay, OpensThere, OpensToOne, RecordsOpen, RecordsStay};
 
 use crate::laws::{records_follow_one_another, records_lead_one_way};
@@ -61,8 +61,8 @@ pub fn fresh_stores_open()
     checkpoints_are_known();
 }
 
-/// Calls one after another leave on the disk, at any moment, the state after the first of all their
-/// records.
+/// Calls one after another leave on the disk, at any moment, the state after the first of the groups of records
+/// that they made or began.
 pub fn calls_go_on<D: Disk>()
     ensures { CallsGoOn D.life }
 {
@@ -80,18 +80,11 @@ pub fn calls_make_records<D: Disk>()
 /// later in the same call.
 pub fn answered_units_stay<D: Disk>()
     ensures { AnsweredStays D.life }
-{}
-
-/// Calls that make several records at once, all or none, leave on the disk, one call after another, at any
-/// moment the state after the first of all their records; a call that makes fewer is one that makes at most
-/// more.
-pub fn groups_go_on<D: Disk>()
-    ensures { GroupsGoOn D.life }
 {
     records_follow_one_another();
 }
 
-/// What a call makes of a core and its disk that makes a group of records.
+/// What a call makes of a core and its disk that makes a group of records, all or none, or begins it.
 pub fn calls_make_groups<D: Disk>()
     ensures { OneGroupIsMade D.life }
 {

@@ -2,7 +2,7 @@
 use Rattle.std.specs.Prelude.{◌≡◌, ◌≤◌, ◌<◌, ℕ, ◌+◌, Bool, IsTrue, List, [], ◌∷◌, Option, Some, None, ◌==◌, if◌then◌else◌, length, replicate, slice_get}
 use Rattle.drda_disk.specs.Disk.{Life}
 use Rattle.serializability.specs.Answered.{AnsweredCall, CallsLead}
-use Rattle.recovery.specs.Journaled.{JournaledBy, OnDisk, shown_on}
+use Rattle.recovery.specs.Journaled.{Journaled, OnDisk, shown_on}
 use Rattle.shared_node.specs.declared.count.Count.{Count}
 use Rattle.shared_node.specs.declared.left.Left.{Left}
 use Rattle.shared_node.specs.LeftAnswers.{AreLeft}
@@ -34,10 +34,10 @@ pub record AreCounted (calls : List AnsweredCall) (places : List (Option Count))
   pub fresh : (conversation : ℕ) → next ≤ conversation → calls_of conversation calls ≡ 0
 
 -- Where the disk gives back what was written, the calls, with their answers, lead from the opening to the core as it is now; what
--- the core left on its disk since then is journaled, where 64 records at most were made together; and each answer that was left is one of those calls'.
+-- the core left on its disk since then is journaled; and each answer that was left is one of those calls'.
 pub record IsKept {D : Type 0} (modelled : Bool) (life : D → Life) (book : Told D) : Type 0 where
   pub leads : IsTrue modelled → CallsLead book.opening.state book.calls book.core.state
-  pub journaled : JournaledBy 64 modelled (shown_on life book.opening) (shown_on life book.core)
+  pub journaled : Journaled modelled (shown_on life book.opening) (shown_on life book.core)
   pub counted : AreCounted book.calls book.places book.next
   pub sixty_four : length book.places ≡ 64
   pub are_left : AreLeft book.calls book.left

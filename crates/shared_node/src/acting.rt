@@ -13,7 +13,7 @@ use crate::renewals::Renewals;
 use core_calls::{Answer, CoreCall};
 use drda_disk::Disk;
 use durable_core::DurableCore;
-use recovery::images::{calls_go_on, groups_go_on};
+use recovery::images::calls_go_on;
 use serializability::answers::{answers_are_serial, answers_belong_to_calls};
 use std::alloc::Global;
 use std::snapshot::Snapshot;
@@ -30,7 +30,7 @@ impl<D: Disk> Book<D> {
         ensures book { IfOk result (λ b. b ≡ newly_opened core) }
         ensures back { IfErr result (λ back. back ≡ core) }
     {
-        groups_go_on::<D>();
+        calls_go_on::<D>();
         answers_are_serial();
         core.is_durable();
         let Ok(places) = free_places(alloc) else {
@@ -77,7 +77,6 @@ impl<D: Disk> Book<D> {
         ensures journaled { Journaled D.is_modelled (shown_on D.life self.old.core) (shown_on D.life self.new.core) }
     {
         calls_go_on::<D>();
-        groups_go_on::<D>();
         self.core.is_durable();
         let next = self.next.checked_add(1)?;
         let place = free_place(&self.places)?;
@@ -104,7 +103,6 @@ impl<D: Disk> Book<D> {
         ensures journaled { Journaled D.is_modelled (shown_on D.life self.old.core) (shown_on D.life self.new.core) }
     {
         calls_go_on::<D>();
-        groups_go_on::<D>();
         answers_are_serial();
         answers_belong_to_calls();
         self.core.is_durable();
@@ -139,7 +137,6 @@ impl<D: Disk> Book<D> {
         ensures journaled { Journaled D.is_modelled (shown_on D.life self.old.core) (shown_on D.life self.new.core) }
     {
         calls_go_on::<D>();
-        groups_go_on::<D>();
         self.core.is_durable();
         if self.core.is_checkpoint_due() {
             self.renewals.renew(&mut self.core);
@@ -155,7 +152,6 @@ impl<D: Disk> Book<D> {
         ensures journaled { Journaled D.is_modelled (shown_on D.life self.old.core) (shown_on D.life self.new.core) }
     {
         calls_go_on::<D>();
-        groups_go_on::<D>();
         self.core.is_durable();
         if !knows(&self.places, &pass) {
             return false;

@@ -6,7 +6,7 @@ ghost use Rattle.core_calls.specs.Call.{call_of, xa};
 ghost use Rattle.durable_core.specs.Through.{GoThrough};
 ghost use Rattle.durable_core.specs.Together.{CommitTogether};
 ghost use Rattle.durable_core.specs.declared.together.Together.TheVariants.{Alone, Closed, DeviceFailed, Done};
-ghost use Rattle.recovery.specs.Journaled.{IsUnchanged, Journaled, JournaledBy, shown_on};
+ghost use Rattle.recovery.specs.Journaled.{IsUnchanged, Journaled, shown_on};
 ghost use Rattle.shared_node.specs.Gathered.{MakesTogether, branch_calls_of, conversations_of};
 ghost use Rattle.shared_node.specs.Wishes.{call_wished};
 ghost use Rattle.serializability.specs.Belonging.{is_excuse};
@@ -18,7 +18,7 @@ use crate::wish::{Wish, Wished};
 use core_calls::{Answer, CoreCall};
 use drda_disk::Disk;
 use durable_core::{DurableCore, Together};
-use recovery::images::{calls_go_on, groups_go_on};
+use recovery::images::calls_go_on;
 use serializability::answers::answers_belong_to_calls;
 use unit_records::{BranchCall, Phase};
 use xa_calls::{Request, Verb, Xid};
@@ -51,11 +51,10 @@ pub(crate) fn ask_together<D: Disk>(
     phase: Option<Phase>,
     chosen: &mut Chosen,
 ) -> Option<bool>
-    requires few { length chosen.old.members.items ≤ 64 }
     ensures members { chosen.new.members.items ≡ chosen.old.members.items }
     ensures some { IfSome result (λ has_failed. MakesTogether D.life core.old phase chosen.old.members.items has_failed core.new) }
     ensures none { result ≡ None → IsUnchanged (shown_on D.life core.old) (shown_on D.life core.new) }
-    ensures journaled { JournaledBy 64 D.is_modelled (shown_on D.life core.old) (shown_on D.life core.new) }
+    ensures journaled { Journaled D.is_modelled (shown_on D.life core.old) (shown_on D.life core.new) }
 {
     match phase {
         None => commit_together(core, &chosen.members, &mut chosen.conversations),
@@ -71,10 +70,9 @@ fn commit_together<D: Disk>(
 ) -> Option<bool>
     ensures some { IfSome result (λ has_failed. CommitTogether (shown_on D.life core.old) (conversations_of members.now) (if has_failed then DeviceFailed else Done) (shown_on D.life core.new)) }
     ensures none { result ≡ None → IsUnchanged (shown_on D.life core.old) (shown_on D.life core.new) }
-    ensures journaled { JournaledBy 64 D.is_modelled (shown_on D.life core.old) (shown_on D.life core.new) }
+    ensures journaled { Journaled D.is_modelled (shown_on D.life core.old) (shown_on D.life core.new) }
 {
     calls_go_on::<D>();
-    groups_go_on::<D>();
     core.is_durable();
     if !list_conversations(members, conversations) {
         return None;
@@ -89,12 +87,11 @@ fn go_through<D: Disk>(
     members: &[Wish],
     branch_calls: &mut Vec<BranchCall>,
 ) -> Option<bool>
-    requires few { length members.now ≤ 64 }
     ensures some { IfSome result (λ has_failed. GoThrough (shown_on D.life core.old) phase (branch_calls_of members.now) (if has_failed then DeviceFailed else Done) (shown_on D.life core.new)) }
     ensures none { result ≡ None → IsUnchanged (shown_on D.life core.old) (shown_on D.life core.new) }
-    ensures journaled { JournaledBy 64 D.is_modelled (shown_on D.life core.old) (shown_on D.life core.new) }
+    ensures journaled { Journaled D.is_modelled (shown_on D.life core.old) (shown_on D.life core.new) }
 {
-    groups_go_on::<D>();
+    calls_go_on::<D>();
     core.is_durable();
     if !list_branch_calls(members, branch_calls) {
         return None;

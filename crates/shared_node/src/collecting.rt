@@ -8,7 +8,7 @@ use crate::pass::Pass;
 use crate::wish::Wished;
 use core_calls::Answer;
 use drda_disk::Disk;
-use recovery::images::{calls_go_on, groups_go_on};
+use recovery::images::calls_go_on;
 
 impl<D: Disk> Book<D> {
     ghost use Rattle.std.specs.Prelude.{◌≡◌, IfSome, None};
@@ -25,7 +25,6 @@ impl<D: Disk> Book<D> {
         ensures journaled { Journaled D.is_modelled (shown_on D.life self.old.core) (shown_on D.life self.new.core) }
     {
         calls_go_on::<D>();
-        groups_go_on::<D>();
         self.core.is_durable();
         let has_failed = left_for(&self.places, &self.left, pass, wished)?;
         take_away(&mut self.left, pass.place);

@@ -5,13 +5,13 @@ use crate::book::Book;
 use crate::listing::list_all;
 use crate::wish::Wish;
 use drda_disk::Disk;
-use recovery::images::groups_go_on;
+use recovery::images::calls_go_on;
 use serializability::answers::answers_are_serial;
 use unit_records::Phase;
 
 impl<D: Disk> Book<D> {
     ghost use Rattle.std.specs.Prelude.{◌⊎◌};
-    ghost use Rattle.recovery.specs.Journaled.{JournaledBy, shown_on};
+    ghost use Rattle.recovery.specs.Journaled.{Journaled, shown_on};
     ghost use Rattle.shared_node.specs.Gathered.{Gathers, GathersNone};
 
     /// Those of the wishes that are for a phase of two-phase commit, or with none those to commit, and whose
@@ -24,9 +24,9 @@ impl<D: Disk> Book<D> {
     /// or no room for all, or where the device had failed before: then each makes its call alone.
     pub fn make_together(&mut self, phase: Option<Phase>, wishes: &[Wish])
         ensures gathers { GathersNone D.life self.old self.new ⊎ Gathers D.life phase self.old wishes.now self.new }
-        ensures journaled { JournaledBy 64 D.is_modelled (shown_on D.life self.old.core) (shown_on D.life self.new.core) }
+        ensures journaled { Journaled D.is_modelled (shown_on D.life self.old.core) (shown_on D.life self.new.core) }
     {
-        groups_go_on::<D>();
+        calls_go_on::<D>();
         answers_are_serial();
         self.core.is_durable();
         if !self.chosen.choose(&self.core, phase, &self.places, wishes) {

@@ -1,24 +1,25 @@
 -- From an opening and a run over its core to the whole.
-use Rattle.std.proofs.Common.{◌≡◌, ℕ, Bool, List, ◌++◌, map, Option, Some, IfSome, Result, Ok, Err, refl, sym, ◌∙◌, ap, subst}
+use Rattle.std.proofs.Common.{◌≡◌, ◌⊎◌, inl, inr, ℕ, Bool, true, false, List, ◌++◌, Option, Some, IfSome, Result, Ok, Err, refl, sym, ◌∙◌, ap, subst}
 use Rattle.drda_disk.specs.Disk.{LeavesOnly, Life, Now, Stays}
 use Rattle.drda_disk.proofs.Moments.{stays_and, weaker}
 use Rattle.session_commands.specs.Settings.{Settings}
-use Rattle.unit_journal.specs.Record.{Entry}
-use Rattle.unit_records.specs.Records.{UnitRecord, entry_of}
+use Rattle.unit_records.specs.MadeRecords.{MadeRecords, groups_of, with_begun, with_done}
+use Rattle.unit_records.specs.Records.{UnitRecord}
 use Rattle.recovery.specs.Durable.{Durable, replayed_from}
 use Rattle.recovery.specs.Openings.{ImagesAreSound}
 use Rattle.recovery.specs.Part.{durable_part, opened}
 use Rattle.recovery.specs.Opens.{OpensTo}
 use Rattle.recovery.specs.StepLaws.{OpeningsAreKept}
-use Rattle.recovery.specs.Journaled.{OnDisk, OpensAfterAll, OpensAfterSome}
-use Rattle.durable_core.specs.Opening.{IsOpenedTo}
-use Rattle.durable_core.specs.Reads.{IsExcused}
+use Rattle.recovery.specs.Journaled.{FaultsAfter, OnDisk, OpensAfter, OpensAfterAll, OpensAfterSome, all_in}
+use Rattle.durable_core.specs.Opening.{IsOpenedTo, StoodThere}
+use Rattle.durable_core.specs.Reads.{CountsError, IsExcused}
 use Rattle.durable_core.specs.declared.errors.Refused.{Refused}
 use Rattle.durable_core.specs.declared.errors.OpenError.{OpenError}
 use Rattle.durable_core.specs.declared.errors.OpenError.TheVariants.{Damaged, DeviceFailed, NoMemory, NotAStore}
 use Rattle.drda_node.specs.Asking.{AskedCore, asked_of}
 use Rattle.drda_node.specs.Machine.{Machine, at_start}
 use Rattle.drda_node.specs.Serving.{Runs}
+use Rattle.drda_node.specs.Stations.{RunsAlong, first_station}
 use Rattle.drda_node.specs.declared.serving.RunEnd.{RunEnd}
 use Rattle.store_service.specs.Running.{GivesBack, GoesFrom, HasRun, IsRefusal, IsRefused, IsStore, RunsCore, RunsFrom, RunsOver, core_over}
 
@@ -28,7 +29,7 @@ module _ {D : Type 0} (modelled : Bool) (life : D → Life) (sound : ImagesAreSo
     part_is : durable_part (opened d) ≡ d
     part_is = (kept d (sound name d (life disk).seen store.opens)).part
 
-    module _ (core : OnDisk D) (is : IsOpenedTo name d core) (stays : Stays (life disk) (life core.disk)) where
+    module _ (core : OnDisk D) (is : IsOpenedTo name d core) (stood : StoodThere (life disk).seen core) (stays : Stays (life disk) (life core.disk)) (quiet : (life core.disk).faults ≡ (life disk).faults) where
       over : asked_of modelled core ≡ core_over d core.layout core.room
       over = λ i. record { is_told = store.modelled_is i; state = is.state i; layout = core.layout; room = core.room; has_failed = is.going i; made = is.made i }
 
@@ -36,19 +37,19 @@ module _ {D : Type 0} (modelled : Bool) (life : D → Life) (sound : ImagesAreSo
       durable = ap durable_part is.state ∙ part_is
 
       -- as the disk was at first
-      before_any : (records : List UnitRecord) (image : List ℕ) → Now (life disk) image → OpensAfterSome name d records image
-      before_any records image now = record {
+      before_any : (groups : List (List UnitRecord)) (image : List ℕ) → Now (life disk) image → OpensAfterSome name d groups image
+      before_any groups image now = record {
         count = 0;
         state = d;
         leads = refl;
         opens = subst (λ (i : List ℕ). OpensTo name d i) (sym (store.only image now)) store.opens;
       }
 
-      same_some : (records : List UnitRecord) (image : List ℕ) → OpensAfterSome core.name (durable_part core.state) records image → OpensAfterSome name d records image
-      same_some records image o = subst (λ (n : List ℕ). OpensAfterSome n d records image) is.named (subst (λ (e : Durable). OpensAfterSome core.name e records image) durable o)
+      same_some : (groups : List (List UnitRecord)) (image : List ℕ) → OpensAfterSome core.name (durable_part core.state) groups image → OpensAfterSome name d groups image
+      same_some groups image o = subst (λ (n : List ℕ). OpensAfterSome n d groups image) is.named (subst (λ (e : Durable). OpensAfterSome core.name e groups image) durable o)
 
-      same_all : (records : List UnitRecord) (failed : Bool) (image : List ℕ) → OpensAfterAll core.name (durable_part core.state) records failed image → OpensAfterAll name d records failed image
-      same_all records failed image o = subst (λ (n : List ℕ). OpensAfterAll n d records failed image) is.named (subst (λ (e : Durable). OpensAfterAll core.name e records failed image) durable o)
+      same_all : (groups begun : List (List UnitRecord)) (image : List ℕ) → OpensAfterAll core.name (durable_part core.state) groups begun image → OpensAfterAll name d groups begun image
+      same_all groups begun image o = subst (λ (n : List ℕ). OpensAfterAll n d groups begun image) is.named (subst (λ (e : Durable). OpensAfterAll core.name e groups begun image) durable o)
 
       module _ (input before now : Option (List ℕ)) (given : D) (end : RunEnd)
           (goes : GoesFrom modelled life core (at_start (record { user = user; password = password; rdb = core.name }) (asked_of modelled core)) input before given end now) where
@@ -65,31 +66,52 @@ module _ {D : Type 0} (modelled : Bool) (life : D → Life) (sound : ImagesAreSo
         failed_is : goes.last.core.has_failed ≡ goes.new.is_failed
         failed_is = ap (λ (c : AskedCore). c.has_failed) goes.core_is
 
-        pub has_run : HasRun name d (record { user = user; password = password; rdb = name }) (life disk) (life given) input before end now
+        stations_from : (o : Option (List ℕ))
+            → IfSome o (λ bytes. RunsAlong modelled life (first_station (at_start (record { user = user; password = password; rdb = core.name }) (asked_of modelled core)) core) bytes before now goes.new)
+            → IfSome o (λ bytes. RunsAlong true life (first_station (at_start (record { user = user; password = password; rdb = name }) (core_over d core.layout core.room)) core) bytes before now goes.new)
+        stations_from o runs =
+            subst (λ (m : Machine). IfSome o (λ bytes. RunsAlong true life (first_station m core) bytes before now goes.new)) starts
+            (subst (λ (b : Bool). IfSome o (λ bytes. RunsAlong b life (first_station (at_start (record { user = user; password = password; rdb = core.name }) (asked_of modelled core)) core) bytes before now goes.new)) store.modelled_is runs)
+
+        faults_are : FaultsAfter true goes.last.core.has_failed (life disk).faults (life given).faults
+        faults_are =
+            subst (λ (x : D). FaultsAfter true goes.last.core.has_failed (life disk).faults (life x).faults) (sym goes.disk_is)
+            (subst (λ (f : Bool). FaultsAfter true f (life disk).faults (life goes.new.disk).faults) (sym failed_is)
+            (subst (λ (n : ℕ). FaultsAfter true goes.new.is_failed n (life goes.new.disk).faults) quiet
+            (subst (λ (b : Bool). FaultsAfter b goes.new.is_failed (life core.disk).faults (life goes.new.disk).faults) store.modelled_is (goes.journaled.faults is.going))))
+
+        pub has_run : HasRun life name d (record { user = user; password = password; rdb = name }) disk given input before end now
         has_run =
-            let (records, made) = goes.journaled.records store.modelled_is is.going in
+            let (groups, begun, made) = goes.journaled.records store.modelled_is is.going in
             record {
-              layout = core.layout;
-              room = core.room;
+              core = core;
+              is_opened = is;
+              stood = stood;
+              unwritten = stays;
               last = goes.last;
               runs = runs_from input goes.runs;
-              records = records;
+              left_core = goes.new;
+              left_disk = goes.disk_is;
+              over = goes.core_is ∙ ap (λ (b : Bool). asked_of b goes.new) store.modelled_is;
+              stations = stations_from input goes.stations;
+              groups = groups;
+              begun = begun;
               good = made.good;
-              made = ap (λ (c : AskedCore). c.made) goes.core_is ∙ made.made ∙ ap (λ (l : List Entry). l ++ map entry_of records) is.made;
-              lead = λ going.
-                  ap (λ (e : Durable). replayed_from e records) (sym durable) ∙ made.state (sym failed_is ∙ going)
-                  ∙ ap (λ (c : AskedCore). Some (durable_part c.state)) (sym goes.core_is);
-              moments = subst (λ (x : D). LeavesOnly (life disk) (life x) (OpensAfterSome name d records)) (sym goes.disk_is)
-                  (stays_and (life disk) (life core.disk) (life goes.new.disk) _ stays (weaker (life core.disk) (life goes.new.disk) _ _ made.moments (same_some records)) (before_any records));
-              left = λ image now.
-                  subst (λ (f : Bool). OpensAfterAll name d records f image) (sym failed_is)
-                  (same_all records goes.new.is_failed image (made.left image (subst (λ (x : D). Now (life x) image) goes.disk_is now)));
+              made = ap (λ (c : AskedCore). c.made) goes.core_is ∙ made.made ∙ ap (λ (m : MadeRecords). with_begun (with_done m (groups_of groups)) (groups_of begun)) is.made;
+              lead = ap (λ (e : Durable). replayed_from e (all_in groups)) (sym durable) ∙ made.state ∙ ap (λ (c : AskedCore). Some (durable_part c.state)) (sym goes.core_is);
+              settled = λ going. made.settled (sym failed_is ∙ going);
+              faults = faults_are;
+              moments = subst (λ (x : D). LeavesOnly (life disk) (life x) (OpensAfterSome name d (groups ++ begun))) (sym goes.disk_is)
+                  (stays_and (life disk) (life core.disk) (life goes.new.disk) _ stays (weaker (life core.disk) (life goes.new.disk) _ _ made.moments (same_some (groups ++ begun))) (before_any (groups ++ begun)));
+              left = λ image now. same_all groups begun image (made.left image (subst (λ (x : D). Now (life x) image) goes.disk_is now));
             }
 
       gives_back : (before now : Option (List ℕ)) (given : D) (error : OpenError) → GivesBack life core given error before now → IsRefused name error (life disk) (life given) before now
       gives_back before now given error g = record {
         refusal = subst (λ (n : List ℕ). IsRefusal n error) is.named g.refusal;
         stays = subst (λ (x : D). Stays (life disk) (life x)) (sym g.disk_is) stays;
+        cause = subst (λ (x : D). CountsError error (life disk).faults (life x).faults) (sym g.disk_is)
+            (subst (λ (n : ℕ). CountsError error n (life core.disk).faults) quiet g.cause);
         silent = g.silent;
       }
 
@@ -105,8 +127,9 @@ refusal_of name (Damaged at) is = absurd is
 refusal_of name DeviceFailed is = tt
 refusal_of name NoMemory is = tt
 
-pub refused_so : {D : Type 0} (life : D → Life) (name : List ℕ) (disk : D) (refused : Refused D) → IsExcused refused.error → Stays (life disk) (life refused.disk) → (w : Option (List ℕ)) → IsRefused name refused.error (life disk) (life refused.disk) w w
-refused_so life name disk refused is stays w = record { refusal = refusal_of name refused.error is; stays = stays; silent = refl }
+pub refused_so : {D : Type 0} (life : D → Life) (name : List ℕ) (disk : D) (refused : Refused D) → IsExcused refused.error → Stays (life disk) (life refused.disk) → CountsError refused.error (life disk).faults (life refused.disk).faults → (w : Option (List ℕ))
+    → IsRefused name refused.error (life disk) (life refused.disk) w w
+refused_so life name disk refused is stays cause w = record { refusal = refusal_of name refused.error is; stays = stays; cause = cause; silent = refl }
 
 -- ---- a node that ran
 

@@ -1,21 +1,25 @@
 -- What running over a store comes to: the replies of a machine of plain tables from the state that the store opens to, and
 -- what a crash leaves at each moment.
-use Rattle.std.specs.Prelude.{◌≡◌, ℕ, Bool, true, false, IsTrue, List, [], map, Option, Some, IfSome, Result, Ok, Err}
+use Rattle.std.specs.Prelude.{◌≡◌, ℕ, Bool, true, false, IsTrue, List, [], ◌++◌, Option, Some, IfSome, Result, Ok, Err}
 use Rattle.std.specs.List.{AllByRecursion}
 use Rattle.drda_disk.specs.Disk.{LeavesOnly, Life, Now, Only, Stays}
 use Rattle.session_commands.specs.Settings.{Settings, is_rdb_name}
 use Rattle.half_store.specs.declared.header.Layout.{Layout}
-use Rattle.unit_records.specs.Records.{IsGood, UnitRecord, entry_of}
+use Rattle.unit_records.specs.MadeRecords.{groups_of, none_made}
+use Rattle.unit_records.specs.Records.{IsGood, UnitRecord}
 use Rattle.recovery.specs.Durable.{Durable, replayed_from}
 use Rattle.recovery.specs.Part.{durable_part, opened}
 use Rattle.recovery.specs.Opens.{OpensTo}
-use Rattle.recovery.specs.Journaled.{Journaled, OnDisk, OpensAfterAll, OpensAfterSome, shown_on}
+use Rattle.recovery.specs.Journaled.{FaultsAfter, Journaled, OnDisk, OpensAfterAll, OpensAfterSome, all_in, shown_on}
+use Rattle.durable_core.specs.Opening.{IsOpenedTo, StoodThere}
+use Rattle.durable_core.specs.Reads.{CountsError}
 use Rattle.durable_core.specs.declared.errors.OpenError.{OpenError}
 use Rattle.durable_core.specs.declared.errors.OpenError.TheVariants.{Damaged, DeviceFailed, NoMemory, NotAStore}
 use Rattle.drda_node.specs.Asking.{AskedCore, asked_of}
 use Rattle.drda_node.specs.Machine.{Machine, at_start}
 use Rattle.drda_node.specs.Register.{core_in, machine}
 use Rattle.drda_node.specs.Serving.{Runs}
+use Rattle.drda_node.specs.Stations.{RunsAlong, first_station}
 use Rattle.drda_node.specs.declared.node.Node.{Node}
 use Rattle.drda_node.specs.declared.serving.RunEnd.{RunEnd}
 
@@ -27,22 +31,36 @@ pub record IsStore (modelled : Bool) (name : List ℕ) (d : Durable) (disk : Lif
 
 -- what a core over that state is to those who ask it, where its device gives back what was written
 abbrev pub core_over : Durable → Layout → ℕ → AskedCore
-core_over d layout room = record { is_told = true; state = opened d; layout = layout; room = room; has_failed = false; made = [] }
+core_over d layout room = record { is_told = true; state = opened d; layout = layout; room = room; has_failed = false; made = none_made }
 
--- a machine that begins with the state answered the input; these records were made of its calls, and lead from the state to
--- what is durable of it; a crash leaves the state after the first of them, and at the end after all of them, but perhaps not
--- the last where the device failed
-pub record HasRun (name : List ℕ) (d : Durable) (settings : Settings) (old new : Life) (input before : Option (List ℕ)) (end : RunEnd) (now : Option (List ℕ)) : Type 0 where
-  pub layout : Layout
-  pub room : ℕ
-  pub last : Machine
-  pub runs : IfSome input (λ bytes. Runs (at_start settings (core_over d layout room)) bytes before end now last)
-  pub records : List UnitRecord
-  pub good : AllByRecursion IsGood records
-  pub made : last.core.made ≡ map entry_of records
-  pub lead : last.core.has_failed ≡ false → replayed_from d records ≡ Some (durable_part last.core.state)
-  pub moments : LeavesOnly old new (OpensAfterSome name d records)
-  pub left : (image : List ℕ) → Now new image → OpensAfterAll name d records last.core.has_failed image
+module _ {D : Type 0} (life : D → Life) where
+  -- A machine that begins with the state answered the input, station by station. Groups of records were made of its calls, and
+  -- perhaps one was begun in the call in which the device failed; what was made leads from the state to what is durable of it.
+  -- A crash at any moment leaves the state after the first of these groups; and at the end after all that was made, or with it
+  -- all that was begun.
+  pub record HasRun (name : List ℕ) (d : Durable) (settings : Settings) (old new : D) (input before : Option (List ℕ)) (end : RunEnd) (now : Option (List ℕ)) : Type 0 where
+    -- the core that was opened: its layout and its room are those of what stood on the disk
+    pub core : OnDisk D
+    pub is_opened : IsOpenedTo name d core
+    pub stood : StoodThere (life old).seen core
+    pub unwritten : Stays (life old) (life core.disk)
+    -- the machine over it, and the core that it left on the disk
+    pub last : Machine
+    pub runs : IfSome input (λ bytes. Runs (at_start settings (core_over d core.layout core.room)) bytes before end now last)
+    pub left_core : OnDisk D
+    pub left_disk : new ≡ left_core.disk
+    pub over : last.core ≡ asked_of true left_core
+    pub stations : IfSome input (λ bytes. RunsAlong true life (first_station (at_start settings (core_over d core.layout core.room)) core) bytes before now left_core)
+    -- what it recorded
+    pub groups : List (List UnitRecord)
+    pub begun : List (List UnitRecord)
+    pub good : AllByRecursion (AllByRecursion IsGood) (groups ++ begun)
+    pub made : last.core.made ≡ record { done = groups_of groups; begun = groups_of begun }
+    pub lead : replayed_from d (all_in groups) ≡ Some (durable_part last.core.state)
+    pub settled : last.core.has_failed ≡ false → begun ≡ []
+    pub faults : FaultsAfter true last.core.has_failed (life old).faults (life new).faults
+    pub moments : LeavesOnly (life old) (life new) (OpensAfterSome name d (groups ++ begun))
+    pub left : (image : List ℕ) → Now (life new) image → OpensAfterAll name d groups begun image
 
 -- memory was refused, the device failed, or the store's name is none of a database
 abbrev pub IsRefusal : List ℕ → OpenError → Type 0
@@ -51,10 +69,11 @@ IsRefusal name (Damaged at) = ⊥
 IsRefusal name DeviceFailed = Unit {0}
 IsRefusal name NoMemory = Unit {0}
 
--- nothing was read or written
+-- nothing was written, and a call of the device has failed exactly where that is told
 pub record IsRefused (name : List ℕ) (error : OpenError) (old new : Life) (before now : Option (List ℕ)) : Type 0 where
   pub refusal : IsRefusal name error
   pub stays : Stays old new
+  pub cause : CountsError error old.faults new.faults
   pub silent : now ≡ before
 
 -- a machine over a core answered the input, and core and disk are those of one that went on from there
@@ -65,10 +84,11 @@ pub record GoesFrom {D : Type 0} (modelled : Bool) (life : D → Life) (old : On
   pub last : Machine
   pub core_is : last.core ≡ asked_of modelled new
   pub runs : IfSome input (λ bytes. Runs first bytes before end now last)
+  pub stations : IfSome input (λ bytes. RunsAlong modelled life (first_station first old) bytes before now new)
 
 module _ {D : Type 0} (life : D → Life) where
   abbrev pub RunsFrom : List ℕ → Durable → List ℕ → List ℕ → D → Option (List ℕ) → Option (List ℕ) → D → Result RunEnd OpenError → Option (List ℕ) → Type 0
-  RunsFrom name d user password old input before new (Ok end) now = HasRun name d (record { user = user; password = password; rdb = name }) (life old) (life new) input before end now
+  RunsFrom name d user password old input before new (Ok end) now = HasRun life name d (record { user = user; password = password; rdb = name }) old new input before end now
   RunsFrom name d user password old input before new (Err error) now = IsRefused name error (life old) (life new) before now
 
   -- the disk that is handed back, and what became of the run
@@ -80,6 +100,7 @@ module _ {D : Type 0} (life : D → Life) where
   pub record GivesBack (old : OnDisk D) (disk : D) (error : OpenError) (before now : Option (List ℕ)) : Type 0 where
     pub refusal : IsRefusal old.name error
     pub disk_is : disk ≡ old.disk
+    pub cause : CountsError error (life old.disk).faults (life old.disk).faults
     pub silent : now ≡ before
 
   abbrev pub RunsOver : Bool → List ℕ → List ℕ → OnDisk D → Option (List ℕ) → Option (List ℕ) → D → Result RunEnd OpenError → Option (List ℕ) → Type 0

@@ -1,33 +1,49 @@
 -- What a crash leaves of a run.
-use Rattle.std.specs.Prelude.{◌≡◌, ℕ, List, [], map, Some, Result, Ok, Err}
+use Rattle.std.specs.Prelude.{◌≡◌, ◌⊎◌, ℕ, List, [], ◌++◌, Some, Result, Ok, Err}
 use Rattle.core_model.specs.Step.{CoreState}
-use Rattle.half_store.specs.declared.header.Layout.{Layout}
-use Rattle.unit_records.specs.Records.{UnitRecord, entry_of}
-use Rattle.recovery.specs.Durable.{Durable}
+use Rattle.drda_disk.specs.Disk.{Life, Now}
+use Rattle.drda_disk.specs.FuseDisk as fuse
+use Rattle.drda_disk.specs.FuseDisk.{inner_of, left_of}
+use Rattle.drda_disk.specs.MemDisk.{life_of, read_of, synced_of}
+use Rattle.drda_disk.specs.declared.fuse.FuseDisk.{FuseDisk}
+use Rattle.drda_disk.specs.declared.memory.MemDisk.{MemDisk}
+use Rattle.recovery.specs.Durable.{Durable, replayed_from}
+use Rattle.recovery.specs.Journaled.{all_in}
+use Rattle.recovery.specs.Opens.{OpensTo}
 use Rattle.recovery.specs.Part.{opened}
-use Rattle.recovery.specs.Journaled.{OpensAfterAll}
 use Rattle.session_commands.specs.Settings.{Settings}
-use Rattle.drda_node.specs.Machine.{Machine, at_start}
-use Rattle.drda_node.specs.Serving.{Runs}
 use Rattle.drda_node.specs.declared.serving.RunEnd.{RunEnd}
 use Rattle.durable_core.specs.declared.errors.OpenError.{OpenError}
-use Rattle.store_service.specs.Running.{core_over}
+use Rattle.store_service.specs.Running.{HasRun}
 
--- a machine that begins with the state answered the input; the image opens to the state after all of its records, or all
--- but the last where the device failed, and that is what is told
-pub record HasSurvived (name : List ℕ) (d : Durable) (settings : Settings) (input : List ℕ) (end : RunEnd) (told : CoreState) : Type 0 where
-  pub layout : Layout
-  pub room : ℕ
-  pub last : Machine
+-- the life of a disk in memory whose device fails after so many calls
+abbrev pub fused : FuseDisk MemDisk → Life
+fused f = fuse.life_of life_of f
+
+-- the image that is picked of those that a crash leaves of a disk in memory: none of the writes since the last sync, all of them,
+-- or any other one
+pub record IsPicked (pick : ℕ) (left : FuseDisk MemDisk) (image : List ℕ) : Type 0 where
+  pub now : Now (fused left) image
+  pub none : pick ≡ 0 → image ≡ synced_of (inner_of left)
+  pub all : pick ≡ 1 → image ≡ read_of (inner_of left)
+
+-- A machine that begins with the state ran over the disk behind its fuse. The image that is picked opens to the state after all that
+-- was made, or with it all that was begun; and that is what is told.
+pub record HasSurvived (name : List ℕ) (d : Durable) (settings : Settings) (disk : MemDisk) (calls pick : ℕ) (input : List ℕ) (end : RunEnd) (told : CoreState) : Type 0 where
+  pub first : FuseDisk MemDisk
+  pub inside : inner_of first ≡ disk
+  pub fails_after : left_of first ≡ Some calls
+  pub left : FuseDisk MemDisk
   pub replies : List ℕ
-  pub runs : Runs (at_start settings (core_over d layout room)) input (Some []) end (Some replies) last
-  pub records : List UnitRecord
-  pub made : last.core.made ≡ map entry_of records
+  pub run : HasRun fused name d settings first left (Some input) (Some []) end (Some replies)
   pub image : List ℕ
-  pub after : OpensAfterAll name d records last.core.has_failed image
-  pub told_is : told ≡ opened after.after.state
+  pub picked : IsPicked pick left image
+  pub state : Durable
+  pub opens : OpensTo name state image
+  pub leads : (replayed_from d (all_in run.groups) ≡ Some state) ⊎ (replayed_from d (all_in (run.groups ++ run.begun)) ≡ Some state)
+  pub told_is : told ≡ opened state
 
 -- by how the run ended; where it was refused, the state is as it was
-abbrev pub Survives : List ℕ → Durable → List ℕ → List ℕ → List ℕ → Result RunEnd OpenError → CoreState → Type 0
-Survives name d user password input (Ok end) told = HasSurvived name d (record { user = user; password = password; rdb = name }) input end told
-Survives name d user password input (Err error) told = told ≡ opened d
+abbrev pub Survives : List ℕ → Durable → List ℕ → List ℕ → MemDisk → ℕ → ℕ → List ℕ → Result RunEnd OpenError → CoreState → Type 0
+Survives name d user password disk calls pick input (Ok end) told = HasSurvived name d (record { user = user; password = password; rdb = name }) disk calls pick input end told
+Survives name d user password disk calls pick input (Err error) told = told ≡ opened d

@@ -19,12 +19,15 @@ use std::io::Write;
 /// doubt with their claims. Then what is written is the answers of a machine of plain tables that begins with
 /// that state (`Runs`). The records of what its calls committed, prepared and decided, in their order, lead from
 /// that state to what is durable of the machine. At every moment, inside of a device call too, a crash leaves
-/// an image that opens to the state after the first of these records; and at the end, to the state after all of
-/// them, or all but the last where the device failed: so every answered commit is there, and every unit
-/// answered as prepared and undecided is in doubt, holding its claims.
+/// an image that opens to the state after the first of these records, of those that are made together all or none;
+/// and behind the run, to the state after all that was made, or with it all that was begun in the call in which the
+/// device failed. The run is a chain of stations, one behind each event, and what stood on the disk at one is there
+/// at each later moment: so every answered commit is there, and every unit answered as prepared and undecided
+/// is in doubt, holding its claims.
 ///
-/// Refused, nothing is written: memory was refused, the device failed, or the name of the store is none of a
-/// database (`NotAStore`). A disk that does not open to a state is refused as `durable_core::open` says.
+/// Refused, nothing is written: memory was refused, the device failed, which its count of faults tells too, or the
+/// name of the store is none of a database (`NotAStore`). A disk that does not open to a state is refused as
+/// `durable_core::open` says.
 pub fn run_store<D: Disk + Drop, R: Ready, W: Write>(
     alloc: Global,
     disk: D,

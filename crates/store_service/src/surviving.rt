@@ -19,8 +19,8 @@ use std::alloc::Global;
 
 /// Runs over the store of a disk as `run_store` does, with a device that fails after so many calls, takes an
 /// image that a crash leaves then, opens it, and tells its state as plain lists. It is the state after all
-/// records of what the run committed, prepared and decided, or all but the last; no premise on disks is left.
-/// `pick` chooses the image, as for `MemDisk::after_crash`.
+/// records of what the run committed, prepared and decided, or with them all that was begun in the call in which
+/// the device failed; no premise on disks is left. `pick` chooses the image, as for `MemDisk::after_crash`.
 ///
 /// How the run ended comes first; a run that was refused leaves the state as it was. Either is refused for want
 /// of memory, a fault of the device, or a name of the store that is none of a database.
@@ -33,7 +33,7 @@ pub fn survives(
     password: &str,
     input: &[u8],
 ) -> (Result<RunEnd, OpenError>, Result<PlainState, OpenError>)
-    ensures ok { (name : List ℕ) (d : Durable) → IsStore true name d (life_of disk) → IfOk result.1 (Survives name d user.now password.now input.now result.0) }
+    ensures ok { (name : List ℕ) (d : Durable) → IsStore true name d (life_of disk) → IfOk result.1 (Survives name d user.now password.now disk calls pick input.now result.0) }
     ensures ran { (name : List ℕ) (d : Durable) → IsStore true name d (life_of disk) → IfErr result.0 (IsRefusal name) }
     ensures err { (name : List ℕ) (d : Durable) → IsStore true name d (life_of disk) → IfErr result.1 (IsRefusal name) }
 {

@@ -1,5 +1,6 @@
 pub mod Fronts
 pub mod Records
+pub mod MadeRecords
 pub mod Room
 pub mod Laws
 pub mod Read

@@ -1,4 +1,4 @@
-use Rattle.std.proofs.Common.{◌≡◌, ℕ, List, length, drop, ap, subst, ◌∙◌, arith, sym}
+use Rattle.std.proofs.Common.{◌≡◌, ℕ, List, length, drop, ap, subst, ◌∙◌, arith, refl, sym, inl, inr}
 use Rattle.drda_node.specs.Register.{core_in, machine}
 use Rattle.drda_node.proofs.Journal.{more, none}
 use Rattle.drda_node.specs.declared.serving.RunEnd.TheVariants.{Ended, BadEvent, NoMemory, ReadFault}
@@ -8,6 +8,8 @@ use Rattle.drda_node.specs.Happening.{BreaksOff, Happens}
 use Rattle.drda_node.specs.Serving.{GoesOn}
 use Rattle.drda_node.proofs.Refusing.{broken_keep}
 use Rattle.conversation.proofs.Written.{take_front}
+use Rattle.drda_node.specs.Stations.{first_station}
+use Rattle.drda_node.proofs.Stations.{Along, begins_along, ends_along, fault_along, not_along, one_more_along}
 use Rattle.drda_node.proofs.Runs.{SoFar, ends, is_bad, no_memory, not_begun, one_more, read_fault, starts, write_fault}
 use Rattle.drda_node.proofs.serving.run.Goals as goal
 
@@ -42,7 +44,7 @@ returns-in_default-answer-clause-runs g c =
     let goes_on : GoesOn between last = record {
       settings = broken_keep between last event breaks;
       more = journaled.more;
-      made = journaled.made;
+      done = journaled.done;
       failed = λ failed. (journaled.failed failed).failed;
     } in
     no_memory (g.R.Read.remaining c.args.reader.now) (g.R.Read.remaining c.events.reader) (g.R.Read.remaining c.read_event.new.reader) (g.W.Write.contents c.args.writer.now) (g.W.Write.contents c.events.writer)
@@ -119,6 +121,8 @@ events-preserved g c =
       room = ap length back ∙ full;
       journaled = more g.D.Disk.is_modelled g.D.Disk.life c.calls_go_on.ensures (core_in c.args.node.now) (core_in c.events.node) (core_in c.answer.new.node) c.events.invariant.journaled c.answer.ensures.journaled;
       so_far = one_more r r1 r2 w w1 w2 first between last event text gathered c.pass_on.new.gathered.items c.events.invariant.so_far c.in-Event.ensures.reads happens passed;
+      along = one_more_along g.D.Disk.is_modelled g.D.Disk.life (first_station first (core_in c.args.node.now)) r r1 r2 w w1 w2 between last (core_in c.events.node) (core_in c.answer.new.node) event text gathered c.pass_on.new.gathered.items
+          c.events.invariant.along c.in-Event.ensures.reads happens c.answer.ensures.journaled refl passed;
     }
 
 pub returns-clause-runs : goal.returns-clause-runs
@@ -142,4 +146,49 @@ events-init g c = record {
   journaled = none g.D.Disk.is_modelled g.D.Disk.life c.calls_go_on.ensures (core_in c.args.node.now) c.is_durable.ensures;
   so_far = subst (λ (z : List ℕ). SoFar (machine c.args.node.now) (g.R.Read.remaining c.args.reader.now) (g.R.Read.remaining c.args.reader.now) (g.W.Write.contents c.args.writer.now) (g.W.Write.contents c.args.writer.now) z (machine c.args.node.now)) (sym c.new-gathered.ensures.items)
       (starts (g.R.Read.remaining c.args.reader.now) (g.W.Write.contents c.args.writer.now) (machine c.args.node.now));
+  along = subst (λ (z : List ℕ). Along g.D.Disk.is_modelled g.D.Disk.life (first_station (machine c.args.node.now) (core_in c.args.node.now)) (g.R.Read.remaining c.args.reader.now) (g.R.Read.remaining c.args.reader.now) (g.W.Write.contents c.args.writer.now)
+      (g.W.Write.contents c.args.writer.now) z (machine c.args.node.now) (core_in c.args.node.now)) (sym c.new-gathered.ensures.items)
+      (begins_along g.D.Disk.is_modelled g.D.Disk.life (g.R.Read.remaining c.args.reader.now) (g.W.Write.contents c.args.writer.now) (machine c.args.node.now) (core_in c.args.node.now));
 }
+
+pub returns-in_default-clause-stations : goal.returns-in_default-clause-stations
+returns-in_default-clause-stations g c = not_along g.D.Disk.is_modelled g.D.Disk.life (g.R.Read.remaining c.args.reader.now) (g.W.Write.contents c.args.writer.now) (machine c.args.node.now) (core_in c.args.node.now)
+
+pub returns-in_default-answer-clause-stations : goal.returns-in_default-answer-clause-stations
+returns-in_default-answer-clause-stations g c =
+    ends_along g.D.Disk.is_modelled g.D.Disk.life (first_station (machine c.args.node.now) (core_in c.args.node.now)) (g.R.Read.remaining c.args.reader.now) (g.R.Read.remaining c.events.reader) (g.W.Write.contents c.args.writer.now)
+    (g.W.Write.contents c.events.writer) (g.W.Write.contents c.finish.new.writer) (machine c.events.node) (core_in c.events.node) (core_in c.answer.new.node) c.events.gathered.items NoMemory c.finish.result c.events.invariant.along
+    (subst (λ (z : List ℕ). Ends (g.W.Write.contents c.events.writer) z NoMemory c.finish.result (g.W.Write.contents c.finish.new.writer)) c.deref-in_default-answer.ensures.value c.finish.ensures) (inr c.answer.ensures.journaled)
+
+pub returns-in_default-pass_on-clause-stations : goal.returns-in_default-pass_on-clause-stations
+returns-in_default-pass_on-clause-stations g c =
+    let w1 = g.W.Write.contents c.events.writer in
+    let w2 = g.W.Write.contents c.pass_on.new.writer in
+    let gathered = c.events.gathered.items in
+    let wrote = subst (λ (z : List ℕ). WritesFront w1 w2 gathered z) c.deref-in-Event.ensures.value c.in_default-pass_on.ensures.err in
+    fault_along g.D.Disk.is_modelled g.D.Disk.life (first_station (machine c.args.node.now) (core_in c.args.node.now)) (g.R.Read.remaining c.args.reader.now) (g.R.Read.remaining c.events.reader) (g.W.Write.contents c.args.writer.now) w1 w2
+    (machine c.events.node) (core_in c.events.node) (core_in c.answer.new.node) gathered c.answer.new.text.items c.events.invariant.along wrote (inr c.answer.ensures.journaled)
+
+pub returns-in-Ended-clause-stations : goal.returns-in-Ended-clause-stations
+returns-in-Ended-clause-stations g c =
+    ends_along g.D.Disk.is_modelled g.D.Disk.life (first_station (machine c.args.node.now) (core_in c.args.node.now)) (g.R.Read.remaining c.args.reader.now) (g.R.Read.remaining c.events.reader) (g.W.Write.contents c.args.writer.now)
+    (g.W.Write.contents c.events.writer) (g.W.Write.contents c.finish-in-Ended.new.writer) (machine c.events.node) (core_in c.events.node) (core_in c.events.node) c.events.gathered.items Ended c.finish-in-Ended.result c.events.invariant.along
+    (subst (λ (z : List ℕ). Ends (g.W.Write.contents c.events.writer) z Ended c.finish-in-Ended.result (g.W.Write.contents c.finish-in-Ended.new.writer)) c.deref-in-Ended.ensures.value c.finish-in-Ended.ensures) (inl refl)
+
+pub returns-in-Bad-clause-stations : goal.returns-in-Bad-clause-stations
+returns-in-Bad-clause-stations g c =
+    ends_along g.D.Disk.is_modelled g.D.Disk.life (first_station (machine c.args.node.now) (core_in c.args.node.now)) (g.R.Read.remaining c.args.reader.now) (g.R.Read.remaining c.events.reader) (g.W.Write.contents c.args.writer.now)
+    (g.W.Write.contents c.events.writer) (g.W.Write.contents c.finish-in-Bad.new.writer) (machine c.events.node) (core_in c.events.node) (core_in c.events.node) c.events.gathered.items BadEvent c.finish-in-Bad.result c.events.invariant.along
+    (subst (λ (z : List ℕ). Ends (g.W.Write.contents c.events.writer) z BadEvent c.finish-in-Bad.result (g.W.Write.contents c.finish-in-Bad.new.writer)) c.deref-in-Bad.ensures.value c.finish-in-Bad.ensures) (inl refl)
+
+pub returns-in-Fault-clause-stations : goal.returns-in-Fault-clause-stations
+returns-in-Fault-clause-stations g c =
+    ends_along g.D.Disk.is_modelled g.D.Disk.life (first_station (machine c.args.node.now) (core_in c.args.node.now)) (g.R.Read.remaining c.args.reader.now) (g.R.Read.remaining c.events.reader) (g.W.Write.contents c.args.writer.now)
+    (g.W.Write.contents c.events.writer) (g.W.Write.contents c.finish-in-Fault.new.writer) (machine c.events.node) (core_in c.events.node) (core_in c.events.node) c.events.gathered.items ReadFault c.finish-in-Fault.result c.events.invariant.along
+    (subst (λ (z : List ℕ). Ends (g.W.Write.contents c.events.writer) z ReadFault c.finish-in-Fault.result (g.W.Write.contents c.finish-in-Fault.new.writer)) c.deref-in-Fault.ensures.value c.finish-in-Fault.ensures) (inl refl)
+
+pub returns-clause-stations : goal.returns-clause-stations
+returns-clause-stations g c =
+    ends_along g.D.Disk.is_modelled g.D.Disk.life (first_station (machine c.args.node.now) (core_in c.args.node.now)) (g.R.Read.remaining c.args.reader.now) (g.R.Read.remaining c.events.reader) (g.W.Write.contents c.args.writer.now)
+    (g.W.Write.contents c.events.writer) (g.W.Write.contents c.finish-2.new.writer) (machine c.events.node) (core_in c.events.node) (core_in c.events.node) c.events.gathered.items ReadFault c.finish-2.result c.events.invariant.along
+    (subst (λ (z : List ℕ). Ends (g.W.Write.contents c.events.writer) z ReadFault c.finish-2.result (g.W.Write.contents c.finish-2.new.writer)) c.deref-2.ensures.value c.finish-2.ensures) (inl refl)

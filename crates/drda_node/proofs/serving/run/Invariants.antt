@@ -2,6 +2,8 @@ use Rattle.std.proofs.Common.{◌≡◌, length}
 use Rattle.drda_node.specs.Asking.{IsJournaled}
 use Rattle.drda_node.specs.Register.{core_in, machine}
 use Rattle.drda_node.proofs.Runs.{SoFar}
+use Rattle.drda_node.proofs.Stations.{Along}
+use Rattle.drda_node.specs.Stations.{first_station}
 use Rattle.drda_node.proofs.serving.run.Given as goal
 
 abbrev pub invariant-events : goal.invariant-events
@@ -9,4 +11,6 @@ invariant-events g l = record {
   room : length l.buffer.items ≡ 65536;
   journaled : IsJournaled g.D.Disk.is_modelled g.D.Disk.life (core_in l.fn.node) (core_in l.node);
   so_far : SoFar (machine l.fn.node) (g.R.Read.remaining l.fn.reader) (g.R.Read.remaining l.reader) (g.W.Write.contents l.fn.writer) (g.W.Write.contents l.writer) l.gathered.items (machine l.node);
+  along : Along g.D.Disk.is_modelled g.D.Disk.life (first_station (machine l.fn.node) (core_in l.fn.node)) (g.R.Read.remaining l.fn.reader) (g.R.Read.remaining l.reader) (g.W.Write.contents l.fn.writer) (g.W.Write.contents l.writer) l.gathered.items
+      (machine l.node) (core_in l.node);
 }

@@ -13,5 +13,6 @@ returns g c = (
     last = machine c.run-end.new.node;
     core_is = refl;
     runs = c.run-end.ensures.runs;
+    stations = c.run-end.ensures.stations;
   },
 )

@@ -4,7 +4,7 @@ use Rattle.store_service.proofs.running.run_store.Goals as goal
 pub returns-in-Ok : goal.returns-in-Ok
 returns-in-Ok g c name d store =
     runs_over g.D.Disk.is_modelled g.D.Disk.life c.openings_begin_histories.ensures.sound c.openings_are_kept.ensures name d c.args.user.now c.args.password.now c.args.disk store c.in-Ok.core
-    (c.in-Ok.ensures.opens name d store.modelled_is store.opens) c.in-Ok.ensures.stays (g.R.Read.remaining c.args.reader.now) (g.W.Write.contents c.args.writer.now) (g.W.Write.contents c.run_core.new.writer) c.run_core.result.0 c.run_core.result.1 c.run_core.ensures
+    (c.in-Ok.ensures.opens name d store.modelled_is store.opens) (c.in-Ok.ensures.found store.modelled_is) c.in-Ok.ensures.stays c.in-Ok.ensures.cause (g.R.Read.remaining c.args.reader.now) (g.W.Write.contents c.args.writer.now) (g.W.Write.contents c.run_core.new.writer) c.run_core.result.0 c.run_core.result.1 c.run_core.ensures
 
 pub returns-in-Err : goal.returns-in-Err
-returns-in-Err g c name d store = refused_so g.D.Disk.life name c.args.disk c.in-Err.refused (c.in-Err.ensures.opens name d store.modelled_is store.opens) c.in-Err.ensures.stays (g.W.Write.contents c.args.writer.now)
+returns-in-Err g c name d store = refused_so g.D.Disk.life name c.args.disk c.in-Err.refused (c.in-Err.ensures.opens name d store.modelled_is store.opens) c.in-Err.ensures.stays c.in-Err.ensures.cause (g.W.Write.contents c.args.writer.now)

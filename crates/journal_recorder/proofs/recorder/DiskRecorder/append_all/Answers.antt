@@ -1,9 +1,10 @@
-use Rattle.std.proofs.Common.{rules, ◌≡◌, ◌+◌, ◌≤◌, List, ◌++◌, length, ◌∙◌, ap, subst, arith, refl, sym, take}
+use Rattle.std.proofs.Common.{rules, ◌≡◌, ◌+◌, ◌≤◌, List, [], ◌∷◌, ◌++◌, length, ◌∙◌, ap, subst, arith, refl, sym, take}
 use Rattle.drda_disk.specs.declared.region.Region.{Region}
 use Rattle.drda_disk.specs.Disk.{LeavesOnly}
 use Rattle.unit_journal.specs.Journal.{IsSettled, region_of, room_of}
 use Rattle.unit_journal.specs.Record.{Entry, laid as spelled}
 use Rattle.unit_journal.specs.Stands.{IsBeforeOrAfterAll}
+use Rattle.unit_records.specs.MadeRecords.{with_begun, with_done}
 use Rattle.unit_records.specs.Room.{taken_by}
 use Rattle.journal_recorder.specs.Recording.{disk_of, journal_of, made_of}
 use Rattle.journal_recorder.proofs.Together.{length-laid}
@@ -28,7 +29,7 @@ returns-in-Ok-clause-ok g c records are =
       was_going = c.requires.going;
       faults = told.cause;
       going = c.requires.going;
-      made = c.note_all.ensures ∙ ap (λ (gs : List Entry). made_of old ++ gs) are.entries;
+      made = c.note_all.ensures ∙ ap (λ (gs : List Entry). with_done (made_of old) (gs ∷ [])) are.entries;
     }
 
 pub returns-in-Err-DeviceFailed-clause-err : goal.returns-in-Err-DeviceFailed-clause-err
@@ -48,5 +49,5 @@ returns-in-Err-DeviceFailed-clause-err g c records are =
       layout = refl;
       faults = cause;
       failed = refl;
-      made = c.note_all-in-Err-DeviceFailed.ensures ∙ ap (λ (gs : List Entry). made_of old ++ gs) are.entries;
+      begun = c.leave_all_open.ensures ∙ ap (λ (gs : List Entry). with_begun (made_of old) (gs ∷ [])) are.entries;
     }
