@@ -6,7 +6,7 @@ empty, in LINES lines of WIDTH letters at most. The other crates (tests, fixture
 What stands in backquotes is there. A point of "Calls" begins with calls and types that the crate's sources declare, and what else it
 names is a word of the crate's sources or definitions. A name in "Edits" is an edit's of the crate; a `*` stands for any end of a
 name. Any other name is a path, a word of the crate, or one of the tree; of a name with `::` each part is. What has blanks, brackets
-or signs in it is code, and is passed over."""
+or signs in it is code, of which words with an underscore or a capital inside are looked for."""
 import fnmatch, functools, glob, os, re
 
 from crates import TOP, crates_now, edits_of
@@ -17,6 +17,7 @@ GATHERED = "docs/PROVED.md", "docs/DECISIONS.md", "docs/PROOFS.md"
 OF_CODE, OF_LOGIC = "src/**/*.rt", ("specs/**/*.antt", "proofs/**/*.antt")
 IS_NAME = re.compile(r"[\w.][\w./-]*(?:::\w+)*")
 IS_EDIT = re.compile(r"[\w*/]+")
+ONLY_A_NAME = re.compile(r"\b[a-z]+_\w+|\b[A-Z][a-z]+[A-Z]\w*")
 WORD = re.compile(r"\w+(?:[-']\w+)*")
 # Files beside the crates that a document may name.
 OTHERS = "tests/**/*", "tools/*", "bench/**/*", "edits/**/*", "crates/*/must-fail/*", "Makefile", "crates.txt"
@@ -96,7 +97,10 @@ def faults_of_edits(crate, text):
 
 
 def faults_of_names(crate, text):
-    return (f"no {name}" for name in names_in(text) if not is_there(name, crate))
+    yield from (f"no {name}" for name in names_in(text) if not is_there(name, crate))
+    for code in re.findall(r"`([^`]+)`", text):
+        words = [] if IS_NAME.fullmatch(code) else ONLY_A_NAME.findall(code)
+        yield from (f"no {word} in {code}" for word in words if word not in known_anywhere())
 
 
 CHECKS = {"Calls": faults_of_calls, "Edits": faults_of_edits}
