@@ -1,5 +1,5 @@
 -- What a machine answers is in serial order.
-use Rattle.std.proofs.Common.{◌≡◌, inl, inr, [], ◌∷◌, true, false, sym, ap, subst, ◌∙◌}
+use Rattle.std.proofs.Common.{◌≡◌, inl, inr, [], ◌∷◌, true, sym, ap, subst, ◌∙◌}
 use Rattle.std.proofs.lemmas.Bool.{false≢true}
 use Rattle.core_calls.specs.Call.{Call}
 use Rattle.core_calls.specs.Answer.{Answer}

@@ -1,5 +1,5 @@
 -- A run so far, station by station.
-use Rattle.std.proofs.Common.{◌≡◌, ℕ, ◌+◌, Bool, List, [], ◌∷◌, ◌++◌, take, Option, Some, None, inl, inr, refl, sym, ap, subst, ◌∙◌, append_assoc, append-nil, arith}
+use Rattle.std.proofs.Common.{◌≡◌, ◌⊎◌, ℕ, Bool, List, [], ◌∷◌, ◌++◌, take, Option, Some, None, inl, inr, refl, sym, ap, subst, ◌∙◌, append_assoc, append-nil, arith}
 use Rattle.std.specs.Prelude.{IfSome, MatchOption}
 use Rattle.std.specs.List.{All, flat_map}
 use Rattle.std.specs.Io.KnownBytes.{Appends}
@@ -15,7 +15,7 @@ use Rattle.drda_node.specs.Records.{Event, event_text, IsAllowed}
 use Rattle.drda_node.specs.Happening.{Happens}
 use Rattle.drda_node.specs.Gathering.{Ends, PassesOn, WritesFront}
 use Rattle.drda_node.specs.Reading.{Receives}
-use Rattle.drda_node.specs.Stations.{AnswersStay, GoesTo, RunsAlong, Station, Stations, StaysOrGoesOn, StoodBehind, first_station}
+use Rattle.drda_node.specs.Stations.{AnswersStay, GoesTo, RunsAlong, Station, Stations, StaysOrGoesOn, first_station}
 
 module _ {D : Type 0} (modelled : Bool) (life : D → Life) where
   stations_next : (a b c : Station D) (events : List Event) (event : Event) → Stations modelled life a events b → GoesTo modelled life b event c → Stations modelled life a (events ++ event ∷ []) c

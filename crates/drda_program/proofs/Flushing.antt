@@ -1,8 +1,12 @@
 -- A flush keeps what was written before.
-use Rattle.std.proofs.Common.{◌∙◌, ℕ, List, [], take, Option, Some, None, IfSome}
+use Rattle.std.proofs.Common.{◌∙◌, ℕ, Bool, List, [], ◌++◌, take, Option, Some, None, IfSome}
 use Rattle.std.specs.Io.KnownBytes.{Appends, Keeps}
+use Rattle.drda_disk.specs.Disk.{Life}
+use Rattle.recovery.specs.Journaled.{OnDisk}
 use Rattle.drda_node.specs.Machine.{Machine}
 use Rattle.drda_node.specs.Serving.{Runs, Serves}
+use Rattle.drda_node.specs.Stations.{RunsAlong, Station, first_station}
+use Rattle.store_service.specs.Running.{GoesFrom}
 use Rattle.drda_node.specs.declared.serving.RunEnd.{RunEnd}
 use Rattle.drda_node.specs.declared.serving.RunEnd.TheVariants as ends
 
@@ -29,3 +33,32 @@ pub kept_run : (first last : Machine) (before mid now : Option (List ℕ)) (end 
     → IfSome o (λ input. Runs first input before end mid last) → IfSome o (λ input. Runs first input before end now last)
 kept_run first last before mid now end None k r = tt
 kept_run first last before mid now end (Some input) k r = runs_kept first last input before mid now end k r
+
+-- and station by station
+along_kept : {D : Type 0} (modelled : Bool) (life : D → Life) (first : Station D) (left : OnDisk D) (before mid now : Option (List ℕ)) (o : Option (List ℕ)) → Keeps mid now
+    → IfSome o (λ input. RunsAlong modelled life first input before mid left) → IfSome o (λ input. RunsAlong modelled life first input before now left)
+along_kept modelled life first left before mid now None k r = tt
+along_kept modelled life first left before mid now (Some input) k r = record {
+  events = r.events;
+  rest = r.rest;
+  allowed = r.allowed;
+  input_is = r.input_is;
+  at = r.at;
+  stations = r.stations;
+  behind = r.behind;
+  more = r.more;
+  written = appended_kept before mid now (r.at.sent ++ r.more) r.written k;
+}
+
+-- a run that went on from a core
+pub goes_kept : {D : Type 0} (modelled : Bool) (life : D → Life) (core : OnDisk D) (first : Machine) (input before mid now : Option (List ℕ)) (left : D) (end : RunEnd) → Keeps mid now
+    → GoesFrom modelled life core first input before left end mid → GoesFrom modelled life core first input before left end now
+goes_kept modelled life core first input before mid now left end k goes = record {
+  new = goes.new;
+  disk_is = goes.disk_is;
+  journaled = goes.journaled;
+  last = goes.last;
+  core_is = goes.core_is;
+  runs = kept_run first goes.last before mid now end input k goes.runs;
+  stations = along_kept modelled life (first_station first core) goes.new before mid now input k goes.stations;
+}

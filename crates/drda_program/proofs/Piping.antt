@@ -13,7 +13,7 @@ use Rattle.drda_node.specs.Serving.{Runs}
 use Rattle.drda_node.specs.declared.serving.RunEnd.{RunEnd}
 use Rattle.command_line.specs.Job.{Login}
 use Rattle.drda_program.proofs.Names.{both, names_alike}
-use Rattle.drda_program.specs.Program.{AnswersOver, HasRun, Pipes, PipesInMemory, machine_over, new_core, settings_of}
+use Rattle.drda_program.specs.Program.{AnswersOver, Pipes, PipesInMemory, RunsFresh, machine_over, new_core, settings_of}
 use Rattle.drda_program.specs.Stores.{BeginsFresh, RefusesName}
 use Rattle.drda_program.specs.declared.fault.Fault.{Fault}
 use Rattle.drda_program.specs.declared.fault.Fault.TheVariants.{BadArguments, BadEvent, Damaged, Device, NoMemory, NoRoom, NotAStore, NotInDoubt}
@@ -50,7 +50,7 @@ starts_fresh modelled told name login core is two =
     ap₂ (λ (n : List ℕ) (a : AskedCore). at_start (settings_of login n) a) is.named opened_fresh
 
 fresh_run : (settings : Settings) (room : ℕ) (first last : Machine) (before now : Option (List ℕ)) (end : RunEnd) (o : Option (List ℕ)) → first ≡ at_start settings (new_core room)
-    → IfSome o (λ input. Runs first input before end now last) → IfSome o (λ input. HasRun settings input before end now)
+    → IfSome o (λ input. Runs first input before end now last) → IfSome o (λ input. RunsFresh settings input before end now)
 fresh_run settings room first last before now end None is r = tt
 fresh_run settings room first last before now end (Some input) is r =
     let P : Machine → Type 0 = λ m. Runs m input before end now last in
@@ -67,7 +67,7 @@ by_answer modelled is_told life rdb login input before now outcome core is opene
   end = ran.end;
   is_flushed = ran.is_flushed;
   reported = ran.reported;
-  has_run = fresh_run (settings_of login rdb) core.room (machine_over modelled login core) ran.last before now ran.end input (starts_fresh modelled is_told rdb login core opened two) ran.runs;
+  has_run = fresh_run (settings_of login rdb) core.room (machine_over modelled login core) ran.goes.last before now ran.end input (starts_fresh modelled is_told rdb login core opened two) ran.goes.runs;
 })
 
 pub piped : {D : Type 0} (modelled : Bool) → modelled ≡ true → (life : D → Life) (rdb : List ℕ) (login : Login) (input before now : Option (List ℕ)) (outcome : Result (Unit {0}) Fault) (core : OnDisk D) → BeginsFresh rdb (Ok core)

@@ -1,35 +1,43 @@
 -- A run over the store of a path.
-use Rattle.std.proofs.Common.{◌≡◌, subst, inl, inr, ℕ, Bool, List, Option, Some, IfSome, Result, Ok}
-use Rattle.std.specs.Io.KnownBytes.{Keeps}
+use Rattle.std.proofs.Common.{◌≡◌, ◌+◌, ◌∙◌, arith, inl, inr, ℕ, Bool, List, Option, Some, Result, Ok, Err}
 use Rattle.drda_disk.specs.Disk.{Life}
 use Rattle.recovery.specs.Journaled.{OnDisk}
-use Rattle.drda_node.specs.Asking.{IsJournaled, asked_of}
-use Rattle.drda_node.specs.Machine.{Machine}
-use Rattle.drda_node.specs.Serving.{Runs}
+use Rattle.recovery.specs.Openings.{ImagesAreSound}
+use Rattle.recovery.specs.StepLaws.{OpeningsAreKept}
+use Rattle.durable_core.specs.declared.errors.OpenError.{OpenError}
+use Rattle.durable_core.specs.declared.errors.OpenError.TheVariants as error
 use Rattle.drda_node.specs.declared.serving.RunEnd.{RunEnd}
+use Rattle.store_service.specs.Running as store
+use Rattle.store_service.specs.Running.{GivesBack}
+use Rattle.store_service.proofs.Stores.{runs_over}
 use Rattle.command_line.specs.Job.{Login}
-use Rattle.drda_program.proofs.Flushing.{kept_run}
-use Rattle.drda_program.specs.Endings.{result_for}
+use Rattle.drda_program.proofs.Flushing.{goes_kept}
+use Rattle.drda_program.specs.Endings.{fault_for}
 use Rattle.drda_program.specs.Files.{FileCalls}
 use Rattle.drda_program.specs.Opening.{IsOver, OpensStore}
-use Rattle.drda_program.specs.Program.{AnswersOver, PipesFile, RunsOver, machine_over}
+use Rattle.drda_program.specs.Program.{AnswersOver, PipesFile, machine_over}
+use Rattle.drda_program.specs.Reporting.{Reports}
+use Rattle.drda_program.specs.Stores.{RefusesName}
 use Rattle.drda_program.specs.declared.fault.Fault.{Fault}
 
 module _ {D : Type 0} (modelled : Bool) (life : D → Life) where
-  -- a node that ran, and its last flush
-  pub ran_over : (core over last : OnDisk D) (first final : Machine) (login : Login) (input before mid now : Option (List ℕ)) (end : RunEnd) (is_flushed : Bool) (outcome : Result (Unit {0}) Fault)
-      → over ≡ core → first ≡ machine_over modelled login core → final.core ≡ asked_of modelled last → IsJournaled modelled life over last
-      → IfSome input (λ bytes. Runs first bytes before end mid final) → Keeps mid now → outcome ≡ result_for end is_flushed → RunsOver modelled life core login input before outcome now
-  ran_over core over last first final login input before mid now end is_flushed outcome same begins ends journaled runs kept reported = record {
-    end = end;
-    is_flushed = is_flushed;
-    reported = reported;
-    last = final;
-    runs = subst (λ (m : Machine). IfSome input (λ bytes. Runs m bytes before end now final)) begins (kept_run first final before mid now end input kept runs);
-    left = last;
-    left_is = ends;
-    journaled = subst (λ (c : OnDisk D). IsJournaled modelled life c last) same journaled;
-  }
+  -- no call of a device was made, so that it has not failed
+  refuses_so : (core : OnDisk D) (disk : D) (e : OpenError) (before now : Option (List ℕ)) → GivesBack life core disk e before now → RefusesName core.name (fault_for e)
+  refuses_so core disk error.NotAStore before now g = g.refusal
+  refuses_so core disk (error.Damaged at) before now g = absurd g.refusal
+  refuses_so core disk error.DeviceFailed before now g = let more : (life core.disk).faults ≡ (life core.disk).faults + 1 = g.cause in absurd (omega (arith, more))
+  refuses_so core disk error.NoMemory before now g = tt
+
+  -- a run over a core, and its last flush
+  ran_over : (core : OnDisk D) (login : Login) (input before mid now : Option (List ℕ)) (disk : D) (r : Result RunEnd OpenError) (outcome : Result (Unit {0}) Fault) → store.RunsOver life modelled login.user login.password core input before disk r mid
+      → Reports r mid outcome now → AnswersOver modelled life core login input before outcome now
+  ran_over core login input before mid now disk (Ok end) outcome goes (kept, (is_flushed, reported)) =
+      inr (record { end = end; is_flushed = is_flushed; reported = reported; left = disk; goes = goes_kept modelled life core (machine_over modelled login core) input before mid now disk end kept goes })
+  ran_over core login input before mid now disk (Err e) outcome given (same, reported) = inl (fault_for e, reported, refuses_so core disk e before mid given, same ∙ given.silent)
+
+  pub answered : (core : OnDisk D) (login : Login) (input before mid now : Option (List ℕ)) (given : D × Result RunEnd OpenError) (outcome : Result (Unit {0}) Fault) → store.RunsCore modelled life login.user login.password core input before given mid
+      → Reports given.1 mid outcome now → AnswersOver modelled life core login input before outcome now
+  answered core login input before mid now given outcome ran reports = ran_over core login input before mid now given.0 given.1 outcome ran reports
 
   module _ {F : Type 0} (calls : FileCalls F D) where
     -- the disk of a path that was opened
@@ -37,10 +45,20 @@ module _ {D : Type 0} (modelled : Bool) (life : D → Life) where
     found files path core files' (inl (call, clash)) = absurd (cc clash)
     found files path core files' (inr there) = there
 
-    module _ (path : List ℕ) (login : Login) (files files' : F) (input before now : Option (List ℕ)) (outcome : Result (Unit {0}) Fault) (core : OnDisk D) where
+    module _ (sound : ImagesAreSound) (kept : OpeningsAreKept) (path : List ℕ) (login : Login) (files files' : F) (input before now : Option (List ℕ)) (outcome : Result (Unit {0}) Fault) (core : OnDisk D) where
       by_answer : (disk : D) → calls.opens files path (Some disk) files' → IsOver modelled life disk core → AnswersOver modelled life core login input before outcome now → PipesFile modelled life calls path login files input before outcome files' now
       by_answer disk opens over (inl (fault, is, refused, silent)) = inl (fault, is, inr (disk, opens, core, over, refused), silent)
-      by_answer disk opens over (inr ran) = inr (disk, opens, record { core = core; over = over; ran = ran })
+      by_answer disk opens over (inr ran) = inr (
+        disk,
+        opens,
+        record {
+          core = core;
+          over = over;
+          ran = ran;
+          promise = λ name d is_store. runs_over modelled life sound kept name d login.user login.password disk is_store core (over.finds name d is_store.modelled_is is_store.opens) (over.stood is_store.modelled_is) over.stays over.quiet
+              input before now ran.left (Ok ran.end) ran.goes;
+        },
+      )
 
       pub piped_file : OpensStore modelled life calls files path (Ok core) files' → AnswersOver modelled life core login input before outcome now → PipesFile modelled life calls path login files input before outcome files' now
       piped_file opened answers = let there = found files path core files' opened in by_answer there.0 there.1 there.2 answers

@@ -1,4 +1,5 @@
 pub mod Endings
+pub mod Reporting
 pub mod Doubts
 pub mod Files
 pub mod Network

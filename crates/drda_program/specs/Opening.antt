@@ -34,11 +34,12 @@ pub record AreDoubts (doubts : List Listed) (image : List ℕ) : Type 0 where
 -- ---- a disk, of which no more than this is known unless it gives back what was written
 
 module _ {D : Type 0} (modelled : Bool) (life : D → Life) where
-  -- a core over the store that the disk is: what stood there, and nothing else
+  -- a core over the store that the disk is: what stood there, and nothing else; nothing was written, and no device call failed
   pub record IsOver (disk : D) (core : OnDisk D) : Type 0 where
     pub stood : IsTrue modelled → StoodThere (life disk).seen core
     pub finds : (name : List ℕ) (d : Durable) → IsTrue modelled → OpensTo name d (life disk).seen → IsOpenedTo name d core
     pub stays : Stays (life disk) (life core.disk)
+    pub quiet : (life core.disk).faults ≡ (life disk).faults
 
   -- Why a disk is not opened. That it is no store, or damaged at an offset, is reported where it is so, and of no disk that
   -- opens to a state.

@@ -6,14 +6,16 @@ use Rattle.drda_disk.specs.Disk.{Life}
 use Rattle.session_commands.specs.Settings.{Settings, is_rdb_name}
 use Rattle.half_store.specs.Fresh.{is_store_of}
 use Rattle.half_store.specs.declared.header.Layout.TheVariants.{Two}
+use Rattle.unit_records.specs.MadeRecords.{none_made}
 use Rattle.recovery.specs.Durable.{Durable, fresh}
 use Rattle.recovery.specs.Journaled.{OnDisk}
 use Rattle.recovery.specs.Opens.{OpensTo}
 use Rattle.recovery.specs.Part.{opened}
-use Rattle.drda_node.specs.Asking.{AskedCore, IsJournaled, asked_of}
+use Rattle.drda_node.specs.Asking.{AskedCore, asked_of}
 use Rattle.drda_node.specs.Machine.{Machine, at_start}
 use Rattle.drda_node.specs.Serving.{Runs}
 use Rattle.drda_node.specs.declared.serving.RunEnd.{RunEnd}
+use Rattle.store_service.specs.Running.{GoesFrom, HasRun, IsStore}
 use Rattle.command_line.specs.Job.{Job, Login, init, pipe, serve, in_doubt}
 use Rattle.command_line.specs.Job as job
 use Rattle.drda_program.specs.Deciding.{DecidesFile}
@@ -36,11 +38,11 @@ settings_of login rdb = record { user = login.user; password = login.password; r
 
 -- over a store in memory that was just made, of layout 2, with so many bytes for records
 abbrev pub new_core : ℕ → AskedCore
-new_core room = record { is_told = true; state = opened fresh; layout = Two; room = room; has_failed = false; made = [] }
+new_core room = record { is_told = true; state = opened fresh; layout = Two; room = room; has_failed = false; made = none_made }
 
 -- a machine that is started with these settings over a fresh store has run over the input and ended so
-abbrev pub HasRun : Settings → List ℕ → Option (List ℕ) → RunEnd → Option (List ℕ) → Type 0
-HasRun settings input before end now = (room : ℕ) × (last : Machine) × Runs (at_start settings (new_core room)) input before end now last
+abbrev pub RunsFresh : Settings → List ℕ → Option (List ℕ) → RunEnd → Option (List ℕ) → Type 0
+RunsFresh settings input before end now = (room : ℕ) × (last : Machine) × Runs (at_start settings (new_core room)) input before end now last
 
 -- memory was refused, or the memory disk failed for want of it, before the first event: nothing is written
 abbrev pub IsNotBegun : Result (Unit {0}) Fault → Option (List ℕ) → Option (List ℕ) → Type 0
@@ -51,7 +53,7 @@ pub record HasAnswered (settings : Settings) (input before : Option (List ℕ)) 
   pub end : RunEnd
   pub is_flushed : Bool
   pub reported : outcome ≡ result_for end is_flushed
-  pub has_run : IfSome input (λ bytes. HasRun settings bytes before end now)
+  pub has_run : IfSome input (λ bytes. RunsFresh settings bytes before end now)
 
 -- the run did not begin, or it ended
 abbrev pub Pipes : Settings → Option (List ℕ) → Option (List ℕ) → Result (Unit {0}) Fault → Option (List ℕ) → Type 0
@@ -70,26 +72,25 @@ abbrev pub machine_over : {D : Type 0} → Bool → Login → OnDisk D → Machi
 machine_over modelled login core = at_start (settings_of login core.name) (asked_of modelled core)
 
 module _ {D : Type 0} (modelled : Bool) (life : D → Life) where
-  -- the machine of a core has run over the input, with a last flush; all that the core did is journaled
+  -- the machine of a core has run over the input, station by station, with a last flush; all that the core did is journaled
   pub record RunsOver (core : OnDisk D) (login : Login) (input before : Option (List ℕ)) (outcome : Result (Unit {0}) Fault) (now : Option (List ℕ)) : Type 0 where
     pub end : RunEnd
     pub is_flushed : Bool
     pub reported : outcome ≡ result_for end is_flushed
-    pub last : Machine
-    pub runs : IfSome input (λ bytes. Runs (machine_over modelled login core) bytes before end now last)
-    pub left : OnDisk D
-    pub left_is : last.core ≡ asked_of modelled left
-    pub journaled : IsJournaled modelled life core left
+    pub left : D
+    pub goes : GoesFrom modelled life core (machine_over modelled login core) input before left end now
 
   -- no node was started over a core, or it ran
   abbrev pub AnswersOver : OnDisk D → Login → Option (List ℕ) → Option (List ℕ) → Result (Unit {0}) Fault → Option (List ℕ) → Type 0
   AnswersOver core login input before outcome now = ((fault : Fault) × (outcome ≡ Err fault) × RefusesName core.name fault × (now ≡ before)) ⊎ RunsOver core login input before outcome now
 
-  -- the run over the store that a disk is
+  -- The run over the store that a disk is. Of a disk that gives back what was written, whose one image opens to a state, it is all
+  -- that is promised of a run over a store.
   pub record RunsOn (disk : D) (login : Login) (input before : Option (List ℕ)) (outcome : Result (Unit {0}) Fault) (now : Option (List ℕ)) : Type 0 where
     pub core : OnDisk D
     pub over : IsOver modelled life disk core
     pub ran : RunsOver core login input before outcome now
+    pub promise : (name : List ℕ) (d : Durable) → IsStore modelled name d (life disk) → HasRun life name d (settings_of login name) disk ran.left input before ran.end now
 
   -- a line for each unit in doubt
   abbrev pub IsOfDoubts : D → List ℕ → Type 0

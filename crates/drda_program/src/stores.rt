@@ -75,8 +75,8 @@ fn open_disk<D: Disk + Drop>(alloc: Global, disk: D) -> Result<DurableCore<D>, F
     }
 }
 
-// What is reported of it: no fault of a store as want of memory.
-fn fault_of(error: OpenError) -> Fault
+/// What is reported of it: no fault of a store as want of memory.
+pub(crate) fn fault_of(error: OpenError) -> Fault
     ensures { result ≡ fault_for error }
 {
     match error {

@@ -1,10 +1,10 @@
 -- Calls that are made together lead from the core before them to the core behind them.
-use Rattle.std.proofs.Common.{◌≡◌, ℕ, Bool, true, false, List, [], ◌∷◌, ◌++◌, Option, Some, None, refl, sym, ap, subst, ◌∙◌}
+use Rattle.std.proofs.Common.{◌≡◌, ℕ, Bool, true, false, List, [], ◌∷◌, ◌++◌, Option, Some, None, refl, sym, ap, subst}
 use Rattle.std.specs.Prelude.{◌&&◌, is_some, not}
 use Rattle.drda_disk.specs.Disk.{Life}
 use Rattle.xa_manager.specs.Branch.{joined_xid}
 use Rattle.core_calls.specs.Call.{commit}
-use Rattle.core_calls.specs.Answer.{done, in_global, xa}
+use Rattle.core_calls.specs.Answer.{done, in_global}
 use Rattle.core_model.specs.Step.{CoreState, answer, step_state, unless_joined}
 use Rattle.core_model.specs.Units.{Held}
 use Rattle.unit_records.specs.Together.{all_committed, are_local}

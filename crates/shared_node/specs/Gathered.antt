@@ -1,5 +1,5 @@
 -- Calls that are made together: what they make of a book, and how their conversations collect the answers.
-use Rattle.std.specs.Prelude.{◌≡◌, ℕ, ◌+◌, ◌<◌, ◌^◌, Bool, List, length, [], ◌∷◌, ◌++◌, map, Option, Some, None, if◌then◌else◌, slice_get, slice_set}
+use Rattle.std.specs.Prelude.{◌≡◌, ℕ, ◌+◌, ◌<◌, ◌^◌, Bool, List, [], ◌∷◌, ◌++◌, map, Option, Some, None, if◌then◌else◌, slice_get, slice_set}
 use Rattle.drda_disk.specs.Disk.{Life}
 use Rattle.core_calls.specs.Answer.{Answer}
 use Rattle.serializability.specs.Answered.{AnsweredCall}

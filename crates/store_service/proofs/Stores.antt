@@ -1,5 +1,5 @@
 -- From an opening and a run over its core to the whole.
-use Rattle.std.proofs.Common.{◌≡◌, ◌⊎◌, inl, inr, ℕ, Bool, true, false, List, ◌++◌, Option, Some, IfSome, Result, Ok, Err, refl, sym, ◌∙◌, ap, subst}
+use Rattle.std.proofs.Common.{◌≡◌, ℕ, Bool, true, List, ◌++◌, Option, Some, IfSome, Result, Ok, Err, refl, sym, ◌∙◌, ap, subst}
 use Rattle.drda_disk.specs.Disk.{LeavesOnly, Life, Now, Stays}
 use Rattle.drda_disk.proofs.Moments.{stays_and, weaker}
 use Rattle.session_commands.specs.Settings.{Settings}
@@ -10,7 +10,7 @@ use Rattle.recovery.specs.Openings.{ImagesAreSound}
 use Rattle.recovery.specs.Part.{durable_part, opened}
 use Rattle.recovery.specs.Opens.{OpensTo}
 use Rattle.recovery.specs.StepLaws.{OpeningsAreKept}
-use Rattle.recovery.specs.Journaled.{FaultsAfter, OnDisk, OpensAfter, OpensAfterAll, OpensAfterSome, all_in}
+use Rattle.recovery.specs.Journaled.{FaultsAfter, OnDisk, OpensAfterAll, OpensAfterSome, all_in}
 use Rattle.durable_core.specs.Opening.{IsOpenedTo, StoodThere}
 use Rattle.durable_core.specs.Reads.{CountsError, IsExcused}
 use Rattle.durable_core.specs.declared.errors.Refused.{Refused}

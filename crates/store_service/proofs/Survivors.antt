@@ -1,5 +1,5 @@
 -- A run over a disk in memory behind a fuse, a crash, and an opening.
-use Rattle.std.proofs.Common.{◌≡◌, ◌⊎◌, inl, inr, ℕ, true, List, [], Option, Some, Result, Ok, Err, sym, ◌∙◌, subst}
+use Rattle.std.proofs.Common.{◌≡◌, inl, inr, ℕ, true, List, [], Option, Some, Result, Ok, Err, sym, ◌∙◌, subst}
 use Rattle.std.specs.Prelude.{IfErr, IfOk}
 use Rattle.drda_disk.specs.MemDisk.{life_of}
 use Rattle.drda_disk.specs.FuseDisk.{inner_of, left_of}
@@ -14,7 +14,7 @@ use Rattle.drda_node.specs.declared.serving.RunEnd.{RunEnd}
 use Rattle.durable_core.specs.declared.errors.OpenError.{OpenError}
 use Rattle.durable_core.specs.Reads.{IsExcused}
 use Rattle.store_service.specs.Running.{HasRun, IsRefusal, IsStore, RunsFrom}
-use Rattle.store_service.specs.Surviving.{HasSurvived, IsPicked, Survives, fused}
+use Rattle.store_service.specs.Surviving.{IsPicked, Survives, fused}
 use Rattle.store_service.proofs.Stores.{refusal_of}
 
 -- a fuse changes nothing of what is read, or left by a crash

@@ -9,5 +9,5 @@ mod surviving;
 pub use drda_node::RunEnd;
 pub use durable_core::OpenError;
 pub use rdb_core::PlainState;
-pub use running::run_store;
+pub use running::{run_core, run_store};
 pub use surviving::survives;

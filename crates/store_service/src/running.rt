@@ -47,8 +47,12 @@ pub fn run_store<D: Disk + Drop, R: Ready, W: Write>(
     }
 }
 
-// Runs over a core.
-fn run_core<D: Disk + Drop, R: Ready, W: Write>(
+/// Answers event records over a core that was opened, for this user, and hands its disk back: the run of `run_store`
+/// behind its opening. What the core did is journaled, station by station.
+///
+/// Refused, nothing is written and no device call is made: memory was refused, or the name of the store is none of a
+/// database (`NotAStore`).
+pub fn run_core<D: Disk + Drop, R: Ready, W: Write>(
     alloc: Global,
     core: DurableCore<D>,
     user: &str,

@@ -17,8 +17,16 @@ pub const TWO: &str = "000A D051 0006 0004 200A 0028 D003 0006 0022 2414 00 0000
     494E5345525420494E544F20542056414C55455320283229 FF";
 
 /// INSERT INTO T VALUES (3).
-const THREE: &str = "000A D051 0006 0004 200A 0028 D003 0006 0022 2414 00 00000018
+pub const THREE: &str = "000A D051 0006 0004 200A 0028 D003 0006 0022 2414 00 00000018
     494E5345525420494E544F20542056414C55455320283329 FF";
+
+/// CREATE TABLE U (K INTEGER NOT NULL, PRIMARY KEY (K)), as EXCSQLIMM.
+pub const CREATE_OTHER: &str = "000A D051 0006 0004 200A 0044 D003 0006 003E 2414 00 00000034
+    435245415445205441424C45205520284B20494E5445474552204E4F54204E554C4C2C205052494D415259204B455920284B2929 FF";
+
+/// INSERT INTO U VALUES (1).
+pub const ONE_OTHER: &str = "000A D051 0006 0004 200A 0028 D003 0006 0022 2414 00 00000018
+    494E5345525420494E544F20552056414C55455320283129 FF";
 
 // SYNCCTL for the branch H: start, end, prepare, roll back.
 const START_H: &str =
@@ -61,6 +69,19 @@ pub fn piece(alloc: Global, commands: &[&str]) -> Option<Vec<u8>> {
     let mut records = Vec::new(alloc);
     records
         .extend_from_slice(&[1, 0, 0, 0, 0, 0, 2, 0, a, b, c, d])
+        .ok()?;
+    records.extend_from_slice(&bytes).ok()?;
+    Some(records)
+}
+
+/// The event records of a conversation that opens the database, sends all of `before` in one piece, and all of `after` in one
+/// behind a checkpoint.
+pub fn around_a_checkpoint(alloc: Global, before: &[&str], after: &[&str]) -> Option<Vec<u8>> {
+    let mut records = piece(alloc, before)?;
+    let bytes = bytes_of(alloc, after).ok()?;
+    let [a, b, c, d] = u32::try_from(bytes.len()).ok()?.to_be_bytes();
+    records
+        .extend_from_slice(&[4, 0, 0, 0, 0, 0, 2, 0, a, b, c, d])
         .ok()?;
     records.extend_from_slice(&bytes).ok()?;
     Some(records)

@@ -5,7 +5,7 @@ use Rattle.drda_program.proofs.records.answer_file.Goals as goal
 
 pub returns-in-Ok : goal.returns-in-Ok
 returns-in-Ok g c =
-    piped_file g.F.Disk.Disk.is_modelled g.F.Disk.Disk.life g.F.StoreFiles.calls c.args.path.now (plain_login c.args.login) c.args.files.now _
+    piped_file g.F.Disk.Disk.is_modelled g.F.Disk.Disk.life g.F.StoreFiles.calls c.openings_begin_histories.ensures.sound c.openings_are_kept.ensures c.args.path.now (plain_login c.args.login) c.args.files.now _
     (g.R.Read.remaining c.args.reader.now) _ _ c.answer_records.result c.in-Ok.core c.in-Ok.ensures c.answer_records.ensures
 
 pub returns-in-Err : goal.returns-in-Err

@@ -3,7 +3,7 @@ use Rattle.drda_program.proofs.StoreFaults.{excused_so}
 use Rattle.drda_program.proofs.stores.open_disk.Goals as goal
 
 pub returns-in-Ok-clause-opened : goal.returns-in-Ok-clause-opened
-returns-in-Ok-clause-opened g c = record { stood = c.in-Ok.ensures.found; finds = c.in-Ok.ensures.opens; stays = c.in-Ok.ensures.stays }
+returns-in-Ok-clause-opened g c = record { stood = c.in-Ok.ensures.found; finds = c.in-Ok.ensures.opens; stays = c.in-Ok.ensures.stays; quiet = c.in-Ok.ensures.cause }
 
 pub returns-in-Ok-clause-fresh : goal.returns-in-Ok-clause-fresh
 returns-in-Ok-clause-fresh g c name is opens = c.in-Ok.ensures.opens name fresh is opens

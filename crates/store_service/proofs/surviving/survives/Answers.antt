@@ -1,6 +1,5 @@
-use Rattle.std.proofs.Common.{◌≡◌, ℕ, List, [], Some, ap, ◌∙◌, subst}
+use Rattle.std.proofs.Common.{ℕ, List, [], Some, ap, ◌∙◌, subst}
 use Rattle.drda_disk.specs.Disk.{Now}
-use Rattle.drda_disk.specs.FuseDisk.{inner_of}
 use Rattle.drda_disk.specs.MemDisk.{life_of, read_of, synced_of}
 use Rattle.drda_disk.specs.declared.memory.MemDisk.{MemDisk}
 use Rattle.store_service.specs.Running.{RunsFrom}

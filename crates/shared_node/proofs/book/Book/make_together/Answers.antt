@@ -1,4 +1,4 @@
-use Rattle.std.proofs.Common.{◌≡◌, ℕ, List, Option, Some, length, refl, slice_get, sym, ap, subst, ◌∙◌, inr}
+use Rattle.std.proofs.Common.{◌≡◌, List, Option, Some, refl, slice_get, sym, subst, ◌∙◌, inr}
 use Rattle.shared_node.specs.declared.count.Count.{Count}
 use Rattle.shared_node.specs.declared.wish.Wish.{Wish}
 use Rattle.shared_node.specs.Books.{Told}
