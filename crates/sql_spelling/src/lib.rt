@@ -1,0 +1,6 @@
+//! The spelling of tables and rows as SQL texts.
+#![tactic(auto)]
+
+fn one() -> u8 {
+    1
+}
