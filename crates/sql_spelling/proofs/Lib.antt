@@ -3,5 +3,7 @@ pub mod Cutting
 pub mod Lists
 pub mod Names
 pub mod Numbers
+pub mod Refusing
 pub mod Values
 pub mod Writing
+pub mod Creating

@@ -15,6 +15,11 @@ AreFor Q [] [] = Unit {0}
 AreFor Q (a ∷ us) (b ∷ bs) = Q a b × AreFor Q us bs
 AreFor Q _ _ = ⊥
 
+-- each is written of a rule
+abbrev pub EachWrites : {B : Type 0} → (B → List Lexeme → List Lexeme → Type 0) → (B → List ℕ) → List B → Type 0
+EachWrites R f [] = Unit {0}
+EachWrites R f (b ∷ bs) = Writes (R b) (f b) × EachWrites R f bs
+
 module _ {A B : Type 0} (J : A → List Lexeme → List Lexeme → Type 0) (Q : A → B → Type 0) where
   -- something of the rule that stands for this
   abbrev pub One : B → List Lexeme → List Lexeme → Type 0
@@ -24,15 +29,11 @@ module _ {A B : Type 0} (J : A → List Lexeme → List Lexeme → Type 0) (Q : 
   abbrev pub Standing : List B → List Lexeme → List Lexeme → Type 0
   Standing bs ts rest = (us : List A) × AreFor Q us bs × IsList J (The w.Comma) us ts rest
 
-  abbrev pub EachWrites : (B → List ℕ) → List B → Type 0
-  EachWrites f [] = Unit {0}
-  EachWrites f (b ∷ bs) = Writes (One b) (f b) × EachWrites f bs
-
   with_first : (a : A) (b c : B) (us : List A) (bs : List B) (ts mid after rest : List Lexeme) → Q a b → J a ts mid → The w.Comma mid after → AreFor Q us (c ∷ bs) → IsList J (The w.Comma) us after rest → Standing (b ∷ c ∷ bs) ts rest
   with_first a b c [] bs ts mid after rest q j comma are list = absurd are
   with_first a b c (x ∷ us) bs ts mid after rest q j comma are list = (a ∷ x ∷ us, (q, are), (mid, j, (after, comma, list)))
 
-  pub listed : (f : B → List ℕ) (b : B) (bs : List B) → EachWrites f (b ∷ bs) → Writes (Standing (b ∷ bs)) (separated f (b ∷ bs))
+  pub listed : (f : B → List ℕ) (b : B) (bs : List B) → EachWrites One f (b ∷ bs) → Writes (Standing (b ∷ bs)) (separated f (b ∷ bs))
   listed f b [] (x, xs) =
       let same : f b ++ [] ≡ f b = append-nil (f b) in
       let W : List ℕ → Type 0 = λ u. Writes (Standing (b ∷ [])) u in

@@ -72,6 +72,6 @@ abbrev pub AreWhole : List Value → Type 0
 AreWhole [] = Unit {0}
 AreWhole (v ∷ vs) = IsWhole v × AreWhole vs
 
-pub values_written : (vs : List Value) → AreWhole vs → EachWrites IsValue IsLiteralOf value_text vs
+pub values_written : (vs : List Value) → AreWhole vs → EachWrites (One IsValue IsLiteralOf) value_text vs
 values_written [] whole = tt
 values_written (v ∷ vs) (first, rest) = (value_written v first, values_written vs rest)
