@@ -21,7 +21,7 @@ use Rattle.row_values.specs.declared.column.Kind.TheVariants.{SmallInt, Integer,
 use Rattle.row_values.specs.Column.{Column}
 use Rattle.row_values.specs.Schema.{is_column, is_limit, is_name}
 use Rattle.sql_spelling.specs.Text.{length_text, type_text, null_text, column_text}
-use Rattle.sql_spelling.specs.Meant.{IsFree, type_of, definition_of, key_column_of}
+use Rattle.sql_spelling.specs.Meant.{IsFree, AreFree, type_of, definition_of, key_column_of}
 use Rattle.sql_spelling.proofs.Lists.{One, EachWrites}
 use Rattle.sql_spelling.proofs.Names.{name_written}
 use Rattle.sql_spelling.proofs.Numbers.{length_written}
@@ -150,11 +150,6 @@ key_read c ts rest (left, name) = (record { name = c.name; left = left }, refl, 
 
 pub key_written : (c : Column) → is_name c.name ≡ true → IsFree c.name → Writes (KeyRead c) c.name
 key_written c is free = become (key_read c) (name_written c.name is free)
-
--- each has a name that is free
-abbrev pub AreFree : List Column → Type 0
-AreFree [] = Unit {0}
-AreFree (c ∷ cs) = IsFree c.name × AreFree cs
 
 pub columns_written : (cs : List Column) → list_all is_column cs ≡ true → AreFree cs → EachWrites ColumnRead column_text cs
 columns_written [] is free = tt

@@ -118,13 +118,13 @@ key_again ks ts rest fits stops list = list_only key_column_at w.Comma IsKeyColu
 -- ---- the whole
 
 -- CREATE TABLE with these columns and this key
-abbrev Whole : List ℕ → Schema → List Lexeme → List Lexeme → Type 0
+abbrev pub Whole : List ℕ → Schema → List Lexeme → List Lexeme → Type 0
 Whole name schema =
     The w.Create ⨾ (The w.Table ⨾ (Is (t.Name name) ⨾ (The w.Open
     ⨾ (Standing (Reads definition_at) (Defines plain.definition (λ d. is_too_long d.column_type) (λ d. empty_at d.column_type)) schema.columns
     ⨾ (The w.Comma ⨾ (The w.Primary ⨾ (The w.Key ⨾ (The w.Open ⨾ (Standing IsKeyColumn (λ d c. plain.key_column d ≡ key_column_of c) (key_columns schema) ⨾ (The w.Close ⨾ The w.Close))))))))))
 
-is_created : (name : List ℕ) (schema : Schema) (ts : List Lexeme) → is_schema schema ≡ true → length ts ≤ longest → Whole name schema ts [] → (d : Tree) × (command_at ts ≡ Ok (d, [])) × (plain.command d ≡ created name schema) × (refusal_of 0 d ≡ None)
+pub is_created : (name : List ℕ) (schema : Schema) (ts : List Lexeme) → is_schema schema ≡ true → length ts ≤ longest → Whole name schema ts [] → (d : Tree) × (command_at ts ≡ Ok (d, [])) × (plain.command d ≡ created name schema) × (refusal_of 0 d ≡ None)
 unfolding command_at verb_at create_at refusal_of table_refusal
 is_created name schema ts good fits (m1, first, (m2, tab, (m3, n, (m4, brace, (m5, (ds, made, defs), (m6, comma, (m7, primary, (m8, k, (m9, brace', (m10, (ks, keyed, keys), (m11, shut, shut'))))))))))) =
     let room : length m4 ≤ longest = omega (arith, is_length _ ts m1 first, is_length _ m1 m2 tab, is_length _ m2 m3 n, is_length _ m3 m4 brace) in

@@ -1,9 +1,12 @@
 pub mod Columns
+pub mod Creating
 pub mod Cutting
+pub mod Inserting
 pub mod Lists
 pub mod Names
 pub mod Numbers
 pub mod Refusing
 pub mod Values
 pub mod Writing
-pub mod Creating
+pub mod Lengths
+pub mod Reading

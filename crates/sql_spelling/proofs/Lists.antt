@@ -1,5 +1,5 @@
 -- A list that is written is of the rule of lists.
-use Rattle.std.proofs.Common.{◌≡◌, ℕ, List, [], ◌∷◌, ◌++◌, refl, sym, ap, ◌∙◌, subst, append_assoc}
+use Rattle.std.proofs.Common.{◌≡◌, ◌<◌, ℕ, arith, length, List, [], ◌∷◌, ◌++◌, refl, sym, ap, ◌∙◌, subst, append_assoc}
 use Rattle.std.proofs.lemmas.List.{append-nil}
 use Rattle.sql_lex.specs.Markers.{markers_in}
 use Rattle.sql_lex.specs.Tokens.{Lexeme}
@@ -58,3 +58,7 @@ module _ {A B : Type 0} (J : A → List Lexeme → List Lexeme → Type 0) (Q : 
         where
           joined : (rest : List ℕ) → One b (lexed (f b ++ (44 ∷ 32 ∷ (separated f (c ∷ bs) ++ rest)))) (lexed (44 ∷ 32 ∷ (separated f (c ∷ bs) ++ rest))) → Standing (c ∷ bs) (lexed (separated f (c ∷ bs) ++ rest)) (lexed rest) → Standing (b ∷ c ∷ bs) (lexed (f b ++ (44 ∷ 32 ∷ (separated f (c ∷ bs) ++ rest)))) (lexed rest)
           joined rest (a, q, j) (us, are, list) = with_first a b c us bs _ _ _ _ q j (_, comma_cut (32 ∷ (separated f (c ∷ bs) ++ rest))) are list
+
+  pub some_listed : (f : B → List ℕ) (bs : List B) → 0 < length bs → EachWrites One f bs → Writes (Standing bs) (separated f bs)
+  some_listed f [] some all = absurd (omega arith)
+  some_listed f (b ∷ bs) some all = listed f b bs all

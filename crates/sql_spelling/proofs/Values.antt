@@ -1,5 +1,5 @@
 -- Values are written as literals.
-use Rattle.std.proofs.Common.{◌≡◌, inl, inr, ℕ, zero, suc, ◌+◌, ◌*◌, ◌/◌, ◌%◌, ◌^◌, ◌≤◌, ◌<◌, Bool, true, false, ◌&&◌, List, [], ◌∷◌, ◌++◌, length, refl, sym, ap, ◌∙◌, subst, arith}
+use Rattle.std.proofs.Common.{◌≡◌, inl, inr, ℕ, zero, suc, ◌+◌, ◌*◌, ◌/◌, ◌%◌, ◌^◌, ◌≤◌, ◌<◌, Bool, true, false, ◌&&◌, List, [], ◌∷◌, ◌++◌, length, map, refl, sym, ap, ◌∙◌, subst, arith}
 use Rattle.std.specs.Prelude.{nat_le, nat_lt, ◌==◌, slice_index}
 use Rattle.std.specs.Char.{is_ascii_hexdigit}
 use Rattle.std.specs.List.{list_all}
@@ -15,7 +15,7 @@ use Rattle.row_values.specs.Value.{Value, null, number, text, binary}
 use Rattle.sql_spelling.specs.Text.{value_text}
 use Rattle.sql_spelling.specs.Meant.{literal_of}
 use Rattle.sql_spelling.proofs.Cutting.{text_cut, bytes_cut}
-use Rattle.sql_spelling.proofs.Lists.{One, EachWrites}
+use Rattle.sql_spelling.proofs.Lists.{AreFor, One, EachWrites}
 use Rattle.sql_spelling.proofs.Numbers.{InBigInt, number_written}
 use Rattle.sql_spelling.proofs.Writing.{Writes, null_word}
 
@@ -75,3 +75,10 @@ AreWhole (v ∷ vs) = IsWhole v × AreWhole vs
 pub values_written : (vs : List Value) → AreWhole vs → EachWrites (One IsValue IsLiteralOf) value_text vs
 values_written [] whole = tt
 values_written (v ∷ vs) (first, rest) = (value_written v first, values_written vs rest)
+
+-- they are the literals of the values
+pub literals_are : (ls : List Literal) (vs : List Value) → AreFor IsLiteralOf ls vs → ls ≡ map literal_of vs
+literals_are [] [] are = refl
+literals_are (l ∷ ls) (v ∷ vs) (one, are) = let rest = literals_are ls vs are in rw (one, rest) refl
+literals_are [] (v ∷ vs) are = absurd are
+literals_are (l ∷ ls) [] are = absurd are
