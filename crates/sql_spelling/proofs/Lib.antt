@@ -10,3 +10,4 @@ pub mod Values
 pub mod Writing
 pub mod Lengths
 pub mod Reading
+pub mod Appending

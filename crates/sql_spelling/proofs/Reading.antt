@@ -89,11 +89,16 @@ all_whole (c ∷ cs) (v ∷ vs) fit bytes =
     (value_whole c.is_nullable c.kind c.limit c.name v (first_true _ _ fit) (front_are_bytes (value_bytes c.kind v) (row_bytes cs vs) bytes),
     all_whole cs vs (second_true _ _ fit) (rest_are_bytes (value_bytes c.kind v) (row_bytes cs vs) bytes))
 
-some_columns : (schema : Schema) → is_schema schema ≡ true → 0 < length schema.columns
-some_columns schema good = by schema.columns schema.key (key_places schema good) (some schema.key (first_true _ _ (first_true _ _ (first_true _ _ (second_true _ _ good)))))
+-- a key has a column at least
+pub some_places : (schema : Schema) → is_schema schema ≡ true → 0 < length schema.key
+some_places schema good = some (length schema.key) (first_true _ _ (first_true _ _ (first_true _ _ (second_true _ _ good))))
   where
-    some : (ps : List ℕ) → nat_lt 0 (length ps) ≡ true → 0 < length ps
-    some ps e = grind (arith, nat_tests)
+    some : (n : ℕ) → nat_lt 0 n ≡ true → 0 < n
+    some n e = grind (arith, nat_tests)
+
+some_columns : (schema : Schema) → is_schema schema ≡ true → 0 < length schema.columns
+some_columns schema good = by schema.columns schema.key (key_places schema good) (some_places schema good)
+  where
     by : (cs : List Column) (ps : List ℕ) → are_places cs ps ≡ true → 0 < length ps → 0 < length cs
     by cs [] there more = absurd (omega arith)
     by [] (p ∷ ps) there more = absurd cc
@@ -130,10 +135,7 @@ free_picked cs [] free = tt
 free_picked cs (p ∷ ps) free = free_one (slice_get cs p) (picked cs ps) (λ c is. free_at cs p c free is) (free_picked cs ps free)
 
 some_keys : (schema : Schema) → is_schema schema ≡ true → 0 < length (key_columns schema)
-some_keys schema good = let n = key_count schema good in let m = some (length schema.key) (first_true _ _ (first_true _ _ (first_true _ _ (second_true _ _ good)))) in omega arith
-  where
-    some : (n : ℕ) → nat_lt 0 n ≡ true → 0 < n
-    some n e = grind (arith, nat_tests)
+some_keys schema good = let n = key_count schema good in omega (arith, some_places schema good)
 
 create_written : (name : List ℕ) (schema : Schema) → is_name name ≡ true → IsFree name → is_schema schema ≡ true → AreFree schema.columns → Writes (creating.Whole name schema) (create_text name schema)
 unfolding create_text

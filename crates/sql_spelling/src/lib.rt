@@ -1,6 +1,9 @@
-//! The spelling of tables and rows as SQL texts.
+//! Tables and rows as SQL texts, which `parse` reads as the statements that make them.
 #![tactic(auto)]
 
-fn one() -> u8 {
-    1
-}
+mod column;
+pub mod laws;
+mod statement;
+mod value;
+
+pub use statement::{put_create, put_insert};
