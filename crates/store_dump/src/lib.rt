@@ -4,7 +4,9 @@
 mod errors;
 mod lines;
 mod rows;
+mod tables;
 
 
 pub use errors::DumpError;
+pub use tables::dump_tables;
 
