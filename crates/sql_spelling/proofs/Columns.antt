@@ -1,15 +1,14 @@
 -- Columns are written as definitions.
-use Rattle.std.proofs.Common.{◌≡◌, ℕ, zero, suc, ◌+◌, ◌≤◌, ◌<◌, Bool, true, false, ◌&&◌, List, [], ◌∷◌, ◌++◌, length, Option, Some, None, Ok, refl, sym, ap, ◌∙◌, subst, arith}
+use Rattle.std.proofs.Common.{◌≡◌, ℕ, ◌≤◌, ◌<◌, Bool, true, false, ◌&&◌, List, [], ◌∷◌, ◌++◌, length, Option, None, Ok, refl, ap, arith}
 use Rattle.std.specs.Prelude.{nat_le, nat_lt, ◌==◌, codes}
 use Rattle.std.specs.Fmt.{decimal}
 use Rattle.std.specs.List.{list_all}
 use Rattle.std.proofs.lemmas.Bool.Decides.{nat_tests}
 use Rattle.sql_lex.specs.Tokens.{Lexeme}
-use Rattle.sql_lex.specs.declared.terminal.Terminal.{Terminal}
 use Rattle.sql_lex.specs.declared.terminal.Terminal.TheVariants as w
 use Rattle.sql_lex.specs.declared.token.Token.TheVariants as t
 use Rattle.sql_text.specs.Checks.{is_too_long, empty_at}
-use Rattle.sql_text.specs.Grammar.{◌⨾◌, Nothing, The, Is, IsNullable, IsKeyColumn, IsLength}
+use Rattle.sql_text.specs.Grammar.{◌⨾◌, The, Is, IsNullable, IsKeyColumn, IsLength}
 use Rattle.sql_text.specs.Plain as plain
 use Rattle.sql_text.specs.Reading.{Parser, as_type}
 use Rattle.sql_text.specs.Reading.{take_fixed, type_word_at}
@@ -129,12 +128,15 @@ ColumnRead = One (Reads definition_at) (Defines plain.definition (λ d. is_too_l
 
 column_read : (c : Column) (ts rest : List Lexeme) → (Is (t.Name c.name) ⨾ (TypeRead c.kind c.limit ⨾ IsNullable c.is_nullable)) ts rest → ColumnRead c ts rest
 unfolding definition_at
-column_read c ts rest (a, (left, name), (b, (d, reads, (same, short, some), less), takes)) =
-    (definition (c.name, left) d c.is_nullable,
-    (ap (λ u. record { name = c.name; column_type = u; nullable = c.is_nullable }) same, short, some),
-    ((λ stops. rw (placed_name_again (c.name, left) ts a name, reads, nullable_again c.is_nullable b rest stops takes) refl),
+column_read c ts rest (a, (left, name), (b, (d, reads, (same, short, some), less), takes)) = (
+  definition (c.name, left) d c.is_nullable,
+  (ap (λ u. record { name = c.name; column_type = u; nullable = c.is_nullable }) same, short, some),
+  (
+    (λ stops. rw (placed_name_again (c.name, left) ts a name, reads, nullable_again c.is_nullable b rest stops takes) refl),
     (c.name, a, (left, name)),
-    omega (arith, is_length _ ts a (left, name), nullable_within c.is_nullable b rest takes)))
+    omega (arith, is_length _ ts a (left, name), nullable_within c.is_nullable b rest takes),
+  ),
+)
 
 pub column_written : (c : Column) → is_column c ≡ true → IsFree c.name → Writes (ColumnRead c) (column_text c)
 column_written c is free =

@@ -1,17 +1,15 @@
 -- A table is written as the statement that makes it.
-use Rattle.std.proofs.Common.{◌≡◌, ◌≢◌, ℕ, zero, suc, ◌+◌, ◌≤◌, ◌<◌, Bool, true, false, cond, not, ◌&&◌, ◌||◌, List, [], ◌∷◌, ◌++◌, length, map, Option, Some, None, Ok, refl, sym, ap, ◌∙◌, subst, arith}
-use Rattle.std.specs.Prelude.{nat_le, nat_lt, codes, is_some}
+use Rattle.std.proofs.Common.{◌≡◌, ℕ, ◌≤◌, ◌<◌, true, false, not, List, [], ◌∷◌, length, map, Option, Some, None, Ok, refl, sym, ap, ◌∙◌, subst, arith}
+use Rattle.std.specs.Prelude.{nat_le, nat_lt, is_some}
 use Rattle.std.specs.List.{list_all, list_any, slice_get, cons_option}
 use Rattle.std.proofs.lemmas.Bool.Decides.{nat_tests}
-use Rattle.std.proofs.lemmas.List.{length-map}
-use Rattle.sql_lex.specs.Markers.{markers_in}
-use Rattle.sql_lex.specs.Tokens.{Lexeme, tokens}
+use Rattle.sql_lex.specs.Tokens.{Lexeme}
 use Rattle.sql_lex.specs.declared.terminal.Terminal.TheVariants as w
 use Rattle.sql_lex.specs.declared.token.Token.TheVariants as t
-use Rattle.sql_text.specs.Checks.{is_too_long, empty_at, first_empty, first_repeat, repeated_column, repeated_key, same_name, is_column, has_unknown, table_refusal, refusal_of}
+use Rattle.sql_text.specs.Checks.{is_too_long, empty_at, first_empty, first_repeat, same_name, table_refusal, refusal_of}
 use Rattle.sql_text.specs.Grammar.{Tree, ◌⨾◌, The, Is, IsList, IsKeyColumn}
 use Rattle.sql_text.specs.Plain as plain
-use Rattle.sql_text.specs.Reading.{as_verb, expect_fixed, take_fixed, verb_at}
+use Rattle.sql_text.specs.Reading.{as_verb, verb_at}
 use Rattle.sql_text.specs.Rules.{longest, another, definition_at, definitions_at, key_column_at, key_at, create_at, command_at}
 use Rattle.sql_text.proofs.Only.{again, the_again, may_again, name_again, placed_name_again, Lacks, lacks, is_length, list_shorter, items_only, list_only}
 use Rattle.sql_text.proofs.OnlyRules.{is_apart, key_column_shorter, end_only}
@@ -21,7 +19,7 @@ use Rattle.row_values.specs.Schema.{Schema, key_columns, is_schema, is_name, pic
 use Rattle.row_values.proofs.Keys.{are_places, key_places, schema_columns, key_count, key_few, picked_all}
 use Rattle.row_values.proofs.ValueLaws.{first_true, second_true}
 use Rattle.sql_spelling.specs.Meant.{definition_of, key_column_of, created}
-use Rattle.sql_spelling.proofs.Columns.{Reads, Defines, ColumnRead, KeyRead}
+use Rattle.sql_spelling.proofs.Columns.{Reads, Defines}
 use Rattle.sql_spelling.proofs.Lists.{AreFor, Standing}
 use Rattle.sql_spelling.proofs.Refusing.{Each, Differ, names, at_name, as_many, mapped, none_passes, no_first_repeat, apart_none, columns_differ, key_differs, column_names_good, found_name}
 

@@ -1,5 +1,5 @@
 -- A row is written as the statement that inserts it.
-use Rattle.std.proofs.Common.{◌≡◌, ℕ, ◌+◌, ◌≤◌, ◌<◌, true, false, List, [], ◌∷◌, ◌++◌, length, map, Option, Some, None, Ok, refl, sym, ap, ◌∙◌, subst, arith}
+use Rattle.std.proofs.Common.{◌≡◌, ℕ, ◌≤◌, ◌<◌, true, List, [], ◌∷◌, ◌++◌, length, None, Ok, refl, arith}
 use Rattle.std.specs.Prelude.{codes}
 use Rattle.sql_lex.specs.Tokens.{Lexeme}
 use Rattle.sql_lex.specs.declared.terminal.Terminal.TheVariants as w
@@ -7,7 +7,7 @@ use Rattle.sql_lex.specs.declared.token.Token.TheVariants as t
 use Rattle.sql_text.specs.Checks.{refusal_of}
 use Rattle.sql_text.specs.Grammar.{Tree, ◌⨾◌, The, Is, IsList, IsValue}
 use Rattle.sql_text.specs.Plain as plain
-use Rattle.sql_text.specs.Reading.{as_verb, take_fixed, verb_at}
+use Rattle.sql_text.specs.Reading.{as_verb, verb_at}
 use Rattle.sql_text.specs.Rules.{longest, value_at, values_at, listed_at, insert_at, command_at}
 use Rattle.sql_text.specs.declared.tree.Columns.TheVariants as columns
 use Rattle.sql_text.specs.declared.tree.Literal.{Literal}
@@ -16,7 +16,7 @@ use Rattle.sql_text.proofs.OnlyRules.{is_apart, value_only, value_shorter, end_o
 use Rattle.row_values.specs.Value.{Value}
 use Rattle.row_values.specs.Schema.{is_name}
 use Rattle.sql_spelling.specs.Text.{value_text, separated, insert_text}
-use Rattle.sql_spelling.specs.Meant.{IsFree, inserted, literal_of}
+use Rattle.sql_spelling.specs.Meant.{IsFree, inserted}
 use Rattle.sql_spelling.proofs.Lists.{Standing, some_listed}
 use Rattle.sql_spelling.proofs.Names.{name_written}
 use Rattle.sql_spelling.proofs.Values.{IsLiteralOf, AreWhole, values_written, literals_are}

@@ -1,6 +1,6 @@
 -- The texts are short enough to be read.
-use Rattle.std.proofs.Common.{◌≡◌, ℕ, zero, suc, ◌+◌, ◌*◌, ◌^◌, ◌≤◌, ◌<◌, Bool, true, false, ◌&&◌, List, [], ◌∷◌, ◌++◌, length, map, refl, sym, ap, ◌∙◌, subst, arith}
-use Rattle.std.specs.Prelude.{ℤ, pos, negsuc, nat_le, nat_lt, ◌==◌, codes, if◌then◌else◌}
+use Rattle.std.proofs.Common.{◌≡◌, ℕ, suc, ◌+◌, ◌*◌, ◌≤◌, Bool, true, false, List, [], ◌∷◌, ◌++◌, length, arith}
+use Rattle.std.specs.Prelude.{ℤ, pos, negsuc, nat_le, ◌==◌, codes, if◌then◌else◌}
 use Rattle.std.specs.Fmt.{decimal, signed_decimal}
 use Rattle.std.specs.List.{list_all, flat_map}
 use Rattle.std.proofs.lemmas.Bool.Decides.{nat_tests}
@@ -13,11 +13,11 @@ use Rattle.row_values.specs.declared.column.Kind.TheVariants.{SmallInt, Integer,
 use Rattle.row_values.specs.Value.{Value, null, number, text, binary}
 use Rattle.row_values.specs.Column.{Column, fits}
 use Rattle.row_values.specs.Row.{all_fit, row_bytes, value_bytes}
-use Rattle.row_values.specs.Schema.{Schema, is_column, is_limit, is_name, key_columns, is_schema}
+use Rattle.row_values.specs.Schema.{Schema, is_column, is_limit, key_columns, is_schema}
 use Rattle.row_values.proofs.ByteSteps.{short_name}
 use Rattle.row_values.proofs.Keys.{schema_columns, key_count, key_few, picked_all}
 use Rattle.row_values.proofs.ValueLaws.{first_true, second_true}
-use Rattle.sql_spelling.specs.Text.{value_text, type_text, null_text, length_text, column_text, separated, create_text, insert_text}
+use Rattle.sql_spelling.specs.Text.{value_text, type_text, null_text, column_text, separated, create_text, insert_text}
 use Rattle.sql_spelling.proofs.Numbers.{InBigInt}
 use Rattle.sql_spelling.proofs.Values.{IsWhole, AreWhole, pairs_length}
 
@@ -103,5 +103,16 @@ create_short name schema named good =
     let cs = schema.columns in
     let ks = key_columns schema in
     let tail = codes ", PRIMARY KEY (" ++ (separated (λ c. c.name) ks ++ codes "))") in
-    omega (arith, length-append name (codes " (" ++ (separated column_text cs ++ tail)), length-append (separated column_text cs) tail, length-append (separated (λ c. c.name) ks) (codes "))"),
-    fewer column_text cs, fewer (λ (c : Column). c.name) ks, further_columns cs (schema_columns schema good), further_names ks (picked_all is_column cs schema.key (schema_columns schema good)), few_columns schema good, key_count schema good, key_few schema good)
+    omega (
+      arith,
+      length-append name (codes " (" ++ (separated column_text cs ++ tail)),
+      length-append (separated column_text cs) tail,
+      length-append (separated (λ c. c.name) ks) (codes "))"),
+      fewer column_text cs,
+      fewer (λ (c : Column). c.name) ks,
+      further_columns cs (schema_columns schema good),
+      further_names ks (picked_all is_column cs schema.key (schema_columns schema good)),
+      few_columns schema good,
+      key_count schema good,
+      key_few schema good,
+    )

@@ -1,6 +1,6 @@
 -- Numbers are written in digits.
-use Rattle.std.proofs.Common.{◌≡◌, ◌⊎◌, inl, inr, ℕ, zero, suc, ◌+◌, ◌-◌, ◌*◌, ◌^◌, ◌≤◌, ◌<◌, Bool, true, false, ◌&&◌, List, [], ◌∷◌, ◌++◌, length, drop, min, refl, sym, ap, ◌∙◌, subst, arith, Some}
-use Rattle.std.specs.Prelude.{ℤ, pos, negsuc, neg_ℤ, nat_le, nat_lt, ◌==◌}
+use Rattle.std.proofs.Common.{◌≡◌, inl, inr, ℕ, suc, ◌^◌, ◌≤◌, ◌<◌, Bool, true, false, ◌&&◌, List, ◌∷◌, ◌++◌, length, min, refl, ap, ◌∙◌, arith}
+use Rattle.std.specs.Prelude.{ℤ, pos, negsuc, neg_ℤ, nat_le, nat_lt}
 use Rattle.std.specs.Char.{is_ascii_digit}
 use Rattle.std.specs.Fmt.{decimal, signed_decimal}
 use Rattle.std.specs.Int.{IsInRange}
@@ -9,12 +9,11 @@ use Rattle.std.proofs.lemmas.Bool.Decides.{nat_tests}
 use Rattle.std.proofs.lemmas.Fmt.{decimal_nonempty, digits_decimal, digits_value-decimal}
 use Rattle.std.proofs.lemmas.Str.Parse.{IsDigitsTest, FoldsDigits, IsNumeralModel, numerals_by_fold}
 use Rattle.sql_lex.specs.Markers.{markers_in}
-use Rattle.sql_lex.specs.declared.token.Token.TheVariants as t
-use Rattle.sql_text.specs.Grammar.{Is, IsNumber, IsLength}
+use Rattle.sql_text.specs.Grammar.{IsNumber, IsLength}
 use Rattle.sql_text.specs.Number.{number_behind, number_of, is_bigint, is_negative_bigint, length_of}
 use Rattle.sql_text.specs.Spelled.{number_value}
 use Rattle.sql_text.proofs.Undone.{digits_value}
-use Rattle.sql_spelling.proofs.Cutting.{lexed, Ends, digits_cut, minus_cut}
+use Rattle.sql_spelling.proofs.Cutting.{lexed, digits_cut, minus_cut}
 use Rattle.sql_spelling.proofs.Writing.{Writes}
 
 both : (a b : Bool) → (a && b) ≡ true → (a ≡ true) × (b ≡ true)

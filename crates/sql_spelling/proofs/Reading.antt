@@ -1,10 +1,10 @@
 -- What is written of tables and rows is read.
-use Rattle.std.proofs.Common.{◌≡◌, ℕ, zero, suc, ◌+◌, ◌^◌, ◌≤◌, ◌<◌, Bool, true, false, ◌&&◌, List, [], ◌∷◌, ◌++◌, length, map, Option, Some, None, Ok, Result, refl, sym, ap, ◌∙◌, subst, arith, get_or}
-use Rattle.std.specs.Prelude.{ℤ, pos, negsuc, nat_le, nat_lt, codes, is_some, slice_index, int_le}
-use Rattle.std.specs.List.{list_all, slice_get, AllByRecursion, cons_option}
+use Rattle.std.proofs.Common.{◌≡◌, ℕ, zero, suc, ◌≤◌, ◌<◌, Bool, true, ◌&&◌, List, [], ◌∷◌, ◌++◌, length, Option, Some, None, Ok, refl, sym, ap, ◌∙◌, subst, arith}
+use Rattle.std.specs.Prelude.{ℤ, pos, negsuc, nat_le, nat_lt, codes, int_le}
+use Rattle.std.specs.List.{slice_get, cons_option}
 use Rattle.std.proofs.lemmas.Bool.Decides.{nat_tests}
 use Rattle.std.proofs.lemmas.Int.{ints}
-use Rattle.std.proofs.lemmas.List.{append-nil, length-append}
+use Rattle.std.proofs.lemmas.List.{append-nil}
 use Rattle.drda_words.specs.Bytes.{AreBytes}
 use Rattle.drda_words.proofs.Bytes.{front_are_bytes, rest_are_bytes}
 use Rattle.byteorder.specs.Endian.{big_bytes}
@@ -22,14 +22,14 @@ use Rattle.row_values.specs.declared.column.Kind.TheVariants.{SmallInt, Integer,
 use Rattle.row_values.specs.Value.{Value, null, number, text, binary}
 use Rattle.row_values.specs.Column.{Column, fits}
 use Rattle.row_values.specs.Schema.{Schema, is_name, is_schema, is_column, key_columns, picked}
-use Rattle.row_values.specs.Row.{all_fit, row_bytes, value_bytes, is_row, values_in}
+use Rattle.row_values.specs.Row.{all_fit, row_bytes, value_bytes, values_in}
 use Rattle.row_values.proofs.ByteSteps.{short_name}
-use Rattle.row_values.proofs.Keys.{are_places, key_places, schema_columns, key_count, key_few, picked_all}
+use Rattle.row_values.proofs.Keys.{are_places, key_places, schema_columns, key_count, picked_all}
 use Rattle.row_values.proofs.ReadSteps.{values_count}
 use Rattle.row_values.proofs.RowColumns.{row_is, row_written, row_values_at}
 use Rattle.row_values.proofs.ValueLaws.{is_within, first_true, second_true}
-use Rattle.sql_spelling.specs.Text.{separated, column_text, create_text, insert_text}
-use Rattle.sql_spelling.specs.Meant.{IsFree, AreFree, IsReadAs, TablesAreRead, RowsAreRead, created, inserted}
+use Rattle.sql_spelling.specs.Text.{separated, column_text, create_text}
+use Rattle.sql_spelling.specs.Meant.{IsFree, AreFree, IsReadAs, TablesAreRead, RowsAreRead}
 use Rattle.sql_spelling.proofs.Columns.{columns_written, keys_written}
 use Rattle.sql_spelling.proofs.Creating as creating
 use Rattle.sql_spelling.proofs.Cutting.{lexed}
@@ -67,7 +67,7 @@ wider : (low high : ℕ) (z : ℤ) → low ≤ 2147483647 → high ≤ 214748364
 wider low high (pos n) a b e = grind (arith, ints, nat_tests)
 wider low high (negsuc n) a b e = grind (arith, ints, nat_tests)
 
-value_whole : (nullable : Bool) (kind : Kind) (limit : ℕ) (name : List ℕ) (v : Value) → fits (record { name = name; kind = kind; is_nullable = nullable; limit = limit }) v ≡ true → AreBytes (value_bytes kind v) → IsWhole v
+pub value_whole : (nullable : Bool) (kind : Kind) (limit : ℕ) (name : List ℕ) (v : Value) → fits (record { name = name; kind = kind; is_nullable = nullable; limit = limit }) v ≡ true → AreBytes (value_bytes kind v) → IsWhole v
 value_whole nullable kind limit name null fit bytes = tt
 value_whole nullable SmallInt limit name (number z) fit bytes = wider 32767 32767 z (omega arith) (omega arith) (is_within _ _ (first_true _ _ fit))
 value_whole nullable Integer limit name (number z) fit bytes = wider 2147483647 2147483647 z (omega arith) (omega arith) (is_within _ _ (first_true _ _ fit))
@@ -81,13 +81,14 @@ value_whole nullable Integer limit name (binary z) fit bytes = absurd cc
 value_whole nullable BigInt limit name (binary z) fit bytes = absurd cc
 value_whole nullable VarChar limit name (binary z) fit bytes = absurd cc
 
-all_whole : (cs : List Column) (vs : List Value) → all_fit cs vs ≡ true → AreBytes (row_bytes cs vs) → AreWhole vs
+pub all_whole : (cs : List Column) (vs : List Value) → all_fit cs vs ≡ true → AreBytes (row_bytes cs vs) → AreWhole vs
 all_whole [] [] fit bytes = tt
 all_whole [] (v ∷ vs) fit bytes = absurd cc
 all_whole (c ∷ cs) [] fit bytes = tt
-all_whole (c ∷ cs) (v ∷ vs) fit bytes =
-    (value_whole c.is_nullable c.kind c.limit c.name v (first_true _ _ fit) (front_are_bytes (value_bytes c.kind v) (row_bytes cs vs) bytes),
-    all_whole cs vs (second_true _ _ fit) (rest_are_bytes (value_bytes c.kind v) (row_bytes cs vs) bytes))
+all_whole (c ∷ cs) (v ∷ vs) fit bytes = (
+  value_whole c.is_nullable c.kind c.limit c.name v (first_true _ _ fit) (front_are_bytes (value_bytes c.kind v) (row_bytes cs vs) bytes),
+  all_whole cs vs (second_true _ _ fit) (rest_are_bytes (value_bytes c.kind v) (row_bytes cs vs) bytes),
+)
 
 -- a key has a column at least
 pub some_places : (schema : Schema) → is_schema schema ≡ true → 0 < length schema.key

@@ -1,16 +1,15 @@
 -- No check refuses the statement that makes a table.
-use Rattle.std.proofs.Common.{◌≡◌, ◌≢◌, ℕ, zero, suc, ◌+◌, ◌≤◌, ◌<◌, Bool, true, false, cond, not, ◌&&◌, ◌||◌, List, [], ◌∷◌, ◌++◌, length, map, Option, Some, None, refl, sym, ap, ◌∙◌, subst, arith, nat_eq}
-use Rattle.std.specs.Prelude.{nat_le, nat_lt, bytes_eq, is_some}
+use Rattle.std.proofs.Common.{◌≡◌, ◌≢◌, ℕ, zero, suc, Bool, true, false, not, ◌&&◌, ◌||◌, List, [], ◌∷◌, ◌++◌, length, map, Option, Some, None, refl, sym, ap, ◌∙◌, subst, arith, nat_eq}
+use Rattle.std.specs.Prelude.{bytes_eq, is_some}
 use Rattle.std.specs.List.{list_all, list_any, slice_get, cons_option}
 use Rattle.std.proofs.lemmas.Bool.Decides.{nat_tests}
-use Rattle.std.proofs.lemmas.List.{length-map}
 use Rattle.drda_words.proofs.Precedes.{bytes_eq-refl}
-use Rattle.sql_text.specs.Checks.{same_name, first_empty, first_repeat, is_too_long, empty_at, is_column, has_unknown, or_else}
+use Rattle.sql_text.specs.Checks.{same_name, first_repeat}
 use Rattle.sql_text.proofs.Names.{same_capitals, same_from_capitals}
 use Rattle.row_values.specs.Column.{Column}
 use Rattle.row_values.specs.Schema as schemas
 use Rattle.row_values.specs.Schema.{Schema, is_name, is_key_of, is_limit, no_repeat, picked, key_columns, is_schema}
-use Rattle.row_values.proofs.Keys.{are_places, key_places, schema_columns}
+use Rattle.row_values.proofs.Keys.{are_places}
 use Rattle.sql_spelling.proofs.Names.{name_stays}
 use Rattle.sql_spelling.proofs.Lists.{AreFor}
 
@@ -28,7 +27,7 @@ abbrev pub Each : {A : Type 0} → (A → Type 0) → List A → Type 0
 Each P [] = Unit {0}
 Each P (x ∷ xs) = P x × Each P xs
 
-each_at : {A : Type 0} (P : A → Type 0) (xs : List A) (i : ℕ) (x : A) → Each P xs → slice_get xs i ≡ Some x → P x
+pub each_at : {A : Type 0} (P : A → Type 0) (xs : List A) (i : ℕ) (x : A) → Each P xs → slice_get xs i ≡ Some x → P x
 each_at P [] i x all is = absurd (cc)
 each_at P (y ∷ ys) zero x (first, rest) is = let same : y ≡ x = cc in subst P same first
 each_at P (y ∷ ys) (suc i) x (first, rest) is = each_at P ys i x rest is
@@ -49,6 +48,7 @@ none_same c (d ∷ ds) e = let k = neither (schemas.same_name c d) (list_any (sc
     neither : (a b : Bool) → (a || b) ≡ false → (a ≡ false) × (b ≡ false)
     neither true b e = absurd (cc)
     neither false b e = (refl, e)
+
     apart : c.name ≡ d.name → bytes_eq c.name d.name ≡ false → ⊥
     apart same apart_ = let yes : bytes_eq c.name d.name ≡ true = ap (λ u. bytes_eq c.name u) (sym same) ∙ bytes_eq-refl c.name in cc
 
@@ -65,7 +65,7 @@ at_name [] i c is = absurd (cc)
 at_name (d ∷ ds) zero c is = let same : d ≡ c = cc in ap (λ u. Some u.name) same
 at_name (d ∷ ds) (suc i) c is = at_name ds i c is
 
-differ_at : (ns : List (List ℕ)) (p q : ℕ) (a b : List ℕ) → Differ ns → slice_get ns p ≡ Some a → slice_get ns q ≡ Some b → p ≢ q → a ≢ b
+pub differ_at : (ns : List (List ℕ)) (p q : ℕ) (a b : List ℕ) → Differ ns → slice_get ns p ≡ Some a → slice_get ns q ≡ Some b → p ≢ q → a ≢ b
 differ_at [] p q a b d e f apart_ same = cc
 differ_at (n ∷ ns) zero zero a b d e f apart_ same = apart_ refl
 differ_at (n ∷ ns) zero (suc q) a b (first, rest) e f apart_ same = let here : n ≡ a = cc in each_at (λ m. n ≢ m) ns q b first f (here ∙ same)
@@ -85,6 +85,7 @@ key_apart cs p c (q ∷ qs) d is none all =
     neither : (a b : Bool) → (a || b) ≡ false → (a ≡ false) × (b ≡ false)
     neither true b e = absurd (cc)
     neither false b e = (refl, e)
+
     by : (o : Option Column) → slice_get cs q ≡ o → is_some o ≡ true → Each (λ m. c.name ≢ m) (names (picked cs qs)) → ((x : Column) → slice_get cs q ≡ Some x → c.name ≢ x.name) → Each (λ m. c.name ≢ m) (names (cons_option o (picked cs qs)))
     by None at some rest first = absurd (cc)
     by (Some x) at some rest first = (first x at, rest)

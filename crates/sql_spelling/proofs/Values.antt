@@ -1,13 +1,10 @@
 -- Values are written as literals.
-use Rattle.std.proofs.Common.{◌≡◌, inl, inr, ℕ, zero, suc, ◌+◌, ◌*◌, ◌/◌, ◌%◌, ◌^◌, ◌≤◌, ◌<◌, Bool, true, false, ◌&&◌, List, [], ◌∷◌, ◌++◌, length, map, refl, sym, ap, ◌∙◌, subst, arith}
-use Rattle.std.specs.Prelude.{nat_le, nat_lt, ◌==◌, slice_index}
+use Rattle.std.proofs.Common.{◌≡◌, ℕ, suc, ◌*◌, ◌/◌, ◌%◌, ◌<◌, true, List, [], ◌∷◌, length, map, refl, ap, arith}
 use Rattle.std.specs.Char.{is_ascii_hexdigit}
 use Rattle.std.specs.List.{list_all}
 use Rattle.std.proofs.lemmas.Bool.Decides.{nat_tests}
 use Rattle.drda_words.specs.Bytes.{AreBytes}
 use Rattle.sql_lex.specs.Markers.{markers_in}
-use Rattle.sql_lex.specs.Spelling.{doubled}
-use Rattle.sql_lex.specs.Tokens.{Lexeme}
 use Rattle.sql_text.specs.Grammar.{IsValue}
 use Rattle.sql_text.specs.Spelled.{hexadecimal_digit, pairs_of}
 use Rattle.sql_text.specs.declared.tree.Literal.{Literal}

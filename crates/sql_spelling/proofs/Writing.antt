@@ -1,16 +1,15 @@
 -- What is written is of a rule of the grammar.
-use Rattle.std.proofs.Common.{◌≡◌, ℕ, zero, suc, ◌+◌, ◌≤◌, ◌<◌, Bool, true, false, List, [], ◌∷◌, ◌++◌, length, map, Option, Some, None, slice_index, refl, sym, ap, ◌∙◌, subst, arith, append_assoc}
+use Rattle.std.proofs.Common.{◌≡◌, ℕ, true, List, [], ◌∷◌, ◌++◌, refl, sym, ap, ◌∙◌, subst, append_assoc}
 use Rattle.std.specs.Prelude.{codes}
-use Rattle.std.specs.Char.{is_ascii_digit, is_ascii_alphabetic}
-use Rattle.std.specs.List.{list_all, flat_map}
+use Rattle.std.specs.Char.{is_ascii_alphabetic}
+use Rattle.std.specs.List.{list_all}
 use Rattle.sql_lex.specs.Markers.{markers_in}
-use Rattle.sql_lex.specs.Terminal.{spelling, words}
-use Rattle.sql_lex.specs.Tokens.{Lexeme, goes_on, named, counted}
+use Rattle.sql_lex.specs.Terminal.{words}
+use Rattle.sql_lex.specs.Tokens.{Lexeme, goes_on, named}
 use Rattle.sql_lex.specs.declared.terminal.Terminal.{Terminal}
 use Rattle.sql_lex.specs.declared.terminal.Terminal.TheVariants as w
-use Rattle.sql_lex.specs.declared.token.Token.{Token}
 use Rattle.sql_lex.specs.declared.token.Token.TheVariants as t
-use Rattle.sql_text.specs.Grammar.{◌⨾◌, Nothing, At, Is, The, IsList}
+use Rattle.sql_text.specs.Grammar.{◌⨾◌, Nothing, The}
 use Rattle.sql_spelling.proofs.Cutting.{lexed, Ends, word_cut, open_cut, close_cut, comma_cut}
 
 -- whatever follows that does not go on with it, the text is of the rule, and has no marker

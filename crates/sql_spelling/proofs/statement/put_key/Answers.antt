@@ -1,4 +1,4 @@
-use Rattle.std.proofs.Common.{◌≡◌, ◌++◌, ◌∷◌, ℕ, List, [], ◌≤◌, ◌<◌, ◌+◌, length, drop, ◌∙◌, ap, sym, arith}
+use Rattle.std.proofs.Common.{◌≡◌, ◌++◌, ◌∷◌, [], ◌≤◌, ◌+◌, length, drop, ◌∙◌, ap, sym, arith}
 use Rattle.std.specs.List.{flat_map}
 use Rattle.std.proofs.lemmas.List.{append-nil, drop_all}
 use Rattle.row_values.specs.Column.{Column, column_of}
@@ -19,7 +19,7 @@ loop-i-preserved c =
     let whole = ap (λ cs. c.loop-i.out.items ++ flat_map (λ (d : Column). 44 ∷ 32 ∷ d.name) cs) (sym step) ∙ c.loop-i.invariant in
     let between : c.extend_from_slice-in-loop-i.new.self.items ≡ c.loop-i.out.items ++ (44 ∷ 32 ∷ []) = c.in_ok-extend_from_slice-2.ensures.items in
     let name : c.extend_from_slice-in-loop-i-2.new.self.items ≡ c.extend_from_slice-in-loop-i.new.self.items ++ (column_of c.key_column-in-loop-i.result.now).name =
-        c.in_ok-extend_from_slice-3.ensures.items ∙ ap (λ z. c.extend_from_slice-in-loop-i.new.self.items ++ z) c.as_bytes-in-loop-i.ensures.value in
+    c.in_ok-extend_from_slice-3.ensures.items ∙ ap (λ z. c.extend_from_slice-in-loop-i.new.self.items ++ z) c.as_bytes-in-loop-i.ensures.value in
     one_more c.loop-i.out.items (44 ∷ 32 ∷ []) (column_of c.key_column-in-loop-i.result.now).name (flat_map (λ (d : Column). 44 ∷ 32 ∷ d.name) (drop (c.loop-i.i + 1) keys)) c.extend_from_slice-in-loop-i-2.new.self.items _ whole
     (name ∙ ap (λ z. z ++ (column_of c.key_column-in-loop-i.result.now).name) between)
 
