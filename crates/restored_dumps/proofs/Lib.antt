@@ -1,2 +1,3 @@
-pub mod Values
 pub mod Schemas
+pub mod Texts
+pub mod Values
