@@ -82,9 +82,11 @@ pub column_again : (cs : List Column) (ps : List ℕ) (q : ℕ) (c : Column) →
     → defined_column (map key_column_of (picked cs ps)) (definition_of c) ≡ c
 column_again cs ps q c differ good is at all =
     let keys = map key_column_of (picked cs ps) in
-    let name = name_again c.name (first_true _ _ is) in
-    let null = takes_null c.is_nullable (list_any (λ k. same_name k.name c.name) keys) (λ nullable. no_key cs ps q c differ good at nullable all) in
-    rw (name, kind_again c.kind c.limit, limit_again c.kind c.limit (second_true _ _ is), null) refl
+    let name : name_of c.name ≡ c.name = name_again c.name (first_true _ _ is) in
+    let kind : kind_of (type_of c.kind c.limit) ≡ c.kind = kind_again c.kind c.limit in
+    let limit : limit_of (type_of c.kind c.limit) ≡ c.limit = limit_again c.kind c.limit (second_true _ _ is) in
+    let takes : (c.is_nullable && not (list_any (λ k. same_name k.name c.name) keys)) ≡ c.is_nullable = takes_null c.is_nullable (list_any (λ k. same_name k.name c.name) keys) (λ nullable. no_key cs ps q c differ good at nullable all) in
+    rw (name, kind, limit, takes) refl
 
 -- ---- the key
 
