@@ -1,15 +1,12 @@
 -- How many of a store's tables are written.
-use Rattle.std.proofs.Common.{◌≡◌, ℕ, Bool, true, false, cond, List, [], ◌∷◌, ◌++◌, length, map, filter, Option, Some, None, refl, sym, ap, ◌∙◌, subst, append_assoc}
-use Rattle.std.specs.Prelude.{IsTrue}
+use Rattle.std.proofs.Common.{◌≡◌, ℕ, Bool, true, false, List, [], ◌∷◌, ◌++◌, Option, refl, sym, ap, ◌∙◌, subst, append_assoc}
 use Rattle.std.specs.Io.KnownBytes.{Appends}
-use Rattle.std.specs.List.{flat_map, AllByRecursion}
+use Rattle.std.specs.List.{flat_map}
 use Rattle.std.specs.Map.{values_of}
 use Rattle.std.proofs.lemmas.List.{append-nil}
-use Rattle.paged_tables.specs.PagedTables.{store_in}
-use Rattle.paged_tables.specs.Stored.{IsOnPages, LiesInside, Stored, rows_in, at_keys, shown}
-use Rattle.paged_tables.specs.TablesByName.{AreOnPages, LieInside, Tables, created_of, is_created, shown_entry, store_of}
+use Rattle.paged_tables.specs.Stored.{Stored, rows_in, at_keys}
+use Rattle.paged_tables.specs.TablesByName.{Tables, created_of, store_of}
 use Rattle.paged_tables.proofs.FormLaws.{values_at_keys}
-use Rattle.key_map.specs.Slots.{rows_of}
 use Rattle.table_map.specs.Table.{without_keys}
 use Rattle.store_dump.specs.Dump.{dump_text, table_text}
 use Rattle.store_dump.proofs.Going.{appended}

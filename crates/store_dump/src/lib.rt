@@ -6,7 +6,5 @@ mod lines;
 mod rows;
 mod tables;
 
-
 pub use errors::DumpError;
 pub use tables::dump_tables;
-

@@ -74,7 +74,11 @@ fn since_commit(since: usize) -> usize
     ensures next { result ≡ since_commit since }
     ensures few { result < 256 }
 {
-    if since + 1 == ROWS_OF_A_UNIT { 0 } else { since + 1 }
+    if since + 1 == ROWS_OF_A_UNIT {
+        0
+    } else {
+        since + 1
+    }
 }
 
 /// Writes the INSERT of a row, and the COMMIT that is due, and tells how many rows stand behind the last one.

@@ -1,5 +1,5 @@
 -- The lines that are written, with those of the rows that are left, are all.
-use Rattle.std.proofs.Common.{◌≡◌, ◌≤◌, ◌<◌, ℕ, List, ◌+◌, ◌*◌, length}
+use Rattle.std.proofs.Common.{◌≡◌, ◌<◌, ℕ, List, ◌+◌, ◌*◌, length}
 use Rattle.std.specs.Prelude.{IsTrue}
 use Rattle.drda_disk.specs.Disk.{Stays}
 use Rattle.key_map.specs.RowForm.{row_form}
@@ -16,7 +16,7 @@ invariant-loop-cursor g l = record {
   few : l.since < 256;
   rows : (pages : List (List (List ℕ))) → IsTrue g.D.Disk.is_modelled → IsStored (row_form l.table.schema.now) l.table.rows.now.places pages (g.D.Disk.life l.fn.disk).seen
       → IsWriting (row_form l.table.schema.now) (g.D.Disk.life l.fn.disk).seen l.cursor l.table.name.now l.table.schema.now l.since (g.W.Write.contents l.fn.out) (g.W.Write.contents l.out)
-          (without_keys (rows_of_table (row_form l.table.schema.now) l.table.rows.now pages));
+      (without_keys (rows_of_table (row_form l.table.schema.now) l.table.rows.now pages));
 }
 
 abbrev pub decreases-loop-cursor : goal.decreases-loop-cursor
