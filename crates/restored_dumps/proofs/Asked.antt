@@ -54,11 +54,14 @@ create_room name schema left is good room =
     (omega (arith, ap length (append-nil (change_bytes (create name schema))), length-append (length name ∷ name) (schema_bytes schema), length-append (flat_map column_bytes schema.columns) (length schema.key ∷ schema.key),
     columns_short schema.columns (schema_columns schema good), few_columns schema good, key_few schema good, short_name name is))
 
-row_short : (schema : Schema) (row : List ℕ) → is_row schema row ≡ true → length row ≤ 4000
+pub row_short : (schema : Schema) (row : List ℕ) → is_row schema row ≡ true → length row ≤ 4000
 row_short schema row is = by (length row) (row_is schema row is).0
   where
     by : (n : ℕ) → nat_le n 4000 ≡ true → n ≤ 4000
     by n e = grind (arith, nat_tests)
+
+pub put_short : (name row : List ℕ) → is_name name ≡ true → length row ≤ 4000 → length (change_bytes (put name row)) ≤ 4034
+put_short name row is short = omega (arith, length-append (length name ∷ name) (counted row), short_name name is)
 
 put_room : (name row : List ℕ) (left : ℕ) → is_name name ≡ true → length row ≤ 4000 → 4096 ≤ left → nat_le (length (flat_map change_bytes (put name row ∷ []))) left ≡ true
 put_room name row left is short room =

@@ -1,5 +1,5 @@
 -- The statements of a dump, and what they make.
-use Rattle.std.specs.Prelude.{◌≡◌, ◌≤◌, ◌<◌, ℕ, ◌+◌, ◌==◌, if◌then◌else◌, Bool, true, List, [], ◌∷◌, ◌++◌, length, map, codes, Option, Some, None}
+use Rattle.std.specs.Prelude.{◌≡◌, ◌≤◌, ◌<◌, ℕ, ◌+◌, ◌-◌, ◌==◌, if◌then◌else◌, Bool, true, List, [], ◌∷◌, ◌++◌, length, map, codes, Option, Some, None}
 use Rattle.std.specs.List.{AllByRecursion, flat_map}
 use Rattle.std.specs.Option.{option_and_then}
 use Rattle.std.specs.Map.{values_of}
@@ -10,6 +10,7 @@ use Rattle.row_values.specs.Column.{Column, fits}
 use Rattle.row_values.specs.Value.{Value}
 use Rattle.row_values.specs.Row.{value_bytes, values_in}
 use Rattle.tables.specs.Applied.{apply_all}
+use Rattle.tables.specs.Change.{Change, change_bytes}
 use Rattle.tables.specs.Tables.{Store, Table}
 use Rattle.tables.specs.View.{is_store}
 use Rattle.sql_semantics.specs.Meaning.{Answer, Refused, Changes, Rows, meaning}
@@ -62,26 +63,42 @@ statement_of (Make name schema) = Some (created name schema)
 statement_of (Put name schema row) = Some (inserted name (values_in schema row))
 statement_of Commit = None
 
--- the store behind a statement that was done; one that was refused leaves none
-abbrev pub done : Answer → Store → Option Store
-done (Changes changes n) store = Some (apply_all changes store)
-done (Refused fault) store = None
-done (Rows rows) store = None
+-- a unit of work: the committed tables, and its changes since the last COMMIT
+pub record At : Type 0 where
+  pub store : Store
+  pub changes : List Change
 
--- a unit sees its own changes, and a COMMIT keeps them: so a store is what the statements made of it so far
-abbrev pub asked_by : ℕ → Option Command → Store → Option Store
-asked_by left (Some c) store = done (meaning [] left c store) store
-asked_by left None store = Some store
+abbrev pub begun : Store → At
+begun store = record { store = store; changes = [] }
 
--- where so many bytes of changes are left for each
-abbrev pub asked : ℕ → List Line → Store → Option Store
-asked left [] store = Some store
-asked left (line ∷ lines) store = option_and_then (asked left lines) (asked_by left (statement_of line) store)
+-- the tables that it sees, which have its own changes
+abbrev pub seen : At → Store
+seen at = apply_all at.changes at.store
+
+-- how many bytes of changes are left to it, of 1,048,576
+abbrev pub left_in : At → ℕ
+left_in at = 1048576 - length (flat_map change_bytes at.changes)
+
+-- the unit behind a statement that was done; one that was refused ends all
+abbrev pub done : Answer → At → Option At
+done (Changes changes n) at = Some (record { store = at.store; changes = at.changes ++ changes })
+done (Refused fault) at = None
+done (Rows rows) at = None
+
+abbrev pub asked_by : Option Command → At → Option At
+asked_by (Some c) at = done (meaning [] (left_in at) c (seen at)) at
+asked_by None at = Some (begun (seen at))
+
+-- lines, asked one after another
+abbrev pub asked : List Line → At → Option At
+asked [] at = Some at
+asked (line ∷ lines) at = option_and_then (asked lines) (asked_by (statement_of line) at)
 
 -- the rows of all tables are bytes
 abbrev pub HaveBytes : Store → Type 0
 HaveBytes store = AllByRecursion (λ (e : List ℕ × Table). AllByRecursion AreBytes (values_of e.1.rows)) store
 
--- with at most 1,000 tables, and room for the changes of one statement, of at most 4,096 bytes
+-- asked in their order of a store without tables, the lines of a store are all done, its statements within the changes
+-- that a unit may have, and what is committed is the store; it has at most 1,000 tables
 abbrev pub DumpsRestore : Type 0
-DumpsRestore = (store : Store) (left : ℕ) → is_store store ≡ true → HaveBytes store → length store ≤ 1000 → 4096 ≤ left → asked left (lines_of store) [] ≡ Some store
+DumpsRestore = (store : Store) → is_store store ≡ true → HaveBytes store → length store ≤ 1000 → asked (lines_of store) (begun []) ≡ Some (begun store)
