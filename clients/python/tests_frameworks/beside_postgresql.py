@@ -1,5 +1,5 @@
 """What the tests of the framework packages share: drdad served (tests/over_a_server.py), and a PostgreSQL of its own beside it."""
-import glob, os, pathlib, pwd, shutil, signal, socket, subprocess, sys, tempfile, time, unittest
+import contextlib, glob, os, pathlib, pwd, shutil, signal, socket, subprocess, sys, tempfile, time, unittest
 
 sys.dont_write_bytecode = True
 HERE = pathlib.Path(__file__).resolve().parent
@@ -12,6 +12,7 @@ listen_addresses = '127.0.0.1'
 port = {port}
 unix_socket_directories = ''
 max_prepared_transactions = 100
+lock_timeout = 5s
 """
 
 
@@ -56,6 +57,15 @@ class PostgreSQL:
 
     def connect(self):
         return psycopg2.connect(self.dsn)
+
+    def clear(self, *tables):
+        """Drops tables, and rolls back what is prepared."""
+        with contextlib.closing(self.connect()) as connection:
+            for xid in connection.tpc_recover():
+                connection.tpc_rollback(xid)
+            for table in tables:
+                connection.cursor().execute(f"DROP TABLE IF EXISTS {table}")
+            connection.commit()
 
     @property
     def dsn(self):
