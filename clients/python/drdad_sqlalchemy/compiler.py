@@ -2,12 +2,13 @@
 import re
 
 from sqlalchemy import exc
-from sqlalchemy.sql import compiler, elements, schema
+from sqlalchemy.sql import compiler, elements, operators, schema
 
 # The words of the grammar, none of which can be a name. No name is quoted.
 WORDS = frozenset(
     "create table primary key not null smallint integer int bigint varchar varbinary insert into values update set where delete from "
     "select or and is".split())
+SUMS = (operators.add, operators.sub)
 NAME = re.compile(r"[A-Za-z][A-Za-z0-9_]*", re.ASCII)
 
 
@@ -51,6 +52,18 @@ class Compiler(compiler.SQLCompiler):
                 name = self._truncated_identifier("colident", label.name) if is_made else label.name
                 add_to_result_map(name, label.name, (label, name) + label._alt_names + result_map_targets, label.type)
         return label.element._compiler_dispatch(self, within_columns_clause=within_columns_clause, **words)
+
+    def visit_grouping(self, grouping, asfrom=False, within_sum=False, **words):
+        """A sum has no parentheses in the grammar. Around a whole one they say nothing; inside they stay, and are refused."""
+        if not within_sum and getattr(grouping.element, "operator", None) in SUMS:
+            return grouping.element._compiler_dispatch(self, **words)
+        return super().visit_grouping(grouping, asfrom=asfrom, **words)
+
+    def visit_add_binary(self, binary, operator, **words):
+        return self._generate_generic_binary(binary, " + ", **{**words, "within_sum": True})
+
+    def visit_sub_binary(self, binary, operator, **words):
+        return self._generate_generic_binary(binary, " - ", **{**words, "within_sum": True})
 
     def for_update_clause(self, select, **words):
         """What a unit reads nobody else writes until it ends."""

@@ -152,8 +152,7 @@ def _taken_order(tokens):
     starts = [at for at in range(len(words) - 1) if words[at:at + 2] == ["ORDER", "BY"]]
     if not starts:
         return ()
-    sorts = " ".join(words[starts[-1] + 2:]).split(" , ")
-    found = [re.fullmatch(r"([A-Z][A-Z0-9_]*)(?: (ASC|DESC))?", one) for one in sorts]
+    found = [re.fullmatch(r"([A-Z][A-Z0-9_]*)(?: (ASC|DESC))?", " ".join(one)) for one in _parted(words[starts[-1] + 2:], ",")]
     if not all(found):
         return ()
     del tokens[starts[-1]:]
@@ -184,36 +183,41 @@ def _list_at(words, at, markers):
     if not NAME.fullmatch(words[at]) or words[opens - 1:opens + 1] != ["IN", "("] or ")" not in words[opens:]:
         return None
     closes = words.index(")", opens)
-    items = list(_items(words[opens + 1:closes]))
-    if not all(item == "NULL" or VALUE.fullmatch(item) or NAME.fullmatch(item) for item in items):
-        return None
-    return InList(words[at], is_negated, items, markers), closes + 1
+    items = list(map(_item, _parted(words[opens + 1:closes], ",")))
+    return None if None in items else (InList(words[at], is_negated, items, markers), closes + 1)
 
 
-def _items(words):
-    """What stands between the commas of a list."""
-    item = ""
+def _parted(words, separator):
+    """What stands between separators."""
+    parts = [[]]
     for word in words:
-        if word == ",":
-            yield item
-            item = ""
+        if word == separator:
+            parts.append([])
         else:
-            item += word
-    yield item
+            parts[-1].append(word)
+    return parts
+
+
+def _item(words):
+    """A value or a name; None for all else."""
+    if len(words) == 2 and words[0] == "-" and words[1].isdigit():
+        return "-" + words[1]
+    return words[0] if len(words) == 1 and (words == ["NULL"] or VALUE.fullmatch(words[0]) or NAME.fullmatch(words[0])) else None
 
 
 def _conjunction(pieces):
     """Of a WHERE that is a conjunction: the lists that are a part of it, and the names that are equal to a value in it."""
     words = list(map(_plain, pieces))
     parts, depth = [[]], 0
-    for piece, word in list(zip(pieces, words))[words.index("WHERE") + 1:] if "WHERE" in words else ():
+    start = words.index("WHERE") + 1 if "WHERE" in words else len(words)
+    for piece, word in zip(pieces[start:], words[start:]):
         depth += (word == "(") - (word == ")")
         if depth == 0 and word == "OR":
             return [], set()
         if depth == 0 and word == "AND":
             parts.append([])
         else:
-            parts[-1].append(piece if isinstance(piece, InList) else word)
+            parts[-1].append(word or piece)
     lists = [part[0] for part in parts if len(part) == 1 and isinstance(part[0], InList) and not part[0].is_negated]
     return lists, {name for part in parts for name in _fixed_by(part)}
 

@@ -74,7 +74,11 @@ class PostgreSQL:
     def kill(self):
         """Ends it as a crash does: SIGQUIT leaves everything to recovery at the next start."""
         self.process.send_signal(signal.SIGQUIT)
-        self.process.wait(WAITS)
+        self.ended()
+
+    def ended(self):
+        """The exit status, once it has ended."""
+        return self.process.wait(WAITS)
 
     def remove(self):
         if self.process is not None and self.process.poll() is None:

@@ -1,9 +1,8 @@
 #!/usr/bin/env python3
-"""transfer.py LOG DRDAD_PORT POSTGRESQL_DSN COUNT [STEP [recover]]: moves amounts from drdad to PostgreSQL, each move one transaction
-of Zope's, and prints the number of each that is made; behind COUNT moves `done` and how many steps there were. At the step that is
-given the process kills itself: before and behind each call that a commit (or, with `recover`, a recovery) makes of a connection or
-of the file system.
-"""
+"""transfer.py LOG DRDAD_PORT POSTGRESQL_DSN COUNT [STEP [PID..]]: recovers, and moves amounts from drdad to PostgreSQL, each move one
+transaction of Zope's; prints the number of each that is made, and behind COUNT moves `done` and how many steps there were. A step is
+before and behind each call that is made of a connection or of the file system. At the step that is given, processes are killed:
+those of the PIDs, where 0 is this one, and one of PostgreSQL has a minus sign. Steps are counted from the first move on; where COUNT is 0, from the start of recovery."""
 import os, pathlib, signal, sys
 
 sys.path.insert(0, os.fspath(pathlib.Path(__file__).resolve().parents[1]))
@@ -11,19 +10,21 @@ import drdad, psycopg2.extensions, transaction
 from drdad_transaction import DecisionLog, join, log as log_module, recover
 
 CALLS = ("tpc_begin", "tpc_prepare", "tpc_commit", "tpc_rollback", "tpc_recover")
+MANY = 1_000_000
 FILE_CALLS = ("pwrite", "fsync", "rename", "ftruncate")
 
 
 class Steps:
-    """Counts steps, and ends the process at one of them."""
+    """Counts steps, and kills processes at one of them. PostgreSQL's are killed by SIGQUIT, as its manual has it: SIGKILL would leave
+    its children behind."""
 
-    def __init__(self, last):
-        self.count, self.last = 0, last
+    def __init__(self, last, victims):
+        self.count, self._last, self._victims = 0, last, victims
 
     def step(self):
         self.count += 1
-        if self.count == self.last:
-            os.kill(os.getpid(), signal.SIGKILL)
+        for victim in self._victims if self.count == self._last else ():
+            os.kill(abs(victim) or os.getpid(), signal.SIGQUIT if victim < 0 else signal.SIGKILL)
 
     def around(self, call):
         def stepped(*given):
@@ -76,22 +77,23 @@ def next_number(shop):
     return max(numbers, default=0) + 1
 
 
-def main(path, port, dsn, count, *words):
+def main(path, port, dsn, count):
+    STEPS.count = -MANY if int(count) else 0
     at = connections(port, dsn)
     log_module.os = Files()
     with DecisionLog(path) as log:
         for outcome in recover(log, at):
             print("recovered", outcome.name, outcome.is_committed, flush=True)
-        if "recover" not in words:
+        if int(count):
             STEPS.count = 0
             first = next_number(at["shop"])
-            for number in range(first, first + int(count)):
-                with transaction.manager:
-                    move(at, log, number, number % 7 + 1)
-                print("moved", number, flush=True)
+        for number in range(int(count)):
+            with transaction.manager:
+                move(at, log, first + number, number % 7 + 1)
+            print("moved", first + number, flush=True)
     print("done", STEPS.count, flush=True)
 
 
 if __name__ == "__main__":
-    STEPS = Steps(int(sys.argv[5]) if len(sys.argv) > 5 else 0)
-    main(*sys.argv[1:5], *sys.argv[6:])
+    STEPS = Steps(int(sys.argv[5]) if len(sys.argv) > 5 else 0, [int(word) for word in sys.argv[6:]])
+    main(*sys.argv[1:5])
