@@ -58,6 +58,9 @@ class Cursor:
             if needed is not None and len(rows) >= needed:
                 break
         names = [column[0] for column in self._cursor.description]
+        unknown = [order.name for order in statement.order if order.name not in names]
+        if unknown:
+            raise self._cursor.connection.ProgrammingError(f"the rows have no column {unknown[0]} to be sorted by")
         self._width = len(names) - statement.hidden
         rows = statement.arranged(rows, names)[first:end]
         self._rows, self._count = iter(rows), len(rows)

@@ -8,7 +8,6 @@ MOST_MARKERS = 128
 # A token with the blanks in front of it.
 TOKEN = re.compile(r"[ \t\r\n]*(?:[xX]?'(?:[^']|'')*'|[A-Za-z][A-Za-z0-9_]*|[0-9]+|<=|>=|<>|!=|[^ \t\r\n])")
 BEYOND_THE_GRAMMAR = re.compile(r"\b(?:IN|ORDER|LIMIT|OFFSET)\b|!=", re.IGNORECASE)
-WORD = re.compile(r"[A-Z][A-Z0-9_]*")
 # One name where sums, parentheses and functions are none.
 NAME = re.compile(r"(?!(?:NOT|NULL|AND|OR|IS|WHERE)$)[A-Z][A-Z0-9_]*")
 VALUE = re.compile(r"\?|-?[0-9]+|X?'.*'", re.DOTALL)
@@ -29,6 +28,11 @@ class InList:
         self.name, self.is_negated, self.items, self.first_marker = name, is_negated, items, first_marker
         self.markers = items.count("?")
 
+    @property
+    def can_be_cut(self):
+        """Whether a row that matches is one of one item, and of no other: items that are markers are compared before they are sent."""
+        return not self.is_negated and self.markers == len(self.items)
+
     def text(self, items):
         """The comparisons that it stands for. One alone has no parentheses, so that it can fix a key."""
         compared, joined = ("<>", " AND ") if self.is_negated else ("=", " OR ")
@@ -36,9 +40,8 @@ class InList:
         return f" {text}" if len(items) == 1 else f" ({text})"
 
     def given(self, parameters):
-        """Its items, each once, with the parameters that they stand for."""
-        values = iter(parameters[self.first_marker:self.first_marker + self.markers])
-        return list(dict.fromkeys((item, (next(values),) if item == "?" else ()) for item in self.items))
+        """The parameters of its markers, each once."""
+        return list(dict.fromkeys(parameters[self.first_marker:self.first_marker + self.markers]))
 
 
 class Statement:
@@ -48,47 +51,39 @@ class Statement:
         self.pieces, self.order, self.limit, self.offset = pieces, order, limit, offset
         self.is_select = _word(pieces[0]) == "SELECT"
         self.hidden = self._show_order() if order else 0
-        self.markers = sum(1 if piece == "?" else 0 for piece in map(_plain, pieces)) + sum(
-            piece.markers for piece in pieces if isinstance(piece, InList))
+        self.markers = sum(piece.markers if isinstance(piece, InList) else _plain(piece) == "?" for piece in pieces)
         self.lists, self.fixed = _conjunction(pieces)
 
     def _show_order(self):
         """Selects the columns that rows are sorted by, where they are not selected; how many were added."""
-        names = self.selected()
-        added = [order.name for order in self.order if names != ["*"] and order.name not in names]
-        added = list(dict.fromkeys(added))
-        at = list(map(_plain, self.pieces)).index("FROM")
+        words = list(map(_plain, self.pieces))
+        at = words.index("FROM")
+        selected = words[1:at]
+        added = [] if selected == ["*"] else [name for name in dict.fromkeys(order.name for order in self.order) if name not in selected]
         self.pieces[at:at] = [f", {name}" for name in added]
         return len(added)
 
-    def selected(self):
-        """The words of the list behind SELECT, without commas."""
-        words = list(map(_plain, self.pieces))
-        return [word for word in words[1:words.index("FROM")] if word != ","]
-
-    def whole(self, parameters, split=None, items=()):
-        """The statement as the server takes it, and its parameters; of one list only some of its items where they are given."""
+    def whole(self, parameters, cut=None, given=()):
+        """The statement as the server takes it, and its parameters; of one list, where it is cut, only those that are given."""
         text = "".join(
-            piece if isinstance(piece, str) else piece.text([item for item, _ in items] if piece is split else piece.items)
-            for piece in self.pieces)
+            piece if isinstance(piece, str) else piece.text(["?"] * len(given) if piece is cut else piece.items) for piece in self.pieces)
         values = list(parameters[:self.markers])
-        if split is not None:
-            given = [value for _, values_of in items for value in values_of]
-            values[split.first_marker:split.first_marker + split.markers] = given
+        if cut is not None:
+            values[cut.first_marker:cut.first_marker + cut.markers] = given
         return text, values
 
     def parts(self, parameters, key=()):
         """The statements whose rows together are those of this one. Where lists and equations fix the key, each fixes one key,
         and so claims that alone; where there are more markers than the server takes, each has as many as it takes."""
-        split, size = self._split(key)
-        if split is None:
+        cut, size = self._cut(key)
+        if cut is None:
             yield self.whole(parameters)
             return
-        given = split.given(parameters)
+        given = cut.given(parameters)
         for at in range(0, len(given), size):
-            yield self.whole(parameters, split, given[at:at + size])
+            yield self.whole(parameters, cut, given[at:at + size])
 
-    def _split(self, key):
+    def _cut(self, key):
         """The list that is cut, and how many items go together."""
         of_key = [one for one in self.lists if one.name in key and set(key) <= self.fixed | {one.name}]
         if of_key:
@@ -150,7 +145,7 @@ def _taken_order(tokens):
     """Takes ORDER BY and its names off the end, where it has nothing but names."""
     words = list(map(_word, tokens))
     starts = [at for at in range(len(words) - 1) if words[at:at + 2] == ["ORDER", "BY"]]
-    if not starts:
+    if not starts or "FROM" not in words:
         return ()
     found = [re.fullmatch(r"([A-Z][A-Z0-9_]*)(?: (ASC|DESC))?", " ".join(one)) for one in _parted(words[starts[-1] + 2:], ",")]
     if not all(found):
@@ -218,7 +213,7 @@ def _conjunction(pieces):
             parts.append([])
         else:
             parts[-1].append(word or piece)
-    lists = [part[0] for part in parts if len(part) == 1 and isinstance(part[0], InList) and not part[0].is_negated]
+    lists = [part[0] for part in parts if len(part) == 1 and isinstance(part[0], InList) and part[0].can_be_cut]
     return lists, {name for part in parts for name in _fixed_by(part)}
 
 

@@ -34,7 +34,7 @@ CUSTOMERS, ORDERS = Customer.__table__, Order.__table__
 
 
 class OverDrdad(OverAServer):
-    """An engine, and both tables with ten customers, of three orders each."""
+    """An engine, which behaves as SQLAlchemy 2.0's do, and both tables with ten customers, of three orders each."""
 
     def setUp(self):
         super().setUp()
@@ -49,7 +49,7 @@ class OverDrdad(OverAServer):
         sa.event.listen(self.engine, "before_cursor_execute", self._note)
 
     def engine_of(self, **words):
-        engine = sa.create_engine(f"drdad://ana:pw@127.0.0.1:{self.server.port}/SHOP?timeout=30", **words)
+        engine = sa.create_engine(f"drdad://ana:pw@127.0.0.1:{self.server.port}/SHOP?timeout=30", future=True, **words)
         self.addCleanup(engine.dispose)
         return engine
 
@@ -57,7 +57,7 @@ class OverDrdad(OverAServer):
         self.sent.append(" ".join(statement.split()))
 
     def session(self, **words):
-        return self.enterContext(orm.Session(self.engine, **words))
+        return self.enterContext(orm.Session(self.engine, future=True, **words))
 
 
 class Tables(OverDrdad):
@@ -212,7 +212,7 @@ class Objects(OverDrdad):
         self.assertEqual([order.number for order in customer.orders], [2, 1, 0])
         customer.name, customer.is_good = "other", None
         session.delete(customer.orders[0])
-        session.add(Order(customer=customer, number=7))
+        customer.orders.append(Order(number=7))
         session.commit()
         self.assertEqual([(order.number, order.amount) for order in customer.orders], [(7, 0), (1, 41), (0, 40)])
         self.assertEqual(session.query(Customer).filter_by(name="other", is_good=None).one().id, 4)
@@ -300,12 +300,12 @@ class Both(BesidePostgreSQL, OverDrdad):
     def setUp(self):
         super().setUp()
         self.postgresql.clear("ledger")
-        self.other = sa.create_engine(f"postgresql+psycopg2://postgres@127.0.0.1:{self.postgresql.port}/postgres")
+        self.other = sa.create_engine(f"postgresql+psycopg2://postgres@127.0.0.1:{self.postgresql.port}/postgres", future=True)
         self.addCleanup(self.other.dispose)
         Ledger.metadata.create_all(self.other)
 
     def both(self):
-        return self.enterContext(orm.Session(twophase=True, binds={Customer: self.engine, Order: self.engine, Ledger: self.other}))
+        return self.enterContext(orm.Session(twophase=True, future=True, binds={Customer: self.engine, Order: self.engine, Ledger: self.other}))
 
     def test_both_are_committed_or_none(self):
         session = self.both()

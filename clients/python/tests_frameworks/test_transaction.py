@@ -193,6 +193,34 @@ class Together(BesidePostgreSQL):
         self.assertTrue(branch.should_retry(failure()) and branch.should_retry(wrapped()))
         self.assertFalse(branch.should_retry(psycopg2.OperationalError()) or branch.should_retry(KeyError()))
 
+    def test_sessions_of_sqlalchemy_take_part(self):
+        try:
+            import sqlalchemy, sqlalchemy.orm
+            import drdad_sqlalchemy  # noqa: F401, which tells SQLAlchemy of the dialect
+        except ImportError as missing:
+            self.skipTest(f"{missing.name} is not installed")
+
+        class Row(sqlalchemy.orm.declarative_base()):
+            __tablename__ = "t"
+            k = sqlalchemy.Column(sqlalchemy.Integer, primary_key=True)
+            v = sqlalchemy.Column(sqlalchemy.String(20))
+
+        engines = {
+            "shop": sqlalchemy.create_engine(f"drdad://ana:pw@127.0.0.1:{self.server.port}/SHOP"),
+            "ledger": sqlalchemy.create_engine(f"postgresql://postgres@127.0.0.1:{self.postgresql.port}/postgres"),
+        }
+        for engine in engines.values():
+            self.addCleanup(engine.dispose)
+        for key, ends in ((1, transaction.commit), (2, transaction.abort), (3, transaction.commit)):
+            for name, engine in engines.items():
+                connection = self.enterContext(engine.connect())
+                join(connection.connection.driver_connection, name, self.log)
+                session = self.enterContext(sqlalchemy.orm.Session(connection))
+                transaction.get().addBeforeCommitHook(session.flush)
+                session.add(Row(k=key, v="x"))
+            ends()
+        self.assertEqual(self.keys_of_both(), [1, 3])
+
     # ---- what is lost on the way
 
     def test_a_resource_that_is_lost_behind_the_decision_is_committed_later(self):
