@@ -3,7 +3,7 @@ import logging
 
 import transaction
 
-from .log import Undecided
+from .log import BrokenLog
 from .xids import checked_name, xid_of
 
 TOLD = logging.getLogger(__package__)
@@ -41,8 +41,8 @@ class Unit:
         self.is_decided = True
         try:
             self.log.commit(self.number, tuple(self.branches))
-        except Undecided:
-            self.is_decided = False
+        except BaseException as failure:
+            self.is_decided = isinstance(failure, BrokenLog)
             raise
 
     def leave(self, name, is_done):
@@ -86,23 +86,27 @@ class Branch:
     def tpc_finish(self, _):
         """Never fails behind the decision: a branch that can't be reached stays in doubt there until `recover`."""
         self.unit.decide()
+        is_done = False
         try:
             self.connection.tpc_commit()
+            is_done = True
         except Exception:
             TOLD.exception("%r is decided to commit, and in doubt until recover()", self)
-            self._end(is_done=False)
-        else:
-            self._end(is_done=True)
+        finally:
+            self._end(is_done)
 
     def abort(self, _):
-        """Rolls back, where nothing is decided. A branch that can't be reached is rolled back by its server, or by `recover`."""
-        if self._state == ENDED or self.unit.is_decided:
+        """Rolls back, where nothing is decided; else it is left to `recover`. A branch that can't be reached is rolled back by its
+        server, or by `recover`."""
+        if self._state == ENDED:
             return
         try:
-            self.connection.tpc_rollback()
+            if not self.unit.is_decided:
+                self.connection.tpc_rollback()
         except Exception:
             TOLD.exception("%r could not be told to roll back", self)
-        self._end(is_done=False)
+        finally:
+            self._end(is_done=False)
 
     tpc_abort = abort
 

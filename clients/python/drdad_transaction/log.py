@@ -148,23 +148,28 @@ class DecisionLog:
         with self._mutex:
             if self._file is None:
                 raise Undecided("the log of decisions is closed, or has failed")
+            start = self._end
             try:
-                end = self._written(self._file, f"{self._commit_line(number, names)}\n", self._end)
+                self._end = self._written(self._file, f"{self._commit_line(number, names)}\n", start)
                 os.fsync(self._file)
-            except OSError as fault:
-                self._take_back(fault)
-            self._end, self._lines = end, self._lines + 1
-            self._decisions[number] = tuple(names)
+                self._lines += 1
+                self._decisions[number] = tuple(names)
+            except BaseException as fault:
+                self._take_back(number, start)
+                if isinstance(fault, OSError):
+                    raise Undecided(f"the decision could not be written: {fault}") from fault
+                raise
 
-    def _take_back(self, fault):
+    def _take_back(self, number, start):
         """Cuts off a line that may not be on the device. Where that fails nobody can tell."""
+        self._decisions.pop(number, None)
+        self._end = start
         try:
-            os.ftruncate(self._file, self._end)
+            os.ftruncate(self._file, start)
             os.fsync(self._file)
-        except OSError:
+        except BaseException as fault:
             self.close()
             raise BrokenLog("the log of decisions has failed, and the unit stays in doubt") from fault
-        raise Undecided(f"the decision could not be written: {fault}") from fault
 
     def leave(self, number, is_done):
         """A unit is in flight no more. Where it is done, it is committed at all its resources, and nobody needs the decision."""

@@ -311,6 +311,27 @@ class Together(BesidePostgreSQL):
         self.assertEqual({one.is_committed for one in recover(*self.again())}, {True})
         self.assertEqual(self.keys_of_both(), [1])
 
+    def test_a_program_that_is_interrupted_at_the_decision_rolls_back(self):
+        with self.assertRaises(KeyboardInterrupt), transaction.manager:
+            self.add(1)
+            with mock.patch("drdad_transaction.log.os.fsync", side_effect=[KeyboardInterrupt, None]):
+                transaction.commit()
+        transaction.abort()
+        with transaction.manager:
+            self.add(2)
+        self.assertEqual(self.keys_of_both(), [2])
+        self.assertEqual(recover(*self.again()), [])
+
+    def test_a_program_that_is_interrupted_behind_the_decision_is_committed_by_recovery(self):
+        with self.assertRaises(KeyboardInterrupt), transaction.manager:
+            self.add(1)
+            with mock.patch.object(drdad.Connection, "tpc_commit", side_effect=KeyboardInterrupt):
+                transaction.commit()
+        transaction.abort()
+        outcomes = recover(self.log, {"shop": self.connect(), "ledger": self.to_ledger()})
+        self.assertEqual([(one.name, one.is_committed) for one in outcomes], [("shop", True)])
+        self.assertEqual(self.keys_of_both(), [1])
+
     def test_one_process_at_a_time(self):
         with self.assertRaises(BrokenLog):
             DecisionLog(self.path)
