@@ -19,19 +19,19 @@ def refuse(what):
 class Compiler(compiler.SQLCompiler):
     """Statements of one table. Columns have neither a table's name nor an alias: results are read by their places."""
 
-    table = None
+    read_table = None
 
     @property
-    def key(self):
+    def key_names(self):
         """The names of the key columns, in capitals, of the table that is read."""
-        columns = self.table.primary_key.columns if isinstance(self.table, schema.Table) else ()
+        columns = self.read_table.primary_key.columns if isinstance(self.read_table, schema.Table) else ()
         return tuple(column.name.upper() for column in columns)
 
     def visit_table(self, table, asfrom=False, **words):
         if asfrom:
-            if self.table is not None:
-                refuse(f"reads one table in a statement, and this one reads {self.table} and {table}")
-            self.table = table
+            if self.read_table is not None:
+                refuse(f"reads one table in a statement, and this one reads {self.read_table} and {table}")
+            self.read_table = table
         return super().visit_table(table, asfrom=asfrom, **words)
 
     def visit_alias(self, alias, asfrom=False, **words):
@@ -106,7 +106,7 @@ class DDLCompiler(compiler.DDLCompiler):
     def get_column_specification(self, column, **words):
         if column.server_default is not None or column.computed is not None or column.identity is not None:
             refuse(f"makes no values: {column} has a server default")
-        type_ = self.dialect.type_compiler.process(column.type, type_expression=column)
+        type_ = self.type_compiler.process(column.type, type_expression=column)
         return f"{self.preparer.format_column(column)} {type_}{'' if column.nullable else ' NOT NULL'}"
 
     def visit_primary_key_constraint(self, constraint, **words):

@@ -17,7 +17,7 @@ TYPES_WITH_LENGTH = {"VARCHAR": types.VARCHAR, "VARBINARY": types.VARBINARY}
 
 class ExecutionContext(default.DefaultExecutionContext):
     def create_default_cursor(self):
-        return Cursor(super().create_default_cursor(), getattr(getattr(self, "compiled", None), "key", ()))
+        return Cursor(super().create_default_cursor(), getattr(getattr(self, "compiled", None), "key_names", ()))
 
 
 def _driver(connection):
