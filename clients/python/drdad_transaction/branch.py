@@ -90,8 +90,8 @@ class Branch:
         try:
             self.connection.tpc_commit()
             is_done = True
-        except Exception:
-            TOLD.exception("%r is decided to commit, and in doubt until recover()", self)
+        except Exception as failure:
+            TOLD.error("%r is decided to commit, and in doubt until recover(): %s", self, failure)
         finally:
             self._end(is_done)
 
@@ -103,8 +103,8 @@ class Branch:
         try:
             if not self.unit.is_decided:
                 self.connection.tpc_rollback()
-        except Exception:
-            TOLD.exception("%r could not be told to roll back", self)
+        except Exception as failure:
+            TOLD.warning("%r could not be told to roll back: %s", self, failure)
         finally:
             self._end(is_done=False)
 

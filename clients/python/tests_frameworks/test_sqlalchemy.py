@@ -202,6 +202,10 @@ class Core(OverDrdad):
         with self.assertRaises(exc.OperationalError) as raised:
             self.connection.execute(sa.select(CUSTOMERS))
         self.assertTrue(raised.exception.connection_invalidated)
+        with self.assertLogs("sqlalchemy.pool"), engine.connect() as connection:
+            self.server.kill()
+            with self.assertRaises(exc.OperationalError):
+                engine.dialect.has_table(connection, "customer")
 
 
 class Objects(OverDrdad):

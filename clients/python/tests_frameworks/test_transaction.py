@@ -385,27 +385,28 @@ class Together(BesidePostgreSQL):
             self.assertTrue(log.is_committed(kept))
             self.assertFalse(log.is_committed(number))
 
-    def test_threads_share_a_log(self):
-        """Each thread has connections of its own. The keys are different, so that nobody stands in another's way but at random."""
-        def work(first):
-            try:
-                manager, shop, ledger = transaction.TransactionManager(), self.connect(), self.to_ledger()
-                for key in range(first, first + 20):
-                    join(shop, "shop", self.log, manager)
-                    join(ledger, "ledger", self.log, manager)
-                    shop.cursor().execute("INSERT INTO T VALUES (?, ?)", (key, "x"))
-                    ledger.cursor().execute("INSERT INTO T VALUES (%s, %s)", (key, "x"))
-                    manager.commit()
-            except BaseException as failure:
-                failures.append(failure)
+    def work(self, first, failures):
+        """Twenty rows in both, each in a transaction of its own, on connections of its own."""
+        try:
+            manager, shop, ledger = transaction.TransactionManager(), self.connect(), self.to_ledger()
+            for key in range(first, first + 20):
+                join(shop, "shop", self.log, manager)
+                join(ledger, "ledger", self.log, manager)
+                shop.cursor().execute("INSERT INTO T VALUES (?, ?)", (key, "x"))
+                ledger.cursor().execute("INSERT INTO T VALUES (%s, %s)", (key, "x"))
+                manager.commit()
+        except BaseException as failure:
+            failures.append(failure)
 
-        failures = []
-        threads = [threading.Thread(target=work, args=(100 * number,)) for number in range(8)]
+    def test_threads_share_a_log_beside_recovery(self):
+        failures, outcomes = [], []
+        threads = [threading.Thread(target=self.work, args=(100 * number, failures)) for number in range(8)]
+        at = {"shop": self.connect(), "ledger": self.to_ledger()}
         for thread in threads:
             thread.start()
-        for thread in threads:
-            thread.join()
-        self.assertEqual(failures, [])
+        while any(thread.is_alive() for thread in threads):
+            outcomes += recover(self.log, at)
+        self.assertEqual((failures, outcomes), ([], []))
         self.assertEqual(len(self.keys_of_both()), 160)
 
 
