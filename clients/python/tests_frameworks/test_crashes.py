@@ -1,9 +1,9 @@
 """The manager of a transaction over drdad and PostgreSQL, and each of the two, killed at each step of a commit and at random. Behind
 each kill the log is recovered: both sides have the same moves, the amounts add up, each move that was told is there, and nothing is
 in doubt. DRDAD_ROUNDS is how many rounds of kills at random there are (20)."""
-import contextlib, os, pathlib, random, subprocess, sys, time, unittest
+import contextlib, os, pathlib, random, subprocess, sys, threading, time, unittest
 
-from beside_postgresql import BesidePostgreSQL, psycopg2
+from beside_postgresql import BesidePostgreSQL, drdad, psycopg2
 
 try:
     from drdad_transaction import DecisionLog, recover
@@ -20,6 +20,7 @@ ROUNDS = int(os.environ.get("DRDAD_ROUNDS", "20"))
 LONGEST_MOMENT = 0.5
 WAITS = 60
 TRIES, MOMENT = 50, 0.1
+CLAIMED = -913
 
 
 def read(connection):
@@ -55,9 +56,14 @@ class Crashes(BesidePostgreSQL):
         return subprocess.Popen([sys.executable, "-B", *words], stdout=subprocess.PIPE, stderr=subprocess.DEVNULL, text=True)
 
     def ended(self, manager):
-        """How many steps a manager made, once it has ended; None where it did not come to its end. What it told is kept."""
-        out, _ = manager.communicate(timeout=WAITS)
-        said = [line.split() for line in out.splitlines()]
+        """How many steps a manager made, once it has ended; None where it did not come to its end. What it told is kept. One that
+        takes too long is killed."""
+        late = threading.Timer(WAITS, manager.kill)
+        late.start()
+        with manager.stdout:
+            said = [line.split() for line in manager.stdout]
+        manager.wait()
+        late.cancel()
         self.told |= {int(words[1]) for words in said if words[0] == "moved"}
         return next((int(words[1]) for words in said if words[0] == "done"), None)
 
@@ -73,27 +79,33 @@ class Crashes(BesidePostgreSQL):
         with self.connections() as at:
             return [name for name, connection in at.items() if connection.tpc_recover()]
 
-    def recover(self, at):
-        """What a killed manager has asked for may still be under way: recovery is called until nothing is in doubt."""
-        for _ in range(TRIES):
-            try:
-                with DecisionLog(self.path) as log:
-                    recover(log, at)
-                if not any(connection.tpc_recover() for connection in at.values()):
-                    return
-            except psycopg2.errors.ObjectNotInPrerequisiteState:
-                """PostgreSQL is at it."""
-            time.sleep(MOMENT)
-        self.fail("something stays in doubt")
-
     def settle(self):
-        """Recovers, and reads both sides: the moves that were made."""
+        """Recovers, and judges both sides: the moves that were made."""
         with self.connections() as at:
-            self.recover(at)
-            (first, taken), (second, given) = (read(connection) for connection in at.values())
+            sides = next(filter(None, (self.recovered_sides(at) for _ in range(TRIES))), None)
+        self.assertIsNotNone(sides, "something stays in doubt")
+        (first, taken), (second, given) = sides
         self.assertEqual((first + second, {number: -amount for number, amount in taken.items()}), (TOTAL, given))
         self.assertLessEqual(self.told, set(given))
         return set(given)
+
+    def recovered_sides(self, at):
+        """Recovers, and reads both sides. Gives None, behind a moment, where a killed manager still stands in the way: its conversations
+        are not lost at once, and what it had asked for goes on."""
+        sides = None
+        try:
+            with DecisionLog(self.path) as log:
+                recover(log, at)
+            sides = [read(connection) for connection in at.values()]
+        except (drdad.OperationalError, psycopg2.errors.ObjectNotInPrerequisiteState) as failure:
+            if getattr(failure, "sqlcode", CLAIMED) != CLAIMED:
+                raise
+        for connection in at.values():
+            connection.rollback()
+        if sides is not None and not any(connection.tpc_recover() for connection in at.values()):
+            return sides
+        time.sleep(MOMENT)
+        return None
 
     def kill_at_each_step(self, *killed):
         """Kills some of manager (0), drdad (1) and PostgreSQL (2) at each step of a move, behind one that was made."""
@@ -138,13 +150,24 @@ class Crashes(BesidePostgreSQL):
             decided |= {(name, len(self.settle()) - len(before)) for name in names}
         self.assertEqual(decided, {("shop", 0), ("shop", 1), ("ledger", 0), ("ledger", 1)})
 
+    def first_move(self, manager):
+        """Waits until a manager tells a move; keeps what it told."""
+        for line in manager.stdout:
+            words = line.split()
+            if words[0] == "moved":
+                self.told.add(int(words[1]))
+                return
+
     def test_kills_at_random_moments(self):
+        """Behind the first move of a manager, or, in one round of three, from its start on."""
         chosen = random.Random(ROUNDS)
         for number in range(ROUNDS):
             killed = chosen.sample((0, 1, 2), chosen.randint(1, 3))
             manager = self.manager(MANY)
+            if number % 3:
+                self.first_move(manager)
             with contextlib.suppress(subprocess.TimeoutExpired):
-                manager.wait(0.3 + chosen.uniform(0, LONGEST_MOMENT))
+                manager.wait(chosen.uniform(0, LONGEST_MOMENT))
             if 1 in killed:
                 self.server.kill()
             if 2 in killed:
@@ -153,7 +176,7 @@ class Crashes(BesidePostgreSQL):
             with self.subTest(number=number, killed=killed):
                 self.ended(manager)
                 self.settle()
-        self.assertGreater(len(self.told), ROUNDS)
+        self.assertGreaterEqual(len(self.told), ROUNDS // 3 * 2)
 
 
 if __name__ == "__main__":
