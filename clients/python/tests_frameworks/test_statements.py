@@ -26,7 +26,8 @@ class Statements(unittest.TestCase):
 
     def test_lists_are_comparisons(self):
         cases = {
-            "A IN (1, 2)": "(A = 1 OR A = 2)", "a in(-1,NULL,'x'',y',X'00',?, b)": "(A = -1 OR A = NULL OR A = 'x'',y' OR A = X'00' OR A = ? OR A = B)",
+            "A IN (1, 2)": "(A = 1 OR A = 2)",
+            "a in(-1,NULL,'x'',y',X'00',?, b)": "(A = -1 OR A = NULL OR A = 'x'',y' OR A = X'00' OR A = ? OR A = B)",
             "A NOT IN (1, 2)": "(A <> 1 AND A <> 2)", "A IN (?)": "A = ?", "NOT A NOT IN ('(')": "NOT A <> '('", "A != 1": "A <> 1",
             "(B = 1 OR A IN (1,2)) AND C IN (3)": "(B = 1 OR (A = 1 OR A = 2)) AND C = 3",
         }

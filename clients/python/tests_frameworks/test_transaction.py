@@ -262,6 +262,22 @@ class Together(BesidePostgreSQL):
         self.assertEqual([one.is_committed for one in recover(log, at)], [False, False])
         self.assertEqual(self.keys_of_both(), [])
 
+    def test_units_of_other_managers_are_left_alone(self):
+        self.shop.tpc_begin(drdad.Xid(1, b"theirs", b"shop"))
+        self.shop.cursor().execute("INSERT INTO T VALUES (1, 'x')")
+        self.shop.tpc_prepare()
+        cursor = self.ledger.cursor()
+        cursor.execute("INSERT INTO T VALUES (1, 'x')")
+        cursor.execute("PREPARE TRANSACTION 'theirs'")
+        self.ledger.rollback()
+        other = self.to_ledger()
+        other.tpc_begin(other.xid(1, "theirs", "ledger"))
+        other.cursor().execute("INSERT INTO T VALUES (2, 'x')")
+        other.tpc_prepare()
+        log, at = self.again()
+        self.assertEqual(recover(log, at), [])
+        self.assertEqual([len(connection.tpc_recover()) for connection in at.values()], [1, 2])
+
     def decided_by_hand(self, word, is_committed):
         """What recovery makes of drdad's branch of a unit that was decided by the log, and by `drdad decide`."""
         first, second = sorted(self.voted(), key=lambda branch: branch.name)

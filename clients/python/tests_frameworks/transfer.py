@@ -2,7 +2,8 @@
 """transfer.py LOG DRDAD_PORT POSTGRESQL_DSN COUNT [STEP [PID..]]: recovers, and moves amounts from drdad to PostgreSQL, each move one
 transaction of Zope's; prints the number of each that is made, and behind COUNT moves `done` and how many steps there were. A step is
 before and behind each call that is made of a connection or of the file system. At the step that is given, processes are killed:
-those of the PIDs, where 0 is this one, and one of PostgreSQL has a minus sign. Steps are counted from the first move on; where COUNT is 0, from the start of recovery."""
+those of the PIDs, where 0 is this one, and one of PostgreSQL has a minus sign. Steps are counted from the first move on; where COUNT
+is 0, from the start of recovery."""
 import os, pathlib, signal, sys
 
 sys.path.insert(0, os.fspath(pathlib.Path(__file__).resolve().parents[1]))
