@@ -80,6 +80,17 @@ class Tables(OverDrdad):
         with self.assertRaises(NotImplementedError):
             sa.inspect(self.engine).get_table_names()
 
+    def test_types_are_spelled(self):
+        types = {
+            sa.SmallInteger: "SMALLINT", sa.Integer: "INTEGER", sa.BigInteger: "BIGINT", sa.Boolean: "SMALLINT", sa.String(7): "VARCHAR(7)",
+            sa.Unicode(8): "VARCHAR(8)", sa.Text(9): "VARCHAR(9)", sa.UnicodeText(9): "VARCHAR(9)", sa.Enum("one", "three"): "VARCHAR(5)",
+            sa.LargeBinary(10): "VARBINARY(10)", sa.VARBINARY(11): "VARBINARY(11)",
+        }
+        made = [sa.Column("k", sa.Integer, primary_key=True), *(sa.Column(f"a{at}", type_) for at, type_ in enumerate(types))]
+        text = " ".join(str(sa.schema.CreateTable(sa.Table("t", sa.MetaData(), *made)).compile(self.engine)).split())
+        columns = ", ".join(f"a{at} {name}" for at, name in enumerate(types.values()))
+        self.assertEqual(text, f"CREATE TABLE t ( k INTEGER NOT NULL, {columns}, PRIMARY KEY (k) )")
+
     def refused(self, *parts):
         """Why a table of these parts is not made."""
         with self.assertRaises(exc.CompileError) as raised:
@@ -88,7 +99,9 @@ class Tables(OverDrdad):
 
     def test_what_the_server_has_not_is_refused_with_its_reason(self):
         self.assertIn("primary key", self.refused(sa.Column("a", sa.Integer)))
-        for type_ in (sa.Float, sa.Numeric(9, 2), sa.DateTime, sa.Date, sa.String, sa.Text, sa.LargeBinary, sa.CHAR(3), sa.JSON, sa.PickleType):
+        no_types = (sa.Float, sa.Numeric(9, 2), sa.DateTime, sa.Date, sa.Time, sa.Interval, sa.String, sa.Text, sa.LargeBinary, sa.CHAR(3),
+                    sa.BINARY(3), sa.JSON, sa.PickleType)
+        for type_ in no_types:
             with self.subTest(type_):
                 self.assertIn("drdad", self.refused(sa.Column("k", sa.Integer, primary_key=True), sa.Column("a", type_)))
         for part in (sa.UniqueConstraint("a"), sa.CheckConstraint("a > 1")):
