@@ -1,0 +1,5 @@
+pub mod Asked
+pub mod Schemas
+pub mod Stores
+pub mod Texts
+pub mod Values

@@ -1,0 +1,13 @@
+pub mod Columns
+pub mod Creating
+pub mod Cutting
+pub mod Inserting
+pub mod Lists
+pub mod Names
+pub mod Numbers
+pub mod Refusing
+pub mod Values
+pub mod Writing
+pub mod Lengths
+pub mod Reading
+pub mod Appending
