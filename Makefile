@@ -29,6 +29,9 @@ edits:
 # Whether what the documents name is there, each refusal that is made is a listed one, and the gate runs the kept conversations and random lists.
 names:
 	@tools/check_map
+	@tools/check_pages
+	@bench/draw_figures --check
+	@tools/draw_layers --check
 	@tools/check_refusals
 	@tests/planted_refusals
 	@tests/gate_conversations --check
