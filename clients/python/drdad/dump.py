@@ -2,7 +2,7 @@
 one moment: of each, in order of names, its CREATE TABLE and its rows in order of keys, with a \\commit for the shell before a unit
 grows too large. The last line counts what was written. One unit reads all the tables: until it has ended, what others want to write
 there is refused (-913). Status 0; 1 where a table can't be read, 2 where no connection came."""
-import argparse, random, sys, time
+import argparse, contextlib, random, sys, time
 
 from . import connect
 from .errors import Error
@@ -174,10 +174,26 @@ def write_table(connection, table, schema, write):
     return count
 
 
+@contextlib.contextmanager
+def no_autocommit(connection):
+    """Here the connection is not in autocommit mode; nothing of what is done here stays."""
+    was, connection.autocommit = connection.autocommit, False
+    try:
+        yield
+    finally:
+        if connection.is_open():
+            connection.rollback()
+            connection.autocommit = was
+
+
 def dump(connection, tables, write, say, wait=WAITS):
-    """Writes SQL that makes the tables anew. The connection has no unit under way, and is not in autocommit mode; `say` is told what
-    is claimed, and how many rows each table has."""
-    names = sorted({table.upper() for table in tables})
+    """Writes SQL that makes the tables anew. The connection has no unit under way; `say` is told what is claimed, and how many rows each
+    table has; others' claims are waited for so many seconds."""
+    with no_autocommit(connection):
+        write_all(connection, sorted({table.upper() for table in tables}), write, say, wait)
+
+
+def write_all(connection, names, write, say, wait):
     doubts = connection.tpc_recover()
     schemas = {table: schema_of(connection, table, wait) for table in names}
     patiently(connection, wait, lambda: claim_all(connection, schemas))
@@ -188,7 +204,6 @@ def dump(connection, tables, write, say, wait=WAITS):
         count = write_table(connection, table, schema, write)
         say(f"{table}: rows {count}")
         total += count
-    connection.rollback()
     write(f"\\autocommit on\n-- the end: tables {len(names)}, rows {total}\n")
 
 

@@ -158,6 +158,17 @@ class Dumps(OverAServer):
         writer.cursor().execute(INSERT, (9, "late"))
         writer.commit()
 
+    def test_the_connection_stays_as_it_was(self):
+        self.with_rows(3)
+        connection = self.connect(autocommit=True)
+        dump.dump(connection, ["T"], lambda text: None, lambda line: None)
+        self.assertTrue(connection.autocommit)
+        with self.assertRaisesRegex(drdad.ProgrammingError, "-204"):
+            dump.dump(connection, ["NOSUCH"], lambda text: None, lambda line: None)
+        self.assertTrue(connection.autocommit)
+        connection.cursor().execute(INSERT, (9, "late"))
+        self.assertEqual(self.keys(self.connect().cursor()), [0, 1, 2, 9])
+
     def test_it_leaves_everything_as_it_was(self):
         self.with_rows(3)
         before = self.bytes_of_store()
