@@ -95,10 +95,11 @@ def lay_units(prefix, root):
         write(f"{root}/{UNITS}/{os.path.basename(path)}", text.encode())
 
 
-def lay_client(root):
-    for path in glob.glob(f"{TOP}/clients/python/drdad/**", recursive=True):
-        if os.path.isfile(path) and "__pycache__" not in path:
-            lay(path, f"{root}/{CLIENT}/{os.path.relpath(path, f'{TOP}/clients/python/drdad')}")
+def lay_below(source, target):
+    """Lays all files of a folder, but for what Python has made of its sources."""
+    for path in files_below(source):
+        if "__pycache__" not in path:
+            lay(path, f"{target}/{os.path.relpath(path, source)}")
 
 
 def lay_all(program, gate, prefix, root):
@@ -107,13 +108,12 @@ def lay_all(program, gate, prefix, root):
     os.makedirs(root)
     lay(program, f"{root}/bin/drdad", 0o755)
     lay(f"{TOP}/packaging/drdad-shell", f"{root}/bin/drdad-shell", 0o755)
-    lay_client(root)
+    lay_below(f"{TOP}/clients/python/drdad", f"{root}/{CLIENT}")
     for name in ("health", "metrics", "check-receipt"):
         lay(f"{TOP}/packaging/{name}", f"{root}/lib/drdad/{name}", 0o755)
     for name in ("README.md", "CHANGELOG.md", "LICENSE"):
         lay(f"{TOP}/{name}", f"{root}/share/doc/drdad/{name}")
-    for path in glob.glob(f"{TOP}/docs/*.md"):
-        lay(path, f"{root}/share/doc/drdad/docs/{os.path.basename(path)}")
+    lay_below(f"{TOP}/docs", f"{root}/share/doc/drdad/docs")
     lay_manuals(program, root)
     lay_units(prefix, root)
     write(f"{root}/{RECEIPT}", receipt(root, program, gate).encode())
