@@ -170,9 +170,11 @@ class Dumps(OverAServer):
         self.assertEqual(self.keys(self.connect().cursor()), [0, 1, 2, 9])
 
     def test_it_leaves_everything_as_it_was(self):
-        self.with_rows(3)
+        connection, cursor = self.with_rows(3)
+        cursor.execute("CREATE TABLE P (A INTEGER NOT NULL, B VARCHAR(9) NOT NULL, PRIMARY KEY (B, A))")
+        connection.commit()
         before = self.bytes_of_store()
-        self.assertEqual(self.dumped("T")[0], 0)
+        self.assertEqual(self.dumped("T", "P")[0], 0)
         self.assertEqual(self.bytes_of_store(), before)
 
     def test_it_waits_for_others(self):
