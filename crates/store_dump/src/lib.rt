@@ -1,10 +1,10 @@
 //! The tables of a store as SQL that makes them anew.
 #![tactic(auto)]
 
+mod dumping;
 mod errors;
 mod lines;
 mod rows;
-mod tables;
 
+pub use dumping::dump_tables;
 pub use errors::DumpError;
-pub use tables::dump_tables;

@@ -4,7 +4,7 @@ use Rattle.std.specs.Prelude.{IsTrue}
 use Rattle.drda_disk.specs.Disk.{Stays}
 use Rattle.paged_tables.specs.TablesByName.{AreOnPages, LieInside, created_of}
 use Rattle.store_dump.proofs.Telling.{IsTelling}
-use Rattle.store_dump.proofs.tables.dump_tables.Given as goal
+use Rattle.store_dump.proofs.dumping.dump_tables.Given as goal
 
 abbrev pub invariant-loop-table : goal.invariant-loop-table
 invariant-loop-table g l = record {

@@ -5,7 +5,7 @@ use Rattle.paged_tables.specs.Stored.{IsOnPages}
 use Rattle.paged_tables.specs.TablesByName.{AreOnPages, LieInside, Tables, created_of}
 use Rattle.store_dump.proofs.Going.{nothing_appended}
 use Rattle.store_dump.proofs.Telling.{IsTelling, all_told, one_told, stored_is_shown, stored_text}
-use Rattle.store_dump.proofs.tables.dump_tables.Goals as goal
+use Rattle.store_dump.proofs.dumping.dump_tables.Goals as goal
 
 pub loop-table-init : goal.loop-table-init
 loop-table-init g c = record {
