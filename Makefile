@@ -1,7 +1,9 @@
 # The entry points of the README.
 SHELL := bash
 .SHELLFLAGS := -eu -o pipefail -c
-.PHONY: run try build test gate edits names vectors outside
+.PHONY: run try build test gate edits names vectors outside dist install
+
+PREFIX = /usr/local
 
 # A first look, within three minutes: the program, built without proof where no proved one is there, makes a store and serves it; one
 # conversation is shown, the server is killed and served again, and the rows are there.
@@ -16,7 +18,7 @@ build:
 
 # Every proof from nothing, every test, and the program. SINCE=COMMIT: with the edits of the crates that were touched since.
 test:
-	@tools/run_gate $(SINCE)
+	@tools/tested tools/run_gate $(SINCE)
 
 # The same with the edits under must-fail/, by the toolchain's own gate.
 gate:
@@ -29,6 +31,9 @@ edits:
 # Whether what the documents name is there, each refusal that is made is a listed one, and the gate runs the kept conversations and random lists.
 names:
 	@tools/check_map
+	@tools/check_pages
+	@bench/draw_figures --check
+	@tools/draw_layers --check
 	@tools/check_refusals
 	@tests/planted_refusals
 	@tests/gate_conversations --check
@@ -41,3 +46,11 @@ vectors:
 # Every check that is not in the gate, with one line of result each.
 outside:
 	@tools/outside
+
+# A release of the proved program, behind the gate: out/dist/drdad-VERSION-x86_64.tar.gz and a package for Debian, each with a receipt.
+dist:
+	@tools/make_dist
+
+# The proved program, the client and its shell, manuals, units and documents below PREFIX, or below DESTDIR and PREFIX.
+install:
+	@tools/install_files $(PREFIX)

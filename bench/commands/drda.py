@@ -44,7 +44,7 @@ def sync(call, flags, xid):
 
 
 class Script:
-    """Commands one behind the other, and how many replies of each kind they must have."""
+    """Commands one after the other, and how many replies of each kind they must have."""
 
     def __init__(self):
         self.data, self.wanted = bytearray(), collections.Counter()

@@ -3,7 +3,7 @@ the rates and of the ratios inside of each round."""
 import collections, os, pathlib, statistics, subprocess, sys
 
 TOP = pathlib.Path(__file__).resolve().parents[2]
-sys.path.insert(0, os.fspath(TOP / "tests"))
+sys.path[:0] = [os.fspath(TOP / "tests"), os.fspath(TOP / "bench")]
 from served import PASSWORD, RDB, USER, Server, program_of
 
 WIDTHS = (1, 4, 16, 63)
@@ -70,6 +70,16 @@ class Rates:
             waiting = load.read().split()[0]
         told = ", ".join(f"{name} {rate:,.0f}" for name, rate in rates.items())
         print(f"{work} {width}, {self.unit}: {told} (load {waiting})", flush=True)
+
+    def median(self, work, width, name):
+        """The median over the rounds, where there is one."""
+        found = self.found[work, width].get(name)
+        return round(statistics.median(found)) if found else None
+
+    def median_ratio(self, work, width, name):
+        """That of the ratios inside of a round, of ours to another's."""
+        rates = self.found[work, width]
+        return round(statistics.median(map(ratio, rates[OURS], rates[name])), 2) if rates.get(name) else None
 
     def tell(self):
         """A line for each work and width."""

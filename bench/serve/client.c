@@ -2,7 +2,7 @@
 // write, and then reads until as many bytes have come as were told.
 // Arguments: the port, a file of exchanges, how many of them come before the clock starts, a file for the replies.
 // An exchange in the file: the lengths of what is sent and of its replies, 4 bytes each, and the bytes that are sent.
-// Prints the exchanges behind those and the microseconds that they took.
+// Prints the exchanges after those and the microseconds that they took.
 #include <arpa/inet.h>
 #include <netinet/tcp.h>
 #include <stdio.h>
