@@ -36,6 +36,7 @@ names:
 	@tools/draw_layers --check
 	@tools/check_refusals
 	@tests/planted_refusals
+	@tests/planted_pages
 	@tests/gate_conversations --check
 	@tests/core_stories --check
 

@@ -39,8 +39,8 @@ def edit_of(file):
 
 
 def touched(base, kinds):
-    """The crates that are changed since the commit, or stand on one that is; all of them where that can't be said. One of which
-    only an edit is changed counts where edits of that kind are asked for, and those above it do not."""
+    """The crates that are changed since the commit, or stand on one that is; all of them where that can't be said. A page of a
+    crate changes nothing of it. One of which only an edit is changed counts where edits of that kind are asked for, and those above it do not."""
     crates = crates_now()
     files = git("diff", "--no-renames", "--name-only", base, "HEAD") if git("merge-base", "--is-ancestor", base, "HEAD") is not None else None
     if files is None or logic_of(subprocess.run(["rt", "version"], capture_output=True, text=True).stdout) != logic_of(git("show", f"{base}:.ci/logic") or ""):
@@ -49,7 +49,7 @@ def touched(base, kinds):
     if any(file in WHOLE for file in files):
         return set(crates)
     before = libraries(git("show", f"{base}:crates.txt") or "")
-    found = {file.split("/")[1] for file in files if file.startswith("crates/") and not edit_of(file)}
+    found = {file.split("/")[1] for file in files if file.startswith("crates/") and not file.endswith(".md") and not edit_of(file)}
     found |= {name for name in crates if sorted(crates[name]) != sorted(before.get(name, ["none"]))}
     grown = True
     while grown:
