@@ -1,7 +1,7 @@
 # The entry points of the README.
 SHELL := bash
 .SHELLFLAGS := -eu -o pipefail -c
-.PHONY: run try build test gate edits names vectors outside
+.PHONY: run try build test gate edits names vectors outside java
 
 # A first look, within three minutes: the program, built without proof where no proved one is there, makes a store and serves it; one
 # conversation is shown, the server is killed and served again, and the rows are there.
@@ -41,3 +41,7 @@ vectors:
 # Every check that is not in the gate, with one line of result each.
 outside:
 	@tools/outside
+
+# The JDBC driver, clients/java/out/drdad-jdbc.jar, by javac and jar alone.
+java:
+	@clients/java/build

@@ -1,0 +1,80 @@
+package org.drdad.jdbc;
+
+import java.io.IOException;
+import java.io.OutputStream;
+import java.net.InetSocketAddress;
+import java.net.Socket;
+
+/** A socket to a server: a chain of commands goes out in one write, and its replies come in. Whatever goes wrong closes it. */
+final class Link implements AutoCloseable {
+    /** So many bytes of a chain are written at once; what has been answered is read in between. */
+    private static final int AT_ONCE = 32768;
+
+    private final Socket socket;
+    private final OutputStream out;
+    private final ReplyReader replies;
+    private volatile boolean isClosed;
+    private int timeout;
+
+    /** Connects within so many milliseconds; 0 is without a limit. */
+    Link(String host, int port, int connectTimeout) throws IOException {
+        socket = new Socket();
+        try {
+            socket.setTcpNoDelay(true);
+            socket.connect(new InetSocketAddress(host, port), connectTimeout);
+            out = socket.getOutputStream();
+            replies = new ReplyReader(socket.getInputStream());
+        } catch (IOException | RuntimeException fault) {
+            close();
+            throw fault;
+        }
+    }
+
+    boolean isClosed() {
+        return isClosed;
+    }
+
+    @Override
+    public void close() {
+        isClosed = true;
+        try {
+            socket.close();
+        } catch (IOException ignored) {
+            // Nothing is left to be lost.
+        }
+    }
+
+    /** Sends a chain and gives what answers each command. The server may be silent for so many milliseconds; 0 is for ever. */
+    Reply[] exchange(CommandWriter chain, int silence) throws IOException {
+        Reply[] answers = new Reply[chain.commands()];
+        for (int at = 0; at < answers.length; at++) {
+            answers[at] = new Reply();
+        }
+        try {
+            if (silence != timeout) {
+                socket.setSoTimeout(silence);
+                timeout = silence;
+            }
+            send(chain);
+            replies.readChain(answers);
+        } catch (IOException | RuntimeException | Error fault) {
+            close();
+            throw fault;
+        }
+        for (Reply answer : answers) {
+            if (answer.severity >= Reply.PERMANENT_DAMAGE) {
+                close();
+            }
+        }
+        return answers;
+    }
+
+    private void send(CommandWriter chain) throws IOException {
+        for (int from = 0; from < chain.length(); from += AT_ONCE) {
+            if (from > 0) {
+                replies.readAhead();
+            }
+            chain.writeTo(out, from, Math.min(AT_ONCE, chain.length() - from));
+        }
+    }
+}
