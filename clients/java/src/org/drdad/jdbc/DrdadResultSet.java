@@ -70,7 +70,8 @@ final class DrdadResultSet extends LabelledResultSet {
         return isClosed || statement != null && statement.isClosed();
     }
 
-    private void checkOpen() throws SQLException {
+    @Override
+    void checkOpen() throws SQLException {
         if (isClosed()) {
             throw Failures.misuse("the result set is closed");
         }
@@ -90,7 +91,8 @@ final class DrdadResultSet extends LabelledResultSet {
     }
 
     @Override
-    public boolean wasNull() {
+    public boolean wasNull() throws SQLException {
+        checkOpen();
         return wasNull;
     }
 
@@ -309,22 +311,26 @@ final class DrdadResultSet extends LabelledResultSet {
     // What it is.
 
     @Override
-    public int getType() {
+    public int getType() throws SQLException {
+        checkOpen();
         return ResultSet.TYPE_FORWARD_ONLY;
     }
 
     @Override
-    public int getConcurrency() {
+    public int getConcurrency() throws SQLException {
+        checkOpen();
         return ResultSet.CONCUR_READ_ONLY;
     }
 
     @Override
-    public int getHoldability() {
+    public int getHoldability() throws SQLException {
+        checkOpen();
         return ResultSet.HOLD_CURSORS_OVER_COMMIT;
     }
 
     @Override
-    public int getFetchDirection() {
+    public int getFetchDirection() throws SQLException {
+        checkOpen();
         return ResultSet.FETCH_FORWARD;
     }
 
@@ -337,7 +343,8 @@ final class DrdadResultSet extends LabelledResultSet {
     }
 
     @Override
-    public int getFetchSize() {
+    public int getFetchSize() throws SQLException {
+        checkOpen();
         return fetchSize;
     }
 

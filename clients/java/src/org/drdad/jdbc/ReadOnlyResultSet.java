@@ -18,6 +18,8 @@ import java.sql.Timestamp;
 
 /** The part of a result set that changes rows: all of it is refused. */
 abstract class ReadOnlyResultSet extends Wrapping implements ResultSet {
+    abstract void checkOpen() throws SQLException;
+
     private static SQLException readOnly() {
         return Failures.notSupported("the rows of a query can't be changed: UPDATE, INSERT and DELETE do that");
     }
@@ -111,7 +113,7 @@ abstract class ReadOnlyResultSet extends Wrapping implements ResultSet {
     @Override public void cancelRowUpdates() throws SQLException { throw readOnly(); }
     @Override public void moveToInsertRow() throws SQLException { throw readOnly(); }
     @Override public void moveToCurrentRow() throws SQLException { throw readOnly(); }
-    @Override public boolean rowUpdated() throws SQLException { return false; }
-    @Override public boolean rowInserted() throws SQLException { return false; }
-    @Override public boolean rowDeleted() throws SQLException { return false; }
+    @Override public boolean rowUpdated() throws SQLException { checkOpen(); return false; }
+    @Override public boolean rowInserted() throws SQLException { checkOpen(); return false; }
+    @Override public boolean rowDeleted() throws SQLException { checkOpen(); return false; }
 }
