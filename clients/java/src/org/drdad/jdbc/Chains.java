@@ -3,7 +3,6 @@ package org.drdad.jdbc;
 import java.sql.SQLException;
 import java.util.Arrays;
 import java.util.function.Consumer;
-import javax.transaction.xa.XAException;
 
 /**
  * The chains of a session. In front of what a call asks stands what waited for a chain: calls of XA, and the closing of cursors.
@@ -70,10 +69,10 @@ final class Chains {
     Reply[] exchange(int timeout) throws SQLException {
         int waited = calls.count() + cursors.closings();
         Reply[] replies;
-        XAException refusal;
+        boolean isRefused;
         try {
             replies = conversation.exchange(timeout == NO_TIMEOUT ? networkTimeout : timeout);
-            refusal = calls.takeAnswers(replies);
+            isRefused = calls.takeAnswers(replies);
         } catch (WireFault fault) {
             throw broken(fault);
         } catch (SQLException failure) {
@@ -86,9 +85,9 @@ final class Chains {
             whenBroken.accept(firstFailure(replies));
         }
         cursors.haveClosed();
-        if (refusal != null) {
+        if (isRefused) {
             endRefusedStart();
-            throw new SQLException("the branch could not be worked in: " + refusal.getMessage(), Failures.GLOBAL_UNIT, refusal);
+            throw calls.refusal();
         }
         return waited == 0 ? replies : Arrays.copyOfRange(replies, waited, replies.length);
     }

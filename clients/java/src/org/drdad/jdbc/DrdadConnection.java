@@ -3,7 +3,6 @@ package org.drdad.jdbc;
 import java.sql.Array;
 import java.sql.Blob;
 import java.sql.CallableStatement;
-import java.sql.ClientInfoStatus;
 import java.sql.Clob;
 import java.sql.Connection;
 import java.sql.DatabaseMetaData;
@@ -355,10 +354,7 @@ final class DrdadConnection extends Wrapping implements Connection {
     /** The server is told nothing of it. */
     @Override
     public void setClientInfo(String name, String value) throws SQLClientInfoException {
-        if (isClosed()) {
-            throw new SQLClientInfoException("the connection is closed", Failures.IS_CLOSED,
-                    Collections.singletonMap(name, ClientInfoStatus.REASON_UNKNOWN));
-        }
+        checkTakesInfo();
         if (value == null) {
             clientInfo.remove(name);
         } else {
@@ -366,8 +362,15 @@ final class DrdadConnection extends Wrapping implements Connection {
         }
     }
 
+    private void checkTakesInfo() throws SQLClientInfoException {
+        if (isClosed()) {
+            throw new SQLClientInfoException("the connection is closed", Failures.IS_CLOSED, Collections.emptyMap());
+        }
+    }
+
     @Override
     public void setClientInfo(Properties properties) throws SQLClientInfoException {
+        checkTakesInfo();
         clientInfo.clear();
         for (String name : properties.stringPropertyNames()) {
             setClientInfo(name, properties.getProperty(name));

@@ -3,6 +3,7 @@ package org.drdad.jdbc;
 import java.io.ByteArrayOutputStream;
 import java.io.IOException;
 import java.io.InputStream;
+import java.io.InputStreamReader;
 import java.io.Reader;
 import java.math.BigDecimal;
 import java.math.BigInteger;
@@ -11,6 +12,7 @@ import java.sql.ParameterMetaData;
 import java.sql.ResultSet;
 import java.sql.ResultSetMetaData;
 import java.sql.SQLException;
+import java.sql.SQLType;
 import java.util.ArrayList;
 import java.util.List;
 
@@ -234,6 +236,19 @@ final class DrdadPreparedStatement extends RefusedParameters {
         setObject(place, value, type);
     }
 
+    @Override
+    public void setObject(int place, Object value, SQLType type) throws SQLException {
+        if (type == null || type.getVendorTypeNumber() == null) {
+            throw Failures.misuse("no type was given");
+        }
+        setObject(place, value, type.getVendorTypeNumber());
+    }
+
+    @Override
+    public void setObject(int place, Object value, SQLType type, int scale) throws SQLException {
+        setObject(place, value, type);
+    }
+
     // Streams are read at once: a value has at most 2,000 bytes.
 
     private static SQLException unread(IOException fault) {
@@ -305,7 +320,7 @@ final class DrdadPreparedStatement extends RefusedParameters {
 
     @Override
     public void setAsciiStream(int place, InputStream stream, long length) throws SQLException {
-        setCharacterStream(place, stream == null ? null : new java.io.InputStreamReader(stream, StandardCharsets.US_ASCII), length);
+        setCharacterStream(place, stream == null ? null : new InputStreamReader(stream, StandardCharsets.US_ASCII), length);
     }
 
     @Override

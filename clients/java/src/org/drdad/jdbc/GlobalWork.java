@@ -28,6 +28,7 @@ final class GlobalWork {
 
     void start(ByteBuffer xid, int flags, boolean hasLocalWork) throws SQLException, XAException {
         chains.checkOpen();
+        settle();
         boolean begins = flags == XAResource.TMNOFLAGS && live.begins(xid, session);
         XaCall call = new XaCall(XaCall.START, flags, xid);
         calls.forgetRefused();
@@ -37,6 +38,17 @@ final class GlobalWork {
             startAtOnce(call, begins);
         }
         calls.setActive(xid);
+    }
+
+    /** What waits is done before another branch begins; what it is refused for is told where it is asked for again. */
+    private void settle() throws SQLException {
+        try {
+            flush();
+        } catch (SQLException failure) {
+            if (!(failure.getCause() instanceof XAException)) {
+                throw failure;
+            }
+        }
     }
 
     private void startAtOnce(XaCall call, boolean begins) throws SQLException, XAException {
@@ -98,8 +110,12 @@ final class GlobalWork {
         }
     }
 
+    /** A branch whose start was refused is known to somebody else alone: it is not touched. */
     private void checkOurs(ByteBuffer xid) throws XAException {
         if (calls.isRefused(xid)) {
+            if (calls.isActive(xid)) {
+                calls.setActive(null);
+            }
             throw XaCall.refusal(XAException.XAER_NOTA);
         }
     }

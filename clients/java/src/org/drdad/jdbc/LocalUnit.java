@@ -58,6 +58,7 @@ final class LocalUnit {
 
     /** Sends the chain of a statement; with autocommit the unit ends with it. Gives the replies without that of the commit. */
     Reply[] exchange(int timeout) throws SQLException {
+        branch.checkWorks();
         if (!isAutocommit()) {
             hasWork |= !branch.isActive();
             return chains.exchange(timeout);

@@ -2,7 +2,6 @@ package org.drdad.jdbc;
 
 /** A query whose rows come by blocks: the section of its cursor, and the block that came last. */
 final class OpenQuery {
-    private static final int BLOCK = 1 << 20, LEAST_BLOCK = 512, MOST_OF_BLOCK = 8 << 20, BESIDE_VALUES = 2;
     private static final Bytes NO_ROWS = new Bytes(new byte[0], 0, 0);
 
     final Section section;
@@ -17,7 +16,7 @@ final class OpenQuery {
     /** Whether the server has closed the cursor before its end. */
     boolean isLost;
 
-    /** The query that a reply has opened, whose further blocks have about so many rows; 0 lets the driver choose. */
+    /** The query that a reply has opened, whose further blocks have about so many rows; 0 leaves it to the driver. */
     OpenQuery(Section section, Reply opened, int fetchSize) throws WireFault {
         if (opened.instance == null || opened.rowForm == null) {
             throw new WireFault("a query was opened without its description");
@@ -29,17 +28,8 @@ final class OpenQuery {
         if (columns == null || columns.length != form.count()) {
             throw new WireFault("QRYDSC and SQLDARD have not as many columns");
         }
-        blockSize = fetchSize == 0 ? BLOCK : (int) Math.max(LEAST_BLOCK, Math.min(MOST_OF_BLOCK, (long) fetchSize * rowSize()));
+        blockSize = BlockSize.further(fetchSize, columns);
         takeBlock(opened);
-    }
-
-    /** No fewer bytes than a row takes. */
-    private int rowSize() {
-        int size = BESIDE_VALUES;
-        for (Column column : columns) {
-            size += column.bytesSent();
-        }
-        return size;
     }
 
     void takeBlock(Reply answer) {

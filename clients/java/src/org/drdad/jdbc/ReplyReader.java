@@ -75,8 +75,7 @@ final class ReplyReader {
 
     /** Joins the contents of a first segment of this size and of the continuations behind it. */
     private void joinSegments(int first) throws IOException {
-        need(OBJECT_HEADING);
-        byte[] joined = new byte[Math.max(first, expected())];
+        byte[] joined = new byte[Math.max(first, expected(first))];
         int size = 0, more = first;
         boolean isContinued = true;
         while (true) {
@@ -101,7 +100,11 @@ final class ReplyReader {
     }
 
     /** How many bytes the object that comes has, by its extended length; 0 where it has none. */
-    private int expected() {
+    private int expected(int first) throws IOException {
+        if (first < OBJECT_HEADING) {
+            return 0;
+        }
+        need(OBJECT_HEADING);
         int size = u2(start) == (CONTINUED | OBJECT_HEADING) ? (u2(start + 4) << 16 | u2(start + 6)) + OBJECT_HEADING : 0;
         return size > MOST_OF_DSS ? 0 : size;
     }

@@ -6,8 +6,6 @@ import java.util.Arrays;
 /** A section of the conversation: its name, and what the server has prepared in it. It has one cursor at most. */
 final class Section {
     private static final byte[] HELD = "WITH HOLD".getBytes(StandardCharsets.US_ASCII);
-    /** The size in bytes of the block that comes with the opening of a query. */
-    private static final int FIRST_BLOCK = 131072;
     private static final int NAME = 18, ABSENT = 0xFF, YES = 0xF1, NO = 0xF0, PARAMETERS = 1;
 
     private final byte[] name;
@@ -72,10 +70,10 @@ final class Section {
         writeRow(chain, row);
     }
 
-    /** OPNQRY with a row of parameters, or none. */
-    void writeOpen(CommandWriter chain, byte[] row) {
+    /** OPNQRY with a row of parameters, or none; the first block has about so many rows. */
+    void writeOpen(CommandWriter chain, int fetchSize, byte[] row) {
         int at = begin(chain, CodePoint.OPNQRY);
-        chain.object4(CodePoint.QRYBLKSZ, FIRST_BLOCK);
+        chain.object4(CodePoint.QRYBLKSZ, BlockSize.first(fetchSize, columns));
         chain.end(at);
         writeRow(chain, row);
     }

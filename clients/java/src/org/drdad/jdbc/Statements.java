@@ -100,7 +100,7 @@ final class Statements {
         Section section = sections.take(text);
         OpenQuery query = null;
         try {
-            Reply reply = through(section, text, true, timeout, chain -> section.writeOpen(chain, row))[0];
+            Reply reply = through(section, text, true, timeout, chain -> section.writeOpen(chain, fetchSize, row))[0];
             unit.judge(reply);
             query = new OpenQuery(section, reply, fetchSize);
             cursors.take(query);

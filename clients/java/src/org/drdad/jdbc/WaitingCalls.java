@@ -1,6 +1,7 @@
 package org.drdad.jdbc;
 
 import java.nio.ByteBuffer;
+import java.sql.SQLException;
 import java.util.ArrayList;
 import java.util.List;
 import javax.transaction.xa.XAException;
@@ -12,8 +13,9 @@ import javax.transaction.xa.XAException;
 final class WaitingCalls {
     private final List<XaCall> waiting = new ArrayList<>();
     private ByteBuffer active;
-    /** A branch whose start had waited and was then refused: it is none of ours. */
+    /** A branch whose start had waited and was then refused, and why: it is none of ours, and nothing is done in it. */
     private ByteBuffer refused;
+    private XAException refusal;
 
     int count() {
         return waiting.size();
@@ -29,28 +31,32 @@ final class WaitingCalls {
         }
     }
 
-    /** Takes the answers to the calls, which stand in front, and gives the first refusal, or null. */
-    XAException takeAnswers(Reply[] replies) throws WireFault {
-        XAException refusal = null;
+    /** Takes the answers to the calls, which stand in front, and tells whether one was refused. */
+    boolean takeAnswers(Reply[] replies) throws WireFault {
+        boolean isRefused = false;
         for (int at = 0; at < waiting.size(); at++) {
             if (!replies[at].hasXaCode) {
                 throw new WireFault("SYNCCRD is missing");
             }
-            if (!XaCall.isDone(replies[at].xaCode) && refusal == null) {
+            if (!XaCall.isDone(replies[at].xaCode) && !isRefused) {
+                isRefused = true;
+                refused = waiting.get(at).xid();
                 refusal = XaCall.refusal(replies[at].xaCode);
-                isRefused(waiting.get(at));
             }
         }
         waiting.clear();
-        return refusal;
+        return isRefused;
     }
 
-    private void isRefused(XaCall call) {
-        if (call.call() == XaCall.START) {
-            refused = call.xid();
-        }
-        if (call.xid().equals(active)) {
-            active = null;
+    /** What a statement is told in place of being run. */
+    SQLException refusal() {
+        return new SQLException("the branch could not be worked in: " + refusal.getMessage(), Failures.GLOBAL_UNIT, refusal);
+    }
+
+    /** Refuses work in a branch whose start was refused: it would be done outside of any. */
+    void checkWorks() throws SQLException {
+        if (active != null && active.equals(refused)) {
+            throw refusal();
         }
     }
 
