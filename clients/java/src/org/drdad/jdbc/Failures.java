@@ -23,7 +23,7 @@ final class Failures {
     /** SQLSTATEs. A pool takes 0A000 as the end of a connection, and would lose the unit that is open on it. */
     static final String NOT_SUPPORTED = "0A504", ROLLED_BACK = "40001", NO_CONNECTION = "08001", IS_CLOSED = "08003";
     static final String REFUSED = "08004", BROKEN = "08006", NO_ROOM = "57011", GLOBAL_UNIT = "2D521", MISUSE = "HY010";
-    static final String RANGE = "22003", CONVERSION = "22018", TOO_LONG = "22001", WRONG_PARAMETER = "07002";
+    static final String RANGE = "22003", CONVERSION = "22018", TOO_LONG = "22001", NO_UNICODE = "22021", WRONG_PARAMETER = "07002";
     static final String AUTHORIZATION = "28000", UNEXPECTED = "58009";
 
     private Failures() {

@@ -1,6 +1,5 @@
 package org.drdad.jdbc;
 
-import java.nio.charset.StandardCharsets;
 import java.sql.SQLException;
 import java.util.Arrays;
 
@@ -43,7 +42,7 @@ final class ParameterList {
     }
 
     void setText(int place, String value) throws SQLException {
-        set(place, TEXT, value == null ? null : value.getBytes(StandardCharsets.UTF_8));
+        set(place, TEXT, value == null ? null : Utf8.bytes(value));
     }
 
     void setBytes(int place, byte[] value) throws SQLException {

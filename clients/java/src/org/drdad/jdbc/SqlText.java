@@ -1,6 +1,5 @@
 package org.drdad.jdbc;
 
-import java.nio.charset.StandardCharsets;
 import java.sql.SQLException;
 import java.util.ArrayDeque;
 import java.util.Locale;
@@ -20,7 +19,7 @@ final class SqlText {
 
     private SqlText(Scan scan) throws SQLException {
         text = scan.text.toString();
-        bytes = text.getBytes(StandardCharsets.UTF_8);
+        bytes = Utf8.bytes(text);
         firstWord = scan.firstWord;
         markers = scan.markers;
         table = scan.table;

@@ -1,6 +1,9 @@
 package org.drdad.jdbc;
 
-/** All cases over a server, with one line at the end. */
+import java.util.Arrays;
+import java.util.List;
+
+/** All cases over a server, or those of the kinds that are named behind the program, with one line at the end. */
 final class AllRules {
     private static final int STORE = 64 << 20, SMALL_STORE = 2 << 20;
 
@@ -18,8 +21,11 @@ final class AllRules {
                 new MetaDataRules(server), new InterfaceRules(server), new SourceRules(server), new XaRules(server),
                 new BadServerRules(), new LostServerRules(program),
             };
+            List<String> asked = Arrays.asList(words).subList(1, words.length);
             for (Rules kind : kinds) {
-                kind.all();
+                if (asked.isEmpty() || asked.contains(kind.getClass().getSimpleName())) {
+                    kind.all();
+                }
             }
         }
         System.out.println(Rules.passed() + " passed, " + Rules.failed() + " failed");

@@ -118,6 +118,9 @@ final class ParameterRules extends Rules {
         none(connection, "2,001 bytes of UTF-8", SQLDataException.class, it -> it.setString(1, "ä".repeat(1000) + "x"));
         none(connection, "2,001 bytes of a stream", SQLDataException.class,
                 it -> it.setBinaryStream(1, new ByteArrayInputStream(new byte[5000])));
+        for (String half : new String[] {"a\uD83Db", "\uD83D", "\uDE00", "\uDE00\uD83D"}) {
+            none(connection, "half of a pair", SQLDataException.class, it -> it.setString(1, half));
+        }
         none(connection, "the marker 0", SQLDataException.class, it -> it.setInt(0, 1));
         none(connection, "the marker 2", SQLDataException.class, it -> it.setInt(2, 1));
     }

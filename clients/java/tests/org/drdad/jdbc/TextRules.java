@@ -1,5 +1,6 @@
 package org.drdad.jdbc;
 
+import java.sql.SQLDataException;
 import java.sql.SQLSyntaxErrorException;
 
 /** What is made of the text of a statement. */
@@ -45,6 +46,7 @@ final class TextRules extends Rules {
             refused(SQLSyntaxErrorException.class, "54001", () -> SqlText.of("S" + " ".repeat(32767)));
             refused(SQLSyntaxErrorException.class, "54001", () -> SqlText.of("ä".repeat(16384)));
         });
+        rule("half of a pair is no Unicode", () -> refused(SQLDataException.class, "22021", () -> SqlText.of("SELECT '\uD83D'")));
         rule("no text is none", () -> refused(SQLSyntaxErrorException.class, "42601", () -> SqlText.of(null)));
     }
 }
