@@ -36,14 +36,8 @@ final class DrdadConnection extends Wrapping implements Connection {
     private boolean isReadOnly;
     private final Properties clientInfo = new Properties();
 
-    DrdadConnection(Session session, Owner owner) {
-        this.session = session;
-        this.owner = owner;
-    }
-
-    Session session() {
-        return session;
-    }
+    DrdadConnection(Session session, Owner owner) { this.session = session; this.owner = owner; }
+    Session session() { return session; }
 
     void checkOpen() throws SQLException {
         if (isClosed()) {
@@ -62,14 +56,8 @@ final class DrdadConnection extends Wrapping implements Connection {
     }
 
     /** The session is taken away: it is given to another user. */
-    void takeAway() {
-        isClosed = true;
-    }
-
-    @Override
-    public boolean isClosed() {
-        return isClosed || session.isClosed();
-    }
+    void takeAway() { isClosed = true; }
+    @Override public boolean isClosed() { return isClosed || session.isClosed(); }
 
     @Override
     public boolean isValid(int seconds) throws SQLException {
@@ -88,11 +76,7 @@ final class DrdadConnection extends Wrapping implements Connection {
 
     // Statements.
 
-    @Override
-    public Statement createStatement() throws SQLException {
-        checkOpen();
-        return new DrdadStatement(this);
-    }
+    @Override public Statement createStatement() throws SQLException { checkOpen(); return new DrdadStatement(this); }
 
     @Override
     public Statement createStatement(int type, int concurrency) throws SQLException {
@@ -124,20 +108,13 @@ final class DrdadConnection extends Wrapping implements Connection {
         return prepareStatement(sql);
     }
 
-    @Override
-    public PreparedStatement prepareStatement(String sql, int keys) throws SQLException {
-        return prepareStatement(sql);
-    }
+    @Override public PreparedStatement prepareStatement(String sql, int keys) throws SQLException { return prepareStatement(sql); }
 
     @Override
-    public PreparedStatement prepareStatement(String sql, int[] columns) throws SQLException {
-        return prepareStatement(sql);
-    }
+    public PreparedStatement prepareStatement(String sql, int[] columns) throws SQLException { return prepareStatement(sql); }
 
     @Override
-    public PreparedStatement prepareStatement(String sql, String[] columns) throws SQLException {
-        return prepareStatement(sql);
-    }
+    public PreparedStatement prepareStatement(String sql, String[] columns) throws SQLException { return prepareStatement(sql); }
 
     private static void checkRows(int type, int concurrency, int holdability) throws SQLException {
         if (type != ResultSet.TYPE_FORWARD_ONLY || concurrency != ResultSet.CONCUR_READ_ONLY) {
@@ -152,56 +129,25 @@ final class DrdadConnection extends Wrapping implements Connection {
         }
     }
 
-    private static SQLException noProcedures() {
-        return Failures.notSupported("the server has no procedures");
-    }
+    private static SQLException noProcedures() { return Failures.notSupported("the server has no procedures"); }
+    @Override public CallableStatement prepareCall(String sql) throws SQLException { throw noProcedures(); }
 
     @Override
-    public CallableStatement prepareCall(String sql) throws SQLException {
-        throw noProcedures();
-    }
-
-    @Override
-    public CallableStatement prepareCall(String sql, int type, int concurrency) throws SQLException {
-        throw noProcedures();
-    }
+    public CallableStatement prepareCall(String sql, int type, int concurrency) throws SQLException { throw noProcedures(); }
 
     @Override
     public CallableStatement prepareCall(String sql, int type, int concurrency, int holdability) throws SQLException {
         throw noProcedures();
     }
 
-    @Override
-    public String nativeSQL(String sql) throws SQLException {
-        checkOpen();
-        return SqlText.of(sql).text();
-    }
+    @Override public String nativeSQL(String sql) throws SQLException { checkOpen(); return SqlText.of(sql).text(); }
 
     // Units of work.
 
-    @Override
-    public void setAutoCommit(boolean wanted) throws SQLException {
-        checkOpen();
-        session.setAutocommit(wanted);
-    }
-
-    @Override
-    public boolean getAutoCommit() throws SQLException {
-        checkOpen();
-        return session.isAutocommit();
-    }
-
-    @Override
-    public void commit() throws SQLException {
-        checkEnds("commit()");
-        session.commit();
-    }
-
-    @Override
-    public void rollback() throws SQLException {
-        checkEnds("rollback()");
-        session.rollback();
-    }
+    @Override public void setAutoCommit(boolean wanted) throws SQLException { checkOpen(); session.setAutocommit(wanted); }
+    @Override public boolean getAutoCommit() throws SQLException { checkOpen(); return session.isAutocommit(); }
+    @Override public void commit() throws SQLException { checkEnds("commit()"); session.commit(); }
+    @Override public void rollback() throws SQLException { checkEnds("rollback()"); session.rollback(); }
 
     private void checkEnds(String what) throws SQLException {
         checkOpen();
@@ -223,35 +169,12 @@ final class DrdadConnection extends Wrapping implements Connection {
         }
     }
 
-    @Override
-    public int getTransactionIsolation() throws SQLException {
-        checkOpen();
-        return TRANSACTION_SERIALIZABLE;
-    }
-
-    private static SQLException noSavepoints() {
-        return Failures.notSupported("the server has no savepoints");
-    }
-
-    @Override
-    public Savepoint setSavepoint() throws SQLException {
-        throw noSavepoints();
-    }
-
-    @Override
-    public Savepoint setSavepoint(String name) throws SQLException {
-        throw noSavepoints();
-    }
-
-    @Override
-    public void rollback(Savepoint savepoint) throws SQLException {
-        throw noSavepoints();
-    }
-
-    @Override
-    public void releaseSavepoint(Savepoint savepoint) throws SQLException {
-        throw noSavepoints();
-    }
+    @Override public int getTransactionIsolation() throws SQLException { checkOpen(); return TRANSACTION_SERIALIZABLE; }
+    private static SQLException noSavepoints() { return Failures.notSupported("the server has no savepoints"); }
+    @Override public Savepoint setSavepoint() throws SQLException { throw noSavepoints(); }
+    @Override public Savepoint setSavepoint(String name) throws SQLException { throw noSavepoints(); }
+    @Override public void rollback(Savepoint savepoint) throws SQLException { throw noSavepoints(); }
+    @Override public void releaseSavepoint(Savepoint savepoint) throws SQLException { throw noSavepoints(); }
 
     // Settings.
 
@@ -265,47 +188,17 @@ final class DrdadConnection extends Wrapping implements Connection {
         isReadOnly = wanted;
     }
 
-    @Override
-    public boolean isReadOnly() throws SQLException {
-        checkOpen();
-        return isReadOnly;
-    }
+    @Override public boolean isReadOnly() throws SQLException { checkOpen(); return isReadOnly; }
 
     /** A connection has one database; another name is passed over, as JDBC has it. */
-    @Override
-    public void setCatalog(String catalog) throws SQLException {
-        checkOpen();
-    }
-
-    @Override
-    public String getCatalog() throws SQLException {
-        checkOpen();
-        return session.settings().database;
-    }
+    @Override public void setCatalog(String catalog) throws SQLException { checkOpen(); }
+    @Override public String getCatalog() throws SQLException { checkOpen(); return session.settings().database; }
 
     /** There are no schemas; a name is passed over. */
-    @Override
-    public void setSchema(String schema) throws SQLException {
-        checkOpen();
-    }
-
-    @Override
-    public String getSchema() throws SQLException {
-        checkOpen();
-        return null;
-    }
-
-    @Override
-    public void setHoldability(int holdability) throws SQLException {
-        checkOpen();
-        checkHoldability(holdability);
-    }
-
-    @Override
-    public int getHoldability() throws SQLException {
-        checkOpen();
-        return ResultSet.HOLD_CURSORS_OVER_COMMIT;
-    }
+    @Override public void setSchema(String schema) throws SQLException { checkOpen(); }
+    @Override public String getSchema() throws SQLException { checkOpen(); return null; }
+    @Override public void setHoldability(int holdability) throws SQLException { checkOpen(); checkHoldability(holdability); }
+    @Override public int getHoldability() throws SQLException { checkOpen(); return ResultSet.HOLD_CURSORS_OVER_COMMIT; }
 
     @Override
     public void setNetworkTimeout(Executor executor, int milliseconds) throws SQLException {
@@ -314,28 +207,10 @@ final class DrdadConnection extends Wrapping implements Connection {
         session.setNetworkTimeout(milliseconds);
     }
 
-    @Override
-    public int getNetworkTimeout() throws SQLException {
-        checkOpen();
-        return session.networkTimeout();
-    }
-
-    @Override
-    public SQLWarning getWarnings() throws SQLException {
-        checkOpen();
-        return null;
-    }
-
-    @Override
-    public void clearWarnings() throws SQLException {
-        checkOpen();
-    }
-
-    @Override
-    public Map<String, Class<?>> getTypeMap() throws SQLException {
-        checkOpen();
-        return Collections.emptyMap();
-    }
+    @Override public int getNetworkTimeout() throws SQLException { checkOpen(); return session.networkTimeout(); }
+    @Override public SQLWarning getWarnings() throws SQLException { checkOpen(); return null; }
+    @Override public void clearWarnings() throws SQLException { checkOpen(); }
+    @Override public Map<String, Class<?>> getTypeMap() throws SQLException { checkOpen(); return Collections.emptyMap(); }
 
     @Override
     public void setTypeMap(Map<String, Class<?>> types) throws SQLException {
@@ -345,11 +220,7 @@ final class DrdadConnection extends Wrapping implements Connection {
         }
     }
 
-    @Override
-    public DatabaseMetaData getMetaData() throws SQLException {
-        checkOpen();
-        return new DrdadMetaData(this);
-    }
+    @Override public DatabaseMetaData getMetaData() throws SQLException { checkOpen(); return new DrdadMetaData(this); }
 
     /** The server is told nothing of it. */
     @Override
@@ -377,17 +248,8 @@ final class DrdadConnection extends Wrapping implements Connection {
         }
     }
 
-    @Override
-    public String getClientInfo(String name) throws SQLException {
-        checkOpen();
-        return clientInfo.getProperty(name);
-    }
-
-    @Override
-    public Properties getClientInfo() throws SQLException {
-        checkOpen();
-        return (Properties) clientInfo.clone();
-    }
+    @Override public String getClientInfo(String name) throws SQLException { checkOpen(); return clientInfo.getProperty(name); }
+    @Override public Properties getClientInfo() throws SQLException { checkOpen(); return (Properties) clientInfo.clone(); }
 
     // What there is none of.
 
@@ -395,33 +257,10 @@ final class DrdadConnection extends Wrapping implements Connection {
         return Failures.notSupported("no column has a " + type + ": columns are numbers, texts and bytes");
     }
 
-    @Override
-    public Clob createClob() throws SQLException {
-        throw noValues("CLOB");
-    }
-
-    @Override
-    public Blob createBlob() throws SQLException {
-        throw noValues("BLOB");
-    }
-
-    @Override
-    public NClob createNClob() throws SQLException {
-        throw noValues("NCLOB");
-    }
-
-    @Override
-    public SQLXML createSQLXML() throws SQLException {
-        throw noValues("XML");
-    }
-
-    @Override
-    public Array createArrayOf(String type, Object[] values) throws SQLException {
-        throw noValues("array");
-    }
-
-    @Override
-    public Struct createStruct(String type, Object[] values) throws SQLException {
-        throw noValues("structure");
-    }
+    @Override public Clob createClob() throws SQLException { throw noValues("CLOB"); }
+    @Override public Blob createBlob() throws SQLException { throw noValues("BLOB"); }
+    @Override public NClob createNClob() throws SQLException { throw noValues("NCLOB"); }
+    @Override public SQLXML createSQLXML() throws SQLException { throw noValues("XML"); }
+    @Override public Array createArrayOf(String type, Object[] values) throws SQLException { throw noValues("array"); }
+    @Override public Struct createStruct(String type, Object[] values) throws SQLException { throw noValues("structure"); }
 }

@@ -11,9 +11,7 @@ public final class DrdadConnectionPoolDataSource extends CommonSource implements
     }
 
     @Override
-    public PooledConnection getPooledConnection() throws SQLException {
-        return new LentConnection(new Session(settings()));
-    }
+    public PooledConnection getPooledConnection() throws SQLException { return new LentConnection(new Session(settings())); }
 
     @Override
     public PooledConnection getPooledConnection(String user, String password) throws SQLException {

@@ -10,20 +10,14 @@ public final class DrdadDataSource extends CommonSource implements DataSource {
     public DrdadDataSource() {
     }
 
-    @Override
-    public Connection getConnection() throws SQLException {
-        return DrdadDriver.connection(settings());
-    }
+    @Override public Connection getConnection() throws SQLException { return DrdadDriver.connection(settings()); }
 
     @Override
     public Connection getConnection(String user, String password) throws SQLException {
         return DrdadDriver.connection(settings(user, password));
     }
 
-    @Override
-    public boolean isWrapperFor(Class<?> wanted) {
-        return wanted.isInstance(this);
-    }
+    @Override public boolean isWrapperFor(Class<?> wanted) { return wanted.isInstance(this); }
 
     @Override
     public <T> T unwrap(Class<T> wanted) throws SQLException {

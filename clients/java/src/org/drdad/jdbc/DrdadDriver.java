@@ -73,21 +73,11 @@ public final class DrdadDriver implements Driver {
         return property;
     }
 
-    @Override
-    public int getMajorVersion() {
-        return MAJOR;
-    }
-
-    @Override
-    public int getMinorVersion() {
-        return MINOR;
-    }
+    @Override public int getMajorVersion() { return MAJOR; }
+    @Override public int getMinorVersion() { return MINOR; }
 
     /** The server takes a small part of SQL-92's entry level. */
-    @Override
-    public boolean jdbcCompliant() {
-        return false;
-    }
+    @Override public boolean jdbcCompliant() { return false; }
 
     @Override
     public Logger getParentLogger() throws SQLFeatureNotSupportedException {

@@ -45,10 +45,7 @@ final class DrdadPreparedStatement extends RefusedParameters {
         return true;
     }
 
-    private byte[] encoded() throws SQLException {
-        checkOpen();
-        return parameters.encoded();
-    }
+    private byte[] encoded() throws SQLException { checkOpen(); return parameters.encoded(); }
 
     @Override
     public ResultSet executeQuery() throws SQLException {
@@ -66,21 +63,9 @@ final class DrdadPreparedStatement extends RefusedParameters {
         return getLargeUpdateCount();
     }
 
-    @Override
-    public int executeUpdate() throws SQLException {
-        return (int) executeLargeUpdate();
-    }
-
-    @Override
-    public void addBatch() throws SQLException {
-        batch.add(encoded());
-    }
-
-    @Override
-    public void clearBatch() throws SQLException {
-        checkOpen();
-        batch.clear();
-    }
+    @Override public int executeUpdate() throws SQLException { return (int) executeLargeUpdate(); }
+    @Override public void addBatch() throws SQLException { batch.add(encoded()); }
+    @Override public void clearBatch() throws SQLException { checkOpen(); batch.clear(); }
 
     @Override
     public long[] executeLargeBatch() throws SQLException {
@@ -91,29 +76,11 @@ final class DrdadPreparedStatement extends RefusedParameters {
         return session.runAll(text, rows, timeout()).counts();
     }
 
-    private static SQLException hasText() {
-        return Failures.misuse("a prepared statement has its text already");
-    }
-
-    @Override
-    public boolean execute(String sql) throws SQLException {
-        throw hasText();
-    }
-
-    @Override
-    public ResultSet executeQuery(String sql) throws SQLException {
-        throw hasText();
-    }
-
-    @Override
-    public long executeLargeUpdate(String sql) throws SQLException {
-        throw hasText();
-    }
-
-    @Override
-    public void addBatch(String sql) throws SQLException {
-        throw hasText();
-    }
+    private static SQLException hasText() { return Failures.misuse("a prepared statement has its text already"); }
+    @Override public boolean execute(String sql) throws SQLException { throw hasText(); }
+    @Override public ResultSet executeQuery(String sql) throws SQLException { throw hasText(); }
+    @Override public long executeLargeUpdate(String sql) throws SQLException { throw hasText(); }
+    @Override public void addBatch(String sql) throws SQLException { throw hasText(); }
 
     // What it is.
 
@@ -131,49 +98,16 @@ final class DrdadPreparedStatement extends RefusedParameters {
 
     // Parameters.
 
-    @Override
-    public void clearParameters() throws SQLException {
-        checkOpen();
-        parameters.clear();
-    }
-
-    @Override
-    public void setNull(int place, int type) throws SQLException {
-        checkOpen();
-        parameters.setNull(place);
-    }
-
-    @Override
-    public void setNull(int place, int type, String typeName) throws SQLException {
-        setNull(place, type);
-    }
-
-    @Override
-    public void setLong(int place, long value) throws SQLException {
-        checkOpen();
-        parameters.setNumber(place, value);
-    }
-
-    @Override
-    public void setInt(int place, int value) throws SQLException {
-        setLong(place, value);
-    }
-
-    @Override
-    public void setShort(int place, short value) throws SQLException {
-        setLong(place, value);
-    }
-
-    @Override
-    public void setByte(int place, byte value) throws SQLException {
-        setLong(place, value);
-    }
+    @Override public void clearParameters() throws SQLException { checkOpen(); parameters.clear(); }
+    @Override public void setNull(int place, int type) throws SQLException { checkOpen(); parameters.setNull(place); }
+    @Override public void setNull(int place, int type, String typeName) throws SQLException { setNull(place, type); }
+    @Override public void setLong(int place, long value) throws SQLException { checkOpen(); parameters.setNumber(place, value); }
+    @Override public void setInt(int place, int value) throws SQLException { setLong(place, value); }
+    @Override public void setShort(int place, short value) throws SQLException { setLong(place, value); }
+    @Override public void setByte(int place, byte value) throws SQLException { setLong(place, value); }
 
     /** A truth value is the number 1 or 0. */
-    @Override
-    public void setBoolean(int place, boolean value) throws SQLException {
-        setLong(place, value ? 1 : 0);
-    }
+    @Override public void setBoolean(int place, boolean value) throws SQLException { setLong(place, value ? 1 : 0); }
 
     @Override
     public void setBigDecimal(int place, BigDecimal value) throws SQLException {
@@ -188,22 +122,9 @@ final class DrdadPreparedStatement extends RefusedParameters {
         }
     }
 
-    @Override
-    public void setString(int place, String value) throws SQLException {
-        checkOpen();
-        parameters.setText(place, value);
-    }
-
-    @Override
-    public void setNString(int place, String value) throws SQLException {
-        setString(place, value);
-    }
-
-    @Override
-    public void setBytes(int place, byte[] value) throws SQLException {
-        checkOpen();
-        parameters.setBytes(place, value);
-    }
+    @Override public void setString(int place, String value) throws SQLException { checkOpen(); parameters.setText(place, value); }
+    @Override public void setNString(int place, String value) throws SQLException { setString(place, value); }
+    @Override public void setBytes(int place, byte[] value) throws SQLException { checkOpen(); parameters.setBytes(place, value); }
 
     @Override
     public void setObject(int place, Object value) throws SQLException {
@@ -232,9 +153,7 @@ final class DrdadPreparedStatement extends RefusedParameters {
     }
 
     @Override
-    public void setObject(int place, Object value, int type, int scale) throws SQLException {
-        setObject(place, value, type);
-    }
+    public void setObject(int place, Object value, int type, int scale) throws SQLException { setObject(place, value, type); }
 
     @Override
     public void setObject(int place, Object value, SQLType type) throws SQLException {
@@ -245,9 +164,7 @@ final class DrdadPreparedStatement extends RefusedParameters {
     }
 
     @Override
-    public void setObject(int place, Object value, SQLType type, int scale) throws SQLException {
-        setObject(place, value, type);
-    }
+    public void setObject(int place, Object value, SQLType type, int scale) throws SQLException { setObject(place, value, type); }
 
     // Streams are read at once: a value has at most 2,000 bytes.
 
@@ -313,10 +230,7 @@ final class DrdadPreparedStatement extends RefusedParameters {
         setCharacterStream(place, reader, length);
     }
 
-    @Override
-    public void setNCharacterStream(int place, Reader reader) throws SQLException {
-        setCharacterStream(place, reader);
-    }
+    @Override public void setNCharacterStream(int place, Reader reader) throws SQLException { setCharacterStream(place, reader); }
 
     @Override
     public void setAsciiStream(int place, InputStream stream, long length) throws SQLException {
@@ -329,9 +243,7 @@ final class DrdadPreparedStatement extends RefusedParameters {
     }
 
     @Override
-    public void setAsciiStream(int place, InputStream stream) throws SQLException {
-        setAsciiStream(place, stream, Long.MAX_VALUE);
-    }
+    public void setAsciiStream(int place, InputStream stream) throws SQLException { setAsciiStream(place, stream, Long.MAX_VALUE); }
 
     @Override
     @Deprecated
@@ -342,32 +254,14 @@ final class DrdadPreparedStatement extends RefusedParameters {
     // Large objects that are given as streams are no other than these.
 
     @Override
-    public void setClob(int place, Reader reader, long length) throws SQLException {
-        setCharacterStream(place, reader, length);
-    }
+    public void setClob(int place, Reader reader, long length) throws SQLException { setCharacterStream(place, reader, length); }
+    @Override public void setClob(int place, Reader reader) throws SQLException { setCharacterStream(place, reader); }
 
     @Override
-    public void setClob(int place, Reader reader) throws SQLException {
-        setCharacterStream(place, reader);
-    }
+    public void setNClob(int place, Reader reader, long length) throws SQLException { setCharacterStream(place, reader, length); }
+    @Override public void setNClob(int place, Reader reader) throws SQLException { setCharacterStream(place, reader); }
 
     @Override
-    public void setNClob(int place, Reader reader, long length) throws SQLException {
-        setCharacterStream(place, reader, length);
-    }
-
-    @Override
-    public void setNClob(int place, Reader reader) throws SQLException {
-        setCharacterStream(place, reader);
-    }
-
-    @Override
-    public void setBlob(int place, InputStream stream, long length) throws SQLException {
-        setBinaryStream(place, stream, length);
-    }
-
-    @Override
-    public void setBlob(int place, InputStream stream) throws SQLException {
-        setBinaryStream(place, stream);
-    }
+    public void setBlob(int place, InputStream stream, long length) throws SQLException { setBinaryStream(place, stream, length); }
+    @Override public void setBlob(int place, InputStream stream) throws SQLException { setBinaryStream(place, stream); }
 }

@@ -65,10 +65,7 @@ final class DrdadResultSet extends LabelledResultSet {
         }
     }
 
-    @Override
-    public boolean isClosed() {
-        return isClosed || statement != null && statement.isClosed();
-    }
+    @Override public boolean isClosed() { return isClosed || statement != null && statement.isClosed(); }
 
     @Override
     void checkOpen() throws SQLException {
@@ -90,11 +87,7 @@ final class DrdadResultSet extends LabelledResultSet {
         return column - 1;
     }
 
-    @Override
-    public boolean wasNull() throws SQLException {
-        checkOpen();
-        return wasNull;
-    }
+    @Override public boolean wasNull() throws SQLException { checkOpen(); return wasNull; }
 
     @Override
     public int findColumn(String label) throws SQLException {
@@ -121,25 +114,14 @@ final class DrdadResultSet extends LabelledResultSet {
         return !wasNull && Values.truth(rows, at, columns[at]);
     }
 
-    @Override
-    public byte getByte(int column) throws SQLException {
-        return (byte) number(column, Byte.MIN_VALUE, Byte.MAX_VALUE);
-    }
+    @Override public byte getByte(int column) throws SQLException { return (byte) number(column, Byte.MIN_VALUE, Byte.MAX_VALUE); }
 
     @Override
-    public short getShort(int column) throws SQLException {
-        return (short) number(column, Short.MIN_VALUE, Short.MAX_VALUE);
-    }
+    public short getShort(int column) throws SQLException { return (short) number(column, Short.MIN_VALUE, Short.MAX_VALUE); }
 
     @Override
-    public int getInt(int column) throws SQLException {
-        return (int) number(column, Integer.MIN_VALUE, Integer.MAX_VALUE);
-    }
-
-    @Override
-    public long getLong(int column) throws SQLException {
-        return number(column, Long.MIN_VALUE, Long.MAX_VALUE);
-    }
+    public int getInt(int column) throws SQLException { return (int) number(column, Integer.MIN_VALUE, Integer.MAX_VALUE); }
+    @Override public long getLong(int column) throws SQLException { return number(column, Long.MIN_VALUE, Long.MAX_VALUE); }
 
     private long number(int column, long least, long greatest) throws SQLException {
         int at = at(column);
@@ -153,10 +135,7 @@ final class DrdadResultSet extends LabelledResultSet {
         return number;
     }
 
-    @Override
-    public float getFloat(int column) throws SQLException {
-        return (float) getDouble(column);
-    }
+    @Override public float getFloat(int column) throws SQLException { return (float) getDouble(column); }
 
     @Override
     public double getDouble(int column) throws SQLException {
@@ -189,10 +168,7 @@ final class DrdadResultSet extends LabelledResultSet {
         return wasNull ? null : getObject(column, columns[at].javaClass());
     }
 
-    @Override
-    public Object getObject(int column, Map<String, Class<?>> types) throws SQLException {
-        return getObject(column);
-    }
+    @Override public Object getObject(int column, Map<String, Class<?>> types) throws SQLException { return getObject(column); }
 
     @Override
     public <T> T getObject(int column, Class<T> wanted) throws SQLException {
@@ -227,112 +203,36 @@ final class DrdadResultSet extends LabelledResultSet {
         throw Failures.notSupported("getUnicodeStream() is deprecated: getCharacterStream() gives the text");
     }
 
-    @Override
-    public String getNString(int column) throws SQLException {
-        return getString(column);
-    }
-
-    @Override
-    public Reader getNCharacterStream(int column) throws SQLException {
-        return getCharacterStream(column);
-    }
+    @Override public String getNString(int column) throws SQLException { return getString(column); }
+    @Override public Reader getNCharacterStream(int column) throws SQLException { return getCharacterStream(column); }
 
     // Where it stands.
 
-    @Override
-    public boolean isBeforeFirst() throws SQLException {
-        checkOpen();
-        return row == 0 && !isBehind;
-    }
-
-    @Override
-    public boolean isAfterLast() throws SQLException {
-        checkOpen();
-        return isBehind && row > 0;
-    }
-
-    @Override
-    public boolean isFirst() throws SQLException {
-        checkOpen();
-        return isOnRow && row == 1;
-    }
-
-    @Override
-    public int getRow() throws SQLException {
-        checkOpen();
-        return isOnRow ? (int) row : 0;
-    }
+    @Override public boolean isBeforeFirst() throws SQLException { checkOpen(); return row == 0 && !isBehind; }
+    @Override public boolean isAfterLast() throws SQLException { checkOpen(); return isBehind && row > 0; }
+    @Override public boolean isFirst() throws SQLException { checkOpen(); return isOnRow && row == 1; }
+    @Override public int getRow() throws SQLException { checkOpen(); return isOnRow ? (int) row : 0; }
 
     private SQLException forwardOnly() throws SQLException {
         checkOpen();
         return Failures.notSupported("the result set goes forward only, by next()");
     }
 
-    @Override
-    public boolean isLast() throws SQLException {
-        throw forwardOnly();
-    }
-
-    @Override
-    public void beforeFirst() throws SQLException {
-        throw forwardOnly();
-    }
-
-    @Override
-    public void afterLast() throws SQLException {
-        throw forwardOnly();
-    }
-
-    @Override
-    public boolean first() throws SQLException {
-        throw forwardOnly();
-    }
-
-    @Override
-    public boolean last() throws SQLException {
-        throw forwardOnly();
-    }
-
-    @Override
-    public boolean absolute(int place) throws SQLException {
-        throw forwardOnly();
-    }
-
-    @Override
-    public boolean relative(int count) throws SQLException {
-        throw forwardOnly();
-    }
-
-    @Override
-    public boolean previous() throws SQLException {
-        throw forwardOnly();
-    }
+    @Override public boolean isLast() throws SQLException { throw forwardOnly(); }
+    @Override public void beforeFirst() throws SQLException { throw forwardOnly(); }
+    @Override public void afterLast() throws SQLException { throw forwardOnly(); }
+    @Override public boolean first() throws SQLException { throw forwardOnly(); }
+    @Override public boolean last() throws SQLException { throw forwardOnly(); }
+    @Override public boolean absolute(int place) throws SQLException { throw forwardOnly(); }
+    @Override public boolean relative(int count) throws SQLException { throw forwardOnly(); }
+    @Override public boolean previous() throws SQLException { throw forwardOnly(); }
 
     // What it is.
 
-    @Override
-    public int getType() throws SQLException {
-        checkOpen();
-        return ResultSet.TYPE_FORWARD_ONLY;
-    }
-
-    @Override
-    public int getConcurrency() throws SQLException {
-        checkOpen();
-        return ResultSet.CONCUR_READ_ONLY;
-    }
-
-    @Override
-    public int getHoldability() throws SQLException {
-        checkOpen();
-        return ResultSet.HOLD_CURSORS_OVER_COMMIT;
-    }
-
-    @Override
-    public int getFetchDirection() throws SQLException {
-        checkOpen();
-        return ResultSet.FETCH_FORWARD;
-    }
+    @Override public int getType() throws SQLException { checkOpen(); return ResultSet.TYPE_FORWARD_ONLY; }
+    @Override public int getConcurrency() throws SQLException { checkOpen(); return ResultSet.CONCUR_READ_ONLY; }
+    @Override public int getHoldability() throws SQLException { checkOpen(); return ResultSet.HOLD_CURSORS_OVER_COMMIT; }
+    @Override public int getFetchDirection() throws SQLException { checkOpen(); return ResultSet.FETCH_FORWARD; }
 
     @Override
     public void setFetchDirection(int direction) throws SQLException {
@@ -342,11 +242,7 @@ final class DrdadResultSet extends LabelledResultSet {
         }
     }
 
-    @Override
-    public int getFetchSize() throws SQLException {
-        checkOpen();
-        return fetchSize;
-    }
+    @Override public int getFetchSize() throws SQLException { checkOpen(); return fetchSize; }
 
     /** A hint: blocks have the size that the statement's fetch size gave them. */
     @Override
@@ -356,31 +252,9 @@ final class DrdadResultSet extends LabelledResultSet {
         fetchSize = size;
     }
 
-    @Override
-    public Statement getStatement() throws SQLException {
-        checkOpen();
-        return statement;
-    }
-
-    @Override
-    public ResultSetMetaData getMetaData() throws SQLException {
-        checkOpen();
-        return new RowMetaData(columns, table);
-    }
-
-    @Override
-    public String getCursorName() throws SQLException {
-        throw Failures.notSupported("cursors have no names");
-    }
-
-    @Override
-    public SQLWarning getWarnings() throws SQLException {
-        checkOpen();
-        return null;
-    }
-
-    @Override
-    public void clearWarnings() throws SQLException {
-        checkOpen();
-    }
+    @Override public Statement getStatement() throws SQLException { checkOpen(); return statement; }
+    @Override public ResultSetMetaData getMetaData() throws SQLException { checkOpen(); return new RowMetaData(columns, table); }
+    @Override public String getCursorName() throws SQLException { throw Failures.notSupported("cursors have no names"); }
+    @Override public SQLWarning getWarnings() throws SQLException { checkOpen(); return null; }
+    @Override public void clearWarnings() throws SQLException { checkOpen(); }
 }

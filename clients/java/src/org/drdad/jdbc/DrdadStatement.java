@@ -23,10 +23,7 @@ class DrdadStatement extends Wrapping implements Statement {
     private int fetchSize, queryTimeout, maxFieldSize;
     private boolean isClosed, closesOnCompletion, isPoolable;
 
-    DrdadStatement(DrdadConnection connection) {
-        this.connection = connection;
-        session = connection.session();
-    }
+    DrdadStatement(DrdadConnection connection) { this.connection = connection; session = connection.session(); }
 
     final void checkOpen() throws SQLException {
         if (isClosed) {
@@ -55,9 +52,7 @@ class DrdadStatement extends Wrapping implements Statement {
     }
 
     /** Milliseconds that a run may take; 0 is as long as the connection lets it. */
-    final int timeout() {
-        return (int) Math.min(Integer.MAX_VALUE, (long) queryTimeout * MILLISECONDS);
-    }
+    final int timeout() { return (int) Math.min(Integer.MAX_VALUE, (long) queryTimeout * MILLISECONDS); }
 
     /** So many rows in a block are enough; 0 where nothing was said. */
     final int rowsAtOnce() {
@@ -68,9 +63,7 @@ class DrdadStatement extends Wrapping implements Statement {
         result = new DrdadResultSet(this, new BlockRows(session, query), query.columns, text.table(), maxRows);
     }
 
-    final void hasChanged(long rows) {
-        updateCount = rows;
-    }
+    final void hasChanged(long rows) { updateCount = rows; }
 
     static void checkKind(SqlText text, boolean isQuery) throws SQLException {
         if (text.isQuery() != isQuery) {
@@ -120,57 +113,19 @@ class DrdadStatement extends Wrapping implements Statement {
         return updateCount;
     }
 
-    @Override
-    public int executeUpdate(String sql) throws SQLException {
-        return (int) executeLargeUpdate(sql);
-    }
+    @Override public int executeUpdate(String sql) throws SQLException { return (int) executeLargeUpdate(sql); }
 
     // Keys that the server makes: there are none, so that the list of them is empty.
 
-    @Override
-    public boolean execute(String sql, int keys) throws SQLException {
-        return execute(sql);
-    }
-
-    @Override
-    public boolean execute(String sql, int[] columns) throws SQLException {
-        return execute(sql);
-    }
-
-    @Override
-    public boolean execute(String sql, String[] columns) throws SQLException {
-        return execute(sql);
-    }
-
-    @Override
-    public int executeUpdate(String sql, int keys) throws SQLException {
-        return executeUpdate(sql);
-    }
-
-    @Override
-    public int executeUpdate(String sql, int[] columns) throws SQLException {
-        return executeUpdate(sql);
-    }
-
-    @Override
-    public int executeUpdate(String sql, String[] columns) throws SQLException {
-        return executeUpdate(sql);
-    }
-
-    @Override
-    public long executeLargeUpdate(String sql, int keys) throws SQLException {
-        return executeLargeUpdate(sql);
-    }
-
-    @Override
-    public long executeLargeUpdate(String sql, int[] columns) throws SQLException {
-        return executeLargeUpdate(sql);
-    }
-
-    @Override
-    public long executeLargeUpdate(String sql, String[] columns) throws SQLException {
-        return executeLargeUpdate(sql);
-    }
+    @Override public boolean execute(String sql, int keys) throws SQLException { return execute(sql); }
+    @Override public boolean execute(String sql, int[] columns) throws SQLException { return execute(sql); }
+    @Override public boolean execute(String sql, String[] columns) throws SQLException { return execute(sql); }
+    @Override public int executeUpdate(String sql, int keys) throws SQLException { return executeUpdate(sql); }
+    @Override public int executeUpdate(String sql, int[] columns) throws SQLException { return executeUpdate(sql); }
+    @Override public int executeUpdate(String sql, String[] columns) throws SQLException { return executeUpdate(sql); }
+    @Override public long executeLargeUpdate(String sql, int keys) throws SQLException { return executeLargeUpdate(sql); }
+    @Override public long executeLargeUpdate(String sql, int[] columns) throws SQLException { return executeLargeUpdate(sql); }
+    @Override public long executeLargeUpdate(String sql, String[] columns) throws SQLException { return executeLargeUpdate(sql); }
 
     @Override
     public ResultSet getGeneratedKeys() throws SQLException {
@@ -180,27 +135,10 @@ class DrdadStatement extends Wrapping implements Statement {
 
     // Results.
 
-    @Override
-    public ResultSet getResultSet() throws SQLException {
-        checkOpen();
-        return result;
-    }
-
-    @Override
-    public int getUpdateCount() throws SQLException {
-        return (int) getLargeUpdateCount();
-    }
-
-    @Override
-    public long getLargeUpdateCount() throws SQLException {
-        checkOpen();
-        return updateCount;
-    }
-
-    @Override
-    public boolean getMoreResults() throws SQLException {
-        return getMoreResults(CLOSE_CURRENT_RESULT);
-    }
+    @Override public ResultSet getResultSet() throws SQLException { checkOpen(); return result; }
+    @Override public int getUpdateCount() throws SQLException { return (int) getLargeUpdateCount(); }
+    @Override public long getLargeUpdateCount() throws SQLException { checkOpen(); return updateCount; }
+    @Override public boolean getMoreResults() throws SQLException { return getMoreResults(CLOSE_CURRENT_RESULT); }
 
     @Override
     public boolean getMoreResults(int current) throws SQLException {
@@ -217,17 +155,8 @@ class DrdadStatement extends Wrapping implements Statement {
 
     // Batches.
 
-    @Override
-    public void addBatch(String sql) throws SQLException {
-        checkOpen();
-        batch.add(SqlText.of(sql));
-    }
-
-    @Override
-    public void clearBatch() throws SQLException {
-        checkOpen();
-        batch.clear();
-    }
+    @Override public void addBatch(String sql) throws SQLException { checkOpen(); batch.add(SqlText.of(sql)); }
+    @Override public void clearBatch() throws SQLException { checkOpen(); batch.clear(); }
 
     @Override
     public int[] executeBatch() throws SQLException {
@@ -249,21 +178,9 @@ class DrdadStatement extends Wrapping implements Statement {
 
     // Settings.
 
-    @Override
-    public int getMaxRows() throws SQLException {
-        return (int) Math.min(Integer.MAX_VALUE, getLargeMaxRows());
-    }
-
-    @Override
-    public void setMaxRows(int most) throws SQLException {
-        setLargeMaxRows(most);
-    }
-
-    @Override
-    public long getLargeMaxRows() throws SQLException {
-        checkOpen();
-        return maxRows;
-    }
+    @Override public int getMaxRows() throws SQLException { return (int) Math.min(Integer.MAX_VALUE, getLargeMaxRows()); }
+    @Override public void setMaxRows(int most) throws SQLException { setLargeMaxRows(most); }
+    @Override public long getLargeMaxRows() throws SQLException { checkOpen(); return maxRows; }
 
     @Override
     public void setLargeMaxRows(long most) throws SQLException {
@@ -272,11 +189,7 @@ class DrdadStatement extends Wrapping implements Statement {
         maxRows = most;
     }
 
-    @Override
-    public int getFetchSize() throws SQLException {
-        checkOpen();
-        return fetchSize;
-    }
+    @Override public int getFetchSize() throws SQLException { checkOpen(); return fetchSize; }
 
     @Override
     public void setFetchSize(int rows) throws SQLException {
@@ -285,11 +198,7 @@ class DrdadStatement extends Wrapping implements Statement {
         fetchSize = rows;
     }
 
-    @Override
-    public int getQueryTimeout() throws SQLException {
-        checkOpen();
-        return queryTimeout;
-    }
+    @Override public int getQueryTimeout() throws SQLException { checkOpen(); return queryTimeout; }
 
     /** Seconds that the server may be silent in a run; behind them the connection is closed. */
     @Override
@@ -299,11 +208,7 @@ class DrdadStatement extends Wrapping implements Statement {
         queryTimeout = seconds;
     }
 
-    @Override
-    public int getMaxFieldSize() throws SQLException {
-        checkOpen();
-        return maxFieldSize;
-    }
+    @Override public int getMaxFieldSize() throws SQLException { checkOpen(); return maxFieldSize; }
 
     /** Values have at most 2,000 bytes, and come whole. */
     @Override
@@ -313,20 +218,14 @@ class DrdadStatement extends Wrapping implements Statement {
         maxFieldSize = size;
     }
 
-    @Override
-    public void setEscapeProcessing(boolean isWanted) throws SQLException {
-        checkOpen();
-    }
+    @Override public void setEscapeProcessing(boolean isWanted) throws SQLException { checkOpen(); }
 
     @Override
     public void cancel() throws SQLException {
         throw Failures.notSupported("a statement can't be cancelled; none waits for another one");
     }
 
-    @Override
-    public void setCursorName(String name) throws SQLException {
-        throw Failures.notSupported("cursors have no names");
-    }
+    @Override public void setCursorName(String name) throws SQLException { throw Failures.notSupported("cursors have no names"); }
 
     @Override
     public void setFetchDirection(int direction) throws SQLException {
@@ -336,70 +235,17 @@ class DrdadStatement extends Wrapping implements Statement {
         }
     }
 
-    @Override
-    public int getFetchDirection() throws SQLException {
-        checkOpen();
-        return ResultSet.FETCH_FORWARD;
-    }
-
-    @Override
-    public int getResultSetConcurrency() throws SQLException {
-        checkOpen();
-        return ResultSet.CONCUR_READ_ONLY;
-    }
-
-    @Override
-    public int getResultSetType() throws SQLException {
-        checkOpen();
-        return ResultSet.TYPE_FORWARD_ONLY;
-    }
-
-    @Override
-    public int getResultSetHoldability() throws SQLException {
-        checkOpen();
-        return ResultSet.HOLD_CURSORS_OVER_COMMIT;
-    }
-
-    @Override
-    public SQLWarning getWarnings() throws SQLException {
-        checkOpen();
-        return null;
-    }
-
-    @Override
-    public void clearWarnings() throws SQLException {
-        checkOpen();
-    }
-
-    @Override
-    public Connection getConnection() throws SQLException {
-        checkOpen();
-        return connection;
-    }
-
-    @Override
-    public void setPoolable(boolean wanted) throws SQLException {
-        checkOpen();
-        isPoolable = wanted;
-    }
-
-    @Override
-    public boolean isPoolable() throws SQLException {
-        checkOpen();
-        return isPoolable;
-    }
-
-    @Override
-    public void closeOnCompletion() throws SQLException {
-        checkOpen();
-        closesOnCompletion = true;
-    }
-
-    @Override
-    public boolean isCloseOnCompletion() throws SQLException {
-        checkOpen();
-        return closesOnCompletion;
-    }
+    @Override public int getFetchDirection() throws SQLException { checkOpen(); return ResultSet.FETCH_FORWARD; }
+    @Override public int getResultSetConcurrency() throws SQLException { checkOpen(); return ResultSet.CONCUR_READ_ONLY; }
+    @Override public int getResultSetType() throws SQLException { checkOpen(); return ResultSet.TYPE_FORWARD_ONLY; }
+    @Override public int getResultSetHoldability() throws SQLException { checkOpen(); return ResultSet.HOLD_CURSORS_OVER_COMMIT; }
+    @Override public SQLWarning getWarnings() throws SQLException { checkOpen(); return null; }
+    @Override public void clearWarnings() throws SQLException { checkOpen(); }
+    @Override public Connection getConnection() throws SQLException { checkOpen(); return connection; }
+    @Override public void setPoolable(boolean wanted) throws SQLException { checkOpen(); isPoolable = wanted; }
+    @Override public boolean isPoolable() throws SQLException { checkOpen(); return isPoolable; }
+    @Override public void closeOnCompletion() throws SQLException { checkOpen(); closesOnCompletion = true; }
+    @Override public boolean isCloseOnCompletion() throws SQLException { checkOpen(); return closesOnCompletion; }
 
     // The end.
 
@@ -414,8 +260,5 @@ class DrdadStatement extends Wrapping implements Statement {
         }
     }
 
-    @Override
-    public boolean isClosed() {
-        return isClosed || connection.isClosed();
-    }
+    @Override public boolean isClosed() { return isClosed || connection.isClosed(); }
 }

@@ -7,13 +7,6 @@ import javax.transaction.xa.XAResource;
 final class DrdadXAConnection extends LentConnection implements XAConnection {
     private final DrdadXAResource resource;
 
-    DrdadXAConnection(Session session) {
-        super(session);
-        resource = new DrdadXAResource(session);
-    }
-
-    @Override
-    public XAResource getXAResource() {
-        return resource;
-    }
+    DrdadXAConnection(Session session) { super(session); resource = new DrdadXAResource(session); }
+    @Override public XAResource getXAResource() { return resource; }
 }

@@ -10,10 +10,7 @@ public final class DrdadXADataSource extends CommonSource implements XADataSourc
     public DrdadXADataSource() {
     }
 
-    @Override
-    public XAConnection getXAConnection() throws SQLException {
-        return new DrdadXAConnection(new Session(settings()));
-    }
+    @Override public XAConnection getXAConnection() throws SQLException { return new DrdadXAConnection(new Session(settings())); }
 
     @Override
     public XAConnection getXAConnection(String user, String password) throws SQLException {

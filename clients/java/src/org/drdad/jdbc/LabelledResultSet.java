@@ -29,7 +29,8 @@ abstract class LabelledResultSet extends ReadOnlyResultSet {
     @Override public float getFloat(String label) throws SQLException { return getFloat(findColumn(label)); }
     @Override public double getDouble(String label) throws SQLException { return getDouble(findColumn(label)); }
     @Deprecated
-    @Override public BigDecimal getBigDecimal(String label, int more) throws SQLException { return getBigDecimal(findColumn(label), more); }
+    @Override public BigDecimal getBigDecimal(String label, int more)
+            throws SQLException { return getBigDecimal(findColumn(label), more); }
     @Override public byte[] getBytes(String label) throws SQLException { return getBytes(findColumn(label)); }
     @Override public Date getDate(String label) throws SQLException { return getDate(findColumn(label)); }
     @Override public Time getTime(String label) throws SQLException { return getTime(findColumn(label)); }
@@ -41,14 +42,16 @@ abstract class LabelledResultSet extends ReadOnlyResultSet {
     @Override public Object getObject(String label) throws SQLException { return getObject(findColumn(label)); }
     @Override public Reader getCharacterStream(String label) throws SQLException { return getCharacterStream(findColumn(label)); }
     @Override public BigDecimal getBigDecimal(String label) throws SQLException { return getBigDecimal(findColumn(label)); }
-    @Override public Object getObject(String label, Map<String, Class<?>> more) throws SQLException { return getObject(findColumn(label), more); }
+    @Override public Object getObject(String label, Map<String, Class<?>> more)
+            throws SQLException { return getObject(findColumn(label), more); }
     @Override public Ref getRef(String label) throws SQLException { return getRef(findColumn(label)); }
     @Override public Blob getBlob(String label) throws SQLException { return getBlob(findColumn(label)); }
     @Override public Clob getClob(String label) throws SQLException { return getClob(findColumn(label)); }
     @Override public Array getArray(String label) throws SQLException { return getArray(findColumn(label)); }
     @Override public Date getDate(String label, Calendar more) throws SQLException { return getDate(findColumn(label), more); }
     @Override public Time getTime(String label, Calendar more) throws SQLException { return getTime(findColumn(label), more); }
-    @Override public Timestamp getTimestamp(String label, Calendar more) throws SQLException { return getTimestamp(findColumn(label), more); }
+    @Override public Timestamp getTimestamp(String label, Calendar more)
+            throws SQLException { return getTimestamp(findColumn(label), more); }
     @Override public URL getURL(String label) throws SQLException { return getURL(findColumn(label)); }
     @Override public RowId getRowId(String label) throws SQLException { return getRowId(findColumn(label)); }
     @Override public NClob getNClob(String label) throws SQLException { return getNClob(findColumn(label)); }

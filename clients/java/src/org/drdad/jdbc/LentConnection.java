@@ -15,14 +15,8 @@ class LentConnection implements PooledConnection {
     private final List<ConnectionEventListener> listeners = new CopyOnWriteArrayList<>();
     private DrdadConnection lent;
 
-    LentConnection(Session session) {
-        this.session = session;
-        session.whenBroken(this::hasBroken);
-    }
-
-    final Session session() {
-        return session;
-    }
+    LentConnection(Session session) { this.session = session; session.whenBroken(this::hasBroken); }
+    final Session session() { return session; }
 
     /** A connection for the next user; the one before it is closed, and its local work rolled back. */
     @Override
@@ -60,20 +54,9 @@ class LentConnection implements PooledConnection {
         }
     }
 
-    @Override
-    public final void close() {
-        session.close();
-    }
-
-    @Override
-    public final void addConnectionEventListener(ConnectionEventListener listener) {
-        listeners.add(listener);
-    }
-
-    @Override
-    public final void removeConnectionEventListener(ConnectionEventListener listener) {
-        listeners.remove(listener);
-    }
+    @Override public final void close() { session.close(); }
+    @Override public final void addConnectionEventListener(ConnectionEventListener listener) { listeners.add(listener); }
+    @Override public final void removeConnectionEventListener(ConnectionEventListener listener) { listeners.remove(listener); }
 
     /** The driver pools no statements, so that there is nothing to tell: what is prepared stays with the session. */
     @Override

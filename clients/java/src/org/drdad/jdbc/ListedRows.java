@@ -7,9 +7,7 @@ final class ListedRows implements Rows {
     private final List<Object[]> rows;
     private int at = -1;
 
-    ListedRows(List<Object[]> rows) {
-        this.rows = rows;
-    }
+    ListedRows(List<Object[]> rows) { this.rows = rows; }
 
     @Override
     public boolean next() {
@@ -20,10 +18,7 @@ final class ListedRows implements Rows {
         return true;
     }
 
-    @Override
-    public boolean isNull(int column) {
-        return rows.get(at)[column] == null;
-    }
+    @Override public boolean isNull(int column) { return rows.get(at)[column] == null; }
 
     @Override
     public long number(int column) {
@@ -31,18 +26,7 @@ final class ListedRows implements Rows {
         return value instanceof Boolean ? ((Boolean) value ? 1 : 0) : ((Number) value).longValue();
     }
 
-    @Override
-    public String text(int column) {
-        return (String) rows.get(at)[column];
-    }
-
-    @Override
-    public byte[] bytes(int column) {
-        return (byte[]) rows.get(at)[column];
-    }
-
-    @Override
-    public void close() {
-        at = rows.size() - 1;
-    }
+    @Override public String text(int column) { return (String) rows.get(at)[column]; }
+    @Override public byte[] bytes(int column) { return (byte[]) rows.get(at)[column]; }
+    @Override public void close() { at = rows.size() - 1; }
 }

@@ -17,20 +17,9 @@ final class ListedXid implements Xid {
         branch = bytes.copy(HEADING + global.length, bytes.s4(8));
     }
 
-    @Override
-    public int getFormatId() {
-        return format;
-    }
-
-    @Override
-    public byte[] getGlobalTransactionId() {
-        return global.clone();
-    }
-
-    @Override
-    public byte[] getBranchQualifier() {
-        return branch.clone();
-    }
+    @Override public int getFormatId() { return format; }
+    @Override public byte[] getGlobalTransactionId() { return global.clone(); }
+    @Override public byte[] getBranchQualifier() { return branch.clone(); }
 
     @Override
     public boolean equals(Object other) {
@@ -38,13 +27,6 @@ final class ListedXid implements Xid {
                 && Arrays.equals(global, ((ListedXid) other).global) && Arrays.equals(branch, ((ListedXid) other).branch);
     }
 
-    @Override
-    public int hashCode() {
-        return 31 * (31 * format + Arrays.hashCode(global)) + Arrays.hashCode(branch);
-    }
-
-    @Override
-    public String toString() {
-        return format + ":" + Values.hexadecimal(global) + ":" + Values.hexadecimal(branch);
-    }
+    @Override public int hashCode() { return 31 * (31 * format + Arrays.hashCode(global)) + Arrays.hashCode(branch); }
+    @Override public String toString() { return format + ":" + Values.hexadecimal(global) + ":" + Values.hexadecimal(branch); }
 }

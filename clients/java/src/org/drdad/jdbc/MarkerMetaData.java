@@ -7,9 +7,7 @@ import java.sql.SQLException;
 final class MarkerMetaData extends Wrapping implements ParameterMetaData {
     private final Column[] parameters;
 
-    MarkerMetaData(Column[] parameters) {
-        this.parameters = parameters;
-    }
+    MarkerMetaData(Column[] parameters) { this.parameters = parameters; }
 
     private Column parameter(int place) throws SQLException {
         if (place < 1 || place > parameters.length) {
@@ -18,50 +16,18 @@ final class MarkerMetaData extends Wrapping implements ParameterMetaData {
         return parameters[place - 1];
     }
 
-    @Override
-    public int getParameterCount() {
-        return parameters.length;
-    }
+    @Override public int getParameterCount() { return parameters.length; }
 
     @Override
     public int isNullable(int place) throws SQLException {
         return parameter(place).takesNull ? parameterNullable : parameterNoNulls;
     }
 
-    @Override
-    public boolean isSigned(int place) throws SQLException {
-        return parameter(place).isNumber();
-    }
-
-    @Override
-    public int getPrecision(int place) throws SQLException {
-        return parameter(place).precision();
-    }
-
-    @Override
-    public int getScale(int place) throws SQLException {
-        parameter(place);
-        return 0;
-    }
-
-    @Override
-    public int getParameterType(int place) throws SQLException {
-        return parameter(place).type;
-    }
-
-    @Override
-    public String getParameterTypeName(int place) throws SQLException {
-        return parameter(place).typeName();
-    }
-
-    @Override
-    public String getParameterClassName(int place) throws SQLException {
-        return parameter(place).javaClass().getName();
-    }
-
-    @Override
-    public int getParameterMode(int place) throws SQLException {
-        parameter(place);
-        return parameterModeIn;
-    }
+    @Override public boolean isSigned(int place) throws SQLException { return parameter(place).isNumber(); }
+    @Override public int getPrecision(int place) throws SQLException { return parameter(place).precision(); }
+    @Override public int getScale(int place) throws SQLException { parameter(place); return 0; }
+    @Override public int getParameterType(int place) throws SQLException { return parameter(place).type; }
+    @Override public String getParameterTypeName(int place) throws SQLException { return parameter(place).typeName(); }
+    @Override public String getParameterClassName(int place) throws SQLException { return parameter(place).javaClass().getName(); }
+    @Override public int getParameterMode(int place) throws SQLException { parameter(place); return parameterModeIn; }
 }

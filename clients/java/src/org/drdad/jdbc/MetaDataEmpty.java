@@ -47,23 +47,41 @@ abstract class MetaDataEmpty extends MetaDataLimits {
             "TABLE_CAT TABLE_SCHEM TABLE_NAME COLUMN_NAME DATA_TYPE:i COLUMN_SIZE:i DECIMAL_DIGITS:i NUM_PREC_RADIX:i "
             + "COLUMN_USAGE REMARKS CHAR_OCTET_LENGTH:i IS_NULLABLE");
 
-    @Override public ResultSet getProcedures(String catalog, String schema, String name) throws SQLException { return PROCEDURES.empty(); }
-    @Override public ResultSet getProcedureColumns(String catalog, String schema, String name, String column) throws SQLException { return PROCEDURE_COLUMNS.empty(); }
-    @Override public ResultSet getColumnPrivileges(String catalog, String schema, String name, String column) throws SQLException { return COLUMN_PRIVILEGES.empty(); }
-    @Override public ResultSet getTablePrivileges(String catalog, String schema, String name) throws SQLException { return TABLE_PRIVILEGES.empty(); }
-    @Override public ResultSet getBestRowIdentifier(String catalog, String schema, String table, int scope, boolean nullable) throws SQLException { return ROW_COLUMNS.empty(); }
-    @Override public ResultSet getVersionColumns(String catalog, String schema, String name) throws SQLException { return ROW_COLUMNS.empty(); }
-    @Override public ResultSet getPrimaryKeys(String catalog, String schema, String name) throws SQLException { return PRIMARY_KEYS.empty(); }
-    @Override public ResultSet getImportedKeys(String catalog, String schema, String name) throws SQLException { return FOREIGN_KEYS.empty(); }
-    @Override public ResultSet getExportedKeys(String catalog, String schema, String name) throws SQLException { return FOREIGN_KEYS.empty(); }
-    @Override public ResultSet getCrossReference(String catalog, String schema, String table, String otherCatalog, String otherSchema, String otherTable) throws SQLException { return FOREIGN_KEYS.empty(); }
-    @Override public ResultSet getIndexInfo(String catalog, String schema, String table, boolean isUnique, boolean isRough) throws SQLException { return INDEX_INFO.empty(); }
-    @Override public ResultSet getUDTs(String catalog, String schema, String name, int[] types) throws SQLException { return UDTS.empty(); }
-    @Override public ResultSet getSuperTypes(String catalog, String schema, String name) throws SQLException { return SUPER_TYPES.empty(); }
-    @Override public ResultSet getSuperTables(String catalog, String schema, String name) throws SQLException { return SUPER_TABLES.empty(); }
-    @Override public ResultSet getAttributes(String catalog, String schema, String name, String column) throws SQLException { return ATTRIBUTES.empty(); }
+    @Override public ResultSet getProcedures(String catalog, String schema, String name)
+            throws SQLException { return PROCEDURES.empty(); }
+    @Override public ResultSet getProcedureColumns(String catalog, String schema, String name, String column)
+            throws SQLException { return PROCEDURE_COLUMNS.empty(); }
+    @Override public ResultSet getColumnPrivileges(String catalog, String schema, String name, String column)
+            throws SQLException { return COLUMN_PRIVILEGES.empty(); }
+    @Override public ResultSet getTablePrivileges(String catalog, String schema, String name)
+            throws SQLException { return TABLE_PRIVILEGES.empty(); }
+    @Override public ResultSet getBestRowIdentifier(String catalog, String schema, String table, int scope, boolean nullable)
+            throws SQLException { return ROW_COLUMNS.empty(); }
+    @Override public ResultSet getVersionColumns(String catalog, String schema, String name)
+            throws SQLException { return ROW_COLUMNS.empty(); }
+    @Override public ResultSet getPrimaryKeys(String catalog, String schema, String name)
+            throws SQLException { return PRIMARY_KEYS.empty(); }
+    @Override public ResultSet getImportedKeys(String catalog, String schema, String name)
+            throws SQLException { return FOREIGN_KEYS.empty(); }
+    @Override public ResultSet getExportedKeys(String catalog, String schema, String name)
+            throws SQLException { return FOREIGN_KEYS.empty(); }
+    @Override public ResultSet getCrossReference(String catalog, String schema, String table, String otherCatalog, String otherSchema, String otherTable)
+            throws SQLException { return FOREIGN_KEYS.empty(); }
+    @Override public ResultSet getIndexInfo(String catalog, String schema, String table, boolean isUnique, boolean isRough)
+            throws SQLException { return INDEX_INFO.empty(); }
+    @Override public ResultSet getUDTs(String catalog, String schema, String name, int[] types)
+            throws SQLException { return UDTS.empty(); }
+    @Override public ResultSet getSuperTypes(String catalog, String schema, String name)
+            throws SQLException { return SUPER_TYPES.empty(); }
+    @Override public ResultSet getSuperTables(String catalog, String schema, String name)
+            throws SQLException { return SUPER_TABLES.empty(); }
+    @Override public ResultSet getAttributes(String catalog, String schema, String name, String column)
+            throws SQLException { return ATTRIBUTES.empty(); }
     @Override public ResultSet getClientInfoProperties() throws SQLException { return CLIENT_INFO_PROPERTIES.empty(); }
-    @Override public ResultSet getFunctions(String catalog, String schema, String name) throws SQLException { return FUNCTIONS.empty(); }
-    @Override public ResultSet getFunctionColumns(String catalog, String schema, String name, String column) throws SQLException { return FUNCTION_COLUMNS.empty(); }
-    @Override public ResultSet getPseudoColumns(String catalog, String schema, String name, String column) throws SQLException { return PSEUDO_COLUMNS.empty(); }
+    @Override public ResultSet getFunctions(String catalog, String schema, String name)
+            throws SQLException { return FUNCTIONS.empty(); }
+    @Override public ResultSet getFunctionColumns(String catalog, String schema, String name, String column)
+            throws SQLException { return FUNCTION_COLUMNS.empty(); }
+    @Override public ResultSet getPseudoColumns(String catalog, String schema, String name, String column)
+            throws SQLException { return PSEUDO_COLUMNS.empty(); }
 }

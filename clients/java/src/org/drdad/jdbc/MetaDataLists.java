@@ -63,9 +63,7 @@ abstract class MetaDataLists extends MetaDataEmpty {
             isText ? column.length : null, place, column.takesNull ? "YES" : "NO", null, null, null, null, "NO", "NO"};
     }
 
-    private String database() throws SQLException {
-        return session().settings().database;
-    }
+    private String database() throws SQLException { return session().settings().database; }
 
     /** The columns of the table that is named; null where there is none, or a pattern names more than one. */
     private Column[] described(String name) throws SQLException {
@@ -85,9 +83,7 @@ abstract class MetaDataLists extends MetaDataEmpty {
     }
 
     /** The name that a pattern spells: in capitals, as tables are kept; a low line stands for itself. */
-    private static String plain(String pattern) {
-        return pattern.replace("\\", "").toUpperCase(Locale.ROOT);
-    }
+    private static String plain(String pattern) { return pattern.replace("\\", "").toUpperCase(Locale.ROOT); }
 
     /** Whether a pattern means a name: a percent sign stands for anything, and a low line for itself. */
     private static boolean isMeant(String name, String pattern) {
@@ -121,18 +117,7 @@ abstract class MetaDataLists extends MetaDataEmpty {
     }
 
     @Override
-    public ResultSet getCatalogs() throws SQLException {
-        return CATALOGS.of(Collections.singletonList(new Object[] {database()}));
-    }
-
-    @Override
-    public ResultSet getSchemas() throws SQLException {
-        session();
-        return SCHEMAS.empty();
-    }
-
-    @Override
-    public ResultSet getSchemas(String catalog, String schema) throws SQLException {
-        return getSchemas();
-    }
+    public ResultSet getCatalogs() throws SQLException { return CATALOGS.of(Collections.singletonList(new Object[] {database()})); }
+    @Override public ResultSet getSchemas() throws SQLException { session(); return SCHEMAS.empty(); }
+    @Override public ResultSet getSchemas(String catalog, String schema) throws SQLException { return getSchemas(); }
 }

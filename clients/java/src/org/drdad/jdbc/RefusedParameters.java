@@ -37,7 +37,8 @@ abstract class RefusedParameters extends DrdadStatement implements PreparedState
     @Override public void setArray(int place, Array value) throws SQLException { throw noColumn("array"); }
     @Override public void setDate(int place, Date value, Calendar calendar) throws SQLException { throw noColumn("date"); }
     @Override public void setTime(int place, Time value, Calendar calendar) throws SQLException { throw noColumn("time"); }
-    @Override public void setTimestamp(int place, Timestamp value, Calendar calendar) throws SQLException { throw noColumn("timestamp"); }
+    @Override public void setTimestamp(int place, Timestamp value, Calendar calendar)
+            throws SQLException { throw noColumn("timestamp"); }
     @Override public void setURL(int place, URL value) throws SQLException { throw noColumn("URL"); }
     @Override public void setRowId(int place, RowId value) throws SQLException { throw noColumn("row ID"); }
     @Override public void setNClob(int place, NClob value) throws SQLException { throw noColumn("NCLOB"); }

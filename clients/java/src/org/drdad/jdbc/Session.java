@@ -36,46 +36,21 @@ final class Session {
         global = new GlobalWork(this, chains, cursors, calls, live);
     }
 
-    Settings settings() {
-        return settings;
-    }
+    Settings settings() { return settings; }
 
     /** The product's number as ACCRDBRM told it. */
-    String product() {
-        return product;
-    }
-
-    boolean isClosed() {
-        return chains.isClosed();
-    }
+    String product() { return product; }
+    boolean isClosed() { return chains.isClosed(); }
 
     /** Ends the conversation; what was not committed is rolled back. */
-    void close() {
-        chains.close();
-        live.gone(this);
-    }
+    void close() { chains.close(); live.gone(this); }
 
     /** Who is told where the conversation breaks. */
-    void whenBroken(Consumer<SQLException> told) {
-        whenBroken = told;
-    }
-
-    private void hasBroken(SQLException failure) {
-        live.gone(this);
-        whenBroken.accept(failure);
-    }
-
-    SQLException broken(WireFault fault) {
-        return chains.broken(fault);
-    }
-
-    int networkTimeout() {
-        return chains.networkTimeout();
-    }
-
-    void setNetworkTimeout(int milliseconds) {
-        chains.setNetworkTimeout(milliseconds);
-    }
+    void whenBroken(Consumer<SQLException> told) { whenBroken = told; }
+    private void hasBroken(SQLException failure) { live.gone(this); whenBroken.accept(failure); }
+    SQLException broken(WireFault fault) { return chains.broken(fault); }
+    int networkTimeout() { return chains.networkTimeout(); }
+    void setNetworkTimeout(int milliseconds) { chains.setNetworkTimeout(milliseconds); }
 
     /** Whether the server answers within so many milliseconds; 0 is as long as the connection lets it. */
     synchronized boolean isAlive(int milliseconds) {
@@ -93,13 +68,8 @@ final class Session {
 
     // Statements.
 
-    synchronized int run(SqlText text, int timeout) throws SQLException {
-        return statements.run(text, timeout);
-    }
-
-    synchronized int run(SqlText text, byte[] row, int timeout) throws SQLException {
-        return statements.run(text, row, timeout);
-    }
+    synchronized int run(SqlText text, int timeout) throws SQLException { return statements.run(text, timeout); }
+    synchronized int run(SqlText text, byte[] row, int timeout) throws SQLException { return statements.run(text, row, timeout); }
 
     synchronized BatchResult runAll(SqlText text, List<byte[]> rows, int timeout) throws SQLException {
         return statements.runAll(text, rows, timeout);
@@ -113,49 +83,21 @@ final class Session {
         return statements.open(text, row, fetchSize, timeout);
     }
 
-    synchronized boolean fetch(OpenQuery query) throws SQLException {
-        return statements.fetch(query);
-    }
-
-    synchronized void abandon(OpenQuery query) {
-        cursors.abandon(query);
-    }
-
-    synchronized Column[] describe(SqlText text) throws SQLException {
-        return statements.describe(text);
-    }
-
-    synchronized Column[] describeParameters(SqlText text) throws SQLException {
-        return statements.describeParameters(text);
-    }
+    synchronized boolean fetch(OpenQuery query) throws SQLException { return statements.fetch(query); }
+    synchronized void abandon(OpenQuery query) { cursors.abandon(query); }
+    synchronized Column[] describe(SqlText text) throws SQLException { return statements.describe(text); }
+    synchronized Column[] describeParameters(SqlText text) throws SQLException { return statements.describeParameters(text); }
 
     // Units of work.
 
-    synchronized boolean isAutocommit() {
-        return unit.isAutocommit();
-    }
-
-    synchronized void setAutocommit(boolean wanted) throws SQLException {
-        unit.setAutocommit(wanted);
-    }
-
-    synchronized boolean hasWork() {
-        return unit.hasWork();
-    }
-
-    synchronized void commit() throws SQLException {
-        unit.commit();
-    }
-
-    synchronized void rollback() throws SQLException {
-        unit.rollback();
-    }
+    synchronized boolean isAutocommit() { return unit.isAutocommit(); }
+    synchronized void setAutocommit(boolean wanted) throws SQLException { unit.setAutocommit(wanted); }
+    synchronized boolean hasWork() { return unit.hasWork(); }
+    synchronized void commit() throws SQLException { unit.commit(); }
+    synchronized void rollback() throws SQLException { unit.rollback(); }
 
     /** The user is done with it, and another one may come. */
-    synchronized void isGivenBack() throws SQLException {
-        cursors.abandonAll();
-        unit.isGivenBack();
-    }
+    synchronized void isGivenBack() throws SQLException { cursors.abandonAll(); unit.isGivenBack(); }
 
     // Global units. What another session of this process keeps back for the branch is done first.
 
@@ -166,9 +108,7 @@ final class Session {
         }
     }
 
-    private synchronized void flush() throws SQLException {
-        global.flush();
-    }
+    private synchronized void flush() throws SQLException { global.flush(); }
 
     void start(ByteBuffer xid, int flags) throws SQLException, XAException {
         settleElsewhere(xid);
@@ -192,7 +132,5 @@ final class Session {
         }
     }
 
-    synchronized List<Bytes> recover() throws SQLException, XAException {
-        return global.recover();
-    }
+    synchronized List<Bytes> recover() throws SQLException, XAException { return global.recover(); }
 }

@@ -21,14 +21,10 @@ final class XaCall {
         this.xid = xid;
     }
 
-    int call() {
-        return call;
-    }
+    int call() { return call; }
 
     /** The XID that it names, or null. */
-    ByteBuffer xid() {
-        return xid;
-    }
+    ByteBuffer xid() { return xid; }
 
     void write(CommandWriter chain) {
         int at = chain.request(CodePoint.SYNCCTL);
@@ -65,9 +61,7 @@ final class XaCall {
     }
 
     /** The exception of a code that the server answered. */
-    static XAException refusal(int code) {
-        return failure(code, "XA " + code + ": " + said(code));
-    }
+    static XAException refusal(int code) { return failure(code, "XA " + code + ": " + said(code)); }
 
     private static String said(int code) {
         switch (code) {
@@ -85,7 +79,5 @@ final class XaCall {
     }
 
     /** Whether a code is no refusal. */
-    static boolean isDone(int code) {
-        return code == XAResource.XA_OK || code == XAResource.XA_RDONLY;
-    }
+    static boolean isDone(int code) { return code == XAResource.XA_OK || code == XAResource.XA_RDONLY; }
 }

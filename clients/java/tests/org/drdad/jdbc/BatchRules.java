@@ -55,6 +55,10 @@ final class BatchRules extends Rules {
                 holds(connection.getAutoCommit(), "autocommit stays");
             }
         });
+        texts();
+    }
+
+    private void texts() {
         rule("a batch of texts", () -> {
             try (Connection connection = server.connect(); Statement statement = connection.createStatement()) {
                 statement.addBatch("UPDATE BATCHED SET V = 'x' WHERE K < 3");

@@ -25,6 +25,7 @@ final class ConnectionRules extends Rules {
     void all() {
         opening();
         settings();
+        absent();
         ends();
         rule("the 65th connection says what may be wrong", this::tooMany);
     }
@@ -91,6 +92,9 @@ final class ConnectionRules extends Rules {
                 holds(connection.getTypeMap().isEmpty(), "no types");
             }
         });
+    }
+
+    private void absent() {
         rule("what is not there has a state that pools take for no end", () -> {
             try (Connection connection = server.connect()) {
                 for (Call call : new Call[] {connection::createBlob, connection::createClob, connection::setSavepoint,

@@ -22,6 +22,7 @@ final class SourceRules extends Rules {
         server.table("LENT", 1);
         sources();
         lending();
+        breaking();
     }
 
     private void sources() {
@@ -108,6 +109,9 @@ final class SourceRules extends Rules {
             same(List.of(), told.events);
             pooled.close();
         });
+    }
+
+    private void breaking() {
         rule("a pool is told where the connection breaks", () -> {
             Told told = new Told();
             PooledConnection pooled = pooled(told);

@@ -25,11 +25,13 @@ final class StatementRules extends Rules {
         server.table("S", 5);
         try (Connection connection = server.connect()) {
             results(connection);
+            runs(connection);
             refusals(connection);
             settings(connection);
             closing(connection);
             sections(connection);
             prepared(connection);
+            described(connection);
         }
     }
 
@@ -62,6 +64,9 @@ final class StatementRules extends Rules {
                 }
             }
         });
+    }
+
+    private void runs(Connection connection) {
         rule("a run closes the rows of the run before", () -> {
             try (Statement statement = connection.createStatement()) {
                 ResultSet before = statement.executeQuery("SELECT * FROM S");
@@ -222,6 +227,9 @@ final class StatementRules extends Rules {
                 refused(SQLException.class, statement::executeUpdate);
             }
         });
+    }
+
+    private void described(Connection connection) {
         rule("what is known before it runs", () -> {
             try (PreparedStatement query = connection.prepareStatement("SELECT V, K FROM S WHERE K = ? AND V = ?");
                     PreparedStatement change = connection.prepareStatement("UPDATE S SET V = ?")) {

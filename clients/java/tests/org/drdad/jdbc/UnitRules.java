@@ -20,7 +20,9 @@ final class UnitRules extends Rules {
         server.table("U", 3);
         server.table("LONGTABLE", MANY);
         ends();
+        inside();
         claims();
+        smallClaims();
         rows();
     }
 
@@ -64,6 +66,9 @@ final class UnitRules extends Rules {
                 same("changed", text(0));
             }
         });
+    }
+
+    private void inside() {
         rule("setReadOnly() has no place in a unit", () -> {
             try (Connection connection = server.connectInUnits()) {
                 set(connection, 0, "x");
@@ -117,6 +122,9 @@ final class UnitRules extends Rules {
                 holds(two.createStatement().executeQuery("SELECT * FROM U").next(), "a row");
             }
         });
+    }
+
+    private void smallClaims() {
         rule("a key in parentheses claims no more than its row", () -> {
             try (Connection one = server.connectInUnits(); Connection two = server.connectInUnits()) {
                 one.createStatement().executeUpdate("UPDATE U SET V = 'a' WHERE ((K = 0))");

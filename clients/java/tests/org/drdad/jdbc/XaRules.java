@@ -26,10 +26,16 @@ final class XaRules extends Rules {
     void all() throws Exception {
         server.table("X", 10);
         branches();
+        emptyBranches();
+        severalBranches();
         refusals();
+        unknown();
+        orders();
         otherConnections();
         keptBack();
+        between();
         connections();
+        rows();
         recovery();
     }
 
@@ -121,6 +127,9 @@ final class XaRules extends Rules {
             first.rollback(worked("gone"));
             same("row", text(0));
         });
+    }
+
+    private void emptyBranches() {
         branch("a branch that read alone is over with its prepare", () -> {
             TestXid xid = xid();
             first.start(xid, NONE);
@@ -143,6 +152,9 @@ final class XaRules extends Rules {
             answers(XAException.XA_RBROLLBACK, () -> first.prepare(xid));
             same("row", text(0));
         });
+    }
+
+    private void severalBranches() {
         branch("a branch that is suspended and resumed, with local work between", () -> {
             TestXid xid = xid();
             first.start(xid, NONE);
@@ -193,6 +205,9 @@ final class XaRules extends Rules {
             answers(XAException.XAER_INVAL, () -> first.end(xid, XAResource.TMJOIN));
             first.end(xid, SUCCESS);
         });
+    }
+
+    private void unknown() {
         branch("calls on an XID that is not known", () -> {
             answers(XAException.XAER_NOTA, () -> first.start(xid(), XAResource.TMJOIN));
             answers(XAException.XAER_NOTA, () -> first.end(xid(), SUCCESS));
@@ -214,6 +229,9 @@ final class XaRules extends Rules {
             first.end(xid, SUCCESS);
             first.rollback(xid);
         });
+    }
+
+    private void orders() {
         branch("local work comes first", () -> {
             Connection connection = one.getConnection();
             connection.setAutoCommit(false);
@@ -330,6 +348,9 @@ final class XaRules extends Rules {
             first.commit(xid, false);
             same("prepared", text(0));
         });
+    }
+
+    private void between() {
         branch("isValid() inside of a branch changes nothing", () -> {
             TestXid xid = xid();
             first.start(xid, NONE);
@@ -377,6 +398,9 @@ final class XaRules extends Rules {
             same("closed", text(0));
             same("closed", text(1));
         });
+    }
+
+    private void rows() {
         branch("the end of work in a branch takes away the rows that have not come", () -> {
             String table = "XROWS" + numbers;
             server.table(table, 3000);
