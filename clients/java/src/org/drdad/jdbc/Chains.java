@@ -15,6 +15,8 @@ final class Chains {
     private final WaitingCalls calls;
     private final Consumer<SQLException> whenBroken;
     private volatile int networkTimeout;
+    /** The query whose next block was asked for, and has not been received; else null. */
+    private OpenQuery ahead;
 
     Chains(Conversation conversation, Cursors cursors, WaitingCalls calls, Consumer<SQLException> whenBroken, int networkTimeout) {
         this.conversation = conversation;
@@ -49,15 +51,63 @@ final class Chains {
 
     /** Asks whether the server answers; what waits for a chain waits on. */
     void ping(int timeout) throws SQLException {
+        receiveAhead();
         conversation.ping(timeout == NO_TIMEOUT ? networkTimeout : timeout);
     }
 
     /** Begins a chain with what waited for one. */
-    CommandWriter begin() {
+    CommandWriter begin() throws SQLException {
+        receiveAhead();
         CommandWriter chain = conversation.begin();
         calls.write(chain);
         cursors.writeClosings(chain);
         return chain;
+    }
+
+    /** Asks for the next block of a query, unless something waits for a chain. */
+    void askAhead(OpenQuery query) throws SQLException {
+        if (!query.isReadAhead || !query.isOpen || ahead != null || calls.count() + cursors.closings() > 0) {
+            return;
+        }
+        try {
+            query.writeContinue(conversation.begin());
+            conversation.send(networkTimeout);
+            ahead = query;
+        } catch (WireFault fault) {
+            throw broken(fault);
+        } catch (SQLException failure) {
+            whenBroken.accept(failure);
+            throw failure;
+        }
+    }
+
+    /** Receives the block that was asked for ahead. Where that failed it is asked for again when it is wanted. */
+    void receiveAhead() throws SQLException {
+        OpenQuery query = ahead;
+        if (query == null) {
+            return;
+        }
+        ahead = null;
+        Reply reply;
+        try {
+            reply = conversation.receive();
+        } catch (SQLException failure) {
+            whenBroken.accept(failure);
+            throw failure;
+        }
+        if (reply.hasFailed()) {
+            return;
+        }
+        if (query.isOpen) {
+            query.takeBlock(reply);
+            cursors.take(query);
+        } else if (reply.hasEndedQuery) {
+            cursors.hasEnded(query);
+        }
+    }
+
+    boolean isAhead(OpenQuery query) {
+        return ahead == query;
     }
 
     /** The chain under way. */

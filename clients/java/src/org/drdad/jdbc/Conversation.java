@@ -146,6 +146,24 @@ final class Conversation {
         }
     }
 
+    /** Sends the chain; what answers its one command is received before another one is begun. */
+    void send(int silence) throws SQLException {
+        try {
+            link.send(chain, silence);
+        } catch (IOException fault) {
+            throw Failures.stream(fault);
+        }
+    }
+
+    /** What answers the one command of the chain that was sent. */
+    Reply receive() throws SQLException {
+        try {
+            return link.receive(1)[0];
+        } catch (IOException fault) {
+            throw Failures.stream(fault);
+        }
+    }
+
     /** EXCSAT without levels: it is answered at any stage, and changes nothing, also inside of a branch. */
     void ping(int silence) throws SQLException {
         begin();

@@ -33,6 +33,13 @@ final class Cursors {
         }
     }
 
+    /** The last block has come of a query: where it was abandoned there is nothing left to close. */
+    void hasEnded(OpenQuery query) {
+        if (abandoned.remove(query)) {
+            sections.giveBack(query.section);
+        }
+    }
+
     void abandonAll() {
         for (OpenQuery query : new ArrayList<>(open)) {
             abandon(query);

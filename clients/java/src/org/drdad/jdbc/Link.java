@@ -4,6 +4,7 @@ import java.io.IOException;
 import java.io.OutputStream;
 import java.net.InetSocketAddress;
 import java.net.Socket;
+import java.util.Arrays;
 
 /** A socket to a server: a chain of commands goes out in one write, and its replies come in. Whatever goes wrong closes it. */
 final class Link implements AutoCloseable {
@@ -46,16 +47,29 @@ final class Link implements AutoCloseable {
 
     /** Sends a chain and gives what answers each command. The server may be silent for so many milliseconds; 0 is for ever. */
     Reply[] exchange(CommandWriter chain, int silence) throws IOException {
-        Reply[] answers = new Reply[chain.commands()];
-        for (int at = 0; at < answers.length; at++) {
-            answers[at] = new Reply();
-        }
+        send(chain, silence);
+        return receive(chain.commands());
+    }
+
+    /** Sends a chain, whose replies are received before another one is sent. */
+    void send(CommandWriter chain, int silence) throws IOException {
         try {
             if (silence != timeout) {
                 socket.setSoTimeout(silence);
                 timeout = silence;
             }
             send(chain);
+        } catch (IOException | RuntimeException | Error fault) {
+            close();
+            throw fault;
+        }
+    }
+
+    /** What answers each of so many commands of the chain that was sent last. */
+    Reply[] receive(int commands) throws IOException {
+        Reply[] answers = new Reply[commands];
+        Arrays.setAll(answers, at -> new Reply());
+        try {
             replies.readChain(answers);
         } catch (IOException | RuntimeException | Error fault) {
             close();

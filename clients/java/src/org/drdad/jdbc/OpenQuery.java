@@ -10,9 +10,12 @@ final class OpenQuery {
     final Bytes instance;
     /** The size in bytes of each further block. */
     final int blockSize;
+    /** Whether the next block is asked for while the one before is read: so it is where nobody has set a fetch size. */
+    final boolean isReadAhead;
     private Bytes rows;
+    private boolean hasBlock;
     /** Whether the server has more rows; it closes the cursor behind the last one. */
-    boolean isOpen;
+    boolean isOpen = true;
     /** Whether the server has closed the cursor before its end. */
     boolean isLost;
 
@@ -28,19 +31,32 @@ final class OpenQuery {
         if (columns == null || columns.length != form.count()) {
             throw new WireFault("QRYDSC and SQLDARD have not as many columns");
         }
+        isReadAhead = fetchSize == 0;
         blockSize = BlockSize.further(fetchSize, columns);
         takeBlock(opened);
     }
 
+    /** CNTQRY. */
+    void writeContinue(CommandWriter chain) throws WireFault {
+        section.writeContinue(chain, instance, blockSize);
+    }
+
     void takeBlock(Reply answer) {
         rows = answer.rows == null ? NO_ROWS : answer.rows;
-        isOpen = !answer.hasEndedQuery;
+        hasBlock = true;
+        isOpen &= !answer.hasEndedQuery;
+    }
+
+    /** Whether a block has come that was not taken. */
+    boolean hasBlock() {
+        return hasBlock;
     }
 
     /** The rows of the block that came last. */
     Bytes takeRows() {
         Bytes taken = rows;
         rows = NO_ROWS;
+        hasBlock = false;
         return taken;
     }
 }

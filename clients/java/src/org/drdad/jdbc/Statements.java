@@ -116,6 +116,17 @@ final class Statements {
 
     /** Brings the next block of a query; false where there is none. */
     boolean fetch(OpenQuery query) throws SQLException {
+        if (chains.isAhead(query)) {
+            chains.receiveAhead();
+        }
+        if (!query.hasBlock() && !askNext(query)) {
+            return false;
+        }
+        chains.askAhead(query);
+        return true;
+    }
+
+    private boolean askNext(OpenQuery query) throws SQLException {
         if (query.isLost) {
             throw Failures.misuse("the rows that had not come are gone, with the rollback or the end of work in a branch");
         }
@@ -123,7 +134,7 @@ final class Statements {
             return false;
         }
         try {
-            query.section.writeContinue(chains.begin(), query.instance, query.blockSize);
+            query.writeContinue(chains.begin());
             query.takeBlock(chains.ask()[0]);
         } catch (WireFault fault) {
             throw chains.broken(fault);

@@ -2,6 +2,7 @@ package org.drdad.jdbc;
 
 import java.math.BigDecimal;
 import java.sql.Connection;
+import java.sql.PreparedStatement;
 import java.sql.ResultSet;
 import java.sql.ResultSetMetaData;
 import java.sql.SQLDataException;
@@ -12,7 +13,7 @@ import java.sql.Types;
 
 /** java.sql.ResultSet and java.sql.ResultSetMetaData. */
 final class RowRules extends Rules {
-    private static final int MANY = 3000;
+    private static final int MANY = 3000, WIDE = 2000, WIDE_BYTES = 1500;
     private final Server server;
 
     RowRules(Server server) {
@@ -29,11 +30,28 @@ final class RowRules extends Rules {
         server.run("CREATE TABLE R (K SMALLINT NOT NULL, B BIGINT, V VARCHAR(20), X VARBINARY(20), N INTEGER, PRIMARY KEY (K))",
                 "INSERT INTO R VALUES (200, 5000000000, ' 12 ', X'00FF', NULL)");
         server.table("MANYROWS", MANY);
+        wideTable();
         try (Connection connection = server.connect(); Statement statement = connection.createStatement()) {
             values(statement);
             places(statement);
             described(statement);
             blocks(connection);
+        }
+    }
+
+    /** A table of more bytes than three blocks. */
+    private void wideTable() throws SQLException {
+        server.run("CREATE TABLE WIDE (K INTEGER NOT NULL, V VARCHAR(2000), PRIMARY KEY (K))");
+        try (Connection connection = server.connect();
+                PreparedStatement insert = connection.prepareStatement("INSERT INTO WIDE VALUES (?, ?)")) {
+            for (int key = 0; key < WIDE; key++) {
+                insert.setInt(1, key);
+                insert.setString(2, "w".repeat(WIDE_BYTES));
+                insert.addBatch();
+                if (key % 400 == 399) {
+                    insert.executeBatch();
+                }
+            }
         }
     }
 
@@ -171,11 +189,45 @@ final class RowRules extends Rules {
                 same(MANY, count(second));
             }
         });
+        ahead();
         rule("rows that nobody read to the end leave no cursor behind", () -> {
             for (int round = 0; round < 100; round++) {
                 try (Statement statement = connection.createStatement(); ResultSet rows = statement.executeQuery("SELECT * FROM MANYROWS")) {
                     holds(rows.next(), "a row");
                 }
+            }
+        });
+    }
+
+    /** So many rows that a block is asked for while the one before is read. */
+    private void ahead() {
+        rule("what is asked while a block is on its way waits for it", () -> {
+            try (Connection connection = server.connectInUnits(); Statement one = connection.createStatement();
+                    Statement two = connection.createStatement()) {
+                ResultSet rows = one.executeQuery("SELECT K, V FROM WIDE"), others = two.executeQuery("SELECT K, V FROM WIDE");
+                for (int key = 0; key < WIDE; key++) {
+                    holds(rows.next() && rows.getInt(1) == key && others.next() && others.getInt(1) == key, "row " + key);
+                    holds(key % 300 != 0 || connection.isValid(10), "valid");
+                }
+                holds(!rows.next() && !others.next(), "the end");
+            }
+        });
+        rule("a block that is on its way is passed over where nobody wants it", () -> {
+            try (Connection connection = server.connectInUnits(); Statement statement = connection.createStatement()) {
+                for (int stop : new int[] {80, WIDE / 2, WIDE - 10, WIDE}) {
+                    ResultSet rows = statement.executeQuery("SELECT K, V FROM WIDE");
+                    for (int key = 0; key < stop; key++) {
+                        holds(rows.next(), "row " + key);
+                    }
+                    rows.close();
+                    connection.commit();
+                }
+                ResultSet rows = statement.executeQuery("SELECT K, V FROM WIDE");
+                for (int key = 0; key < WIDE / 2; key++) {
+                    holds(rows.next(), "row " + key);
+                }
+                connection.rollback();
+                holds(statement.executeQuery("SELECT K FROM WIDE WHERE K = 1").next(), "it runs again");
             }
         });
     }
