@@ -8,7 +8,7 @@ final class CodePoint {
     static final int OPNQRY = 0x200C, PRPSQLSTT = 0x200D, RDBCMM = 0x200E, RDBRLLBCK = 0x200F;
 
     // Parameters.
-    static final int TYPDEFNAM = 0x002F, PRDID = 0x112E, SVRCOD = 0x1149, SYNERRCD = 0x114A, CODPNT = 0x000C;
+    static final int TYPDEFNAM = 0x002F, PRDID = 0x112E, SVRCOD = 0x1149;
     static final int SYNCTYPE = 0x1187, USRID = 0x11A0, PASSWORD = 0x11A1, SECMEC = 0x11A2, SECCHKCD = 0x11A4;
     static final int MGRLVLLS = 0x1404, XID = 0x1801, XAFLAGS = 0x1903, XARETVAL = 0x1904, PRPHRCLST = 0x1905;
     static final int RDBNAM = 0x2110, PKGNAMCSN = 0x2113, QRYBLKSZ = 0x2114, RTNSQLDA = 0x2116, TYPSQLDA = 0x2146;
@@ -26,7 +26,7 @@ final class CodePoint {
     static final int SYNCCRD = 0x1248, SYNTAXRM = 0x124C, CMDNSPRM = 0x1250, VALNSPRM = 0x1252, EXCSATRD = 0x1443;
     static final int ACCSECRD = 0x14AC, ACCRDBRM = 0x2201, QRYNOPRM = 0x2202, RDBNACRM = 0x2204, OPNQRYRM = 0x2205;
     static final int RDBACCRM = 0x2207, ENDQRYRM = 0x220B, ENDUOWRM = 0x220C, QRYPOPRM = 0x220F, RDBNFNRM = 0x2211;
-    static final int OPNQFLRM = 0x2212, RDBUPDRM = 0x2218, CMDVLTRM = 0x221D;
+    static final int OPNQFLRM = 0x2212, CMDVLTRM = 0x221D;
 
     private CodePoint() {
     }
