@@ -28,6 +28,7 @@ final class Server implements AutoCloseable {
                 .redirectOutput(ProcessBuilder.Redirect.DISCARD).start().onExit().join();
         process = new ProcessBuilder(program, "serve", store, "--port", "0", "--user", USER + ":" + PASSWORD)
                 .redirectError(ProcessBuilder.Redirect.DISCARD).start();
+        Runtime.getRuntime().addShutdownHook(new Thread(process::destroyForcibly));
         String line = new BufferedReader(new InputStreamReader(process.getInputStream(), StandardCharsets.UTF_8)).readLine();
         if (line == null || !line.startsWith(LISTENING)) {
             throw new IOException(program + " does not serve: " + line);
