@@ -1,7 +1,7 @@
 # The entry points of the README.
 SHELL := bash
 .SHELLFLAGS := -eu -o pipefail -c
-.PHONY: run try build test gate edits names vectors outside dist install
+.PHONY: run try build test gate edits names vectors outside dist install java
 
 PREFIX = /usr/local
 
@@ -55,3 +55,7 @@ dist:
 # The proved program, the client and its shell, manuals, units and documents below PREFIX, or below DESTDIR and PREFIX.
 install:
 	@tools/install_files $(PREFIX)
+
+# The JDBC driver, clients/java/out/drdad-jdbc.jar, by javac and jar alone.
+java:
+	@clients/java/build
