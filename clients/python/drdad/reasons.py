@@ -1,6 +1,10 @@
 """Why the server refused a text: it answers a code alone, and the text says the rest."""
-from . import grammar
+import contextlib
 
+from . import grammar
+from .errors import Error
+
+NO_STATEMENT, LIMIT = -104, -904
 LACKS = 'docs/SQL.md, "What there is not"'
 LONGEST_SHOWN = 24
 
@@ -24,6 +28,36 @@ SIGNS = {
     b"/": "sums have + and - alone, and comments are the shell's", b"|": "texts are not joined",
 }
 COMPARED = {*grammar.COMPARISONS}
+
+
+def explained(failure, text):
+    """The failure of a text, as bytes, with the reason behind its code, where the text has it."""
+    said = {NO_STATEMENT: of_text, LIMIT: of_limit}.get(failure.sqlcode, lambda _: None)(text)
+    if said:
+        failure.args = (f"SQLCODE {failure.sqlcode}, SQLSTATE {failure.sqlstate}: {said}",)
+    return failure
+
+
+@contextlib.contextmanager
+def told(text):
+    """A failure of what is done with a text here is explained."""
+    try:
+        yield
+    except Error as failure:
+        raise explained(failure, text) from failure.__cause__
+
+
+def of_many(failure, is_rolled_back):
+    """The failure of an executemany, with the rows that are in the unit."""
+    if failure.row is None:
+        return failure
+    if is_rolled_back:
+        failure.done, said = [], "none of the rows is in"
+    else:
+        places = ", ".join(f"{one.start} to {one.stop - 1}" if len(one) > 1 else str(one.start) for one in failure.done)
+        said = f"of the rows {places or 'none'} {'are' if places else 'is'} in the unit"
+    failure.args = (f"row {failure.row}: {failure}; {said}",)
+    return failure
 
 
 def shown(token):

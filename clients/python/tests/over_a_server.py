@@ -17,7 +17,7 @@ SILENT_SECONDS = 0.5
 class OverAServer(unittest.TestCase):
     """Each test has a store of its own, which is served, and a connection to it where it asks for one."""
 
-    size = 16 << 20
+    size = 4 << 20
 
     def setUp(self):
         folder = tempfile.TemporaryDirectory()
@@ -31,7 +31,9 @@ class OverAServer(unittest.TestCase):
         return entered
 
     def connect(self, **words):
-        return self.enterContext(self.server.connect(**words))
+        connection = self.server.connect(**words)
+        self.addCleanup(connection.close)
+        return connection
 
     def with_table(self, **words):
         """A connection that has created the table T and committed it, and a cursor."""
