@@ -3,7 +3,7 @@ import csv
 
 from .errors import DataError, Error, ProgrammingError
 from .files import Copy, copy_of, write_rows
-from .layouts import Table
+from .layouts import Table, counted
 from .type_objects import Xid
 
 HELP = r"""Statements go over lines and end with ;   Comments begin with -- or stand in /* */.
@@ -75,9 +75,14 @@ class Commands:
 
     def _set_output(self, path):
         file = open(path, "w", encoding="utf-8") if path else None
+        self.close()
+        self._file, self._shell.out = file, file or self._stdout
+
+    def close(self):
+        """Ends the file that results go to."""
         if self._file is not None:
             self._file.close()
-        self._file, self._shell.out = file, file or self._stdout
+        self._file = None
 
     def _include(self, path):
         if not path:
@@ -202,10 +207,6 @@ def is_on(what, text):
 
 def on_or_off(is_it):
     return "on" if is_it else "off"
-
-
-def counted(count, what="row"):
-    return f"{count} {what}{'' if count == 1 else 's'}"
 
 
 def type_of(item):

@@ -97,10 +97,11 @@ class Copy:
             raise DataError(f"line {self._records.line}: {spelled} is no value of {item[0]} ({item[1]})") from fault
 
 
-def write_rows(cursor, file, goes_on):
-    """Writes the rows of a cursor as CSV, as long as it goes on, and gives how many they are."""
+def write_rows(cursor, file, tells):
+    """Writes the rows of a cursor as CSV, tells how many they are now and then, and gives that number."""
     layout, count = Csv(cursor.description, file), 0
-    while goes_on() and (rows := cursor.fetchmany(ROWS_AT_ONCE)):
+    while rows := cursor.fetchmany(ROWS_AT_ONCE):
         layout.add(rows)
         count += len(rows)
+        tells(count)
     return count

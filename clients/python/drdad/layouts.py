@@ -23,6 +23,10 @@ def shown(value):
     return text if text.isprintable() else "".join(one if one.isprintable() else one.encode("unicode_escape").decode() for one in text)
 
 
+def counted(count, what="row"):
+    return f"{count} {what}{'' if count == 1 else 's'}"
+
+
 class Table:
     """Rows under the names of their columns, aligned by the first of them: numbers to the right."""
 

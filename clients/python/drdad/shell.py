@@ -1,9 +1,9 @@
 """A shell: SQL over lines ended by `;`, and commands behind a backslash, over a connection that is made anew where a person types."""
-import contextlib, time
+import time
 
 from .commands import Commands
 from .errors import Error
-from .layouts import LAYOUTS, shown
+from .layouts import LAYOUTS, counted, shown
 from .names import Names
 from .splitter import Splitter
 from .units import ROWS_AT_ONCE
@@ -35,7 +35,7 @@ class Shell:
 
     def __init__(self, connect, out, errors, layout="table", is_typed=False, keeps_going=False):
         self._connect, self.connection = connect, connect()
-        self.out, self.errors, self.is_typed, self._keeps_going = out, errors, is_typed, keeps_going
+        self.out, self.errors, self.is_typed, self.keeps_going = out, errors, is_typed, keeps_going
         self.layout, self.has_records, self.is_timed = layout, False, True
         self.has_failed, self.is_busy, self.is_interrupted = False, False, False
         self.splitter, self.names, self._depth = Splitter(WORDS, is_typed), Names(), 0
@@ -122,7 +122,7 @@ class Shell:
         self.has_failed = True
         self.out.flush()
         self.say(f"{place}error: {shown(failure)}")
-        return self.is_typed and not self._depth or self._keeps_going
+        return self.is_typed and not self._depth or self.keeps_going
 
     def say(self, text):
         """A line beside the results."""
@@ -171,14 +171,13 @@ class Shell:
 
     def _replace(self):
         """Makes the connection anew, with the same settings."""
-        autocommit, watch = self.connection.autocommit, self.connection
+        autocommit = self.connection.autocommit
         self.connection = self._connect()
         self.connection.autocommit = autocommit
-        del watch
 
     def _lost(self, text):
         """What is lost with a connection."""
-        branch, state = self.connection.branch(), self.connection.unit_state_before()
+        branch, state = self.connection.branch, self.connection.last_unit_state()
         if branch is not None:
             return f"{branch} is in doubt: \\recover lists it" if state == "in doubt" else f"{branch} was rolled back, or stands in \\recover"
         if state == "open":
@@ -194,19 +193,26 @@ class Shell:
             self.say(f"not connected: {shown(failure)}; each statement tries again{'; ' if lost else ''}{lost}")
         return True
 
+    def close(self):
+        """Ends the conversation, and the file that results went to."""
+        self.connection.close()
+        self._commands.close()
+
     def ends(self, ask=None):
-        """Whether the shell may end: a unit that is open is rolled back then, of which a person is asked."""
+        """Whether the shell may end: a unit that is open is rolled back then, of which a person is asked, who says no by n."""
         state = self.connection.unit_state()
         if state == "in doubt":
-            self.say(f"{self.connection.branch()} stays in doubt: \\commit or \\rollback with it decides")
+            self.say(f"{self.connection.branch} stays in doubt: \\commit or \\rollback with it decides")
         if state != "open":
             return True
         if ask is not None:
-            with contextlib.suppress(EOFError, KeyboardInterrupt):
-                return ask("the unit under way is not committed, and is rolled back. End? (y/n) ").strip().lower().startswith("y")
+            try:
+                answer = ask("the unit under way is not committed, and is rolled back. End? (y/n) ")
+            except EOFError:
+                answer = "y"
+            except KeyboardInterrupt:
+                answer = "n"
+            return answer.strip().lower().startswith("y")
         self.say("the unit under way was not committed, and is rolled back")
         return True
 
-
-def counted(count, what="row"):
-    return f"{count} {what}{'' if count == 1 else 's'}"
