@@ -179,7 +179,7 @@ class Commands:
                 self._progress(f"\r{counted(count)}")
                 self._shell.check_goes_on(f"; {counted(count)} are {kept}")
         except Error as failure:
-            raise type(failure)(f"{failure}; the {count} rows before are {kept}", failure.sqlcode, failure.sqlstate) from failure
+            raise type(failure)(f"{failure.said}; the {count} rows before are {kept}", failure.sqlcode, failure.sqlstate) from failure
         finally:
             self._progress("\r")
         return counted(count)
@@ -191,7 +191,7 @@ class Commands:
         except Error as failure:
             if failure.row is None:
                 raise
-            raise type(failure)(f"line {lines[failure.row]}: {failure}", failure.sqlcode, failure.sqlstate) from failure
+            raise type(failure)(f"line {lines[failure.row]}: {failure.said}", failure.sqlcode, failure.sqlstate) from failure
 
     def _progress(self, text):
         if self._shell.errors.isatty():

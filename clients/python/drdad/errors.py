@@ -9,13 +9,13 @@ class Warning(Exception):  # noqa: A001, by the letter of PEP 249
 class Error(Exception):
     """The base of all errors. `sqlcode` and `sqlstate` are those of the SQLCARD that told of it, and `xacode` is the code of
     XA, where there was one; `row` is the place of the row, from 0, that an executemany was refused, and `done` the places of those that
-    are in the unit, as ranges. (`place` is that of the command in its chain.)"""
+    are in the unit, as ranges. `said` is the text without what it says of other rows. (`place` is that of the command in its chain.)"""
 
     def __init__(self, text, sqlcode=None, sqlstate=None, xacode=None):
         super().__init__(text)
         self.sqlcode, self.sqlstate, self.xacode = sqlcode, sqlstate, xacode
         self.row = self.place = None
-        self.done = []
+        self.said, self.done = text, []
 
 
 class InterfaceError(Error):

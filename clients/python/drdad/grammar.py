@@ -72,7 +72,8 @@ class Reader:
             raise Fault(wire.LONGEST_STATEMENT, limit=f"a statement has at most {wire.LONGEST_STATEMENT:,} bytes")
         {"CREATE": self._create, "INSERT": self._insert, "UPDATE": self._update, "DELETE": self._delete, "SELECT": self._select}[
             self._take(*STATEMENTS).kind]()
-        self._take(END)
+        if not self._sees(END):
+            self._take(END)
         self._check_limits()
         self._check_names()
 

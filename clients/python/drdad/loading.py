@@ -43,9 +43,11 @@ def _leave(connection, failure, count):
     if connection.is_open():
         connection.rollback()
     failure.loaded, failure.done = count, [range(count)] if count else []
+    where = ""
     if failure.row is not None:
         failure.row += count
-    failure.args = (f"{str(failure).split('; of the rows', 1)[0]}; {count} rows before are in",)
+        where = f"row {failure.row}: "
+    failure.args = (f"{where}{failure.said}; {count} rows are in",)
 
 
 def show(count):

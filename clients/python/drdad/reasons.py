@@ -34,7 +34,8 @@ def explained(failure, text):
     """The failure of a text, as bytes, with the reason behind its code, where the text has it."""
     said = {NO_STATEMENT: of_text, LIMIT: of_limit}.get(failure.sqlcode, lambda _: None)(text)
     if said:
-        failure.args = (f"SQLCODE {failure.sqlcode}, SQLSTATE {failure.sqlstate}: {said}",)
+        failure.said = f"SQLCODE {failure.sqlcode}, SQLSTATE {failure.sqlstate}: {said}"
+        failure.args = (failure.said,)
     return failure
 
 
@@ -56,7 +57,7 @@ def of_many(failure, is_rolled_back):
     else:
         places = ", ".join(f"{one.start} to {one.stop - 1}" if len(one) > 1 else str(one.start) for one in failure.done)
         said = f"of the rows {places or 'none'} {'are' if places else 'is'} in the unit"
-    failure.args = (f"row {failure.row}: {failure}; {said}",)
+    failure.args = (f"row {failure.row}: {failure.said}; {said}",)
     return failure
 
 

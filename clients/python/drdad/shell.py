@@ -5,12 +5,16 @@ from .commands import Commands
 from .errors import Error
 from .layouts import LAYOUTS, counted, shown
 from .names import Names
-from .splitter import Splitter
+from .splitter import IN_COMMENT, IN_TEXT, Splitter
 from .units import ROWS_AT_ONCE
 
 WORDS = ("help", "quit", "exit")
 MOST_FILES_IN_FILES = 16
 GRACE_SECONDS = 2.0
+INSIDE = {
+    IN_TEXT: "a text is open, and this is in it: ' ends it, Ctrl-C gives the statement up",
+    IN_COMMENT: "a comment is open, and this is in it: */ ends it, Ctrl-C gives the statement up",
+}
 PROMPTS = {"idle": "drdad> ", "open": "drdad*> ", "in doubt": "drdad?> ", "closed": "drdad!> "}
 
 
@@ -55,6 +59,8 @@ class Shell:
         self.splitter = splitter = Splitter(WORDS, self.is_typed and not self._depth)
         try:
             for line in lines:
+                if self.is_typed and splitter.inside and line.strip().lstrip("\\").lower() in (*WORDS, "?", "q"):
+                    self.say(INSIDE[splitter.inside])
                 if not self._take(splitter.feed(line), place):
                     return False
             return self._finish(splitter, place, ends_anywhere)
@@ -91,7 +97,7 @@ class Shell:
 
     def _done(self, place, text):
         """Does it, and says what became of it. Whether the shell goes on."""
-        self.is_busy, self.is_interrupted, began = True, False, time.monotonic()
+        self.is_busy, self.is_interrupted, began, was_open = True, False, time.monotonic(), self.connection.is_open()
         try:
             if text.startswith("\\"):
                 said = self._commands.run(text[1:])
@@ -99,8 +105,12 @@ class Shell:
                 said = self.statement(text)
         except Interrupted as stopped:
             return self._fail(place, f"interrupted{stopped}")
+        except BrokenPipeError:
+            raise
+        except KeyboardInterrupt:
+            return self._fail(place, "interrupted")
         except (Error, OSError, UnicodeError) as failure:
-            return self._failed(place, text, failure)
+            return self._failed(place, text, failure, was_open)
         finally:
             self.is_busy = False
         if said is False:
@@ -111,11 +121,13 @@ class Shell:
         self.out.flush()
         return True
 
-    def _failed(self, place, text, failure):
+    def _failed(self, place, text, failure, was_open):
         goes_on = self._fail(place, failure)
         if self.connection.is_open():
             return goes_on
-        return self.is_typed and self._connect_anew(self._lost(text))
+        if self.is_typed and was_open:
+            self._connect_anew(self._lost(text))
+        return self.is_typed
 
     def _fail(self, place, failure):
         """Tells of a failure. Whether the shell goes on."""
@@ -171,9 +183,9 @@ class Shell:
 
     def _replace(self):
         """Makes the connection anew, with the same settings."""
-        autocommit = self.connection.autocommit
+        autocommit, self.is_busy = self.connection.autocommit, False
         self.connection = self._connect()
-        self.connection.autocommit = autocommit
+        self.is_busy, self.connection.autocommit = True, autocommit
 
     def _lost(self, text):
         """What is lost with a connection."""
@@ -185,13 +197,12 @@ class Shell:
         return "" if text[:6].upper() == "SELECT" else "whether the statement was done, the tables tell"
 
     def _connect_anew(self, lost):
-        """Where a person types. Goes on, with a connection or without one."""
+        """Goes on with a connection, or without one."""
         try:
             self._replace()
             self.say(f"connected anew{'; ' if lost else ''}{lost}")
-        except (Error, OSError) as failure:
-            self.say(f"not connected: {shown(failure)}; each statement tries again{'; ' if lost else ''}{lost}")
-        return True
+        except (Error, OSError, KeyboardInterrupt) as failure:
+            self.say(f"not connected: {shown(failure) or 'interrupted'}; each statement tries again{'; ' if lost else ''}{lost}")
 
     def close(self):
         """Ends the conversation, and the file that results went to."""
