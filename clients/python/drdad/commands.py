@@ -1,5 +1,5 @@
 """The commands of the shell, which stand behind a backslash."""
-import csv
+import contextlib, csv
 
 from .errors import DataError, Error, ProgrammingError
 from .files import Copy, copy_of, write_rows
@@ -154,12 +154,11 @@ class Commands:
             cursor.execute(statement)
             if cursor.description is None:
                 raise ProgrammingError("\\copy (SELECT ..) TO FILE: this statement gives no rows")
-            with open(path, "w", newline="", encoding="utf-8") as file:
-                count = write_rows(cursor, file, self._tells)
-        return counted(count)
+            with open(path, "w", newline="", encoding="utf-8") as file, self._progress() as tells:
+                return counted(write_rows(cursor, file, lambda count: self._has_written(count, tells)))
 
-    def _tells(self, count):
-        self._progress(f"\r{counted(count)}")
+    def _has_written(self, count, tells):
+        tells(count)
         self._shell.check_goes_on(f" behind {counted(count)}")
 
     def _copy_from(self, table, path):
@@ -173,15 +172,14 @@ class Commands:
         count, cursor = 0, self._connection.cursor()
         kept = "in" if self._connection.autocommit else "inserted in the unit under way"
         try:
-            for unit in copy.units():
-                self._insert(cursor, copy.statement, *zip(*unit))
-                count += len(unit)
-                self._progress(f"\r{counted(count)}")
-                self._shell.check_goes_on(f"; {counted(count)} are {kept}")
+            with self._progress() as tells:
+                for unit in copy.units():
+                    self._insert(cursor, copy.statement, *zip(*unit))
+                    count += len(unit)
+                    tells(count)
+                    self._shell.check_goes_on(f"; {counted(count)} are {kept}")
         except Error as failure:
             raise type(failure)(f"{failure.said}; the {count} rows before are {kept}", failure.sqlcode, failure.sqlstate) from failure
-        finally:
-            self._progress("\r")
         return counted(count)
 
     @staticmethod
@@ -193,10 +191,23 @@ class Commands:
                 raise
             raise type(failure)(f"line {lines[failure.row]}: {failure.said}", failure.sqlcode, failure.sqlstate) from failure
 
-    def _progress(self, text):
-        if self._shell.errors.isatty():
-            self._shell.errors.write(text)
-            self._shell.errors.flush()
+    @contextlib.contextmanager
+    def _progress(self):
+        """A call that shows how many rows were copied so far, on a line that the next one writes over, where somebody looks."""
+        errors, ends = self._shell.errors, "\n"
+        is_seen = errors.isatty()
+
+        def show(count):
+            if is_seen:
+                errors.write(f"\r{counted(count)}")
+                errors.flush()
+        try:
+            yield show
+            ends = "\r"
+        finally:
+            if is_seen:
+                errors.write(ends)
+                errors.flush()
 
 
 def is_on(what, text):

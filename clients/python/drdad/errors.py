@@ -76,7 +76,8 @@ SAID = {
     -601: "a table of this name is there already",
     -803: "a row of this key is there already",
     -904: "a limit of the server is reached",
-    -913: "another unit holds what the statement reads or writes, and nothing was done: roll back, and try again",
+    -913: "another unit holds what the statement reads or writes, and nothing was done: roll back, and try again; "
+          "where that does not help a unit in doubt holds it (\\recover)",
 }
 
 CHECKS = {

@@ -4,7 +4,7 @@ import os, pathlib, subprocess, sys, tempfile
 from over_a_server import CLIENT, OverAServer
 
 CREATE = "CREATE TABLE T (K INTEGER NOT NULL,\n  V VARCHAR(20), B VARBINARY(8), PRIMARY KEY (K));\n"
-WAITS = 60
+WAITS = 240
 
 
 class OfAShell(OverAServer):

@@ -182,11 +182,11 @@ class Copies(OfAShell):
         self.assertEqual(self.copied("v,k\none,1\ntwo,2\n")[0], 0)
         self.assertEqual(self.rows(), [(1, "one", None), (2, "two", None)])
 
-    def test_lines_by_several_units(self):
-        status, out, _ = self.copied("K,V\n" + "".join(f"{number},row {number}\n" for number in range(2500)))
+    def test_ten_thousand_lines(self):
+        status, out, _ = self.copied("K,V\n" + "".join(f"{number},row {number}\n" for number in range(10000)))
         self.assertEqual(status, 0)
-        self.assertIn("2500 rows", out)
-        self.assertEqual(len(self.rows()), 2500)
+        self.assertIn("10000 rows", out)
+        self.assertEqual(len(self.rows()), 10000)
 
     def test_what_is_no_row(self):
         for text, said in NO_ROWS:
