@@ -48,6 +48,8 @@ class Pool:
         try:
             if kept is not None and kept.is_usable():
                 return kept
+            if kept is not None:
+                kept.close()
             return self._connect()
         except BaseException:
             self._returned(None)

@@ -17,7 +17,7 @@ class OfAShell(OverAServer):
                        "DRDAD_HISTORY": str(self.folder / "history"), "PYTHONIOENCODING": "utf-8"}
 
     def words(self, *more):
-        return [sys.executable, "-m", "drdad", f"127.0.0.1:{self.server.port}/SHOP", "--user", "ana", *more]
+        return [sys.executable, "-m", "drdad", f"127.0.0.1:{self.server.port}/SHOP", "--user", "ana", "--timeout", "60", *more]
 
     def ran(self, script, *more, **around):
         """How the shell ended with this script on its standard input, what it printed, and what it complained of."""
