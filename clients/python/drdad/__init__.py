@@ -36,4 +36,5 @@ def connect(host: str | None = None, port: int | None = None, database: str | No
     from the URL that the environment variable DRDAD_URL has, the password from DRDAD_PASSWORD; the host is else 127.0.0.1 and the
     port 1527. `timeout` is how long, in seconds, the server may be silent, None for ever; `watch` is called with each DSS that goes
     out or comes in (`drdad.aloud` reads it)."""
-    return Connection(*completed(host, port, database, user, password), timeout, autocommit, watch)
+    where = completed(host, port, database, user, password)
+    return Connection(where.host, where.port, where.database, where.user, where.password, timeout, autocommit, watch)

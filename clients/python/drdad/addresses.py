@@ -52,4 +52,4 @@ def completed(host, port, database, user, password):
 
 
 def _filled(given, others):
-    return Address(*(other if one is None else one for one, other in zip(given, others)))
+    return Address(*[other if one is None else one for one, other in zip(given, others)])

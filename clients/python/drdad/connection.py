@@ -33,7 +33,8 @@ class Connection:
         names = [_checked_name(name) for name in (database, user, password)]
         self._autocommit, self._has_work, self._branch = bool(autocommit), False, None
         self._alone = threading.RLock()
-        self._queries, self._abandoned = weakref.WeakSet(), []
+        self._queries: weakref.WeakSet = weakref.WeakSet()
+        self._abandoned: list = []
         self._link = Link(host, port, timeout, watch)
         try:
             with self._judged():

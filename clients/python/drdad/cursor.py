@@ -92,7 +92,9 @@ class Cursor:
 
     def __init__(self, connection: Connection):
         self._connection, self._alone, self._is_closed = connection, connection._alone, False
-        self._query, self._description, self._count = None, None, -1
+        self._query: Query | None = None
+        self._description: list[tuple] | None = None
+        self._count = -1
 
     @property
     def connection(self) -> Connection:

@@ -20,7 +20,8 @@ class Pool:
         if not 0 < size <= MOST_OF_A_SERVER:
             raise InterfaceError(f"a pool has 1 to {MOST_OF_A_SERVER} connections")
         self._connect = lambda: connect(*arguments, **words)
-        self._size, self._wait, self._free, self._lent = size, wait, [], 0
+        self._size, self._wait, self._lent = size, wait, 0
+        self._free: list = []
         self._changed, self._is_closed = threading.Condition(), False
 
     @contextlib.contextmanager

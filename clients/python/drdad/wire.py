@@ -665,7 +665,8 @@ def parameters(values):
 
 
 # The writers of rows of these types, and the most that are kept.
-_WRITERS, MOST_WRITERS = {}, 256
+_WRITERS: dict = {}
+MOST_WRITERS = 256
 FIELD_OF = {int: (OF_BIGINT, 8), type(None): (OF_SMALLINT | 1, 2), str: (OF_TEXT[0], LONGEST_VALUE), bytes: (OF_BYTES[0], LONGEST_VALUE)}
 
 

@@ -1,6 +1,6 @@
 """A new user's first session, from the installation on, as it stands in first_session.txt: what is typed at a terminal, and what the
 screen shows. `python3 test_first_session.py --write` writes that file anew from a run."""
-import os, pathlib, re, signal, socket, sys, tempfile, time, unittest
+import importlib.util, os, pathlib, re, signal, socket, sys, tempfile, time, unittest
 
 from over_a_server import CLIENT, PROGRAM
 from typing_terminal import Terminal
@@ -148,6 +148,7 @@ def played():
 
 
 @unittest.skipUnless(PROGRAM, "DRDAD names no program")
+@unittest.skipUnless(importlib.util.find_spec("ensurepip"), "this Python makes no venv with pip (Debian's python3-venv)")
 class FirstSession(unittest.TestCase):
     maxDiff = None
 
