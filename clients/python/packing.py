@@ -37,8 +37,9 @@ def files():
 def metadata():
     tables = settings()
     project = tables["project"]
-    lines = ["Metadata-Version: 2.1", f"Name: {project['name']}", f"Version: {version()}", f"Summary: {project['description']}",
-             f"License: {project['license']}", f"Requires-Python: {project['requires-python']}", f"Keywords: {','.join(project['keywords'])}"]
+    lines = ["Metadata-Version: 2.1", f"Name: {project['name']}", f"Version: {version()}", f"Summary: {project['description']}"]
+    lines += [f"License: {project['license']}", f"Requires-Python: {project['requires-python']}"]
+    lines += [f"Keywords: {','.join(project['keywords'])}"]
     lines += [f"Classifier: {one}" for one in project["classifiers"]]
     lines += [f"Requires-Dist: {one}" for one in project.get("dependencies", ())]
     for extra, wanted in tables.get("project.optional-dependencies", {}).items():

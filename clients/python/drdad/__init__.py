@@ -19,8 +19,8 @@ from .version import __version__
 
 __all__ = [
     "BINARY", "DATETIME", "NUMBER", "ROWID", "STRING", "Binary", "Connection", "Cursor", "DataError", "DatabaseError", "Date",
-    "DateFromTicks", "Error", "HeuristicError", "IntegrityError", "InterfaceError", "InternalError", "NotSupportedError", "OperationalError",
-    "Pool", "ProgrammingError", "Time", "TimeFromTicks", "Timestamp", "TimestampFromTicks", "Warning", "Xid", "__version__", "apilevel",
+    "DateFromTicks", "Error", "HeuristicError", "IntegrityError", "InterfaceError", "InternalError", "NotSupportedError",
+    "OperationalError", "Pool", "ProgrammingError", "Time", "TimeFromTicks", "Timestamp", "TimestampFromTicks", "Warning", "Xid", "__version__", "apilevel",
     "connect", "paramstyle", "retry", "threadsafety",
 ]
 

@@ -85,9 +85,10 @@ def write(row):
 
 @functools.lru_cache(maxsize=256)
 def writer_of(types, heads, longest):
-    """A function that writes a row of values of these types, each int, str, bytes or that of None, as an object: `heads` gives the bytes in front of
-    the values, and its fields that count what is behind them, as pairs of a format and what they count beside the values. It
-    raises OverflowError where a value is longer than `longest` bytes, struct.error where a number is out of range."""
+    """A function that writes a row of values of these types, each int, str, bytes or that of None, as an object: `heads` gives
+    the bytes in front of the values, and its fields that count what is behind them, as pairs of a format and what they count
+    beside the values. It raises OverflowError where a value is longer than `longest` bytes, struct.error where a number is out
+    of range."""
     names, encodes, packs, sizes = {}, [], [], []
     for place, kind in enumerate(types):
         if kind is str:

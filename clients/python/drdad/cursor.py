@@ -155,7 +155,9 @@ class Cursor:
             self._description = list(self._query.section.description)
         elif data:
             count = connection._run_again(text, sent)
-            self._count = self._rows_of(connection._through(text, False, lambda section: _runs(section, [data]))[1]) if count is None else count
+            if count is None:
+                count = self._rows_of(connection._through(text, False, lambda section: _runs(section, [data]))[1])
+            self._count = count
         else:
             count = self._rows_of(connection._work((wire.ddm(wire.EXCSQLIMM), wire.statement(text))))
             self._count = -1 if word == b"CREATE" else count

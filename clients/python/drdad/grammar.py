@@ -8,7 +8,8 @@ from . import wire
 TYPES, SIZED_TYPES = ("SMALLINT", "INTEGER", "INT", "BIGINT"), ("VARCHAR", "VARBINARY")
 STATEMENTS = ("CREATE", "INSERT", "UPDATE", "DELETE", "SELECT")
 WORDS = frozenset((
-    *STATEMENTS, *TYPES, *SIZED_TYPES, "TABLE", "PRIMARY", "KEY", "NOT", "NULL", "INTO", "VALUES", "SET", "WHERE", "FROM", "OR", "AND", "IS",
+    *STATEMENTS, *TYPES, *SIZED_TYPES,
+    "TABLE", "PRIMARY", "KEY", "NOT", "NULL", "INTO", "VALUES", "SET", "WHERE", "FROM", "OR", "AND", "IS",
 ))
 COMPARISONS = ("=", "<>", "<", "<=", ">", ">=")
 # What a token is that is neither a word of the grammar nor a sign, which are what they are spelled as.

@@ -134,8 +134,9 @@ class Link:
             if ready[0] or ready[1]:
                 return ready
             if left <= 0:
-                raise TimeoutError(
-                    "nobody waited for the answer any longer" if self._ends_at < deadline else f"the server was silent for {self._timeout} s")
+                is_hurried = self._ends_at < deadline
+                silent = f"the server was silent for {self._timeout} s"
+                raise TimeoutError("nobody waited for the answer any longer" if is_hurried else silent)
 
     def _receive(self):
         try:

@@ -5,6 +5,12 @@ from . import grammar
 from .errors import Error
 
 NO_STATEMENT, LIMIT = -104, -904
+# Which limits may be passed by what a statement is, where its text passes none.
+LIMITS = {
+    b"CREATE": "a store has at most 1,000 tables, and a unit 1,048,576 bytes of changes",
+    b"SELECT": "a unit has at most 65,535 claims: commit, and go on",
+    b"": "a row has at most 4,000 bytes, and a unit 1,048,576 bytes of changes and 65,535 claims: commit more often",
+}
 LACKS = 'docs/SQL.md, "What there is not"'
 LONGEST_SHOWN = 24
 
@@ -89,10 +95,7 @@ def of_limit(text):
     fault = grammar.fault_of(text)
     if fault is not None:
         return fault.limit
-    return {
-        b"CREATE": "a store has at most 1,000 tables, and a unit 1,048,576 bytes of changes",
-        b"SELECT": "a unit has at most 65,535 claims: commit, and go on",
-    }.get(text.split(None, 1)[0].upper(), "a row has at most 4,000 bytes, and a unit 1,048,576 bytes of changes and 65,535 claims: commit more often")
+    return LIMITS.get(text.split(None, 1)[0].upper(), LIMITS[b""])
 
 
 def _lacking(fault, word, before, behind):

@@ -127,7 +127,7 @@ class Shell:
             return goes_on
         if self.is_typed and was_open:
             self._connect_anew(self._lost(text))
-        return self.is_typed
+        return self.is_typed and not self._depth
 
     def _fail(self, place, failure):
         """Tells of a failure. Whether the shell goes on."""
@@ -153,16 +153,14 @@ class Shell:
             self.names.note(text, cursor.description)
             if cursor.description is None:
                 return "done" if cursor.rowcount < 0 else counted(cursor.rowcount)
-            layout = LAYOUTS["records" if self.has_records else self.layout](cursor.description, self.out)
-            count, rows = 0, cursor.fetchmany(ROWS_AT_ONCE)
-            while rows or not count:
+            layout, count = LAYOUTS["records" if self.has_records else self.layout](cursor.description, self.out), 0
+            while True:
+                rows = cursor.fetchmany(ROWS_AT_ONCE)
                 layout.add(rows)
                 count += len(rows)
                 self.check_goes_on(f" behind {counted(count)}")
-                rows = cursor.fetchmany(ROWS_AT_ONCE)
                 if not rows:
-                    break
-            return counted(count)
+                    return counted(count)
 
     # ---- interrupts, and connections that are lost
 
@@ -191,7 +189,8 @@ class Shell:
         """What is lost with a connection."""
         branch, state = self.connection.branch, self.connection.last_unit_state()
         if branch is not None:
-            return f"{branch} is in doubt: \\recover lists it" if state == "in doubt" else f"{branch} was rolled back, or stands in \\recover"
+            fate = "is in doubt: \\recover lists it" if state == "in doubt" else "was rolled back, or stands in \\recover"
+            return f"{branch} {fate}"
         if state == "open":
             return "the unit under way was rolled back, unless it was being committed"
         return "" if text[:6].upper() == "SELECT" else "whether the statement was done, the tables tell"

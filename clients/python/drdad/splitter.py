@@ -4,7 +4,10 @@ import re
 IN_TEXT, IN_COMMENT = "'", "/*"
 # What a piece of a line ends with: outside of texts and comments, inside of a text, inside of a comment.
 ENDS = {"": re.compile(r"'|--[^\r\n]*|/\*|;"), IN_TEXT: re.compile("'"), IN_COMMENT: re.compile(r"\*/")}
-SAID = {IN_TEXT: "the last text has no ' at its end", IN_COMMENT: "the last comment has no */ at its end", "": "the last statement has no ; behind it"}
+SAID = {
+    IN_TEXT: "the last text has no ' at its end", IN_COMMENT: "the last comment has no */ at its end",
+    "": "the last statement has no ; behind it",
+}
 NOT_A_LINE_END = re.compile(r"[^\r\n]")
 
 

@@ -53,8 +53,10 @@ STEPS = (
 )
 # What differs from run to run.
 NORMAL = (
-    (re.compile(r"\(\d+\.\d ms\)"), "(T ms)"), (re.compile(r"(\r\d+ rows)+\^C(\r\d+ rows)*\n"), "2000 rows^C\n"), (re.compile(r"(\r\d+ rows)+\r"), ""),
-    (re.compile(r"interrupted; \d+ rows"), "interrupted; N rows"), (re.compile(r"^\d+ rows \(T ms\)(?=\ndrdad> .copy CUSTOMER TO)", re.M), "N rows (T ms)"),
+    (re.compile(r"\(\d+\.\d ms\)"), "(T ms)"), (re.compile(r"(\r\d+ rows)+\^C(\r\d+ rows)*\n"), "2000 rows^C\n"),
+    (re.compile(r"(\r\d+ rows)+\r"), ""),
+    (re.compile(r"interrupted; \d+ rows"), "interrupted; N rows"),
+    (re.compile(r"^\d+ rows \(T ms\)(?=\ndrdad> .copy CUSTOMER TO)", re.M), "N rows (T ms)"),
     (re.compile(r"drdad-shell \d[\d.]*"), "drdad-shell VERSION"), (re.compile(r"(the connection broke: ).*"), r"\1.."),
 )
 

@@ -27,8 +27,10 @@ SAID = (
 )
 LIMITS = (
     ("SELECT * FROM T WHERE " + "(" * 65, "nested at most 64 deep"), ("INSERT INTO T VALUES (" + "?, " * 128 + "?)", "at most 128 markers"),
-    ("CREATE TABLE T (V VARCHAR(2001), PRIMARY KEY (V))", "at most 2,000 bytes"), ("SELECT " + "K, " * 64 + "K FROM T", "at most 64 columns"),
-    ("INSERT INTO T VALUES (1)", "1,048,576 bytes"), ("SELECT * FROM T", "65,535 claims"), ("CREATE TABLE T (K INT, PRIMARY KEY (K))", "1,000 tables"),
+    ("CREATE TABLE T (V VARCHAR(2001), PRIMARY KEY (V))", "at most 2,000 bytes"),
+    ("SELECT " + "K, " * 64 + "K FROM T", "at most 64 columns"),
+    ("INSERT INTO T VALUES (1)", "1,048,576 bytes"), ("SELECT * FROM T", "65,535 claims"),
+    ("CREATE TABLE T (K INT, PRIMARY KEY (K))", "1,000 tables"),
 )
 # Lines, and what they complete: the line where it begins, and the text.
 CUT = (
