@@ -18,10 +18,10 @@ from .type_objects import (
 from .version import __version__
 
 __all__ = [
-    "BINARY", "DATETIME", "NUMBER", "ROWID", "STRING", "Binary", "Connection", "Cursor", "DataError", "DatabaseError", "Date",
-    "DateFromTicks", "Error", "HeuristicError", "IntegrityError", "InterfaceError", "InternalError", "NotSupportedError",
-    "OperationalError", "Pool", "ProgrammingError", "Time", "TimeFromTicks", "Timestamp", "TimestampFromTicks", "Warning", "Xid", "__version__", "apilevel",
-    "connect", "paramstyle", "retry", "threadsafety",
+    "BINARY", "Binary", "Connection", "Cursor", "DATETIME", "DataError", "DatabaseError", "Date", "DateFromTicks",
+    "Error", "HeuristicError", "IntegrityError", "InterfaceError", "InternalError", "NUMBER", "NotSupportedError",
+    "OperationalError", "Pool", "ProgrammingError", "ROWID", "STRING", "Time", "TimeFromTicks", "Timestamp",
+    "TimestampFromTicks", "Warning", "Xid", "__version__", "apilevel", "connect", "paramstyle", "retry", "threadsafety",
 ]
 
 apilevel = "2.0"

@@ -47,7 +47,8 @@ def completed(host, port, database, user, password):
     given = _filled(given, Address(HOST, PORT, None, None, os.environ.get("DRDAD_PASSWORD")))
     missing = [name for name, value in given._asdict().items() if value is None]
     if missing:
-        raise ProgrammingError(f"connect() is told no {' and no '.join(missing)}: say connect(\"{SCHEME}USER@HOST:PORT/RDB\", password=..)")
+        wanted = f'connect("{SCHEME}USER@HOST:PORT/RDB", password=..)'
+        raise ProgrammingError(f"connect() is told no {' and no '.join(missing)}: say {wanted}")
     return given
 
 

@@ -1,5 +1,5 @@
 """A shell: SQL over lines ended by `;`, and commands behind a backslash, over a connection that is made anew where a person types."""
-import time
+import contextlib, time
 
 from .commands import Commands
 from .errors import Error
@@ -41,7 +41,8 @@ class Shell:
         self._connect, self.connection = connect, connect()
         self.out, self.errors, self.is_typed, self.keeps_going = out, errors, is_typed, keeps_going
         self.layout, self.has_records, self.is_timed = layout, False, True
-        self.has_failed, self.is_busy, self.is_interrupted = False, False, False
+        # An interrupt is raised where a line or a connection is waited for, and else noted for the statement under way.
+        self.has_failed, self.raises_interrupts, self.is_interrupted = False, False, False
         self.splitter, self.names, self._depth = Splitter(WORDS, is_typed), Names(), 0
         self._commands = Commands(self)
 
@@ -97,8 +98,9 @@ class Shell:
 
     def _done(self, place, text):
         """Does it, and says what became of it. Whether the shell goes on."""
-        self.is_busy, self.is_interrupted, began, was_open = True, False, time.monotonic(), self.connection.is_open()
+        began, was_open = time.monotonic(), self.connection.is_open()
         try:
+            self.check_goes_on()
             if text.startswith("\\"):
                 said = self._commands.run(text[1:])
             else:
@@ -111,8 +113,6 @@ class Shell:
             return self._fail(place, "interrupted")
         except (Error, OSError, UnicodeError) as failure:
             return self._failed(place, text, failure, was_open)
-        finally:
-            self.is_busy = False
         if said is False:
             return False
         if said and LAYOUTS[self.layout].is_for_people:
@@ -166,11 +166,20 @@ class Shell:
 
     def interrupt(self):
         """Ends what is under way, in a signal: what the server still answers is waited for a little, or not at all where it is asked
-        once more. Raises KeyboardInterrupt where nothing is under way."""
-        if not self.is_busy:
+        once more. Raises KeyboardInterrupt where a line or a connection is waited for."""
+        if self.raises_interrupts:
             raise KeyboardInterrupt
         self.connection.hurry(0 if self.is_interrupted else GRACE_SECONDS)
         self.is_interrupted = True
+
+    @contextlib.contextmanager
+    def interruptible(self):
+        """Here an interrupt is raised."""
+        self.raises_interrupts = True
+        try:
+            yield
+        finally:
+            self.raises_interrupts = False
 
     def open_connection(self):
         """The connection; where a person types one that is closed is made anew."""
@@ -181,9 +190,10 @@ class Shell:
 
     def _replace(self):
         """Makes the connection anew, with the same settings."""
-        autocommit, self.is_busy = self.connection.autocommit, False
-        self.connection = self._connect()
-        self.is_busy, self.connection.autocommit = True, autocommit
+        autocommit = self.connection.autocommit
+        with self.interruptible():
+            self.connection = self._connect()
+        self.connection.autocommit = autocommit
 
     def _lost(self, text):
         """What is lost with a connection."""

@@ -68,13 +68,22 @@ def typed_lines(shell):
     """The lines that a person types, each behind a prompt. At its end the shell is asked whether it may end."""
     while True:
         try:
-            yield input(shell.prompt()) + "\n"
+            line = asked(shell, shell.prompt())
         except KeyboardInterrupt:
             print()
             shell.splitter.clear()
         except EOFError:
             print()
             return
+        else:
+            yield line + "\n"
+
+
+def asked(shell, prompt):
+    """A line that is typed; KeyboardInterrupt and EOFError where it is given up."""
+    shell.is_interrupted = False
+    with shell.interruptible():
+        return input(prompt)
 
 
 def run(shell):
@@ -82,5 +91,5 @@ def run(shell):
     completes(shell)
     with history(), interrupts(shell):
         shell.run(typed_lines(shell))
-        while not shell.ends(input):
+        while not shell.ends(lambda question: asked(shell, question)):
             shell.run(typed_lines(shell))

@@ -17,7 +17,7 @@ SILENT_SECONDS = 0.5
 class OverAServer(unittest.TestCase):
     """Each test has a store of its own, which is served, and a connection to it where it asks for one."""
 
-    size = 4 << 20
+    size = 16 << 20
 
     def setUp(self):
         folder = tempfile.TemporaryDirectory()

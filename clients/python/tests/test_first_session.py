@@ -82,8 +82,7 @@ class Session:
         os.chdir(self.folder)
         with Terminal(["bash", "--norc", "--noprofile", "-i"], self.around()) as terminal:
             terminal.types("$ ", "stty cols 200; bind 'set enable-bracketed-paste off'")
-            terminal.until("off'\n")
-            began = len(terminal.screen)
+            began = terminal.until("off'\n")
             try:
                 for prompt, what in STEPS:
                     self.do(terminal, prompt, what)

@@ -23,13 +23,14 @@ class Terminal:
             os.waitpid(self._process, 0)
 
     def until(self, said, seconds=WAITS):
-        """Reads until a text stands on the screen, behind where the last one was found."""
+        """Reads until a text stands on the screen, behind where the last one was found, and gives the place behind it."""
         ends = time.monotonic() + seconds
         while (found := self.screen.find(said, self._read)) < 0:
             if not select.select([self._ours], [], [], max(0, ends - time.monotonic()))[0]:
                 raise AssertionError(f"{said!r} did not come, but {self.screen[self._read:]!r}")
             self._take()
         self._read = found + len(said)
+        return self._read
 
     def _take(self):
         try:
