@@ -94,9 +94,11 @@ class Link:
             raise
 
     def _ask(self, sent):
-        if self._socket.send(sent) < len(sent):
-            raise ConnectionError("it takes nothing more")
-        self._wait(False, time.monotonic() + self._seconds)
+        deadline = time.monotonic() + self._seconds
+        left = sent[self._send(sent):]
+        while left and self._wait(True, deadline)[1]:
+            left = left[self._send(left):]
+        self._wait(False, deadline)
         came = self._socket.recv(FIRST_AT_ONCE)
         if not came:
             raise ConnectionError("the server closed it")

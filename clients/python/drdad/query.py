@@ -64,6 +64,8 @@ class Shortcut:
         """The chain, with the data object of its parameters or with none."""
         if not data:
             return self._alone + self._tail
+        if len(data) > wire.MOST_OF_SEGMENT - wire.HEADER.size:
+            return self._request + wire.dss(self._form, 1, data) + self._tail
         return b"".join((self._request, wire.HEADER.pack(6 + len(data), 0xD0, self._form, 1), data, self._tail))
 
 

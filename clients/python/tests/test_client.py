@@ -94,6 +94,8 @@ class Connecting(OverAServer):
             for _ in range(3):
                 self.assertEqual(cursor.execute(f"SELECT * FROM {table} WHERE K > ?", (9,)).fetchall(), long)
                 self.assertEqual(cursor.execute(f"SELECT K FROM {table} WHERE K < ?", (3,)).fetchone(), (1,))
+                marks = " OR ".join(["V = ?"] * 128)
+                self.assertEqual(cursor.execute(f"SELECT K FROM {table} WHERE {marks}", ["q" * 2000] * 127 + ["y"]).fetchall(), [(1,), (2,)])
             connection.close()
 
 
