@@ -24,6 +24,8 @@ SHAPES = (
     (BYTES, re.compile(rb"[Xx]'(?:[0-9A-Fa-f]{2})*'")), (BAD, re.compile(rb"[Xx]'")), (NAME, re.compile(rb"[A-Za-z][A-Za-z0-9_]*")),
     (NUMBER, re.compile(rb"[0-9]+")), (TEXT, re.compile(rb"'(?:[^']|'')*'(?!')")), (None, re.compile(rb"<=|<>|>=|[<>=(),+\-?*]")),
 )
+# A letter of UTF-8, or any byte.
+LETTER = re.compile(rb"[\xc0-\xff][\x80-\xbf]+|.", re.S)
 SIGNED = re.compile(rb"-[0-9]+")
 
 Token = namedtuple("Token", "kind at text")
@@ -46,7 +48,7 @@ def token_at(text, at):
     for kind, shape in SHAPES:
         if found := shape.match(text, at):
             return _judged(kind, at, found[0])
-    return Token(BAD, at, text[at:at + 1])
+    return Token(BAD, at, LETTER.match(text, at)[0])
 
 
 def _judged(kind, at, spelled):

@@ -102,7 +102,7 @@ def _lacking(fault, word, before, behind):
     """What the writer looks for that is not there, or None."""
     if word == "(" and before in FUNCTIONS:
         return f"no {before}"
-    if before in ("IF", "DISTINCT") and not fault.wanted[0] == grammar.NAME:
+    if (before, word) == ("IF", "NOT") or before == "DISTINCT" and fault.token.kind == grammar.NAME:
         return f"no {before}"
     for one in (word, behind if word == "NOT" else ""):
         if one in NO_SUCH:
@@ -148,7 +148,7 @@ def _habit(fault):
     token, before = fault.token, fault.before
     if token.kind == "PRIMARY":
         return "PRIMARY KEY (..) stands behind the columns, and a comma before it"
-    if token.text == b")" and "NOT" not in fault.wanted[:1] and fault.wanted[-1:] == (",",) or fault.wanted == ("NOT", ","):
+    if fault.wanted in ((",",), ("NOT", ",")):
         return "a table has PRIMARY KEY (..) behind its columns, and a comma before it"
     if before is not None and before.kind in grammar.SIZED_TYPES:
         return f"a length in parentheses is wanted, as in {before.kind}(60)"
