@@ -1,7 +1,7 @@
 """A terminal at which a test types."""
 import os, pty, select, signal, time
 
-WAITS = 90.0
+WAITS = 300.0
 
 
 class Terminal:
