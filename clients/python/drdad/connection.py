@@ -1,14 +1,19 @@
 """Connections: units of work, and global units by the two-phase calls of PEP 249."""
-import contextlib, math, weakref
+from __future__ import annotations
 
-from . import errors, wire
-from .cursor import Cursor, statement_bytes
+import contextlib, math, threading, weakref
+from collections.abc import Callable, Iterable, Sequence
+from typing import Any
+
+from . import errors, loading, reasons, wire
+from .cursor import Cursor, statement_of
 from .errors import Error, InterfaceError, OperationalError, ProgrammingError
 from .link import Link
-from .query import Sections
-from .type_objects import Xid, description_of, xid_of
+from .query import COMMITS, Query, Sections
+from .threads import alone
+from .type_objects import Xid, xid_of
 
-COMMITS, ROLLS_BACK = (wire.ddm(wire.RDBCMM),), (wire.ddm(wire.RDBRLLBCK),)
+ROLLS_BACK = (wire.ddm(wire.RDBRLLBCK),)
 
 # How the branch of this conversation stands.
 ACTIVE, ENDED, PREPARED, READ_ONLY = "active", "ended", "prepared", "read only"
@@ -21,12 +26,15 @@ class Connection:
     DataError, OperationalError, IntegrityError = errors.DataError, errors.OperationalError, errors.IntegrityError
     InternalError, ProgrammingError, NotSupportedError = errors.InternalError, errors.ProgrammingError, errors.NotSupportedError
 
-    def __init__(self, host, port, database, user, password, timeout=10.0, autocommit=False, watch=None):
-        if not 0 < timeout < math.inf:
-            raise ProgrammingError("the timeout is a number of seconds above 0")
+    def __init__(self, host: str, port: int, database: str, user: str, password: str, timeout: float | None = 10.0,
+                 autocommit: bool = False, watch: Callable | None = None):
+        if timeout is not None and not 0 < timeout < math.inf:
+            raise ProgrammingError("the timeout is a number of seconds above 0, or None")
         names = [_checked_name(name) for name in (database, user, password)]
         self._autocommit, self._has_work, self._branch = bool(autocommit), False, None
-        self._queries, self._abandoned = weakref.WeakSet(), []
+        self._alone = threading.RLock()
+        self._queries: weakref.WeakSet = weakref.WeakSet()
+        self._abandoned: list = []
         self._link = Link(host, port, timeout, watch)
         try:
             with self._judged():
@@ -56,8 +64,11 @@ class Connection:
         try:
             yield
         except wire.WireFault as fault:
-            self._link.close()
-            raise InterfaceError(f"the server answered otherwise than it should: {fault}") from fault
+            raise self._misled(fault) from fault
+
+    def _misled(self, fault):
+        self._link.close()
+        return InterfaceError(f"the server answered otherwise than it should: {fault}")
 
     def _ask(self, *commands):
         """A chain of commands and the objects that answer each; the first failure is raised."""
@@ -79,15 +90,70 @@ class Connection:
         answers = self._link.exchange(chain)
         for section in closing:
             self._sections.give_back(section)
+        return self._done(answers, len(closing), len(commands), commits)
+
+    def _done(self, answers, before, count, commits):
+        """The answers to so many commands behind others; the first failure among all is raised."""
         try:
             _raise_first(answers, self._judged)
         except Error as failure:
             if failure.place is not None:
-                failure.place -= len(closing)
+                failure.place -= before
+                failure.done = [_is_done(answer) for answer in answers[before:before + count]]
             if commits:
                 self._end_refused(answers[-1])
             raise
-        return answers[len(closing):len(closing) + len(commands)]
+        return answers[before:before + count]
+
+    def _asked_again(self, text, data, is_query):
+        """Has a text run once more whose section is ready for it: the section, how it is run again, and the bytes that came first;
+        None where none is ready."""
+        section = None if self._abandoned or self._link.is_watched() else self._sections.prepared(text)
+        if section is None:
+            return None, None, None
+        commits = self._autocommit and self._branch is None
+        shortcut = section.shortcut(is_query, commits)
+        if self._branch is None:
+            self._has_work = not commits
+        return section, shortcut, self._link.ask(shortcut.sends(data))
+
+    def _read_again(self, came):
+        """The answer to a text that was run once more, behind the bytes of it that came first."""
+        commits = self._autocommit and self._branch is None
+        return self._done(self._link.finish(came, 1 + commits), 0, 1, commits)[0]
+
+    def _run_again(self, text, data):
+        """How many rows a prepared text changes, run once more; None where no section has it."""
+        section, shortcut, came = self._asked_again(text, data, False)
+        if section is None:
+            return None
+        count = shortcut.known(came)
+        if count is None:
+            answer = self._read_again(came)
+            with self._judged():
+                count = wire.card(wire.find(answer, wire.SQLCARD)).rows
+            if self._link.came_whole:
+                shortcut.learn(came, count)
+        return count
+
+    def _open_again(self, text, data):
+        """The query of a prepared text, opened once more; None where no section has it."""
+        section, shortcut, came = self._asked_again(text, data, True)
+        if section is None:
+            return None
+        try:
+            rows = shortcut.known(came)
+        except wire.WireFault as fault:
+            raise self._misled(fault) from fault
+        if rows is not None:
+            return Query(section, rows)
+        answer = self._read_again(came)
+        self._sections.take(text)
+        with self._judged():
+            query = self._opened(Query.opened(section, answer, self._abandoned))
+            if self._link.came_whole and not query.is_open:
+                shortcut.learn(came)
+        return query
 
     def _end_refused(self, answer):
         """Ends the unit of a statement in autocommit mode that failed, where the answer to its commit does not say so."""
@@ -205,27 +271,42 @@ class Connection:
     # ---- units of work
 
     @property
-    def autocommit(self):
+    def closed(self) -> bool:
+        """Whether it was closed, or lost."""
+        return self._link.is_closed()
+
+    def is_open(self) -> bool:
+        return not self._link.is_closed()
+
+    def is_usable(self) -> bool:
+        """Whether it is open, and the server has not closed it since."""
+        return self._link.is_quiet()
+
+    @property
+    def autocommit(self) -> bool:
         """Whether each statement is a unit of its own. What is under way when it is set is committed."""
         return self._autocommit
 
     @autocommit.setter
-    def autocommit(self, wanted):
+    @alone
+    def autocommit(self, wanted: bool) -> None:
         self._check_outside("a change of autocommit")
         if wanted and self._has_work:
             self.commit()
         self._autocommit = bool(wanted)
 
-    def cursor(self):
+    def cursor(self) -> Cursor:
         self._check_open()
         return Cursor(self)
 
-    def commit(self):
+    @alone
+    def commit(self) -> None:
         self._check_outside("commit()")
         self._ask(COMMITS)
         self._has_work = False
 
-    def rollback(self):
+    @alone
+    def rollback(self) -> None:
         self._check_outside("rollback()")
         self._roll_back()
 
@@ -235,34 +316,70 @@ class Connection:
         self._lose_queries()
         self._sections.forget()
 
-    def close(self):
-        """Ends the conversation; once more does nothing."""
+    @alone
+    def close(self) -> None:
+        """Ends the conversation, and rolls back what was not committed; once more does nothing."""
         self._link.close()
 
-    def is_open(self):
-        return not self._link.is_closed()
+    def hurry(self, seconds: float) -> None:
+        """What is under way has to be answered within so many seconds; else the connection is closed. Another thread may call it, or a
+        handler of signals."""
+        self._link.hurry(seconds)
 
-    def is_global(self):
+    def unit_state(self) -> str:
+        """How the unit under way stands: idle, open, in doubt, or closed where the connection is."""
+        return "closed" if self.closed else self.last_unit_state()
+
+    def last_unit_state(self) -> str:
+        """The same where the connection is closed: how the unit stood last."""
+        if self._branch is not None:
+            return "in doubt" if self._branch[1] == PREPARED else "open"
+        return "open" if self._has_work else "idle"
+
+    @property
+    def branch(self) -> Xid | None:
+        """The transaction ID of the global unit under way."""
+        return None if self._branch is None else self._branch[0]
+
+    def is_global(self) -> bool:
         """Whether the unit under way is a global one."""
         return self._branch is not None
 
-    def describe(self, operation):
+    @alone
+    def describe(self, operation: str) -> list[tuple] | None:
         """What `description` will be of a statement, without running it: None where it gives no rows."""
-        section = self._through(statement_bytes(operation), True, lambda section: ())[0]
-        return [description_of(column) for column in section.columns] or None
+        text = statement_of(operation)[0]
+        with reasons.told(text):
+            section = self._through(text, True, lambda section: ())[0]
+        return list(section.description) or None
 
-    def __enter__(self):
+    def load(self, table: str, rows: Iterable[Sequence[Any]], columns: Sequence[str] | None = None,
+             progress: Callable[[int], Any] | bool = False) -> int:
+        """Inserts rows in units that the server takes, each committed before the next one begins, and gives how many they are. `columns`
+        are those that each row has values for; by default all, in the order of the table. `progress` is called with the number of rows
+        that are in, or is True for a line on standard error. Where it fails the units before stay in: `loaded` of the exception is how
+        many rows that are."""
+        return loading.load(self, table, rows, columns, progress)
+
+    def __enter__(self) -> Connection:
         return self
 
-    def __exit__(self, *_):
-        self.close()
+    def __exit__(self, kind, value, traceback) -> None:
+        """Commits the unit under way, or rolls it back where an exception came, and closes the connection. A global unit that is not
+        prepared is rolled back."""
+        try:
+            if kind is None and self._has_work and self._branch is None and not self.closed:
+                self.commit()
+        finally:
+            self.close()
 
     # ---- global units
 
-    def xid(self, format_id, global_transaction_id, branch_qualifier):
+    def xid(self, format_id: int, global_transaction_id: bytes, branch_qualifier: bytes) -> Xid:
         return Xid(format_id, global_transaction_id, branch_qualifier)
 
-    def tpc_begin(self, xid):
+    @alone
+    def tpc_begin(self, xid: Xid | Sequence) -> None:
         self._check_outside("tpc_begin()")
         xid = xid_of(xid)
         if self._has_work:
@@ -270,7 +387,8 @@ class Connection:
         self._sync((wire.START, wire.NO_FLAGS), xid)
         self._branch = (xid, ACTIVE)
 
-    def tpc_end(self):
+    @alone
+    def tpc_end(self) -> None:
         """Ends the work in the global unit, and does not prepare it; tpc_prepare, tpc_commit or tpc_rollback follows."""
         xid, state = self._inside("tpc_end()")
         if state != ACTIVE:
@@ -279,14 +397,16 @@ class Connection:
         self._branch = (xid, ENDED)
         self._lose_queries()
 
-    def tpc_prepare(self):
+    @alone
+    def tpc_prepare(self) -> None:
         xid, state = self._inside("tpc_prepare()")
         if state not in (ACTIVE, ENDED):
             raise ProgrammingError("the global unit is prepared already")
         code = self._end_and(wire.PREPARE, wire.NO_FLAGS)
         self._branch = (xid, READ_ONLY if code == wire.XA_RDONLY else PREPARED)
 
-    def tpc_commit(self, xid=None):
+    @alone
+    def tpc_commit(self, xid: Xid | Sequence | None = None) -> None:
         """Commits the global unit of this connection, in one phase where it is not prepared; or, outside of one, that of a
         transaction ID, as recovery does."""
         if xid is not None:
@@ -296,7 +416,8 @@ class Connection:
             self._end_and(wire.COMMIT, wire.NO_FLAGS if state == PREPARED else wire.TMONEPHASE)
         self._branch = None
 
-    def tpc_rollback(self, xid=None):
+    @alone
+    def tpc_rollback(self, xid: Xid | Sequence | None = None) -> None:
         if xid is not None:
             return self._decide(wire.ROLL_BACK, xid, "tpc_rollback(xid)")
         state = self._inside("tpc_rollback()")[1]
@@ -305,12 +426,14 @@ class Connection:
         self._branch = None
         self._sections.forget()
 
-    def tpc_forget(self, xid):
+    @alone
+    def tpc_forget(self, xid: Xid | Sequence) -> None:
         """Ends what is known of a branch that was decided heuristically: tpc_commit(xid) and tpc_rollback(xid) have told so, by
         HeuristicError."""
         self._decide(wire.FORGET, xid, "tpc_forget(xid)")
 
-    def tpc_recover(self):
+    @alone
+    def tpc_recover(self) -> list[Xid]:
         """The transaction IDs of all global units that are in doubt: prepared, or decided heuristically and not yet forgotten."""
         self._check_open()
         listed = self._sync((wire.RECOVER, wire.TMSTARTRSCAN | wire.TMENDRSCAN))[1]
@@ -366,12 +489,20 @@ class Connection:
 
 def _raise_first(answers, judged):
     """Raises the first failure among answers, with its place among them."""
-    for at, answer in enumerate(answers):
-        with judged():
-            failure = errors.of_answer(answer)
-        if failure:
-            failure.place = at
-            raise failure
+    with judged():
+        before = None
+        for at, answer in enumerate(answers):
+            if answer is before:
+                continue
+            before, failure = answer, errors.of_answer(answer)
+            if failure:
+                failure.place = at
+                raise failure
+
+
+def _is_done(answer):
+    """Whether a command of a chain that failed somewhere was done."""
+    return any(code == wire.SQLCARD for code, _ in answer) and errors.of_answer(answer) is None
 
 
 def _checked_name(name):

@@ -8,13 +8,14 @@ class Warning(Exception):  # noqa: A001, by the letter of PEP 249
 
 class Error(Exception):
     """The base of all errors. `sqlcode` and `sqlstate` are those of the SQLCARD that told of it, and `xacode` is the code of
-    XA, where there was one; `row` is the place of the row, from 0, in an
-    executemany. (`place` is that of the command in its chain.)"""
+    XA, where there was one; `row` is the place of the row, from 0, that an executemany was refused, and `done` the places of those that
+    are in the unit, as ranges. `said` is the text without what it says of other rows. (`place` is that of the command in its chain.)"""
 
     def __init__(self, text, sqlcode=None, sqlstate=None, xacode=None):
         super().__init__(text)
         self.sqlcode, self.sqlstate, self.xacode = sqlcode, sqlstate, xacode
         self.row = self.place = None
+        self.said, self.done = text, []
 
 
 class InterfaceError(Error):
@@ -63,7 +64,7 @@ BY_CLASS = {
 }
 
 SAID = {
-    -104: "the text is no statement, or names something twice",
+    -104: "the statement names a column twice, or assigns to one of the key",
     -204: "no table has this name",
     -206: "the table has no column of this name",
     -313: "the parameters do not match the markers",
@@ -75,7 +76,8 @@ SAID = {
     -601: "a table of this name is there already",
     -803: "a row of this key is there already",
     -904: "a limit of the server is reached",
-    -913: "another unit claims what the statement reads or writes",
+    -913: "another unit holds what the statement reads or writes, and nothing was done: roll back, and try again; "
+          "where that does not help a unit in doubt holds it (\\recover)",
 }
 
 CHECKS = {

@@ -1,334 +1,238 @@
-"""A shell: SQL over lines ended by `;`, results as tables, and commands behind a backslash."""
-import csv, time, unicodedata
+"""A shell: SQL over lines ended by `;`, and commands behind a backslash, over a connection that is made anew where a person types."""
+import contextlib, time
 
-from .errors import DataError, Error, ProgrammingError
-from .type_objects import BINARY, NUMBER, Xid
-from .units import ROWS_AT_ONCE, in_units
+from .commands import Commands
+from .errors import Error
+from .layouts import LAYOUTS, counted, shown
+from .names import Names
+from .splitter import IN_COMMENT, IN_TEXT, Splitter
+from .units import ROWS_AT_ONCE
 
-HELP = r"""Statements go over lines and end with ;   A line that begins with -- in front of one is passed over.
-\begin XID              begins a global unit; an XID is FORMAT:GLOBALHEX:BRANCHHEX, as in 1:6761:62
-\end                    ends the work in it
-\prepare                prepares it (and ends the work in it)
-\commit [XID]           commits the unit under way, or the prepared one of an XID
-\rollback [XID]         rolls it back
-\forget XID             ends what is known of a global unit that was decided heuristically (drdad decide)
-\recover                lists the XIDs of the global units in doubt: they wait for a decision, or to be forgotten
-\autocommit [on|off]    whether each statement is a unit of its own
-\timing [on|off]        whether it is said how long each thing took
-\d [TABLE]              the columns of a table
-\copy TABLE FROM FILE   inserts the rows of a CSV file; its first line may name the columns
-\?                      this
-\q                      ends"""
-
-NO_LIST = "the server can't list its tables; \\d TABLE shows the columns of one"
+WORDS = ("help", "quit", "exit")
+MOST_FILES_IN_FILES = 16
+GRACE_SECONDS = 2.0
+INSIDE = {
+    IN_TEXT: "a text is open, and this is in it: ' ends it, Ctrl-C gives the statement up",
+    IN_COMMENT: "a comment is open, and this is in it: */ ends it, Ctrl-C gives the statement up",
+}
+PROMPTS = {"idle": "drdad> ", "open": "drdad*> ", "in doubt": "drdad?> ", "closed": "drdad!> "}
 
 
-class Splitter:
-    """Statements and commands out of lines."""
-
-    def __init__(self):
-        self._text, self._in_quotes, self._line, self._start = "", False, 0, 0
-
-    def is_empty(self):
-        return not self._text.strip()
-
-    def clear(self):
-        self._text, self._in_quotes = "", False
-
-    def feed(self, line):
-        """What the line completes: the number of the line where it began, and a statement without its `;` or a command."""
-        self._line += 1
-        if self.is_empty():
-            self.clear()
-            self._start = self._line
-            if line.lstrip().startswith("\\"):
-                return [(self._line, line.strip())]
-            if line.lstrip().startswith("--"):
-                return []
-        return list(self._statements(line))
-
-    def _statements(self, line):
-        start = 0
-        for at, letter in enumerate(line):
-            if letter == "'":
-                self._in_quotes = not self._in_quotes
-            elif letter == ";" and not self._in_quotes:
-                text = (self._text + line[start:at]).strip()
-                self._text, start = "", at + 1
-                if text:
-                    yield self._start, text
-                self._start = self._line
-        self._text += line[start:]
+class Interrupted(Exception):
+    """A person wants the statement to end."""
 
 
-# ---- tables
+class Place:
+    """Where a text stands: a line of a file, of standard input, or of what is typed, which needs no telling."""
 
-def width(text):
-    """How many places a text takes on a terminal."""
-    return sum(0 if unicodedata.combining(one) else 2 if unicodedata.east_asian_width(one) in "WF" else 1 for one in text)
+    def __init__(self, name, is_told):
+        self._name, self._is_told, self.line = name, is_told, 0
 
+    def __str__(self):
+        name = f"{self._name}, " if self._name else ""
+        return f"{name}line {self.line}: " if self._is_told else ""
 
-def shown(value):
-    """A value as it is shown; what would move the cursor of a terminal is spelled out."""
-    if value is None:
-        return "NULL"
-    if isinstance(value, bytes):
-        return f"X'{value.hex().upper()}'"
-    return "".join(one if one.isprintable() else one.encode("unicode_escape").decode() for one in str(value))
-
-
-class Table:
-    """Rows under the names of their columns, aligned: numbers to the right."""
-
-    def __init__(self, description, out):
-        self._names, self._out = [shown(item[0]) for item in description], out
-        self._is_right = [item[1] == NUMBER for item in description]
-        self._widths = None
-
-    def add(self, rows):
-        cells = [[shown(value) for value in row] for row in rows]
-        if self._widths is None:
-            self._widths = [max(map(width, column)) for column in zip(self._names, *cells)]
-            self._write(self._names)
-            self._out.write("-+-".join("-" * size for size in self._widths) + "\n")
-        for row in cells:
-            self._write(row)
-
-    def _write(self, texts):
-        parts = []
-        for text, size, is_right in zip(texts, self._widths, self._is_right):
-            blanks = " " * (size - width(text))
-            parts.append(blanks + text if is_right else text + blanks)
-        self._out.write(" | ".join(parts).rstrip() + "\n")
-
-
-# ---- files
-
-class Copy:
-    """The rows of a CSV file for the columns of a table. The first line names columns where each field of it is one's name;
-    otherwise it is a row of all columns. An empty field is NULL in a column that takes it."""
-
-    def __init__(self, table, description, reader):
-        self._columns, self._reader = description, reader
-        by_name = {item[0].upper(): item for item in description}
-        self.first = next(reader, None)
-        if self.first and all(field.strip().upper() in by_name for field in self.first):
-            self._columns = [by_name[field.strip().upper()] for field in self.first]
-            self.first = None
-        names = ", ".join(item[0] for item in self._columns)
-        marks = ", ".join("?" * len(self._columns))
-        self.statement = f"INSERT INTO {table} ({names}) VALUES ({marks})"
-
-    def units(self):
-        """Lists of rows, as many as go at once, each row with the number of its line."""
-        rows = ((self._row(fields), self._reader.line_num) for fields in self._all() if fields)
-        return in_units(rows, lambda item: item[0])
-
-    def _all(self):
-        if self.first is not None:
-            yield self.first
-        yield from self._reader
-
-    def _row(self, fields):
-        if len(fields) != len(self._columns):
-            raise DataError(f"line {self._reader.line_num} has {len(fields)} fields, and not {len(self._columns)}")
-        return [self._value(item, field) for item, field in zip(self._columns, fields)]
-
-    def _value(self, item, field):
-        try:
-            if field == "" and item[6]:
-                return None
-            if item[1] == NUMBER:
-                return int(field)
-            if item[1] == BINARY:
-                return bytes.fromhex(field[2:-1] if field[:2].upper() == "X'" and field.endswith("'") else field)
-            return field
-        except ValueError as fault:
-            raise DataError(f"line {self._reader.line_num}: {field!r} is no value of {item[0]} ({item[1]})") from fault
-
-
-# ---- the shell
 
 class Shell:
-    """Does what lines ask over a connection. Results go to one stream, what failed and how far a copy is to another."""
+    """Does what lines ask. `connect` makes a connection. Results go to one stream, what failed and how far a copy is to another. What
+    is typed goes on behind whatever fails, a script ends there unless it `keeps_going`."""
 
-    def __init__(self, connection, out, errors, is_script):
-        self._connection, self._out, self._errors, self._is_script = connection, out, errors, is_script
-        self._splitter, self.has_failed, self._is_timed = Splitter(), False, True
-        self._commands = {
-            "begin": self._begin, "end": self._end, "prepare": self._prepare, "commit": self._commit, "rollback": self._roll_back,
-            "forget": self._forget, "recover": self._recover, "autocommit": self._set_autocommit, "timing": self._set_timing,
-            "d": self._describe, "copy": self._copy, "?": self._help,
-        }
+    def __init__(self, connect, out, errors, layout="table", is_typed=False, keeps_going=False):
+        self._connect, self.connection = connect, connect()
+        self.out, self.errors, self.is_typed, self.keeps_going = out, errors, is_typed, keeps_going
+        self.layout, self.has_records, self.is_timed = layout, False, True
+        # An interrupt is raised where a line or a connection is waited for, and else noted for the statement under way.
+        self.has_failed, self.raises_interrupts, self.is_interrupted = False, False, False
+        self.splitter, self.names, self._depth = Splitter(WORDS, is_typed), Names(), 0
+        self._commands = Commands(self)
+
+    # ---- lines
 
     def prompt(self):
-        return "drdad> " if self._splitter.is_empty() else "   ... "
+        """What stands in front of the next line: `*` where a unit is open, `?` where it is in doubt, `!` where there is no connection; in a
+        statement what has to end first."""
+        prompt = PROMPTS[self.connection.unit_state()]
+        return prompt if self.splitter.is_empty() else f"{self.splitter.inside or '...':>{len(prompt) - 2}}> "
 
-    def clear(self):
-        self._splitter.clear()
-
-    def take(self, line):
-        """Does what a line completes. Whether the shell goes on."""
-        for number, text in self._splitter.feed(line):
-            if text == "\\q":
-                return False
-            if not self._done(number, text):
-                return False
-        return True
-
-    def finish(self):
-        """At the end of a script nothing may be left that no `;` ended."""
-        if not self._splitter.is_empty():
-            self._fail(self._splitter._start, "the last statement has no ; behind it")
-
-    def _done(self, number, text):
-        began = time.monotonic()
+    def run(self, lines, name="", ends_anywhere=False):
+        """Does what the lines ask. Whether the shell goes on. The last statement may stand without `;` where it `ends_anywhere`."""
+        place, outer = Place(name, not self.is_typed or self._depth > 0), self.splitter
+        self.splitter = splitter = Splitter(WORDS, self.is_typed and not self._depth)
         try:
-            said = self._command(text[1:]) if text.startswith("\\") else self._statement(text)
-        except Error as failure:
-            self._fail(number, failure)
-            return self._connection.is_open()
-        if said:
-            took = f" ({(time.monotonic() - began) * 1000:.1f} ms)" if self._is_timed else ""
-            self._out.write(f"{said}{took}\n")
-        self._out.flush()
+            for line in lines:
+                if self.is_typed and splitter.inside and line.strip().lstrip("\\").lower() in (*WORDS, "?", "q"):
+                    self.say(INSIDE[splitter.inside])
+                if not self._take(splitter.feed(line), place):
+                    return False
+            return self._finish(splitter, place, ends_anywhere)
+        finally:
+            self.splitter = outer
+
+    def run_file(self, path):
+        """The same of a file. A failure to read it is an OSError or a UnicodeError."""
+        if self._depth == MOST_FILES_IN_FILES:
+            raise OSError("files ask for files without an end")
+        self._depth += 1
+        try:
+            with open(path, encoding="utf-8-sig") as file:
+                return self.run(file, path)
+        finally:
+            self._depth -= 1
+
+    def _take(self, texts, place):
+        for place.line, text in texts:
+            if not self._done(place, text):
+                return False
         return True
 
-    def _fail(self, number, failure):
-        self.has_failed = True
-        self._out.flush()
-        where = f"line {number}: " if self._is_script else ""
-        self._errors.write(f"{where}error: {shown(failure)}\n")
-        self._errors.flush()
+    def _finish(self, splitter, place, ends_anywhere):
+        """At the end nothing may be left that was to go on."""
+        if ends_anywhere and not splitter.inside:
+            return self._take(splitter.rest(), place)
+        if splitter.is_empty() or self.is_typed and not self._depth:
+            return True
+        place.line = splitter.start
+        return self._fail(place, splitter.complaint())
 
-    def _statement(self, text):
-        with self._connection.cursor() as cursor:
+    # ---- what one text asks
+
+    def _done(self, place, text):
+        """Does it, and says what became of it. Whether the shell goes on."""
+        began, was_open = time.monotonic(), self.connection.is_open()
+        try:
+            self.check_goes_on()
+            if text.startswith("\\"):
+                said = self._commands.run(text[1:])
+            else:
+                said = self.statement(text)
+        except Interrupted as stopped:
+            return self._fail(place, f"interrupted{stopped}")
+        except BrokenPipeError:
+            raise
+        except KeyboardInterrupt:
+            return self._fail(place, "interrupted")
+        except (Error, OSError, UnicodeError) as failure:
+            return self._failed(place, text, failure, was_open)
+        if said is False:
+            return False
+        if said and LAYOUTS[self.layout].is_for_people:
+            took = f" ({(time.monotonic() - began) * 1000:.1f} ms)" if self.is_timed else ""
+            self.out.write(f"{said}{took}\n")
+        self.out.flush()
+        return True
+
+    def _failed(self, place, text, failure, was_open):
+        goes_on = self._fail(place, failure)
+        if self.connection.is_open():
+            return goes_on
+        if self.is_typed and was_open:
+            self._connect_anew(self._lost(text))
+        return self.is_typed and not self._depth
+
+    def _fail(self, place, failure):
+        """Tells of a failure. Whether the shell goes on."""
+        self.has_failed = True
+        self.out.flush()
+        self.say(f"{place}error: {shown(failure)}")
+        return self.is_typed and not self._depth or self.keeps_going
+
+    def say(self, text):
+        """A line beside the results."""
+        self.errors.write(text + "\n")
+        self.errors.flush()
+
+    def check_goes_on(self, behind=""):
+        """Here a statement may be left, with a word on what is left behind."""
+        if self.is_interrupted:
+            raise Interrupted(behind)
+
+    def statement(self, text):
+        """Runs a statement, writes its rows, and gives what is said of it."""
+        with self.open_connection().cursor() as cursor:
             cursor.execute(text)
+            self.names.note(text, cursor.description)
             if cursor.description is None:
                 return "done" if cursor.rowcount < 0 else counted(cursor.rowcount)
-            table = Table(cursor.description, self._out)
-            table.add(cursor.fetchmany(ROWS_AT_ONCE))
-            while rows := cursor.fetchmany(ROWS_AT_ONCE):
-                table.add(rows)
-            return counted(cursor.rowcount)
+            layout, count = LAYOUTS["records" if self.has_records else self.layout](cursor.description, self.out), 0
+            while True:
+                rows = cursor.fetchmany(ROWS_AT_ONCE)
+                layout.add(rows)
+                count += len(rows)
+                self.check_goes_on(f" behind {counted(count)}")
+                if not rows:
+                    return counted(count)
 
-    def _command(self, text):
-        word, _, rest = text.partition(" ")
-        command = self._commands.get(word)
-        if command is None:
-            raise ProgrammingError(f"there is no \\{word}; \\? lists what there is")
-        return command(rest.strip().rstrip(";").strip())
+    # ---- interrupts, and connections that are lost
 
-    def _help(self, _):
-        self._out.write(HELP + "\n")
+    def interrupt(self):
+        """Ends what is under way, in a signal: what the server still answers is waited for a little, or not at all where it is asked
+        once more. Raises KeyboardInterrupt where a line or a connection is waited for."""
+        if self.raises_interrupts:
+            raise KeyboardInterrupt
+        self.connection.hurry(0 if self.is_interrupted else GRACE_SECONDS)
+        self.is_interrupted = True
 
-    def _begin(self, text):
-        self._connection.tpc_begin(Xid.parse(text))
-        return f"begun {text}"
-
-    def _end(self, _):
-        self._connection.tpc_end()
-        return "ended"
-
-    def _prepare(self, _):
-        self._connection.tpc_prepare()
-        return "prepared"
-
-    def _commit(self, text):
-        connection = self._connection
-        if text or connection.is_global():
-            connection.tpc_commit(*([Xid.parse(text)] if text else []))
-        else:
-            connection.commit()
-        return "committed"
-
-    def _roll_back(self, text):
-        connection = self._connection
-        if text or connection.is_global():
-            connection.tpc_rollback(*([Xid.parse(text)] if text else []))
-        else:
-            connection.rollback()
-        return "rolled back"
-
-    def _forget(self, text):
-        self._connection.tpc_forget(Xid.parse(text))
-        return "forgotten"
-
-    def _recover(self, _):
-        listed = self._connection.tpc_recover()
-        self._out.write("".join(f"{xid}\n" for xid in listed))
-        return f"{len(listed)} in doubt"
-
-    def _set_autocommit(self, text):
-        if text:
-            self._connection.autocommit = is_on("autocommit", text)
-        return f"autocommit {'on' if self._connection.autocommit else 'off'}"
-
-    def _set_timing(self, text):
-        if text:
-            self._is_timed = is_on("timing", text)
-        return f"timing {'on' if self._is_timed else 'off'}"
-
-    def _describe(self, name):
-        if not name:
-            self._out.write(NO_LIST + "\n")
-            return None
-        description = self._connection.describe(f"SELECT * FROM {name}")
-        table = Table([("column", "VARCHAR"), ("type", "VARCHAR"), ("NULL", "VARCHAR")], self._out)
-        table.add([(item[0], type_of(item), "" if item[6] else "NOT NULL") for item in description])
-        return counted(len(description), "column")
-
-    def _copy(self, text):
-        words = text.split(None, 2)
-        if len(words) != 3 or words[1].upper() != "FROM":
-            raise ProgrammingError("\\copy TABLE FROM FILE")
-        name = words[2].strip("'\"")
-        description = self._connection.describe(f"SELECT * FROM {words[0]}")
+    @contextlib.contextmanager
+    def interruptible(self):
+        """Here an interrupt is raised."""
+        self.raises_interrupts = True
         try:
-            with open(name, newline="", encoding="utf-8") as file:
-                return self._copy_rows(Copy(words[0], description, csv.reader(file, strict=True)))
-        except (OSError, UnicodeDecodeError, csv.Error) as fault:
-            raise DataError(f"{name}: {fault}") from fault
-
-    def _copy_rows(self, copy):
-        """Inserts the rows, list by list; in autocommit mode each list is a unit."""
-        count, cursor = 0, self._connection.cursor()
-        try:
-            for unit in copy.units():
-                self._insert(cursor, copy.statement, *zip(*unit))
-                count += len(unit)
-                self._progress(f"\r{count} rows")
-        except Error as failure:
-            kept = "in" if self._connection.autocommit else "inserted in the unit under way"
-            raise type(failure)(f"{failure}; the {count} rows before are {kept}", failure.sqlcode, failure.sqlstate) from failure
+            yield
         finally:
-            self._progress("\r")
-        return counted(count)
+            self.raises_interrupts = False
 
-    @staticmethod
-    def _insert(cursor, statement, rows, lines):
+    def open_connection(self):
+        """The connection; where a person types one that is closed is made anew."""
+        if not self.connection.is_open() and self.is_typed:
+            self._replace()
+            self.say("connected")
+        return self.connection
+
+    def _replace(self):
+        """Makes the connection anew, with the same settings."""
+        autocommit = self.connection.autocommit
+        with self.interruptible():
+            self.connection = self._connect()
+        self.connection.autocommit = autocommit
+
+    def _lost(self, text):
+        """What is lost with a connection."""
+        branch, state = self.connection.branch, self.connection.last_unit_state()
+        if branch is not None:
+            fate = "is in doubt: \\recover lists it" if state == "in doubt" else "was rolled back, or stands in \\recover"
+            return f"{branch} {fate}"
+        if state == "open":
+            return "the unit under way was rolled back, unless it was being committed"
+        return "" if text[:6].upper() == "SELECT" else "whether the statement was done, the tables tell"
+
+    def _connect_anew(self, lost):
+        """Goes on with a connection, or without one."""
         try:
-            cursor.executemany(statement, rows)
-        except Error as failure:
-            if failure.row is None:
-                raise
-            raise type(failure)(f"line {lines[failure.row]}: {failure}", failure.sqlcode, failure.sqlstate) from failure
+            self._replace()
+            self.say(f"connected anew{'; ' if lost else ''}{lost}")
+        except (Error, OSError, KeyboardInterrupt) as failure:
+            self.say(f"not connected: {shown(failure) or 'interrupted'}; each statement tries again{'; ' if lost else ''}{lost}")
 
-    def _progress(self, text):
-        if self._errors.isatty():
-            self._errors.write(text)
-            self._errors.flush()
+    def close(self):
+        """Ends the conversation, and the file that results went to."""
+        self.connection.close()
+        self._commands.close()
 
+    def ends(self, ask=None):
+        """Whether the shell may end: a unit that is open is rolled back then, of which a person is asked, who says no by n."""
+        state = self.connection.unit_state()
+        if state == "in doubt":
+            self.say(f"{self.connection.branch} stays in doubt: \\commit or \\rollback with it decides")
+        if state != "open":
+            return True
+        if ask is not None:
+            try:
+                answer = ask("the unit under way is not committed, and is rolled back. End? (y/n) ")
+            except EOFError:
+                answer = "y"
+            except KeyboardInterrupt:
+                answer = "n"
+            return answer.strip().lower().startswith("y")
+        self.say("the unit under way was not committed, and is rolled back")
+        return True
 
-def is_on(what, text):
-    if text.lower() not in ("on", "off"):
-        raise ProgrammingError(f"\\{what} is on or off")
-    return text.lower() == "on"
-
-
-def counted(count, what="row"):
-    return f"{count} {what}{'' if count == 1 else 's'}"
-
-
-def type_of(item):
-    return f"{item[1]}({item[3]})" if item[1].startswith("VAR") else item[1]

@@ -1,5 +1,7 @@
 """Type objects and constructors of PEP 249, and transaction IDs. Columns are numbers, texts and bytes; there is no other type, so
 that a date or a time is refused where it is given as a parameter."""
+from __future__ import annotations
+
 import datetime, re
 from collections import namedtuple
 
@@ -29,9 +31,13 @@ NUMBER = TypeObject("NUMBER", "SMALLINT", "INTEGER", "BIGINT")
 DATETIME = TypeObject("DATETIME")
 ROWID = TypeObject("ROWID")
 
-Binary = bytes
 Date, Time, Timestamp = datetime.date, datetime.time, datetime.datetime
 DateFromTicks, TimestampFromTicks = datetime.date.fromtimestamp, datetime.datetime.fromtimestamp
+
+
+def Binary(value: bytes | bytearray | memoryview | str) -> bytes:  # noqa: N802
+    """Bytes, as a VARBINARY takes them; those of a text are its UTF-8."""
+    return value.encode("utf-8") if isinstance(value, str) else bytes(memoryview(value))
 
 
 def TimeFromTicks(ticks):  # noqa: N802, by the letter of PEP 249
@@ -49,10 +55,14 @@ def description_of(column):
     return column.name, code, None, column.length, None, None, bool(column.sql_type & 1)
 
 
-class Xid(namedtuple("Xid", "format_id global_transaction_id branch_qualifier")):
-    """A transaction ID, spelled FORMAT:GLOBALHEX:BRANCHHEX. The null XID and an empty global part are none."""
+SPELLED = re.compile(r"([0-9]+)[: ] *((?:[0-9A-Fa-f]{2})+)[: ] *((?:[0-9A-Fa-f]{2})*|-)")
 
-    def __new__(cls, format_id, global_transaction_id, branch_qualifier):
+
+class Xid(namedtuple("Xid", "format_id global_transaction_id branch_qualifier")):
+    """A transaction ID, spelled FORMAT GLOBALHEX BRANCHHEX with - for an empty part, as `drdad indoubt` and `drdad decide` have it. The
+    null XID and an empty global part are none."""
+
+    def __new__(cls, format_id: int, global_transaction_id: bytes, branch_qualifier: bytes) -> Xid:
         parts = (global_transaction_id, branch_qualifier)
         is_good = isinstance(format_id, int) and 0 <= format_id < 2**32 - 1
         if not is_good or not all(isinstance(part, bytes) and len(part) <= 64 for part in parts) or not parts[0]:
@@ -61,14 +71,15 @@ class Xid(namedtuple("Xid", "format_id global_transaction_id branch_qualifier"))
         return super().__new__(cls, format_id, *parts)
 
     @classmethod
-    def parse(cls, text):
-        found = re.fullmatch(r"([0-9]+):((?:[0-9A-Fa-f]{2})+):((?:[0-9A-Fa-f]{2})*)", text)
+    def parse(cls, text: str) -> Xid:
+        """The ID that is spelled so, or with colons in place of the blanks."""
+        found = SPELLED.fullmatch(text.strip())
         if not found:
-            raise ProgrammingError(f"{text!r} is not FORMAT:GLOBALHEX:BRANCHHEX")
-        return cls(int(found[1]), bytes.fromhex(found[2]), bytes.fromhex(found[3]))
+            raise ProgrammingError(f"{text!r} is not FORMAT GLOBALHEX BRANCHHEX, as in 1 6761 62, with - for an empty part")
+        return cls(int(found[1]), bytes.fromhex(found[2]), bytes.fromhex(found[3].replace("-", "")))
 
-    def __str__(self):
-        return f"{self.format_id}:{self.global_transaction_id.hex()}:{self.branch_qualifier.hex()}"
+    def __str__(self) -> str:
+        return f"{self.format_id} {self.global_transaction_id.hex()} {self.branch_qualifier.hex() or '-'}"
 
     def wire(self):
         return wire.xid_bytes(*self)

@@ -3,6 +3,8 @@ docs/WIRE.md have them. Values go in and bytes come out, or the other way round;
 import functools, struct, sys
 from collections import namedtuple
 
+from . import compiled
+
 # Commands.
 EXCSAT = 0x1041  # exchange server attributes
 ACCSEC = 0x106D  # access security
@@ -171,6 +173,31 @@ def command(correlator, request, *data_objects, chained=False):
     return b"".join(dss(kind | form, correlator, part) for kind, form, part in zip(kinds, forms, parts))
 
 
+def chain(commands):
+    """The DSSs of a chain of commands, each a request and its data objects."""
+    out, before, last, pack, size = [], None, len(commands), None, 0
+    for at, parts in enumerate(commands, 1):
+        if at == last or len(parts) != 2 or len(parts[1]) > MOST_OF_SEGMENT - 6:
+            out.append(command(at, *parts, chained=at < last))
+            continue
+        request, data = parts
+        if request is not before:
+            before, size = request, 6 + len(request)
+            pack = struct.Struct(f">HBBH{len(request)}sHBBH").pack
+        out += (pack(size, 0xD0, REQUEST | CHAINED | SAME, at, request, 6 + len(data), 0xD0, OBJECT | CHAINED, at), data)
+    return b"".join(out)
+
+
+@functools.lru_cache(maxsize=8)
+def alike(head, contents, count):
+    """DSSs of the same contents behind the same four bytes, with the correlators from 1 on."""
+    return b"".join(b"".join((head, at.to_bytes(2, "big"), contents)) for at in range(1, count + 1))
+
+
+# From so many DSSs on it pays to look whether they are alike; so many are compared with a text that is kept.
+LEAST_ALIKE, MOST_ALIKE = 4, 1001
+
+
 class Reader:
     """DSSs from bytes that come in any pieces."""
 
@@ -201,6 +228,22 @@ class Reader:
         self._taken(end)
         return Dss(form, correlator, contents)
 
+    def skip_alike(self, one, most):
+        """Takes DSSs that are like one but for their correlators, which rise from that one's on, and gives how many they were: so many
+        as have come, and as are asked for, or none."""
+        size = 6 + len(one.contents)
+        count = min((len(self._held) - self._at) // size, most)
+        if count < LEAST_ALIKE or size > MOST_OF_SEGMENT:
+            return 0
+        head = HEADER.pack(size, 0xD0, one.form, 0)[:4]
+        last = one.correlator + count
+        expected = memoryview(alike(head, one.contents, max(last, MOST_ALIKE)))[one.correlator * size:last * size]
+        with memoryview(self._held) as held, held[self._at:self._at + count * size] as came:
+            if came != expected:
+                return 0
+        self._taken(self._at + count * size)
+        return count
+
     @staticmethod
     def _judge(length, mark, form):
         if length & MOST_OF_SEGMENT < 6:
@@ -228,7 +271,12 @@ class Reader:
                 raise WireFault(f"a DSS has more than {self._most} bytes")
         if len(self._held) < end:
             return None, end
-        return b"".join(self._held[low:high] for low, high in pieces), end
+        with memoryview(self._held) as held:
+            parts = [held[low:high] for low, high in pieces]
+            contents = b"".join(parts)
+            for part in parts:
+                part.release()
+        return contents, end
 
     def _taken(self, end):
         self._at = end
@@ -534,16 +582,48 @@ def _read_values(readers, data, at):
 
 def rows(fields, data):
     """The rows of a QRYDTA, by the fields of its QRYDSC."""
-    readers, found, at = _readers(tuple(fields)), [], 0
-    try:
-        while at < len(data):
-            if data[at] != IS_NULL or data[at + 1] != IS_THERE:
-                raise WireFault("a row does not begin with FF and 00")
-            row, at = _read_values(readers, data, at + 2)
-            found.append(row)
-    except (IndexError, struct.error, UnicodeDecodeError) as fault:
-        raise WireFault("a row is cut off, or a text in it is not UTF-8") from fault
+    fields, found, at = tuple(fields), [], 0
+    read, padded, end = _compiled_reader(fields), data + PADDING, len(data)
+    while at < end and read is not None:
+        try:
+            at = read(padded, at, end, found)
+        except compiled.Unread as unread:
+            at = _one_row(fields, data, unread.args[0], found)
+        except UnicodeDecodeError as fault:
+            raise WireFault(NO_ROW) from fault
+    while at < end:
+        at = _one_row(fields, data, at, found)
+    if at > end:
+        raise WireFault(NO_ROW)
     return found
+
+
+NO_ROW = "a row is cut off, or a text in it is not UTF-8"
+# A row is unpacked in pieces that may reach so far behind its end, where the last of its values are NULL.
+PADDING = bytes(640)
+
+
+@functools.lru_cache(maxsize=512)
+def _compiled_reader(fields):
+    """The reader of rows of these fields, or None where there is none for a field."""
+    kinds = {OF_SMALLINT: "i2", OF_INTEGER: "i4", OF_BIGINT: "i8"}
+    kinds.update({number: compiled.TEXT for number in OF_TEXT})
+    kinds.update({number: compiled.BYTES for number in OF_BYTES})
+    if not fields or any(number & ~1 not in kinds for number, _ in fields):
+        return None
+    return compiled.reader_of(tuple((kinds[number & ~1], length, bool(number & 1)) for number, length in fields))
+
+
+def _one_row(fields, data, at, found):
+    """Reads the row at a place value by value, and gives the place behind it."""
+    try:
+        if data[at] != IS_NULL or data[at + 1] != IS_THERE:
+            raise WireFault("a row does not begin with FF and 00")
+        row, at = _read_values(_readers(fields), data, at + 2)
+    except (IndexError, struct.error, UnicodeDecodeError) as fault:
+        raise WireFault(NO_ROW) from fault
+    found.append(row)
+    return at
 
 
 def encoded(value):
@@ -551,10 +631,10 @@ def encoded(value):
     type."""
     if value is None:
         return (OF_SMALLINT | 1, 2), b"\xff"
-    if isinstance(value, int) and not isinstance(value, bool):
+    if isinstance(value, int):
         if not LEAST_NUMBER <= value <= GREATEST_NUMBER:
             raise ValueError("the number is out of BIGINT")
-        return (OF_BIGINT, 8), NUMBERS[OF_BIGINT].pack(value)
+        return (OF_BIGINT, 8), NUMBERS[OF_BIGINT].pack(int(value))
     if isinstance(value, str):
         number, data = OF_TEXT[0], value.encode("utf-8")
     elif isinstance(value, (bytes, bytearray, memoryview)):
@@ -568,12 +648,37 @@ def encoded(value):
 
 def parameters(values):
     """SQLDTA: the description of these values, and the values."""
+    types = tuple(map(type, values))
+    try:
+        write = _WRITERS.get(types) or _writer_of(types)
+        found = write(values)
+        if len(found) <= MOST_OF_SEGMENT:
+            return found
+    except (KeyError, OverflowError, struct.error):
+        pass  # What is written value by value tells what is wrong.
     fields, contents = [], [b"\0"]
     for value in values:
         field, data = encoded(value)
         fields.append(field)
         contents.append(data)
     return ddm(SQLDTA, ddm(FDODSC, descriptor(tuple(fields))) + ddm(FDODTA, b"".join(contents)))
+
+
+# The writers of rows of these types, and the most that are kept.
+_WRITERS: dict = {}
+MOST_WRITERS = 256
+FIELD_OF = {int: (OF_BIGINT, 8), type(None): (OF_SMALLINT | 1, 2), str: (OF_TEXT[0], LONGEST_VALUE), bytes: (OF_BYTES[0], LONGEST_VALUE)}
+
+
+def _writer_of(types):
+    """The writer of rows of these types; KeyError where there is none."""
+    description = ddm(FDODSC, descriptor(tuple(FIELD_OF[one] for one in types)))
+    front = SQLDTA.to_bytes(2, "big") + description
+    heads = (("H", 4 + len(description) + 5), (f"{len(front)}s", front), ("H", 5), ("3s", FDODTA.to_bytes(2, "big") + b"\0"))
+    if len(_WRITERS) >= MOST_WRITERS:
+        _WRITERS.clear()
+    _WRITERS[types] = compiled.writer_of(types, heads, LONGEST_VALUE)
+    return _WRITERS[types]
 
 
 def parameter_values(data):

@@ -1,11 +1,11 @@
 """What the tests of the client share: a store of its own for each test, served by the built program that the environment variable
 DRDAD names, and servers that are none."""
-import os, pathlib, socket, sys, tempfile, threading, unittest
+import os, pathlib, socket, subprocess, sys, tempfile, threading, unittest
 
 TOP = pathlib.Path(__file__).resolve().parents[3]
 CLIENT = TOP / "clients" / "python"
 sys.path.insert(0, os.fspath(TOP / "tests"))
-from served import Server, drdad
+from served import PASSWORD, USER, Server, drdad
 
 PROGRAM = os.environ.get("DRDAD")
 CREATE = "CREATE TABLE T (K INTEGER NOT NULL, V VARCHAR(600), PRIMARY KEY (K))"
@@ -30,8 +30,16 @@ class OverAServer(unittest.TestCase):
         self.addCleanup(context.__exit__, None, None, None)
         return entered
 
+    def serve_again(self):
+        """Serves the store at the port where it was served."""
+        command = [PROGRAM, "serve", self.server.store, "--port", str(self.server.port), "--user", f"{USER}:{PASSWORD}"]
+        self.server.process = subprocess.Popen(command, stdout=subprocess.PIPE, stdin=subprocess.DEVNULL, text=True)
+        self.assertEqual(self.server.process.stdout.readline(), f"listening {self.server.port}\n")
+
     def connect(self, **words):
-        return self.enterContext(self.server.connect(**words))
+        connection = self.server.connect(**words)
+        self.addCleanup(connection.close)
+        return connection
 
     def with_table(self, **words):
         """A connection that has created the table T and committed it, and a cursor."""
@@ -51,8 +59,8 @@ class OverAServer(unittest.TestCase):
         return connection, cursor
 
     def keys(self, cursor):
-        cursor.execute("SELECT K FROM T")
-        return [key for key, in cursor.fetchall()]
+        """Those of T, once no other unit holds it: a connection that was closed may not have been left yet."""
+        return [key for key, in drdad.retry(cursor.connection, lambda _: cursor.execute("SELECT K FROM T").fetchall())]
 
 
 class OverABadServer(unittest.TestCase):

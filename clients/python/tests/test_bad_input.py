@@ -211,7 +211,7 @@ class BeforeAnythingIsSent(OverAServer):
         for value in (2**63, -2**63 - 1, "x" * 2001, b"x" * 2001, "\ud800"):
             self.told(drdad.DataError, lambda value=value: execute("SELECT K FROM T WHERE V = ?", (value,)))
             self.told(drdad.DataError, lambda value=value: many(INSERT, [(9, "first"), (10, value)]))
-        for value in (1.5, True, object(), [1], drdad.Date(2026, 11, 25), drdad.Timestamp(2026, 11, 25)):
+        for value in (1.5, object(), [1], drdad.Date(2026, 11, 25), drdad.Timestamp(2026, 11, 25)):
             self.told(drdad.NotSupportedError, lambda value=value: execute("SELECT K FROM T WHERE V = ?", (value,)))
 
     def test_the_most_parameters_are_sent(self):

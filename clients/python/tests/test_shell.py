@@ -1,10 +1,8 @@
-"""The shell as a person and a script use it: python3 -m drdad over a server."""
-import os, pathlib, pty, socket, subprocess, sys, tempfile, time, unittest
+"""The shell as a script uses it: python3 -m drdad over a server."""
+import socket, subprocess, sys, unittest
 
-from over_a_server import CLIENT, OverAServer
+from shell_over_a_server import CREATE, WAITS, OfAShell
 
-CREATE = "CREATE TABLE T (K INTEGER NOT NULL,\n  V VARCHAR(20), B VARBINARY(8), PRIMARY KEY (K));\n"
-WAITS = 60
 PIPES = {"stdin": subprocess.PIPE, "stdout": subprocess.PIPE, "stderr": subprocess.PIPE, "text": True}
 
 OVER_LINES = CREATE + """-- a remark; with one more
@@ -36,8 +34,8 @@ DELETE FROM T;
 SELECT;
 """
 NO_COMMANDS = (
-    ("\\nothing", "there is no \\nothing"), ("\\begin", "FORMAT:GLOBALHEX:BRANCHHEX"), ("\\copy T", "\\copy TABLE FROM FILE"),
-    ("\\timing perhaps", "on or off"), ("\\commit 1:47", "FORMAT:GLOBALHEX:BRANCHHEX"),
+    ("\\nothing", "there is no \\nothing"), ("\\begin", "FORMAT GLOBALHEX BRANCHHEX"), ("\\copy T", "\\copy TABLE FROM FILE"),
+    ("\\timing perhaps", "on or off"), ("\\commit 1:47", "FORMAT GLOBALHEX BRANCHHEX"),
 )
 NO_ROWS = (
     ("x,one,\n", "line 1: 'x' is no value of K"), ("1,one,\n2\n", "line 2 has 1 fields, and not 3"),
@@ -45,25 +43,6 @@ NO_ROWS = (
     (b"1,\xff,\n", "file.csv: 'utf-8'"), ('1,"one\n', "file.csv"), (f"1,{'x' * 21},\n", "SQLCODE -433, SQLSTATE 22001"),
     (f"1,{'x' * 2001},\n", "and a column takes at most 2000"),
 )
-
-
-class OfAShell(OverAServer):
-    def setUp(self):
-        super().setUp()
-        folder = tempfile.TemporaryDirectory()
-        self.addCleanup(folder.cleanup)
-        self.folder = pathlib.Path(folder.name)
-        self.around = {**os.environ, "PYTHONPATH": str(CLIENT), "DRDAD_PASSWORD": "pw", "PYTHONDONTWRITEBYTECODE": "1",
-                       "DRDAD_HISTORY": str(self.folder / "history"), "PYTHONIOENCODING": "utf-8"}
-
-    def words(self, *more):
-        return [sys.executable, "-m", "drdad", f"127.0.0.1:{self.server.port}/SHOP", "--user", "ana", *more]
-
-    def ran(self, script, *more, **around):
-        """How the shell ended with this script on its standard input, what it printed, and what it complained of."""
-        script = script if isinstance(script, bytes) else script.encode()
-        ran = subprocess.run(self.words(*more), input=script, env={**self.around, **around}, capture_output=True, timeout=WAITS)
-        return ran.returncode, ran.stdout.decode(), ran.stderr.decode()
 
 
 class Scripts(OfAShell):
@@ -76,6 +55,11 @@ class Scripts(OfAShell):
 
     def test_a_failure_and_its_line(self):
         status, out, errors = self.ran(WITH_FAILURES)
+        self.assertEqual((status, errors), (1, "line 3: error: SQLCODE -204, SQLSTATE 42704: no table has this name\n"))
+        self.assertEqual(self.keys(self.connect().cursor()), [])
+
+    def test_a_script_that_keeps_going(self):
+        status, out, errors = self.ran(WITH_FAILURES, "--keep-going")
         self.assertEqual(status, 1)
         self.assertIn("line 3: error: SQLCODE -204, SQLSTATE 42704: no table has this name", errors)
         self.assertIn("line 6: error: SQLCODE -803, SQLSTATE 23505", errors)
@@ -112,7 +96,7 @@ class Scripts(OfAShell):
         self.server.start()
         status, out, errors = self.ran("\\recover\nSELECT * FROM T;\n")
         self.assertEqual(status, 1)
-        self.assertIn("1:6761:62\n1 in doubt", out)
+        self.assertIn("1 6761 62\n1 in doubt", out)
         self.assertIn("SQLCODE -913, SQLSTATE 57033", errors)
         status, out, _ = self.ran("\\commit 1:6761:62\n\\recover\nSELECT V FROM T;\n")
         self.assertEqual(status, 0)
@@ -124,7 +108,7 @@ class Scripts(OfAShell):
         self.server.kill()
         self.assertEqual(self.server.done("decide", self.server.store, "1", "6761", "62", "commit").returncode, 0)
         self.server.start()
-        status, out, errors = self.ran("\\rollback 1:6761:62\n\\forget 1:6761:62\n\\recover\nSELECT V FROM T;\n")
+        status, out, errors = self.ran("\\rollback 1:6761:62\n\\forget 1 6761 62\n\\recover\nSELECT V FROM T;\n", "--keep-going")
         self.assertEqual(status, 1)
         self.assertIn("XA 7: the branch was committed heuristically", errors)
         self.assertIn("forgotten", out)
@@ -132,7 +116,8 @@ class Scripts(OfAShell):
         self.assertIn("decided\n1 row", out)
 
     def test_text_that_is_no_utf_8(self):
-        status, _, errors = self.ran(CREATE.encode() + b"INSERT INTO T VALUES (1, '\xff', NULL);\nINSERT INTO T VALUES (2, 'x', NULL);\n")
+        script = CREATE.encode() + b"INSERT INTO T VALUES (1, '\xff', NULL);\nINSERT INTO T VALUES (2, 'x', NULL);\n"
+        status, _, errors = self.ran(script, "--keep-going")
         self.assertEqual(status, 1)
         self.assertIn("line 3: error: the statement is not UTF-8", errors)
         self.assertEqual(self.keys(self.connect().cursor()), [2])
@@ -221,7 +206,8 @@ class Copies(OfAShell):
         self.assertEqual(len(self.rows()), 1000)
 
     def test_no_such_file_or_table(self):
-        status, _, errors = self.ran(f"\\copy T FROM {self.folder}/nothing\n\\copy NOSUCH FROM {self.folder}/nothing\n")
+        script = f"\\copy T FROM {self.folder}/nothing\n\\copy NOSUCH FROM {self.folder}/nothing\n"
+        status, _, errors = self.ran(script, "--keep-going")
         self.assertEqual(status, 1)
         self.assertIn("No such file or directory", errors)
         self.assertIn("SQLCODE -204", errors)
@@ -264,37 +250,6 @@ class Connecting(OfAShell):
                 ran = subprocess.run(words, env=self.around, capture_output=True, text=True, timeout=WAITS)
                 self.assertEqual(ran.returncode, 2)
                 self.assertIn("usage:", ran.stderr)
-
-
-class ATerminal(OfAShell):
-    """A person at a terminal: prompts, a progress line, and a history that the next session has."""
-
-    def typed(self, *lines):
-        """What the terminal shows of a session in which these lines are typed, and how it ends."""
-        ours, theirs = pty.openpty()
-        streams = {"stdin": theirs, "stdout": theirs, "stderr": theirs, "start_new_session": True}
-        process = subprocess.Popen(self.words(), env={**self.around, "TERM": "dumb"}, **streams)
-        os.close(theirs)
-        seen, left, late = b"", list(lines), time.monotonic() + WAITS
-        while time.monotonic() < late:
-            try:
-                piece = os.read(ours, 65536)
-            except OSError:
-                break
-            seen += piece
-            if left and seen.endswith((b"drdad> ", b"... ")):
-                os.write(ours, left.pop(0).encode() + b"\n")
-        os.close(ours)
-        return process.wait(WAITS), seen.decode()
-
-    def test_a_session(self):
-        path = self.folder / "file.csv"
-        path.write_text("".join(f"{number},x,\n" for number in range(3000)))
-        status, seen = self.typed(*CREATE.splitlines(), f"\\copy T FROM {path}", "SELEC;", "\\q")
-        self.assertEqual(status, 1)
-        for said in ("drdad> ", "   ... ", "done (", "1000 rows", "2000 rows", "3000 rows", "error: SQLCODE -104"):
-            self.assertIn(said, seen)
-        self.assertIn("SELEC;", (self.folder / "history").read_text())
 
 
 if __name__ == "__main__":

@@ -19,7 +19,7 @@ class TwoPhase(OverAServer):
         unit = self.connect().xid(7, b"G", b"B")
         self.assertEqual((unit.format_id, unit.global_transaction_id, unit.branch_qualifier), (7, b"G", b"B"))
         self.assertEqual(tuple(unit), (7, b"G", b"B"))
-        self.assertEqual(str(unit), "7:47:42")
+        self.assertEqual(str(unit), "7 47 42")
 
     def test_commit_in_two_phases(self):
         connection, cursor = self.begun()

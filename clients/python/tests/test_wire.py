@@ -1,5 +1,5 @@
 """Bytes and what they say, without a server."""
-import re, unittest
+import random, re, unittest
 
 from over_a_server import TOP, drdad
 from drdad import aloud, wire
@@ -61,9 +61,33 @@ class Values(unittest.TestCase):
         for value in (2**63, -2**63 - 1, "x" * 2001, "ä" * 1001, b"x" * 2001, "\ud800"):
             with self.subTest(repr(value)[:20]), self.assertRaises(ValueError):
                 wire.encoded(value)
-        for value in (1.5, True, object(), [1], {}):
+        for value in (1.5, object(), [1], {}):
             with self.subTest(repr(value)), self.assertRaises(TypeError):
                 wire.encoded(value)
+
+    def test_a_truth_value_is_a_number(self):
+        self.assertEqual(wire.parameter_values(wire.find(wire.objects(wire.parameters((True, False))), wire.SQLDTA)), (1, 0))
+
+    def test_rows_are_written_at_once_as_value_by_value(self):
+        chance = random.Random(83)
+        kinds = (lambda: chance.randrange(-2**63, 2**63), lambda: "ä" * chance.randrange(1001), lambda: bytes(chance.randrange(2001)),
+                 lambda: None, lambda: True, lambda: bytearray(3))
+        for _ in range(300):
+            row = tuple(chance.choice(kinds)() for _ in range(chance.randrange(1, 40)))
+            fields, data = zip(*map(wire.encoded, row))
+            parts = wire.ddm(wire.FDODSC, wire.descriptor(fields)) + wire.ddm(wire.FDODTA, b"\0" + b"".join(data))
+            self.assertEqual(wire.parameters(row), wire.ddm(wire.SQLDTA, parts))
+
+    def test_rows_are_read_at_once_as_value_by_value(self):
+        chance = random.Random(83)
+        fields = ((wire.OF_INTEGER, 4), (0x3F, 60), (wire.OF_BIGINT | 1, 8), (0x29, 9), (0x3E, 9))
+        values = (range(99), (None, "", "ä" * 30, "x"), (None, -1), (None, b"\xff\0"), ("z", ""))
+        rows = [tuple(map(chance.choice, values)) for _ in range(500)]
+        data = b"".join(_row_bytes(fields, row) for row in rows)
+        self.assertEqual(wire.rows(fields, data), rows)
+        for cut in range(1, len(_row_bytes(fields, rows[-1]))):
+            with self.subTest(cut), self.assertRaises(wire.WireFault):
+                wire.rows(fields, data[:-cut])
 
     def test_rows_that_are_none_are_told(self):
         for data in (b"\xff", b"\xff\0\0\0\0", b"\0\0\0\0\0\1", b"\xff\1\0\0\0\1"):
@@ -100,6 +124,20 @@ class TransactionIds(unittest.TestCase):
         for text in ("", "1", "1:4:42", "x:47:42", "1:47", "4294967295:47:42"):
             with self.subTest(text), self.assertRaises(drdad.ProgrammingError):
                 drdad.Xid.parse(text)
+
+
+def _row_bytes(fields, row):
+    """A row as a server sends it."""
+    sizes = {wire.OF_INTEGER: 4, wire.OF_BIGINT: 8}
+    out = [b"\xff\0"]
+    for (number, _), value in zip(fields, row):
+        out.append((b"\xff" if value is None else b"\0") if number & 1 else b"")
+        if value is not None and number & ~1 in sizes:
+            out.append(value.to_bytes(sizes[number & ~1], "big", signed=True))
+        elif value is not None:
+            data = value if isinstance(value, bytes) else value.encode()
+            out.append(len(data).to_bytes(2, "big") + data)
+    return b"".join(out)
 
 
 if __name__ == "__main__":
