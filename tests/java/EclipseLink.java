@@ -12,8 +12,11 @@ public class EclipseLink {
     private final EntityManagerFactory factory;
 
     private EclipseLink(Drdad drdad) {
-        factory = Persistence.createEntityManagerFactory("shop",
-            Map.of("javax.persistence.jdbc.url", drdad.url(), "javax.persistence.jdbc.driver", "org.drdad.jdbc.DrdadDriver"));
+        factory = Persistence.createEntityManagerFactory("shop", Map.of(
+            "javax.persistence.jdbc.driver", "org.drdad.jdbc.DrdadDriver",
+            "javax.persistence.jdbc.url", "jdbc:drdad://127.0.0.1:" + drdad.port + "/" + Drdad.DATABASE,
+            "javax.persistence.jdbc.user", Drdad.USER,
+            "javax.persistence.jdbc.password", Drdad.PASSWORD));
     }
 
     public static void main(String[] words) throws Exception {

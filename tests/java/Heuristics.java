@@ -8,33 +8,29 @@ import javax.transaction.RollbackException;
 import javax.transaction.xa.XAResource;
 
 /**
- * What becomes of a branch that a person decides by `drdad decide` while the manager is kept from it: four rows, for what the manager wants and
- * what the person said. Both stay as they were decided, the manager forgets the branch, and where the two differ its log has a line of level ERROR.
+ * What becomes of a branch that a person decides by `drdad decide` while the manager is away: four rows, for what the manager wants and what
+ * the person said. Each database stays as it was decided there; the manager forgets the branch at its next start, and where the two differ its log
+ * has a line of level ERROR.
  */
 public class Heuristics {
     private static final String[] DECISIONS = {"commit", "rollback"};
 
     private final Findings findings = new Findings();
     private final Path folder = Drdad.folder();
-    private final Path log = folder.resolve("bitronix.log");
+    private final Path log;
     private final Postgres postgres = Postgres.number(0);
     private final Drdad drdad;
-    private final PoolingDataSource here = Manager.pool(postgres);
-    private final PoolingDataSource there;
-    private final Manager manager;
 
-    private Heuristics() throws Exception {
-        System.setProperty("org.slf4j.simpleLogger.logFile", log.toString());
+    private Heuristics(Path log) throws Exception {
+        this.log = log;
         drdad = new Drdad(folder);
         Transfers.create(postgres, drdad);
-        there = Manager.pool(drdad.port);
-        // what stands first is prepared first and told of the decision last
-        there.setTwoPcOrderingPosition(0);
-        manager = new Manager(folder, here, there);
     }
 
     public static void main(String[] words) throws Exception {
-        Heuristics all = new Heuristics();
+        Path log = Drdad.folder().resolve("bitronix.log");
+        System.setProperty("org.slf4j.simpleLogger.logFile", log.toString());
+        Heuristics all = new Heuristics(log);
         System.out.println("the manager wants  decided   PostgreSQL   drdad        the manager's log");
         long number = 0;
         for (String wanted : DECISIONS) {
@@ -53,10 +49,11 @@ public class Heuristics {
         leaveInDoubt(number, isWanted ? Moment.committing(drdad::kill) : Moment.refusing(drdad::kill));
         findings.check(row + ": in doubt", 1, drdad.inDoubt().size());
         drdad.decide(decided);
-        findings.check(row + ": in doubt when decided", true, drdad.inDoubt().get(0).endsWith(decided.equals("commit") ? "committed" : "rolled back"));
+        String outcome = decided.equals("commit") ? " committed" : " rolledback";
+        findings.check(row + ": in doubt when decided", true, drdad.inDoubt().get(0).endsWith(outcome));
         drdad.serve();
         int before = Files.readAllLines(log).size();
-        manager.recover();
+        new Manager(folder, Manager.pool(postgres), Manager.pool(drdad.port)).close();
         List<String> told = Files.readAllLines(log).stream().skip(before).filter(line -> line.contains("ERROR")).toList();
         String difference = told.isEmpty() ? "nothing" : told.get(0).replaceAll(".* - ", "");
         String inPostgres = standing(postgres.connect(), number);
@@ -70,6 +67,11 @@ public class Heuristics {
 
     /** A transfer that is prepared in drdad when the moment comes, with which drdad is gone. */
     private void leaveInDoubt(long number, Moment moment) throws Exception {
+        PoolingDataSource here = Manager.pool(postgres);
+        PoolingDataSource there = Manager.pool(drdad.port);
+        // what stands first is prepared first and told of the decision last
+        there.setTwoPcOrderingPosition(0);
+        Manager manager = new Manager(folder, here, there);
         EhCacheXAResourceProducer.registerXAResource("moment", moment);
         manager.transactions.begin();
         try (Connection first = here.getConnection(); Connection second = there.getConnection()) {
@@ -83,6 +85,7 @@ public class Heuristics {
             // as the moment wanted it
         }
         EhCacheXAResourceProducer.unregisterXAResource("moment", moment);
+        manager.close();
     }
 
     private static String standing(Connection opened, long number) throws Exception {

@@ -1,7 +1,7 @@
-import java.io.IOException;
 import java.nio.file.Path;
 import java.sql.Connection;
 import java.sql.SQLException;
+import java.util.HashSet;
 import java.util.Random;
 import java.util.Set;
 import javax.sql.XAConnection;
@@ -19,7 +19,9 @@ import javax.transaction.xa.XAResource;
  */
 public class KillRounds {
     private static final int THREADS = 8;
-    private static final int LONGEST_MOMENT_MILLISECONDS = 700;
+    private static final int MOST_TRANSFERS = 100;
+    private static final int LAST_MILLISECONDS = 20;
+    private static final long LONGEST_MILLISECONDS = 5000;
     private static final int SETTLINGS = 20;
     private static final int READINGS = 50;
     private static final String[] VICTIMS = {"manager", "drdad", "both"};
@@ -54,7 +56,7 @@ public class KillRounds {
     private void play(int round) throws Exception {
         String victim = VICTIMS[random.nextInt(VICTIMS.length)];
         mover.ask("go");
-        Thread.sleep(random.nextInt(LONGEST_MOMENT_MILLISECONDS));
+        awaitMoment();
         kill(victim);
         if (victim.equals("drdad")) {
             mover.ask("rest");
@@ -72,6 +74,16 @@ public class KillRounds {
         judge(round);
         System.out.printf("round %3d: killed %-7s in doubt %d in PostgreSQL, %d in drdad; %d transfers told%n",
             round, victim, here, there, mover.told().size());
+    }
+
+    /** Some transfers later, at no particular point of one. */
+    private void awaitMoment() throws InterruptedException {
+        int count = mover.told().size() + random.nextInt(MOST_TRANSFERS);
+        long latest = System.currentTimeMillis() + LONGEST_MILLISECONDS;
+        while (mover.told().size() < count && System.currentTimeMillis() < latest) {
+            Thread.sleep(1);
+        }
+        Thread.sleep(random.nextInt(LAST_MILLISECONDS));
     }
 
     /** Both in either order. */
@@ -110,7 +122,7 @@ public class KillRounds {
         try (Connection here = postgres.connect()) {
             Bank.Books books = Bank.read(here);
             findings.check("books after round " + round, "", Bank.Books.faults(books, readDrdad()));
-            Set<Long> lost = new java.util.HashSet<>(mover.told());
+            Set<Long> lost = new HashSet<>(mover.told());
             lost.removeAll(books.ledger().keySet());
             findings.check("told and not there after round " + round, Set.of(), lost);
         }

@@ -3,9 +3,9 @@ import java.io.File;
 import java.io.IOException;
 import java.io.PrintStream;
 import java.nio.file.Path;
-import java.util.HashSet;
 import java.util.Set;
 import java.util.concurrent.BlockingQueue;
+import java.util.concurrent.ConcurrentHashMap;
 import java.util.concurrent.LinkedBlockingQueue;
 import java.util.concurrent.TimeUnit;
 
@@ -21,7 +21,7 @@ final class MoverProcess {
     private final Thread reader;
 
     MoverProcess(Path folder, Postgres postgres, Drdad drdad, int threads) throws Exception {
-        this(command(folder, postgres, drdad, threads), new HashSet<>());
+        this(command(folder, postgres, drdad, threads), ConcurrentHashMap.newKeySet());
     }
 
     private MoverProcess(ProcessBuilder command, Set<Long> told) throws Exception {
@@ -61,10 +61,9 @@ final class MoverProcess {
         }
     }
 
+    /** The numbers of the transfers that were told as made, by this one and those before it. */
     Set<Long> told() {
-        synchronized (told) {
-            return Set.copyOf(told);
-        }
+        return told;
     }
 
     private void await(String word) throws Exception {
@@ -78,9 +77,7 @@ final class MoverProcess {
         try (BufferedReader out = process.inputReader()) {
             for (String line = out.readLine(); line != null; line = out.readLine()) {
                 if (Character.isDigit(line.charAt(0))) {
-                    synchronized (told) {
-                        told.add(Long.valueOf(line));
-                    }
+                    told.add(Long.valueOf(line));
                 } else {
                     answers.add(line);
                 }

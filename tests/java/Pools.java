@@ -37,18 +37,18 @@ public class Pools {
     public static void main(String[] words) throws Exception {
         Findings findings = new Findings();
         try (Drdad drdad = new Drdad(Drdad.folder())) {
-            new Pools(findings, "Hikari", hikari(drdad), drdad).play();
+            new Pools(findings, "Hikari", hikari(drdad, false), drdad).play();
             new Pools(findings, "Tomcat", tomcat(drdad), drdad).play();
             new Pools(findings, "Dbcp", dbcp(drdad), drdad).play();
         }
         findings.end("HikariCP, Tomcat's pool, DBCP2");
     }
 
-    static HikariDataSource hikari(Drdad drdad) {
+    static HikariDataSource hikari(Drdad drdad, boolean commitsEachStatement) {
         HikariConfig configuration = new HikariConfig();
         configuration.setJdbcUrl(drdad.url());
         configuration.setMaximumPoolSize(PLACES);
-        configuration.setAutoCommit(false);
+        configuration.setAutoCommit(commitsEachStatement);
         configuration.setTransactionIsolation("TRANSACTION_SERIALIZABLE");
         return new HikariDataSource(configuration);
     }

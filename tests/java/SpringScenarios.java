@@ -19,15 +19,14 @@ public class SpringScenarios {
         SpringScenarios all = new SpringScenarios();
         try (Drdad drdad = new Drdad(Drdad.folder())) {
             all.template(drdad);
-            all.units(Pools.hikari(drdad));
+            all.units(Pools.hikari(drdad, true));
             all.jta(drdad);
         }
         all.findings.end("Spring's JdbcTemplate, its transactions, JTA");
     }
 
     private void template(Drdad drdad) throws Exception {
-        JdbcTemplate template = new JdbcTemplate(Pools.hikari(drdad));
-        ((com.zaxxer.hikari.HikariDataSource) template.getDataSource()).setAutoCommit(true);
+        JdbcTemplate template = new JdbcTemplate(Pools.hikari(drdad, true));
         template.execute(String.format(CREATE, "T"));
         findings.check("update", 1, template.update("INSERT INTO T VALUES (?, ?)", 1, "one"));
         findings.check("update with a null", 1, template.update("INSERT INTO T VALUES (?, ?)", 2, null));
