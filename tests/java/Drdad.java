@@ -20,7 +20,7 @@ final class Drdad implements AutoCloseable {
     static final String PASSWORD = "pw";
     static final String SOURCE = "org.drdad.jdbc.DrdadXADataSource";
     private static final String PROGRAM = System.getProperty("drdad");
-    private static final String STORE_BYTES = "268435456";
+    private static final int STORE_BYTES = 256 << 20;
 
     final int port;
     private final Path store;
@@ -29,13 +29,17 @@ final class Drdad implements AutoCloseable {
 
     /** A store in a folder that is made here where there is none, and its server. */
     Drdad(Path folder) throws IOException {
+        this(folder, STORE_BYTES);
+    }
+
+    Drdad(Path folder, int bytes) throws IOException {
         Files.createDirectories(folder);
         store = folder.resolve("store");
         errors = folder.resolve("errors");
         try (ServerSocket free = new ServerSocket(0, 1, InetAddress.getLoopbackAddress())) {
             port = free.getLocalPort();
         }
-        run("init", store.toString(), "--size", STORE_BYTES, "--rdb", DATABASE);
+        run("init", store.toString(), "--size", Integer.toString(bytes), "--rdb", DATABASE);
         serve();
     }
 
