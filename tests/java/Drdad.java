@@ -20,7 +20,7 @@ final class Drdad implements AutoCloseable {
     static final String PASSWORD = "pw";
     static final String SOURCE = "org.drdad.jdbc.DrdadXADataSource";
     private static final String PROGRAM = System.getProperty("drdad");
-    private static final int STORE_BYTES = 256 << 20;
+    private static final int STORE_BYTES = 64 << 20;
 
     final int port;
     private final Path store;
@@ -41,6 +41,7 @@ final class Drdad implements AutoCloseable {
         }
         run("init", store.toString(), "--size", Integer.toString(bytes), "--rdb", DATABASE);
         serve();
+        Runtime.getRuntime().addShutdownHook(new Thread(this::kill));
     }
 
     /** The folder that `tests/java/run` gives to the scenario. */

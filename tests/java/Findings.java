@@ -7,8 +7,18 @@ final class Findings {
         T run() throws Exception;
     }
 
+    private static final int BROKEN_OFF = 2;
+
     private int held;
     private int failed;
+
+    /** From here on an exception that nobody catches ends the program. Threads of pools and managers would keep it alive. */
+    Findings() {
+        Thread.setDefaultUncaughtExceptionHandler((thread, failure) -> {
+            failure.printStackTrace();
+            System.exit(BROKEN_OFF);
+        });
+    }
 
     synchronized void check(String what, Object wanted, Object found) {
         if (Objects.equals(wanted, found)) {
@@ -38,10 +48,9 @@ final class Findings {
         return failed == 0;
     }
 
-    /** Prints the last line, and ends the program. Threads of pools and managers would keep it alive. */
+    /** Prints the last line, and ends the program. */
     void end(String line) {
         System.out.println(line + ": " + (isWell() ? held + " as wanted" : failed + " of " + (held + failed) + " NOT AS WANTED"));
-        System.out.flush();
-        Runtime.getRuntime().halt(isWell() ? 0 : 1);
+        System.exit(isWell() ? 0 : 1);
     }
 }
