@@ -22,7 +22,8 @@ public class EclipseLink {
     public static void main(String[] words) throws Exception {
         try (Drdad drdad = new Drdad(Drdad.folder())) {
             try (Connection connection = drdad.connect(); Statement statement = connection.createStatement()) {
-                statement.executeUpdate("CREATE TABLE GOODS (K INTEGER NOT NULL, V VARCHAR(60), AMOUNT BIGINT, PICTURE VARBINARY(60), PRIMARY KEY (K))");
+                statement.executeUpdate(
+                    "CREATE TABLE GOODS (K INTEGER NOT NULL, V VARCHAR(60), AMOUNT BIGINT, PICTURE VARBINARY(60), PRIMARY KEY (K))");
             }
             EclipseLink all = new EclipseLink(drdad);
             all.play();

@@ -301,7 +301,8 @@ public class JdbcRules {
         absent("CLOBs", connection::createClob);
         absent("BLOBs", connection::createBlob);
         absent("arrays", () -> connection.createArrayOf("INTEGER", new Object[0]));
-        absent("scrolling", () -> connection.createStatement(ResultSet.TYPE_SCROLL_INSENSITIVE, ResultSet.CONCUR_READ_ONLY).executeQuery("SELECT K FROM T"));
+        absent("scrolling", () -> connection.createStatement(ResultSet.TYPE_SCROLL_INSENSITIVE, ResultSet.CONCUR_READ_ONLY)
+            .executeQuery("SELECT K FROM T"));
         rule("the connection outlasts that", true, () -> connection.isValid(5));
     }
 

@@ -50,7 +50,8 @@ public class KillRounds {
         all.drdad.kill();
         all.findings.check("drdad indoubt", "[]", all.drdad.inDoubt().toString());
         all.findings.check("drdad check", "whole", all.drdad.checked());
-        all.findings.end(rounds + " rounds of kill -9, " + all.mover.told().size() + " transfers told, " + all.inDoubt + " branches in doubt settled");
+        all.findings.end(
+            rounds + " rounds of kill -9, " + all.mover.told().size() + " transfers told, " + all.inDoubt + " branches in doubt settled");
     }
 
     private void play(int round) throws Exception {

@@ -3,7 +3,10 @@ import java.nio.file.Path;
 import java.sql.Connection;
 import java.util.Arrays;
 
-/** Transfers a second under Bitronix by 16 threads: between two PostgreSQLs, and with drdad for one of them, in turn. */
+/**
+ * Speed judged|shown: transfers a second under Bitronix by 16 threads, between two PostgreSQLs, and with drdad for one of them, in turn. Where it
+ * is judged, there have to be at least as many with drdad.
+ */
 public class Speed {
     private static final int THREADS = 16;
     private static final int ROUNDS = 5;
@@ -34,7 +37,9 @@ public class Speed {
         }
         Arrays.sort(ratios);
         double median = ratios[ROUNDS / 2];
-        findings.check("at least as many with drdad for one of two PostgreSQLs", true, median >= 1);
+        if (words[0].equals("judged")) {
+            findings.check("at least as many with drdad for one of two PostgreSQLs", true, median >= 1);
+        }
         findings.end(String.format("drdad for one of two PostgreSQLs at %d threads: %.2f times as many transfers", THREADS, median));
     }
 
