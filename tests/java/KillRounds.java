@@ -11,8 +11,8 @@ import javax.transaction.xa.XAResource;
 
 /**
  * KillRounds ROUNDS: transfers between PostgreSQL and drdad under Bitronix, and in each round the manager's process, drdad, or both are
- * killed at a random moment (SIGKILL). What was killed is started again, and the manager recovers. Then nothing is in doubt, the amounts add
- * up to what they were, both ledgers have the same transfers, and each transfer that was told as made is among them.
+ * killed at a random moment (SIGKILL). What was killed is started again, and the manager recovers; it may be killed at that too. Then nothing
+ * is in doubt, the amounts add up to what they were, both ledgers have the same transfers, and each transfer that was told as made is among them.
  *
  * Where drdad alone was killed, the manager's transfers come to their ends before it is served again: Bitronix rolls back branches that are
  * prepared and in flight where it finds a database again.
@@ -22,6 +22,7 @@ public class KillRounds {
     private static final int MOST_TRANSFERS = 100;
     private static final int LAST_MILLISECONDS = 20;
     private static final long LONGEST_MILLISECONDS = 5000;
+    private static final int RECOVERY_MILLISECONDS = 2000;
     private static final int SETTLINGS = 20;
     private static final int READINGS = 50;
     private static final String[] VICTIMS = {"manager", "drdad", "both"};
@@ -37,7 +38,7 @@ public class KillRounds {
     private KillRounds() throws Exception {
         drdad = new Drdad(folder);
         Transfers.create(postgres, drdad);
-        mover = new MoverProcess(folder, postgres, drdad, THREADS);
+        mover = new MoverProcess(folder, postgres, drdad, THREADS).ready();
     }
 
     public static void main(String[] words) throws Exception {
@@ -69,7 +70,7 @@ public class KillRounds {
         int there = inDoubt(drdad.xa());
         inDoubt += here + there;
         if (!victim.equals("drdad")) {
-            mover = mover.again();
+            restartManager();
         }
         settle();
         judge(round);
@@ -99,6 +100,16 @@ public class KillRounds {
         if (!drdadFirst && !victim.equals("manager")) {
             drdad.kill();
         }
+    }
+
+    /** Starts the manager again, and sometimes kills that one too, while it recovers or before or behind that. */
+    private void restartManager() throws Exception {
+        if (random.nextBoolean()) {
+            MoverProcess recovering = mover.again();
+            Thread.sleep(random.nextInt(RECOVERY_MILLISECONDS));
+            recovering.kill();
+        }
+        mover = mover.again().ready();
     }
 
     private void settle() throws Exception {

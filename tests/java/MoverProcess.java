@@ -31,7 +31,6 @@ final class MoverProcess {
         in = new PrintStream(process.getOutputStream(), true);
         reader = new Thread(this::read);
         reader.start();
-        await("ready");
     }
 
     private static ProcessBuilder command(Path folder, Postgres postgres, Drdad drdad, int threads) {
@@ -41,9 +40,15 @@ final class MoverProcess {
             Integer.toString(threads)).redirectError(ProcessBuilder.Redirect.appendTo(new File(folder.toFile(), "mover.log")));
     }
 
-    /** The next one, behind one that was killed. */
+    /** The next one, behind one that was killed. It begins with its manager's recovery. */
     MoverProcess again() throws Exception {
         return new MoverProcess(command, told);
+    }
+
+    /** Returns once the manager has recovered. */
+    MoverProcess ready() throws Exception {
+        await("ready");
+        return this;
     }
 
     void ask(String word) throws Exception {
