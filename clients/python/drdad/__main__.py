@@ -2,7 +2,7 @@
 environment variable DRDAD_PASSWORD. Status 0; 1 where something failed, 2 where no connection came."""
 import argparse, os, sys
 
-from . import Connection, terminal
+from . import Connection, dump, terminal
 from .errors import Error, ProgrammingError
 from .layouts import LAYOUTS, shown
 from .shell import Shell
@@ -25,6 +25,7 @@ def words_of(arguments):
     add_user(parser, is_required=False)
     parser.add_argument("-c", dest="asked", action=InOrder, metavar="SQL", help="does this, and ends; several stand in their order")
     parser.add_argument("-f", dest="asked", action=InOrder, metavar="FILE", help="does what a file asks, and ends")
+    parser.add_argument("--dump", nargs="+", metavar="TABLE", help="writes these tables as SQL, all of one moment, and ends")
     layout = parser.add_mutually_exclusive_group()
     layout.add_argument("--csv", dest="layout", action="store_const", const="csv", help="rows as CSV, and nothing beside them")
     layout.add_argument("--plain", dest="layout", action="store_const", const="plain", help="rows with tabs, and nothing beside them")
@@ -58,6 +59,8 @@ def run_asked(shell, asked):
 
 def main(arguments=None):
     words = words_of(arguments)
+    if words.dump:
+        return dump.run(connector(words), words.dump)
     is_typed = not words.asked and sys.stdin.isatty()
     # A script is UTF-8, and what is not is told by the statement that it stands in; what can't be shown is spelled out.
     sys.stdin.reconfigure(encoding=None if is_typed else "utf-8", errors="surrogateescape")

@@ -207,21 +207,26 @@ def write_all(connection, names, write, say, wait):
     write(f"\\autocommit on\n-- the end: tables {len(names)}, rows {total}\n")
 
 
-def main(arguments=None):
-    words = words_of(arguments)
+def run(connection_made, tables, wait=WAITS):
+    """Writes the tables on standard output over a connection that is made for it. The status."""
     sys.stdout.reconfigure(encoding="utf-8", newline="\n")
     try:
-        connection = connect(*words.address, words.user, password_of(words), words.timeout)
+        connection = connection_made()
     except (Error, OSError, UnicodeError) as failure:
         print(f"drdad: {failure}", file=sys.stderr)
         return 2
     with connection:
         try:
-            dump(connection, words.tables, sys.stdout.write, lambda line: print(f"drdad: {line}", file=sys.stderr), words.wait)
+            dump(connection, tables, sys.stdout.write, lambda line: print(f"drdad: {line}", file=sys.stderr), wait)
         except (Error, OSError) as failure:
             print(f"drdad: {failure}", file=sys.stderr)
             return 1
     return 0
+
+
+def main(arguments=None):
+    words = words_of(arguments)
+    return run(lambda: connect(*words.address, words.user, password_of(words), words.timeout), words.tables, words.wait)
 
 
 if __name__ == "__main__":

@@ -74,7 +74,7 @@ class Shell:
             raise OSError("files ask for files without an end")
         self._depth += 1
         try:
-            with open(path, encoding="utf-8-sig") as file:
+            with open(path, encoding="utf-8-sig", newline="\n") as file:
                 return self.run(file, path)
         finally:
             self._depth -= 1
