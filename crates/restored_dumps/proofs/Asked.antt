@@ -51,8 +51,16 @@ columns_short (c ∷ cs) is = omega (arith, column_length c, name_short c (first
 create_room : (name : List ℕ) (schema : Schema) (left : ℕ) → is_name name ≡ true → is_schema schema ≡ true → 4096 ≤ left → nat_le (length (flat_map change_bytes (create name schema ∷ []))) left ≡ true
 create_room name schema left is good room =
     at_most (length (flat_map change_bytes (create name schema ∷ []))) left
-    (omega (arith, ap length (append-nil (change_bytes (create name schema))), length-append (length name ∷ name) (schema_bytes schema), length-append (flat_map column_bytes schema.columns) (length schema.key ∷ schema.key),
-    columns_short schema.columns (schema_columns schema good), few_columns schema good, key_few schema good, short_name name is))
+    (omega (
+      arith,
+      ap length (append-nil (change_bytes (create name schema))),
+      length-append (length name ∷ name) (schema_bytes schema),
+      length-append (flat_map column_bytes schema.columns) (length schema.key ∷ schema.key),
+      columns_short schema.columns (schema_columns schema good),
+      few_columns schema good,
+      key_few schema good,
+      short_name name is,
+    ))
 
 pub row_short : (schema : Schema) (row : List ℕ) → is_row schema row ≡ true → length row ≤ 4000
 row_short schema row is = by (length row) (row_is schema row is).0

@@ -67,6 +67,7 @@ no_key cs (p ∷ ps) q c differ good at nullable all = by (slice_get cs p) refl 
     takes : (b : Bool) → not b ≡ true → b ≡ false
     takes true e = absurd cc
     takes false e = refl
+
     by : (o : Option Column) → slice_get cs p ≡ o → can_be_key o ≡ true → list_any (λ k. same_name k.name c.name) (map key_column_of (picked cs ps)) ≡ false → list_any (λ k. same_name k.name c.name) (map key_column_of (cons_option o (picked cs ps))) ≡ false
     by None here can rest = absurd cc
     by (Some k) here can rest =

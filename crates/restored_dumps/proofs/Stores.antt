@@ -208,8 +208,10 @@ module _ (name : List ℕ) (schema : Schema) (before : Store) (is : is_name name
     where
       further : List Line
       further = if n + 1 == 256 then Commit ∷ row_lines name schema 0 (values_of rest) else row_lines name schema (n + 1) (values_of rest)
+
       still : (m : ℕ) → m < 256 → (m + 1 == 256) ≡ false → m + 1 < 256
       still m small e = grind (arith, nat_tests)
+
       go : (b : Bool) → (n + 1 == 256) ≡ b → seen (more at e.1) ≡ with_rows (front ++ e ∷ [])
           → asked (row_lines name schema 0 (values_of rest) ++ lines) (begun (with_rows (front ++ e ∷ []))) ≡ asked lines (begun (with_rows ((front ++ e ∷ []) ++ rest)))
           → (n + 1 < 256 → asked (row_lines name schema (n + 1) (values_of rest) ++ lines) (more at e.1) ≡ asked lines (begun (with_rows ((front ++ e ∷ []) ++ rest))))

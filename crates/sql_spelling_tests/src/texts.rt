@@ -34,7 +34,14 @@ fn is_parsed(alloc: Global, sql: &[u8]) -> bool {
 fn tell_text(alloc: Global, sql: &[u8], out: &mut Vec<u8>) -> Option<()> {
     out.extend_from_slice(sql).ok()?;
     out.push(b'\n').ok()?;
-    say(out, if is_parsed(alloc, sql) { "read" } else { "refused" })
+    say(
+        out,
+        if is_parsed(alloc, sql) {
+            "read"
+        } else {
+            "refused"
+        },
+    )
 }
 
 fn tell_table(alloc: Global, name: &str, schema: &Schema, out: &mut Vec<u8>) -> Option<()> {
