@@ -1,6 +1,6 @@
 """What the tests of the client share: a store of its own for each test, served by the built program that the environment variable
 DRDAD names, and servers that are none."""
-import os, pathlib, socket, subprocess, sys, tempfile, threading, unittest
+import os, pathlib, signal, socket, subprocess, sys, tempfile, threading, unittest
 
 TOP = pathlib.Path(__file__).resolve().parents[3]
 CLIENT = TOP / "clients" / "python"
@@ -23,6 +23,14 @@ class OverAServer(unittest.TestCase):
         folder = tempfile.TemporaryDirectory()
         self.addCleanup(folder.cleanup)
         self.server = self.enterContext(Server(PROGRAM, f"{folder.name}/store", self.size)).start()
+
+    def stop_server(self):
+        """No thread of the server runs from then on, until go_on()."""
+        self.server.process.send_signal(signal.SIGSTOP)
+        os.waitid(os.P_PID, self.server.process.pid, os.WSTOPPED | os.WNOWAIT)
+
+    def go_on(self):
+        self.server.process.send_signal(signal.SIGCONT)
 
     def enterContext(self, context):
         """As Python 3.11 has it."""

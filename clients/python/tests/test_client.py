@@ -199,12 +199,12 @@ class SideBySide(OverAServer):
 
     def test_who_waits_can_be_hurried(self):
         connection = self.connect(timeout=None)
-        self.server.process.send_signal(19)
+        self.stop_server()
         late = threading.Timer(0.3, connection.hurry, (0,))
         late.start()
         with self.assertRaisesRegex(drdad.OperationalError, "nobody waited"):
             connection.cursor().execute("SELECT K FROM T")
-        self.server.process.send_signal(18)
+        self.go_on()
         self.assertTrue(connection.closed)
 
 

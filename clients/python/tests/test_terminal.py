@@ -1,5 +1,5 @@
 """The shell at a terminal: prompts, Ctrl-C, connections that are lost and made anew, completion, and the history."""
-import os, signal, unittest
+import os, unittest
 
 from shell_over_a_server import CREATE, OfAShell
 from typing_terminal import Terminal
@@ -54,12 +54,12 @@ class AtATerminal(OfAShell):
     def test_control_c_ends_a_statement_that_is_answered_in_time(self):
         terminal = self.with_table()
         terminal.until("drdad> ")
-        self.server.process.send_signal(signal.SIGSTOP)
+        self.stop_server()
         terminal.keys("SELECT * FROM T;\n")
         terminal.until("FROM T;\n")
         terminal.keys(CONTROL_C)
         terminal.until("^C")
-        self.server.process.send_signal(signal.SIGCONT)
+        self.go_on()
         terminal.until("error: interrupted behind 0 rows")
         terminal.types("drdad> ", "SELECT K FROM T;")
         terminal.until("0 rows (")
@@ -70,12 +70,12 @@ class AtATerminal(OfAShell):
     def test_control_c_gives_up_a_server_that_is_silent(self):
         terminal = self.with_table("--timeout", "60")
         terminal.until("drdad> ")
-        self.server.process.send_signal(signal.SIGSTOP)
+        self.stop_server()
         terminal.keys("INSERT INTO T VALUES (1, 'x', NULL);\n")
         terminal.until("NULL);\n")
         terminal.keys(CONTROL_C)
         terminal.until("the connection broke: nobody waited for the answer any longer")
-        self.server.process.send_signal(signal.SIGCONT)
+        self.go_on()
         terminal.until("connected anew; whether the statement was done, the tables tell")
         terminal.types("drdad> ", "\\q")
         self.assertEqual(terminal.ended(), 1)
