@@ -1,10 +1,12 @@
 """The shell at a terminal: prompts, Ctrl-C, connections that are lost and made anew, completion, and the history."""
-import os, unittest
+import os, time, unittest
 
 from shell_over_a_server import CREATE, OfAShell
 from typing_terminal import Terminal
 
 CONTROL_C, CONTROL_D, TAB = "\x03", "\x04", "\t"
+# What was typed is a statement under way by then.
+BEGUN_SECONDS = 0.5
 
 
 class AtATerminal(OfAShell):
@@ -57,6 +59,7 @@ class AtATerminal(OfAShell):
         self.stop_server()
         terminal.keys("SELECT * FROM T;\n")
         terminal.until("FROM T;\n")
+        time.sleep(BEGUN_SECONDS)
         terminal.keys(CONTROL_C)
         terminal.until("^C")
         self.go_on()
@@ -73,6 +76,7 @@ class AtATerminal(OfAShell):
         self.stop_server()
         terminal.keys("INSERT INTO T VALUES (1, 'x', NULL);\n")
         terminal.until("NULL);\n")
+        time.sleep(BEGUN_SECONDS)
         terminal.keys(CONTROL_C)
         terminal.until("the connection broke: nobody waited for the answer any longer")
         self.go_on()
