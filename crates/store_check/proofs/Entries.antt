@@ -5,8 +5,9 @@ use Rattle.std.specs.List.{AllByRecursion}
 use Rattle.row_values.specs.Schema.{Schema, is_name, is_schema}
 use Rattle.row_values.specs.Bytes.{name_at, name_in, named_at, parts_at, schema_at}
 use Rattle.row_values.proofs.ValueLaws.{chained, mapped}
+use Rattle.row_pages.specs.Laying.{HasSome}
 use Rattle.checkpoint_writer.specs.Catalogue.{Entry, entries_in, entry_at, entry_with, numbers_at}
-use Rattle.store_check.specs.Listed.{EntriesAt, entries_over}
+use Rattle.store_check.specs.Listed.{EntriesAt, HasTables, entries_over}
 
 -- a table has a name and a schema
 pub record IsNamed (e : Entry) : Type 0 where
@@ -50,6 +51,18 @@ rows_named (row ∷ rows) es is =
     let rest = mapped (λ (l : List Entry). first.0 ∷ l) (entries_in rows) es first.2 in
     subst (λ (l : List Entry). AreNamed l) rest.2 (entry_named row first.0 first.1, rows_named rows rest.0 rest.1)
 
+-- rows of tables, where there are tables, and tables where there are rows
+pub rows_there : (rows : List (List ℕ)) (es : List Entry) → entries_in rows ≡ Some es → HasTables es → HasSome rows
+rows_there [] es is some = let none : es ≡ [] = cc in subst (λ (l : List Entry). HasTables l) none some
+rows_there (row ∷ rows) es is some = tt
+
+pub tables_there : (rows : List (List ℕ)) (es : List Entry) → entries_in rows ≡ Some es → HasSome rows → HasTables es
+tables_there [] es is some = absurd some
+tables_there (row ∷ rows) es is some =
+    let first = chained (λ (e : Entry). option_map (λ (l : List Entry). e ∷ l) (entries_in rows)) (entry_at row) es is in
+    let rest = mapped (λ (l : List Entry). first.0 ∷ l) (entries_in rows) es first.2 in
+    subst (λ (l : List Entry). HasTables l) rest.2 tt
+
 named_both : (es more : List Entry) → AreNamed es → AreNamed more → AreNamed (es ++ more)
 named_both [] more named also = also
 named_both (e ∷ es) more named also = (named.0, named_both es more named.1 also)
@@ -57,4 +70,4 @@ named_both (e ∷ es) more named also = (named.0, named_both es more named.1 als
 -- the tables of a catalogue have names and schemas
 pub pages_named : (file : List ℕ) (at : ℕ) (pages : List (List Entry)) → EntriesAt file at pages → AreNamed (entries_over pages)
 pages_named file at [] stand = tt
-pages_named file at (page ∷ pages) stand = named_both page (entries_over pages) (rows_named stand.0.rows page stand.0.are) (pages_named file (at + 8192) pages stand.1)
+pages_named file at (page ∷ pages) stand = named_both page (entries_over pages) (rows_named stand.0.is.rows page stand.0.is.are) (pages_named file (at + 8192) pages stand.1)

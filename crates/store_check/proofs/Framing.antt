@@ -5,8 +5,8 @@ use Rattle.drda_disk.proofs.Parts.{part-part}
 use Rattle.row_pages.specs.Page.{IsPage}
 use Rattle.row_pages.specs.declared.page.PageKind.TheVariants as kind
 use Rattle.table_map.specs.Stored.{AreAt}
-use Rattle.checkpoint_writer.specs.Catalogue.{Entry, IsEntryPage}
-use Rattle.store_check.specs.Listed.{EntriesAt, entries_over, lie_from}
+use Rattle.checkpoint_writer.specs.Catalogue.{Entry}
+use Rattle.store_check.specs.Listed.{EntriesAt, IsTablesPage, entries_over, lie_from}
 use Rattle.store_check.specs.Half.{AreTables, HalfPages, IsCatalogue, IsTable, IsWholeHalf, KeysBySchema, TableRows, catalogue_end, entries_of, page_at}
 use Rattle.store_check.proofs.Tables.{lie_first, next_first, next_more, next_within}
 
@@ -28,7 +28,7 @@ module _ (file other : List ℕ) (lo n : ℕ) (same : part other lo n ≡ part f
   entries_framed : (at : ℕ) (pages : List (List Entry)) → lo ≤ at → at + 8192 * length pages ≤ lo + n → EntriesAt file at pages → EntriesAt other at pages
   entries_framed at [] low high is = tt
   entries_framed at (page ∷ pages) low high is = (
-    subst (λ (l : List ℕ). IsEntryPage l page) (sym (page_same at low (omega (arith, high)))) is.0,
+    subst (λ (l : List ℕ). IsTablesPage l page) (sym (page_same at low (omega (arith, high)))) is.0,
     entries_framed (at + 8192) pages (omega (arith, low)) (omega (arith, high)) is.1,
   )
 

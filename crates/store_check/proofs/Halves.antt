@@ -4,7 +4,8 @@ use Rattle.row_pages.specs.Parsing.{OnePage}
 use Rattle.checkpoint_writer.specs.Catalogue.{Entry}
 use Rattle.store_check.specs.Listed.{entries_over}
 use Rattle.store_check.specs.Whole.{IsFirstBad}
-use Rattle.store_check.specs.Half.{AreTables, BreaksAmong, BreaksHalf, BreaksInCatalogue, HalfPages, IsCatalogue, IsTable, IsWholeHalf, KeysBySchema, TableRows, entries_of, page_at, pages_over}
+use Rattle.store_check.specs.Half.{AreTables, BreaksAmong, BreaksHalf, BreaksInCatalogue, BreaksInMeaning, HalfPages, IsCatalogue, IsTable, IsWholeHalf, KeysBySchema, TableRows, entries_of, page_at, pages_over}
+use Rattle.store_check.proofs.Formed.{not_without, one_without, whole_formed}
 use Rattle.store_check.proofs.Listed.{listed_not_bad, listed_one_bad, one_listing}
 use Rattle.store_check.proofs.Whole.{never_bad, one_bad, one_list}
 
@@ -65,23 +66,33 @@ module _ (law : OnePage) (key_of : KeysBySchema) (file : List ℕ) where
     no_listing_breaks : (here : ℕ) (es : List Entry) → IsCatalogue file half es → BreaksInCatalogue file half here → ⊥
     no_listing_breaks here es is bad = listed_not_bad law file (page_at half.at half.first_catalogue) half.catalogue_pages half.first_catalogue here is.0 is.1 bad.breaks
 
-    pub half_not_bad : (here : ℕ) (tables : List TableRows) → IsWholeHalf key_of file half tables → BreaksHalf key_of file half here → ⊥
-    half_not_bad here tables whole (inl bad) = bad.apart whole.last
-    half_not_bad here tables whole (inr (inl bad)) = no_listing_breaks here (entries_of tables) whole.catalogue bad
-    half_not_bad here tables whole (inr (inr bad)) =
+    meaning_not_bad : (here : ℕ) (tables : List TableRows) → IsWholeHalf key_of file half tables → BreaksInMeaning key_of file half here → ⊥
+    meaning_not_bad here tables whole (inl bad) = bad.apart whole.last
+    meaning_not_bad here tables whole (inr (inl bad)) = no_listing_breaks here (entries_of tables) whole.catalogue bad
+    meaning_not_bad here tables whole (inr (inr bad)) =
         whole_among half.at half.first_catalogue here tables bad.entries (one_catalogue law file half (entries_of tables) bad.entries whole.catalogue bad.catalogue) whole.whole whole.behind bad.breaks
 
-    pub one_bad_half : (here there : ℕ) → BreaksHalf key_of file half here → BreaksHalf key_of file half there → here ≡ there
-    one_bad_half here there (inl a) (inl b) = a.place ∙ sym b.place
-    one_bad_half here there (inl a) (inr (inl b)) = absurd (a.apart b.last)
-    one_bad_half here there (inl a) (inr (inr b)) = absurd (a.apart b.last)
-    one_bad_half here there (inr (inl a)) (inl b) = absurd (b.apart a.last)
-    one_bad_half here there (inr (inr a)) (inl b) = absurd (b.apart a.last)
-    one_bad_half here there (inr (inl a)) (inr (inl b)) = listed_one_bad law file (page_at half.at half.first_catalogue) half.catalogue_pages half.first_catalogue here there a.breaks b.breaks
-    one_bad_half here there (inr (inl a)) (inr (inr b)) = absurd (no_listing_breaks here b.entries b.catalogue a)
-    one_bad_half here there (inr (inr a)) (inr (inl b)) = absurd (no_listing_breaks there a.entries a.catalogue b)
-    one_bad_half here there (inr (inr a)) (inr (inr b)) =
+    pub half_not_bad : (here : ℕ) (tables : List TableRows) → IsWholeHalf key_of file half tables → BreaksHalf key_of file half here → ⊥
+    half_not_bad here tables whole (inl bad) = not_without file half here (whole_formed file half key_of tables whole) bad
+    half_not_bad here tables whole (inr bad) = meaning_not_bad here tables whole bad.1
+
+    one_bad_meaning : (here there : ℕ) → BreaksInMeaning key_of file half here → BreaksInMeaning key_of file half there → here ≡ there
+    one_bad_meaning here there (inl a) (inl b) = a.place ∙ sym b.place
+    one_bad_meaning here there (inl a) (inr (inl b)) = absurd (a.apart b.last)
+    one_bad_meaning here there (inl a) (inr (inr b)) = absurd (a.apart b.last)
+    one_bad_meaning here there (inr (inl a)) (inl b) = absurd (b.apart a.last)
+    one_bad_meaning here there (inr (inr a)) (inl b) = absurd (b.apart a.last)
+    one_bad_meaning here there (inr (inl a)) (inr (inl b)) = listed_one_bad law file (page_at half.at half.first_catalogue) half.catalogue_pages half.first_catalogue here there a.breaks b.breaks
+    one_bad_meaning here there (inr (inl a)) (inr (inr b)) = absurd (no_listing_breaks here b.entries b.catalogue a)
+    one_bad_meaning here there (inr (inr a)) (inr (inl b)) = absurd (no_listing_breaks there a.entries a.catalogue b)
+    one_bad_meaning here there (inr (inr a)) (inr (inr b)) =
         one_among half.at half.first_catalogue here there a.entries b.entries (one_catalogue law file half a.entries b.entries a.catalogue b.catalogue) a.breaks b.breaks
+
+    pub one_bad_half : (here there : ℕ) → BreaksHalf key_of file half here → BreaksHalf key_of file half there → here ≡ there
+    one_bad_half here there (inl a) (inl b) = one_without file half here there a b
+    one_bad_half here there (inl a) (inr b) = absurd (not_without file half here b.0 a)
+    one_bad_half here there (inr a) (inl b) = absurd (not_without file half there a.0 b)
+    one_bad_half here there (inr a) (inr b) = one_bad_meaning here there a.1 b.1
 
   -- ---- whole in one way at most
 

@@ -6,6 +6,7 @@ mod Judged
 mod Listed
 mod Written
 mod Tables
+mod Formed
 mod Halves
 mod Framing
 mod KeyOrder

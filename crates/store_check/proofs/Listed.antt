@@ -10,7 +10,7 @@ use Rattle.row_pages.specs.declared.page.PageKind.TheVariants as kind
 use Rattle.checkpoint_writer.specs.Catalogue.{Entry, HasEntries, IsDamagedAt, IsEntryPage, entries_in, entry_of}
 use Rattle.checkpoint_writer.specs.declared.entry.StoredTable.{StoredTable}
 use Rattle.store_check.specs.Breaking.{BreaksAt}
-use Rattle.store_check.specs.Listed.{AreListed, ChecksCatalogue, EntriesAt, IsListing, are_listed, entries_over, first_page_of, is_before, lie_from, names_rise}
+use Rattle.store_check.specs.Listed.{AreListed, ChecksCatalogue, EntriesAt, HasTables, IsListing, IsTablesPage, are_listed, entries_over, first_page_of, is_before, lie_from, names_rise}
 use Rattle.checkpoint_writer.specs.ReadCatalogue.{TellsCatalogue}
 use Rattle.checkpoint_writer.specs.declared.reading.CatalogueError.{CatalogueError}
 use Rattle.checkpoint_writer.specs.declared.reading.CatalogueError.TheVariants as catalogue
@@ -51,12 +51,12 @@ entries_front (p ∷ front) more = ap (λ (es : List Entry). p ++ es) (entries_f
 entries_more : (front : List (List Entry)) (page : List Entry) → entries_over (front ++ page ∷ []) ≡ entries_over front ++ page
 entries_more front page = entries_front front (page ∷ []) ∙ ap (λ (es : List Entry). entries_over front ++ es) (append-nil page)
 
-stand_more : (file : List ℕ) (at here : ℕ) (front : List (List Entry)) (page : List Entry) → here ≡ at + 8192 * length front → EntriesAt file at front → IsEntryPage (part file here 8192) page → EntriesAt file at (front ++ page ∷ [])
-stand_more file at here [] page place stand is = (subst (λ n. IsEntryPage (part file n 8192) page) (omega (arith, place)) is, tt)
+stand_more : (file : List ℕ) (at here : ℕ) (front : List (List Entry)) (page : List Entry) → here ≡ at + 8192 * length front → EntriesAt file at front → IsTablesPage (part file here 8192) page → EntriesAt file at (front ++ page ∷ [])
+stand_more file at here [] page place stand is = (subst (λ n. IsTablesPage (part file n 8192) page) (omega (arith, place)) is, tt)
 stand_more file at here (p ∷ front) page place stand is = (stand.0, stand_more file (at + 8192) here front page (omega (arith, place)) stand.1 is)
 
-stand_last : (file : List ℕ) (at here : ℕ) (front : List (List Entry)) (page : List Entry) → here ≡ at + 8192 * length front → EntriesAt file at (front ++ page ∷ []) → IsEntryPage (part file here 8192) page
-stand_last file at here [] page place stand = subst (λ n. IsEntryPage (part file n 8192) page) (omega (arith, place)) stand.0
+stand_last : (file : List ℕ) (at here : ℕ) (front : List (List Entry)) (page : List Entry) → here ≡ at + 8192 * length front → EntriesAt file at (front ++ page ∷ []) → IsTablesPage (part file here 8192) page
+stand_last file at here [] page place stand = subst (λ n. IsTablesPage (part file n 8192) page) (omega (arith, place)) stand.0
 stand_last file at here (p ∷ front) page place stand = stand_last file (at + 8192) here front page (omega (arith, place)) stand.1
 
 stand_front : (file : List ℕ) (at : ℕ) (front more : List (List Entry)) → EntriesAt file at (front ++ more) → EntriesAt file at front
@@ -76,7 +76,7 @@ in_front law file at a [] stand other fewer = absurd (omega (arith, fewer))
 in_front law file at [] (q ∷ b) stand other fewer = (q, b, refl)
 in_front law file at (p ∷ a) (q ∷ b) stand other fewer =
     let found = in_front law file (at + 8192) a b stand.1 other.1 (omega (arith, fewer)) in
-    (found.0, found.1, ap (λ (x : List Entry). x ∷ b) (one_entries law (part file at 8192) q p other.0 stand.0) ∙ ap (λ (l : List (List Entry)). p ∷ l) found.2)
+    (found.0, found.1, ap (λ (x : List Entry). x ∷ b) (one_entries law (part file at 8192) q p other.0.is stand.0.is) ∙ ap (λ (l : List (List Entry)). p ∷ l) found.2)
 
 -- with the first bad page more pages than those in front of it are no catalogue's
 listed_not_more : OnePage → (file : List ℕ) (at count last here : ℕ) (pages : List (List Entry)) → AreListed file at last pages → (bad : BreaksAt (AreListed file at last) at count here) → length bad.front < length pages → ⊥
@@ -102,7 +102,7 @@ same_entries law file at [] [] stand other many = refl
 same_entries law file at [] (q ∷ b) stand other many = absurd cc
 same_entries law file at (p ∷ a) [] stand other many = absurd cc
 same_entries law file at (p ∷ a) (q ∷ b) stand other many =
-    ap (λ (x : List Entry). x ∷ a) (one_entries law (part file at 8192) p q stand.0 other.0) ∙ ap (λ (l : List (List Entry)). q ∷ l) (same_entries law file (at + 8192) a b stand.1 other.1 (omega (arith, many)))
+    ap (λ (x : List Entry). x ∷ a) (one_entries law (part file at 8192) p q stand.0.is other.0.is) ∙ ap (λ (l : List (List Entry)). q ∷ l) (same_entries law file (at + 8192) a b stand.1 other.1 (omega (arith, many)))
 
 -- so many pages are those of one catalogue at most
 pub one_listing : OnePage → (file : List ℕ) (at count last : ℕ) (a b : List (List Entry)) → IsListing file at count last a → IsListing file at count last b → a ≡ b
@@ -162,13 +162,31 @@ module _ (file : List ℕ) (at last : ℕ) where
 
 module _ (law : OnePage) (file : List ℕ) (at last : ℕ) (old : List StoredTable) where
   -- one page of a catalogue that was read
-  pub page_read : (found : List Entry) → HasEntries file at 1 found → IsEntryPage (part file at 8192) found
+  page_read : (found : List Entry) → HasEntries file at 1 found → IsEntryPage (part file at 8192) found
   page_read found has =
       subst (λ (es : List Entry). IsEntryPage (part file at 8192) es) (sym (has.4 ∙ ap (λ (es : List Entry). has.0 ++ es) has.3 ∙ append-nil has.0)) has.2
 
+  has_tables : (found : List StoredTable) → (length found ≡ 0 → ⊥) → HasTables (map entry_of found)
+  has_tables [] some = some refl
+  has_tables (t ∷ found) some = tt
+
+  no_tables : (es : List Entry) → es ≡ [] → HasTables es → ⊥
+  no_tables es none some = subst (λ (l : List Entry). HasTables l) none some
+
+  -- a page without tables is none of a catalogue
+  pub page_empty : (T : Type 0) (found new : List StoredTable) → HasEntries file at 1 (map entry_of found) → length found ≡ 0 → JudgesEntries {T = T} (part file at 8192) at last old (Err (Damaged at)) new
+  page_empty T found new has none = (
+    refl,
+    λ entries is listed. no_tables entries (one_entries law (part file at 8192) entries (map entry_of found) is.is (page_read (map entry_of found) has) ∙ empty found none) is.some,
+  )
+    where
+      empty : (found : List StoredTable) → length found ≡ 0 → map entry_of found ≡ []
+      empty [] none = refl
+      empty (t ∷ found) none = absurd cc
+
   -- and one that was not
   pub page_not_read : (T : Type 0) (d : ℕ) (new : List StoredTable) → IsDamagedAt file at 1 d → JudgesEntries {T = T} (part file at 8192) at last old (Err (Damaged d)) new
-  page_not_read T d new (inl here) = (here.0, λ entries is listed. here.1 entries is)
+  page_not_read T d new (inl here) = (here.0, λ entries is listed. here.1 entries is.is)
   page_not_read T d new (inr there) = absurd there.2
 
   pub not_read : (T : Type 0) (e : CatalogueError) → TellsCatalogue file at 1 (Err e) → (f : CheckError) → f ≡ catalogue_error e → JudgesEntries {T = T} (part file at 8192) at last old (Err f) old
@@ -180,18 +198,18 @@ module _ (law : OnePage) (file : List ℕ) (at last : ℕ) (old : List StoredTab
       by_error (catalogue.Damaged d) told = page_not_read T d old told
 
   -- its tables come behind those of the pages in front of it
-  pub page_fits : {T : Type 0} (x : T) (found new : List StoredTable) → HasEntries file at 1 (map entry_of found) → map entry_of new ≡ map entry_of old ++ map entry_of found → are_listed last (map entry_of new) ≡ true → JudgesEntries {T = T} (part file at 8192) at last old (Ok x) new
-  page_fits x found new has behind listed = (map entry_of found, page_read (map entry_of found) has, behind, listed)
+  pub page_fits : {T : Type 0} (x : T) (found new : List StoredTable) → HasEntries file at 1 (map entry_of found) → (length found ≡ 0 → ⊥) → map entry_of new ≡ map entry_of old ++ map entry_of found → are_listed last (map entry_of new) ≡ true → JudgesEntries {T = T} (part file at 8192) at last old (Ok x) new
+  page_fits x found new has some behind listed = (map entry_of found, record { is = page_read (map entry_of found) has; some = has_tables found some }, behind, listed)
 
   pub page_fits_not : (T : Type 0) (found new : List StoredTable) → HasEntries file at 1 (map entry_of found) → map entry_of new ≡ map entry_of old ++ map entry_of found → (are_listed last (map entry_of new) ≡ true → ⊥) → JudgesEntries {T = T} (part file at 8192) at last old (Err (Damaged at)) new
   page_fits_not T found new has behind unlisted = (
     refl,
     λ entries is listed.
-        unlisted (ap (λ (es : List Entry). are_listed last es) (behind ∙ ap (λ (es : List Entry). map entry_of old ++ es) (one_entries law (part file at 8192) (map entry_of found) entries (page_read (map entry_of found) has) is)) ∙ listed),
+        unlisted (ap (λ (es : List Entry). are_listed last es) (behind ∙ ap (λ (es : List Entry). map entry_of old ++ es) (one_entries law (part file at 8192) (map entry_of found) entries (page_read (map entry_of found) has) is.is)) ∙ listed),
   )
 
+pub off_on : false ≡ true → ⊥
+off_on wrong = absurd cc
+
 pub unlisted : (b : Bool) (last : ℕ) (new seen : List StoredTable) → b ≡ false → b ≡ are_listed last (map entry_of seen) → seen ≡ new → are_listed last (map entry_of new) ≡ true → ⊥
-unlisted b last new seen off is same listed = apart (sym off ∙ is ∙ ap (λ (l : List StoredTable). are_listed last (map entry_of l)) same ∙ listed)
-  where
-    apart : false ≡ true → ⊥
-    apart wrong = absurd cc
+unlisted b last new seen off is same listed = off_on (sym off ∙ is ∙ ap (λ (l : List StoredTable). are_listed last (map entry_of l)) same ∙ listed)

@@ -1,20 +1,24 @@
 -- What was written is whole.
-use Rattle.std.proofs.Common.{◌≡◌, ◌<◌, ℕ, zero, suc, ◌+◌, true, List, [], ◌∷◌, ◌++◌, length, map, refl, sym, ap, subst, ◌∙◌, arith}
+use Rattle.std.proofs.Common.{◌≡◌, ◌<◌, ℕ, suc, ◌+◌, true, List, [], ◌∷◌, ◌++◌, length, map, refl, sym, ap, subst, ◌∙◌, arith}
 use Rattle.std.specs.List.{AllByRecursion}
+use Rattle.drda_words.specs.Place.{part}
 use Rattle.row_values.specs.Schema.{Schema}
 use Rattle.row_values.specs.Row.{is_row}
-use Rattle.row_pages.specs.Laying.{IsShort, Laying, laid}
+use Rattle.row_pages.specs.Laying.{AreFilled, HasSome, IsShort, Laying, laid}
+use Rattle.row_pages.specs.Page.{IsPage, Page}
+use Rattle.row_pages.specs.Parsing.{OnePage}
 use Rattle.row_pages.specs.declared.page.PageKind.TheVariants as kind
 use Rattle.key_map.specs.Merging.{Rows}
 use Rattle.table_map.specs.Stored.{AreAt, Places}
 use Rattle.table_map.specs.Table.{without_keys}
 use Rattle.table_map.specs.Keyed.{first_keys}
-use Rattle.checkpoint_writer.specs.Catalogue.{AreEntries, CatalogueIsRead, Entry, HasEntries, rows_of}
+use Rattle.checkpoint_writer.specs.Catalogue.{AreEntries, CatalogueIsRead, Entry, HasEntries, IsEntryPage, rows_of}
 use Rattle.checkpoint_writer.specs.Laying.{StandAt}
 use Rattle.checkpoint_writer.specs.Stored.{IsImageOf}
 use Rattle.store_check.specs.Whole.{IsWhole}
-use Rattle.store_check.specs.Listed.{EntriesAt, IsListing, are_listed, entries_over}
+use Rattle.store_check.specs.Listed.{EntriesAt, IsListing, IsTablesPage, are_listed, entries_over}
 use Rattle.store_check.specs.Half.{AreTables, HalfPages, IsTable, IsWholeHalf, KeysBySchema, entries_of, page_at, pages_over}
+use Rattle.store_check.proofs.Entries.{tables_there}
 use Rattle.store_check.specs.Written.{IsWritten, IsWrittenHalf, WrittenTable, entries_written, laid_table}
 
 many_first : (key_of : List ℕ → List ℕ) (pages : List (List (List ℕ))) → length (first_keys key_of pages) ≡ length pages
@@ -32,17 +36,28 @@ table_whole law schema key_of rows places file image fit = record {
   many = sym (many_first key_of (laid (without_keys rows))) ∙ ap (λ (keys : List (List ℕ)). length keys) (sym image.stored.first);
 }
 
--- the tables of pages, page by page
-apart : (file : List ℕ) (at n : ℕ) (es : List Entry) → HasEntries file at n es → (pages : List (List Entry)) × EntriesAt file at pages × (length pages ≡ n) × (entries_over pages ≡ es)
-apart file at zero es has = ([], tt, refl, sym has)
-apart file at (suc n) es has =
-    let more = apart file (at + 8192) n has.1 has.3 in
-    (has.0 ∷ more.0, (has.2, more.1), ap suc more.2, ap (λ (l : List Entry). has.0 ++ l) more.3 ∙ sym has.4)
+filled_some : (pages : List (List (List ℕ))) → AreFilled pages → AllByRecursion HasSome pages
+filled_some [] filled = tt
+filled_some (page ∷ pages) filled = (filled.0, filled_some pages filled.3)
 
-pub catalogue_listed : CatalogueIsRead → (file : List ℕ) (at last : ℕ) (entries : List Entry) → AreEntries entries → AllByRecursion IsShort (rows_of entries) → StandAt kind.Catalogue file at (laid (rows_of entries)) → are_listed last entries ≡ true
+-- a page of rows with tables has some
+page_tables : OnePage → (bytes : List ℕ) (rows : List (List ℕ)) (es : List Entry) → IsPage (record { kind = kind.Catalogue; rows = rows }) bytes → HasSome rows → IsEntryPage bytes es → IsTablesPage bytes es
+page_tables law bytes rows es page some is =
+    let same = ap (λ (p : Page). p.rows) (law (record { kind = kind.Catalogue; rows = rows }) (record { kind = kind.Catalogue; rows = is.rows }) bytes page is.page) in
+    record { is = is; some = tables_there is.rows es is.are (subst (λ (l : List (List ℕ)). HasSome l) same some) }
+
+-- the tables of pages, page by page
+apart : OnePage → (file : List ℕ) (at : ℕ) (laid_pages : List (List (List ℕ))) (es : List Entry) → StandAt kind.Catalogue file at laid_pages → AllByRecursion HasSome laid_pages → HasEntries file at (length laid_pages) es
+    → (pages : List (List Entry)) × EntriesAt file at pages × (length pages ≡ length laid_pages) × (entries_over pages ≡ es)
+apart law file at [] es stand some has = ([], tt, refl, sym has)
+apart law file at (page ∷ laid_pages) es stand some has =
+    let more = apart law file (at + 8192) laid_pages has.1 stand.1 some.1 has.3 in
+    (has.0 ∷ more.0, (page_tables law (part file at 8192) page has.0 stand.0 some.0 has.2, more.1), ap suc more.2, ap (λ (l : List Entry). has.0 ++ l) more.3 ∙ sym has.4)
+
+pub catalogue_listed : OnePage → Laying → CatalogueIsRead → (file : List ℕ) (at last : ℕ) (entries : List Entry) → AreEntries entries → AllByRecursion IsShort (rows_of entries) → StandAt kind.Catalogue file at (laid (rows_of entries)) → are_listed last entries ≡ true
     → (pages : List (List Entry)) × IsListing file at (length (laid (rows_of entries))) last pages × (entries_over pages ≡ entries)
-catalogue_listed law file at last entries good short stand listed =
-    let found = apart file at (length (laid (rows_of entries))) entries (law file at entries good short stand) in
+catalogue_listed one laying read file at last entries good short stand listed =
+    let found = apart one file at (laid (rows_of entries)) entries stand (filled_some (laid (rows_of entries)) (laying (rows_of entries) short).filled) (read file at entries good short stand) in
     (found.0, record { listed = record { stand = found.1; listed = ap (λ (es : List Entry). are_listed last es) found.3 ∙ listed }; many = found.2 }, found.3)
 
 -- ---- a half
@@ -74,10 +89,10 @@ tables_written : Laying → (key_of : KeysBySchema) (file : List ℕ) (at : ℕ)
 tables_written law key_of file at [] are = tt
 tables_written law key_of file at (t ∷ tables) are = (table_written law key_of file at t are.0, tables_written law key_of file at tables are.1)
 
-pub half_written : Laying → CatalogueIsRead → (key_of : KeysBySchema) (file : List ℕ) (half : HalfPages) (tables : List WrittenTable) → IsWrittenHalf key_of file half tables → IsWholeHalf key_of file half (map laid_table tables)
-half_written law read key_of file half tables is =
+pub half_written : OnePage → Laying → CatalogueIsRead → (key_of : KeysBySchema) (file : List ℕ) (half : HalfPages) (tables : List WrittenTable) → IsWrittenHalf key_of file half tables → IsWholeHalf key_of file half (map laid_table tables)
+half_written one law read key_of file half tables is =
     let first = half.first_catalogue in
-    let found = catalogue_listed read file (page_at half.at first) first (entries_written tables) is.good is.short is.catalogue is.listed in
+    let found = catalogue_listed one law read file (page_at half.at first) first (entries_written tables) is.good is.short is.catalogue is.listed in
     record {
       catalogue = (found.0, subst (λ (n : ℕ). IsListing file (page_at half.at first) n first found.0) is.many found.1, found.2 ∙ sym (entries_laid tables));
       whole = tables_written law key_of file half.at tables is.written;

@@ -1,14 +1,18 @@
 -- All that a half has: its catalogue, and the pages of its tables.
-use Rattle.std.specs.Prelude.{◌≡◌, ◌≢◌, ◌⊎◌, ◌≤◌, ◌+◌, ◌-◌, ◌*◌, ℕ, min, List, [], ◌∷◌, ◌++◌, length, map, Result, Ok, Err}
+use Rattle.std.specs.Prelude.{◌≡◌, ◌≢◌, ◌⊎◌, ◌<◌, ◌≤◌, ◌+◌, ◌-◌, ◌*◌, ℕ, min, nat_lt, List, [], ◌∷◌, ◌++◌, length, map, Result, Ok, Err, if◌then◌else◌}
 use Rattle.std.specs.List.{AllByRecursion}
 use Rattle.std.specs.Global.{Vec}
+use Rattle.drda_words.specs.Place.{part}
 use Rattle.row_values.specs.Schema.{Schema}
 use Rattle.row_pages.specs.Laying.{rows_over}
+use Rattle.row_pages.specs.declared.page.PageKind.{PageKind}
+use Rattle.row_pages.specs.declared.page.PageKind.TheVariants as kind
 use Rattle.table_map.specs.Keyed.{first_keys}
 use Rattle.table_map.specs.Stored.{Places}
 use Rattle.half_store.specs.declared.active.Active.{Active}
 use Rattle.checkpoint_writer.specs.Catalogue.{Entry, entry_of}
 use Rattle.store_check.specs.Breaking.{BreaksAt}
+use Rattle.store_check.specs.Formed.{IsFormed}
 use Rattle.store_check.specs.Listed.{AreListed, IsListing, entries_over}
 use Rattle.store_check.specs.Whole.{AreRows, IsFirstBad, IsWhole}
 use Rattle.store_check.specs.declared.half.CheckedTable.{CheckedTable}
@@ -70,6 +74,29 @@ pub record IsWholeHalf (key_of : KeysBySchema) (file : List ℕ) (half : HalfPag
   pub behind : pages_over (entries_of tables) ≡ half.first_catalogue
   pub last : catalogue_end half ≡ half.count
 
+-- ---- the form of pages
+
+-- the kind of the page with this number: pages of rows lie in front of the catalogue
+abbrev pub kind_of : HalfPages → ℕ → PageKind
+kind_of half n = if nat_lt n half.first_catalogue then kind.Rows else kind.Catalogue
+
+-- the page with this number has rows and is of its place's kind, and it does not lie behind the catalogue
+pub record HasForm (file : List ℕ) (half : HalfPages) (n : ℕ) : Type 0 where
+  pub within : n < catalogue_end half
+  pub is : IsFormed (kind_of half n) (part file (page_at half.at n) 8192)
+
+-- each of so many first pages has its form
+abbrev pub HaveForm : List ℕ → HalfPages → ℕ → Type 0
+HaveForm file half count = (n : ℕ) → n < count → HasForm file half n
+
+-- the first page without its form lies here
+pub record BreaksInForm (file : List ℕ) (half : HalfPages) (here : ℕ) : Type 0 where
+  pub number : ℕ
+  pub within : number < half.count
+  pub front : HaveForm file half number
+  pub bad : HasForm file half number → ⊥
+  pub place : here ≡ page_at half.at number
+
 -- ---- the first bad page
 
 -- The catalogue's last page is not the half's: the first page that lies in front of one of the two ends alone lies here.
@@ -110,10 +137,15 @@ pub record BreaksInRows (key_of : KeysBySchema) (file : List ℕ) (half : HalfPa
   pub catalogue : IsCatalogue file half entries
   pub breaks : BreaksAmong key_of file half.at half.first_catalogue entries here
 
--- The first bad page of a half lies here. The catalogue's place at the end is looked at first, then its pages, then the
--- pages in front of it by their numbers.
+-- What pages of good form say of one another breaks here: the catalogue's place at the end is looked at first, then its
+-- pages, then the pages in front of it by their numbers.
+abbrev pub BreaksInMeaning : KeysBySchema → List ℕ → HalfPages → ℕ → Type 0
+BreaksInMeaning key_of file half here = BreaksAtEnd half here ⊎ (BreaksInCatalogue file half here ⊎ BreaksInRows key_of file half here)
+
+-- The first bad page of a half lies here: the first one by number without its form, and where each has its own the first
+-- one by what they say.
 abbrev pub BreaksHalf : KeysBySchema → List ℕ → HalfPages → ℕ → Type 0
-BreaksHalf key_of file half here = BreaksAtEnd half here ⊎ (BreaksInCatalogue file half here ⊎ BreaksInRows key_of file half here)
+BreaksHalf key_of file half here = BreaksInForm file half here ⊎ (HaveForm file half half.count × BreaksInMeaning key_of file half here)
 
 -- ---- what is told
 

@@ -11,9 +11,9 @@ use Rattle.row_pages.specs.Page.{IsPage, Page}
 use Rattle.row_pages.specs.Laying.{HasSome}
 use Rattle.row_pages.specs.declared.page.PageKind.TheVariants as kind
 use Rattle.table_map.specs.Keyed.{copied, first_key}
-use Rattle.checkpoint_writer.specs.Catalogue.{Entry, IsEntryPage, entry_of}
+use Rattle.checkpoint_writer.specs.Catalogue.{Entry, entry_of}
 use Rattle.checkpoint_writer.specs.declared.entry.StoredTable.{StoredTable}
-use Rattle.store_check.specs.Listed.{are_listed}
+use Rattle.store_check.specs.Listed.{IsTablesPage, are_listed}
 use Rattle.store_check.specs.declared.errors.CheckError.{CheckError}
 use Rattle.store_check.specs.declared.errors.CheckError.TheVariants.{NoMemory, DeviceFailed, Damaged}
 
@@ -64,7 +64,7 @@ JudgesBytes schema key_of at bytes old (Err DeviceFailed) new = Unit {0}
 -- what is told of the bytes at an offset, whose tables come behind others: with them they are those of a catalogue, or
 -- the bytes are no page of tables with which they would be
 abbrev pub JudgesEntries : {T : Type 0} → List ℕ → ℕ → ℕ → List StoredTable → Result T CheckError → List StoredTable → Type 0
-JudgesEntries bytes at last old (Ok x) new = (entries : List Entry) × IsEntryPage bytes entries × (map entry_of new ≡ map entry_of old ++ entries) × (are_listed last (map entry_of new) ≡ true)
-JudgesEntries bytes at last old (Err (Damaged here)) new = (here ≡ at) × ((entries : List Entry) → IsEntryPage bytes entries → are_listed last (map entry_of old ++ entries) ≡ true → ⊥)
+JudgesEntries bytes at last old (Ok x) new = (entries : List Entry) × IsTablesPage bytes entries × (map entry_of new ≡ map entry_of old ++ entries) × (are_listed last (map entry_of new) ≡ true)
+JudgesEntries bytes at last old (Err (Damaged here)) new = (here ≡ at) × ((entries : List Entry) → IsTablesPage bytes entries → are_listed last (map entry_of old ++ entries) ≡ true → ⊥)
 JudgesEntries bytes at last old (Err NoMemory) new = Unit {0}
 JudgesEntries bytes at last old (Err DeviceFailed) new = Unit {0}

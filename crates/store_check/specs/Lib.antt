@@ -3,6 +3,7 @@ pub mod Whole
 pub mod Listed
 pub mod Judging
 pub mod Errors
+pub mod Formed
 pub mod Half
 pub mod Halving
 pub mod Written

@@ -11,10 +11,20 @@ use Rattle.store_check.specs.Breaking.{BreaksAt}
 use Rattle.store_check.specs.declared.errors.CheckError.{CheckError}
 use Rattle.store_check.specs.declared.errors.CheckError.TheVariants.{NoMemory, DeviceFailed, Damaged}
 
+-- there are tables
+abbrev pub HasTables : List Entry → Type 0
+HasTables [] = ⊥
+HasTables (e ∷ es) = Unit {0}
+
+-- bytes are a page of these tables, of which there are some
+pub record IsTablesPage (bytes : List ℕ) (entries : List Entry) : Type 0 where
+  pub is : IsEntryPage bytes entries
+  pub some : HasTables entries
+
 -- the pages from an offset on have these entries, page by page
 abbrev pub EntriesAt : List ℕ → ℕ → List (List Entry) → Type 0
 EntriesAt file at [] = Unit {0}
-EntriesAt file at (page ∷ pages) = IsEntryPage (part file at 8192) page × EntriesAt file (at + 8192) pages
+EntriesAt file at (page ∷ pages) = IsTablesPage (part file at 8192) page × EntriesAt file (at + 8192) pages
 
 abbrev pub entries_over : List (List Entry) → List Entry
 entries_over [] = []

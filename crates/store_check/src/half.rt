@@ -9,9 +9,10 @@ ghost use Rattle.store_check.specs.Errors.{CountsCheck};
 ghost use Rattle.store_check.specs.Whole.{AreRows, ChecksTable, IsWhole, places_in};
 ghost use Rattle.store_check.specs.Listed.{are_listed};
 ghost use Rattle.store_check.specs.Half.{ChecksHalf, LiesBehind, LiesBelow, NotesTable, catalogue_end, entry_in, page_at, pages_of};
-ghost use Rattle.store_check.specs.Halving.{ChecksRows, ListsHalf};
+ghost use Rattle.store_check.specs.Halving.{ChecksMeaning, ChecksRows, ListsHalf};
 ghost use Rattle.store_check.specs.declared.errors.CheckError.TheVariants.{NoMemory};
 
+use crate::form::first_damage;
 use crate::keys::KeysOf;
 use crate::{CheckError, KeysBySchema, check_catalogue, check_table};
 use checkpoint_writer::StoredTable;
@@ -30,7 +31,7 @@ pub struct CheckedTable {
 }
 
 /// The offset of a half's first page.
-fn pages_at(active: &Active) -> usize
+pub(crate) fn pages_at(active: &Active) -> usize
     requires { 8192 * active.now.pages ≤ active.now.region.at }
     ensures { result ≡ (pages_of active.now).at }
 {
@@ -147,16 +148,45 @@ fn check_rows<K: KeysBySchema, D: Disk>(
     }
 }
 
+/// Checks what all pages of the active half of a store say. `Damaged` is told where the catalogue does not
+/// end with the half, else at the catalogue's first bad page, else at the first bad one of the pages in
+/// front of it: of a table, or the one behind the last table's.
+fn check_meaning<K: KeysBySchema, D: Disk>(
+    alloc: Global,
+    keys: &K,
+    cache: &mut PageCache,
+    disk: &mut D,
+    active: &Active,
+) -> Result<Vec<CheckedTable>, CheckError>
+    requires pages { 8192 * active.now.pages ≤ active.now.region.at }
+    requires small { active.now.region.at ≤ 2 ^ 40 }
+    requires inside { active.now.region.at ≤ length (D.life disk.old).seen }
+    ensures inside { IfOk result (λ checked. AllByRecursion (LiesBelow active.now.region.at) checked.items) }
+    ensures behind { IfOk result (λ checked. AllByRecursion (LiesBehind (pages_of active.now).at) checked.items) }
+    ensures good { IfOk result (λ checked. AllByRecursion (NotesTable (K.key_of keys.now)) checked.items) }
+    ensures listed { IfOk result (λ checked. are_listed active.now.first_catalogue (map entry_in checked.items) ≡ true) }
+    ensures told { IsTrue D.is_modelled → AreRead cache.old (D.life disk.old).seen → ChecksMeaning (K.key_of keys.now) (D.life disk.old).seen (pages_of active.now) result }
+    ensures kept { IsTrue D.is_modelled → AreRead cache.old (D.life disk.old).seen → AreRead cache.new (D.life disk.new).seen }
+    ensures stays { Stays (D.life disk.old) (D.life disk.new) }
+    ensures cause { CountsCheck result (D.life disk.old).faults (D.life disk.new).faults }
+{
+    let tables = listed_tables(alloc, cache, disk, active)?;
+    let at = pages_at(active);
+    let first = active.first_catalogue as usize;
+    check_rows(alloc, keys, cache, disk, at, first, tables)
+}
+
 /// Checks all pages of the active half of a store: its last ones are those of a catalogue
 /// (`check_catalogue`), and those in front of it are the pages of the catalogue's tables
 /// (`check_table`), each by the keys of its schema. The tables are returned in their order, with their
 /// rows noted. Whatever the device, the names of the tables rise, and what is noted of each are rows of
 /// its schema whose keys rise.
 ///
-/// `Damaged` comes exactly where the half is not so, and tells where its first bad page lies. Where
-/// the catalogue does not end with the half, that is the first page that lies in front of one of the
-/// two ends alone; else, where the catalogue is bad, its first bad page; else the first bad one of the
-/// pages in front of it: of a table, or the one behind the last table's. Nothing is written.
+/// `Damaged` comes exactly where the half is not so, and tells where its first bad page lies. That is the
+/// first one, by its number, that is no page, has no rows, is not of its place's kind or lies behind the
+/// catalogue. Where there is none it is the catalogue's first page that is bad by what it says; else the
+/// first such one of the pages in front of it: of a table, or the one behind the last table's. Pages are
+/// read once where no damage is found, and once more where some is. Nothing is written.
 pub fn check_half<K: KeysBySchema, D: Disk>(
     alloc: Global,
     keys: &K,
@@ -176,8 +206,10 @@ pub fn check_half<K: KeysBySchema, D: Disk>(
     ensures stays { Stays (D.life disk.old) (D.life disk.new) }
     ensures cause { CountsCheck result (D.life disk.old).faults (D.life disk.new).faults }
 {
-    let tables = listed_tables(alloc, cache, disk, active)?;
-    let at = pages_at(active);
-    let first = active.first_catalogue as usize;
-    check_rows(alloc, keys, cache, disk, at, first, tables)
+    match check_meaning(alloc, keys, cache, disk, active) {
+        Ok(checked) => Ok(checked),
+        Err(CheckError::Damaged { at }) => Err(first_damage(alloc, cache, disk, active, at)),
+        Err(CheckError::NoMemory) => Err(CheckError::NoMemory),
+        Err(CheckError::DeviceFailed) => Err(CheckError::DeviceFailed),
+    }
 }

@@ -55,6 +55,8 @@ pub fn written_is_whole()
 pub fn written_is_listed()
     ensures { WrittenIsListed }
 {
+    one_page();
+    one_laying();
     catalogues_are_read();
 }
 
@@ -83,6 +85,7 @@ pub fn one_whole_half()
 pub fn written_half_is_whole()
     ensures { WrittenHalfIsWhole }
 {
+    one_page();
     one_laying();
     catalogues_are_read();
 }

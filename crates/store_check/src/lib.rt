@@ -3,6 +3,7 @@
 #![tactic(auto)]
 
 mod errors;
+mod form;
 mod half;
 mod keys;
 mod laws;

@@ -104,7 +104,7 @@ fn push_all(tables: &mut Vec<StoredTable>, more: Vec<StoredTable>) -> Result<(),
 }
 
 /// Puts the tables of the page at an offset behind those of the pages in front of it. With them they
-/// are those of a catalogue, or the page is damaged.
+/// are those of a catalogue, or the page is damaged; so is one without tables.
 fn add_page<D: Disk>(
     alloc: Global,
     cache: &mut PageCache,
@@ -127,6 +127,9 @@ fn add_page<D: Disk>(
         Ok(found) => found,
         Err(error) => return Err(check_error(error)),
     };
+    if found.is_empty() {
+        return Err(CheckError::Damaged { at });
+    }
     push_all(tables, found)?;
     if are_listed(tables, last) {
         Ok(())
@@ -136,7 +139,7 @@ fn add_page<D: Disk>(
 }
 
 /// Checks the pages of a catalogue, so many from an offset on, in a half whose first so many pages
-/// are for rows: each is a page of a catalogue with a table in each row, the names of the tables rise
+/// are for rows: each is a page of a catalogue that has rows, a table in each, the names of the tables rise
 /// from row to row and from page to page, and the pages of each table begin where those of the tables
 /// in front of it end, the first at page 0, and none passes the pages for rows. The number of the
 /// first page of a table without pages is 0. The tables are returned in their order.
