@@ -226,12 +226,18 @@ def are_listed(entries, last):
 def pages_of(image, at, half):
     """The tables that the pages of a half have; raises Damaged at the first bad page."""
     end = half.first_catalogue + half.catalogue_pages
-    if end != half.pages:
-        raise Damaged(at + PAGE * min(half.pages, end))
 
     def page(number):
         return bytes(image[at + PAGE * number:at + PAGE * (number + 1)])
 
+    for number in range(half.pages):
+        try:
+            need(number < end)
+            need(page_rows(page(number), ROWS if number < half.first_catalogue else CATALOGUE))
+        except NoValue:
+            raise Damaged(at + PAGE * number) from None
+    if end != half.pages:
+        raise Damaged(at + PAGE * half.pages)
     entries = []
     for number in range(half.first_catalogue, end):
         try:
