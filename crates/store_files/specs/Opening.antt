@@ -49,6 +49,11 @@ module _ {D : Type 0} (modelled : Bool) (life : D → Life) where
     IsTurnedBack files path fault files' = OpensStore files path (Err fault) files'
         ⊎ ((disk : D) × calls.opens files path (Some disk) files' × (core : OnDisk D) × IsOver disk core × RefusesName core.name fault)
 
+    -- no file is left: none was made, or it is removed again
+    abbrev pub LeavesNone : F → List ℕ → ℕ → F → Type 0
+    LeavesNone files path size files' = calls.creates files path size None files'
+        ⊎ ((made : D) × (mid : F) × calls.creates files path size (Some made) mid × calls.discards mid path files')
+
     -- the disk that was made at the path is a fresh store of this size and name now; a crash on the way left no store or this
     pub record IsMade (files : F) (path : List ℕ) (size : ℕ) (rdb : List ℕ) (files' : F) : Type 0 where
       pub made : D

@@ -43,6 +43,10 @@ pub trait StoreFiles {
     fn open(&mut self, path: &str) -> Result<Self::Disk, FileFault>
         ensures call { calls.opens self.old path.now (result_ok result) self.new };
 
+    /// Removes a file that was just made, of which no store became.
+    fn discard(&mut self, path: &str)
+        ensures call { calls.discards self.old path.now self.new };
+
     /// The text of the file of this path. Refused where it can't be read, others than its owner have rights
     /// on it, it has more than 4,096 bytes, or they are no UTF-8; memory that is refused is told as such.
     fn read_private(&mut self, alloc: Global, path: &str) -> io::Result<String>
@@ -93,6 +97,21 @@ impl<'a, R: Files<File = File>> StoreFiles for SystemFiles<'a, R> {
             self.note(path, fault);
         }
         opened
+    }
+
+    fn discard(&mut self, path: &str) {
+        let removed = self.rt.remove_file(path);
+        self.reason.clear();
+        let _ = match removed {
+            Ok(()) => writeln!(
+                self.reason,
+                "drdad: {path}: the system has no room for it, or failed to write it; no file is left"
+            ),
+            Err(error) => writeln!(
+                self.reason,
+                "drdad: {path}: it is no store, and is not removed: {error}"
+            ),
+        };
     }
 
     fn read_private(&mut self, alloc: Global, path: &str) -> io::Result<String> {

@@ -1,6 +1,7 @@
 //! Files that are stores, and what is reported of them.
 #![tactic(auto)]
 
+mod blocks;
 mod fault;
 mod files;
 mod stores;

@@ -1,14 +1,15 @@
 //! Stores, made and opened.
 
-ghost use Rattle.std.specs.Prelude.{◌≡◌, false, IsTrue, List, ℕ, OnOk};
+ghost use Rattle.std.specs.Prelude.{◌≡◌, false, IsTrue, List, ℕ, OnErr, OnOk, length, true};
 ghost use Rattle.drda_disk.specs.Disk.{LeavesOnly, Only};
 ghost use Rattle.half_store.specs.Fresh.{IsFresh, IsNoneOrFresh, IsUnmarked, is_store_of};
 ghost use Rattle.recovery.specs.Durable.{fresh as fresh_store};
 ghost use Rattle.recovery.specs.Opens.{OpensTo};
 ghost use Rattle.store_files.specs.Endings.{fault_for};
-ghost use Rattle.store_files.specs.Opening.{IsMade, IsOpened, OpensStore};
+ghost use Rattle.store_files.specs.Opening.{IsMade, IsOpened, LeavesNone, OpensStore};
 ghost use Rattle.store_files.specs.Stores.{BeginsFresh, FindsFresh, MakesFile, MakesNamed};
 
+use crate::blocks::reserve_blocks;
 use crate::fault::Fault;
 use crate::files::StoreFiles;
 use drda_disk::{Disk, MemDisk};
@@ -38,8 +39,25 @@ fn make<D: Disk>(alloc: Global, disk: &mut D, rdb: &str) -> Result<(), Fault>
     }
 }
 
-/// Makes a file of so many bytes, and a store of this name in it. A size or a name that no store has
-/// is refused before any file is made; a file that has another size is a fault of the device.
+/// Makes a store of this name on a disk that has its blocks then, all of them; it is a fault of the device where it has not, or has
+/// another size than this.
+fn make_on<D: Disk>(alloc: Global, disk: &mut D, size: usize, rdb: &str) -> Result<(), Fault>
+    ensures made { OnOk result (IsTrue D.is_modelled → Only (D.life disk.new) × IsFresh rdb.now (D.life disk.new).seen) }
+    ensures sized { OnOk result (length (D.life disk.new).seen ≡ size) }
+    ensures moments { IsTrue D.is_modelled → IsUnmarked (D.life disk.old) → LeavesOnly (D.life disk.old) (D.life disk.new) (IsNoneOrFresh rdb.now) }
+    ensures named { MakesNamed rdb.now result }
+{
+    reserve_blocks(alloc, disk)?;
+    make(alloc, disk, rdb)?;
+    if disk.size() != size {
+        return Err(Fault::Device);
+    }
+    Ok(())
+}
+
+/// Makes a file of so many bytes, all of whose blocks the system has, and a store of this name in it. A size or a name that no store has
+/// is refused before any file is made; a file that has another size is a fault of the device. Where no store is made of it no file
+/// is left.
 pub fn make_file<F: StoreFiles>(
     alloc: Global,
     files: &mut F,
@@ -49,6 +67,7 @@ pub fn make_file<F: StoreFiles>(
 ) -> Result<(), Fault>
     ensures made { OnOk result (IsMade F.Disk.is_modelled F.Disk.life F.calls files.old path.now size rdb.now files.new) }
     ensures refused { is_store_of size rdb.now ≡ false → files.new ≡ files.old }
+    ensures none_left { is_store_of size rdb.now ≡ true → OnErr result (LeavesNone F.Disk.is_modelled F.Disk.life F.calls files.old path.now size files.new) }
     ensures cause { MakesFile size rdb.now result }
 {
     if !is_store(size as usize, rdb) {
@@ -57,11 +76,12 @@ pub fn make_file<F: StoreFiles>(
     let Ok(mut disk) = files.create(path, size as usize) else {
         return Err(Fault::Device);
     };
-    make(alloc, &mut disk, rdb)?;
-    if disk.size() != size as usize {
-        return Err(Fault::Device);
+    let made = make_on(alloc, &mut disk, size as usize, rdb);
+    if made.is_err() {
+        drop(disk);
+        files.discard(path);
     }
-    Ok(())
+    made
 }
 
 /// The core over the store that a disk is.
