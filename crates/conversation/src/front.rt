@@ -1,5 +1,6 @@
 //! One conversation.
 
+use crate::budget::Budget;
 use crate::exchange::{Exchanged, do_command};
 use crate::state::State;
 use command_kit::{Ask, Replies, Statements};
@@ -30,6 +31,9 @@ pub struct Front {
     settings: Settings,
     segments: Segments,
     state: State,
+    budget: Budget,
+    // How many bytes of the command under way have come.
+    kept: usize,
 }
 
 impl Model for Front {
@@ -62,7 +66,16 @@ impl Front {
             settings: settings.copy(alloc)?,
             segments: Segments::new(alloc),
             state: fresh_state(alloc),
+            budget: Budget::unbounded(),
+            kept: 0,
         })
+    }
+
+    /// From now on no more of a command is kept than this.
+    pub fn keep_within(&mut self, budget: Budget)
+        ensures { self.new ≡ self.old }
+    {
+        self.budget = budget;
     }
 
     /// Begins anew, with the same settings: what came, what was agreed on and what was kept for its
@@ -74,6 +87,7 @@ impl Front {
         self.alloc = alloc;
         self.segments.restart(alloc);
         self.state = fresh_state(alloc);
+        self.kept = 0;
     }
 
     /// Whether a fault of the framing, or of who is asked, closed the conversation.
@@ -86,7 +100,8 @@ impl Front {
 
     /// Takes the bytes in front of a piece that belong to the command under way, and says how many: up to
     /// its end, or to the end of the next header where that is to be judged first, and all of the piece
-    /// where it ends before; none once it is closed, and none where memory is refused. So a caller that
+    /// where it ends before; none once it is closed, and none where memory is refused, or more of the command is
+    /// kept already than the budget has. So a caller that
     /// feeds by this between two calls of `next` never has a byte of a second command here.
     #[inline(always)]
     pub fn feed_command(&mut self, piece: &[u8]) -> usize
@@ -96,10 +111,12 @@ impl Front {
         ensures far { IsUnfinished self.old.rest → (result ≡ 0) ⊎ GoesFar self.old.rest piece.now result }
         ensures closed { IsTrue self.old.session.is_closed → result ≡ 0 }
     {
-        if self.is_closed() {
+        if self.is_closed() || self.kept > self.budget.at(self.state.session.stage) {
             return 0;
         }
-        self.segments.feed_command(piece)
+        let taken = self.segments.feed_command(piece);
+        self.kept = self.kept.saturating_add(taken);
+        taken
     }
 
     /// Does the next command, where all of it has come, asks `asker` what it asks for, and appends its
@@ -116,6 +133,7 @@ impl Front {
         match self.segments.next() {
             Ok(None) => Need::Bytes,
             Ok(Some(group)) => {
+                self.kept = 0;
                 match do_command(
                     self.alloc,
                     &self.settings,

@@ -4,6 +4,7 @@
 //! sockets, threads or the disk.
 #![tactic(auto)]
 
+mod budget;
 mod chain;
 mod database;
 mod exchange;
@@ -15,6 +16,7 @@ mod sizes;
 mod state;
 mod writing;
 
+pub use budget::Budget;
 pub use drda_commands::{Mechanism, Stage};
 pub use fed::{Fed, FedState, Heard, HeardSome};
 pub use feeding::{feed, feed_all, feed_some};

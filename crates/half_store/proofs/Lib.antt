@@ -1,6 +1,6 @@
 mod Found
 mod Pages
 mod Written
-mod Formatted
+pub mod Formatted
 pub mod Kept
 mod Switched

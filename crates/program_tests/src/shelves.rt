@@ -84,6 +84,10 @@ impl StoreFiles for Shelf<'_> {
         }
     }
 
+    fn discard(&mut self, _path: &str) {
+        self.made = 0;
+    }
+
     fn read_private(&mut self, alloc: Global, path: &str) -> io::Result<String> {
         let text = match path {
             "login" => "ana:pw",

@@ -7,7 +7,7 @@ ghost use Rattle.conversation.specs.Feeding.{IsBetweenCommands};
 ghost use Rattle.stream_service.specs.Serving.{AnswersPiece, Converses, Loses, Serves};
 
 use command_kit::Ask;
-use conversation::{Front, Heard, feed_some, write_whole};
+use conversation::{Budget, Front, Heard, feed_some, write_whole};
 use core_calls::CoreCall;
 use dss_frames::stays_read;
 use std::alloc::{AllocError, Global};
@@ -19,6 +19,13 @@ const PIECE: usize = 65_536;
 /// Answers of more bytes are written before the next command is done.
 const LONG: usize = 65_536;
 
+/// What is kept of a command that is not whole. Before a database is opened no command of use is longer than 64 KiB; then eight data objects
+/// of 1 MiB each and their request are the most.
+const KEPT: Budget = Budget {
+    unopened: 65_536,
+    opened: 9_437_184,
+};
+
 /// How the service of a stream ended.
 #[derive(Clone, Copy, Debug, PartialEq, Eq)]
 pub enum Served {
@@ -28,7 +35,7 @@ pub enum Served {
     ReadFault,
     /// Writing failed.
     WriteFault,
-    /// Memory was refused.
+    /// Memory was refused, or more of a command had come than is kept.
     NoMemory,
 }
 
@@ -38,6 +45,9 @@ pub enum Served {
 /// Whatever ends it, the last call of `asker` is that the conversation is lost: a unit of work that it left
 /// open ends without its changes. `front` begins anew then: the memory of what came, in which a password may stand, is
 /// overwritten before it is given back.
+///
+/// No more than 64 KiB are kept of a command before a database is opened, and then 9 MiB: one that goes on past that ends
+/// the service as refused memory does.
 ///
 /// `Done` comes only where the conversation was answered all of the input. An asker that can't go on is
 /// answered for by AGNPRMRM, which closes the conversation, and so is `Done` too. What was heard was done,
@@ -55,6 +65,7 @@ pub fn serve<A: Ask, R: Read, W: Write>(
     ensures lost { (before : A) × Loses A.asks before asker.new }
     ensures forgets { front.new ≡ newly_held front.old.settings }
 {
+    front.keep_within(KEPT);
     let served = converse(alloc, front, reader, writer, asker);
     let _ = asker.ask(&CoreCall::Lost);
     front.restart(alloc);

@@ -1,0 +1,31 @@
+//! How much of a command is kept.
+
+use drda_commands::Stage;
+
+/// How many bytes of a command that is not whole yet a front keeps before it takes no more of it, as where memory is refused. So one
+/// that has no database open can be bound more closely.
+#[derive(Clone, Copy, Debug, PartialEq, Eq)]
+pub struct Budget {
+    /// Before a database is opened.
+    pub unopened: usize,
+    /// Once one is open.
+    pub opened: usize,
+}
+
+impl Budget {
+    /// Memory alone is the bound.
+    pub fn unbounded() -> Budget {
+        Budget {
+            unopened: usize::MAX,
+            opened: usize::MAX,
+        }
+    }
+
+    /// The bytes that are kept at a stage of a conversation.
+    pub(crate) fn at(&self, stage: Stage) -> usize {
+        match stage {
+            Stage::Opened => self.opened,
+            _ => self.unopened,
+        }
+    }
+}

@@ -1,0 +1,6 @@
+pub mod Names
+pub mod StoreFaults
+pub mod Unmarked
+pub mod Zeros
+pub mod Fronts
+pub mod Found
