@@ -8,7 +8,7 @@ PREFIX = /usr/local
 # A first look, within three minutes: the program, built without proof where no proved one is there, makes a store and serves it; one
 # conversation is shown, the server is killed and served again, and the rows are there.
 run:
-	@program=$$(tools/ready_program); tests/serve_shown "$$program"
+	@program=$$(tools/ready_program); tests/people/serve_shown "$$program"
 
 try: run
 
@@ -35,14 +35,14 @@ names:
 	@bench/draw_figures --check
 	@tools/draw_layers --check
 	@tools/check_refusals
-	@tests/planted_refusals
-	@tests/planted_pages
-	@tests/gate_conversations --check
-	@tests/core_stories --check
+	@tests/gate/planted_refusals
+	@tests/gate/planted_pages
+	@tests/gate/gate_conversations --check
+	@tests/gate/core_stories --check
 
 # Conversations kept as event records, through the built program, and its statuses.
 vectors:
-	@program=$$(tools/built_program); tests/run_vectors "$$program"
+	@program=$$(tools/built_program); tests/wire/run_vectors "$$program"
 
 # Every check that is not in the gate, with one line of result each.
 outside:

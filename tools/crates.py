@@ -1,5 +1,5 @@
 """The crates of crates.txt, which of them something since a commit can have touched, and where their edits stand: those that the
-gate tries under crates/NAME/must-fail/, the others under edits/NAME/."""
+gate tries under crates/NAME/must-fail/, the others beside them under crates/NAME/edits/ (or edits/NAME/)."""
 import os, re, subprocess
 
 TOP = os.path.realpath(os.path.join(os.path.dirname(__file__), ".."))
@@ -33,9 +33,14 @@ def crates_now():
 def edit_of(file):
     """Which edits the file belongs to, those of the gate or the others, and its crate; or None where it is no edit's."""
     parts = file.split("/")
-    if parts[0] == "crates" and parts[2:3] == ["must-fail"]:
-        return OF_GATE, parts[1]
-    return (OTHERS, parts[1]) if parts[0] == "edits" and len(parts) > 2 else None
+    if parts[0] == "crates" and parts[2:3] in ([OF_GATE], [OTHERS]):
+        return parts[2], parts[1]
+    return (OTHERS, parts[1]) if parts[0] == OTHERS and len(parts) > 2 else None
+
+
+def folders_of(name):
+    """Where edits of a crate stand."""
+    return f"crates/{name}/{OF_GATE}", f"crates/{name}/{OTHERS}", f"{OTHERS}/{name}"
 
 
 def touched(base, kinds):
@@ -71,7 +76,7 @@ def edits_in(folder):
 def edits_of(name):
     """All edits of a crate, by the names that they go by, and what is wrong in their folders."""
     edits, faults = {}, []
-    for folder in (f"crates/{name}/must-fail", f"edits/{name}"):
+    for folder in folders_of(name):
         good, others = edits_in(f"{TOP}/{folder}")
         faults += [f"{folder}/{it}: an edit stands right in its crate's folder, and its name ends in .edit" for it in others]
         for it in good:

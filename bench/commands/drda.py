@@ -4,7 +4,7 @@ import collections, os, pathlib, subprocess, sys
 
 TOP = pathlib.Path(__file__).resolve().parents[2]
 sys.path.insert(0, os.fspath(TOP / "tests"))
-import event_records as events
+from drdad_tests import event_records as events
 from drdad import wire
 
 OF_WRITE = ("RDBUPDRM", "SQLCARD 0")

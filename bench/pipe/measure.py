@@ -14,7 +14,7 @@ import tempfile
 TOP = pathlib.Path(__file__).resolve().parents[2]
 sys.dont_write_bytecode = True
 sys.path.insert(0, os.fspath(TOP / "tests"))
-import event_records as events
+from drdad_tests import event_records as events
 from drdad import wire
 
 COMMAND = wire.command(1, wire.ddm(wire.EXCSAT))

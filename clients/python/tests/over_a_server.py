@@ -5,7 +5,7 @@ import os, pathlib, signal, socket, subprocess, sys, tempfile, threading, unitte
 TOP = pathlib.Path(__file__).resolve().parents[3]
 CLIENT = TOP / "clients" / "python"
 sys.path.insert(0, os.fspath(TOP / "tests"))
-from served import PASSWORD, USER, Server, drdad
+from drdad_tests.served import PASSWORD, USER, Server, drdad
 
 PROGRAM = os.environ.get("DRDAD")
 CREATE = "CREATE TABLE T (K INTEGER NOT NULL, V VARCHAR(600), PRIMARY KEY (K))"

@@ -4,7 +4,7 @@ import os, random, subprocess, sys, threading, unittest
 from over_a_server import CLIENT, CREATE, INSERT, PROGRAM, TOP, OverAServer, Server, drdad
 
 sys.path.insert(0, os.fspath(TOP / "tests"))
-import store_reader
+from drdad_tests import store_reader
 from drdad import dump
 
 DUMPS = int(os.environ.get("DUMPS", "10"))
