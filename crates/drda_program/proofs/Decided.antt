@@ -7,11 +7,11 @@ use Rattle.xa_manager.specs.declared.due.Decision.{Decision}
 use Rattle.recovery.specs.Journaled.{OnDisk}
 use Rattle.drda_node.specs.Asking.{IsJournaled}
 use Rattle.drda_program.specs.Deciding.{DecidesFile, Ends, Migrates, Says, Settles}
-use Rattle.drda_program.specs.Files.{FileCalls}
-use Rattle.drda_program.specs.Opening.{OpensStore}
-use Rattle.drda_program.specs.declared.fault.Fault.{Fault}
-use Rattle.drda_program.specs.declared.fault.Fault.TheVariants.{Device}
-use Rattle.drda_program.proofs.Ran.{found}
+use Rattle.store_files.specs.Files.{FileCalls}
+use Rattle.store_files.specs.Opening.{OpensStore}
+use Rattle.store_files.specs.declared.fault.Fault.{Fault}
+use Rattle.store_files.specs.declared.fault.Fault.TheVariants.{Device}
+use Rattle.store_files.proofs.Found.{found}
 
 -- ---- the core
 

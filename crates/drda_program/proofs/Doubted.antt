@@ -12,7 +12,7 @@ use Rattle.recovery.specs.Journaled.{OnDisk}
 use Rattle.recovery.specs.StepLaws.{OpeningsAreKept}
 use Rattle.durable_core.specs.Opening.{StoodThere}
 use Rattle.drda_program.specs.Doubts.{Listed, listed_in, listed_of}
-use Rattle.drda_program.specs.Opening.{AreDoubts, listed_as}
+use Rattle.drda_program.specs.Doubts.{AreDoubts, listed_as}
 
 listed_each : (branches : List Branch) (units : List Held) (xids : List (List ℕ)) → map (listed_of branches) xids ≡ map listed_as (map (λ (xid : List ℕ). (xid, doubt_at branches units xid)) xids)
 listed_each branches units [] = refl

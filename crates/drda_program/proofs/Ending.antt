@@ -7,10 +7,12 @@ use Rattle.command_line.specs.Job.{Job}
 use Rattle.command_line.specs.Reading.{Says, Tells}
 use Rattle.command_line.specs.declared.words.BadWords.{BadWords}
 use Rattle.command_line.specs.declared.words.BadWords.TheVariants as words
-use Rattle.drda_program.specs.Endings.{fault_of_words, line_for, status_for}
-use Rattle.drda_program.specs.Program.{Does, Exits, Seen, Surroundings}
-use Rattle.drda_program.specs.declared.fault.Fault.{Fault}
-use Rattle.drda_program.specs.declared.fault.Fault.TheVariants.{BadArguments, Device, NoMemory}
+use Rattle.drda_program.specs.Reporting.{fault_of_words}
+use Rattle.store_files.specs.Endings.{line_for, status_for}
+use Rattle.drda_program.specs.Program.{Does, Exits}
+use Rattle.drda_server.specs.Serving.{Seen, Surroundings}
+use Rattle.store_files.specs.declared.fault.Fault.{Fault}
+use Rattle.store_files.specs.declared.fault.Fault.TheVariants.{BadArguments, Device, NoMemory}
 
 -- ---- words
 
@@ -54,9 +56,3 @@ module _ {F D N L S W : Type 0} (around : Surroundings F D N L S W) (input : Opt
 pub no_text : (M : Type 0) (said : Option Job) (text text' : List ℕ) (bad : BadWords) → Says said (Err bad) → Tells {M = M} (Err bad) text text' → said ≢ None → text' ≡ text
 no_text M said text text' words.NoJob is tells some = absurd (some is)
 no_text M said text text' words.NoMemory is tells some = tells
-
--- ---- what is said
-
-pub front_of : {E : Type 0} (r : Result (Unit {0}) E) (w w' : Option (List ℕ)) (line : List ℕ) → OnOk r (Appends w w' line) → OnErr r ((count : ℕ) × Appends w w' (take count line)) → (count : ℕ) × Appends w w' (take count line)
-front_of (Ok done) w w' line ok err = (length line, subst (λ (z : List ℕ). Appends w w' z) (sym (take_all (length line) line (le_refl (length line)))) ok)
-front_of (Err e) w w' line ok err = err

@@ -2,9 +2,9 @@
 use Rattle.std.proofs.Common.{◌≡◌, ◌∙◌, refl, sym, ap, subst, inl, inr, ℕ, List, Result, Ok, Err}
 use Rattle.command_line.specs.Job.{Login, LoginSource, in_words, in_file, login_in_file, plain_login}
 use Rattle.command_line.specs.declared.job.Login.{Login as CodeLogin}
-use Rattle.drda_program.specs.Files.{FileCalls}
+use Rattle.store_files.specs.Files.{FileCalls}
 use Rattle.drda_program.specs.LoggingIn.{FindsLogin, LogsIn, ReadsSource}
-use Rattle.drda_program.specs.declared.fault.Fault.{Fault}
+use Rattle.store_files.specs.declared.fault.Fault.{Fault}
 
 module _ {F D S T : Type 0} (calls : FileCalls F D) (bytes : T → List ℕ) (files mid : F) where
   -- the file is not read

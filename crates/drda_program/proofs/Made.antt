@@ -1,25 +1,16 @@
 -- A store that is made in a new file.
-use Rattle.std.proofs.Common.{◌≡◌, ◌∙◌, refl, sym, ap, subst, ℕ, zero, suc, Bool, true, false, List, [], ◌∷◌, ◌++◌, codes, replicate, Option, IfErr, Result, Ok, Err}
+use Rattle.std.proofs.Common.{◌≡◌, refl, sym, subst, ℕ, Bool, true, false, List, [], ◌∷◌, ◌++◌, codes, Option, IfErr, Result, Ok, Err}
 use Rattle.std.specs.Fmt.{decimal}
 use Rattle.std.specs.Io.KnownBytes.{Appends, Keeps}
-use Rattle.drda_disk.specs.Disk.{Life, Only}
-use Rattle.half_store.specs.Active.{is_marked}
-use Rattle.half_store.specs.Fresh.{IsUnmarked, is_store_of}
+use Rattle.drda_disk.specs.Disk.{Life}
+use Rattle.half_store.specs.Fresh.{is_store_of}
 use Rattle.drda_program.proofs.Flushing.{appended_kept}
-use Rattle.drda_program.specs.Files.{FileCalls}
-use Rattle.drda_program.specs.Opening.{IsMade}
+use Rattle.store_files.specs.Files.{FileCalls}
+use Rattle.store_files.specs.Opening.{IsMade}
 use Rattle.drda_program.specs.Program.{Makes}
-use Rattle.drda_program.specs.Stores.{MakesFile}
-use Rattle.drda_program.specs.declared.fault.Fault.{Fault}
-use Rattle.drda_program.specs.declared.fault.Fault.TheVariants.{BadArguments, BadEvent, Damaged, Device, NoMemory, NoRoom, NotAStore, NotInDoubt}
-
-zeros_unmarked : (size : ℕ) → is_marked (replicate size 0) ≡ false
-zeros_unmarked zero = refl
-zeros_unmarked (suc n) = refl
-
--- a disk of zeros does not begin as a store
-pub unmarked : (disk : Life) (size : ℕ) → disk.seen ≡ replicate size 0 → Only disk → IsUnmarked disk
-unmarked disk size zeros only image now = ap is_marked (only image now ∙ zeros) ∙ zeros_unmarked size
+use Rattle.store_files.specs.Stores.{MakesFile}
+use Rattle.store_files.specs.declared.fault.Fault.{Fault}
+use Rattle.store_files.specs.declared.fault.Fault.TheVariants.{BadArguments, BadEvent, Damaged, Device, NoMemory, NoRoom, NotAStore, NotInDoubt}
 
 module _ {F D : Type 0} (modelled : Bool) (life : D → Life) (calls : FileCalls F D) (path : List ℕ) (size : ℕ) (rdb : List ℕ) (files files' : F) where
   pub said : (before mid now : Option (List ℕ)) (r : Result (Unit {0}) Fault) → is_store_of size rdb ≡ true → IsMade modelled life calls files path size rdb files' → IfErr r (λ fault. fault ≡ Device)

@@ -12,11 +12,12 @@ use Rattle.drda_node.specs.Machine.{Machine, at_start}
 use Rattle.drda_node.specs.Serving.{Runs}
 use Rattle.drda_node.specs.declared.serving.RunEnd.{RunEnd}
 use Rattle.command_line.specs.Job.{Login}
-use Rattle.drda_program.proofs.Names.{both, names_alike}
-use Rattle.drda_program.specs.Program.{AnswersOver, Pipes, PipesInMemory, RunsFresh, machine_over, new_core, settings_of}
-use Rattle.drda_program.specs.Stores.{BeginsFresh, RefusesName}
-use Rattle.drda_program.specs.declared.fault.Fault.{Fault}
-use Rattle.drda_program.specs.declared.fault.Fault.TheVariants.{BadArguments, BadEvent, Damaged, Device, NoMemory, NoRoom, NotAStore, NotInDoubt}
+use Rattle.store_files.proofs.Names.{both, names_alike}
+use Rattle.drda_program.specs.Program.{AnswersOver, Pipes, PipesInMemory, RunsFresh, machine_over, new_core}
+use Rattle.drda_server.specs.Serving.{settings_of}
+use Rattle.store_files.specs.Stores.{BeginsFresh, RefusesName}
+use Rattle.store_files.specs.declared.fault.Fault.{Fault}
+use Rattle.store_files.specs.declared.fault.Fault.TheVariants.{BadArguments, BadEvent, Damaged, Device, NoMemory, NoRoom, NotAStore, NotInDoubt}
 
 -- the name was good, so what is refused is memory
 pub refused_at_start : (settings : Settings) (name : List ℕ) (input before : Option (List ℕ)) (fault : Fault) → is_rdb_name name ≡ true → RefusesName name fault → Pipes settings input before (Err fault) before

@@ -11,14 +11,15 @@ use Rattle.store_service.specs.Running as store
 use Rattle.store_service.specs.Running.{GivesBack}
 use Rattle.store_service.proofs.Stores.{runs_over}
 use Rattle.command_line.specs.Job.{Login}
+use Rattle.store_files.proofs.Found.{found}
 use Rattle.drda_program.proofs.Flushing.{goes_kept}
-use Rattle.drda_program.specs.Endings.{fault_for}
-use Rattle.drda_program.specs.Files.{FileCalls}
-use Rattle.drda_program.specs.Opening.{IsOver, OpensStore}
+use Rattle.store_files.specs.Endings.{fault_for}
+use Rattle.store_files.specs.Files.{FileCalls}
+use Rattle.store_files.specs.Opening.{IsOver, OpensStore}
 use Rattle.drda_program.specs.Program.{AnswersOver, PipesFile, machine_over}
 use Rattle.drda_program.specs.Reporting.{Reports}
-use Rattle.drda_program.specs.Stores.{RefusesName}
-use Rattle.drda_program.specs.declared.fault.Fault.{Fault}
+use Rattle.store_files.specs.Stores.{RefusesName}
+use Rattle.store_files.specs.declared.fault.Fault.{Fault}
 
 module _ {D : Type 0} (modelled : Bool) (life : D → Life) where
   -- no call of a device was made, so that it has not failed
@@ -40,11 +41,6 @@ module _ {D : Type 0} (modelled : Bool) (life : D → Life) where
   answered core login input before mid now given outcome ran reports = ran_over core login input before mid now given.0 given.1 outcome ran reports
 
   module _ {F : Type 0} (calls : FileCalls F D) where
-    -- the disk of a path that was opened
-    pub found : (files : F) (path : List ℕ) (core : OnDisk D) (files' : F) → OpensStore modelled life calls files path (Ok core) files' → (disk : D) × calls.opens files path (Some disk) files' × IsOver modelled life disk core
-    found files path core files' (inl (call, clash)) = absurd (cc clash)
-    found files path core files' (inr there) = there
-
     module _ (sound : ImagesAreSound) (kept : OpeningsAreKept) (path : List ℕ) (login : Login) (files files' : F) (input before now : Option (List ℕ)) (outcome : Result (Unit {0}) Fault) (core : OnDisk D) where
       by_answer : (disk : D) → calls.opens files path (Some disk) files' → IsOver modelled life disk core → AnswersOver modelled life core login input before outcome now → PipesFile modelled life calls path login files input before outcome files' now
       by_answer disk opens over (inl (fault, is, refused, silent)) = inl (fault, is, inr (disk, opens, core, over, refused), silent)
@@ -61,4 +57,4 @@ module _ {D : Type 0} (modelled : Bool) (life : D → Life) where
       )
 
       pub piped_file : OpensStore modelled life calls files path (Ok core) files' → AnswersOver modelled life core login input before outcome now → PipesFile modelled life calls path login files input before outcome files' now
-      piped_file opened answers = let there = found files path core files' opened in by_answer there.0 there.1 there.2 answers
+      piped_file opened answers = let there = found modelled life calls files path core files' opened in by_answer there.0 there.1 there.2 answers

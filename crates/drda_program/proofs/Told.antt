@@ -3,10 +3,10 @@ use Rattle.std.proofs.Common.{◌≡◌, inl, inr, ℕ, List, Option, Some, IfEr
 use Rattle.std.specs.Io.KnownBytes.{Appends}
 use Rattle.drda_disk.specs.Disk.{Life}
 use Rattle.std.specs.Prelude.{Bool}
-use Rattle.drda_program.specs.Files.{FileCalls}
+use Rattle.store_files.specs.Files.{FileCalls}
 use Rattle.drda_program.specs.Program.{Tells}
-use Rattle.drda_program.specs.declared.fault.Fault.{Fault}
-use Rattle.drda_program.specs.declared.fault.Fault.TheVariants.{Device, NoMemory}
+use Rattle.store_files.specs.declared.fault.Fault.{Fault}
+use Rattle.store_files.specs.declared.fault.Fault.TheVariants.{Device, NoMemory}
 
 module _ {F D : Type 0} (modelled : Bool) (life : D → Life) (calls : FileCalls F D) (IsOf : D → List ℕ → Type 0) (path : List ℕ) (files files' : F) (disk : D) (opens : calls.opens files path (Some disk) files') where
   pub told : (text : List ℕ) (before now : Option (List ℕ)) (r : Result (Unit {0}) Fault) → IsOf disk text → OnOk r (Appends before now text) → IfErr r (λ fault. fault ≡ Device) → Tells modelled life calls IsOf path files before r files' now

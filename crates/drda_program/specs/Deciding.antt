@@ -10,10 +10,10 @@ use Rattle.durable_core.specs.Deciding.{Decides}
 use Rattle.durable_core.specs.declared.checkpointing.Checkpointed.TheVariants as checkpoint
 use Rattle.durable_core.specs.declared.deciding.Decided.TheVariants as decided
 use Rattle.drda_node.specs.Asking.{IsJournaled}
-use Rattle.drda_program.specs.Files.{FileCalls}
-use Rattle.drda_program.specs.Opening.{IsOver, OpensStore}
-use Rattle.drda_program.specs.declared.fault.Fault.{Fault}
-use Rattle.drda_program.specs.declared.fault.Fault.TheVariants.{BadArguments, BadEvent, Damaged, Device, NoMemory, NoRoom, NotAStore, NotInDoubt}
+use Rattle.store_files.specs.Files.{FileCalls}
+use Rattle.store_files.specs.Opening.{IsOver, OpensStore}
+use Rattle.store_files.specs.declared.fault.Fault.{Fault}
+use Rattle.store_files.specs.declared.fault.Fault.TheVariants.{BadArguments, BadEvent, Damaged, Device, NoMemory, NoRoom, NotAStore, NotInDoubt}
 
 module _ {D : Type 0} (life : D → Life) where
   -- in a store of layout 2 the unit of the XID is decided so; where memory is wanting nothing is

@@ -1,13 +1,6 @@
-pub mod Endings
 pub mod Reporting
 pub mod Doubts
-pub mod Files
-pub mod Network
-pub mod Stores
-pub mod Opening
 pub mod LoggingIn
 pub mod Rooms
-pub mod Listening
 pub mod Deciding
 pub mod Program
-pub mod Threads

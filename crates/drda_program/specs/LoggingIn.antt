@@ -2,10 +2,10 @@
 use Rattle.std.specs.Prelude.{◌≡◌, ◌⊎◌, List, ℕ, Option, Some, None, Result, Ok, Err}
 use Rattle.command_line.specs.Job.{Login, LoginSource, in_words, in_file, login_in_file, plain_login}
 use Rattle.command_line.specs.declared.job.Login.{Login as CodeLogin}
-use Rattle.drda_program.specs.Files.{FileCalls}
-use Rattle.drda_program.specs.Stores.{IsOfDevice}
-use Rattle.drda_program.specs.declared.fault.Fault.{Fault}
-use Rattle.drda_program.specs.declared.fault.Fault.TheVariants.{BadArguments}
+use Rattle.store_files.specs.Files.{FileCalls}
+use Rattle.store_files.specs.Stores.{IsOfDevice}
+use Rattle.store_files.specs.declared.fault.Fault.{Fault}
+use Rattle.store_files.specs.declared.fault.Fault.TheVariants.{BadArguments}
 
 -- a network, and what was written
 abbrev pub net_and_out : {N : Type 0} → N → Option (List ℕ) → N × Option (List ℕ)

@@ -20,21 +20,20 @@ use Rattle.command_line.specs.Job.{Job, Login, init, pipe, serve, in_doubt}
 use Rattle.command_line.specs.Job as job
 use Rattle.drda_program.specs.Deciding.{DecidesFile}
 use Rattle.drda_program.specs.Doubts.{Listed, doubt_text}
-use Rattle.drda_program.specs.Endings.{line_of, result_for, status_of}
-use Rattle.drda_program.specs.Files.{FileCalls}
-use Rattle.drda_program.specs.Network.{NetworkCalls}
-use Rattle.drda_program.specs.Opening.{AreDoubts, IsMade, IsOver, IsTurnedBack, OpensStore}
-use Rattle.drda_program.specs.Listening.{Listens}
+use Rattle.store_files.specs.Endings.{line_of, status_of}
+use Rattle.drda_program.specs.Reporting.{result_for}
+use Rattle.store_files.specs.Files.{FileCalls}
+use Rattle.drda_server.specs.Network.{NetworkCalls}
+use Rattle.drda_program.specs.Doubts.{AreDoubts}
+use Rattle.store_files.specs.Opening.{IsMade, IsOver, IsTurnedBack, OpensStore}
+use Rattle.drda_server.specs.Listening.{Listens}
 use Rattle.drda_program.specs.LoggingIn.{LogsIn, net_and_out}
 use Rattle.drda_program.specs.Rooms.{room_text}
-use Rattle.drda_program.specs.Stores.{RefusesName}
-use Rattle.drda_program.specs.declared.fault.Fault.{Fault}
-use Rattle.drda_program.specs.declared.fault.Fault.TheVariants.{BadArguments, BadEvent, Damaged, Device, NoMemory, NoRoom, NotAStore, NotInDoubt}
+use Rattle.store_files.specs.Stores.{RefusesName}
+use Rattle.store_files.specs.declared.fault.Fault.{Fault}
+use Rattle.store_files.specs.declared.fault.Fault.TheVariants.{BadArguments, BadEvent, Damaged, Device, NoMemory, NoRoom, NotAStore, NotInDoubt}
 
 -- ---- event records over a store in memory
-
-abbrev pub settings_of : Login → List ℕ → Settings
-settings_of login rdb = record { user = login.user; password = login.password; rdb = rdb }
 
 -- over a store in memory that was just made, of layout 2, with so many bytes for records
 abbrev pub new_core : ℕ → AskedCore
@@ -106,13 +105,6 @@ module _ {D : Type 0} (modelled : Bool) (life : D → Life) where
   abbrev pub IsOfCheck : D → List ℕ → Type 0
   IsOfCheck disk text = (text ≡ codes "whole\n") × (IsTrue modelled → (name : List ℕ) × (state : Durable) × OpensTo name state (life disk).seen)
 
-  -- Conversations were served over the store that a disk is, each by a thread of its own. What each call made of its core is the
-  -- core's step, one after another under one lock.
-  pub record ServesOn {N L S W : Type 0} (calls : NetworkCalls N L S W) (disk : D) (port : ℕ) (net : N) (before : Option (List ℕ)) (outcome : Result (Unit {0}) Fault) (now : Option (List ℕ)) : Type 0 where
-    pub core : OnDisk D
-    pub over : IsOver modelled life disk core
-    pub listens : Listens calls port net before outcome now
-
   -- ---- over the disk of a path
 
   module _ {F : Type 0} (calls : FileCalls F D) where
@@ -167,33 +159,7 @@ TellsVersion before (Err fault) now = fault ≡ Device
 
 -- ---- what words ask for
 
--- what the calls of the files and of the network come to
-pub record Surroundings (F D N L S W : Type 0) : Type 1 where
-  pub files : FileCalls F D
-  pub modelled : Bool
-  pub life : D → Life
-  pub network : NetworkCalls N L S W
-
-abbrev pub surroundings : {F D N L S W : Type 0} → FileCalls F D → Bool → (D → Life) → NetworkCalls N L S W → Surroundings F D N L S W
-surroundings files modelled life network = record { files = files; modelled = modelled; life = life; network = network }
-
--- the files, the network, and what was written on standard output
-pub record Seen (F N : Type 0) : Type 0 where
-  pub files : F
-  pub net : N
-  pub out : Option (List ℕ)
-
-abbrev pub seen : {F N : Type 0} → F → N → Option (List ℕ) → Seen F N
-seen files net out = record { files = files; net = net; out = out }
-
 module _ {F D N L S W : Type 0} (around : Surroundings F D N L S W) where
-  -- conversations over the store of a path, if there is one
-  abbrev pub ServesFile : List ℕ → ℕ → Seen F N → Result (Unit {0}) Fault → Seen F N → Type 0
-  ServesFile path port old outcome new =
-      ((fault : Fault) × (outcome ≡ Err fault) × IsTurnedBack around.modelled around.life around.files old.files path fault new.files × (new.net ≡ old.net) × (new.out ≡ old.out))
-      ⊎ ((disk : D) × around.files.opens old.files path (Some disk) new.files
-      × ServesOn around.modelled around.life around.network disk port old.net old.out outcome new.out)
-
   abbrev pub Does : Option Job → Option (List ℕ) → Seen F N → Result (Unit {0}) Fault → Seen F N → Type 0
   Does None input old outcome new = (outcome ≡ Err BadArguments) × (new ≡ old)
   Does (Some (init path size rdb)) input old outcome new = Makes around.modelled around.life around.files path size rdb old.files old.out outcome new.files new.out × (new.net ≡ old.net)

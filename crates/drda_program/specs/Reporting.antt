@@ -1,10 +1,29 @@
--- What is reported of a run over a core.
-use Rattle.std.specs.Prelude.{◌≡◌, Bool, List, ℕ, Option, Result, Ok, Err}
+-- What is reported of words, and of a run over a core.
+use Rattle.std.specs.Prelude.{◌≡◌, Bool, true, false, List, ℕ, Option, Result, Ok, Err}
 use Rattle.std.specs.Io.KnownBytes.{Keeps}
 use Rattle.durable_core.specs.declared.errors.OpenError.{OpenError}
 use Rattle.drda_node.specs.declared.serving.RunEnd.{RunEnd}
-use Rattle.drda_program.specs.Endings.{fault_for, result_for}
-use Rattle.drda_program.specs.declared.fault.Fault.{Fault}
+use Rattle.drda_node.specs.declared.serving.RunEnd.TheVariants as ends
+use Rattle.command_line.specs.declared.words.BadWords.{BadWords}
+use Rattle.command_line.specs.declared.words.BadWords.TheVariants as words
+use Rattle.store_files.specs.Endings.{fault_for}
+use Rattle.store_files.specs.declared.fault.Fault.{Fault}
+use Rattle.store_files.specs.declared.fault.Fault.TheVariants.{BadArguments, BadEvent, Device, NoMemory}
+
+-- words that ask for nothing are a mistake
+abbrev pub fault_of_words : BadWords → Fault
+fault_of_words words.NoJob = BadArguments
+fault_of_words words.NoMemory = NoMemory
+
+-- what is reported of a run by its end, and by whether the last flush succeeded: a flush that fails is
+-- reported however the run had ended
+abbrev pub result_for : RunEnd → Bool → Result (Unit {0}) Fault
+result_for end false = Err Device
+result_for ends.Ended true = Ok tt
+result_for ends.BadEvent true = Err BadEvent
+result_for ends.ReadFault true = Err Device
+result_for ends.WriteFault true = Err Device
+result_for ends.NoMemory true = Err NoMemory
 
 -- how it ended, behind a last flush; or why it was refused
 abbrev pub Reports : Result RunEnd OpenError → Option (List ℕ) → Result (Unit {0}) Fault → Option (List ℕ) → Type 0

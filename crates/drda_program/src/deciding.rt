@@ -5,10 +5,10 @@ ghost use Rattle.half_store.specs.declared.header.Layout.TheVariants.{Two};
 ghost use Rattle.drda_node.specs.Asking.{IsJournaled};
 ghost use Rattle.drda_program.specs.Deciding.{Ends, Migrates, Settles};
 
-use crate::fault::Fault;
 use drda_disk::Disk;
 use durable_core::{Checkpointed, Decided, DurableCore};
 use recovery::images::calls_go_on;
+use store_files::Fault;
 use xa_calls::Xid;
 use xa_manager::Decision;
 

@@ -3,32 +3,18 @@
 
 mod deciding;
 mod doubts;
-mod fault;
-mod files;
-mod listening;
-mod log;
 mod logins;
-mod longest;
-mod network;
-mod notice;
 mod program;
 mod records;
 mod rooms;
-mod stores;
-mod streams;
-mod telling;
-mod threads;
 mod version;
-mod watching;
 
 // What a stream tells of that is read.
 pub use drda_node::Ready;
-pub use fault::Fault;
-pub use files::{StoreFiles, SystemFiles};
-pub use log::{ErrorLog, Log, Silent};
-pub use network::{Network, SystemNetwork};
-pub use notice::{Notice, Outcome};
+// What conversations come over, and who is told what becomes of them.
+pub use drda_server::{
+    ErrorLog, Log, Network, Notice, Outcome, Served, Silent, Streams, SystemNetwork, serve_at,
+    serve_streams,
+};
 pub use program::run_words;
-// What ended a conversation.
-pub use stream_service::Served;
-pub use threads::{Streams, serve_at, serve_streams};
+pub use store_files::{Fault, StoreFiles, SystemFiles};

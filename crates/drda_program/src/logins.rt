@@ -3,22 +3,20 @@
 ghost use Rattle.std.specs.Prelude.{option_map, string_bytes};
 ghost use Rattle.command_line.specs.Job.{plain_login, plain_source};
 ghost use Rattle.drda_program.specs.LoggingIn.{FindsLogin, LogsIn, ReadsSource, net_and_out};
-ghost use Rattle.drda_program.specs.Program.{PipesOver, ServesFile, seen, surroundings};
-ghost use Rattle.drda_program.specs.Stores.{IsOfDevice};
+ghost use Rattle.drda_program.specs.Program.{PipesOver};
+ghost use Rattle.drda_server.specs.Serving.{ServesFile, seen, surroundings};
+ghost use Rattle.store_files.specs.Stores.{IsOfDevice};
 
-use crate::fault::Fault;
-use crate::files::StoreFiles;
-use crate::listening::serve_file;
-use crate::log::Log;
-use crate::network::Network;
 use crate::records::{answer_file, answer_in_memory};
 use command_line::{Login, LoginSource, ServeOptions, login_in_file};
 use drda_node::Ready;
+use drda_server::{Log, Network, serve_file};
 use std::alloc::Global;
 use std::io::{self, ErrorKind, Read, Write};
 use std::sync::Wait;
 use std::thread::Threads;
 use std::time::Clock;
+use store_files::{Fault, StoreFiles};
 
 /// Serves conversations over the store of a path, once the login is known.
 pub(crate) fn serve<T, F, N, L, W>(

@@ -4,22 +4,19 @@ ghost use Rattle.std.specs.Prelude.{◌≡◌, ◌≢◌, ◌⊎◌, ℕ, [], Er
 ghost use Rattle.std.specs.Io.KnownBytes.{Appends};
 ghost use Rattle.command_line.specs.Job.{plain_job, said};
 ghost use Rattle.drda_program.specs.Deciding.{DecidesFile};
-ghost use Rattle.drda_program.specs.Program.{Checks, Does, Exits, Lists, Makes, TellsRoom, seen, surroundings};
+ghost use Rattle.drda_program.specs.Program.{Checks, Does, Exits, Lists, Makes, TellsRoom};
+ghost use Rattle.drda_program.specs.Reporting.{fault_of_words};
+ghost use Rattle.drda_server.specs.Serving.{seen, surroundings};
 
 use crate::deciding::decide_on;
 use crate::doubts::doubt_text;
-use crate::fault::Fault;
-use crate::files::StoreFiles;
-use crate::log::Log;
 use crate::logins::{pipe, serve};
-use crate::network::Network;
 use crate::rooms::room_text;
-use crate::stores::{make_file, open_file};
-use crate::streams::{flush, tell};
 use crate::version::tell_version;
-use command_line::{Job, job_of};
+use command_line::{BadWords, Job, job_of};
 use conversation::write_whole;
 use drda_node::Ready;
+use drda_server::{Log, Network};
 use recovery::laws::records_lead_to_sound_states;
 use recovery::step_laws::openings_are_kept;
 use std::alloc::Global;
@@ -29,6 +26,7 @@ use std::sync::Wait;
 use std::thread::Threads;
 use std::time::Clock;
 use store_check::checkpoints_are_known;
+use store_files::{Fault, StoreFiles, flush, make_file, open_file, tell};
 use xa_calls::Xid;
 use xa_manager::Decision;
 
@@ -146,7 +144,17 @@ where
 {
     match job_of(alloc, words, text) {
         Ok(job) => do_job(rt, alloc, &job, files, net, log, reader, out),
-        Err(error) => Err(Fault::from(error)),
+        Err(bad) => Err(fault_of_words(bad)),
+    }
+}
+
+// What is reported of words that ask for nothing.
+fn fault_of_words(bad: BadWords) -> Fault
+    ensures { result ≡ fault_of_words bad }
+{
+    match bad {
+        BadWords::NoJob => Fault::BadArguments,
+        BadWords::NoMemory => Fault::NoMemory,
     }
 }
 

@@ -2,13 +2,10 @@
 
 ghost use Rattle.std.specs.Prelude.{◌≡◌};
 ghost use Rattle.command_line.specs.Job.{plain_login};
-ghost use Rattle.drda_program.specs.Endings.{result_for};
+ghost use Rattle.drda_program.specs.Reporting.{result_for};
 ghost use Rattle.drda_program.specs.Program.{AnswersOver, PipesFile, PipesInMemory};
 ghost use Rattle.drda_program.specs.Reporting.{Reports};
 
-use crate::fault::Fault;
-use crate::files::StoreFiles;
-use crate::stores::{fault_of, fresh, open_file};
 use command_line::Login;
 use drda_disk::Disk;
 use drda_node::{DurableCore, Ready, RunEnd};
@@ -17,6 +14,7 @@ use recovery::openings::openings_begin_histories;
 use recovery::step_laws::openings_are_kept;
 use std::alloc::Global;
 use std::io::{Read, Write};
+use store_files::{Fault, StoreFiles, fault_of, fresh, open_file};
 use store_service::run_core;
 
 // What is reported of a run, by its end and by whether the last flush succeeded.

@@ -2,9 +2,8 @@
 
 ghost use Rattle.drda_program.specs.Program.{TellsVersion};
 
-use crate::fault::Fault;
-use crate::streams::tell;
 use std::io::Write;
+use store_files::{Fault, tell};
 
 /// Tells the version, which a change that clients or operators can see raises, and the logic of the toolchain
 /// that proved it, as `.ci/logic` names it.

@@ -1,6 +1,6 @@
 use Rattle.std.proofs.Common.{refl}
 use Rattle.drda_program.specs.Program.{IsOfCheck}
-use Rattle.drda_program.proofs.Ran.{found}
+use Rattle.store_files.proofs.Found.{found}
 use Rattle.drda_program.proofs.Told.{told}
 use Rattle.drda_program.proofs.program.check.Goals as goal
 

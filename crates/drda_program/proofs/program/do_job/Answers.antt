@@ -1,7 +1,8 @@
 use Rattle.std.proofs.Common.{Some, subst, sym}
 use Rattle.command_line.specs.Job.{plain_job}
 use Rattle.command_line.specs.declared.job.Job.{Job}
-use Rattle.drda_program.specs.Program.{Does, seen, surroundings}
+use Rattle.drda_program.specs.Program.{Does}
+use Rattle.drda_server.specs.Serving.{seen, surroundings}
 use Rattle.drda_program.proofs.program.do_job.Goals as goal
 
 pub returns-in-Serve : goal.returns-in-Serve

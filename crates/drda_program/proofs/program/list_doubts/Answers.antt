@@ -2,7 +2,7 @@ use Rattle.std.proofs.Common.{refl, rules}
 use Rattle.drda_program.specs.Doubts.{listed_in}
 use Rattle.drda_program.specs.Program.{IsOfDoubts}
 use Rattle.drda_program.proofs.Doubted.{are_doubts}
-use Rattle.drda_program.proofs.Ran.{found}
+use Rattle.store_files.proofs.Found.{found}
 use Rattle.drda_program.proofs.Told.{told}
 use Rattle.drda_program.proofs.program.list_doubts.Goals as goal
 

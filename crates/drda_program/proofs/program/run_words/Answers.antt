@@ -1,7 +1,8 @@
 use Rattle.std.proofs.Common.{◌∙◌, map}
 use Rattle.command_line.specs.Job.{said}
-use Rattle.drda_program.specs.Program.{seen, surroundings}
-use Rattle.drda_program.proofs.Ending.{exits, front_of}
+use Rattle.drda_server.specs.Serving.{seen, surroundings}
+use Rattle.store_files.proofs.Fronts.{front_of}
+use Rattle.drda_program.proofs.Ending.{exits}
 use Rattle.drda_program.proofs.program.run_words.Goals as goal
 
 pub returns : goal.returns

@@ -4,7 +4,7 @@ use Rattle.drda_program.specs.Program.{IsOfRoom}
 use Rattle.drda_program.specs.Rooms.{room_text}
 use Rattle.drda_program.specs.Doubts.{listed_in}
 use Rattle.drda_program.proofs.Doubted.{are_doubts, as_many}
-use Rattle.drda_program.proofs.Ran.{found}
+use Rattle.store_files.proofs.Found.{found}
 use Rattle.drda_program.proofs.Told.{told}
 use Rattle.drda_program.proofs.program.tell_room.Goals as goal
 

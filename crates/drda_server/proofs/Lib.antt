@@ -1,0 +1,2 @@
+pub mod Conversing
+mod Sending

@@ -1,0 +1,35 @@
+-- What a thread takes along may go there: a reference to the hall, a pass, a peer, a reader and a writer.
+use mathlib.Core.List.{List, [], ◌∷◌}
+use Prim.Native.Nat.{ℕ}
+use denote.RattleType.{RattleType}
+use denote.Ref.{NamedLft}
+use denote.Struct.Field.{row_field}
+use denote.Struct.Tuple.{TupleAt, type_at}
+use denote.Param.Send.{IsSend, IsSync, sendable}
+use denote.Param.SendFields.{as_row_send, declared_send, declared_sync}
+use Rattle.std.proofs.Crossing.{crosses}
+use Rattle.std.specs.contracts.option.Option as option
+use Rattle.std.proofs.option.Option.TheSendSync as option_sends
+use Rattle.std.specs.contracts.net.socket_addr.SocketAddr as address
+use Rattle.std.proofs.net.socket_addr.SocketAddr.TheSendSync as address_sends
+use Rattle.drda_disk.specs.declared.disk.Disk.{Ghosts}
+use Rattle.session_commands.proofs.settings.Settings.TheSendSync as settings_sends
+use Rattle.shared_node.proofs.Sending.{shared_sync}
+use Rattle.drda_server.proofs.longest.Longest.TheSendSync as longest_sends
+use Rattle.drda_server.specs.contracts.threads.Hall as hall
+
+pub hall_sync : (l : NamedLft) (D R G L : RattleType) (d : Ghosts D.Denot) → IsSend D → IsSync R → IsSync G → IsSync L → IsSync (hall.the_row l D R G L d)
+hall_sync l D R G L d sends runtime gate log =
+    let shared = shared_sync D d sends in
+    declared_sync (hall.the_type l D R G L d) (
+      search (sendable, runtime),
+      (search (sendable, crosses) depth 20, (search (sendable, shared), (search (sendable, settings_sends.the_sync) depth 12, (search (sendable, gate), (search (sendable, log), (search (sendable, longest_sends.the_sync) depth 12, (search (sendable, longest_sends.the_sync) depth 12, tt))))))),
+    )
+
+pub peer_send : IsSend (option.the_row address.the_row)
+peer_send = search (option_sends.the_send, address_sends.the_send)
+
+-- what a closure takes along, under the name of its type
+pub five_send : (name : List ℕ) (A B C D E : RattleType) → IsSend A → IsSend B → IsSend C → IsSend D → IsSend E → IsSend (TupleAt name (A ∷ B ∷ C ∷ D ∷ E ∷ []))
+five_send name A B C D E a b c d e =
+    declared_send (type_at name (A ∷ B ∷ C ∷ D ∷ E ∷ [])) (as_row_send (row_field A) a, (as_row_send (row_field B) b, (as_row_send (row_field C) c, (as_row_send (row_field D) d, (as_row_send (row_field E) e, tt)))))

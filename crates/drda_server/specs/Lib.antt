@@ -1,0 +1,4 @@
+pub mod Network
+pub mod Listening
+pub mod Threads
+pub mod Serving

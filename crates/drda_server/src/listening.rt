@@ -1,0 +1,271 @@
+//! Conversations over a network.
+
+ghost use Rattle.std.specs.Prelude.{◌≡◌, IfErr, IfOk, IfSome, ℕ};
+ghost use Rattle.std.specs.Io.KnownBytes.{Appends};
+ghost use Rattle.command_line.specs.Job.{plain_login};
+ghost use Rattle.drda_server.specs.Listening.{Listens, port_line};
+ghost use Rattle.drda_server.specs.Network.{IsLimited, LetsIn};
+ghost use Rattle.drda_server.specs.Serving.{ServesFile, seen, settings_of, surroundings};
+ghost use Rattle.store_files.specs.Stores.{IsOfDevice, RefusesName};
+
+use crate::log::{Log, Switched};
+use crate::network::Network;
+use crate::threads::{Streams, serve_streams};
+use command_line::{Login, ServeOptions};
+use conversation::{Settings, SettingsError};
+use drda_disk::Disk;
+use durable_core::DurableCore;
+use shared_node::{OpenGate, Shared};
+use std::alloc::Global;
+use std::io::{self, Write};
+use std::net::{Ipv4Addr, SocketAddr, SocketAddrV4};
+use std::sync::Wait;
+use std::thread::Threads;
+use std::time::Clock;
+use store_files::{Fault, StoreFiles, flush, open_file};
+
+/// Serves conversations over the store of a path, on a port of 127.0.0.1, each in a thread of its own, as the
+/// options say: so many, or without end, and perhaps those alone whose clients go on to send. It ends early where no
+/// stream is let in any more; a stream that fails ends its own conversation alone, and where the device has failed
+/// each command is answered so. What becomes of them is told to `log`, where the options say so.
+pub fn serve_file<R, F, N, L, W>(
+    rt: &R,
+    alloc: Global,
+    files: &mut F,
+    net: &mut N,
+    log: &L,
+    path: &str,
+    port: u16,
+    login: Login<'_>,
+    options: ServeOptions,
+    out: &mut W,
+) -> Result<(), Fault>
+where
+    R: Threads + Wait + Clock + Sync,
+    F: StoreFiles,
+    N: Network,
+    L: Log + Sync,
+    W: Write,
+    F::Disk: Send,
+    N::Stream: Send,
+    N::Writer: Send,
+    ensures { ServesFile (surroundings F.calls F.Disk.is_modelled F.Disk.life N.calls) path.now port
+        (seen files.old net.old (W.contents out.old)) result (seen files.new net.new (W.contents out.new)) }
+{
+    let core = open_file(alloc, files, path)?;
+    let settings = settings_for(alloc, &core, login)?;
+    let shared = match Shared::new(alloc, core) {
+        Ok(shared) => shared,
+        Err(_) => return Err(Fault::NoMemory),
+    };
+    listen(rt, alloc, &shared, &settings, net, log, port, options, out)?;
+    end_of(alloc, shared)
+}
+
+// What a server of this login starts its conversations with, whose database has the name of its store. A name
+// that no database has is the name of no store.
+fn settings_for<D: Disk>(
+    alloc: Global,
+    core: &DurableCore<D>,
+    login: Login<'_>,
+) -> Result<Settings, Fault>
+    ensures of { IfOk result (λ s. s ≡ settings_of (plain_login login.entry) core.now.name) }
+    ensures refused { IfErr result (RefusesName core.now.name) }
+{
+    match Settings::new(alloc, login.user, login.password, core.name()) {
+        Ok(settings) => Ok(settings),
+        Err(SettingsError::BadName) => Err(Fault::NotAStore),
+        Err(SettingsError::NoMemory) => Err(Fault::NoMemory),
+    }
+}
+
+// Listens on a port of 127.0.0.1, says which on `out`, and serves the conversations of its streams.
+fn listen<R, D, N, L, W>(
+    rt: &R,
+    alloc: Global,
+    shared: &Shared<D>,
+    settings: &Settings,
+    net: &mut N,
+    log: &L,
+    port: u16,
+    options: ServeOptions,
+    out: &mut W,
+) -> Result<(), Fault>
+where
+    R: Threads + Wait + Clock + Sync,
+    D: Disk + Send + Drop,
+    N: Network,
+    L: Log + Sync,
+    W: Write,
+    N::Stream: Send,
+    N::Writer: Send,
+    ensures { Listens N.calls port net.old (W.contents out.old) result (W.contents out.new) }
+{
+    let address = SocketAddr::V4(SocketAddrV4::new(Ipv4Addr::new(127, 0, 0, 1), port));
+    match net.bind(address) {
+        Ok(listener) => {
+            say_port(net, &listener, out)?;
+            serve_all(rt, alloc, shared, settings, net, log, &listener, options)
+        }
+        Err(_) => Err(Fault::Device),
+    }
+}
+
+// Serves the streams that a listener lets in.
+fn serve_all<R, D, N, L>(
+    rt: &R,
+    alloc: Global,
+    shared: &Shared<D>,
+    settings: &Settings,
+    net: &mut N,
+    log: &L,
+    listener: &N::Listener,
+    options: ServeOptions,
+) -> Result<(), Fault>
+where
+    R: Threads + Wait + Clock + Sync,
+    D: Disk + Send + Drop,
+    N: Network,
+    L: Log + Sync,
+    N::Stream: Send,
+    N::Writer: Send,
+    ensures { IfErr result IsOfDevice }
+{
+    let mut streams = LetIn {
+        net,
+        listener,
+        idle: options.idle,
+        left: options.count.unwrap_or(u64::MAX),
+        failures: 0,
+        has_failed: false,
+    };
+    let switched = Switched {
+        log,
+        is_on: options.is_logged,
+    };
+    serve_streams(
+        rt,
+        alloc,
+        shared,
+        settings,
+        &OpenGate,
+        &switched,
+        &mut streams,
+    )?;
+    if streams.has_failed {
+        return Err(Fault::Device);
+    }
+    Ok(())
+}
+
+// How serving ends, once each thread has given its pass back: a device that has failed is told.
+fn end_of<D: Disk + Drop>(alloc: Global, shared: Shared<D>) -> Result<(), Fault>
+    ensures { IfErr result IsOfDevice }
+{
+    let book = match shared.close(Vec::new(alloc)) {
+        Ok(book) => book,
+        Err(book) => book,
+    };
+    if book.core().is_failed() {
+        return Err(Fault::Device);
+    }
+    Ok(())
+}
+
+/// At so many failures in a row to let a stream in, with a moment behind each, none is let in any more.
+const MOST_FAILURES: u64 = 100;
+
+/// The streams that a listener lets in, so many at most. None comes once letting one in has failed too often.
+#[derive(Drop)]
+struct LetIn<'a, N: Network> {
+    net: &'a mut N,
+    listener: &'a N::Listener,
+    idle: Option<u32>,
+    left: u64,
+    failures: u64,
+    has_failed: bool,
+}
+
+impl<N: Network> Streams for LetIn<'_, N> {
+    type Reader = N::Stream;
+
+    type Writer = N::Writer;
+
+    fn next(&mut self) -> Option<(N::Stream, N::Writer)> {
+        for _ in 0..u64::MAX {
+            let left = self.left.checked_sub(1)?;
+            match let_in(self.net, self.listener, self.idle) {
+                Ok(given) => {
+                    self.left = left;
+                    self.failures = 0;
+                    if given.is_some() {
+                        return given;
+                    }
+                }
+                Err(_) => self.bear_failure(),
+            }
+        }
+        None
+    }
+
+    fn peer(&self, reader: &N::Stream) -> Option<SocketAddr> {
+        self.net.peer(reader)
+    }
+}
+
+impl<N: Network> LetIn<'_, N> {
+    // Letting a stream in has failed. Mostly that passes, as where the system is short of something for a while.
+    fn bear_failure(&mut self) {
+        self.failures = self.failures.saturating_add(1);
+        if self.failures < MOST_FAILURES {
+            self.net.pause();
+        } else {
+            self.has_failed = true;
+            self.left = 0;
+        }
+    }
+}
+
+// The next stream that a listener lets in, with its limit and its second handle. A stream that can't have them is
+// closed, and none is given; one that can't be hurried is served with its delays.
+fn let_in<N: Network>(
+    net: &mut N,
+    listener: &N::Listener,
+    idle: Option<u32>,
+) -> io::Result<Option<(N::Stream, N::Writer)>>
+    ensures { IfOk result (λ given. IfSome given (λ both. LetsIn N.calls net.old listener.now idle both.0 both.1 net.new)) }
+{
+    let stream = net.accept(listener)?;
+    if limit(net, &stream, idle).is_err() {
+        return Ok(None);
+    }
+    let _ = net.hurry(&stream);
+    match net.writer(&stream) {
+        Ok(writer) => Ok(Some((stream, writer))),
+        Err(_) => Ok(None),
+    }
+}
+
+// Limits the reads of a stream, where seconds are given.
+fn limit<N: Network>(net: &mut N, stream: &N::Stream, idle: Option<u32>) -> io::Result<()>
+    ensures { IfOk result (λ _. IsLimited N.calls net.old stream.now idle net.new) }
+{
+    match idle {
+        Some(seconds) => net.limit(stream, seconds),
+        None => Ok(()),
+    }
+}
+
+// Says the port of a listener.
+fn say_port<N: Network, W: Write>(net: &N, listener: &N::Listener, out: &mut W) -> Result<(), Fault>
+    ensures said { IfOk result (λ _. (port : ℕ) × N.calls.has_port listener.now port × Appends (W.contents out.old) (W.contents out.new) (port_line port)) }
+    ensures cause { IfErr result IsOfDevice }
+{
+    let Ok(port) = net.port(listener) else {
+        return Err(Fault::Device);
+    };
+    match writeln!(out, "listening {port}") {
+        Ok(()) => flush(out),
+        Err(_) => Err(Fault::Device),
+    }
+}

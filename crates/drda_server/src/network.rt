@@ -1,0 +1,114 @@
+//! What conversations come over.
+
+ghost use Rattle.std.specs.Prelude.{IfOk};
+ghost use Rattle.std.specs.Result.{result_ok};
+ghost use Rattle.drda_server.specs.Network.{NetworkCalls, any_network};
+
+use std::io::{self, Read, Write};
+use std::net::{Net, OpenListener, OpenStream, SocketAddr};
+use std::thread::sleep;
+use std::time::{Clock, Duration};
+
+/// How long is waited where letting a stream in has failed, in milliseconds.
+const MOMENT: u64 = 100;
+
+/// A network that is listened on.
+///
+/// As of files, what a call comes to is a member, which says nothing unless an impl says more.
+pub trait Network {
+    /// What listens on an address.
+    type Listener: Drop;
+
+    /// A stream that was let in, to be read from.
+    type Stream: Read + Drop;
+
+    /// The second handle of a stream, to be written on.
+    type Writer: Write + Drop;
+
+    /// What a call comes to.
+    ghost calls: { NetworkCalls Self Self.Listener Self.Stream Self.Writer } = { any_network };
+
+    /// Listens on an address. Port 0 lets the system pick one.
+    fn bind(&mut self, address: SocketAddr) -> io::Result<Self::Listener>
+        ensures { calls.binds self.old address (result_ok result) self.new };
+
+    /// The port of a listener.
+    fn port(&self, listener: &Self::Listener) -> io::Result<u16>
+        ensures { IfOk result (calls.has_port listener.now) };
+
+    /// Waits for the next stream, and lets it in.
+    fn accept(&mut self, listener: &Self::Listener) -> io::Result<Self::Stream>
+        ensures { calls.lets_in self.old listener.now (result_ok result) self.new };
+
+    /// Whose stream it is, where that is known.
+    fn peer(&self, stream: &Self::Stream) -> Option<SocketAddr>;
+
+    /// From now on a read of the stream that has waited for so many seconds fails.
+    fn limit(&mut self, stream: &Self::Stream, seconds: u32) -> io::Result<()>
+        ensures { calls.limits self.old stream.now seconds (result_ok result) self.new };
+
+    /// From now on small segments of what is written on the stream are sent at once, and none waits for more.
+    fn hurry(&mut self, stream: &Self::Stream) -> io::Result<()>
+        ensures { calls.hurries self.old stream.now (result_ok result) self.new };
+
+    /// A second handle of a stream, to be written on.
+    fn writer(&mut self, stream: &Self::Stream) -> io::Result<Self::Writer>
+        ensures { calls.answers self.old stream.now (result_ok result) self.new };
+
+    /// Waits a moment, before a stream is let in again where that has failed.
+    fn pause(&mut self);
+}
+
+/// The network of the system.
+#[derive(Drop)]
+pub struct SystemNetwork<'a, R> {
+    rt: &'a R,
+}
+
+impl<'a, R: Net> SystemNetwork<'a, R> {
+    /// The network that a program has by this handle.
+    pub fn new(rt: &'a R) -> SystemNetwork<'a, R> {
+        SystemNetwork { rt }
+    }
+}
+
+impl<'a, R: Net + Clock> Network for SystemNetwork<'a, R> {
+    type Listener = R::Listener;
+
+    type Stream = R::Stream;
+
+    type Writer = R::Stream;
+
+    fn bind(&mut self, address: SocketAddr) -> io::Result<R::Listener> {
+        self.rt.bind(address)
+    }
+
+    fn port(&self, listener: &R::Listener) -> io::Result<u16> {
+        Ok(listener.local_addr()?.port())
+    }
+
+    fn accept(&mut self, listener: &R::Listener) -> io::Result<R::Stream> {
+        let (stream, _) = listener.accept()?;
+        Ok(stream)
+    }
+
+    fn peer(&self, stream: &R::Stream) -> Option<SocketAddr> {
+        stream.peer_addr().ok()
+    }
+
+    fn limit(&mut self, stream: &R::Stream, seconds: u32) -> io::Result<()> {
+        stream.set_read_timeout(Some(Duration::from_secs(u64::from(seconds))))
+    }
+
+    fn hurry(&mut self, stream: &R::Stream) -> io::Result<()> {
+        stream.set_nodelay(true)
+    }
+
+    fn writer(&mut self, stream: &R::Stream) -> io::Result<R::Stream> {
+        stream.try_clone()
+    }
+
+    fn pause(&mut self) {
+        sleep(self.rt, Duration::from_millis(MOMENT));
+    }
+}

@@ -1,0 +1,5 @@
+pub mod Names
+pub mod StoreFaults
+pub mod Zeros
+pub mod Fronts
+pub mod Found

@@ -1,0 +1,4 @@
+pub mod Endings
+pub mod Files
+pub mod Stores
+pub mod Opening

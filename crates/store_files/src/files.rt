@@ -1,0 +1,152 @@
+//! Where stores are kept.
+
+ghost use Rattle.std.specs.Prelude.{◌≡◌, IfOk, IsTrue, option_map, replicate, string_bytes};
+ghost use Rattle.std.specs.Result.{result_ok};
+ghost use Rattle.drda_disk.specs.Disk.{Only};
+ghost use Rattle.store_files.specs.Files.{FileCalls, any_files};
+
+use drda_disk::{Disk, FileDisk, FileFault, FilePath, SystemFile};
+use std::alloc::Global;
+use std::fmt::{Display, Write};
+use std::fs::File;
+use std::io::{self, ErrorKind, Read};
+use std::os::unix::fs::PermissionsExt;
+use std::rt::Files;
+
+/// The rights of others than a file's owner, in its mode.
+const RIGHTS_OF_OTHERS: u32 = 0o077;
+
+/// All rights in a mode.
+const RIGHTS: u32 = 0o777;
+
+/// The most bytes that a private file's text has.
+const LONGEST_TEXT: u64 = 4_096;
+
+/// Files that are stores, by their paths.
+///
+/// Nothing can be known of which file of the system a path names, so what a call comes to is a member, which
+/// says nothing unless an impl says more. What the program does with the disks of its paths is said over it.
+pub trait StoreFiles {
+    /// A file as a disk.
+    type Disk: Disk + Drop;
+
+    /// What a call comes to.
+    ghost calls: { FileCalls Self Self.Disk } = { any_files };
+
+    /// Makes a file of so many zeros. Refused where there is one of this path already.
+    fn create(&mut self, path: &str, size: usize) -> Result<Self::Disk, FileFault>
+        ensures call { calls.creates self.old path.now size (result_ok result) self.new }
+        ensures zeros { IfOk result (λ disk. IsTrue Self.Disk.is_modelled → (Self.Disk.life disk).seen ≡ replicate size 0) }
+        ensures durable { IfOk result (λ disk. IsTrue Self.Disk.is_modelled → Only (Self.Disk.life disk)) };
+
+    /// The file of this path, with the length that it has.
+    fn open(&mut self, path: &str) -> Result<Self::Disk, FileFault>
+        ensures call { calls.opens self.old path.now (result_ok result) self.new };
+
+    /// The text of the file of this path. Refused where it can't be read, others than its owner have rights
+    /// on it, it has more than 4,096 bytes, or they are no UTF-8; memory that is refused is told as such.
+    fn read_private(&mut self, alloc: Global, path: &str) -> io::Result<String>
+        ensures call { calls.reads self.old path.now (option_map string_bytes (result_ok result)) self.new };
+
+    /// A line for people that says why the last call was refused that was; empty where nothing is known of
+    /// it. It stands in front of the line of the fault, and no contract says what is in it.
+    fn reason(&self) -> &str;
+}
+
+/// The files of the system.
+#[derive(Drop)]
+pub struct SystemFiles<'a, R> {
+    rt: &'a R,
+    reason: String,
+}
+
+impl<'a, R: Files<File = File>> SystemFiles<'a, R> {
+    /// The files that a program has by this handle.
+    pub fn new(alloc: Global, rt: &'a R) -> SystemFiles<'a, R> {
+        SystemFiles {
+            rt,
+            reason: String::new(alloc),
+        }
+    }
+
+    // Keeps why a call with a path was refused, as far as memory allows.
+    fn note<E: Display>(&mut self, path: &str, error: &E) {
+        self.reason.clear();
+        let _ = writeln!(self.reason, "drdad: {path}: {error}");
+    }
+}
+
+impl<'a, R: Files<File = File>> StoreFiles for SystemFiles<'a, R> {
+    type Disk = FileDisk<SystemFile>;
+
+    fn create(&mut self, path: &str, size: usize) -> Result<FileDisk<SystemFile>, FileFault> {
+        let made = FileDisk::create(&mut FilePath::new(self.rt, path), size);
+        if let Err(fault) = &made {
+            self.note(path, fault);
+        }
+        made
+    }
+
+    fn open(&mut self, path: &str) -> Result<FileDisk<SystemFile>, FileFault> {
+        let opened = FileDisk::open(&mut FilePath::new(self.rt, path));
+        if let Err(fault) = &opened {
+            self.note(path, fault);
+        }
+        opened
+    }
+
+    fn read_private(&mut self, alloc: Global, path: &str) -> io::Result<String> {
+        match private_text(alloc, self.rt, path) {
+            Ok(text) => Ok(text),
+            Err(Unread::Io(error)) => {
+                self.note(path, &error);
+                Err(error)
+            }
+            Err(Unread::Shared { mode }) => {
+                self.reason.clear();
+                let _ = writeln!(
+                    self.reason,
+                    "drdad: {path}: others than its owner have rights on it, its mode is {mode:03o}"
+                );
+                Err(io::Error::from(ErrorKind::PermissionDenied))
+            }
+        }
+    }
+
+    fn reason(&self) -> &str {
+        &self.reason
+    }
+}
+
+// Why a private text is not read.
+#[derive(Drop)]
+enum Unread {
+    Io(io::Error),
+    // Others than its owner have rights on it.
+    Shared { mode: u32 },
+}
+
+impl From<io::Error> for Unread {
+    fn from(error: io::Error) -> Unread {
+        Unread::Io(error)
+    }
+}
+
+// The text of a file on which others than its owner have no rights.
+fn private_text<R: Files<File = File>>(
+    alloc: Global,
+    rt: &R,
+    path: &str,
+) -> Result<String, Unread> {
+    let file = File::open(rt, path)?;
+    let mode = file.metadata()?.permissions().mode() & RIGHTS;
+    if mode & RIGHTS_OF_OTHERS != 0 {
+        return Err(Unread::Shared { mode });
+    }
+    let mut text = String::new(alloc);
+    file.take(LONGEST_TEXT + 1).read_to_string(&mut text)?;
+    if text.len() as u64 > LONGEST_TEXT {
+        return Err(Unread::Io(io::Error::from(ErrorKind::FileTooLarge)));
+    }
+    Ok(text)
+}
