@@ -1,6 +1,6 @@
 -- Words that spell an XID are read as it, and as no other.
 use Rattle.std.proofs.Common.{◌≡◌, ◌∙◌, ℕ, ◌+◌, ◌-◌, ◌^◌, ◌<◌, ◌≤◌, Bool, true, false, ltb, leb, ◌&&◌, ◌==◌, subst, List, [], ◌∷◌, length, take, drop, get_or, Option, Some, None, unwrap_or, Result, Ok, Err, refl, sym, ap, arith, inl, inr, append-nil, length-take, get_or-drop, get_or-take, if◌then◌else◌}
-use Rattle.std.specs.Prelude.{nat_lt, bytes_eq}
+use Rattle.std.specs.Prelude.{nat_lt, bytes_eq, option_and_then}
 use Rattle.std.specs.Fmt.{decimal}
 use Rattle.std.specs.Result.{result_unwrap_or}
 use Rattle.std.specs.Char.{digit_value}
@@ -21,7 +21,7 @@ use Rattle.xa_calls.specs.Xid.{AreParts, Parts, begins_with_xid, number_at, part
 use Rattle.xa_calls.proofs.Reading.{begins, parts_are, read_again, some_if, whole_length, wire-parts_of}
 use Rattle.command_line.specs.Number.{number_in}
 use Rattle.command_line.proofs.Decimal.{read as number_read}
-use Rattle.command_line.specs.Spelling.{ItsWordsAreRead, OnlyItsWordsAreRead, PrintedReadsBack, SaysPart, are_parts, bytes_in, bytes_said, format_in, part_in, part_word, xid_of, xid_said, xid_with}
+use Rattle.command_line.specs.Spelling.{ItsWordsAreRead, OnlyItsWordsAreRead, PrintedReadsBack, SaysPart, are_parts, bytes_in, bytes_said, format_in, part_in, part_word, split_at_colon, xid_in_one, xid_of, xid_said, xid_with}
 
 -- ---- tests
 
@@ -267,3 +267,18 @@ printed xid bytes whole =
     let b = begins xid size.0 in
     let written : wire p ≡ xid = wire-parts_of xid bytes b ∙ (some_if (begins_with_xid xid) (take (xid_length xid) xid) xid whole).1 in
     said_of p (parts_are xid b) (part_of_bytes xid 12 (number_at xid 4) bytes) (part_of_bytes xid (12 + number_at xid 4) (number_at xid 8) bytes) ∙ ap (λ (x : List ℕ). Some x) written
+
+-- ---- in one word
+
+pub one_word : (text format rest global branch : List ℕ) → Some (format, rest) ≡ split_at_colon text → Some (global, branch) ≡ split_at_colon rest → xid_said format global branch ≡ xid_in_one text
+one_word text format rest global branch first second =
+    ap (λ (o : Option (List ℕ × List ℕ)). option_and_then (λ (b : List ℕ × List ℕ). xid_said format b.0 b.1) o) second
+    ∙ ap (λ (o : Option (List ℕ × List ℕ)). option_and_then (λ (f : List ℕ × List ℕ). option_and_then (λ (b : List ℕ × List ℕ). xid_said f.0 b.0 b.1) (split_at_colon f.1)) o) first
+
+pub no_colon : (text : List ℕ) → None ≡ split_at_colon text → None ≡ xid_in_one text
+no_colon text none = ap (λ (o : Option (List ℕ × List ℕ)). option_and_then (λ (f : List ℕ × List ℕ). option_and_then (λ (b : List ℕ × List ℕ). xid_said f.0 b.0 b.1) (split_at_colon f.1)) o) none
+
+pub one_colon : (text format rest : List ℕ) → Some (format, rest) ≡ split_at_colon text → None ≡ split_at_colon rest → None ≡ xid_in_one text
+one_colon text format rest first none =
+    ap (λ (o : Option (List ℕ × List ℕ)). option_and_then (λ (b : List ℕ × List ℕ). xid_said format b.0 b.1) o) none
+    ∙ ap (λ (o : Option (List ℕ × List ℕ)). option_and_then (λ (f : List ℕ × List ℕ). option_and_then (λ (b : List ℕ × List ℕ). xid_said f.0 b.0 b.1) (split_at_colon f.1)) o) first

@@ -41,13 +41,21 @@ pub fn words_spell_one_xid()
 pub(crate) fn xid_in_one(alloc: Global, text: &str) -> Result<Option<Xid>, AllocError>
     ensures { IfOk result (λ found. found ≡ spec.xid_in_one text.now) }
 {
-    let Some((format, rest)) = text.split_once(':') else {
+    let Some((format, rest)) = split_at_colon(text) else {
         return Ok(None);
     };
-    let Some((global, branch)) = rest.split_once(':') else {
+    let Some((global, branch)) = split_at_colon(rest) else {
         return Ok(None);
     };
     xid_in(alloc, format, global, branch)
+}
+
+// What stands in front of the first colon, and what stands behind it.
+fn split_at_colon<'a>(text: &'a str) -> Option<(&'a str, &'a str)>
+    ensures { option_map (λ p. (p.0.now, p.1.now)) result ≡ spec.split_at_colon text.now }
+{
+    let (front, rest) = text.split_once(':')?;
+    Some((front, rest))
 }
 
 /// The XID that three words spell as `xid_text` does, with digits in either case. None where they are no such words, or what

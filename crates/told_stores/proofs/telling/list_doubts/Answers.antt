@@ -1,10 +1,10 @@
 use Rattle.std.proofs.Common.{refl, rules}
-use Rattle.drda_program.specs.Doubts.{listed_in}
-use Rattle.drda_program.specs.Program.{IsOfDoubts}
-use Rattle.drda_program.proofs.Doubted.{are_doubts}
+use Rattle.told_stores.specs.Doubts.{listed_in}
+use Rattle.told_stores.specs.Telling.{IsOfDoubts}
+use Rattle.told_stores.proofs.Doubted.{are_doubts}
 use Rattle.store_files.proofs.Found.{found}
-use Rattle.drda_program.proofs.Told.{told}
-use Rattle.drda_program.proofs.program.list_doubts.Goals as goal
+use Rattle.told_stores.proofs.Told.{told}
+use Rattle.told_stores.proofs.telling.list_doubts.Goals as goal
 
 pub returns : goal.returns
 returns g c =

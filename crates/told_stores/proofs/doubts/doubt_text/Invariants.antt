@@ -2,8 +2,8 @@ use Rattle.std.proofs.Common.{◌≡◌, ◌++◌, length, map}
 use Rattle.std.specs.Prelude.{string_bytes}
 use Rattle.std.specs.List.{flat_map}
 use Rattle.rdb_core.specs.InDoubt.{xids_left}
-use Rattle.drda_program.specs.Doubts.{doubt_line, listed_in, listed_of}
-use Rattle.drda_program.proofs.doubts.doubt_text.Given as goal
+use Rattle.told_stores.specs.Doubts.{doubt_line, listed_in, listed_of}
+use Rattle.told_stores.proofs.doubts.doubt_text.Given as goal
 
 abbrev pub invariant-loop-xid : goal.invariant-loop-xid
 invariant-loop-xid g l =

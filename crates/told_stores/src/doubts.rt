@@ -2,7 +2,7 @@
 
 ghost use Rattle.std.specs.Prelude.{◌≡◌, ◌++◌, IfOk, OnOk, string_bytes};
 ghost use Rattle.recovery.specs.Part.{outcome_at};
-ghost use Rattle.drda_program.specs.Doubts.{doubt_line, doubt_text, listed_in, outcome_word};
+ghost use Rattle.told_stores.specs.Doubts.{doubt_line, doubt_text, listed_in, outcome_word};
 
 use command_line::xid_text;
 use drda_disk::Disk;
@@ -43,8 +43,8 @@ fn push_line(
     }
 }
 
-// How a unit was decided heuristically, where it was.
-fn outcome_word(state: Option<BranchState>) -> &'static str
+/// How a unit was decided heuristically, where it was.
+pub(crate) fn outcome_word(state: Option<BranchState>) -> &'static str
     ensures { result.now ≡ outcome_word (outcome_at state) }
 {
     match state {

@@ -3,7 +3,7 @@
 ghost use Rattle.std.specs.Prelude.{◌≡◌, ◌∷◌, ◌++◌, [], IfOk, codes, length, string_bytes, vec_items};
 ghost use Rattle.rdb_core.specs.InDoubt.{xids_left};
 ghost use Rattle.xa_manager.specs.Branch.{in_doubt_xids};
-ghost use Rattle.drda_program.specs.Rooms.{room_text};
+ghost use Rattle.told_stores.specs.Rooms.{room_text};
 
 use drda_disk::Disk;
 use durable_core::DurableCore;

@@ -1,12 +1,12 @@
 use Rattle.std.proofs.Common.{◌≡◌, ◌∙◌, refl, ap, sym, rules, ℕ, List, length, string_bytes}
 use Rattle.xa_manager.specs.Branch.{in_doubt_xids}
-use Rattle.drda_program.specs.Program.{IsOfRoom}
-use Rattle.drda_program.specs.Rooms.{room_text}
-use Rattle.drda_program.specs.Doubts.{listed_in}
-use Rattle.drda_program.proofs.Doubted.{are_doubts, as_many}
+use Rattle.told_stores.specs.Telling.{IsOfRoom}
+use Rattle.told_stores.specs.Rooms.{room_text}
+use Rattle.told_stores.specs.Doubts.{listed_in}
+use Rattle.told_stores.proofs.Doubted.{are_doubts, as_many}
 use Rattle.store_files.proofs.Found.{found}
-use Rattle.drda_program.proofs.Told.{told}
-use Rattle.drda_program.proofs.program.tell_room.Goals as goal
+use Rattle.told_stores.proofs.Told.{told}
+use Rattle.told_stores.proofs.telling.tell_room.Goals as goal
 
 pub returns : goal.returns
 returns g c =

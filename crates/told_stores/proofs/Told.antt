@@ -4,7 +4,7 @@ use Rattle.std.specs.Io.KnownBytes.{Appends}
 use Rattle.drda_disk.specs.Disk.{Life}
 use Rattle.std.specs.Prelude.{Bool}
 use Rattle.store_files.specs.Files.{FileCalls}
-use Rattle.drda_program.specs.Program.{Tells}
+use Rattle.told_stores.specs.Telling.{Tells}
 use Rattle.store_files.specs.declared.fault.Fault.{Fault}
 use Rattle.store_files.specs.declared.fault.Fault.TheVariants.{Device, NoMemory}
 

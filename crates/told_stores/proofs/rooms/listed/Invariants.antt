@@ -1,6 +1,6 @@
 use Rattle.std.proofs.Common.{◌≡◌, ◌+◌, length, vec_items}
 use Rattle.rdb_core.specs.InDoubt.{xids_left}
-use Rattle.drda_program.proofs.rooms.listed.Given as goal
+use Rattle.told_stores.proofs.rooms.listed.Given as goal
 
 abbrev pub invariant-loop-xid : goal.invariant-loop-xid
 invariant-loop-xid l = length (vec_items l.xids) + length (xids_left l.left) ≡ length (xids_left l.doubts)

@@ -1,8 +1,8 @@
 use Rattle.std.proofs.Common.{refl}
-use Rattle.drda_program.specs.Program.{IsOfCheck}
+use Rattle.told_stores.specs.Telling.{IsOfCheck}
 use Rattle.store_files.proofs.Found.{found}
-use Rattle.drda_program.proofs.Told.{told}
-use Rattle.drda_program.proofs.program.check.Goals as goal
+use Rattle.told_stores.proofs.Told.{told}
+use Rattle.told_stores.proofs.telling.check.Goals as goal
 
 pub returns : goal.returns
 returns g c =
