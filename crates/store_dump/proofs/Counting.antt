@@ -1,5 +1,5 @@
 -- How many rows of a table are counted.
-use Rattle.std.proofs.Common.{◌≡◌, ℕ, ◌+◌, ◌-◌, ◌^◌, ◌<◌, List, [], ◌∷◌, refl, sym, ap, ◌∙◌, subst, arith, length, min}
+use Rattle.std.proofs.Common.{◌≡◌, ℕ, suc, ◌+◌, ◌-◌, ◌^◌, ◌<◌, List, [], ◌∷◌, refl, sym, ap, ◌∙◌, subst, arith, length, min}
 use Rattle.key_map.specs.Merging.{Rows}
 use Rattle.row_pages.specs.Laying.{counted}
 use Rattle.table_map.specs.Cursor.{IsLeft, GoesOn}
@@ -13,7 +13,7 @@ pub record IsCounting (key_of : List ℕ → List ℕ) (file : List ℕ) (cursor
   pub same : counted (count + length (without_keys left)) ≡ counted (length all)
 
 -- a count that stops, of one more
-pub step : (count more rest all : ℕ) → more ≡ min (count + 1) (2 ^ 64 - 1) → counted (count + (1 + rest)) ≡ all → counted (more + rest) ≡ all
+pub step : (count more rest all : ℕ) → more ≡ min (count + 1) (2 ^ 64 - 1) → counted (count + suc rest) ≡ all → counted (more + rest) ≡ all
 step count more rest all is same = omega (arith, is, same)
 
 pub ended : (count rest all : ℕ) → count < 2 ^ 64 → rest ≡ 0 → counted (count + rest) ≡ all → count ≡ all

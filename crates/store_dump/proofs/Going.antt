@@ -1,5 +1,6 @@
 -- How far the rows of a table are written.
-use Rattle.std.proofs.Common.{◌≡◌, ℕ, List, [], ◌∷◌, ◌++◌, Option, Some, None, refl, sym, ap, ◌∙◌, subst, append_assoc, take, drop, take-append-drop, Result, Err}
+use Rattle.std.proofs.Common.{◌≡◌, ℕ, List, [], ◌∷◌, ◌++◌, Option, Some, None, refl, sym, ap, ◌∙◌, subst, append_assoc, take, drop, take-append-drop, Result, Ok, Err}
+use Rattle.std.specs.Result.{IsErr}
 use Rattle.std.specs.Io.KnownBytes.{Appends}
 use Rattle.row_values.specs.Schema.{Schema}
 use Rattle.key_map.specs.Merging.{Rows}
@@ -50,8 +51,9 @@ pub front_taken : (text : List ℕ) (a b : Option (List ℕ)) → (count : ℕ) 
 front_taken text a b (count, wrote) = record { front = take count text; rest = drop count text; both = sym (take-append-drop count text); wrote = wrote }
 
 -- what failed wrote a front
-pub failed : {A E : Type 0} (text : List ℕ) (r : Result A E) (e : E) (a b : Option (List ℕ)) → r ≡ Err e → HasFront text a b → IsWritten text r a b
-failed text r e a b is front = subst (λ (z : Result _ _). IsWritten text z a b) (sym is) front
+pub failed : {A E : Type 0} (text : List ℕ) (r : Result A E) (a b : Option (List ℕ)) → IsErr r → HasFront text a b → IsWritten text r a b
+failed text (Ok x) a b is front = absurd (cc is)
+failed text (Err e) a b is front = front
 
 -- what is written so far
 pub front_so_far : (text x y : List ℕ) (a b : Option (List ℕ)) → x ++ y ≡ text → Appends a b x → HasFront text a b

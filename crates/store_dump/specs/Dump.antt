@@ -41,8 +41,11 @@ abbrev pub table_text : List ℕ → Schema → List (List ℕ) → List ℕ
 table_text name schema rows = table_line name schema ++ rows_text name schema 0 rows
 
 -- what is told of a table: its CREATE TABLE, and in a comment how many rows it has, and how many pages these take at the next checkpoint
+abbrev pub shown_comment : ℕ → ℕ → List ℕ
+shown_comment rows pages = codes ";\n-- " ++ decimal rows ++ codes " rows, " ++ decimal pages ++ codes " pages\n"
+
 abbrev pub shown_line : List ℕ → Schema → ℕ → ℕ → List ℕ
-shown_line name schema rows pages = create_text name schema ++ (codes ";\n-- " ++ decimal rows ++ codes " rows, " ++ decimal pages ++ codes " pages\n")
+shown_line name schema rows pages = create_text name schema ++ shown_comment rows pages
 
 abbrev pub shown_table : List ℕ → Schema → List (List ℕ) → List ℕ
 shown_table name schema rows = shown_line name schema (counted (length rows)) (counted (length (laid rows)))

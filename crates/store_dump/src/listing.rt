@@ -1,15 +1,13 @@
 //! What is told of a store's tables.
 
-ghost use Rattle.std.specs.Prelude.{◌≡◌, IsTrue, List, OnOk, length, ℕ};
-ghost use Rattle.std.specs.Fmt.{decimal};
+ghost use Rattle.std.specs.Prelude.{◌≡◌, IfOk, IsTrue, List, OnOk, length, string_bytes, ℕ};
 ghost use Rattle.drda_disk.specs.Disk.{Stays};
 ghost use Rattle.paged_tables.specs.Lending.{IsLent};
 ghost use Rattle.paged_tables.specs.PagedTables.{store_in};
 ghost use Rattle.paged_tables.specs.Stored.{IsOnPages, LiesInside, Stored, rows_in};
 ghost use Rattle.paged_tables.specs.TablesByName.{AreOnPages, LieInside};
-ghost use Rattle.row_values.specs.Schema.{Schema as PlainSchema};
 ghost use Rattle.table_map.specs.Table.{without_keys};
-ghost use Rattle.store_dump.specs.Dump.{IsWritten, list_text, shown_line, shown_table};
+ghost use Rattle.store_dump.specs.Dump.{IsWritten, list_text, shown_comment, shown_line, shown_table};
 
 use crate::errors::DumpError;
 use crate::lines::write;
@@ -19,6 +17,7 @@ use paged_tables::{PagedTables, TableRef};
 use row_values::Schema;
 use sql_spelling::put_create;
 use std::alloc::{AllocError, Global};
+use std::fmt::Write as _;
 use std::io::Write;
 use table_map::SchemaKeys;
 
@@ -78,9 +77,20 @@ fn put_shown(
 ) -> Result<(), AllocError>
     ensures { OnOk result (line.new.items ≡ shown_line name.now schema.now rows pages) }
 {
-    let comment = format!(in alloc; ";\n-- {rows} rows, {pages} pages\n")?;
+    let comment = comment_of(alloc, rows, pages)?;
     line.clear();
     put_create(line, name, schema)?;
     line.extend_from_slice(comment.as_bytes())?;
     Ok(())
+}
+
+/// What stands behind a CREATE TABLE.
+fn comment_of(alloc: Global, rows: usize, pages: usize) -> Result<String, AllocError>
+    ensures { IfOk result (λ text. string_bytes text ≡ shown_comment rows pages) }
+{
+    let mut text = String::new(alloc);
+    match write!(text, ";\n-- {rows} rows, {pages} pages\n") {
+        Ok(()) => Ok(text),
+        Err(_) => Err(AllocError),
+    }
 }

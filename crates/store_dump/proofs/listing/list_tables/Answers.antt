@@ -1,4 +1,4 @@
-use Rattle.std.proofs.Common.{◌≡◌, ℕ, List, [], length, sym, ap, subst, rules}
+use Rattle.std.proofs.Common.{◌≡◌, ℕ, List, [], length, sym, ap, subst}
 use Rattle.drda_disk.proofs.Moments.{Stays-refl, Stays-trans}
 use Rattle.paged_tables.specs.Stored.{IsOnPages}
 use Rattle.paged_tables.specs.TablesByName.{AreOnPages, LieInside, Tables, created_of}
@@ -49,7 +49,7 @@ returns-in_err-list_table-clause-told g c honest on =
     let there = subst (λ (ts : Tables). AreOnPages file ts) same held.0 in
     let telling = subst (λ (ts : Tables). IsTelling shown_table (created_of tables) ts (contents c.args.out.now) (contents c.loop-table.out)) same held.1 in
     let here = subst (λ (f : List ℕ). IsOnPages f first.1) (sym inv.stays.same) there.0 in
-    failed _ _ _ _ _ (search rules) (broke_off shown_table tables c.next_table.new.self first (contents c.args.out.now) (contents c.loop-table.out) (contents c.list_table.new.out) telling (c.in_err-list_table.ensures.told first lent honest here))
+    failed _ c.from_residual.result _ _ c.from_residual.ensures.0 (broke_off shown_table tables c.next_table.new.self first (contents c.args.out.now) (contents c.loop-table.out) (contents c.list_table.new.out) telling (c.in_err-list_table.ensures.told first lent honest here))
 
 pub returns-clause-told : goal.returns-clause-told
 returns-clause-told g c honest on =

@@ -1,4 +1,5 @@
-use Rattle.std.proofs.Common.{arith, ◌≡◌, ℕ, List, [], refl, sym, ◌∙◌, subst}
+use Rattle.std.proofs.Common.{arith, ◌≡◌, ℕ, List, [], ap, sym, ◌∙◌, subst}
+use Rattle.row_pages.specs.Laying.{counted}
 use Rattle.drda_disk.proofs.Moments.{Stays-refl, Stays-trans}
 use Rattle.key_map.specs.RowForm.{row_form}
 use Rattle.table_map.specs.Cursor.{IsLeft, GoesOn}
@@ -14,7 +15,7 @@ loop-cursor-init g c = record {
   rows = λ pages honest is. record {
     left = rows_of_table (row_form c.args.table.now.schema.now) c.args.table.now.rows.now pages;
     is = c.rows-cursor.ensures.left (row_form c.args.table.now.schema.now) pages (g.D.Disk.life c.args.disk.now).seen is;
-    same = refl;
+    same = ap counted (omega arith);
   };
 }
 
@@ -26,12 +27,12 @@ loop-cursor-preserved g c =
     record {
       stays = Stays-trans _ _ _ inv.stays c.next.ensures.stays;
       end = c.next.follows.holds-at-none.end ∙ inv.end;
-      small = ?;
+      small = c.saturating_add-count.type_inv;
       rows = λ pages honest is.
           let held = inv.rows pages honest is in
           let there = subst (λ (f : List ℕ). IsLeft (row_form schema) f c.loop-cursor.cursor held.left) (sym inv.stays.same) held.is in
           let goes = subst (λ (f : List ℕ). GoesOn (row_form schema) f held.left c.in-Some.field-0.now c.next.follows.lender-at-none) inv.stays.same (rw (c.in_ok-next.was, c.in-Some.is) at (c.next.follows.holds-at-none.gives held.left honest there)) in
-          one_counted (row_form schema) file _ c.loop-cursor.cursor c.next.follows.lender-at-none c.loop-cursor.count _ c.in-Some.field-0.now held goes ?;
+          one_counted (row_form schema) file _ c.loop-cursor.cursor c.next.follows.lender-at-none c.loop-cursor.count c.saturating_add-count.result c.in-Some.field-0.now held goes c.saturating_add-count.ensures;
     }
 
 pub returns-clause-count : goal.returns-clause-count
