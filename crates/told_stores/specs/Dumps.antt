@@ -15,9 +15,12 @@ use Rattle.told_stores.specs.Doubts.{Listed, listed_as, outcome_word}
 
 -- ---- texts
 
--- the comment of a unit in doubt, with how it was decided heuristically, where it was
+-- a unit in doubt, with how it was decided heuristically, where it was
+abbrev pub named_line : Listed → List ℕ
+named_line doubt = xid_word doubt.0 ++ (outcome_word doubt.1 ++ 10 ∷ [])
+
 abbrev pub comment_line : Listed → List ℕ
-comment_line doubt = codes "-- in doubt, not dumped: " ++ (xid_word doubt.0 ++ (outcome_word doubt.1 ++ 10 ∷ []))
+comment_line doubt = codes "-- in doubt, not dumped: " ++ named_line doubt
 
 abbrev pub comment_text : List Listed → List ℕ
 comment_text doubts = flat_map comment_line doubts

@@ -7,7 +7,7 @@ ghost use Rattle.recovery.specs.Part.{outcome_at};
 ghost use Rattle.store_dump.specs.Dump.{IsWritten, dump_text, list_text};
 ghost use Rattle.store_files.specs.Stores.{IsOfDevice};
 ghost use Rattle.told_stores.specs.Doubts.{listed_in};
-ghost use Rattle.told_stores.specs.Dumps.{Dumps, ListsTables, comment_line, comment_text, dumped};
+ghost use Rattle.told_stores.specs.Dumps.{Dumps, ListsTables, comment_line, comment_text, dumped, named_line};
 
 use crate::doubts::outcome_word;
 use command_line::xid_word;
@@ -25,6 +25,9 @@ use store_dump::DumpError;
 use store_files::{Fault, StoreFiles, flush, open_file};
 use xa_calls::Xid;
 use xa_manager::BranchState;
+
+/// What stands in front of an XID.
+const COMMENT: &str = "-- in doubt, not dumped: ";
 
 /// Writes the SQL that makes the tables of the store of a path anew, which `dump_tables` of store_dump tells. In front of it
 /// stands a comment for each unit in doubt, of which nothing is dumped, with how it was decided heuristically, where it was: what
@@ -70,13 +73,13 @@ fn dump_core<D: Disk + Drop, W: Write>(
     let comment = comment_text(alloc, &core)?;
     let (tables, mut disk) = core.into_tables();
     match write_whole(out, comment.as_bytes()) {
-        Ok(()) => dump_tables(alloc, &tables, &mut disk, out),
+        Ok(()) => dump_from(alloc, &tables, &mut disk, out),
         Err(_) => Err(Fault::Device),
     }
 }
 
 // The tables of a disk.
-fn dump_tables<D: Disk, W: Write>(
+fn dump_from<D: Disk, W: Write>(
     alloc: Global,
     tables: &PagedTables,
     disk: &mut D,
@@ -102,7 +105,21 @@ fn list_core<D: Disk + Drop, W: Write>(
     ensures cause { IfErr result IsOfDevice }
 {
     let (tables, mut disk) = core.into_tables();
-    match store_dump::list_tables(alloc, &tables, &mut disk, out) {
+    list_from(alloc, &tables, &mut disk, out)
+}
+
+// What is told of the tables of a disk.
+fn list_from<D: Disk, W: Write>(
+    alloc: Global,
+    tables: &PagedTables,
+    disk: &mut D,
+    out: &mut W,
+) -> Result<(), Fault>
+    requires { LieInside (length (D.life disk.old).seen) tables.now.tables }
+    ensures told { IsTrue D.is_modelled → AreOnPages (D.life disk.old).seen tables.now.tables → IsWritten (list_text (store_in tables.now)) result (W.contents out.old) (W.contents out.new) }
+    ensures cause { IfErr result IsOfDevice }
+{
+    match store_dump::list_tables(alloc, tables, disk, out) {
         Ok(()) => flush(out),
         Err(error) => Err(fault_of(error)),
     }
@@ -140,13 +157,22 @@ fn push_comment(
 ) -> Result<(), AllocError>
     ensures { OnOk result (string_bytes text.new ≡ string_bytes text.old ++ comment_line (xid.now, outcome_at state)) }
 {
+    text.push_str(COMMENT)?;
+    push_named(alloc, text, xid, state)?;
+    Ok(())
+}
+
+// The XID of a unit in doubt in one word, with how it was decided heuristically, where it was.
+fn push_named(
+    alloc: Global,
+    text: &mut String,
+    xid: &Xid,
+    state: Option<BranchState>,
+) -> Result<(), AllocError>
+    ensures { OnOk result (string_bytes text.new ≡ string_bytes text.old ++ named_line (xid.now, outcome_at state)) }
+{
     let word = xid_word(alloc, xid)?;
-    match writeln!(
-        text,
-        "-- in doubt, not dumped: {}{}",
-        word.as_str(),
-        outcome_word(state)
-    ) {
+    match writeln!(text, "{}{}", word.as_str(), outcome_word(state)) {
         Ok(()) => Ok(()),
         Err(_) => Err(AllocError),
     }
