@@ -9,6 +9,8 @@ from .splitter import IN_COMMENT, IN_TEXT, Splitter
 from .units import ROWS_AT_ONCE
 
 WORDS = ("help", "quit", "exit")
+# Statements that are commands of the shell: the SQL of `drdad dump` has them, and the server none.
+UNIT_ENDS = ("commit", "rollback")
 MOST_FILES_IN_FILES = 16
 GRACE_SECONDS = 2.0
 INSIDE = {
@@ -103,6 +105,8 @@ class Shell:
             self.check_goes_on()
             if text.startswith("\\"):
                 said = self._commands.run(text[1:])
+            elif text.strip().lower() in UNIT_ENDS:
+                said = self._commands.run(text.strip().lower())
             else:
                 said = self.statement(text)
         except Interrupted as stopped:

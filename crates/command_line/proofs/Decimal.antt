@@ -1,5 +1,6 @@
 -- A text is read as a number exactly where it is one.
-use Rattle.std.proofs.Common.{◌≡◌, ◌∙◌, ℕ, ◌^◌, ◌<◌, Bool, true, false, ◌&&◌, List, [], ◌∷◌, Some, None, refl, sym, ap, arith, if◌then◌else◌}
+use Rattle.std.proofs.Common.{◌≡◌, ◌∙◌, ℕ, ◌^◌, ◌<◌, Bool, true, false, ◌&&◌, List, [], ◌∷◌, Some, None, refl, sym, ap, arith, get_or, ◌++◌, if◌then◌else◌}
+use Rattle.std.proofs.lemmas.Str.Parse.{without_leading_plus_none}
 use Rattle.std.specs.Prelude.{nat_lt}
 use Rattle.std.specs.Char.{digit_value}
 use Rattle.std.specs.Str.Parse.{AllDigits, IsNumeral, digits_value, without_leading_plus}
@@ -37,21 +38,36 @@ by_tests true true n p q = refl
 by_tests true false n p q = absurd cc
 by_tests false b n p q = absurd cc
 
+-- no text with a plus in front is a number
+pub signed : (rest : List ℕ) → None ≡ number_in (43 ∷ rest)
+signed rest = refl
+
+begins : (b : ℕ) (text : List ℕ) → get_or (b ∷ text) 0 0 ≡ 43 → ((rest : List ℕ) → b ∷ text ≡ 43 ∷ rest → ⊥) → ⊥
+begins b text is never = never text (ap (λ (c : ℕ). c ∷ text) is)
+
+-- a text without a plus
+no_plus : (text : List ℕ) → ((rest : List ℕ) → text ≡ 43 ∷ rest → ⊥) → get_or text 0 0 ≡ 43 → ⊥
+no_plus [] never is = absurd cc
+no_plus (b ∷ text) never is = begins b text is never
+
 -- what parsing a text of digits says
 abbrev Reads : List ℕ → Type 0
 Reads text = IsNumeral 10 (without_leading_plus text) × (digits_value 10 (without_leading_plus text) < 2 ^ 64)
 
-pub read : (text : List ℕ) (n : ℕ) → Reads text × (n ≡ digits_value 10 (without_leading_plus text)) → Some n ≡ number_in text
-read text n is =
+pub read : (text : List ℕ) (n : ℕ) → ((rest : List ℕ) → text ≡ 43 ∷ rest → ⊥) → Reads text × (n ≡ digits_value 10 (without_leading_plus text)) → Some n ≡ number_in text
+read text n never is =
     let ds = without_leading_plus text in
-    ap (λ (k : ℕ). Some k) is.1 ∙ sym (by_tests (is_numeral ds) (nat_lt (digits_value 10 ds) (2 ^ 64)) (digits_value 10 ds) (numeral ds is.0.0) (below (digits_value 10 ds) (2 ^ 64) is.0.1))
+    ap (λ (k : ℕ). Some k) is.1
+    ∙ sym (by_tests (is_numeral ds) (nat_lt (digits_value 10 ds) (2 ^ 64)) (digits_value 10 ds) (numeral ds is.0.0) (below (digits_value 10 ds) (2 ^ 64) is.0.1))
+    ∙ ap number_in (without_leading_plus_none text (no_plus text never))
 
 none_by : (a b : Bool) (n : ℕ) → ((a ≡ true) × (b ≡ true) → ⊥) → None ≡ (if a && b then Some n else None)
 none_by true true n never = absurd (never (refl, refl))
 none_by true false n never = refl
 none_by false b n never = refl
 
-pub not_read : (text : List ℕ) → (Reads text → ⊥) → None ≡ number_in text
-not_read text never =
+pub not_read : (text : List ℕ) → ((rest : List ℕ) → text ≡ 43 ∷ rest → ⊥) → (Reads text → ⊥) → None ≡ number_in text
+not_read text none never =
     let ds = without_leading_plus text in
     none_by (is_numeral ds) (nat_lt (digits_value 10 ds) (2 ^ 64)) (digits_value 10 ds) (λ h. never (is_one ds h.0, is_below (digits_value 10 ds) (2 ^ 64) h.1))
+    ∙ ap number_in (without_leading_plus_none text (no_plus text none))

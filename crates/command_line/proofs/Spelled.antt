@@ -1,6 +1,6 @@
 -- Words that spell an XID are read as it, and as no other.
-use Rattle.std.proofs.Common.{◌≡◌, ◌∙◌, ℕ, ◌+◌, ◌-◌, ◌^◌, ◌<◌, ◌≤◌, Bool, true, false, ltb, leb, ◌&&◌, List, [], ◌∷◌, length, take, drop, get_or, Option, Some, None, unwrap_or, Result, Ok, Err, refl, sym, ap, arith, inl, inr, append-nil, length-take, get_or-drop, get_or-take, if◌then◌else◌}
-use Rattle.std.specs.Prelude.{nat_lt, bytes_eq}
+use Rattle.std.proofs.Common.{◌≡◌, ◌∙◌, ℕ, ◌+◌, ◌-◌, ◌^◌, ◌<◌, ◌≤◌, Bool, true, false, ltb, leb, ◌&&◌, ◌==◌, subst, List, [], ◌∷◌, length, take, drop, get_or, Option, Some, None, unwrap_or, Result, Ok, Err, refl, sym, ap, arith, inl, inr, append-nil, length-take, get_or-drop, get_or-take, if◌then◌else◌}
+use Rattle.std.specs.Prelude.{nat_lt, bytes_eq, option_and_then}
 use Rattle.std.specs.Fmt.{decimal}
 use Rattle.std.specs.Result.{result_unwrap_or}
 use Rattle.std.specs.Char.{digit_value}
@@ -14,14 +14,14 @@ use Rattle.std.proofs.lemmas.Slice.Eq.{bytes_eq-Decides}
 use Rattle.std.proofs.lemmas.Str.Parse.{without_leading_plus_none}
 use Rattle.hex.specs.Hex.{decode_of, encode_lower}
 use Rattle.hex.specs.declared.error.FromHexError.{FromHexError}
-use Rattle.hex.proofs.HexLemmas.{decode_of-encode_lower, decode_of-ok}
+use Rattle.hex.proofs.HexLemmas.{decode_of-encode_lower, decode_of-odd, decode_of-ok}
 use Rattle.drda_words.specs.Bytes.{AreBytes}
 use Rattle.drda_words.specs.Place.{part}
 use Rattle.xa_calls.specs.Xid.{AreParts, Parts, begins_with_xid, number_at, parts_of, wire, xid_in, xid_length}
 use Rattle.xa_calls.proofs.Reading.{begins, parts_are, read_again, some_if, whole_length, wire-parts_of}
 use Rattle.command_line.specs.Number.{number_in}
 use Rattle.command_line.proofs.Decimal.{read as number_read}
-use Rattle.command_line.specs.Spelling.{ItsWordsAreRead, OnlyItsWordsAreRead, PrintedReadsBack, are_parts, bytes_said, format_in, part_in, part_word, xid_of, xid_said, xid_with}
+use Rattle.command_line.specs.Spelling.{ItsWordsAreRead, OnlyItsWordsAreRead, PrintedReadsBack, SaysPart, are_parts, bytes_in, bytes_said, format_in, part_in, part_word, split_at_colon, xid_in_one, xid_of, xid_said, xid_with}
 
 -- ---- tests
 
@@ -84,7 +84,7 @@ number_printed n less =
     let numeral = decimal_is_IsNumeral n less in
     let bare : without_leading_plus (decimal n) ≡ decimal n = without_leading_plus_none (decimal n) (no_plus (decimal n) numeral.0.1) in
     let value : digits_value 10 (without_leading_plus (decimal n)) ≡ n = ap (digits_value 10) bare ∙ numeral.1 in
-    number_read (decimal n) n ((rw bare numeral.0, rw value less), sym value)
+    number_read (decimal n) n (λ rest is. no_plus (decimal n) numeral.0.1 (ap (λ (l : List ℕ). get_or l 0 0) is)) ((rw bare numeral.0, rw value less), sym value)
 
 none_of : (o : Option ℕ) → ((n : ℕ) → o ≡ Some n → ⊥) → None ≡ o
 none_of None never = refl
@@ -110,26 +110,53 @@ no_number text is = none_of (format_in text) (λ m found. let f = format_read te
 digits_word : (b : ℕ) (bs : List ℕ) → part_word (b ∷ bs) ≡ encode_lower (b ∷ bs)
 digits_word b bs = grind (arith, nat_tests)
 
-pub said : (bytes : List ℕ) → AreBytes bytes → bytes_said (part_word bytes) ≡ bytes
-said [] are = refl
-said (b ∷ bs) are = ap bytes_said (digits_word b bs) ∙ ap (λ (r : Result (List ℕ) FromHexError). result_unwrap_or r []) (decode_of-encode_lower (b ∷ bs) are)
-
-pub part_printed : (bytes : List ℕ) → AreBytes bytes → part_in (part_word bytes) ≡ Some bytes
-part_printed bytes are =
-    let back = said bytes are in
-    taken _ (bytes_said (part_word bytes)) (is_equal (part_word bytes) (part_word (bytes_said (part_word bytes))) (sym (ap part_word back))) ∙ ap (λ (bs : List ℕ). Some bs) back
-
 none_are : AreBytes []
 none_are i = omega arith
 
-decoded : (text : List ℕ) (r : Result (List ℕ) FromHexError) → decode_of text ≡ r → AreBytes (result_unwrap_or r [])
-decoded text (Ok bytes) is = (decode_of-ok text bytes is).3
-decoded text (Err error) is = none_are
+says_part : (bytes : List ℕ) → AreBytes bytes → SaysPart (part_word bytes) bytes
+says_part [] are = refl
+says_part (b ∷ bs) are = ap decode_of (digits_word b bs) ∙ decode_of-encode_lower (b ∷ bs) are
 
-pub part_read : (text bytes : List ℕ) → part_in text ≡ Some bytes → AreBytes bytes × (text ≡ part_word bytes)
-part_read text bytes is =
-    let found = given _ (bytes_said text) bytes is in
-    (rw (← found.1) (decoded text (decode_of text) refl), equal text (part_word (bytes_said text)) found.0 ∙ ap part_word found.1)
+no_digits : (bytes : List ℕ) → decode_of (45 ∷ []) ≡ Ok bytes → ⊥
+no_digits bytes h = cc (sym (decode_of-odd (45 ∷ []) refl) ∙ h)
+
+-- digits are no hyphen
+digits_apart : (word bytes : List ℕ) (t : Bool) → bytes_eq word (45 ∷ []) ≡ t → decode_of word ≡ Ok bytes → t ≡ false
+digits_apart word bytes false test are = refl
+digits_apart word bytes true test are = absurd (no_digits bytes (sym (ap decode_of (equal word (45 ∷ []) test)) ∙ are))
+
+other : {A : Type 0} (t : Bool) (x y : A) → t ≡ false → (if t then x else y) ≡ y
+other true x y h = absurd cc
+other false x y h = refl
+
+some_bytes : (b : ℕ) (bs : List ℕ) → (if length (b ∷ bs) == 0 then None else Some (b ∷ bs)) ≡ Some (b ∷ bs)
+some_bytes b bs = other (length (b ∷ bs) == 0) None (Some (b ∷ bs)) (grind (arith, nat_tests))
+
+part_said : (word bytes : List ℕ) → SaysPart word bytes → part_in word ≡ Some bytes
+part_said word [] is = ap part_in is
+part_said word (b ∷ bs) are =
+    other (bytes_eq word (45 ∷ [])) (Some []) (bytes_in word) (digits_apart word (b ∷ bs) _ refl are)
+    ∙ ap (λ (r : Result (List ℕ) FromHexError). if length (result_unwrap_or r []) == 0 then None else Some (result_unwrap_or r [])) are ∙ some_bytes b bs
+
+pub part_printed : (bytes : List ℕ) → AreBytes bytes → part_in (part_word bytes) ≡ Some bytes
+part_printed bytes are = part_said (part_word bytes) bytes (says_part bytes are)
+
+left : (t : Bool) (x y : List ℕ) → (if t then None else Some x) ≡ Some y → x ≡ y
+left true x y h = absurd cc
+left false x y h = cc
+
+digits_read : (word bytes : List ℕ) (r : Result (List ℕ) FromHexError) → decode_of word ≡ r → (if length (result_unwrap_or r []) == 0 then None else Some (result_unwrap_or r [])) ≡ Some bytes → AreBytes bytes × SaysPart word bytes
+digits_read word bytes (Err error) said is = absurd cc
+digits_read word bytes (Ok []) said is = absurd cc
+digits_read word bytes (Ok (b ∷ bs)) said is =
+    subst (λ (x : List ℕ). AreBytes x × SaysPart word x) (left (length (b ∷ bs) == 0) (b ∷ bs) bytes is) ((decode_of-ok word (b ∷ bs) said).3, said)
+
+by_test : (word bytes : List ℕ) (t : Bool) → bytes_eq word (45 ∷ []) ≡ t → (if t then Some [] else bytes_in word) ≡ Some bytes → AreBytes bytes × SaysPart word bytes
+by_test word bytes true test is = subst (λ (x : List ℕ). AreBytes x × SaysPart word x) (left false [] bytes is) (none_are, equal word (45 ∷ []) test)
+by_test word bytes false test is = digits_read word bytes (decode_of word) refl is
+
+pub part_read : (word bytes : List ℕ) → part_in word ≡ Some bytes → AreBytes bytes × SaysPart word bytes
+part_read word bytes is = by_test word bytes (bytes_eq word (45 ∷ [])) refl is
 
 -- ---- the parts of an XID
 
@@ -221,9 +248,10 @@ pub read : ItsWordsAreRead
 read format global branch xid s =
     let p = s.parts in
     ap (λ (t : List ℕ). xid_said t global branch) s.format_is
-    ∙ ap (λ (t : List ℕ). xid_said (decimal p.format) t branch) s.global_is
-    ∙ ap (λ (t : List ℕ). xid_said (decimal p.format) (part_word p.global) t) s.branch_is
-    ∙ said_of p s.are s.is_bytes.0 s.is_bytes.1 ∙ ap (λ (x : List ℕ). Some x) (sym s.xid_is)
+    ∙ ap (λ (o : Option ℕ). xid_with o (part_in global) (part_in branch)) (format_printed p.format (omega (arith, s.are.not_null)))
+    ∙ ap (λ (o : Option (List ℕ)). xid_with (Some p.format) o (part_in branch)) (part_said global p.global s.global_is)
+    ∙ ap (λ (o : Option (List ℕ)). xid_with (Some p.format) (Some p.global) o) (part_said branch p.branch s.branch_is)
+    ∙ taken (are_parts p) (wire p) (are_some p s.are) ∙ ap (λ (x : List ℕ). Some x) (sym s.xid_is)
 
 part_of_bytes : (text : List ℕ) (at n : ℕ) → AreBytes text → AreBytes (part text at n)
 part_of_bytes text at n h i =
@@ -239,3 +267,18 @@ printed xid bytes whole =
     let b = begins xid size.0 in
     let written : wire p ≡ xid = wire-parts_of xid bytes b ∙ (some_if (begins_with_xid xid) (take (xid_length xid) xid) xid whole).1 in
     said_of p (parts_are xid b) (part_of_bytes xid 12 (number_at xid 4) bytes) (part_of_bytes xid (12 + number_at xid 4) (number_at xid 8) bytes) ∙ ap (λ (x : List ℕ). Some x) written
+
+-- ---- in one word
+
+pub one_word : (text format rest global branch : List ℕ) → Some (format, rest) ≡ split_at_colon text → Some (global, branch) ≡ split_at_colon rest → xid_said format global branch ≡ xid_in_one text
+one_word text format rest global branch first second =
+    ap (λ (o : Option (List ℕ × List ℕ)). option_and_then (λ (b : List ℕ × List ℕ). xid_said format b.0 b.1) o) second
+    ∙ ap (λ (o : Option (List ℕ × List ℕ)). option_and_then (λ (f : List ℕ × List ℕ). option_and_then (λ (b : List ℕ × List ℕ). xid_said f.0 b.0 b.1) (split_at_colon f.1)) o) first
+
+pub no_colon : (text : List ℕ) → None ≡ split_at_colon text → None ≡ xid_in_one text
+no_colon text none = ap (λ (o : Option (List ℕ × List ℕ)). option_and_then (λ (f : List ℕ × List ℕ). option_and_then (λ (b : List ℕ × List ℕ). xid_said f.0 b.0 b.1) (split_at_colon f.1)) o) none
+
+pub one_colon : (text format rest : List ℕ) → Some (format, rest) ≡ split_at_colon text → None ≡ split_at_colon rest → None ≡ xid_in_one text
+one_colon text format rest first none =
+    ap (λ (o : Option (List ℕ × List ℕ)). option_and_then (λ (b : List ℕ × List ℕ). xid_said format b.0 b.1) o) none
+    ∙ ap (λ (o : Option (List ℕ × List ℕ)). option_and_then (λ (f : List ℕ × List ℕ). option_and_then (λ (b : List ℕ × List ℕ). xid_said f.0 b.0 b.1) (split_at_colon f.1)) o) first

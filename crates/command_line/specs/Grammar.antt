@@ -3,9 +3,12 @@
 --   drdad pipe [PATH] [--rdb NAME] [--user U:P] [--user-file FILE]
 --   drdad serve PATH --port N [--user U:P] [--user-file FILE] [--count N] [--idle N] [--log]
 --   drdad indoubt PATH
+--   drdad decide PATH XID DECISION
 --   drdad decide PATH FORMAT GLOBAL BRANCH DECISION
 --   drdad room PATH
 --   drdad check PATH
+--   drdad tables PATH
+--   drdad dump PATH
 --   drdad version
 use Rattle.std.specs.Prelude.{◌≡◌, true, false, List, [], ◌∷◌, Option, Some, codes}
 use Rattle.clap.specs.declared.builder.action.ArgAction.TheVariants.{SetTrue}
@@ -50,14 +53,21 @@ serve = with_rule (with_rule (with_rule (with_rule (with_rule (with_rule (with_r
 abbrev pub in_doubt : App
 in_doubt = with_rule (new_app (codes "indoubt")) (needed_word (codes "path"))
 
+-- two words behind the path, or four
 abbrev pub decide : App
-decide = with_rule (with_rule (with_rule (with_rule (with_rule (new_app (codes "decide")) (needed_word (codes "path"))) (needed_word (codes "format"))) (needed_word (codes "global"))) (needed_word (codes "branch"))) (needed_word (codes "decision"))
+decide = with_rule (with_rule (with_rule (with_rule (with_rule (new_app (codes "decide")) (needed_word (codes "path"))) (needed_word (codes "xid"))) (needed_word (codes "decision"))) (word_rule (codes "branch"))) (word_rule (codes "last"))
 
 abbrev pub room : App
 room = with_rule (new_app (codes "room")) (needed_word (codes "path"))
 
 abbrev pub check : App
 check = with_rule (new_app (codes "check")) (needed_word (codes "path"))
+
+abbrev pub tables : App
+tables = with_rule (new_app (codes "tables")) (needed_word (codes "path"))
+
+abbrev pub dump : App
+dump = with_rule (new_app (codes "dump")) (needed_word (codes "path"))
 
 abbrev pub version : App
 version = new_app (codes "version")
@@ -70,8 +80,12 @@ nothing_yet = record (new_app (codes "drdad")) { top = record (new_app (codes "d
 abbrev pub serving : App
 serving = with_subcommand (with_subcommand (with_subcommand (with_subcommand nothing_yet init.top) pipe.top) serve.top) in_doubt.top
 
+-- with what tells of one that is not served
+abbrev pub telling : App
+telling = with_subcommand (with_subcommand (with_subcommand (with_subcommand serving decide.top) room.top) check.top) tables.top
+
 abbrev pub drdad : App
-drdad = with_subcommand (with_subcommand (with_subcommand (with_subcommand serving decide.top) room.top) check.top) version.top
+drdad = with_subcommand (with_subcommand telling dump.top) version.top
 
 -- what is wrong with the words
 unfoldable pub faults : List Text → Kinds

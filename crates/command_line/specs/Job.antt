@@ -4,7 +4,7 @@ use Rattle.std.specs.List.{position_or_len, before_first, after_first}
 use Rattle.clap.specs.Words.{Kinds, Row, Text, first_of}
 use Rattle.command_line.specs.Grammar.{faults, given}
 use Rattle.command_line.specs.Number.{number_in, port_in, seconds_in}
-use Rattle.command_line.specs.Spelling.{xid_said}
+use Rattle.command_line.specs.Spelling.{is_colon, xid_in_one, xid_said}
 use Rattle.xa_manager.specs.declared.due.Decision.{Decision}
 use Rattle.xa_manager.specs.declared.due.Decision.TheVariants.{Commit, RollBack}
 use Rattle.command_line.specs.declared.job.Job.{Job as CodeJob}
@@ -35,6 +35,8 @@ pub data Job : Type 0 where
   decide : Text → List ℕ → Decision → Job
   room : Text → Job
   check : Text → Job
+  tables : Text → Job
+  dump : Text → Job
   version : Job
 
 abbrev pub plain_login : CodeLogin → Login
@@ -52,12 +54,11 @@ plain_job (code.InDoubt path) = in_doubt path.now
 plain_job (code.Decide path xid decision) = decide path.now xid decision
 plain_job (code.Room path) = room path.now
 plain_job (code.Check path) = check path.now
+plain_job (code.Tables path) = tables path.now
+plain_job (code.Dump path) = dump path.now
 plain_job code.Version = version
 
 -- ---- what texts say
-
-abbrev pub is_colon : ℕ → Bool
-is_colon b = b == 58
 
 -- U:P, split at the first colon
 abbrev pub login_in : Text → Option Login
@@ -134,19 +135,31 @@ in_doubt_by path = option_map (λ (p : Text). in_doubt p) path
 abbrev pub decision_in : Text → Option Decision
 decision_in text = if bytes_eq text (codes "commit") then Some Commit else (if bytes_eq text (codes "rollback") then Some RollBack else None)
 
-abbrev pub xid_by : Option Text → Option Text → Option Text → Option (List ℕ)
-xid_by (Some format) (Some global) (Some branch) = xid_said format global branch
-xid_by format global branch = None
+abbrev pub decide_with : Text → Option (List ℕ) → Text → Option Job
+decide_with path (Some xid) decision = option_map (λ (d : Decision). decide path xid d) (decision_in decision)
+decide_with path None decision = None
 
-abbrev pub decide_by : Option Text → Option (List ℕ) → Option Text → Option Job
-decide_by (Some path) (Some xid) (Some decision) = option_map (λ (d : Decision). decide path xid d) (decision_in decision)
-decide_by path xid decision = None
+-- an XID in one word, and the decision; or an XID in three words, and the decision
+abbrev pub decide_in : Text → Text → Text → Option Text → Option Text → Option Job
+decide_in path xid decision None None = decide_with path (xid_in_one xid) decision
+decide_in path format global (Some branch) (Some decision) = decide_with path (xid_said format global branch) decision
+decide_in path xid decision branch last = None
+
+abbrev pub decide_by : Option Text → Option Text → Option Text → Option Text → Option Text → Option Job
+decide_by (Some path) (Some xid) (Some decision) branch last = decide_in path xid decision branch last
+decide_by path xid decision branch last = None
 
 abbrev pub room_by : Option Text → Option Job
 room_by path = option_map (λ (p : Text). room p) path
 
 abbrev pub check_by : Option Text → Option Job
 check_by path = option_map (λ (p : Text). check p) path
+
+abbrev pub tables_by : Option Text → Option Job
+tables_by path = option_map (λ (p : Text). tables p) path
+
+abbrev pub dump_by : Option Text → Option Job
+dump_by path = option_map (λ (p : Text). dump p) path
 
 -- ---- what words say
 
@@ -159,10 +172,12 @@ said_to name rows =
     else (if bytes_eq name (codes "pipe") then pipe_by (value rows (codes "path")) (value rows (codes "rdb")) (value rows (codes "user")) (value rows (codes "user-file"))
     else (if bytes_eq name (codes "serve") then serve_by (value rows (codes "path")) (value rows (codes "port")) (value rows (codes "user")) (value rows (codes "user-file")) (options_by (value rows (codes "count")) (value rows (codes "idle")) (value rows (codes "log")))
     else (if bytes_eq name (codes "indoubt") then in_doubt_by (value rows (codes "path"))
-    else (if bytes_eq name (codes "decide") then decide_by (value rows (codes "path")) (xid_by (value rows (codes "format")) (value rows (codes "global")) (value rows (codes "branch"))) (value rows (codes "decision"))
+    else (if bytes_eq name (codes "decide") then decide_by (value rows (codes "path")) (value rows (codes "xid")) (value rows (codes "decision")) (value rows (codes "branch")) (value rows (codes "last"))
     else (if bytes_eq name (codes "room") then room_by (value rows (codes "path"))
     else (if bytes_eq name (codes "check") then check_by (value rows (codes "path"))
-    else (if bytes_eq name (codes "version") then Some version else None)))))))
+    else (if bytes_eq name (codes "tables") then tables_by (value rows (codes "path"))
+    else (if bytes_eq name (codes "dump") then dump_by (value rows (codes "path"))
+    else (if bytes_eq name (codes "version") then Some version else None)))))))))
 
 abbrev pub said_by : Kinds → Option (Text × List Row) → Option Job
 said_by [] (Some sub) = said_to sub.0 sub.1

@@ -1,7 +1,7 @@
--- Unsigned decimal numbers of 64 bits. A plus may stand first.
+-- Unsigned decimal numbers of 64 bits, without a sign.
 use Rattle.std.specs.Prelude.{ℕ, ◌^◌, ◌&&◌, Bool, true, false, nat_lt, [], ◌∷◌, Option, Some, None, if◌then◌else◌}
 use Rattle.std.specs.Char.{digit_value}
-use Rattle.std.specs.Str.Parse.{digits_value, without_leading_plus}
+use Rattle.std.specs.Str.Parse.{digits_value}
 use Rattle.clap.specs.Words.{Text}
 
 -- decimal digits alone, and one at least
@@ -13,11 +13,8 @@ abbrev pub is_numeral : Text → Bool
 is_numeral [] = false
 is_numeral (c ∷ cs) = are_digits (c ∷ cs)
 
-abbrev pub number_by : Text → Option ℕ
-number_by ds = if is_numeral ds && nat_lt (digits_value 10 ds) (2 ^ 64) then Some (digits_value 10 ds) else None
-
 abbrev pub number_in : Text → Option ℕ
-number_in text = number_by (without_leading_plus text)
+number_in text = if is_numeral text && nat_lt (digits_value 10 text) (2 ^ 64) then Some (digits_value 10 text) else None
 
 -- a port has 16 bits
 abbrev pub port_by : Option ℕ → Option ℕ

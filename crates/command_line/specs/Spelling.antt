@@ -1,6 +1,7 @@
--- How an XID is spelled in words, which is how it is printed, and the only way in which it is read: its format number in decimal, and
--- each of its two parts in hexadecimal digits, or as a hyphen where it is empty.
-use Rattle.std.specs.Prelude.{◌≡◌, ℕ, ◌-◌, ◌^◌, ◌&&◌, Bool, ◌==◌, nat_le, nat_lt, List, [], ◌∷◌, ◌++◌, length, Option, Some, None, bytes_eq, if◌then◌else◌}
+-- How an XID is spelled in words: its format number in decimal, and each of its two parts in hexadecimal digits, or as a hyphen where
+-- it is empty. Digits are printed in lower case, and read in either.
+use Rattle.std.specs.Prelude.{◌≡◌, ℕ, ◌-◌, ◌^◌, ◌&&◌, Bool, ◌==◌, nat_le, nat_lt, List, [], ◌∷◌, ◌++◌, length, Option, Some, None, Ok, bytes_eq, if◌then◌else◌, option_and_then}
+use Rattle.std.specs.List.{position_or_len, before_first, after_first}
 use Rattle.std.specs.Fmt.{decimal}
 use Rattle.std.specs.Result.{result_unwrap_or}
 use Rattle.std.specs.Str.Parse.{digits_value}
@@ -19,6 +20,10 @@ part_word bytes = if length bytes == 0 then 45 ∷ [] else encode_lower bytes
 abbrev pub xid_text : List ℕ → Text
 xid_text xid = decimal (parts_of xid).format ++ ((32 ∷ part_word (parts_of xid).global) ++ (32 ∷ part_word (parts_of xid).branch))
 
+-- one word, with colons between its parts
+abbrev pub xid_word : List ℕ → Text
+xid_word xid = decimal (parts_of xid).format ++ ((58 ∷ part_word (parts_of xid).global) ++ (58 ∷ part_word (parts_of xid).branch))
+
 -- ---- reading
 
 -- the number of 32 bits that is printed so
@@ -29,9 +34,13 @@ format_in text = if nat_lt (digits_value 10 text) (2 ^ 32) && bytes_eq text (dec
 abbrev pub bytes_said : Text → List ℕ
 bytes_said text = result_unwrap_or (decode_of text) []
 
--- the bytes that are printed so
+-- one byte at least
+abbrev pub bytes_in : Text → Option (List ℕ)
+bytes_in text = if length (bytes_said text) == 0 then None else Some (bytes_said text)
+
+-- the bytes of a part: none by a hyphen
 abbrev pub part_in : Text → Option (List ℕ)
-part_in text = if bytes_eq text (part_word (bytes_said text)) then Some (bytes_said text) else None
+part_in text = if bytes_eq text (45 ∷ []) then Some [] else bytes_in text
 
 -- an XID has such parts
 abbrev pub are_parts : Parts → Bool
@@ -48,7 +57,23 @@ xid_with format global branch = None
 abbrev pub xid_said : Text → Text → Text → Option (List ℕ)
 xid_said format global branch = xid_with (format_in format) (part_in global) (part_in branch)
 
+abbrev pub is_colon : ℕ → Bool
+is_colon b = b == 58
+
+-- what stands in front of the first colon of a text, and what stands behind it
+abbrev pub split_at_colon : Text → Option (Text × Text)
+split_at_colon text = if nat_lt (position_or_len is_colon text) (length text) then Some (before_first is_colon text, after_first is_colon text) else None
+
+-- the XID that one word spells, with colons between its parts
+abbrev pub xid_in_one : Text → Option (List ℕ)
+xid_in_one text = option_and_then (λ (front : Text × Text). option_and_then (λ (rest : Text × Text). xid_said front.0 rest.0 rest.1) (split_at_colon front.1)) (split_at_colon text)
+
 -- ---- laws
+
+-- a word says these bytes of a part: a hyphen none, and else two digits in either case one byte
+abbrev pub SaysPart : Text → List ℕ → Type 0
+SaysPart word [] = word ≡ 45 ∷ []
+SaysPart word (b ∷ bs) = decode_of word ≡ Ok (b ∷ bs)
 
 -- the words are those of this XID
 pub record Spells (format global branch : Text) (xid : List ℕ) : Type 0 where
@@ -57,8 +82,8 @@ pub record Spells (format global branch : Text) (xid : List ℕ) : Type 0 where
   pub is_bytes : AreBytes parts.global × AreBytes parts.branch
   pub xid_is : xid ≡ wire parts
   pub format_is : format ≡ decimal parts.format
-  pub global_is : global ≡ part_word parts.global
-  pub branch_is : branch ≡ part_word parts.branch
+  pub global_is : SaysPart global parts.global
+  pub branch_is : SaysPart branch parts.branch
 
 -- what is read is spelled so
 abbrev pub OnlyItsWordsAreRead : Type 0

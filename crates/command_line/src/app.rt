@@ -103,24 +103,24 @@ static NOTHING: [Word<'static>; 0] = [];
 static DECIDE: [Word<'static>; 5] = [
     STORE,
     Word {
-        id: "format",
+        id: "xid",
         kind: Kind::NeededWord,
-        help: "The format number of its XID, as indoubt prints it",
-    },
-    Word {
-        id: "global",
-        kind: Kind::NeededWord,
-        help: "The global part of its XID, as indoubt prints it",
-    },
-    Word {
-        id: "branch",
-        kind: Kind::NeededWord,
-        help: "The branch part of its XID, as indoubt prints it",
+        help: "Its XID, FORMAT:GLOBAL:BRANCH; or FORMAT alone, in the first of the three words that indoubt prints",
     },
     Word {
         id: "decision",
         kind: Kind::NeededWord,
-        help: "commit or rollback",
+        help: "commit or rollback; behind FORMAT alone, GLOBAL",
+    },
+    Word {
+        id: "branch",
+        kind: Kind::Word,
+        help: "BRANCH, behind FORMAT and GLOBAL alone",
+    },
+    Word {
+        id: "last",
+        kind: Kind::Word,
+        help: "commit or rollback, behind three words",
     },
 ];
 
@@ -194,6 +194,16 @@ pub(crate) fn drdad<'a>(alloc: Global) -> Result<Command<'a>, AllocError>
             Subcommand {
                 name: "check",
                 about: "Tells whether a store is whole",
+                words: &STORE_ALONE,
+            },
+            Subcommand {
+                name: "tables",
+                about: "Prints the CREATE TABLE of each table of a store, with its rows and pages in a comment",
+                words: &STORE_ALONE,
+            },
+            Subcommand {
+                name: "dump",
+                about: "Prints the SQL that makes the tables of a store anew",
                 words: &STORE_ALONE,
             },
             Subcommand {

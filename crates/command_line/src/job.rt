@@ -61,8 +61,8 @@ pub enum Job<'a> {
     InDoubt {
         path: &'a str,
     },
-    /// `decide PATH FORMAT GLOBAL BRANCH commit|rollback`: the unit in doubt of this XID is decided so, without its
-    /// transaction manager.
+    /// `decide PATH FORMAT:GLOBAL:BRANCH commit|rollback`, or with these parts in words of their own: the unit in doubt of
+    /// this XID is decided so, without its transaction manager.
     Decide {
         path: &'a str,
         xid: Xid,
@@ -74,6 +74,14 @@ pub enum Job<'a> {
     },
     /// `check PATH`: whether a store is whole.
     Check {
+        path: &'a str,
+    },
+    /// `tables PATH`: the tables of a store.
+    Tables {
+        path: &'a str,
+    },
+    /// `dump PATH`: the SQL that makes the tables of a store anew.
+    Dump {
         path: &'a str,
     },
     /// `version`: the version of the program.

@@ -2,6 +2,7 @@
 #![tactic(auto)]
 
 mod app;
+mod bad_words;
 mod job;
 mod logins;
 mod numbers;
@@ -10,7 +11,8 @@ mod texts;
 mod word;
 mod words;
 
+pub use bad_words::{NAME_WANTED, SIZE_WANTED, tell_bad};
 pub use job::{Job, Login, LoginSource, ServeOptions};
 pub use logins::login_in_file;
-pub use spelling::{words_spell_one_xid, xid_text};
+pub use spelling::{words_spell_one_xid, xid_text, xid_word};
 pub use words::{BadWords, job_of};

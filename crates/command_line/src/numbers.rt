@@ -3,13 +3,16 @@
 ghost use Rattle.std.specs.Prelude.{◌≡◌};
 ghost use Rattle.command_line.specs.Number as spec;
 
-/// The unsigned decimal number of 64 bits that a text is.
+/// The unsigned decimal number of 64 bits that a text is, without a sign.
 pub(crate) fn number_in(text: &str) -> Option<u64>
     ensures { result ≡ spec.number_in text.now }
 {
-    match text.parse::<u64>() {
-        Ok(number) => Some(number),
-        Err(_) => None,
+    match text.strip_prefix('+') {
+        Some(_) => None,
+        None => match text.parse::<u64>() {
+            Ok(number) => Some(number),
+            Err(_) => None,
+        },
     }
 }
 

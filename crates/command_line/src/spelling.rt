@@ -20,14 +20,46 @@ pub fn xid_text(alloc: Global, xid: &Xid) -> Result<String, AllocError>
     format!(in alloc; "{format} {global} {branch}")
 }
 
-/// What is printed of an XID reads back to it, and no other words are read as it.
+/// The same in one word, with colons in the place of the blanks.
+pub fn xid_word(alloc: Global, xid: &Xid) -> Result<String, AllocError>
+    ensures { IfOk result (λ word. string_bytes word ≡ spec.xid_word xid.now) }
+{
+    let format = xid.format();
+    let global = part_word(alloc, xid.global())?;
+    let branch = part_word(alloc, xid.branch())?;
+    format!(in alloc; "{format}:{global}:{branch}")
+}
+
+/// What is printed of an XID reads back to it, and so do its digits in the other case; no other words are read as it.
 pub fn words_spell_one_xid()
     ensures only { spec.OnlyItsWordsAreRead }
     ensures read { spec.ItsWordsAreRead }
     ensures printed { spec.PrintedReadsBack }
 {}
 
-/// The XID that three words spell as `xid_text` does. None where they are no such words, or what they say is no XID's.
+/// The XID that one word spells: its three parts with colons between them.
+pub(crate) fn xid_in_one(alloc: Global, text: &str) -> Result<Option<Xid>, AllocError>
+    ensures { IfOk result (λ found. found ≡ spec.xid_in_one text.now) }
+{
+    let Some((format, rest)) = split_at_colon(text) else {
+        return Ok(None);
+    };
+    let Some((global, branch)) = split_at_colon(rest) else {
+        return Ok(None);
+    };
+    xid_in(alloc, format, global, branch)
+}
+
+// What stands in front of the first colon, and what stands behind it.
+fn split_at_colon<'a>(text: &'a str) -> Option<(&'a str, &'a str)>
+    ensures { option_map (λ p. (p.0.now, p.1.now)) result ≡ spec.split_at_colon text.now }
+{
+    let (front, rest) = text.split_once(':')?;
+    Some((front, rest))
+}
+
+/// The XID that three words spell as `xid_text` does, with digits in either case. None where they are no such words, or what
+/// they say is no XID's.
 pub(crate) fn xid_in(
     alloc: Global,
     format: &str,
@@ -77,16 +109,26 @@ fn format_in(alloc: Global, text: &str) -> Result<Option<u32>, AllocError>
     }
 }
 
-// The bytes that are printed so.
+// The bytes that a part's word says: none by a hyphen.
 fn part_in(alloc: Global, text: &str) -> Result<Option<Vec<u8>>, AllocError>
     ensures { IfOk result (λ found. option_map vec_items found ≡ spec.part_in text.now) }
 {
-    let bytes = bytes_said(alloc, text)?;
-    let word = part_word(alloc, &bytes)?;
-    if text == word.as_str() {
-        Ok(Some(bytes))
+    if text == "-" {
+        Ok(Some(Vec::new(alloc)))
     } else {
+        bytes_in(alloc, text)
+    }
+}
+
+// The bytes that pairs of digits say, one at least.
+fn bytes_in(alloc: Global, text: &str) -> Result<Option<Vec<u8>>, AllocError>
+    ensures { IfOk result (λ found. option_map vec_items found ≡ spec.bytes_in text.now) }
+{
+    let bytes = bytes_said(alloc, text)?;
+    if bytes.is_empty() {
         Ok(None)
+    } else {
+        Ok(Some(bytes))
     }
 }
 

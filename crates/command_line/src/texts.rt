@@ -6,7 +6,7 @@ ghost use Rattle.command_line.specs.Job as spec;
 use crate::job::{Job, LoginSource, ServeOptions};
 use crate::logins::login_in;
 use crate::numbers::{number_in, port_in, seconds_in};
-use crate::spelling::xid_in;
+use crate::spelling::{xid_in, xid_in_one};
 use std::alloc::{AllocError, Global};
 use xa_calls::Xid;
 use xa_manager::Decision;
@@ -87,15 +87,47 @@ pub(crate) fn in_doubt_by<'a>(path: Option<&'a str>) -> Option<Job<'a>>
 }
 
 pub(crate) fn decide_by<'a>(
+    alloc: Global,
     path: Option<&'a str>,
-    xid: Option<Xid>,
+    xid: Option<&str>,
     decision: Option<&str>,
-) -> Option<Job<'a>>
-    ensures { option_map spec.plain_job result ≡ spec.decide_by (option_map (λ p. p.now) path.entry) xid (option_map (λ d. d.now) decision.entry) }
+    branch: Option<&str>,
+    last: Option<&str>,
+) -> Result<Option<Job<'a>>, AllocError>
+    ensures { IfOk result (λ job. option_map spec.plain_job job ≡ spec.decide_by (option_map (λ p. p.now) path.entry) (option_map (λ x. x.now) xid.entry) (option_map (λ d. d.now) decision.entry) (option_map (λ b. b.now) branch.entry) (option_map (λ l. l.now) last.entry)) }
 {
-    let (Some(path), Some(xid), Some(decision)) = (path, xid, decision) else {
-        return None;
-    };
+    match (path, xid, decision) {
+        (Some(path), Some(xid), Some(decision)) => {
+            decide_in(alloc, path, xid, decision, branch, last)
+        }
+        _ => Ok(None),
+    }
+}
+
+// By two words or by four.
+fn decide_in<'a>(
+    alloc: Global,
+    path: &'a str,
+    xid: &str,
+    decision: &str,
+    branch: Option<&str>,
+    last: Option<&str>,
+) -> Result<Option<Job<'a>>, AllocError>
+    ensures { IfOk result (λ job. option_map spec.plain_job job ≡ spec.decide_in path.now xid.now decision.now (option_map (λ b. b.now) branch.entry) (option_map (λ l. l.now) last.entry)) }
+{
+    match (branch, last) {
+        (None, None) => Ok(decide_with(path, xid_in_one(alloc, xid)?, decision)),
+        (Some(branch), Some(last)) => {
+            Ok(decide_with(path, xid_in(alloc, xid, decision, branch)?, last))
+        }
+        _ => Ok(None),
+    }
+}
+
+fn decide_with<'a>(path: &'a str, xid: Option<Xid>, decision: &str) -> Option<Job<'a>>
+    ensures { option_map spec.plain_job result ≡ spec.decide_with path.now xid decision.now }
+{
+    let xid = xid?;
     let decision = decision_in(decision)?;
     Some(Job::Decide {
         path,
@@ -104,23 +136,8 @@ pub(crate) fn decide_by<'a>(
     })
 }
 
-/// The XID that the words for its parts spell, where all three are given.
-pub(crate) fn xid_by(
-    alloc: Global,
-    format: Option<&str>,
-    global: Option<&str>,
-    branch: Option<&str>,
-) -> Result<Option<Xid>, AllocError>
-    ensures { IfOk result (λ xid. xid ≡ spec.xid_by (option_map (λ f. f.now) format.entry) (option_map (λ g. g.now) global.entry) (option_map (λ b. b.now) branch.entry)) }
-{
-    match (format, global, branch) {
-        (Some(format), Some(global), Some(branch)) => xid_in(alloc, format, global, branch),
-        _ => Ok(None),
-    }
-}
-
-// How a unit is decided, as its word says.
-fn decision_in(text: &str) -> Option<Decision>
+/// How a unit is decided, as its word says.
+pub(crate) fn decision_in(text: &str) -> Option<Decision>
     ensures { result ≡ spec.decision_in text.now }
 {
     match text {
@@ -144,6 +161,24 @@ pub(crate) fn check_by<'a>(path: Option<&'a str>) -> Option<Job<'a>>
 {
     match path {
         Some(path) => Some(Job::Check { path }),
+        None => None,
+    }
+}
+
+pub(crate) fn tables_by<'a>(path: Option<&'a str>) -> Option<Job<'a>>
+    ensures { option_map spec.plain_job result ≡ spec.tables_by (option_map (λ p. p.now) path.entry) }
+{
+    match path {
+        Some(path) => Some(Job::Tables { path }),
+        None => None,
+    }
+}
+
+pub(crate) fn dump_by<'a>(path: Option<&'a str>) -> Option<Job<'a>>
+    ensures { option_map spec.plain_job result ≡ spec.dump_by (option_map (λ p. p.now) path.entry) }
+{
+    match path {
+        Some(path) => Some(Job::Dump { path }),
         None => None,
     }
 }

@@ -6,9 +6,11 @@ ghost use Rattle.command_line.specs.Job as spec;
 ghost use Rattle.command_line.specs.Reading.{Parses, Says, Tells};
 
 use crate::app::drdad;
+use crate::bad_words::tell_bad_word;
 use crate::job::Job;
 use crate::texts::{
-    check_by, decide_by, in_doubt_by, init_by, options_by, pipe_by, room_by, serve_by, xid_by,
+    check_by, decide_by, dump_by, in_doubt_by, init_by, options_by, pipe_by, room_by, serve_by,
+    tables_by,
 };
 use clap::ArgMatches;
 use clap::error::ErrorKind;
@@ -64,8 +66,8 @@ pub fn parse_words<'a, S: AsStr>(
 /// The job that words of `drdad` ask for, the program's name first, lent from them. `NoJob` comes
 /// exactly where they ask for none: they are none of the grammar's, or a number is none, a port has
 /// more than 16 bits, seconds are 0 or more than 4,294,967, a U:P has no colon, or a login is asked for and there
-/// is none or two, or an XID is spelled otherwise than `xid_text` does, or is none. What the parser of words has to say
-/// is appended to `said`.
+/// is none or two, or an XID is spelled otherwise than `xid_text` or `xid_word` does, but for the case of its digits, or is
+/// none. What the parser of words has to say is appended to `said`, or a line that says which word is bad.
 pub fn job_of<'a, S: AsStr>(
     alloc: Global,
     words: &'a [S],
@@ -77,7 +79,10 @@ pub fn job_of<'a, S: AsStr>(
     let matches = parse_words(alloc, words, said)?;
     match job_in(alloc, &matches) {
         Ok(Some(job)) => Ok(job),
-        Ok(None) => Err(BadWords::NoJob),
+        Ok(None) => {
+            tell_bad_word(&matches, said);
+            Err(BadWords::NoJob)
+        }
         Err(AllocError) => Err(BadWords::NoMemory),
     }
 }
@@ -97,6 +102,8 @@ fn job_in<'a>(alloc: Global, matches: &ArgMatches<'a>) -> Result<Option<Job<'a>>
         "decide" => decide_in(alloc, given),
         "room" => Ok(room_in(given)),
         "check" => Ok(check_in(given)),
+        "tables" => Ok(tables_in(given)),
+        "dump" => Ok(dump_in(given)),
         "version" => Ok(Some(Job::Version)),
         _ => Ok(None),
     }
@@ -146,15 +153,16 @@ fn in_doubt_in<'a>(given: &ArgMatches<'a>) -> Option<Job<'a>>
 }
 
 fn decide_in<'a>(alloc: Global, given: &ArgMatches<'a>) -> Result<Option<Job<'a>>, AllocError>
-    ensures { IfOk result (λ job. option_map spec.plain_job job ≡ spec.decide_by (spec.value (rows_of (found_of given.now)) (codes "path")) (spec.xid_by (spec.value (rows_of (found_of given.now)) (codes "format")) (spec.value (rows_of (found_of given.now)) (codes "global")) (spec.value (rows_of (found_of given.now)) (codes "branch"))) (spec.value (rows_of (found_of given.now)) (codes "decision"))) }
+    ensures { IfOk result (λ job. option_map spec.plain_job job ≡ spec.decide_by (spec.value (rows_of (found_of given.now)) (codes "path")) (spec.value (rows_of (found_of given.now)) (codes "xid")) (spec.value (rows_of (found_of given.now)) (codes "decision")) (spec.value (rows_of (found_of given.now)) (codes "branch")) (spec.value (rows_of (found_of given.now)) (codes "last"))) }
 {
-    let xid = xid_by(
+    decide_by(
         alloc,
-        given.get_str("format"),
-        given.get_str("global"),
+        given.get_str("path"),
+        given.get_str("xid"),
+        given.get_str("decision"),
         given.get_str("branch"),
-    )?;
-    Ok(decide_by(given.get_str("path"), xid, given.get_str("decision")))
+        given.get_str("last"),
+    )
 }
 
 fn room_in<'a>(given: &ArgMatches<'a>) -> Option<Job<'a>>
@@ -167,4 +175,16 @@ fn check_in<'a>(given: &ArgMatches<'a>) -> Option<Job<'a>>
     ensures { option_map spec.plain_job result ≡ spec.check_by (spec.value (rows_of (found_of given.now)) (codes "path")) }
 {
     check_by(given.get_str("path"))
+}
+
+fn tables_in<'a>(given: &ArgMatches<'a>) -> Option<Job<'a>>
+    ensures { option_map spec.plain_job result ≡ spec.tables_by (spec.value (rows_of (found_of given.now)) (codes "path")) }
+{
+    tables_by(given.get_str("path"))
+}
+
+fn dump_in<'a>(given: &ArgMatches<'a>) -> Option<Job<'a>>
+    ensures { option_map spec.plain_job result ≡ spec.dump_by (spec.value (rows_of (found_of given.now)) (codes "path")) }
+{
+    dump_by(given.get_str("path"))
 }

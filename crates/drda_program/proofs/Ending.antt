@@ -34,13 +34,13 @@ module _ {F D N L S W : Type 0} (around : Surroundings F D N L S W) (input : Opt
     does = does;
     status_is = refl;
     told = [];
-    told_only = λ some other. refl;
+    told_only = λ some other good. refl;
     count = 0;
     says = Appends-nil err;
   }
 
-  -- behind the text of the parser, a reason is told of a device alone
-  pub exits : (said : Option Job) (old new : Seen F N) (err mid later err' : Option (List ℕ)) (fault : Fault) (status : ℕ) (text : List ℕ) → status ≡ status_for fault → Tried said old (Err fault) new → (said ≢ None → text ≡ [])
+  -- behind the text on bad words, a reason is told of a device alone
+  pub exits : (said : Option Job) (old new : Seen F N) (err mid later err' : Option (List ℕ)) (fault : Fault) (status : ℕ) (text : List ℕ) → status ≡ status_for fault → Tried said old (Err fault) new → (said ≢ None → fault ≢ BadArguments → text ≡ [])
       → (count : ℕ) × Appends err mid (take count text) → (reason : List ℕ) × (fault ≢ Device → reason ≡ []) × Appends mid later reason
       → (count : ℕ) × Appends later err' (take count (line_for fault)) → Exits around said input old status new err err'
   exits said old new err mid later err' fault status text is does quiet (n, told) (reason, of_device, explained) (count, wrote) = record {
@@ -48,7 +48,7 @@ module _ {F D N L S W : Type 0} (around : Surroundings F D N L S W) (input : Opt
     does = does;
     status_is = is;
     told = take n text ++ reason;
-    told_only = λ some other. ap₂ (λ (y z : List ℕ). y ++ z) (ap (λ (z : List ℕ). take n z) (quiet some) ∙ take-nil n) (of_device (λ same. other (ap (λ (f : Fault). Err f) same)));
+    told_only = λ some other good. ap₂ (λ (y z : List ℕ). y ++ z) (ap (λ (z : List ℕ). take n z) (quiet some (λ same. good (ap (λ (f : Fault). Err f) same))) ∙ take-nil n) (of_device (λ same. other (ap (λ (f : Fault). Err f) same)));
     count = count;
     says = Appends-trans err later err' (take n text ++ reason) (take count (line_for fault)) (Appends-trans err mid later (take n text) reason told explained) wrote;
   }

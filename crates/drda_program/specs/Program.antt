@@ -19,16 +19,15 @@ use Rattle.store_service.specs.Running.{GoesFrom, HasRun, IsStore}
 use Rattle.command_line.specs.Job.{Job, Login, init, pipe, serve, in_doubt}
 use Rattle.command_line.specs.Job as job
 use Rattle.drda_program.specs.Deciding.{DecidesFile}
-use Rattle.drda_program.specs.Doubts.{Listed, doubt_text}
 use Rattle.store_files.specs.Endings.{line_of, status_of}
 use Rattle.drda_program.specs.Reporting.{result_for}
 use Rattle.store_files.specs.Files.{FileCalls}
 use Rattle.drda_server.specs.Network.{NetworkCalls}
-use Rattle.drda_program.specs.Doubts.{AreDoubts}
 use Rattle.store_files.specs.Opening.{IsMade, IsOver, IsTurnedBack, OpensStore}
 use Rattle.drda_server.specs.Listening.{Listens}
 use Rattle.drda_program.specs.LoggingIn.{LogsIn, net_and_out}
-use Rattle.drda_program.specs.Rooms.{room_text}
+use Rattle.told_stores.specs.Dumps.{Dumps, ListsTables}
+use Rattle.told_stores.specs.Telling.{Checks, Lists, TellsRoom}
 use Rattle.store_files.specs.Stores.{RefusesName}
 use Rattle.store_files.specs.declared.fault.Fault.{Fault}
 use Rattle.store_files.specs.declared.fault.Fault.TheVariants.{BadArguments, BadEvent, Damaged, Device, NoMemory, NoRoom, NotAStore, NotInDoubt}
@@ -91,20 +90,6 @@ module _ {D : Type 0} (modelled : Bool) (life : D → Life) where
     pub ran : RunsOver core login input before outcome now
     pub promise : (name : List ℕ) (d : Durable) → IsStore modelled name d (life disk) → HasRun life name d (settings_of login name) disk ran.left input before ran.end now
 
-  -- a line for each unit in doubt
-  abbrev pub IsOfDoubts : D → List ℕ → Type 0
-  IsOfDoubts disk text = (doubts : List Listed) × (text ≡ doubt_text doubts) × (IsTrue modelled → AreDoubts doubts (life disk).seen)
-
-  -- The name and the size of the store that a disk is, the bytes that it has left for records, and how many units are in
-  -- doubt.
-  abbrev pub IsOfRoom : D → List ℕ → Type 0
-  IsOfRoom disk text = (core : OnDisk D) × IsOver modelled life disk core × (doubts : List Listed)
-      × (text ≡ room_text core.name (length (life disk).seen) core.room (length doubts)) × (IsTrue modelled → AreDoubts doubts (life disk).seen)
-
-  -- a disk that opens to a state is whole
-  abbrev pub IsOfCheck : D → List ℕ → Type 0
-  IsOfCheck disk text = (text ≡ codes "whole\n") × (IsTrue modelled → (name : List ℕ) × (state : Durable) × OpensTo name state (life disk).seen)
-
   -- ---- over the disk of a path
 
   module _ {F : Type 0} (calls : FileCalls F D) where
@@ -120,24 +105,6 @@ module _ {D : Type 0} (modelled : Bool) (life : D → Life) where
     Makes path size rdb files before (Err BadEvent) files' now = ⊥
     Makes path size rdb files before (Err NotInDoubt) files' now = ⊥
     Makes path size rdb files before (Err NoRoom) files' now = ⊥
-
-    -- a text of the store of a path is written, and nothing else; none is where the store is not opened or memory is refused
-    abbrev pub Tells : (D → List ℕ → Type 0) → List ℕ → F → Option (List ℕ) → Result (Unit {0}) Fault → F → Option (List ℕ) → Type 0
-    Tells IsOf path files before (Ok done) files' now = (disk : D) × calls.opens files path (Some disk) files' × (text : List ℕ) × IsOf disk text × Appends before now text
-    Tells IsOf path files before (Err fault) files' now = (OpensStore modelled life calls files path (Err fault) files' × (now ≡ before))
-        ⊎ ((disk : D) × calls.opens files path (Some disk) files' × (((fault ≡ NoMemory) × (now ≡ before)) ⊎ (fault ≡ Device)))
-
-    -- the units in doubt of the store of a path are listed
-    abbrev pub Lists : List ℕ → F → Option (List ℕ) → Result (Unit {0}) Fault → F → Option (List ℕ) → Type 0
-    Lists path files before outcome files' now = Tells IsOfDoubts path files before outcome files' now
-
-    -- how much the store of a path holds is told
-    abbrev pub TellsRoom : List ℕ → F → Option (List ℕ) → Result (Unit {0}) Fault → F → Option (List ℕ) → Type 0
-    TellsRoom path files before outcome files' now = Tells IsOfRoom path files before outcome files' now
-
-    -- the store of a path is told to be whole
-    abbrev pub Checks : List ℕ → F → Option (List ℕ) → Result (Unit {0}) Fault → F → Option (List ℕ) → Type 0
-    Checks path files before outcome files' now = Tells IsOfCheck path files before outcome files' now
 
     -- the run over the store of a path, if there is one
     abbrev pub PipesFile : List ℕ → Login → F → Option (List ℕ) → Option (List ℕ) → Result (Unit {0}) Fault → F → Option (List ℕ) → Type 0
@@ -171,16 +138,18 @@ module _ {F D N L S W : Type 0} (around : Surroundings F D N L S W) where
   Does (Some (job.decide path xid d)) input old outcome new = DecidesFile around.modelled around.life around.files path xid d old.files old.out outcome new.files new.out × (new.net ≡ old.net)
   Does (Some (job.room path)) input old outcome new = TellsRoom around.modelled around.life around.files path old.files old.out outcome new.files new.out × (new.net ≡ old.net)
   Does (Some (job.check path)) input old outcome new = Checks around.modelled around.life around.files path old.files old.out outcome new.files new.out × (new.net ≡ old.net)
+  Does (Some (job.tables path)) input old outcome new = ListsTables around.modelled around.life around.files path old.files old.out outcome new.files new.out × (new.net ≡ old.net)
+  Does (Some (job.dump path)) input old outcome new = Dumps around.modelled around.life around.files path old.files old.out outcome new.files new.out × (new.net ≡ old.net)
   Does (Some job.version) input old outcome new = TellsVersion old.out outcome new.out × (new.files ≡ old.files) × (new.net ≡ old.net)
 
   -- The words, the input, and what is seen before and after: the job was done so, or memory was refused before it was known.
-  -- Standard error holds text for people, which is only where the words ask for nothing, of the parser of words, and where a
-  -- file can't be had, and behind it the line of what is reported, or as much of each as could be written.
+  -- Standard error holds text for people, which is only where the words ask for nothing, or for what none has, and where a file or
+  -- a port can't be had, and behind it the line of what is reported, or as much of each as could be written.
   pub record Exits (said : Option Job) (input : Option (List ℕ)) (old : Seen F N) (status : ℕ) (new : Seen F N) (err err' : Option (List ℕ)) : Type 0 where
     pub outcome : Result (Unit {0}) Fault
     pub does : ((outcome ≡ Err NoMemory) × (new ≡ old)) ⊎ Does said input old outcome new
     pub status_is : status ≡ status_of outcome
     pub told : List ℕ
-    pub told_only : said ≢ None → outcome ≢ Err Device → told ≡ []
+    pub told_only : said ≢ None → outcome ≢ Err Device → outcome ≢ Err BadArguments → told ≡ []
     pub count : ℕ
     pub says : Appends err err' (told ++ take count (line_of outcome))

@@ -1,12 +1,11 @@
 //! The program `drdad` over words, files, a network and streams that are handed in.
 #![tactic(auto)]
 
+mod bad_arguments;
 mod deciding;
-mod doubts;
 mod logins;
 mod program;
 mod records;
-mod rooms;
 mod version;
 
 // What a stream tells of that is read.

@@ -4,36 +4,33 @@ ghost use Rattle.std.specs.Prelude.{◌≡◌, ◌≢◌, ◌⊎◌, ℕ, [], Er
 ghost use Rattle.std.specs.Io.KnownBytes.{Appends};
 ghost use Rattle.command_line.specs.Job.{plain_job, said};
 ghost use Rattle.drda_program.specs.Deciding.{DecidesFile};
-ghost use Rattle.drda_program.specs.Program.{Checks, Does, Exits, Lists, Makes, TellsRoom};
+ghost use Rattle.drda_program.specs.Program.{Does, Exits, Makes};
 ghost use Rattle.drda_program.specs.Reporting.{fault_of_words};
 ghost use Rattle.drda_server.specs.Serving.{seen, surroundings};
 
+use crate::bad_arguments::tell_if_bad;
 use crate::deciding::decide_on;
-use crate::doubts::doubt_text;
 use crate::logins::{pipe, serve};
-use crate::rooms::room_text;
 use crate::version::tell_version;
 use command_line::{BadWords, Job, job_of};
 use conversation::write_whole;
 use drda_node::Ready;
 use drda_server::{Log, Network};
-use recovery::laws::records_lead_to_sound_states;
-use recovery::step_laws::openings_are_kept;
 use std::alloc::Global;
 use std::convert::AsStr;
 use std::io::{Read, Write};
 use std::sync::Wait;
 use std::thread::Threads;
 use std::time::Clock;
-use store_check::checkpoints_are_known;
 use store_files::{Fault, StoreFiles, flush, make_file, open_file, tell};
+use told_stores::{check, dump, list_doubts, list_tables, tell_room};
 use xa_calls::Xid;
 use xa_manager::Decision;
 
 /// Does what the words say, the program's name first, and answers the exit status; a fault's line goes
-/// to `err`, behind the text of the command-line parser where that has one and the files' reason where a
-/// file can't be had, and nothing else does. Faults are found in this order: arguments, login, file,
-/// store, run.
+/// to `err`, behind the text of the command-line parser, or a line that says which argument is bad, where they are, and the
+/// reason of the files or the network where a file or a port can't be had, and nothing else does. Faults are found in this
+/// order: arguments, login, file, store, run.
 ///
 /// - `init PATH --size N --rdb NAME` makes a store in a new file, and says its size.
 /// - `pipe [PATH] [--rdb NAME] --user U:P` answers event records from `reader` to `out`, over the store
@@ -42,10 +39,12 @@ use xa_manager::Decision;
 ///   sockets, up to 64 side by side, each in a thread of its own; with `--idle N` a connection on which nothing has
 ///   come for N seconds is closed, with `--log` what becomes of conversations is told to `log`.
 /// - `indoubt PATH` lists the units in doubt of a store, with how each was decided heuristically, where it was.
-/// - `decide PATH FORMAT GLOBAL BRANCH commit|rollback` decides a unit in doubt in the place of its transaction manager,
-///   and says so; a store of layout 1 is checkpointed first.
+/// - `decide PATH FORMAT:GLOBAL:BRANCH commit|rollback`, or with these parts in words of their own, decides a unit in doubt in
+///   the place of its transaction manager, and says so; a store of layout 1 is checkpointed first.
 /// - `room PATH` tells the name and size of a store, its room, and how many units are in doubt.
 /// - `check PATH` says that a store is whole, where it is.
+/// - `tables PATH` prints the CREATE TABLE of each table, with its rows and pages in a comment.
+/// - `dump PATH` prints the SQL that makes the tables anew, behind a comment for each unit in doubt.
 /// - `version` tells the program's version.
 ///
 /// In the place of `--user U:P` may stand `--user-file FILE`, a file that holds U:P.
@@ -94,26 +93,34 @@ where
         Ok(()) => 0,
         Err(fault) => {
             let _ = write_whole(err, text.as_bytes());
-            explain(fault, files, err);
+            explain(fault, files, net, err);
             fault.say(alloc, err);
             fault.status()
         }
     }
 }
 
-// Writes why a file can't be had, where that is the fault and is known, or as much of it as can be written.
-fn explain<F: StoreFiles, E: Write>(fault: Fault, files: &F, err: &mut E)
+// Writes why a file or a port can't be had, where that is the fault and is known, or as much of it as can be written.
+fn explain<F: StoreFiles, N: Network, E: Write>(fault: Fault, files: &F, net: &N, err: &mut E)
     ensures { (told : List ℕ) × (fault ≢ Fault.Device → told ≡ []) × Appends (E.contents err.old) (E.contents err.new) told }
 {
     match fault {
         Fault::Device => {
-            let _ = write_whole(err, files.reason().as_bytes());
+            tell_people(files.reason(), err);
+            tell_people(net.reason(), err);
         }
         _ => {}
     }
 }
 
-// Does what the words say. What the parser of words has to say of a mistake is appended to `text`.
+// Writes a text for people, or as much of it as can be written.
+fn tell_people<E: Write>(text: &str, err: &mut E)
+    ensures { (told : List ℕ) × Appends (E.contents err.old) (E.contents err.new) told }
+{
+    let _ = write_whole(err, text.as_bytes());
+}
+
+// Does what the words say. What there is to say of bad words is appended to `text`.
 fn try_words<
     T: Threads + Wait + Clock + Sync,
     S: AsStr,
@@ -140,10 +147,14 @@ where
     ensures does { ((result ≡ Err Fault.NoMemory) × (seen files.new net.new (W.contents out.new) ≡ seen files.old net.old (W.contents out.old)))
         ⊎ Does (surroundings F.calls F.Disk.is_modelled F.Disk.life N.calls) (said (map S.text words.now))
         (R.remaining reader.old) (seen files.old net.old (W.contents out.old)) result (seen files.new net.new (W.contents out.new)) }
-    ensures quiet { said (map S.text words.now) ≢ None → string_bytes text.new ≡ string_bytes text.old }
+    ensures quiet { said (map S.text words.now) ≢ None → result ≢ Err Fault.BadArguments → string_bytes text.new ≡ string_bytes text.old }
 {
     match job_of(alloc, words, text) {
-        Ok(job) => do_job(rt, alloc, &job, files, net, log, reader, out),
+        Ok(job) => {
+            let done = do_job(rt, alloc, &job, files, net, log, reader, out);
+            tell_if_bad(done, &job, text);
+            done
+        }
         Err(bad) => Err(fault_of_words(bad)),
     }
 }
@@ -201,6 +212,8 @@ where
         } => decide(alloc, files, path, xid, *decision, out),
         Job::Room { path } => tell_room(alloc, files, path, out),
         Job::Check { path } => check(alloc, files, path, out),
+        Job::Tables { path } => list_tables(alloc, files, path, out),
+        Job::Dump { path } => dump(alloc, files, path, out),
         Job::Version => tell_version(out),
     }
 }
@@ -223,23 +236,6 @@ fn init<F: StoreFiles, W: Write>(
     }
 }
 
-// Lists the units in doubt.
-fn list_doubts<F: StoreFiles, W: Write>(
-    alloc: Global,
-    files: &mut F,
-    path: &str,
-    out: &mut W,
-) -> Result<(), Fault>
-    ensures { Lists F.Disk.is_modelled F.Disk.life F.calls path.now files.old (W.contents out.old) result files.new (W.contents out.new) }
-{
-    records_lead_to_sound_states();
-    checkpoints_are_known();
-    openings_are_kept();
-    let core = open_file(alloc, files, path)?;
-    let text = doubt_text(alloc, &core)?;
-    tell(&text, out)
-}
-
 // Decides a unit in doubt, and says so.
 fn decide<F: StoreFiles, W: Write>(
     alloc: Global,
@@ -254,34 +250,4 @@ fn decide<F: StoreFiles, W: Write>(
     let mut core = open_file(alloc, files, path)?;
     decide_on(&mut core, xid, decision)?;
     tell("decided\n", out)
-}
-
-// Tells how much a store holds.
-fn tell_room<F: StoreFiles, W: Write>(
-    alloc: Global,
-    files: &mut F,
-    path: &str,
-    out: &mut W,
-) -> Result<(), Fault>
-    ensures { TellsRoom F.Disk.is_modelled F.Disk.life F.calls path.now files.old (W.contents out.old) result files.new (W.contents out.new) }
-{
-    records_lead_to_sound_states();
-    checkpoints_are_known();
-    openings_are_kept();
-    let core = open_file(alloc, files, path)?;
-    let text = room_text(alloc, core)?;
-    tell(&text, out)
-}
-
-// Opens a store, which reads all of it.
-fn check<F: StoreFiles, W: Write>(
-    alloc: Global,
-    files: &mut F,
-    path: &str,
-    out: &mut W,
-) -> Result<(), Fault>
-    ensures { Checks F.Disk.is_modelled F.Disk.life F.calls path.now files.old (W.contents out.old) result files.new (W.contents out.new) }
-{
-    let _ = open_file(alloc, files, path)?;
-    tell("whole\n", out)
 }

@@ -4,6 +4,8 @@ ghost use Rattle.std.specs.Prelude.{IfOk};
 ghost use Rattle.std.specs.Result.{result_ok};
 ghost use Rattle.drda_server.specs.Network.{NetworkCalls, any_network};
 
+use std::alloc::Global;
+use std::fmt::Write as _;
 use std::io::{self, Read, Write};
 use std::net::{Net, OpenListener, OpenStream, SocketAddr};
 use std::thread::sleep;
@@ -57,18 +59,32 @@ pub trait Network {
 
     /// Waits a moment, before a stream is let in again where that has failed.
     fn pause(&mut self);
+
+    /// A line for people that says why an address was refused last; empty where nothing is known of it. As of files it stands
+    /// in front of the line of the fault, and no contract says what is in it.
+    fn reason(&self) -> &str;
 }
 
 /// The network of the system.
 #[derive(Drop)]
 pub struct SystemNetwork<'a, R> {
     rt: &'a R,
+    reason: String,
 }
 
 impl<'a, R: Net> SystemNetwork<'a, R> {
     /// The network that a program has by this handle.
-    pub fn new(rt: &'a R) -> SystemNetwork<'a, R> {
-        SystemNetwork { rt }
+    pub fn new(alloc: Global, rt: &'a R) -> SystemNetwork<'a, R> {
+        SystemNetwork {
+            rt,
+            reason: String::new(alloc),
+        }
+    }
+
+    // Keeps why a port was refused, as far as memory allows.
+    fn note(&mut self, port: u16, error: &io::Error) {
+        self.reason.clear();
+        let _ = writeln!(self.reason, "drdad: port {port}: {error}");
     }
 }
 
@@ -80,7 +96,11 @@ impl<'a, R: Net + Clock> Network for SystemNetwork<'a, R> {
     type Writer = R::Stream;
 
     fn bind(&mut self, address: SocketAddr) -> io::Result<R::Listener> {
-        self.rt.bind(address)
+        let bound = self.rt.bind(address);
+        if let Err(error) = &bound {
+            self.note(address.port(), error);
+        }
+        bound
     }
 
     fn port(&self, listener: &R::Listener) -> io::Result<u16> {
@@ -110,5 +130,9 @@ impl<'a, R: Net + Clock> Network for SystemNetwork<'a, R> {
 
     fn pause(&mut self) {
         sleep(self.rt, Duration::from_millis(MOMENT));
+    }
+
+    fn reason(&self) -> &str {
+        &self.reason
     }
 }

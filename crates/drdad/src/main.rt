@@ -22,7 +22,7 @@ fn main(rt: HostRuntime) -> ExitCode {
         alloc,
         words.as_slice(),
         &mut SystemFiles::new(alloc, &rt),
-        &mut SystemNetwork::new(&rt),
+        &mut SystemNetwork::new(alloc, &rt),
         &ErrorLog::new(&rt),
         &mut reader,
         &mut rt.stdout(),

@@ -2,6 +2,7 @@
 #![tactic(auto)]
 
 mod checkpointing;
+mod closing;
 mod deciding;
 mod durable;
 mod errors;

@@ -96,6 +96,14 @@ impl<'a> Network for Callers<'a> {
         })
     }
 
+    fn reason(&self) -> &str {
+        if self.way == "taken" {
+            "drdad: port 0: it is taken\n"
+        } else {
+            ""
+        }
+    }
+
     fn peer(&self, _stream: &Call<'a>) -> Option<SocketAddr> {
         Some(address(51234))
     }

@@ -68,7 +68,7 @@ impl<R: Files<File = File>> Place<'_, R> {
 /// whom it comes, whether small segments are sent at once, how long a read of it waits, and whether what is written on its second handle comes
 /// to the other end.
 pub fn tell_sockets<R: Net + Clock>(rt: &R, alloc: Global, told: &mut Vec<u8>) -> Option<()> {
-    let mut net = SystemNetwork::new(rt);
+    let mut net = SystemNetwork::new(alloc, rt);
     let listener = net.bind(address(0)).ok()?;
     tell_listener(rt, alloc, &mut net, &listener, told)
 }

@@ -1,2 +1,4 @@
 pub mod Going
 pub mod Telling
+pub mod Counting
+pub mod Lent

@@ -1,7 +1,6 @@
 //! The tables of a store.
 
-ghost use Rattle.std.specs.Prelude.{◌≡◌, IsTrue, OnOk, length};
-ghost use Rattle.std.specs.Io.KnownBytes.{Appends};
+ghost use Rattle.std.specs.Prelude.{IsTrue, length};
 ghost use Rattle.drda_disk.specs.Disk.{Stays};
 ghost use Rattle.paged_tables.specs.PagedTables.{store_in};
 ghost use Rattle.paged_tables.specs.TablesByName.{AreOnPages, LieInside};
@@ -9,7 +8,7 @@ ghost use Rattle.paged_tables.specs.Stored.{IsOnPages, LiesInside, Stored, rows_
 ghost use Rattle.paged_tables.specs.Lending.{IsLent};
 ghost use Rattle.table_map.specs.Table.{without_keys};
 ghost use Rattle.std.specs.Prelude.{List, ℕ};
-ghost use Rattle.store_dump.specs.Dump.{dump_text, table_text};
+ghost use Rattle.store_dump.specs.Dump.{IsWritten, dump_text, table_text};
 
 use crate::errors::DumpError;
 use crate::lines::write_table;
@@ -29,7 +28,7 @@ fn dump_table<D: Disk, W: Write>(
 ) -> Result<(), DumpError>
     requires { (e : List ℕ × Stored) × IsLent e table.now × LiesInside (length (D.life disk.old).seen) e.1 }
     ensures told { (e : List ℕ × Stored) → IsLent e table.now → IsTrue D.is_modelled → IsOnPages (D.life disk.old).seen e.1
-        → OnOk result (Appends (W.contents out.old) (W.contents out.new) (table_text e.0 e.1.schema (without_keys (rows_in e.1)))) }
+        → IsWritten (table_text e.0 e.1.schema (without_keys (rows_in e.1))) result (W.contents out.old) (W.contents out.new) }
     ensures stays { Stays (D.life disk.old) (D.life disk.new) }
 {
     write_table(line, table.name, table.schema, out)?;
@@ -41,7 +40,7 @@ fn dump_table<D: Disk, W: Write>(
 /// COMMIT, and then in the order of their keys the INSERTs of its rows, with a COMMIT behind each 256th and behind the
 /// last. Each statement stands on a line of its own, or on more where a text has line ends, and ends with `;`.
 ///
-/// Of the rows one page is in memory at a time. Nothing is written to the disk. Where an error comes, some of the text
+/// Of the rows one page is in memory at a time. Nothing is written to the disk. Where an error comes, a front of the text
 /// was written.
 pub fn dump_tables<D: Disk, W: Write>(
     alloc: Global,
@@ -50,7 +49,7 @@ pub fn dump_tables<D: Disk, W: Write>(
     out: &mut W,
 ) -> Result<(), DumpError>
     requires { LieInside (length (D.life disk.old).seen) tables.now.tables }
-    ensures told { IsTrue D.is_modelled → AreOnPages (D.life disk.old).seen tables.now.tables → OnOk result (Appends (W.contents out.old) (W.contents out.new) (dump_text (store_in tables.now))) }
+    ensures told { IsTrue D.is_modelled → AreOnPages (D.life disk.old).seen tables.now.tables → IsWritten (dump_text (store_in tables.now)) result (W.contents out.old) (W.contents out.new) }
     ensures stays { Stays (D.life disk.old) (D.life disk.new) }
 {
     let mut line = Vec::new(alloc);

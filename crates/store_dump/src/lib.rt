@@ -4,7 +4,9 @@
 mod dumping;
 mod errors;
 mod lines;
+mod listing;
 mod rows;
 
 pub use dumping::dump_tables;
 pub use errors::DumpError;
+pub use listing::list_tables;

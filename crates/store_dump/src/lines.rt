@@ -1,11 +1,11 @@
 //! Lines of SQL, written one after another.
 
 ghost use Rattle.std.specs.Prelude.{◌≡◌, ◌<◌, OnOk, IfOk};
-ghost use Rattle.std.specs.Io.KnownBytes.{Appends};
-ghost use Rattle.store_dump.specs.Dump.{commit_text, last_commit, row_line, since_commit, table_line, unit_end};
+ghost use Rattle.store_dump.specs.Dump.{IsWritten, commit_text, last_commit, row_line, since_commit, table_line, unit_end};
 ghost use Rattle.row_values.specs.RowView.{row_in, schema_in};
 
 use crate::errors::DumpError;
+use conversation::write_whole;
 use row_values::{RowRef, Schema};
 use sql_spelling::{put_create, put_insert};
 use std::alloc::AllocError;
@@ -16,11 +16,11 @@ const ROWS_OF_A_UNIT: usize = 256;
 
 const COMMIT: &[u8] = b"COMMIT;\n";
 
-/// Writes bytes.
-fn write<W: Write>(out: &mut W, bytes: &[u8]) -> Result<(), DumpError>
-    ensures { OnOk result (Appends (W.contents out.old) (W.contents out.new) bytes.now) }
+/// Writes bytes, or a front of them.
+pub(crate) fn write<W: Write>(out: &mut W, bytes: &[u8]) -> Result<(), DumpError>
+    ensures { IsWritten bytes.now result (W.contents out.old) (W.contents out.new) }
 {
-    match out.write_all(bytes) {
+    match write_whole(out, bytes) {
         Ok(()) => Ok(()),
         Err(_) => Err(DumpError::NotWritten),
     }
@@ -43,7 +43,7 @@ pub(crate) fn write_table<W: Write>(
     schema: &Schema,
     out: &mut W,
 ) -> Result<(), DumpError>
-    ensures { OnOk result (Appends (W.contents out.old) (W.contents out.new) (table_line name.now schema.now)) }
+    ensures { IsWritten (table_line name.now schema.now) result (W.contents out.old) (W.contents out.new) }
 {
     put_table_line(line, name, schema)?;
     write(out, line.as_slice())
@@ -91,7 +91,7 @@ pub(crate) fn write_row<W: Write>(
     out: &mut W,
 ) -> Result<usize, DumpError>
     requires { since < 256 }
-    ensures line { OnOk result (Appends (W.contents out.old) (W.contents out.new) (row_line name.now schema.now since row.now)) }
+    ensures line { IsWritten (row_line name.now schema.now since row.now) result (W.contents out.old) (W.contents out.new) }
     ensures next { IfOk result (λ n. n ≡ since_commit since) }
     ensures few { IfOk result (λ n. n < 256) }
 {
@@ -105,7 +105,7 @@ pub(crate) fn write_row<W: Write>(
 
 /// Writes the COMMIT behind the last row, where one is due.
 pub(crate) fn write_last_commit<W: Write>(since: usize, out: &mut W) -> Result<(), DumpError>
-    ensures { OnOk result (Appends (W.contents out.old) (W.contents out.new) (last_commit since)) }
+    ensures { IsWritten (last_commit since) result (W.contents out.old) (W.contents out.new) }
 {
     if since == 0 {
         return write(out, b"");

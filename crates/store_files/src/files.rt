@@ -5,16 +5,19 @@ ghost use Rattle.std.specs.Result.{result_ok};
 ghost use Rattle.drda_disk.specs.Disk.{Only};
 ghost use Rattle.store_files.specs.Files.{FileCalls, any_files};
 
-use drda_disk::{Disk, FileDisk, FileFault, FilePath, SystemFile};
+use drda_disk::{Disk, FileDisk, FileFault, FilePath, FilePlace, SystemFile};
 use std::alloc::Global;
 use std::fmt::{Display, Write};
-use std::fs::File;
+use std::fs::{self, File, Permissions};
 use std::io::{self, ErrorKind, Read};
 use std::os::unix::fs::PermissionsExt;
 use std::rt::Files;
 
 /// The rights of others than a file's owner, in its mode.
 const RIGHTS_OF_OTHERS: u32 = 0o077;
+
+/// The mode of a file that is made: its owner reads and writes it, and nobody else.
+const PRIVATE: u32 = 0o600;
 
 /// All rights in a mode.
 const RIGHTS: u32 = 0o777;
@@ -33,7 +36,7 @@ pub trait StoreFiles {
     /// What a call comes to.
     ghost calls: { FileCalls Self Self.Disk } = { any_files };
 
-    /// Makes a file of so many zeros. Refused where there is one of this path already.
+    /// Makes a file of so many zeros, which is its owner's alone. Refused where there is one of this path already.
     fn create(&mut self, path: &str, size: usize) -> Result<Self::Disk, FileFault>
         ensures call { calls.creates self.old path.now size (result_ok result) self.new }
         ensures zeros { IfOk result (λ disk. IsTrue Self.Disk.is_modelled → (Self.Disk.life disk).seen ≡ replicate size 0) }
@@ -84,7 +87,7 @@ impl<'a, R: Files<File = File>> StoreFiles for SystemFiles<'a, R> {
     type Disk = FileDisk<SystemFile>;
 
     fn create(&mut self, path: &str, size: usize) -> Result<FileDisk<SystemFile>, FileFault> {
-        let made = FileDisk::create(&mut FilePath::new(self.rt, path), size);
+        let made = make_private(self.rt, path, size);
         if let Err(fault) = &made {
             self.note(path, fault);
         }
@@ -134,6 +137,23 @@ impl<'a, R: Files<File = File>> StoreFiles for SystemFiles<'a, R> {
 
     fn reason(&self) -> &str {
         &self.reason
+    }
+}
+
+// A file of so many zeros, on which nobody but its owner has rights. None is left where these can't be set.
+fn make_private<R: Files<File = File>>(
+    rt: &R,
+    path: &str,
+    size: usize,
+) -> Result<FileDisk<SystemFile>, FileFault> {
+    let mut place = FilePath::new(rt, path);
+    let disk = FileDisk::create(&mut place, size)?;
+    match fs::set_permissions(rt, path, Permissions::from_mode(PRIVATE)) {
+        Ok(()) => Ok(disk),
+        Err(error) => {
+            place.remove();
+            Err(FileFault::Io(error))
+        }
     }
 }
 

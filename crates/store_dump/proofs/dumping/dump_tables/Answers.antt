@@ -1,17 +1,17 @@
 use Rattle.std.proofs.Common.{◌≡◌, ℕ, List, [], length, sym, ap, subst}
-use Rattle.std.specs.Io.KnownBytes.{Appends}
 use Rattle.drda_disk.proofs.Moments.{Stays-refl, Stays-trans}
 use Rattle.paged_tables.specs.Stored.{IsOnPages}
 use Rattle.paged_tables.specs.TablesByName.{AreOnPages, LieInside, Tables, created_of}
-use Rattle.store_dump.proofs.Going.{nothing_appended}
-use Rattle.store_dump.proofs.Telling.{IsTelling, all_told, one_told, stored_is_shown, stored_text}
+use Rattle.store_dump.specs.Dump.{table_text}
+use Rattle.store_dump.proofs.Going.{failed, nothing_appended}
+use Rattle.store_dump.proofs.Telling.{IsTelling, all_told, broke_off, one_told, stored_text}
 use Rattle.store_dump.proofs.dumping.dump_tables.Goals as goal
 
 pub loop-table-init : goal.loop-table-init
 loop-table-init g c = record {
   stays = Stays-refl _;
   inside = c.lend-left.ensures.pages.inside _ c.requires;
-  told = λ honest on. (c.lend-left.ensures.pages.stand _ on, record { written = []; so_far = nothing_appended (g.W.Write.contents c.args.out.now); same = ap stored_text c.lend-left.ensures.tables });
+  told = λ honest on. (c.lend-left.ensures.pages.stand _ on, record { written = []; so_far = nothing_appended (g.W.Write.contents c.args.out.now); same = ap (stored_text table_text) c.lend-left.ensures.tables });
 }
 
 pub loop-table-preserved : goal.loop-table-preserved
@@ -31,16 +31,29 @@ loop-table-preserved g c =
       told = λ honest on.
           let held = inv.told honest on in
           let there = subst (λ (ts : Tables). AreOnPages file ts) same held.0 in
-          let telling = subst (λ (ts : Tables). IsTelling all ts (contents c.args.out.now) (contents c.loop-table.out)) same held.1 in
+          let telling = subst (λ (ts : Tables). IsTelling table_text all ts (contents c.args.out.now) (contents c.loop-table.out)) same held.1 in
           let here = subst (λ (f : List ℕ). IsOnPages f first.1) (sym inv.stays.same) there.0 in
-          (there.1, one_told all left first (contents c.args.out.now) (contents c.loop-table.out) (contents c.dump_table.new.out) telling (c.in_ok-dump_table.ensures.told first lent honest here));
+          (there.1, one_told table_text all left first (contents c.args.out.now) (contents c.loop-table.out) (contents c.dump_table.new.out) telling (c.in_ok-dump_table.ensures.told first lent honest here));
     }
+
+pub returns-in_err-dump_table-clause-told : goal.returns-in_err-dump_table-clause-told
+returns-in_err-dump_table-clause-told g c honest on =
+    let inv = c.loop-table.invariant in
+    let contents = g.W.Write.contents in
+    let file = (g.D.Disk.life c.args.disk.now).seen in
+    let tables = c.args.tables.now.tables in
+    let first = c.in-Some.ensures.0 in
+    let lent = c.in-Some.ensures.1 in
+    let same = c.in-Some.ensures.2 in
+    let held = inv.told honest on in
+    let there = subst (λ (ts : Tables). AreOnPages file ts) same held.0 in
+    let telling = subst (λ (ts : Tables). IsTelling table_text (created_of tables) ts (contents c.args.out.now) (contents c.loop-table.out)) same held.1 in
+    let here = subst (λ (f : List ℕ). IsOnPages f first.1) (sym inv.stays.same) there.0 in
+    failed _ c.from_residual.result _ _ c.from_residual.ensures.0 (broke_off table_text tables c.next_table.new.self first (contents c.args.out.now) (contents c.loop-table.out) (contents c.dump_table.new.out) telling (c.in_err-dump_table.ensures.told first lent honest here))
 
 pub returns-clause-told : goal.returns-clause-told
 returns-clause-told g c honest on =
     let inv = c.loop-table.invariant in
     let contents = g.W.Write.contents in
-    let tables = c.args.tables.now.tables in
-    let held = inv.told honest on in
     let none : c.loop-table.left ≡ [] = rw c.in_default.is at c.next_table.ensures in
-    subst (λ (z : List ℕ). Appends (contents c.args.out.now) (contents c.loop-table.out) z) (stored_is_shown tables) (all_told (created_of tables) c.loop-table.left (contents c.args.out.now) (contents c.loop-table.out) held.1 none)
+    all_told table_text c.args.tables.now.tables c.loop-table.left (contents c.args.out.now) (contents c.loop-table.out) (inv.told honest on).1 none

@@ -1,0 +1,3 @@
+pub mod Doubted
+pub mod Told
+pub mod Dumped

@@ -1,0 +1,4 @@
+pub mod Doubts
+pub mod Rooms
+pub mod Telling
+pub mod Dumps
