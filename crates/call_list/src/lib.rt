@@ -2,5 +2,7 @@
 #![tactic(auto)]
 
 mod calls;
+mod done;
 
 pub use calls::CallList;
+pub use done::is_done;
