@@ -34,8 +34,8 @@ module _ (calls more : List AnsweredCall) (place : ℕ) (call : Call) (answer : 
     pub list : more ≡ listed (if is_taken then Taken else Kept)
 
   as_taken : (is_taken : Bool) → IsNoted is_taken → (is_excuse answer ≡ true → ⊥) → more ≡ listed Taken
-  as_taken true n no = n.list
-  as_taken false n no = absurd (no (n.excused refl))
+  as_taken true n never = n.list
+  as_taken false n never = absurd (never (n.excused refl))
 
   as_kept : (is_taken : Bool) → IsNoted is_taken → is_excuse answer ≡ true → more ≡ listed Kept
   as_kept true n is = let both : false ≡ true = sym (n.done refl) ∙ is in absurd (false≢true both)
