@@ -1,6 +1,6 @@
 -- Who is asked: the core, for one conversation, which it knows by its place in the row. What a conversation
 -- leaves unfinished goes with it when it is lost, so that another one may have its place.
-use Rattle.std.specs.Prelude.{◌≡◌, ◌⊎◌, ℕ, ◌+◌, ◌-◌, ◌^◌, ◌<◌, min, Bool, true, false, List, [], ◌∷◌, ◌++◌, Some, if◌then◌else◌}
+use Rattle.std.specs.Prelude.{◌≡◌, ◌⊎◌, ℕ, ◌+◌, ◌-◌, ◌^◌, ◌<◌, min, Bool, true, false, List, [], ◌∷◌, ◌++◌, Some}
 use Rattle.drda_disk.specs.Disk.{Life}
 use Rattle.half_store.specs.declared.header.Layout.{Layout}
 use Rattle.unit_records.specs.MadeRecords.{MadeRecords, with_begun, with_done}
