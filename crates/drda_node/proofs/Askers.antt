@@ -38,7 +38,7 @@ module _ {D : Type 0} (modelled : Bool) (life : D → Life) where
   Reaches old new = IsSameAsker old new × IsAskedSome old new
 
   same_asker : (old new : CoreAsker D) → new ≡ old → IsSameAsker old new
-  same_asker old new e = record { core = ap (λ (a : CoreAsker D). a.core.ghost_name) e; conversation = ap (λ (a : CoreAsker D). a.conversation) e }
+  same_asker old new e = record { core = ap (λ (a : CoreAsker D). a.core.ghost_name) e; calls = ap (λ (a : CoreAsker D). a.calls.ghost_name) e; conversation = ap (λ (a : CoreAsker D). a.conversation) e }
 
   unasked : (old new : CoreAsker D) → new ≡ old → Reaches old new
   unasked old new e = (same_asker old new e, inl e)
@@ -95,7 +95,7 @@ module _ {D : Type 0} (modelled : Bool) (life : D → Life) where
     some_then a b c (inr p) (inr q) = inr (go_on.both modelled a.core.now b.core.now c.core.now p q)
 
     reach_then : (a b c : CoreAsker D) → Reaches a b → Reaches b c → Reaches a c
-    reach_then a b c (p, x) (q, y) = (record { core = q.core ∙ p.core; conversation = q.conversation ∙ p.conversation }, some_then a b c x y)
+    reach_then a b c (p, x) (q, y) = (record { core = q.core ∙ p.core; calls = q.calls ∙ p.calls; conversation = q.conversation ∙ p.conversation }, some_then a b c x y)
 
     does_all : (settings : Settings) (commands : List (List Dss)) (s last : Standing (CoreAsker D)) (bytes : List ℕ) → DoesAll (asks_of modelled life) settings s commands bytes last
         → DoesAll (asks s.asked.conversation) settings (over_core s) commands bytes (over_core last) × Reaches s.asked last.asked

@@ -7,6 +7,7 @@ use Rattle.conversation.specs.declared.fed.Heard.TheVariants.{Closed, NoMemory, 
 use Rattle.drda_node.specs.Machine.{Conversation, IsOpen, Machine, lost, opened}
 use Rattle.drda_node.specs.Hearing.{HearsAt, HearsPiece}
 use Rattle.drda_node.specs.Records.{Event, checkpoints, loses, opens, record_text, sends}
+use Rattle.drda_node.specs.declared.event.Head.{Head}
 use Rattle.drda_node.specs.Happening.{BreaksOff, Happens, IsCheckpointed, LosesAt, OpensAt, SendsAt, SendsPart, code_of, refusal}
 
 pub ok_so : {X E A B : Type 0} (r : Result X E) → (A → B) → OnOk r A → OnOk r B
@@ -81,3 +82,8 @@ pub broken_keep : (machine new : Machine) (event : Event) → BreaksOff machine 
 broken_keep machine new event (inl same) = ap (λ (m : Machine). m.settings) same
 broken_keep machine new event (inr (inl (written, h))) = events_keep machine new event written h
 broken_keep machine new event (inr (inr h)) = part_keeps machine new event h
+
+-- only a checkpoint is told as one
+pub tells_at : {X E : Type 0} (r : Result X E) (P : Head → Type 0) (head at : Head) → head ≡ at → P at → OnOk r (P head)
+tells_at (Ok x) P head at is p = subst P (sym is) p
+tells_at (Err e) P head at is p = tt

@@ -5,11 +5,11 @@ use Rattle.core_calls.specs.Call.{Call}
 use Rattle.core_calls.specs.Answer.{Answer}
 use Rattle.core_model.specs.Step.{CoreState, Kept, Mark, Taken, step_by}
 use Rattle.serializability.specs.Belonging.{is_excuse}
-use Rattle.serializability.specs.Answered.{AnsweredCall, AnswersAreSerial, CallsLead, CallsLeadOn, IsAnswer}
+use Rattle.serializability.specs.Answered.{AnswersAreSerial, CallsLead, CallsLeadOn, IsAnswer}
 use Rattle.drda_node.specs.Asking.{AskedCore, IsExcused}
 use Rattle.drda_node.specs.Calls.{IsAsked}
 use Rattle.drda_node.proofs.Histories.{asked_told}
-use Rattle.drda_node.specs.Serial.{HistoriesLead, MachinesAreSerial, SaneOpeningsBegin, answered}
+use Rattle.drda_node.specs.Serial.{HistoriesLead, MachinesAreSerial, SaneOpeningsBegin}
 
 excused : (old new : AskedCore) (place : _) (k : Call) (a : Answer) → IsExcused old place k a new → (is_excuse a ≡ true) × (new.state ≡ old.state)
 excused old new place k a (inl x) = (ap is_excuse x.answer_is, ap (λ (c : AskedCore). c.state) x.same)
@@ -28,13 +28,12 @@ histories_lead on old new [] told rests = subst (λ (s : CoreState). CallsLead o
 histories_lead on old new (a ∷ calls) told (at, between, rests, asked, h) =
     let told_there : at.is_told ≡ true = rests.told ∙ told in
     let first = one a.mark at between a.conversation a.call a.answer told_there asked in
-    let l : AnsweredCall = record { conversation = a.conversation; call = a.call; mark = a.mark; answer = a.answer } in
-    subst (λ (s : CoreState). CallsLead s (l ∷ answered calls) new.state) rests.state
-    (on.both at.state between.state new.state (l ∷ []) (answered calls)
-    (subst (λ (s : CoreState). CallsLead at.state (l ∷ []) s) (sym first.1) (on.one at.state l first.0)) (histories_lead on between new calls (asked_told a.mark at between a.conversation a.call a.answer asked ∙ told_there) h))
+    subst (λ (s : CoreState). CallsLead s (a ∷ calls) new.state) rests.state
+    (on.both at.state between.state new.state (a ∷ []) calls
+    (subst (λ (s : CoreState). CallsLead at.state (a ∷ []) s) (sym first.1) (on.one at.state a first.0)) (histories_lead on between new calls (asked_told a.mark at between a.conversation a.call a.answer asked ∙ told_there) h))
 
 pub sane_openings_begin : SaneOpeningsBegin
 sane_openings_begin d opening sane = record { sound = opening.sound; lie = sane.lie; rising = opening.rising; prepared = opening.prepared }
 
 pub machines_are_serial : CallsLeadOn → AnswersAreSerial → MachinesAreSerial
-machines_are_serial on serial old new calls told begins h = serial old.state new.state (answered calls) begins (histories_lead on old new calls told h)
+machines_are_serial on serial old new calls told begins h = serial old.state new.state calls begins (histories_lead on old new calls told h)

@@ -9,13 +9,13 @@ use Rattle.std.proofs.lemmas.List.Elements.{All-push}
 use Rattle.drda_disk.specs.Disk.{Life}
 use Rattle.recovery.specs.Journaled.{CallsGoOn, OnDisk}
 use Rattle.drda_node.specs.declared.serving.RunEnd.{RunEnd}
-use Rattle.drda_node.specs.Asking.{IsJournaled, asked_of}
+use Rattle.drda_node.specs.Asking.{IsJournaled, asked_after}
 use Rattle.drda_node.specs.Machine.{Machine}
 use Rattle.drda_node.specs.Records.{Event, event_text, IsAllowed}
 use Rattle.drda_node.specs.Happening.{Happens}
 use Rattle.drda_node.specs.Gathering.{Ends, PassesOn, WritesFront}
 use Rattle.drda_node.specs.Reading.{Receives}
-use Rattle.drda_node.specs.Stations.{AnswersStay, GoesTo, RunsAlong, Station, Stations, StaysOrGoesOn, first_station}
+use Rattle.drda_node.specs.Stations.{AnswersStay, GoesTo, RunsAlong, Station, Stations, StaysOrGoesOn, TellsCheckpoint, first_station}
 
 module _ {D : Type 0} (modelled : Bool) (life : D → Life) where
   stations_next : (a b c : Station D) (events : List Event) (event : Event) → Stations modelled life a events b → GoesTo modelled life b event c → Stations modelled life a (events ++ event ∷ []) c
@@ -56,14 +56,15 @@ module _ {D : Type 0} (modelled : Bool) (life : D → Life) where
 
   module _ (first : Station D) (input left left' : List ℕ) (w0 w w' : Option (List ℕ)) (gathered : List ℕ) (between last : Machine) (old new : OnDisk D) (event : Event) (y : List ℕ)
       (so_far : IsAlong first input left w0 w gathered between old) (allowed : IsAllowed event) (took : left ≡ event_text event ++ left') (happens : Happens between event y last)
-      (journaled : IsJournaled modelled life old new) (over : last.core ≡ asked_of modelled new) where
+      (journaled : IsJournaled modelled life old new) (over : last.core ≡ asked_after modelled last.core.calls new) (tells : TellsCheckpoint modelled life old event y new) where
     goes_to : (b : Station D) → b.machine ≡ last → b.core ≡ new
         → ((b.sent ≡ so_far.at.sent) × (b.gathered ≡ gathered ++ y)) ⊎ ((b.sent ≡ so_far.at.sent ++ (gathered ++ y)) × (b.gathered ≡ []))
         → GoesTo modelled life so_far.at event b
     goes_to b machine core sends = record {
       answer = y;
       happens = subst (λ (m : Machine). Happens m event y b.machine) (sym so_far.machine_is) (subst (λ (m : Machine). Happens between event y m) (sym machine) happens);
-      over = ap (λ (m : Machine). m.core) machine ∙ over ∙ ap (asked_of modelled) (sym core);
+      over = ap (λ (m : Machine). m.core) machine ∙ over ∙ (λ i. asked_after modelled (sym machine i).core.calls (sym core i));
+      checkpoint = subst (λ (c : OnDisk D). TellsCheckpoint modelled life c event y b.core) (sym so_far.core_is) (subst (λ (c : OnDisk D). TellsCheckpoint modelled life old event y c) (sym core) tells);
       journaled = subst (λ (c : OnDisk D). IsJournaled modelled life c b.core) (sym so_far.core_is) (subst (λ (c : OnDisk D). IsJournaled modelled life old c) (sym core) journaled);
       sends = subst (λ (g : List ℕ). ((b.sent ≡ so_far.at.sent) × (b.gathered ≡ g ++ y)) ⊎ ((b.sent ≡ so_far.at.sent ++ (g ++ y)) × (b.gathered ≡ []))) (sym so_far.gathered_is) sends;
     }
@@ -92,12 +93,12 @@ module _ {D : Type 0} (modelled : Bool) (life : D → Life) where
         along_at b refl refl (goes_to b refl refl (inr (refl, nothing))) gathered' refl (Appends-trans w0 w w' so_far.at.sent (gathered ++ y) so_far.appended all)
 
   pub one_more_along : (first : Station D) (r0 r r' w0 w w' : Option (List ℕ)) (between last : Machine) (old new : OnDisk D) (event : Event) (y gathered gathered' : List ℕ) → Along first r0 r w0 w gathered between old → Receives r r' event
-      → Happens between event y last → IsJournaled modelled life old new → last.core ≡ asked_of modelled new → PassesOn w gathered y w' gathered' → Along first r0 r' w0 w' gathered' last new
-  one_more_along first None r r' w0 w w' between last old new event y gathered gathered' so_far received happens journaled over passed = tt
-  one_more_along first (Some input) None r' w0 w w' between last old new event y gathered gathered' so_far received happens journaled over passed = absurd so_far
-  one_more_along first (Some input) (Some left) None w0 w w' between last old new event y gathered gathered' so_far received happens journaled over passed = absurd received.consumed
-  one_more_along first (Some input) (Some left) (Some left') w0 w w' between last old new event y gathered gathered' so_far received happens journaled over passed =
-      along_next first input left left' w0 w w' gathered between last old new event y so_far received.allowed received.consumed happens journaled over gathered' passed
+      → Happens between event y last → IsJournaled modelled life old new → last.core ≡ asked_after modelled last.core.calls new → TellsCheckpoint modelled life old event y new → PassesOn w gathered y w' gathered' → Along first r0 r' w0 w' gathered' last new
+  one_more_along first None r r' w0 w w' between last old new event y gathered gathered' so_far received happens journaled over tells passed = tt
+  one_more_along first (Some input) None r' w0 w w' between last old new event y gathered gathered' so_far received happens journaled over tells passed = absurd so_far
+  one_more_along first (Some input) (Some left) None w0 w w' between last old new event y gathered gathered' so_far received happens journaled over tells passed = absurd received.consumed
+  one_more_along first (Some input) (Some left) (Some left') w0 w w' between last old new event y gathered gathered' so_far received happens journaled over tells passed =
+      along_next first input left left' w0 w w' gathered between last old new event y so_far received.allowed received.consumed happens journaled over tells gathered' passed
 
   -- ---- at its end
 

@@ -4,7 +4,7 @@ use Rattle.recovery.specs.Journaled.{OnDisk}
 use Rattle.drda_node.specs.declared.node.Node.{Node}
 use Rattle.drda_node.specs.declared.slot.Slot.{Slot}
 use Rattle.drda_node.specs.declared.node.ConversationId.{ConversationId}
-use Rattle.drda_node.specs.Asking.{asked_of}
+use Rattle.drda_node.specs.Asking.{asked_after}
 use Rattle.drda_node.specs.Machine.{Conversation, Machine, IsOpen, opened}
 use Rattle.drda_node.specs.Feeding.{shown_held}
 
@@ -21,7 +21,7 @@ machine {D} {d} node = record {
   settings = node.settings;
   row = map shown node.places.items;
   given = node.next_number;
-  core = asked_of d.is_modelled (core_in node);
+  core = asked_after d.is_modelled node.calls.listed (core_in node);
 }
 
 abbrev pub number_of : Slot → ℕ

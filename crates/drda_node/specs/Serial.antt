@@ -1,21 +1,16 @@
 -- What a machine answers is in serial order.
-use Rattle.std.specs.Prelude.{◌≡◌, List, [], ◌∷◌, true}
+use Rattle.std.specs.Prelude.{◌≡◌, List, true}
 use Rattle.core_model.specs.Laws.{IsSane}
 use Rattle.recovery.specs.Durable.{Durable}
 use Rattle.recovery.specs.Part.{opened}
 use Rattle.recovery.specs.Openings.{IsOpening}
 use Rattle.serializability.specs.Answered.{AnsweredCall, Begins, CallsLead, SerialRun, committed}
 use Rattle.drda_node.specs.Asking.{AskedCore}
-use Rattle.drda_node.specs.Calls.{AskedCall, IsHistory}
-
--- the calls of a history, as the law of serial order has them
-abbrev pub answered : List AskedCall → List AnsweredCall
-answered [] = []
-answered (a ∷ calls) = record { conversation = a.conversation; call = a.call; mark = a.mark; answer = a.answer } ∷ answered calls
+use Rattle.drda_node.specs.Calls.{IsHistory}
 
 abbrev pub HistoriesLead : Type 0
 HistoriesLead =
-    (old new : AskedCore) (calls : List AskedCall) → old.is_told ≡ true → IsHistory old calls new → CallsLead old.state (answered calls) new.state
+    (old new : AskedCore) (calls : List AnsweredCall) → old.is_told ≡ true → IsHistory old calls new → CallsLead old.state calls new.state
 
 -- what is opened begins as the law asks it, where it is sane
 abbrev pub SaneOpeningsBegin : Type 0
@@ -25,6 +20,6 @@ SaneOpeningsBegin = (d : Durable) → IsOpening (opened d) → IsSane (opened d)
 -- alone one after another from the store that it began with to the committed one.
 abbrev pub MachinesAreSerial : Type 0
 MachinesAreSerial =
-    (old new : AskedCore) (calls : List AskedCall)
+    (old new : AskedCore) (calls : List AnsweredCall)
     → old.is_told ≡ true → Begins old.state → IsHistory old calls new
-    → SerialRun old.state.base.store (committed old.state (answered calls)) new.state.base.store
+    → SerialRun old.state.base.store (committed old.state calls) new.state.base.store

@@ -3,11 +3,13 @@ use Rattle.std.specs.Prelude.{◌≡◌, ◌⊎◌, ℕ, Bool, List, [], ◌∷�
 use Rattle.std.specs.List.{All, flat_map}
 use Rattle.std.specs.Io.KnownBytes.{Appends}
 use Rattle.drda_disk.specs.Disk.{Life}
-use Rattle.recovery.specs.Journaled.{OnDisk}
-use Rattle.drda_node.specs.Asking.{IsJournaled, asked_of}
+use Rattle.recovery.specs.Journaled.{OnDisk, shown_on}
+use Rattle.durable_core.specs.Checkpointing.{Checkpoints}
+use Rattle.durable_core.specs.declared.checkpointing.Checkpointed.{Checkpointed}
+use Rattle.drda_node.specs.Asking.{IsJournaled, asked_after}
 use Rattle.drda_node.specs.Machine.{Machine}
-use Rattle.drda_node.specs.Records.{Event, event_text, IsAllowed}
-use Rattle.drda_node.specs.Happening.{Happens}
+use Rattle.drda_node.specs.Records.{Event, IsAllowed, checkpoints, event_text, loses, opens, record_text, sends}
+use Rattle.drda_node.specs.Happening.{Happens, code_of}
 
 -- where a run stands between two events: the machine, its core over the disk, what was written so far, and the answers that
 -- are to be written next
@@ -28,11 +30,21 @@ SendsOn a answer b =
     ⊎ ((b.sent ≡ a.sent ++ (a.gathered ++ answer)) × (b.gathered ≡ []))
 
 module _ {D : Type 0} (modelled : Bool) (life : D → Life) where
+  -- A checkpoint is answered by what became of it on the disk: it was written, where it fits into a half, and its room is what it leaves
+  -- there; or there is no room, exactly where it does not fit; or memory was refused, or the device failed.
+  abbrev pub TellsCheckpoint : OnDisk D → Event → List ℕ → OnDisk D → Type 0
+  TellsCheckpoint old (opens number) answer new = Unit {0}
+  TellsCheckpoint old (sends number bytes) answer new = Unit {0}
+  TellsCheckpoint old (loses number) answer new = Unit {0}
+  TellsCheckpoint old (checkpoints number) answer new =
+      (told : Checkpointed) × (answer ≡ record_text 4 number (code_of told ∷ [])) × Checkpoints modelled told (shown_on life old) (shown_on life new)
+
   -- One event further on: it is answered, what it left on the disk is journaled, and only then its answer is written.
   pub record GoesTo (a : Station D) (event : Event) (b : Station D) : Type 0 where
     pub answer : List ℕ
     pub happens : Happens a.machine event answer b.machine
-    pub over : b.machine.core ≡ asked_of modelled b.core
+    pub over : b.machine.core ≡ asked_after modelled b.machine.core.calls b.core
+    pub checkpoint : TellsCheckpoint a.core event answer b.core
     pub journaled : IsJournaled modelled life a.core b.core
     pub sends : SendsOn a answer b
 

@@ -8,6 +8,7 @@ ghost use Rattle.drda_node.specs.Reading.{event_of, size_of};
 ghost use Rattle.drda_node.specs.Happening.{BreaksOff, Happens, closing, code_of as code_for, refusal};
 ghost use Rattle.drda_node.specs.Asking.{IsJournaled};
 ghost use Rattle.drda_node.specs.Register.{core_in, machine};
+ghost use Rattle.drda_node.specs.Stations.{TellsCheckpoint};
 
 use crate::event::{HEAD_SIZE, Head, push_record};
 use crate::node::Node;
@@ -54,6 +55,7 @@ pub(crate) fn answer<D: Disk>(
 ) -> Result<(), AllocError>
     requires { size_of head ≤ length bytes.now }
     ensures happens { OnOk result (Happens (machine node.old) (event_of head bytes.now) text.new.items (machine node.new)) }
+    ensures checkpoint { OnOk result (TellsCheckpoint D.is_modelled D.life (core_in node.old) (event_of head bytes.now) text.new.items (core_in node.new)) }
     ensures breaks_off { OnErr result (BreaksOff (machine node.old) (event_of head bytes.now) (machine node.new)) }
     ensures journaled { IsJournaled D.is_modelled D.life (core_in node.old) (core_in node.new) }
 {
@@ -180,6 +182,7 @@ fn answer_checkpoint<D: Disk>(
 ) -> Result<(), AllocError>
     requires { text.old.items ≡ [] }
     ensures happens { OnOk result (Happens (machine node.old) (checkpoints number) text.new.items (machine node.new)) }
+    ensures checkpoint { OnOk result (TellsCheckpoint D.is_modelled D.life (core_in node.old) (checkpoints number) text.new.items (core_in node.new)) }
     ensures breaks_off { OnErr result (BreaksOff (machine node.old) (checkpoints number) (machine node.new)) }
     ensures journaled { IsJournaled D.is_modelled D.life (core_in node.old) (core_in node.new) }
 {

@@ -6,10 +6,13 @@ ghost use Rattle.drda_node.specs.Sharing.{AllServe};
 use crate::asker::CoreAsker;
 use crate::row::{PLACES, free_places};
 use crate::slot::Slot;
+use call_list::{CallList, is_done};
 use conversation::{Fed, Heard, Settings};
+use core_calls::CoreCall;
 use drda_disk::Disk;
 use durable_core::{Checkpointed, DurableCore};
 use recovery::images::calls_go_on;
+use serializability::answers::answers_belong_to_calls;
 use std::alloc::Global;
 use thiserror::Error;
 
@@ -32,12 +35,13 @@ pub enum OpenError {
     NoMemory,
 }
 
-/// Up to 64 conversations, and the core that they ask.
+/// Up to 64 conversations, the core that they ask, and the calls that it was asked.
 #[derive(Drop)]
 pub struct Node<D: Disk> {
     alloc: Global,
     settings: Settings,
     pub(crate) core: DurableCore<D>,
+    calls: CallList,
     pub(crate) places: Vec<Slot>,
     pub(crate) next_number: u64,
     ghost sixty_four: { length places.items ≡ 64 },
@@ -71,6 +75,7 @@ impl<D: Disk> Node<D> {
                     alloc,
                     settings,
                     core,
+                    calls: CallList::none(),
                     places,
                     next_number: 0,
                 })
@@ -94,6 +99,7 @@ impl<D: Disk> Node<D> {
             alloc: _,
             settings: _,
             core,
+            calls: _,
             places: _,
             next_number: _,
         } = self;
@@ -186,6 +192,7 @@ impl<D: Disk> Node<D> {
     {
         let mut asker = CoreAsker {
             core: &mut self.core,
+            calls: &mut self.calls,
             conversation: place as u64,
         };
         self.places[place].feed(&mut asker, piece, out)
@@ -215,6 +222,7 @@ impl<D: Disk> Node<D> {
         let conversation = place as u64;
         let mut asker = CoreAsker {
             core: &mut self.core,
+            calls: &mut self.calls,
             conversation,
         };
         self.places[place].feed_all(&mut asker, piece, out)
@@ -241,7 +249,7 @@ impl<D: Disk> Node<D> {
         ensures journaled { IsJournaled D.is_modelled D.life (core_in self.old) (core_in self.new) }
     {
         self.places[place].close(self.alloc);
-        end_units(&mut self.core, place as u64);
+        end_units(&mut self.core, &mut self.calls, place as u64);
     }
 
     /// Whether a checkpoint is worth its writes, as the core says. Makes no device call.
@@ -266,25 +274,28 @@ impl<D: Disk> Node<D> {
     }
 }
 
-ghost use Rattle.drda_node.specs.Asking.{IsJournaled, asked_of, left_by};
+ghost use Rattle.std.specs.Prelude.{List};
+ghost use Rattle.serializability.specs.Answered.{AnsweredCall};
+ghost use Rattle.drda_node.specs.Asking.{IsJournaled, asked_after, left_by};
 ghost use Rattle.drda_node.specs.Happening.{IsCheckpointed};
 ghost use Rattle.recovery.specs.Journaled.{shown_on};
 ghost use Rattle.durable_core.specs.Checkpointing.{Checkpoints};
 
-// Ends what was a conversation's alone. What the core answers says nothing that is not known.
-#[tactic(auto, using(crate::proofs::Cores::core_loses))]
-fn end_units<D: Disk>(core: &mut DurableCore<D>, conversation: u64)
-    ensures left { asked_of D.is_modelled core.new ≡ left_by (asked_of D.is_modelled core.old) conversation }
+// Ends what was a conversation's alone, and notes the loss.
+fn end_units<D: Disk>(core: &mut DurableCore<D>, calls: &mut CallList, conversation: u64)
+    ensures left { asked_after D.is_modelled calls.new.listed core.new ≡ left_by (asked_after D.is_modelled calls.old.listed core.old) conversation }
     ensures journaled { IsJournaled D.is_modelled D.life core.old core.new }
 {
-    let _ = core.lost(conversation);
+    answers_belong_to_calls();
+    let answer = core.lost(conversation);
+    calls.note(conversation, &CoreCall::Lost, &answer, is_done(&answer));
 }
 
 // Writes a checkpoint of the core.
 #[tactic(auto, using(crate::proofs::Cores::core_checkpoints))]
 fn checkpoint_core<D: Disk>(core: &mut DurableCore<D>) -> Checkpointed
     ensures told { Checkpoints D.is_modelled result (shown_on D.life core.old) (shown_on D.life core.new) }
-    ensures checkpointed { IsCheckpointed result (asked_of D.is_modelled core.old) (asked_of D.is_modelled core.new) }
+    ensures checkpointed { (calls : List AnsweredCall) → IsCheckpointed result (asked_after D.is_modelled calls core.old) (asked_after D.is_modelled calls core.new) }
     ensures journaled { IsJournaled D.is_modelled D.life core.old core.new }
 {
     core.checkpoint()

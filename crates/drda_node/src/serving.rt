@@ -2,6 +2,7 @@
 
 ghost use Rattle.std.specs.Prelude.{IfSome};
 ghost use Rattle.drda_node.specs.Asking.{IsJournaled};
+ghost use Rattle.drda_node.specs.Calls.{HasHistory};
 ghost use Rattle.drda_node.specs.Register.{core_in, machine};
 ghost use Rattle.drda_node.specs.Serving.{Runs};
 ghost use Rattle.drda_node.specs.Stations.{RunsAlong, first_station};
@@ -44,7 +45,9 @@ pub enum RunEnd {
 /// A run is a chain of stations, one behind each event: what an event left on the disk is journaled before its answer
 /// is written. So a crash at any moment leaves a disk that opens to the tables and the units in doubt after all
 /// records of the events that were answered until then, and perhaps of some more; a crash behind the run, after all
-/// that was made, or with it all that was begun in the call in which the device failed.
+/// that was made, or with it all that was begun in the call in which the device failed. A checkpoint is answered by what
+/// became of it on the disk. The calls that the machine asked of its core in the run, which the core has noted with their
+/// answers, are a history: the law of serial order speaks of them.
 pub fn run<D: Disk, R: Ready, W: Write>(
     alloc: Global,
     node: &mut Node<D>,
@@ -55,6 +58,7 @@ pub fn run<D: Disk, R: Ready, W: Write>(
         Runs (machine node.old) input (W.contents writer.old) result (W.contents writer.new) (machine node.new)) }
     ensures stations { IfSome (R.remaining reader.old) (λ input.
         RunsAlong D.is_modelled D.life (first_station (machine node.old) (core_in node.old)) input (W.contents writer.old) (W.contents writer.new) (core_in node.new)) }
+    ensures history { HasHistory (machine node.old).core (machine node.new).core }
     ensures journaled { IsJournaled D.is_modelled D.life (core_in node.old) (core_in node.new) }
 {
     calls_go_on::<D>();

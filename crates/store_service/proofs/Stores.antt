@@ -1,12 +1,15 @@
 -- From an opening and a run over its core to the whole.
-use Rattle.std.proofs.Common.{◌≡◌, ℕ, Bool, true, List, ◌++◌, Option, Some, IfSome, Result, Ok, Err, refl, sym, ◌∙◌, ap, subst}
-use Rattle.drda_disk.specs.Disk.{LeavesOnly, Life, Now, Stays}
-use Rattle.drda_disk.proofs.Moments.{stays_and, weaker}
+use Rattle.std.proofs.Common.{◌≡◌, ◌⊎◌, inl, inr, ℕ, Bool, true, List, [], ◌++◌, arith, Option, Some, IfSome, Result, Ok, Err, refl, sym, ◌∙◌, ap, subst}
+use Rattle.drda_disk.specs.Disk.{LeavesOnly, Life, Now, Only, Stays}
+use Rattle.drda_disk.proofs.Moments.{weaker}
 use Rattle.session_commands.specs.Settings.{Settings}
 use Rattle.unit_records.specs.MadeRecords.{MadeRecords, groups_of, with_begun, with_done}
 use Rattle.unit_records.specs.Records.{UnitRecord}
 use Rattle.recovery.specs.Durable.{Durable, replayed_from}
-use Rattle.recovery.specs.Openings.{ImagesAreSound}
+use Rattle.core_model.specs.Laws.{IsSane}
+use Rattle.core_model.specs.Step.{CoreState}
+use Rattle.serializability.specs.Answered.{AnsweredCall, Begins, CallsLead, SerialRun, committed}
+use Rattle.recovery.specs.Openings.{ImagesAreSound, ImagesBegin}
 use Rattle.recovery.specs.Part.{durable_part, opened}
 use Rattle.recovery.specs.Opens.{OpensTo}
 use Rattle.recovery.specs.StepLaws.{OpeningsAreKept}
@@ -16,34 +19,35 @@ use Rattle.durable_core.specs.Reads.{CountsError, IsExcused}
 use Rattle.durable_core.specs.declared.errors.Refused.{Refused}
 use Rattle.durable_core.specs.declared.errors.OpenError.{OpenError}
 use Rattle.durable_core.specs.declared.errors.OpenError.TheVariants.{Damaged, DeviceFailed, NoMemory, NotAStore}
-use Rattle.drda_node.specs.Asking.{AskedCore, asked_of}
+use Rattle.drda_node.specs.Asking.{AskedCore, asked_after, asked_of}
+use Rattle.drda_node.specs.Calls.{IsHistory}
+use Rattle.drda_node.specs.Serial.{HistoriesLead, MachinesAreSerial, SaneOpeningsBegin}
 use Rattle.drda_node.specs.Machine.{Machine, at_start}
 use Rattle.drda_node.specs.Serving.{Runs}
 use Rattle.drda_node.specs.Stations.{RunsAlong, first_station}
 use Rattle.drda_node.specs.declared.serving.RunEnd.{RunEnd}
 use Rattle.store_service.specs.Running.{GivesBack, GoesFrom, HasRun, IsRefusal, IsRefused, IsStore, RunsCore, RunsFrom, RunsOver, core_over}
 
-module _ {D : Type 0} (modelled : Bool) (life : D → Life) (sound : ImagesAreSound) (kept : OpeningsAreKept) where
+-- the laws of serial order
+pub record SerialLaws : Type 0 where
+  pub begin : ImagesBegin
+  pub noted : (old new : AskedCore) (calls : List AnsweredCall) → IsHistory old calls new → new.calls ≡ old.calls ++ calls
+  pub lead : HistoriesLead
+  pub openings : SaneOpeningsBegin
+  pub serial : MachinesAreSerial
+
+module _ {D : Type 0} (modelled : Bool) (life : D → Life) (sound : ImagesAreSound) (kept : OpeningsAreKept) (laws : SerialLaws) where
   module _ (name : List ℕ) (d : Durable) (user password : List ℕ) (disk : D) (store : IsStore modelled name d (life disk)) where
     -- what is durable of a core that was just opened
     part_is : durable_part (opened d) ≡ d
     part_is = (kept d (sound name d (life disk).seen store.opens)).part
 
-    module _ (core : OnDisk D) (is : IsOpenedTo name d core) (stood : StoodThere (life disk).seen core) (stays : Stays (life disk) (life core.disk)) (quiet : (life core.disk).faults ≡ (life disk).faults) where
+    module _ (core : OnDisk D) (is : IsOpenedTo name d core) (stood : StoodThere (life disk).seen core) (stays : Stays (life disk) (life core.disk)) (only : Only (life core.disk)) (quiet : (life core.disk).faults ≡ (life disk).faults) where
       over : asked_of modelled core ≡ core_over d core.layout core.room
-      over = λ i. record { is_told = store.modelled_is i; state = is.state i; layout = core.layout; room = core.room; has_failed = is.going i; made = is.made i }
+      over = λ i. record { is_told = store.modelled_is i; state = is.state i; layout = core.layout; room = core.room; has_failed = is.going i; made = is.made i; calls = [] }
 
       durable : durable_part core.state ≡ d
       durable = ap durable_part is.state ∙ part_is
-
-      -- as the disk was at first
-      before_any : (groups : List (List UnitRecord)) (image : List ℕ) → Now (life disk) image → OpensAfterSome name d groups image
-      before_any groups image now = record {
-        count = 0;
-        state = d;
-        leads = refl;
-        opens = subst (λ (i : List ℕ). OpensTo name d i) (sym (store.only image now)) store.opens;
-      }
 
       same_some : (groups : List (List UnitRecord)) (image : List ℕ) → OpensAfterSome core.name (durable_part core.state) groups image → OpensAfterSome name d groups image
       same_some groups image o = subst (λ (n : List ℕ). OpensAfterSome n d groups image) is.named (subst (λ (e : Durable). OpensAfterSome core.name e groups image) durable o)
@@ -80,20 +84,52 @@ module _ {D : Type 0} (modelled : Bool) (life : D → Life) (sound : ImagesAreSo
             (subst (λ (n : ℕ). FaultsAfter true goes.new.is_failed n (life goes.new.disk).faults) quiet
             (subst (λ (b : Bool). FaultsAfter b goes.new.is_failed (life core.disk).faults (life goes.new.disk).faults) store.modelled_is (goes.journaled.faults is.going))))
 
+        calls_are : goes.last.core.calls ≡ goes.history.0
+        calls_are = laws.noted (asked_of modelled core) goes.last.core goes.history.0 goes.history.1
+
+        calls_lead : CallsLead (opened d) goes.last.core.calls goes.last.core.state
+        calls_lead =
+            subst (λ (s : CoreState). CallsLead s goes.last.core.calls goes.last.core.state) is.state
+            (subst (λ (ls : List AnsweredCall). CallsLead core.state ls goes.last.core.state) (sym calls_are)
+            (laws.lead (asked_of modelled core) goes.last.core goes.history.0 store.modelled_is goes.history.1))
+
+        is_serial : IsSane (opened d).base → SerialRun d.store (committed (opened d) goes.last.core.calls) goes.last.core.state.base.store
+        is_serial sane =
+            let begins : Begins core.state = subst (λ (s : CoreState). Begins s) (sym is.state) (laws.openings d (laws.begin name d (life disk).seen store.opens) sane) in
+            subst (λ (s : CoreState). SerialRun s.base.store (committed s goes.last.core.calls) goes.last.core.state.base.store) is.state
+            (subst (λ (ls : List AnsweredCall). SerialRun core.state.base.store (committed core.state ls) goes.last.core.state.base.store) (sym calls_are)
+            (laws.serial (asked_of modelled core) goes.last.core goes.history.0 store.modelled_is begins goes.history.1))
+
+        -- since the disk was opened
+        since : (groups begun : List (List UnitRecord)) → LeavesOnly (life core.disk) (life goes.new.disk) (OpensAfterSome core.name (durable_part core.state) (groups ++ begun)) → LeavesOnly (life core.disk) (life given) (OpensAfterSome name d (groups ++ begun))
+        since groups begun all = subst (λ (x : D). LeavesOnly (life core.disk) (life x) (OpensAfterSome name d (groups ++ begun))) (sym goes.disk_is) (weaker (life core.disk) (life goes.new.disk) _ _ all (same_some (groups ++ begun)))
+
+        -- and before
+        ever : (groups begun : List (List UnitRecord)) → LeavesOnly (life core.disk) (life given) (OpensAfterSome name d (groups ++ begun)) → (image : List ℕ) → (life given).left_since (life disk).moment image → Now (life disk) image ⊎ OpensAfterSome name d (groups ++ begun) image
+        ever groups begun all image left = by_time (all.before (life disk).moment image stays.later left)
+          where
+            by_time : (life core.disk).left_since (life disk).moment image ⊎ OpensAfterSome name d (groups ++ begun) image → Now (life disk) image ⊎ OpensAfterSome name d (groups ++ begun) image
+            by_time (inl first) = inl (stays.nothing_new (life disk).moment image (omega arith) first)
+            by_time (inr o) = inr o
+
         pub has_run : HasRun life name d (record { user = user; password = password; rdb = name }) disk given input before end now
         has_run =
             let (groups, begun, made) = goes.journaled.records store.modelled_is is.going in
+            let all = since groups begun made.moments in
             record {
               core = core;
               is_opened = is;
               stood = stood;
               unwritten = stays;
+              settled_first = only;
               last = goes.last;
               runs = runs_from input goes.runs;
               left_core = goes.new;
               left_disk = goes.disk_is;
-              over = goes.core_is ∙ ap (λ (b : Bool). asked_of b goes.new) store.modelled_is;
+              over = goes.core_is ∙ ap (λ (b : Bool). asked_after b goes.last.core.calls goes.new) store.modelled_is;
               stations = stations_from input goes.stations;
+              calls_lead = calls_lead;
+              serial = is_serial;
               groups = groups;
               begun = begun;
               good = made.good;
@@ -101,8 +137,8 @@ module _ {D : Type 0} (modelled : Bool) (life : D → Life) (sound : ImagesAreSo
               lead = ap (λ (e : Durable). replayed_from e (all_in groups)) (sym durable) ∙ made.state ∙ ap (λ (c : AskedCore). Some (durable_part c.state)) (sym goes.core_is);
               settled = λ going. made.settled (sym failed_is ∙ going);
               faults = faults_are;
-              moments = subst (λ (x : D). LeavesOnly (life disk) (life x) (OpensAfterSome name d (groups ++ begun))) (sym goes.disk_is)
-                  (stays_and (life disk) (life core.disk) (life goes.new.disk) _ stays (weaker (life core.disk) (life goes.new.disk) _ _ made.moments (same_some (groups ++ begun))) (before_any (groups ++ begun)));
+              moments = all;
+              any_moment = ever groups begun all;
               left = λ image now. same_all groups begun image (made.left image (subst (λ (x : D). Now (life x) image) goes.disk_is now));
             }
 

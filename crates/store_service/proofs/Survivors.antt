@@ -13,15 +13,15 @@ use Rattle.recovery.specs.Journaled.{OpensAfterAll}
 use Rattle.drda_node.specs.declared.serving.RunEnd.{RunEnd}
 use Rattle.durable_core.specs.declared.errors.OpenError.{OpenError}
 use Rattle.durable_core.specs.Reads.{IsExcused}
-use Rattle.store_service.specs.Running.{HasRun, IsRefusal, IsStore, RunsFrom}
+use Rattle.store_service.specs.Running.{HasRun, IsRefusal, IsSettledStore, RunsFrom}
 use Rattle.store_service.specs.Surviving.{IsPicked, Survives, fused}
 use Rattle.store_service.proofs.Stores.{refusal_of}
 
 -- a fuse changes nothing of what is read, or left by a crash
-pub behind_fuse : (name : List ℕ) (d : Durable) (disk : MemDisk) (f : FuseDisk MemDisk) → inner_of f ≡ disk → IsStore true name d (life_of disk) → IsStore true name d (fused f)
+pub behind_fuse : (name : List ℕ) (d : Durable) (disk : MemDisk) (f : FuseDisk MemDisk) → inner_of f ≡ disk → IsSettledStore true name d (life_of disk) → IsSettledStore true name d (fused f)
 behind_fuse name d disk f is store =
-    let inside : IsStore true name d (life_of (inner_of f)) = subst (λ (m : MemDisk). IsStore true name d (life_of m)) (sym is) store in
-    record { modelled_is = inside.modelled_is; only = inside.only; opens = inside.opens }
+    let inside : IsSettledStore true name d (life_of (inner_of f)) = subst (λ (m : MemDisk). IsSettledStore true name d (life_of m)) (sym is) store in
+    record { store = record { modelled_is = inside.store.modelled_is; opens = inside.store.opens }; only = inside.only }
 
 -- the state that an image opens to after it all
 pub record LeftState (name : List ℕ) (d : Durable) (user password : List ℕ) (disk : MemDisk) (calls pick : ℕ) (input image : List ℕ) (r : Result RunEnd OpenError) : Type 0 where
@@ -29,7 +29,7 @@ pub record LeftState (name : List ℕ) (d : Durable) (user password : List ℕ) 
   pub opens : OpensTo name state image
   pub survives : (told : CoreState) → told ≡ opened state → Survives name d user password disk calls pick input r told
 
-module _ (name : List ℕ) (d : Durable) (user password input : List ℕ) (disk : MemDisk) (calls pick : ℕ) (f left : FuseDisk MemDisk) (inside : inner_of f ≡ disk) (fails_after : left_of f ≡ Some calls) (store : IsStore true name d (fused f)) (replies image : List ℕ)
+module _ (name : List ℕ) (d : Durable) (user password input : List ℕ) (disk : MemDisk) (calls pick : ℕ) (f left : FuseDisk MemDisk) (inside : inner_of f ≡ disk) (fails_after : left_of f ≡ Some calls) (store : IsSettledStore true name d (fused f)) (replies image : List ℕ)
     (picked : IsPicked pick left image) where
   ran_to : (end : RunEnd) (ran : HasRun fused name d (record { user = user; password = password; rdb = name }) f left (Some input) (Some []) end (Some replies)) → OpensAfterAll name d ran.groups ran.begun image
       → LeftState name d user password disk calls pick input image (Ok end)
@@ -50,7 +50,7 @@ module _ (name : List ℕ) (d : Durable) (user password input : List ℕ) (disk 
       let same : image ≡ (fused f).seen = store.only image (refused.stays.no_more image picked.now) in
       record {
         state = d;
-        opens = subst (λ (i : List ℕ). OpensTo name d i) (sym same) store.opens;
+        opens = subst (λ (i : List ℕ). OpensTo name d i) (sym same) store.store.opens;
         survives = λ told is. is;
       }
 

@@ -6,7 +6,7 @@ ghost use Rattle.recovery.specs.Durable.{Durable};
 ghost use Rattle.recovery.specs.Opens.{OpensTo};
 ghost use Rattle.recovery.specs.Part.{opened};
 ghost use Rattle.durable_core.specs.Reads.{IsExcused};
-ghost use Rattle.store_service.specs.Running.{IsRefusal, IsStore};
+ghost use Rattle.store_service.specs.Running.{IsRefusal, IsSettledStore};
 ghost use Rattle.store_service.specs.Surviving.{Survives};
 
 use crate::running::run_store;
@@ -33,9 +33,9 @@ pub fn survives(
     password: &str,
     input: &[u8],
 ) -> (Result<RunEnd, OpenError>, Result<PlainState, OpenError>)
-    ensures ok { (name : List ℕ) (d : Durable) → IsStore true name d (life_of disk) → IfOk result.1 (Survives name d user.now password.now disk calls pick input.now result.0) }
-    ensures ran { (name : List ℕ) (d : Durable) → IsStore true name d (life_of disk) → IfErr result.0 (IsRefusal name) }
-    ensures err { (name : List ℕ) (d : Durable) → IsStore true name d (life_of disk) → IfErr result.1 (IsRefusal name) }
+    ensures ok { (name : List ℕ) (d : Durable) → IsSettledStore true name d (life_of disk) → IfOk result.1 (Survives name d user.now password.now disk calls pick input.now result.0) }
+    ensures ran { (name : List ℕ) (d : Durable) → IsSettledStore true name d (life_of disk) → IfErr result.0 (IsRefusal name) }
+    ensures err { (name : List ℕ) (d : Durable) → IsSettledStore true name d (life_of disk) → IfErr result.1 (IsRefusal name) }
 {
     let mut reader = input;
     let mut written = Vec::new(alloc);

@@ -8,7 +8,8 @@ use Rattle.drda_node.specs.Happening.{BreaksOff, Happens}
 use Rattle.drda_node.specs.Serving.{GoesOn}
 use Rattle.drda_node.proofs.Refusing.{broken_keep}
 use Rattle.conversation.proofs.Written.{take_front}
-use Rattle.drda_node.specs.Stations.{first_station}
+use Rattle.drda_node.specs.Stations.{TellsCheckpoint, first_station}
+use Rattle.drda_node.proofs.Histories.{begun, happens as happens_so, some_both, unasked}
 use Rattle.drda_node.proofs.Stations.{Along, begins_along, ends_along, fault_along, not_along, one_more_along}
 use Rattle.drda_node.proofs.Runs.{SoFar, ends, is_bad, no_memory, not_begun, one_more, read_fault, starts, write_fault}
 use Rattle.drda_node.proofs.serving.run.Goals as goal
@@ -120,9 +121,11 @@ events-preserved g c =
     record {
       room = ap length back ∙ full;
       journaled = more g.D.Disk.is_modelled g.D.Disk.life c.calls_go_on.ensures (core_in c.args.node.now) (core_in c.events.node) (core_in c.answer.new.node) c.events.invariant.journaled c.answer.ensures.journaled;
+      history = some_both first.core between.core last.core c.events.invariant.history (happens_so between last event text happens);
       so_far = one_more r r1 r2 w w1 w2 first between last event text gathered c.pass_on.new.gathered.items c.events.invariant.so_far c.in-Event.ensures.reads happens passed;
       along = one_more_along g.D.Disk.is_modelled g.D.Disk.life (first_station first (core_in c.args.node.now)) r r1 r2 w w1 w2 between last (core_in c.events.node) (core_in c.answer.new.node) event text gathered c.pass_on.new.gathered.items
-          c.events.invariant.along c.in-Event.ensures.reads happens c.answer.ensures.journaled refl passed;
+          c.events.invariant.along c.in-Event.ensures.reads happens c.answer.ensures.journaled refl
+          (subst (λ (z : List ℕ). TellsCheckpoint g.D.Disk.is_modelled g.D.Disk.life (core_in c.events.node) (event_of c.in-Event.head z) text (core_in c.answer.new.node)) same c.in-Ok-answer.ensures.checkpoint) passed;
     }
 
 pub returns-clause-runs : goal.returns-clause-runs
@@ -140,9 +143,26 @@ returns-in_default-answer-clause-journaled g c = more g.D.Disk.is_modelled g.D.D
 pub returns-in_default-pass_on-clause-journaled : goal.returns-in_default-pass_on-clause-journaled
 returns-in_default-pass_on-clause-journaled g c = more g.D.Disk.is_modelled g.D.Disk.life c.calls_go_on.ensures (core_in c.args.node.now) (core_in c.events.node) (core_in c.answer.new.node) c.events.invariant.journaled c.answer.ensures.journaled
 
+pub returns-in_default-clause-history : goal.returns-in_default-clause-history
+returns-in_default-clause-history g c = unasked (machine c.args.node.now) (machine c.args.node.now) refl
+
+pub returns-in_default-answer-clause-history : goal.returns-in_default-answer-clause-history
+returns-in_default-answer-clause-history g c =
+    let between = machine c.events.node in
+    let last = machine c.answer.new.node in
+    some_both (machine c.args.node.now).core between.core last.core c.events.invariant.history (begun between last (event_of c.in-Event.head c.deref.result.now) c.in_default-answer.ensures.breaks_off)
+
+pub returns-in_default-pass_on-clause-history : goal.returns-in_default-pass_on-clause-history
+returns-in_default-pass_on-clause-history g c =
+    let between = machine c.events.node in
+    let last = machine c.answer.new.node in
+    some_both (machine c.args.node.now).core between.core last.core c.events.invariant.history
+    (happens_so between last (event_of c.in-Event.head c.deref.result.now) c.answer.new.text.items c.in-Ok-answer.ensures.happens)
+
 pub events-init : goal.events-init
 events-init g c = record {
   room = c.in-Ok.ensures;
+  history = unasked (machine c.args.node.now) (machine c.args.node.now) refl;
   journaled = none g.D.Disk.is_modelled g.D.Disk.life c.calls_go_on.ensures (core_in c.args.node.now) c.is_durable.ensures;
   so_far = subst (λ (z : List ℕ). SoFar (machine c.args.node.now) (g.R.Read.remaining c.args.reader.now) (g.R.Read.remaining c.args.reader.now) (g.W.Write.contents c.args.writer.now) (g.W.Write.contents c.args.writer.now) z (machine c.args.node.now)) (sym c.new-gathered.ensures.items)
       (starts (g.R.Read.remaining c.args.reader.now) (g.W.Write.contents c.args.writer.now) (machine c.args.node.now));

@@ -1,5 +1,6 @@
 use Rattle.std.proofs.Common.{◌≡◌, length}
 use Rattle.drda_node.specs.Asking.{IsJournaled}
+use Rattle.drda_node.specs.Calls.{HasHistory}
 use Rattle.drda_node.specs.Register.{core_in, machine}
 use Rattle.drda_node.proofs.Runs.{SoFar}
 use Rattle.drda_node.proofs.Stations.{Along}
@@ -10,6 +11,7 @@ abbrev pub invariant-events : goal.invariant-events
 invariant-events g l = record {
   room : length l.buffer.items ≡ 65536;
   journaled : IsJournaled g.D.Disk.is_modelled g.D.Disk.life (core_in l.fn.node) (core_in l.node);
+  history : HasHistory (machine l.fn.node).core (machine l.node).core;
   so_far : SoFar (machine l.fn.node) (g.R.Read.remaining l.fn.reader) (g.R.Read.remaining l.reader) (g.W.Write.contents l.fn.writer) (g.W.Write.contents l.writer) l.gathered.items (machine l.node);
   along : Along g.D.Disk.is_modelled g.D.Disk.life (first_station (machine l.fn.node) (core_in l.fn.node)) (g.R.Read.remaining l.fn.reader) (g.R.Read.remaining l.reader) (g.W.Write.contents l.fn.writer) (g.W.Write.contents l.writer) l.gathered.items
       (machine l.node) (core_in l.node);

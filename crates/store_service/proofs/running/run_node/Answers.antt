@@ -12,6 +12,7 @@ returns g c = (
     journaled = c.run-end.ensures.journaled;
     last = machine c.run-end.new.node;
     core_is = refl;
+    history = c.run-end.ensures.history;
     runs = c.run-end.ensures.runs;
     stations = c.run-end.ensures.stations;
   },

@@ -19,7 +19,7 @@ returns-clause-ok c name d store =
       all = λ one. c.after_crash.ensures.all one ∙ ap read_of c.into_inner.ensures;
     } in
     let ran : RunsFrom fused name d c.args.user.now c.args.password.now f (Some c.args.input.now) (Some []) left c.run_store-left.result.1 (Some c.run_store-left.new.writer.items) =
-    subst (λ (w : List ℕ). RunsFrom fused name d c.args.user.now c.args.password.now f (Some c.args.input.now) (Some w) left c.run_store-left.result.1 (Some c.run_store-left.new.writer.items)) c.new-written.ensures.items (c.run_store-left.ensures name d fused_store) in
+    subst (λ (w : List ℕ). RunsFrom fused name d c.args.user.now c.args.password.now f (Some c.args.input.now) (Some w) left c.run_store-left.result.1 (Some c.run_store-left.new.writer.items)) c.new-written.ensures.items (c.run_store-left.ensures name d fused_store.store) in
     let there = left_state name d c.args.user.now c.args.password.now c.args.input.now c.args.disk c.args.calls c.args.pick f left c.new-fuse.ensures.inner c.new-fuse.ensures.left fused_store c.run_store-left.new.writer.items image picked c.run_store-left.result.1 ran in
     told_so name d c.args.user.now c.args.password.now c.args.disk c.args.calls c.args.pick c.args.input.now image c.run_store-left.result.1 there c.tell.result (c.tell.ensures.ok name there.state there.opens)
 
@@ -35,7 +35,7 @@ returns-clause-err c name d store =
       all = λ one. c.after_crash.ensures.all one ∙ ap read_of c.into_inner.ensures;
     } in
     let ran : RunsFrom fused name d c.args.user.now c.args.password.now f (Some c.args.input.now) (Some []) left c.run_store-left.result.1 (Some c.run_store-left.new.writer.items) =
-    subst (λ (w : List ℕ). RunsFrom fused name d c.args.user.now c.args.password.now f (Some c.args.input.now) (Some w) left c.run_store-left.result.1 (Some c.run_store-left.new.writer.items)) c.new-written.ensures.items (c.run_store-left.ensures name d fused_store) in
+    subst (λ (w : List ℕ). RunsFrom fused name d c.args.user.now c.args.password.now f (Some c.args.input.now) (Some w) left c.run_store-left.result.1 (Some c.run_store-left.new.writer.items)) c.new-written.ensures.items (c.run_store-left.ensures name d fused_store.store) in
     let there = left_state name d c.args.user.now c.args.password.now c.args.input.now c.args.disk c.args.calls c.args.pick f left c.new-fuse.ensures.inner c.new-fuse.ensures.left fused_store c.run_store-left.new.writer.items image picked c.run_store-left.result.1 ran in
     refused_so name c.tell.result (c.tell.ensures.err name there.state there.opens)
 
@@ -43,4 +43,4 @@ pub returns-clause-ran : goal.returns-clause-ran
 returns-clause-ran c name d store =
     let f = c.new-fuse.result in
     let fused_store = behind_fuse name d c.args.disk f c.new-fuse.ensures.inner store in
-    run_refused name d c.args.user.now c.args.password.now f c.run_store-left.result.0 _ _ _ c.run_store-left.result.1 (c.run_store-left.ensures name d fused_store)
+    run_refused name d c.args.user.now c.args.password.now f c.run_store-left.result.0 _ _ _ c.run_store-left.result.1 (c.run_store-left.ensures name d fused_store.store)

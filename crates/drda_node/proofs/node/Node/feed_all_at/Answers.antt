@@ -2,7 +2,7 @@ use Rattle.std.proofs.Common.{◌≡◌, Some, map, slice_get, slice_set, refl, 
 use Rattle.session_commands.specs.Settings.{Settings}
 use Rattle.conversation.specs.Attended.{attended_by}
 use Rattle.conversation.specs.Pieces as pieces
-use Rattle.drda_node.specs.Asking.{asked_of, asks, core_of}
+use Rattle.drda_node.specs.Asking.{asked_after, asks, core_of}
 use Rattle.drda_node.specs.Machine.{Machine}
 use Rattle.drda_node.specs.Feeding.{shown_held}
 use Rattle.drda_node.specs.Hearing.{attended_at}
@@ -29,7 +29,7 @@ returns-clause-hears g c =
     same_machine old.settings (map shown (slice_set items c.args.place new)) (slice_set old.row c.args.place (Some (shown_held new.front))) old.given old.given (core_of g.D.Disk.is_modelled asker) (core_of g.D.Disk.is_modelled asker)
     (view_set shown items c.args.place new (Some (shown_held new.front)) (open_shows new c.feed_all.ensures.open)) refl refl in
     hears_there old now c.args.place (shown_held place.front) (attended_by new.front (core_of g.D.Disk.is_modelled asker)) was row c.feed_all.result c.args.piece.now c.args.out.now.items c.feed_all.new.out.items
-    (subst (λ (v : Settings). pieces.HearsPiece (asks c.args.place) v (attended_by place.front (asked_of g.D.Disk.is_modelled c.args.self.now.core)) c.args.piece.now c.args.out.now.items c.feed_all.result (attended_by new.front (core_of g.D.Disk.is_modelled asker)) c.feed_all.new.out.items) settings
+    (subst (λ (v : Settings). pieces.HearsPiece (asks c.args.place) v (attended_by place.front (asked_after g.D.Disk.is_modelled c.args.self.now.calls.listed c.args.self.now.core)) c.args.piece.now c.args.out.now.items c.feed_all.result (attended_by new.front (core_of g.D.Disk.is_modelled asker)) c.feed_all.new.out.items) settings
     c.feed_all.ensures.hears)
 
 pub returns-clause-there : goal.returns-clause-there

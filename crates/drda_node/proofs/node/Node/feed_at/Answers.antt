@@ -3,7 +3,7 @@ use Rattle.session_commands.specs.Settings.{Settings}
 use Rattle.conversation.specs.Attended.{attended_by}
 use Rattle.conversation.specs.Feeding.{Takes}
 use Rattle.drda_node.specs.Feeding.{shown_held}
-use Rattle.drda_node.specs.Asking.{asked_of, asks, core_of}
+use Rattle.drda_node.specs.Asking.{asked_after, asks, core_of}
 use Rattle.drda_node.specs.declared.slot.Slot.{Slot}
 use Rattle.drda_node.specs.Register.{shown, number_of}
 use Rattle.drda_node.proofs.Rows.{below_view, view_at, view_set, view_kept, shows_open, open_shows, same_machine}
@@ -23,7 +23,7 @@ returns-clause-feeds g c =
       after = attended_by new.front (core_of g.D.Disk.is_modelled c.feed.new.asker);
       was = here ∙ ap (λ o. Some o) (sym is ∙ shows);
       row = same_machine c.args.self.now.settings _ _ _ _ _ _ (view_set shown items c.args.place new (Some (shown_held new.front)) (open_shows new c.feed.ensures.open)) refl refl;
-      takes = subst (λ (v : Settings). Takes (asks c.args.place) v (attended_by place.front (asked_of g.D.Disk.is_modelled c.args.self.now.core)) c.args.piece.now c.args.out.now.items c.feed.result (attended_by new.front (core_of g.D.Disk.is_modelled c.feed.new.asker)) c.feed.new.out.items) settings c.feed.ensures.takes;
+      takes = subst (λ (v : Settings). Takes (asks c.args.place) v (attended_by place.front (asked_after g.D.Disk.is_modelled c.args.self.now.calls.listed c.args.self.now.core)) c.args.piece.now c.args.out.now.items c.feed.result (attended_by new.front (core_of g.D.Disk.is_modelled c.feed.new.asker)) c.feed.new.out.items) settings c.feed.ensures.takes;
     }
 
 pub returns-clause-numbers : goal.returns-clause-numbers
