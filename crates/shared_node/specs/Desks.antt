@@ -3,10 +3,10 @@ use Rattle.std.specs.Prelude.{◌≡◌, ◌⊎◌, ◌+◌, [], ◌∷◌, ◌+
 use Rattle.core_calls.specs.Call.{Call}
 use Rattle.core_calls.specs.Answer.{Answer, answer_of, closed, no_memory}
 use Rattle.core_model.specs.Step.{Mark}
-use Rattle.shared_node.specs.declared.acted.Acted.{Acted}
-use Rattle.shared_node.specs.declared.acted.Acted.TheVariants.{Answered, StrangerPass}
-use Rattle.shared_node.specs.declared.pass.Pass.{Pass}
-use Rattle.shared_node.specs.Passes.{calls_in}
+use Rattle.core_history.specs.declared.acted.Acted.{Acted}
+use Rattle.core_history.specs.declared.acted.Acted.TheVariants.{Answered, StrangerPass}
+use Rattle.core_history.specs.declared.pass.Pass.{Pass}
+use Rattle.core_history.specs.Passes.{calls_in}
 
 -- the pass shows the call and its answer as the last that was listed, and counts one more
 pub record Shows (old : Pass) (call : Call) (answer : Answer) (new : Pass) : Type 0 where

@@ -1,8 +1,3 @@
-pub mod Wishes
-pub mod LeftAnswers
-pub mod Books
-pub mod Fillings
-pub mod Passes
-pub mod Gathered
 pub mod Locked
 pub mod Desks
+pub mod Served

@@ -1,7 +1,7 @@
 use denote.Exit.{no}
 use denote.Param.{param}
 use denote.Param.Send.{arg_send, param_send, shr_send}
-use Rattle.shared_node.proofs.pass.Pass.TheSendSync as pass_sends
+use Rattle.core_history.proofs.pass.Pass.TheSendSync as pass_sends
 use Rattle.drda_server.proofs.Sending.{five_send, hall_sync, peer_send}
 use Rattle.drda_server.proofs.threads.fn.serve_in.scope.Goals as goal
 
