@@ -4,7 +4,7 @@ use Rattle.std.proofs.lemmas.List.Elements.{filter-append}
 use Rattle.serializability.specs.Answered.{AnsweredCall}
 use Rattle.core_history.specs.declared.count.Count.{Count}
 use Rattle.core_history.specs.declared.left.Left.{Left}
-use Rattle.core_history.specs.LeftAnswers.{AreLeft, IsLeft, calls_by}
+use Rattle.core_history.specs.LeftAnswers.{AreLeft, FailuresAreTrue, IsLeft, calls_by}
 use Rattle.core_history.specs.Wishes.{listed_wish}
 use Rattle.core_history.specs.declared.wish.Wished.{Wished}
 use Rattle.core_history.specs.Books.{AreCounted, calls_of}
@@ -88,3 +88,30 @@ left_less calls left p are place l stands =
 
 pub none_left : (n : ℕ) → AreLeft [] (replicate n None)
 none_left n place l stands = let is : Some l ≡ None = get_replicate n place None (Some l) stands in absurd (cc is)
+
+-- ---- a failure is left only where the core has failed
+
+pub true_more : (b : Bool) (left : List (Option Left)) (p : ℕ) (l : Left) → (l.has_failed ≡ true → b ≡ true) → FailuresAreTrue b left → FailuresAreTrue b (slice_set left p (Some l))
+true_more b left p l is are place m stands failed =
+    ⊎_elim
+    (λ so.
+    let one : Some l ≡ Some m = set_stands left p (Some l) (Some m) (subst (λ (n : ℕ). slice_get (slice_set left p (Some l)) n ≡ Some (Some m)) (sym so) stands) in
+    let same : l ≡ m = cc one in
+    is (ap (λ (x : Left). x.has_failed) same ∙ failed))
+    (λ apart. are place m (sym (get_other left p place (Some l) apart) ∙ stands) failed)
+    (same_or_apart p place)
+
+pub true_less : (b : Bool) (left : List (Option Left)) (p : ℕ) → FailuresAreTrue b left → FailuresAreTrue b (slice_set left p None)
+true_less b left p are place m stands failed =
+    ⊎_elim
+    (λ so.
+    let is : None ≡ Some m = set_stands left p None (Some m) (subst (λ (n : ℕ). slice_get (slice_set left p None) n ≡ Some (Some m)) (sym so) stands) in
+    absurd (cc is))
+    (λ apart. are place m (sym (get_other left p place None apart) ∙ stands) failed)
+    (same_or_apart p place)
+
+pub true_after : (b c : Bool) (left : List (Option Left)) → (b ≡ true → c ≡ true) → FailuresAreTrue b left → FailuresAreTrue c left
+true_after b c left on are place m stands failed = on (are place m stands failed)
+
+pub none_true : (b : Bool) (n : ℕ) → FailuresAreTrue b (replicate n None)
+none_true b n place m stands failed = let is : Some m ≡ None = get_replicate n place None (Some m) stands in absurd (cc is)

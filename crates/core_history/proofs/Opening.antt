@@ -12,14 +12,15 @@ use Rattle.unit_records.specs.declared.phase.Phase.{Phase}
 use Rattle.core_history.specs.declared.count.Count.{Count}
 use Rattle.core_history.specs.declared.left.Left.{Left}
 use Rattle.core_history.specs.declared.wish.Wish.{Wish}
-use Rattle.core_history.specs.LeftAnswers.{AreLeft}
+use Rattle.core_history.specs.LeftAnswers.{AreLeft, FailuresAreTrue}
 use Rattle.core_history.specs.Books.{AreCounted, IsKept, Told}
 use Rattle.core_history.specs.declared.pass.Pass.{Pass}
 use Rattle.core_history.specs.Passes.{FindsNoMemory, IsAnswered, Knows}
 use Rattle.core_history.proofs.Counting.{length_replicate, none_yet, set_length}
 use Rattle.core_history.specs.Gathered.{AreAlike, MakesTogether, all_listed}
 use Rattle.core_history.proofs.Leading.{finds_no_memory, leads_on, lost_wants_none}
-use Rattle.core_history.proofs.Leaving.{none_left}
+use Rattle.core_history.proofs.Leaving.{none_left, none_true, true_after}
+use Rattle.core_history.proofs.Failing.{answered_still, together_failed, together_still}
 use Rattle.core_history.proofs.Together.{leads_together}
 
 abbrev book_of : {D : Type 0} → OnDisk D → OnDisk D → List AnsweredCall → List (Option Count) → List (Option Left) → ℕ → Told D
@@ -35,6 +36,7 @@ module _ {D : Type 0} (modelled : Bool) (life : D → Life) where
     sixty_four = ap (λ (ps : List (Option Count)). length ps) free ∙ length_replicate {Y = Option Count} 64 None;
     are_left = subst (λ (ls : List AnsweredCall). AreLeft ls left) (sym none) (subst (λ (ls : List (Option Left)). AreLeft [] ls) (sym nothing) (none_left 64));
     as_many = ap (λ (ls : List (Option Left)). length ls) nothing ∙ length_replicate {Y = Option Left} 64 None;
+    failures = subst (λ (ls : List (Option Left)). FailuresAreTrue core.is_failed ls) (sym nothing) (none_true core.is_failed 64);
   }
 
   module _ (belong : AnswersBelong) (excuses : ExcusesBelongToNone) where
@@ -50,6 +52,7 @@ module _ {D : Type 0} (modelled : Bool) (life : D → Life) where
           sixty_four = kept.sixty_four;
           are_left = kept.are_left;
           as_many = kept.as_many;
+          failures = true_after old.is_failed new.is_failed left rests.failed kept.failures;
         }
 
     -- what became of such a call
@@ -78,6 +81,7 @@ module _ {D : Type 0} (modelled : Bool) (life : D → Life) where
       sixty_four = ap (λ (ps : List (Option Count)). length ps) set_is ∙ set_length places p c ∙ kept.sixty_four;
       are_left = still kept.are_left;
       as_many = kept.as_many;
+      failures = true_after old.is_failed new.is_failed left (answered_still modelled life old new n k a answered) kept.failures;
     }
 
   pub still : (old opening new : OnDisk D) (calls : List AnsweredCall) (places : List (Option Count)) (left : List (Option Left)) (next : ℕ)
@@ -91,19 +95,22 @@ module _ {D : Type 0} (modelled : Bool) (life : D → Life) where
     sixty_four = kept.sixty_four;
     are_left = kept.are_left;
     as_many = kept.as_many;
+    failures = true_after old.is_failed new.is_failed left (λ e. same.is_failed ∙ e) kept.failures;
   }
 
   pub gathers_on : CallsLeadOn → (old opening new : OnDisk D) (calls more : List AnsweredCall) (places set : List (Option Count)) (left over : List (Option Left)) (next : ℕ) (phase : Option Phase) (members : List Wish) (f : Bool)
       → AreAlike phase members → more ≡ calls ++ all_listed f members → length set ≡ length places → length over ≡ length left
       → (AreCounted calls places next → AreCounted more set next) → (AreCounted calls places next → AreLeft calls left → AreLeft more over)
+      → ((b : Bool) → (f ≡ true → b ≡ true) → FailuresAreTrue b left → FailuresAreTrue b over)
       → CallsGoOn life
       → IsKept modelled life (book_of old opening calls places left next) → MakesTogether life old phase members f new
       → Journaled modelled (shown_on life old) (shown_on life new) → IsKept modelled life (book_of new opening more set over next)
-  gathers_on on old opening new calls more places set left over next phase members f alike more_is as_long as_many counted are_left on_disk kept together journaled = record {
+  gathers_on on old opening new calls more places set left over next phase members f alike more_is as_long as_many counted are_left failures on_disk kept together journaled = record {
     leads = λ told. subst (λ (ls : List AnsweredCall). CallsLead opening.state ls new.state) (sym more_is) (leads_together life on opening.state calls old new phase members f alike (kept.leads told) together);
     journaled = on_disk.both modelled opening old new kept.journaled journaled;
     counted = counted kept.counted;
     sixty_four = as_long ∙ kept.sixty_four;
     are_left = are_left kept.counted kept.are_left;
     as_many = as_many ∙ kept.as_many;
+    failures = failures new.is_failed (together_failed life old new phase members f together) (true_after old.is_failed new.is_failed left (together_still life old new phase members f together) kept.failures);
   }

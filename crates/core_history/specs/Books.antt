@@ -5,7 +5,7 @@ use Rattle.serializability.specs.Answered.{AnsweredCall, CallsLead}
 use Rattle.recovery.specs.Journaled.{Journaled, OnDisk, shown_on}
 use Rattle.core_history.specs.declared.count.Count.{Count}
 use Rattle.core_history.specs.declared.left.Left.{Left}
-use Rattle.core_history.specs.LeftAnswers.{AreLeft}
+use Rattle.core_history.specs.LeftAnswers.{AreLeft, FailuresAreTrue}
 
 -- as its callers see it
 pub record Told (D : Type 0) : Type 0 where
@@ -34,7 +34,8 @@ pub record AreCounted (calls : List AnsweredCall) (places : List (Option Count))
   pub fresh : (conversation : ℕ) → next ≤ conversation → calls_of conversation calls ≡ 0
 
 -- Where the disk gives back what was written, the calls, with their answers, lead from the opening to the core as it is now; what
--- the core left on its disk since then is journaled; and each answer that was left is one of those calls'.
+-- the core left on its disk since then is journaled; each answer that was left is one of those calls', and where it says that the
+-- device failed, the core has failed.
 pub record IsKept {D : Type 0} (modelled : Bool) (life : D → Life) (book : Told D) : Type 0 where
   pub leads : IsTrue modelled → CallsLead book.opening.state book.calls book.core.state
   pub journaled : Journaled modelled (shown_on life book.opening) (shown_on life book.core)
@@ -42,6 +43,7 @@ pub record IsKept {D : Type 0} (modelled : Bool) (life : D → Life) (book : Tol
   pub sixty_four : length book.places ≡ 64
   pub are_left : AreLeft book.calls book.left
   pub as_many : length book.left ≡ 64
+  pub failures : FailuresAreTrue book.core.is_failed book.left
 
 -- a book that was just opened: no calls, no conversation has leave, and no answer is left
 abbrev pub newly_opened : {D : Type 0} → OnDisk D → Told D

@@ -1,5 +1,5 @@
 -- Answers that a book leaves: of calls that were made together with others', for their conversations to collect.
-use Rattle.std.specs.Prelude.{◌≡◌, ℕ, ◌==◌, List, filter, Option, Some, slice_get}
+use Rattle.std.specs.Prelude.{◌≡◌, ℕ, ◌==◌, Bool, true, List, filter, Option, Some, slice_get}
 use Rattle.serializability.specs.Answered.{AnsweredCall}
 use Rattle.core_history.specs.declared.left.Left.{Left}
 use Rattle.core_history.specs.Wishes.{listed_wish}
@@ -14,3 +14,7 @@ IsLeft calls l = slice_get (calls_by l.conversation calls) l.number ≡ Some (li
 
 abbrev pub AreLeft : List AnsweredCall → List (Option Left) → Type 0
 AreLeft calls left = (place : ℕ) (l : Left) → slice_get left place ≡ Some (Some l) → IsLeft calls l
+
+-- that the device failed is left for a call only where it has
+abbrev pub FailuresAreTrue : Bool → List (Option Left) → Type 0
+FailuresAreTrue is_failed left = (place : ℕ) (l : Left) → slice_get left place ≡ Some (Some l) → l.has_failed ≡ true → is_failed ≡ true

@@ -3,7 +3,7 @@
 use crate::book::Book;
 use crate::count::Count;
 use crate::left::Left;
-use crate::listing::answer_left;
+use crate::listing::{answer_left, note_wish};
 use crate::pass::Pass;
 use crate::wish::Wished;
 use core_calls::Answer;
@@ -34,7 +34,7 @@ impl<D: Disk> Book<D> {
 }
 
 ghost use Rattle.std.specs.Prelude.{◌≡◌, ◌<◌, ◌+◌, ◌^◌, ◌++◌, ◌∷◌, [], IfSome, None, Some, length, slice_get, slice_set};
-ghost use Rattle.core_history.specs.LeftAnswers.{AreLeft};
+ghost use Rattle.core_history.specs.LeftAnswers.{AreLeft, FailuresAreTrue};
 ghost use Rattle.core_history.specs.Wishes.{listed_wish};
 ghost use Rattle.core_history.specs.Passes.{calls_in};
 
@@ -67,6 +67,7 @@ fn take_away(left: &mut Vec<Option<Left>>, place: usize)
     requires { place < length left.old.items }
     ensures left { left.new.items ≡ slice_set left.old.items place None }
     ensures stay { (calls : _) → AreLeft calls left.old.items → AreLeft calls left.new.items }
+    ensures failures { (is_failed : _) → FailuresAreTrue is_failed left.old.items → FailuresAreTrue is_failed left.new.items }
 {
     left[place] = None;
 }
@@ -79,6 +80,6 @@ fn show(pass: &mut Pass, wished: &Wished, has_failed: bool)
     ensures conversation { pass.new.conversation ≡ pass.old.conversation }
     ensures place { pass.new.place ≡ pass.old.place }
 {
-    pass.calls.note_wish(pass.conversation, wished, has_failed);
+    note_wish(&mut pass.calls, pass.conversation, wished, has_failed);
     pass.count += 1;
 }

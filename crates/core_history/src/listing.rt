@@ -1,21 +1,22 @@
 //! The fields of a book that are tied to one another, changed together.
 
-ghost use Rattle.std.specs.Prelude.{◌≡◌, ◌+◌, ◌<◌, ◌++◌, ◌∷◌, [], ◌^◌, if◌then◌else◌, None, Some, length, slice_get, slice_set};
+ghost use Rattle.std.specs.Prelude.{◌≡◌, ◌+◌, ◌<◌, ◌++◌, ◌∷◌, [], ◌^◌, if◌then◌else◌, None, Some, length, slice_get, slice_set, true};
 ghost use Rattle.core_calls.specs.Answer.{answer_of};
 ghost use Rattle.core_calls.specs.Call.{call_of};
 ghost use Rattle.core_model.specs.Step.{Kept, Taken};
 ghost use Rattle.core_history.specs.Books.{AreCounted};
 ghost use Rattle.core_history.specs.Gathered.{AreApart, AreMembers, all_counted, all_left, all_listed, count_at};
-ghost use Rattle.core_history.specs.LeftAnswers.{AreLeft};
+ghost use Rattle.core_history.specs.LeftAnswers.{AreLeft, FailuresAreTrue};
 ghost use Rattle.core_history.specs.Wishes.{answer_wished, listed_wish};
 ghost use Rattle.core_history.specs.Passes.{calls_in, count_of};
 
-use crate::calls::CallList;
+use call_list::CallList;
 use crate::count::Count;
 use crate::left::Left;
 use crate::pass::Pass;
 use crate::wish::{Wish, Wished};
 use core_calls::{Answer, CoreCall};
+use xa_calls::Request;
 
 /// Lists a call, which is one more of its conversation and of its pass.
 pub(crate) fn list(
@@ -64,6 +65,7 @@ pub(crate) fn list_all(
     ensures left { left.new.items ≡ all_left has_failed members.now left.old.items }
     ensures counted { (next : _) → AreCounted calls.old.listed places.old.items next → AreCounted calls.new.listed places.new.items next }
     ensures are_left { (next : _) → AreCounted calls.old.listed places.old.items next → AreLeft calls.old.listed left.old.items → AreLeft calls.new.listed left.new.items }
+    ensures failures { (is_failed : _) → (has_failed ≡ true → is_failed ≡ true) → FailuresAreTrue is_failed left.old.items → FailuresAreTrue is_failed left.new.items }
     ensures places_stay { length places.new.items ≡ length places.old.items }
     ensures left_stay { length left.new.items ≡ length left.old.items }
 {
@@ -88,8 +90,9 @@ fn list_one(
     ensures left { left.new.items ≡ slice_set left.old.items member.now.place (Some (record { conversation = member.now.conversation; number = member.now.count; wished = member.now.wished; has_failed = has_failed })) }
     ensures counted { (next : _) → AreCounted calls.old.listed places.old.items next → AreCounted calls.new.listed places.new.items next }
     ensures are_left { (next : _) → AreCounted calls.old.listed places.old.items next → AreLeft calls.old.listed left.old.items → AreLeft calls.new.listed left.new.items }
+    ensures failures { (is_failed : _) → (has_failed ≡ true → is_failed ≡ true) → FailuresAreTrue is_failed left.old.items → FailuresAreTrue is_failed left.new.items }
 {
-    calls.note_wish(member.conversation, &member.wished, has_failed);
+    note_wish(calls, member.conversation, &member.wished, has_failed);
     places[member.place] = Some(Count {
         conversation: member.conversation,
         calls: member.count + 1,
@@ -100,6 +103,23 @@ fn list_one(
         wished: member.wished,
         has_failed,
     });
+}
+
+/// Notes a call more, that was wished for and made together with others.
+#[tactic(auto, using(crate::proofs::Marks::mark_of))]
+pub(crate) fn note_wish(calls: &mut CallList, conversation: u64, wished: &Wished, has_failed: bool)
+    ensures { calls.new.listed ≡ calls.old.listed ++ listed_wish conversation wished.now has_failed ∷ [] }
+{
+    let answer = answer_left(wished, has_failed);
+    match wished {
+        Wished::Commit => calls.note(conversation, &CoreCall::Commit, &answer, !has_failed),
+        Wished::Through(phase, xid) => calls.note(
+            conversation,
+            &CoreCall::Xa(Ok(Request::Branch(phase.verb(), *xid))),
+            &answer,
+            !has_failed,
+        ),
+    }
 }
 
 /// What a call is answered that was wished for and made together with others.

@@ -1,6 +1,6 @@
 //! Leave for one conversation's calls.
 
-use crate::calls::CallList;
+use call_list::CallList;
 use crate::wish::{Wish, Wished};
 
 /// Leave for the calls of one conversation of a book. It counts those that were listed, and shows them to
@@ -14,7 +14,8 @@ pub struct Pass {
 }
 
 impl Pass {
-    ghost use Rattle.std.specs.Prelude.{◌≡◌};
+    ghost use Rattle.std.specs.Prelude.{◌≡◌, true};
+    ghost use Rattle.core_history.specs.Gathered.{Agrees};
 
     /// The conversation's number, which is given once.
     pub fn conversation(&self) -> u64
@@ -35,6 +36,16 @@ impl Pass {
         ensures { result ≡ self.now.count }
     {
         self.count
+    }
+
+    /// Whether a wish is for another call than this pass's next one, or is what it waits to ask.
+    pub fn agrees(&self, wish: &Wish, wished: &Wished) -> bool
+        ensures { result ≡ true → Agrees self.now wished.now wish.now }
+    {
+        wish.conversation != self.conversation
+            || wish.count != self.count
+            || wish.place != self.place
+            || wish.wished.is_same(wished)
     }
 
     /// That its conversation waits to ask this as its next call.

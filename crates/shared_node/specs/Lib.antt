@@ -1,3 +1,4 @@
 pub mod Locked
+pub mod Turns
 pub mod Desks
 pub mod Served

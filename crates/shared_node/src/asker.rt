@@ -89,7 +89,7 @@ impl<'a, D: Disk, R: Wait + Clock, G: Gate> Asker<'a, D, R, G> {
 impl<'a, D: Disk, R: Wait + Clock, G: Gate> Ask for Asker<'a, D, R, G> {
     ghost use Rattle.shared_node.specs.Desks.{DeskAsks};
 
-    ghost asks = { λ old call answer new. DeskAsks old call answer new };
+    ghost asks = { DeskAsks D.is_modelled D.life };
 
     fn ask(&mut self, call: &CoreCall<'_, '_, '_>) -> Answer {
         self.gate.turn(self.pass.conversation(), self.asked);

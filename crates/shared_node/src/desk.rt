@@ -65,8 +65,8 @@ impl<'a, D: Disk, R: Wait + Clock, G: Gate> Desk<'a, D, R, G> {
         reader: &mut I,
         writer: &mut O,
     ) -> Ended
-        ensures served { IfSome (I.remaining reader.old) (λ input. IsServed DeskAsks settings.now self.entry.pass input (O.contents writer.old) result.served (O.contents writer.new) result.pass) }
-        ensures lost { IsLost DeskAsks self.entry.pass result.served result.pass }
+        ensures served { IfSome (I.remaining reader.old) (λ input. IsServed (DeskAsks D.is_modelled D.life) settings.now self.entry.pass input (O.contents writer.old) result.served (O.contents writer.new) result.pass) }
+        ensures lost { IsLost (DeskAsks D.is_modelled D.life) self.entry.pass result.served result.pass }
     {
         stays_read();
         let mut asker = Asker::new(self.rt, self.shared, self.gate, self.pass);

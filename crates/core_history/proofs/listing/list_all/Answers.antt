@@ -30,6 +30,7 @@ loop-member-preserved c =
       left = ap (λ (ls : List (Option Left)). all_left f more ls) done.left ∙ ap (λ (ws : List Wish). all_left f ws now.left.items) (sym rest) ∙ kept.left;
       counted = λ next old. done.counted next (kept.counted next old);
       are_left = λ next old are. done.are_left next (kept.counted next old) (kept.are_left next old are);
+      failures = λ b is are. done.failures b is (kept.failures b is are);
       places_stay = ap (λ (ps : List (Option Count)). length ps) done.places ∙ set_length now.places.items _ _ ∙ kept.places_stay;
       left_stay = ap (λ (ls : List (Option Left)). length ls) done.left ∙ set_length now.left.items _ _ ∙ kept.left_stay;
     }

@@ -7,7 +7,7 @@ use Rattle.core_history.specs.Wishes.{listed_wish}
 use Rattle.core_history.specs.Books.{AreCounted}
 use Rattle.core_history.specs.Gathered.{count_at}
 use Rattle.core_history.proofs.Counting.{one_more}
-use Rattle.core_history.proofs.Leaving.{left_more}
+use Rattle.core_history.proofs.Leaving.{left_more, true_more}
 use Rattle.core_history.proofs.listing.list_one.Goals as goal
 
 pub returns-clause-counted : goal.returns-clause-counted
@@ -25,3 +25,9 @@ returns-clause-are_left c next counted are =
     let now : Left = record { conversation = w.conversation; number = w.count; wished = w.wished; has_failed = c.args.has_failed } in
     subst (λ (ls : List AnsweredCall). AreLeft ls (slice_set left w.place (Some now))) (sym c.note_wish.ensures)
     (left_more c.args.calls.now.listed c.args.places.now.items next counted left are w.place (count_at w) c.requires.known w.wished c.args.has_failed)
+
+pub returns-clause-failures : goal.returns-clause-failures
+returns-clause-failures c b is are =
+    let w = c.args.member.now in
+    let now : Left = record { conversation = w.conversation; number = w.count; wished = w.wished; has_failed = c.args.has_failed } in
+    true_more b c.args.left.now.items w.place now is are

@@ -1,6 +1,7 @@
 use Rattle.std.proofs.Common.{sym, subst}
 use Rattle.serializability.specs.Answered.{CallsLead}
 use Rattle.core_model.specs.Step.{CoreState}
+use Rattle.core_history.proofs.Leaving.{true_after}
 use Rattle.core_history.proofs.book.Book.consider_checkpoint.Goals as goal
 
 pub invariant_of-self : goal.invariant_of-self
@@ -13,4 +14,5 @@ invariant_of-self g c =
       sixty_four = c.self.invariant.sixty_four;
       are_left = c.self.invariant.are_left;
       as_many = c.self.invariant.as_many;
+      failures = true_after inside.core.is_failed c.renew.new.core.is_failed inside.left.items c.renew.ensures.rests.failed c.self.invariant.failures;
     }

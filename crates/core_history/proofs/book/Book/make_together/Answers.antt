@@ -25,7 +25,7 @@ invariant_of-self-2 g c =
     let together = subst (λ (ws : List Wish). MakesTogether g.D.Disk.life inside.core c.args.phase ws f c.ask_together.new.core) (sym same) c.in-Some.ensures.some in
     let alike = subst (λ (ws : List Wish). AreAlike c.args.phase ws) (sym same) (c.choose.ensures.alike c.if-not-choose.false) in
     gathers_on g.D.Disk.is_modelled g.D.Disk.life c.answers_are_serial.ensures.lead_on inside.core inside.opening.value c.ask_together.new.core inside.calls.listed c.list_all.new.calls.listed inside.places.items c.list_all.new.places.items inside.left.items
-    c.list_all.new.left.items inside.next c.args.phase members f alike c.list_all.ensures.calls c.list_all.ensures.places_stay c.list_all.ensures.left_stay (c.list_all.ensures.counted inside.next) (c.list_all.ensures.are_left inside.next)
+    c.list_all.new.left.items inside.next c.args.phase members f alike c.list_all.ensures.calls c.list_all.ensures.places_stay c.list_all.ensures.left_stay (c.list_all.ensures.counted inside.next) (c.list_all.ensures.are_left inside.next) c.list_all.ensures.failures
     c.calls_go_on.ensures c.self.invariant together c.ask_together.ensures.journaled
 
 pub returns-clause-gathers : goal.returns-clause-gathers
