@@ -133,7 +133,7 @@ module _ {F D N L S W : Type 0} (around : Surroundings F D N L S W) where
   Does (Some (pipe path rdb source)) input old outcome new = LogsIn around.files source old.files old.out outcome new.files new.out (λ login files.
       PipesOver around.modelled around.life around.files path rdb login files input old.out outcome new.files new.out) × (new.net ≡ old.net)
   Does (Some (serve path port source options)) input old outcome new = LogsIn around.files source old.files (net_and_out old.net old.out) outcome new.files (net_and_out new.net new.out) (λ login files.
-      ServesFile path port (seen files old.net old.out) outcome new)
+      ServesFile path port login options (seen files old.net old.out) outcome new)
   Does (Some (in_doubt path)) input old outcome new = Lists around.modelled around.life around.files path old.files old.out outcome new.files new.out × (new.net ≡ old.net)
   Does (Some (job.decide path xid d)) input old outcome new = DecidesFile around.modelled around.life around.files path xid d old.files old.out outcome new.files new.out × (new.net ≡ old.net)
   Does (Some (job.room path)) input old outcome new = TellsRoom around.modelled around.life around.files path old.files old.out outcome new.files new.out × (new.net ≡ old.net)

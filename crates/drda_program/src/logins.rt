@@ -41,7 +41,7 @@ where
     N::Stream: Send,
     N::Writer: Send,
     ensures { LogsIn F.calls (plain_source source.entry) files.old (net_and_out net.old (W.contents out.old)) result files.new (net_and_out net.new (W.contents out.new)) (λ login mid.
-        ServesFile (surroundings F.calls F.Disk.is_modelled F.Disk.life N.calls) path.now port
+        ServesFile (surroundings F.calls F.Disk.is_modelled F.Disk.life N.calls N.Stream.remaining N.Writer.contents) path.now port login options
         (seen mid net.old (W.contents out.old)) result (seen files.new net.new (W.contents out.new))) }
 {
     let text = read_source(alloc, files, source)?;

@@ -1,2 +1,4 @@
 pub mod Conversing
+pub mod Settling
+pub mod Arriving
 mod Sending

@@ -16,7 +16,7 @@ use Rattle.drda_disk.specs.declared.disk.Disk.{Ghosts}
 use Rattle.session_commands.proofs.settings.Settings.TheSendSync as settings_sends
 use Rattle.shared_node.proofs.Sending.{shared_sync}
 use Rattle.drda_server.proofs.longest.Longest.TheSendSync as longest_sends
-use Rattle.drda_server.specs.contracts.threads.Hall as hall
+use Rattle.drda_server.specs.contracts.attending.Hall as hall
 
 pub hall_sync : (l : NamedLft) (D R G L : RattleType) (d : Ghosts D.Denot) → IsSend D → IsSync R → IsSync G → IsSync L → IsSync (hall.the_row l D R G L d)
 hall_sync l D R G L d sends runtime gate log =

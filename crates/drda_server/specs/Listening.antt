@@ -1,9 +1,14 @@
 -- Conversations over a network, side by side.
-use Rattle.std.specs.Prelude.{◌≡◌, ◌⊎◌, ℕ, List, ◌∷◌, [], ◌++◌, codes, Option, Some, None, IfOk, IfErr, Result, Err}
+use Rattle.std.specs.Prelude.{◌≡◌, ◌⊎◌, ◌<◌, ◌≤◌, ℕ, Bool, List, length, ◌∷◌, [], ◌++◌, codes, Option, Some, None, IfSome, IfOk, IfErr, Result, Err}
 use Rattle.std.specs.Fmt.{decimal}
 use Rattle.std.specs.Io.KnownBytes.{Appends}
 use Rattle.std.specs.declared.net.socket_addr.SocketAddr.{SocketAddr}
-use Rattle.drda_server.specs.Network.{IsLocal, NetworkCalls}
+use Rattle.std.specs.List.{AllByRecursion}
+use Rattle.drda_disk.specs.Disk.{Life}
+use Rattle.session_commands.specs.Settings.{Settings}
+use Rattle.command_line.specs.declared.job.ServeOptions.{ServeOptions}
+use Rattle.drda_server.specs.Network.{IsLocal, LetsIn, NetworkCalls}
+use Rattle.drda_server.specs.Threads.{Became, Given, IsAttended}
 use Rattle.store_files.specs.Stores.{IsOfDevice}
 use Rattle.store_files.specs.declared.fault.Fault.{Fault}
 use Rattle.store_files.specs.declared.fault.Fault.TheVariants.{Device}
@@ -13,16 +18,44 @@ abbrev pub port_line : ℕ → List ℕ
 port_line port = codes "listening " ++ decimal port ++ 10 ∷ []
 
 module _ {N L S W : Type 0} (calls : NetworkCalls N L S W) where
-  -- the port was said, and conversations were served; perhaps not all that were asked for, where letting a stream in failed,
-  -- the device has failed or memory was refused
-  pub record HasListened (listener : L) (before : Option (List ℕ)) (outcome : Result (Unit {0}) Fault) (now : Option (List ℕ)) : Type 0 where
-    pub said : IfOk outcome (λ _. (port : ℕ) × calls.has_port listener port × Appends before now (port_line port))
-    pub cause : IfErr outcome IsOfDevice
+  -- ---- streams that are let in
 
-  -- the port of this machine was taken, or it was listened on; no other address is
-  pub record Listens (port : ℕ) (net : N) (before : Option (List ℕ)) (outcome : Result (Unit {0}) Fault) (now : Option (List ℕ)) : Type 0 where
-    pub address : SocketAddr
-    pub local : IsLocal address port
-    pub mid : N
-    pub bound : (calls.binds net address None mid × (outcome ≡ Err Device) × (now ≡ before))
-        ⊎ ((listener : L) × calls.binds net address (Some listener) mid × HasListened listener before outcome now)
+  -- a stream was let in, with its limit, and one less is left; or none is left
+  abbrev pub IsNext : L → Option ℕ → ℕ → Option (S × W) → ℕ → Type 0
+  IsNext listener idle left (Some both) left' = (left' < left) × (net : N) × (net' : N) × LetsIn calls net listener idle both.0 both.1 net'
+  IsNext listener idle left None left' = left' ≡ 0
+
+  -- the same listener goes on to let streams in, with the same limit
+  pub record LetsNext (listener : L) (idle : Option ℕ) (left : ℕ) (given : Option (S × W)) (listener' : L) (idle' : Option ℕ) (left' : ℕ) : Type 0 where
+    pub next : IsNext listener idle left given left'
+    pub listener_stays : listener' ≡ listener
+    pub idle_stays : idle' ≡ idle
+
+  abbrev pub IsLetIn : L → Option ℕ → Given S W → Type 0
+  IsLetIn listener idle given = (net : N) × (net' : N) × LetsIn calls net listener idle given.reader given.writer net'
+
+  module _ {D : Type 0} (modelled : Bool) (life : D → Life) (remaining : S → Option (List ℕ)) (contents : W → Option (List ℕ)) (settings : Settings) (options : ServeOptions) where
+    -- Each stream that the listener let in had the limit of the options, and was attended by a front of these settings, or turned
+    -- away; they were no more than the options say.
+    pub record ServesStreams (listener : L) : Type 0 where
+      pub streams : List (Given S W)
+      pub let_in : AllByRecursion (IsLetIn listener options.idle) streams
+      pub each : AllByRecursion (Became (Unit {0}) (IsAttended modelled life remaining contents settings)) streams
+      pub few : IfSome options.count (λ count. length streams ≤ count)
+
+    -- ---- a listener
+
+    -- The port was said, and conversations were served; perhaps not all that were asked for, where letting a stream in failed.
+    -- Or none was, since the port could not be said or memory was refused.
+    pub record HasListened (listener : L) (before : Option (List ℕ)) (outcome : Result (Unit {0}) Fault) (now : Option (List ℕ)) : Type 0 where
+      pub said : IfOk outcome (λ _. (port : ℕ) × calls.has_port listener port × Appends before now (port_line port))
+      pub cause : IfErr outcome IsOfDevice
+      pub served : ((fault : Fault) × (outcome ≡ Err fault)) ⊎ ServesStreams listener
+
+    -- the port of this machine was taken, or it was listened on; no other address is
+    pub record Listens (port : ℕ) (net : N) (before : Option (List ℕ)) (outcome : Result (Unit {0}) Fault) (now : Option (List ℕ)) : Type 0 where
+      pub address : SocketAddr
+      pub local : IsLocal address port
+      pub mid : N
+      pub bound : (calls.binds net address None mid × (outcome ≡ Err Device) × (now ≡ before))
+          ⊎ ((listener : L) × calls.binds net address (Some listener) mid × HasListened listener before outcome now)

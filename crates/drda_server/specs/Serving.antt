@@ -3,6 +3,7 @@ use Rattle.std.specs.Prelude.{◌≡◌, ◌⊎◌, ℕ, Bool, List, Option, Som
 use Rattle.drda_disk.specs.Disk.{Life}
 use Rattle.session_commands.specs.Settings.{Settings}
 use Rattle.command_line.specs.Job.{Login}
+use Rattle.command_line.specs.declared.job.ServeOptions.{ServeOptions}
 use Rattle.recovery.specs.Journaled.{OnDisk}
 use Rattle.store_files.specs.Files.{FileCalls}
 use Rattle.store_files.specs.Opening.{IsOver, IsTurnedBack}
@@ -15,12 +16,13 @@ abbrev pub settings_of : Login → List ℕ → Settings
 settings_of login rdb = record { user = login.user; password = login.password; rdb = rdb }
 
 module _ {D : Type 0} (modelled : Bool) (life : D → Life) where
-  -- Conversations were served over the store that a disk is, each by a thread of its own. What each call made of its core is the
-  -- core's step, one after another under one lock.
-  pub record ServesOn {N L S W : Type 0} (calls : NetworkCalls N L S W) (disk : D) (port : ℕ) (net : N) (before : Option (List ℕ)) (outcome : Result (Unit {0}) Fault) (now : Option (List ℕ)) : Type 0 where
+  -- Conversations were served over the store that a disk is, each by a thread of its own, by settings of this login and of that
+  -- store's name, as the options say. What each call made of its core is the core's step, one after another under one lock.
+  pub record ServesOn {N L S W : Type 0} (calls : NetworkCalls N L S W) (remaining : S → Option (List ℕ)) (contents : W → Option (List ℕ)) (disk : D) (port : ℕ) (login : Login) (options : ServeOptions) (net : N) (before : Option (List ℕ)) (outcome : Result (Unit {0}) Fault)
+      (now : Option (List ℕ)) : Type 0 where
     pub core : OnDisk D
     pub over : IsOver modelled life disk core
-    pub listens : Listens calls port net before outcome now
+    pub listens : Listens calls modelled life remaining contents (settings_of login core.name) options port net before outcome now
 
 -- what the calls of the files and of the network come to
 pub record Surroundings (F D N L S W : Type 0) : Type 1 where
@@ -28,9 +30,12 @@ pub record Surroundings (F D N L S W : Type 0) : Type 1 where
   pub modelled : Bool
   pub life : D → Life
   pub network : NetworkCalls N L S W
+  -- what the streams of that network hold
+  pub remaining : S → Option (List ℕ)
+  pub contents : W → Option (List ℕ)
 
-abbrev pub surroundings : {F D N L S W : Type 0} → FileCalls F D → Bool → (D → Life) → NetworkCalls N L S W → Surroundings F D N L S W
-surroundings files modelled life network = record { files = files; modelled = modelled; life = life; network = network }
+abbrev pub surroundings : {F D N L S W : Type 0} → FileCalls F D → Bool → (D → Life) → NetworkCalls N L S W → (S → Option (List ℕ)) → (W → Option (List ℕ)) → Surroundings F D N L S W
+surroundings files modelled life network remaining contents = record { files = files; modelled = modelled; life = life; network = network; remaining = remaining; contents = contents }
 
 -- the files, the network, and what was written on standard output
 pub record Seen (F N : Type 0) : Type 0 where
@@ -43,8 +48,8 @@ seen files net out = record { files = files; net = net; out = out }
 
 module _ {F D N L S W : Type 0} (around : Surroundings F D N L S W) where
   -- conversations over the store of a path, if there is one
-  abbrev pub ServesFile : List ℕ → ℕ → Seen F N → Result (Unit {0}) Fault → Seen F N → Type 0
-  ServesFile path port old outcome new =
+  abbrev pub ServesFile : List ℕ → ℕ → Login → ServeOptions → Seen F N → Result (Unit {0}) Fault → Seen F N → Type 0
+  ServesFile path port login options old outcome new =
       ((fault : Fault) × (outcome ≡ Err fault) × IsTurnedBack around.modelled around.life around.files old.files path fault new.files × (new.net ≡ old.net) × (new.out ≡ old.out))
       ⊎ ((disk : D) × around.files.opens old.files path (Some disk) new.files
-      × ServesOn around.modelled around.life around.network disk port old.net old.out outcome new.out)
+      × ServesOn around.modelled around.life around.network around.remaining around.contents disk port login options old.net old.out outcome new.out)

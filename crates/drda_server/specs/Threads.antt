@@ -1,14 +1,59 @@
--- A conversation over a stream, at a desk.
-use Rattle.std.specs.Prelude.{◌≡◌, ◌⊎◌, List, ℕ, Option}
-use Rattle.core_calls.specs.Call.{Call}
-use Rattle.core_calls.specs.Answer.{Answer}
+-- Streams that come, and what becomes of each: its conversation is attended by a thread, or it is turned away.
+use Rattle.std.specs.Prelude.{◌≡◌, ℕ, Bool, List, [], ◌∷◌, Option, Some, None, IfSome}
+use Rattle.std.specs.List.{AllByRecursion}
+use Rattle.drda_disk.specs.Disk.{Life}
 use Rattle.session_commands.specs.Settings.{Settings}
-use Rattle.conversation.specs.Held.{newly_held}
-use Rattle.conversation.specs.Attended.{attended_by}
-use Rattle.stream_service.specs.Serving.{Serves}
-use Rattle.stream_service.specs.declared.serving.Served.{Served}
+use Rattle.core_history.specs.declared.pass.Pass.{Pass}
+use Rattle.shared_node.specs.Desks.{DeskAsks}
+use Rattle.shared_node.specs.Locked.{Retires, UnderLock}
+use Rattle.shared_node.specs.Served.{IsLost, IsServed}
+use Rattle.drda_server.specs.declared.attended.Attended.{Attended}
 
--- nothing was heard, or a conversation of which nothing had come was served, and lost
-abbrev pub IsServed : {A : Type 0} → (A → Call → Answer → A → Type 0) → Settings → A → List ℕ → Option (List ℕ) → Option (List ℕ) → A → Type 0
-IsServed asks settings old input before now new =
-    ((now ≡ before) × (new ≡ old)) ⊎ ((result : Served) × Serves asks settings (attended_by (newly_held settings) old) input before result now new)
+-- ---- one stream
+
+module _ {D : Type 0} (modelled : Bool) (life : D → Life) {I O : Type 0} (remaining : I → Option (List ℕ)) (contents : O → Option (List ℕ)) (settings : Settings) (pass : Pass) (reader : I) (writer : O) where
+  -- A stream was served from its first byte to its loss, by a front of these settings, at its own pass, of which nobody asked
+  -- anything else; then the pass was given back. Or there was no memory for the conversation, and nothing was heard.
+  pub record Attends (attended : Attended O) : Type 0 where
+    pub served : IfSome (remaining reader) (λ input. IsServed (DeskAsks modelled life) settings pass input (contents writer) attended.served (contents attended.writer.value) attended.pass.value)
+    pub lost : IsLost (DeskAsks modelled life) pass attended.served attended.pass.value
+    pub retired : UnderLock modelled life (Retires attended.pass.value attended.is_retired)
+
+  abbrev pub IsAttended : Type 0
+  IsAttended = (attended : Attended O) × Attends attended
+
+-- ---- all streams
+
+-- a stream that came, and the pass that it was given, if any
+pub record Given (I O : Type 0) : Type 0 where
+  pub reader : I
+  pub writer : O
+  pub pass : Option Pass
+
+module _ {I O : Type 0} (Away : Type 0) (Is : Pass → I → O → Type 0) where
+  -- this became of it, at its pass; or it was turned away
+  abbrev pub BecameAt : Option Pass → I → O → Type 0
+  BecameAt None reader writer = Away
+  BecameAt (Some pass) reader writer = Is pass reader writer
+
+  abbrev pub Became : Given I O → Type 0
+  Became given = BecameAt given.pass given.reader given.writer
+
+  module _ {S : Type 0} (gives : S → Option (I × O) → S → Type 0) where
+    -- these streams came, one after another
+    abbrev pub Came : List (Given I O) → S → S → Type 0
+    Came [] first last = last ≡ first
+    Came (given ∷ more) first last = (next : S) × gives first (Some (given.reader, given.writer)) next × Came more next last
+
+    -- streams came until no more did, and each was attended or turned away
+    pub record ServesAll (first : S) : Type 0 where
+      pub streams : List (Given I O)
+      pub last : S
+      pub ended : S
+      pub came : Came streams first last
+      pub no_more : gives last None ended
+      pub each : AllByRecursion Became streams
+
+-- nothing is known of what comes
+abbrev pub any_streams : {S I O : Type 0} → S → Option (I × O) → S → Type 0
+any_streams before given after = Unit {0}

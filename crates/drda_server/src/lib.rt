@@ -1,6 +1,12 @@
 //! Conversations over a network, a thread for each.
 #![tactic(auto)]
 
+mod arrivals;
+mod attendance;
+mod attended;
+mod attending;
+mod handles;
+mod letting_in;
 mod listening;
 mod log;
 mod longest;
@@ -10,10 +16,11 @@ mod telling;
 mod threads;
 mod watching;
 
+pub use arrivals::Streams;
 pub use listening::serve_file;
 pub use log::{ErrorLog, Log, Silent};
 pub use network::{Network, SystemNetwork};
 pub use notice::{Notice, Outcome};
 // What ended a conversation.
 pub use stream_service::Served;
-pub use threads::{Streams, serve_at, serve_streams};
+pub use threads::serve_streams;

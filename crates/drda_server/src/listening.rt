@@ -1,23 +1,23 @@
 //! Conversations over a network.
 
-ghost use Rattle.std.specs.Prelude.{◌≡◌, IfErr, IfOk, IfSome, ℕ};
+ghost use Rattle.std.specs.Prelude.{◌≡◌, ◌⊎◌, Err, IfErr, IfOk, ℕ};
 ghost use Rattle.std.specs.Io.KnownBytes.{Appends};
 ghost use Rattle.command_line.specs.Job.{plain_login};
-ghost use Rattle.drda_server.specs.Listening.{Listens, port_line};
-ghost use Rattle.drda_server.specs.Network.{IsLimited, LetsIn};
+ghost use Rattle.drda_server.specs.Listening.{Listens, ServesStreams, port_line};
 ghost use Rattle.drda_server.specs.Serving.{ServesFile, seen, settings_of, surroundings};
 ghost use Rattle.store_files.specs.Stores.{IsOfDevice, RefusesName};
 
+use crate::letting_in::LetIn;
 use crate::log::{Log, Switched};
 use crate::network::Network;
-use crate::threads::{Streams, serve_streams};
+use crate::threads::serve_streams;
 use command_line::{Login, ServeOptions};
 use conversation::{Settings, SettingsError};
 use drda_disk::Disk;
 use durable_core::DurableCore;
 use shared_node::{OpenGate, Shared};
 use std::alloc::Global;
-use std::io::{self, Write};
+use std::io::Write;
 use std::net::{Ipv4Addr, SocketAddr, SocketAddrV4};
 use std::sync::Wait;
 use std::thread::Threads;
@@ -49,7 +49,7 @@ where
     F::Disk: Send,
     N::Stream: Send,
     N::Writer: Send,
-    ensures { ServesFile (surroundings F.calls F.Disk.is_modelled F.Disk.life N.calls) path.now port
+    ensures { ServesFile (surroundings F.calls F.Disk.is_modelled F.Disk.life N.calls N.Stream.remaining N.Writer.contents) path.now port (plain_login login.entry) options
         (seen files.old net.old (W.contents out.old)) result (seen files.new net.new (W.contents out.new)) }
 {
     let core = open_file(alloc, files, path)?;
@@ -99,7 +99,7 @@ where
     W: Write,
     N::Stream: Send,
     N::Writer: Send,
-    ensures { Listens N.calls port net.old (W.contents out.old) result (W.contents out.new) }
+    ensures { Listens N.calls D.is_modelled D.life N.Stream.remaining N.Writer.contents settings.now options port net.old (W.contents out.old) result (W.contents out.new) }
 {
     let address = SocketAddr::V4(SocketAddrV4::new(Ipv4Addr::new(127, 0, 0, 1), port));
     match net.bind(address) {
@@ -129,16 +129,11 @@ where
     L: Log + Sync,
     N::Stream: Send,
     N::Writer: Send,
-    ensures { IfErr result IsOfDevice }
+    ensures cause { IfErr result IsOfDevice }
+    ensures served { (result ≡ Err Fault.NoMemory) ⊎ ServesStreams N.calls D.is_modelled D.life N.Stream.remaining N.Writer.contents settings.now options listener.now }
 {
-    let mut streams = LetIn {
-        net,
-        listener,
-        idle: options.idle,
-        left: options.count.unwrap_or(u64::MAX),
-        failures: 0,
-        has_failed: false,
-    };
+    let count = options.count.unwrap_or(u64::MAX);
+    let mut streams = LetIn::new(net, listener, options.idle, count);
     let switched = Switched {
         log,
         is_on: options.is_logged,
@@ -152,7 +147,7 @@ where
         &switched,
         &mut streams,
     )?;
-    if streams.has_failed {
+    if streams.has_failed() {
         return Err(Fault::Device);
     }
     Ok(())
@@ -170,90 +165,6 @@ fn end_of<D: Disk + Drop>(alloc: Global, shared: Shared<D>) -> Result<(), Fault>
         return Err(Fault::Device);
     }
     Ok(())
-}
-
-/// At so many failures in a row to let a stream in, with a moment behind each, none is let in any more.
-const MOST_FAILURES: u64 = 100;
-
-/// The streams that a listener lets in, so many at most. None comes once letting one in has failed too often.
-#[derive(Drop)]
-struct LetIn<'a, N: Network> {
-    net: &'a mut N,
-    listener: &'a N::Listener,
-    idle: Option<u32>,
-    left: u64,
-    failures: u64,
-    has_failed: bool,
-}
-
-impl<N: Network> Streams for LetIn<'_, N> {
-    type Reader = N::Stream;
-
-    type Writer = N::Writer;
-
-    fn next(&mut self) -> Option<(N::Stream, N::Writer)> {
-        for _ in 0..u64::MAX {
-            let left = self.left.checked_sub(1)?;
-            match let_in(self.net, self.listener, self.idle) {
-                Ok(given) => {
-                    self.left = left;
-                    self.failures = 0;
-                    if given.is_some() {
-                        return given;
-                    }
-                }
-                Err(_) => self.bear_failure(),
-            }
-        }
-        None
-    }
-
-    fn peer(&self, reader: &N::Stream) -> Option<SocketAddr> {
-        self.net.peer(reader)
-    }
-}
-
-impl<N: Network> LetIn<'_, N> {
-    // Letting a stream in has failed. Mostly that passes, as where the system is short of something for a while.
-    fn bear_failure(&mut self) {
-        self.failures = self.failures.saturating_add(1);
-        if self.failures < MOST_FAILURES {
-            self.net.pause();
-        } else {
-            self.has_failed = true;
-            self.left = 0;
-        }
-    }
-}
-
-// The next stream that a listener lets in, with its limit and its second handle. A stream that can't have them is
-// closed, and none is given; one that can't be hurried is served with its delays.
-fn let_in<N: Network>(
-    net: &mut N,
-    listener: &N::Listener,
-    idle: Option<u32>,
-) -> io::Result<Option<(N::Stream, N::Writer)>>
-    ensures { IfOk result (λ given. IfSome given (λ both. LetsIn N.calls net.old listener.now idle both.0 both.1 net.new)) }
-{
-    let stream = net.accept(listener)?;
-    if limit(net, &stream, idle).is_err() {
-        return Ok(None);
-    }
-    let _ = net.hurry(&stream);
-    match net.writer(&stream) {
-        Ok(writer) => Ok(Some((stream, writer))),
-        Err(_) => Ok(None),
-    }
-}
-
-// Limits the reads of a stream, where seconds are given.
-fn limit<N: Network>(net: &mut N, stream: &N::Stream, idle: Option<u32>) -> io::Result<()>
-    ensures { IfOk result (λ _. IsLimited N.calls net.old stream.now idle net.new) }
-{
-    match idle {
-        Some(seconds) => net.limit(stream, seconds),
-        None => Ok(()),
-    }
 }
 
 // Says the port of a listener.

@@ -1,119 +1,25 @@
 //! A thread for each conversation.
 
 ghost use denote.Param.Send.{IsSend, IsSync};
-ghost use Rattle.std.specs.Prelude.{◌≡◌, ◌<◌, IfOk, IfSome, length};
-ghost use Rattle.drda_server.specs.Threads.{IsServed};
+ghost use Rattle.std.specs.Prelude.{◌≡◌, ◌<◌, IfOk, IfSome};
+ghost use Rattle.drda_server.specs.Threads.{IsAttended, ServesAll};
 
+use crate::arrivals::Streams;
+use crate::attendance::Attendance;
+use crate::attending::{Hall, attend};
+use crate::handles::{join_all, join_at, no_threads, put_at};
 use crate::log::Log;
 use crate::longest::Longest;
-use crate::notice::{Notice, Outcome};
-use crate::telling::{TellingGate, tell_turn};
-use crate::watching::Watched;
-use command_kit::Ask;
-use conversation::{Front, Settings};
+use crate::notice::Notice;
+use crate::telling::tell_turn;
+use conversation::Settings;
 use drda_disk::Disk;
-use dss_frames::stays_read;
-use shared_node::{Desk, Gate, Pass, Shared};
+use shared_node::{Gate, Pass, Shared};
 use std::alloc::{AllocError, Global};
-use std::io::{Read, Write};
 use std::net::SocketAddr;
 use std::sync::Wait;
-use std::thread::{self, JoinHandle, Threads};
+use std::thread::{self, Threads};
 use std::time::Clock;
-use stream_service::{Served, serve};
-
-/// How many conversations are served at a time.
-const PLACES: usize = 64;
-
-/// Streams of conversations, as they come.
-pub trait Streams {
-    /// What a conversation's bytes are read from.
-    type Reader: Read + Drop;
-
-    /// What its answers are written on.
-    type Writer: Write + Drop;
-
-    /// Waits for the next stream; none where no more will come.
-    fn next(&mut self) -> Option<(Self::Reader, Self::Writer)>;
-
-    /// Whose stream it is that is read from, where that is known.
-    fn peer(&self, _reader: &Self::Reader) -> Option<SocketAddr> {
-        None
-    }
-}
-
-/// What all threads share.
-#[derive(Clone, Copy)]
-struct Hall<'a, D: Disk, R: Wait, G: Gate, L: Log> {
-    rt: &'a R,
-    alloc: Global,
-    shared: &'a Shared<D>,
-    settings: &'a Settings,
-    gate: &'a G,
-    log: &'a L,
-    waits: &'a Longest,
-    holds: &'a Longest,
-}
-
-/// Serves a conversation over a stream, at a desk: what it is answered is what the desk's pass shows as listed,
-/// and its loss is the last call. Where memory is refused before the first byte, nothing is heard or written.
-pub fn serve_at<'a, D: Disk, R: Wait + Clock, G: Gate, I: Read, O: Write>(
-    alloc: Global,
-    settings: &Settings,
-    desk: &mut Desk<'a, D, R, G>,
-    reader: &mut I,
-    writer: &mut O,
-) -> Served
-    ensures { IfSome (I.remaining reader.old) (λ input. IsServed ⟦<Desk<'a, D, R, G> as Ask>⟧.asks settings.now desk.old input (O.contents writer.old) (O.contents writer.new) desk.new) }
-{
-    stays_read();
-    match Front::new(alloc, settings) {
-        Ok(mut front) => serve(alloc, &mut front, reader, writer, desk),
-        Err(_) => Served::NoMemory,
-    }
-}
-
-// One conversation, in its thread. What it left unfinished is lost at its end, and its leave is given back.
-fn attend<D: Disk, R: Wait + Clock, G: Gate, L: Log, I: Read + Drop, O: Write + Drop>(
-    hall: &Hall<'_, D, R, G, L>,
-    pass: Pass,
-    peer: Option<SocketAddr>,
-    reader: I,
-    writer: O,
-) {
-    let conversation = pass.conversation();
-    let gate = TellingGate {
-        gate: hall.gate,
-        log: hall.log,
-        waits: hall.waits,
-        holds: hall.holds,
-    };
-    let mut reader = reader;
-    let mut writer = Watched::new(writer, hall.log, conversation);
-    let mut desk = Desk::new(hall.rt, hall.shared, &gate, pass);
-    let served = serve_at(
-        hall.alloc,
-        hall.settings,
-        &mut desk,
-        &mut reader,
-        &mut writer,
-    );
-    let (waited, held) = (desk.longest_wait(), desk.longest_hold());
-    let pass = desk.into_pass();
-    let calls = pass.count();
-    let _ = hall.shared.retire(hall.rt, pass);
-    hall.log.tell(Notice::Ends {
-        conversation,
-        peer,
-        outcome: Outcome {
-            served,
-            is_logged_in: writer.is_logged_in(),
-            calls,
-            waited,
-            held,
-        },
-    });
-}
 
 // Leave for a conversation of a stream of this peer, where there is any.
 fn welcome<D: Disk, R: Wait, G: Gate, L: Log>(
@@ -154,6 +60,7 @@ where
     S: Streams,
     S::Reader: Send,
     S::Writer: Send,
+    ensures { IfOk result (λ _. ServesAll (Unit {0}) (IsAttended D.is_modelled D.life S.Reader.remaining S.Writer.contents settings.now) S.gives streams.old) }
 {
     let (waits, holds) = (Longest::new(), Longest::new());
     let hall = Hall {
@@ -167,17 +74,6 @@ where
         holds: &holds,
     };
     serve_in(rt, &hall, streams)
-}
-
-// A place for the thread of each conversation.
-fn no_threads(alloc: Global) -> Result<Vec<Option<JoinHandle<()>>>, AllocError>
-    ensures { IfOk result (λ threads. length threads.items ≡ 64) }
-{
-    let mut threads = Vec::new(alloc);
-    for _ in 0..PLACES {
-        threads.push(None)?;
-    }
-    Ok(threads)
 }
 
 // The same in a hall.
@@ -194,16 +90,18 @@ where
     S: Streams,
     S::Reader: Send,
     S::Writer: Send,
+    ensures { IfOk result (λ _. ServesAll (Unit {0}) (IsAttended D.is_modelled D.life S.Reader.remaining S.Writer.contents hall.now.settings.now) S.gives streams.old) }
 {
     thread::scope(
         thread::scope_env(),
         rt,
         move |scope| -> Result<(), AllocError>
             requires { IsSync R.row × IsSync G.row × IsSync L.row × IsSend D.row × IsSend S.Reader.row × IsSend S.Writer.row }
+            ensures { IfOk result (λ _. ServesAll (Unit {0}) (IsAttended D.is_modelled D.life S.Reader.remaining S.Writer.contents hall.entry.now.settings.now) S.gives streams.entry.now) }
         {
             let mut threads = no_threads(hall.alloc)?;
             tell_turn(hall.log, &hall.shared.consider_checkpoint(rt));
-            'serving: for _ in 0..u64::MAX {
+            'serving: for _ in rt.forever() {
                 let Some((reader, writer)) = streams.next() else {
                     break 'serving;
                 };
@@ -213,19 +111,24 @@ where
                 };
                 let place = pass.place();
                 // Whoever had this place has given its leave back, so its thread is at its end.
-                if let Some(thread) = threads[place].take() {
-                    thread.join(rt);
-                }
-                match scope.spawn(move || attend(hall, pass, peer, reader, writer)) {
-                    Ok(thread) => threads[place] = Some(thread),
-                    Err(refused) => (refused.value)(),
+                join_at(rt, &mut threads, place);
+                let attendance: Attendance<D, S::Reader, S::Writer> = Attendance::new(
+                    hall.settings,
+                    &pass,
+                    &reader,
+                    &writer,
+                );
+                match scope.spawn_with(
+                    attendance,
+                    move || attend(hall, pass, peer, reader, writer),
+                ) {
+                    Ok(thread) => put_at(&mut threads, place, thread),
+                    Err(refused) => {
+                        (refused.value)();
+                    }
                 }
             }
-            for thread in threads {
-                if let Some(thread) = thread {
-                    thread.join(rt);
-                }
-            }
+            join_all(rt, &mut threads);
             Ok(())
         },
     )

@@ -35,7 +35,11 @@ struct Watch<'a, L> {
 }
 
 impl<'a, W: Write, L: Log> Watched<'a, W, L> {
-    pub(crate) fn new(writer: W, log: &'a L, conversation: u64) -> Watched<'a, W, L> {
+    ghost use Rattle.std.specs.Prelude.{◌≡◌};
+
+    pub(crate) fn new(writer: W, log: &'a L, conversation: u64) -> Watched<'a, W, L>
+        ensures { result.writer ≡ writer }
+    {
         Watched {
             writer,
             watch: Watch {
@@ -47,6 +51,13 @@ impl<'a, W: Write, L: Log> Watched<'a, W, L> {
                 code_point: 0,
             },
         }
+    }
+
+    /// What the answers are written on.
+    pub(crate) fn inner(&self) -> &W
+        ensures { result.now ≡ self.now.writer }
+    {
+        &self.writer
     }
 
     /// Whether a login was right.

@@ -1,12 +1,15 @@
--- What an ask of a desk makes of its pass.
-use Rattle.std.specs.Prelude.{◌≡◌, ◌⊎◌, ◌+◌, [], ◌∷◌, ◌++◌}
+-- What an ask of a desk makes of its pass, and of the book that it finds.
+use Rattle.std.specs.Prelude.{◌≡◌, ◌⊎◌, ◌+◌, Bool, [], ◌∷◌, ◌++◌}
+use Rattle.drda_disk.specs.Disk.{Life}
 use Rattle.core_calls.specs.Call.{Call}
 use Rattle.core_calls.specs.Answer.{Answer, answer_of, closed, no_memory}
 use Rattle.core_model.specs.Step.{Mark}
-use Rattle.shared_node.specs.declared.acted.Acted.{Acted}
-use Rattle.shared_node.specs.declared.acted.Acted.TheVariants.{Answered, StrangerPass}
-use Rattle.shared_node.specs.declared.pass.Pass.{Pass}
-use Rattle.shared_node.specs.Passes.{calls_in}
+use Rattle.core_history.specs.declared.acted.Acted.{Acted}
+use Rattle.core_history.specs.declared.acted.Acted.TheVariants.{Answered, StrangerPass}
+use Rattle.core_history.specs.declared.pass.Pass.{Pass}
+use Rattle.core_history.specs.Passes.{calls_in}
+use Rattle.shared_node.specs.Locked.{UnderLock}
+use Rattle.shared_node.specs.Turns.{TakesTurn}
 
 -- the pass shows the call and its answer as the last that was listed, and counts one more
 pub record Shows (old : Pass) (call : Call) (answer : Answer) (new : Pass) : Type 0 where
@@ -21,10 +24,22 @@ pub record ShowsNothing (old : Pass) (answer : Answer) (new : Pass) : Type 0 whe
   pub answer_is : (answer ≡ no_memory) ⊎ (answer ≡ closed)
   pub same : new ≡ old
 
-abbrev pub DeskAsks : Pass → Call → Answer → Pass → Type 0
-DeskAsks old call answer new = Shows old call answer new ⊎ ShowsNothing old answer new
+abbrev pub DeskShows : Pass → Call → Answer → Pass → Type 0
+DeskShows old call answer new = Shows old call answer new ⊎ ShowsNothing old answer new
 
 -- where the pass is a stranger's nothing is done
 abbrev pub DeskActs : Pass → Call → Acted → Pass → Type 0
-DeskActs old call (Answered a) new = DeskAsks old call (answer_of a) new
+DeskActs old call (Answered a) new = DeskShows old call (answer_of a) new
 DeskActs old call StrangerPass new = new ≡ old
+
+-- what is answered
+abbrev pub told : Acted → Answer
+told (Answered a) = answer_of a
+told StrangerPass = closed
+
+-- the answer is that of a turn at the lock, in which the call was made on the book that was found; and the pass shows it
+pub record DeskAsks {D : Type 0} (modelled : Bool) (life : D → Life) (old : Pass) (call : Call) (answer : Answer) (new : Pass) : Type 0 where
+  pub shows : DeskShows old call answer new
+  pub acted : Acted
+  pub answer_is : answer ≡ told acted
+  pub turn : UnderLock modelled life (TakesTurn modelled life old call acted new)

@@ -1,8 +1,4 @@
-pub mod Wishes
-pub mod LeftAnswers
-pub mod Books
-pub mod Fillings
-pub mod Passes
-pub mod Gathered
 pub mod Locked
+pub mod Turns
 pub mod Desks
+pub mod Served

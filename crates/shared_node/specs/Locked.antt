@@ -2,10 +2,10 @@
 use Rattle.std.specs.Prelude.{◌≡◌, ◌↔◌, Bool, true, false, IfSome, IsTrue}
 use Rattle.drda_disk.specs.Disk.{Life}
 use Rattle.recovery.specs.Journaled.{Journaled, shown_on}
-use Rattle.shared_node.specs.declared.pass.Pass.{Pass}
+use Rattle.core_history.specs.declared.pass.Pass.{Pass}
 use Rattle.shared_node.specs.declared.turn.Turn.{Turn}
-use Rattle.shared_node.specs.Books.{IsKept, Told}
-use Rattle.shared_node.specs.Passes.{Knows, Rests, retired}
+use Rattle.core_history.specs.Books.{IsKept, Told}
+use Rattle.core_history.specs.Passes.{Knows, Rests, retired}
 
 -- A book was found under the lock, and one was left; both are kept, and what the core left on its disk meanwhile is journaled.
 pub record UnderLock {D : Type 0} (modelled : Bool) (life : D → Life) (Makes : Told D → Told D → Type 0) : Type 0 where

@@ -1,10 +1,10 @@
 //! What lies under the lock.
 
-use crate::acted::Acted;
-use crate::book::Book;
-use crate::pass::Pass;
+use core_history::Acted;
+use core_history::Book;
+use core_history::Pass;
 use crate::waiting::Waiting;
-use crate::wish::{Wish, Wished};
+use core_history::{Wish, Wished};
 use core_calls::CoreCall;
 use drda_disk::Disk;
 use std::sync::Wait;
@@ -30,7 +30,7 @@ impl<D: Disk> Held<D> {
     ghost use Rattle.std.specs.Prelude.{◌≡◌, Some};
     ghost use Rattle.core_calls.specs.Call.{call_of};
     ghost use Rattle.shared_node.specs.Desks.{DeskActs};
-    ghost use Rattle.shared_node.specs.Wishes.{call_wished};
+    ghost use Rattle.core_history.specs.Wishes.{call_wished};
 
     /// Does one call of a pass. What was wished for may have been made with others' calls meanwhile; else it is made with
     /// those of all who wait; else alone.

@@ -1,9 +1,9 @@
 //! A book under a lock.
 
-use crate::book::Book;
+use core_history::Book;
 use crate::held::Held;
-use crate::numbering::PLACES;
-use crate::pass::Pass;
+use core_history::PLACES;
+use core_history::Pass;
 use crate::turn::{Begun, Turn, time};
 use crate::waiting::Waiting;
 use drda_disk::Disk;
@@ -23,7 +23,7 @@ pub struct Shared<D: Disk> {
 
 impl<D: Disk> Shared<D> {
     ghost use Rattle.std.specs.Prelude.{◌≡◌, ◌<◌, [], IfErr, IfOk, IfSome};
-    ghost use Rattle.shared_node.specs.Passes.{AreJust, AreListed, calls_in};
+    ghost use Rattle.core_history.specs.Passes.{AreJust, AreListed, calls_in};
     ghost use Rattle.shared_node.specs.Locked.{Considers, Retires, UnderLock};
 
     /// Opens a book over a core, under a lock. Out of memory, the core is handed back.

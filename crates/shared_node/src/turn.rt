@@ -2,7 +2,7 @@
 
 ghost use Rattle.std.specs.Prelude.{◌≡◌, IfSome};
 
-use crate::book::Book;
+use core_history::Book;
 use drda_disk::Disk;
 use std::time::{Clock, Instant};
 
@@ -39,8 +39,8 @@ impl Begun {
         Begun {
             waited: micros_between(since, at),
             at,
-            written: book.renewals.written,
-            is_failed: book.core.is_failed(),
+            written: book.checkpoints(),
+            is_failed: book.core().is_failed(),
         }
     }
 
@@ -53,8 +53,8 @@ impl Begun {
         Turn {
             waited: self.waited,
             held: micros_between(self.at, time(rt)),
-            checkpointed: room_where(book, book.renewals.written != self.written),
-            has_failed: book.core.is_failed() && !self.is_failed,
+            checkpointed: room_where(book, book.checkpoints() != self.written),
+            has_failed: book.core().is_failed() && !self.is_failed,
         }
     }
 }
@@ -64,7 +64,7 @@ fn room_where<D: Disk>(book: &Book<D>, is_asked: bool) -> Option<usize>
     ensures { IfSome result (λ room. room ≡ book.now.core.room) }
 {
     if is_asked {
-        return Some(book.core.room());
+        return Some(book.core().room());
     }
     None
 }

@@ -1,7 +1,7 @@
 //! Who waits to be served together.
 
-use crate::numbering::PLACES;
-use crate::wish::Wish;
+use core_history::PLACES;
+use core_history::Wish;
 use std::alloc::{AllocError, Global};
 use std::mem::swap;
 use std::sync::atomic::{AtomicU64, Ordering};

@@ -1,6 +1,7 @@
 use Rattle.std.proofs.Common.{◌∙◌, ap, inr, rules}
 use Rattle.std.specs.Net.Addr.{ipv4_octets}
 use Rattle.std.specs.declared.net.socket_addr.SocketAddr.TheVariants.{V4}
+use Rattle.store_files.specs.declared.fault.Fault.TheVariants.{NoMemory}
 use Rattle.drda_server.proofs.Conversing.{not_said, said_then}
 use Rattle.drda_server.proofs.listening.listen.Goals as goal
 
@@ -12,7 +13,7 @@ returns-in_err-say_port-in-Ok g c = record {
   bound = inr (
     c.in-Ok.listener,
     c.in-Ok.ensures,
-    not_said g.N.Network.calls c.in-Ok.listener (g.W.Write.contents c.args.out.now) (g.W.Write.contents c.say_port.new.out) c.in_err-say_port-in-Ok.field-0.0 c.from_residual.result (search rules) c.in_err-say_port-in-Ok.ensures.cause,
+    not_said g.N.Network.calls g.D.Disk.is_modelled g.D.Disk.life g.N.Stream.Read.remaining g.N.Writer.Write.contents c.args.options c.args.settings.now c.in-Ok.listener (g.W.Write.contents c.args.out.now) (g.W.Write.contents c.say_port.new.out) c.in_err-say_port-in-Ok.field-0.0 c.from_residual.result (search rules) c.in_err-say_port-in-Ok.ensures.cause,
   );
 }
 
@@ -24,6 +25,6 @@ returns-in_ok-say_port-in-Ok g c = record {
   bound = inr (
     c.in-Ok.listener,
     c.in-Ok.ensures,
-    said_then g.N.Network.calls c.in-Ok.listener (g.W.Write.contents c.args.out.now) (g.W.Write.contents c.say_port.new.out) c.serve_all.result c.in_ok-say_port-in-Ok.ensures.said c.serve_all.ensures,
+    said_then g.N.Network.calls g.D.Disk.is_modelled g.D.Disk.life g.N.Stream.Read.remaining g.N.Writer.Write.contents c.args.options c.args.settings.now c.in-Ok.listener (g.W.Write.contents c.args.out.now) (g.W.Write.contents c.say_port.new.out) NoMemory c.serve_all.result c.in_ok-say_port-in-Ok.ensures.said c.serve_all.ensures.cause c.serve_all.ensures.served,
   );
 }

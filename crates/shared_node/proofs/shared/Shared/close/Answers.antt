@@ -1,5 +1,5 @@
 use Rattle.std.proofs.Common.{List, ap, slice_get, ◌∙◌}
-use Rattle.shared_node.specs.declared.pass.Pass.{Pass}
+use Rattle.core_history.specs.declared.pass.Pass.{Pass}
 use Rattle.shared_node.proofs.shared.Shared.close.Goals as goal
 
 pub returns-then-is_just-clause-listed : goal.returns-then-is_just-clause-listed

@@ -1,10 +1,8 @@
-use Rattle.std.proofs.Common.{◌≡◌, length}
+use Rattle.drda_server.specs.Threads.{IsAttended}
+use Rattle.drda_server.proofs.Settling.{Stands}
 use Rattle.drda_server.proofs.threads.fn.serve_in.scope.Given as goal
 
 abbrev pub invariant-serving : goal.invariant-serving
-invariant-serving g l = length l.threads.items ≡ 64
-
-abbrev pub invariant-loop-thread : goal.invariant-loop-thread
-invariant-loop-thread g l =
-    (goal.iterator-loop-thread g).can_next l.thread-iterator ×
-    (goal.iterator-loop-thread g).is_finite l.thread-iterator
+invariant-serving g l =
+    Stands (Unit {0}) (IsAttended g.D.Disk.is_modelled g.D.Disk.life g.S.Reader.Read.remaining g.S.Writer.Write.contents l.hall.settings.now) (λ h. IsAttended g.D.Disk.is_modelled g.D.Disk.life g.S.Reader.Read.remaining g.S.Writer.Write.contents h.promise.settings.value h.promise.pass.value h.promise.reader.value h.promise.writer.value)
+    g.S.Streams.gives l.threads.items l.initial.streams l.streams

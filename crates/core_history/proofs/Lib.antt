@@ -1,0 +1,10 @@
+pub mod Counting
+pub mod Failing
+pub mod Leading
+pub mod Leaving
+pub mod Listed
+pub mod Marks
+pub mod Members
+pub mod Opening
+pub mod Sending
+pub mod Together

@@ -1,0 +1,6 @@
+pub mod Wishes
+pub mod LeftAnswers
+pub mod Books
+pub mod Fillings
+pub mod Passes
+pub mod Gathered

@@ -1,0 +1,97 @@
+//! One conversation, in its thread.
+
+ghost use Rattle.std.specs.Prelude.{◌≡◌};
+ghost use Rattle.shared_node.specs.Locked.{Retires, UnderLock};
+ghost use Rattle.drda_server.specs.Threads.{Attends};
+
+use crate::attended::Attended;
+use crate::log::Log;
+use crate::longest::Longest;
+use crate::notice::{Notice, Outcome};
+use crate::telling::TellingGate;
+use crate::watching::Watched;
+use conversation::Settings;
+use drda_disk::Disk;
+use shared_node::{Desk, Gate, Pass, Shared};
+use std::alloc::Global;
+use std::io::{Read, Write};
+use std::net::SocketAddr;
+use std::snapshot::Snapshot;
+use std::sync::Wait;
+use std::time::Clock;
+use stream_service::Served;
+
+/// What all threads share.
+#[derive(Clone, Copy)]
+pub(crate) struct Hall<'a, D: Disk, R: Wait, G: Gate, L: Log> {
+    pub(crate) rt: &'a R,
+    pub(crate) alloc: Global,
+    pub(crate) shared: &'a Shared<D>,
+    pub(crate) settings: &'a Settings,
+    pub(crate) gate: &'a G,
+    pub(crate) log: &'a L,
+    pub(crate) waits: &'a Longest,
+    pub(crate) holds: &'a Longest,
+}
+
+/// Attends to one conversation, whose stream these two are of. What it left unfinished is lost at its end, and its leave is
+/// given back.
+pub(crate) fn attend<D: Disk, R: Wait + Clock, G: Gate, L: Log, I: Read + Drop, O: Write + Drop>(
+    hall: &Hall<'_, D, R, G, L>,
+    pass: Pass,
+    peer: Option<SocketAddr>,
+    reader: I,
+    writer: O,
+) -> Attended<O>
+    ensures { Attends D.is_modelled D.life I.remaining O.contents hall.now.settings.now pass reader writer result }
+{
+    let conversation = pass.conversation();
+    let gate = TellingGate {
+        gate: hall.gate,
+        log: hall.log,
+        waits: hall.waits,
+        holds: hall.holds,
+    };
+    let mut reader = reader;
+    let mut writer = Watched::new(writer, hall.log, conversation);
+    let ended = Desk::new(hall.rt, hall.shared, &gate, pass).serve(
+        hall.alloc,
+        hall.settings,
+        &mut reader,
+        &mut writer,
+    );
+    let outcome = Outcome {
+        served: ended.served,
+        is_logged_in: writer.is_logged_in(),
+        calls: ended.pass.count(),
+        waited: ended.longest_wait,
+        held: ended.longest_hold,
+    };
+    hall.log.tell(Notice::Ends {
+        conversation,
+        peer,
+        outcome,
+    });
+    let writer = Snapshot::of(writer.inner());
+    retire(hall, ended.served, ended.pass, writer)
+}
+
+// Gives the pass of a conversation that was lost back.
+fn retire<D: Disk, R: Wait + Clock, G: Gate, L: Log, O>(
+    hall: &Hall<'_, D, R, G, L>,
+    served: Served,
+    pass: Pass,
+    writer: Snapshot<O>,
+) -> Attended<O>
+    ensures kept { (result.served ≡ served) × (result.pass.value ≡ pass) × (result.writer ≡ writer) }
+    ensures retired { UnderLock D.is_modelled D.life (Retires pass result.is_retired) }
+{
+    let shown = Snapshot::of(&pass);
+    let is_retired = hall.shared.retire(hall.rt, pass);
+    Attended {
+        served,
+        is_retired,
+        pass: shown,
+        writer,
+    }
+}

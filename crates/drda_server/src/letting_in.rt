@@ -1,0 +1,145 @@
+//! The streams that a listener lets in.
+
+ghost use Rattle.std.specs.Prelude.{IfOk, IfSome};
+ghost use Rattle.drda_server.specs.Network.{IsLimited, LetsIn};
+
+use crate::arrivals::Streams;
+use crate::network::Network;
+use std::io;
+use std::net::SocketAddr;
+
+/// At so many failures in a row to let a stream in, with a moment behind each, none is let in any more.
+const MOST_FAILURES: u64 = 100;
+
+/// The streams that a listener lets in, so many at most. None comes once letting one in has failed too often.
+#[derive(Drop)]
+pub(crate) struct LetIn<'a, N: Network> {
+    net: &'a mut N,
+    listener: &'a N::Listener,
+    idle: Option<u32>,
+    left: u64,
+    failures: u64,
+    has_failed: bool,
+}
+
+impl<'a, N: Network> LetIn<'a, N> {
+    ghost use Rattle.std.specs.Prelude.{◌≡◌};
+
+    /// So many of them, with this limit of seconds for each read.
+    pub(crate) fn new(
+        net: &'a mut N,
+        listener: &'a N::Listener,
+        idle: Option<u32>,
+        count: u64,
+    ) -> LetIn<'a, N>
+        ensures listener { result.listener.now ≡ listener.now }
+        ensures idle { result.idle ≡ idle }
+        ensures count { result.left ≡ count }
+    {
+        LetIn {
+            net,
+            listener,
+            idle,
+            left: count,
+            failures: 0,
+            has_failed: false,
+        }
+    }
+
+    /// Whether none comes any more since letting one in has failed too often.
+    pub(crate) fn has_failed(&self) -> bool {
+        self.has_failed
+    }
+}
+
+impl<N: Network> Streams for LetIn<'_, N> {
+    ghost use Rattle.drda_server.specs.Listening.{LetsNext};
+
+    type Reader = N::Stream;
+
+    type Writer = N::Writer;
+
+    ghost gives = { λ old given new. LetsNext N.calls old.listener.now old.idle old.left given new.listener.now new.idle new.left };
+
+    fn next(&mut self) -> Option<(N::Stream, N::Writer)> {
+        for _ in 0..u64::MAX {
+            let left = self.left.checked_sub(1)?;
+            match let_in(self.net, self.listener, self.idle) {
+                Ok(Some(given)) => {
+                    self.left = left;
+                    self.failures = 0;
+                    return Some(given);
+                }
+                Ok(None) => {
+                    self.left = left;
+                    self.failures = 0;
+                }
+                Err(_) => self.bear_failure(),
+            }
+        }
+        self.end();
+        None
+    }
+
+    fn peer(&self, reader: &N::Stream) -> Option<SocketAddr> {
+        self.net.peer(reader)
+    }
+}
+
+impl<N: Network> LetIn<'_, N> {
+    ghost use Rattle.std.specs.Prelude.{◌≡◌, ◌≤◌};
+
+    // Letting a stream in has failed. Mostly that passes, as where the system is short of something for a while.
+    fn bear_failure(&mut self)
+        ensures left { self.new.left ≤ self.old.left }
+        ensures listener { self.new.listener ≡ self.old.listener }
+        ensures idle { self.new.idle ≡ self.old.idle }
+    {
+        self.failures = self.failures.saturating_add(1);
+        if self.failures < MOST_FAILURES {
+            self.net.pause();
+        } else {
+            self.end();
+        }
+    }
+
+    // None is let in any more.
+    fn end(&mut self)
+        ensures left { self.new.left ≡ 0 }
+        ensures listener { self.new.listener ≡ self.old.listener }
+        ensures idle { self.new.idle ≡ self.old.idle }
+    {
+        self.has_failed = true;
+        self.left = 0;
+    }
+}
+
+// The next stream that a listener lets in, with its limit and its second handle. A stream that can't have them is
+// closed, and none is given; one that can't be hurried is served with its delays.
+fn let_in<N: Network>(
+    net: &mut N,
+    listener: &N::Listener,
+    idle: Option<u32>,
+) -> io::Result<Option<(N::Stream, N::Writer)>>
+    ensures { IfOk result (λ given. IfSome given (λ both. LetsIn N.calls net.old listener.now idle both.0 both.1 net.new)) }
+{
+    let stream = net.accept(listener)?;
+    if limit(net, &stream, idle).is_err() {
+        return Ok(None);
+    }
+    let _ = net.hurry(&stream);
+    match net.writer(&stream) {
+        Ok(writer) => Ok(Some((stream, writer))),
+        Err(_) => Ok(None),
+    }
+}
+
+// Limits the reads of a stream, where seconds are given.
+fn limit<N: Network>(net: &mut N, stream: &N::Stream, idle: Option<u32>) -> io::Result<()>
+    ensures { IfOk result (λ _. IsLimited N.calls net.old stream.now idle net.new) }
+{
+    match idle {
+        Some(seconds) => net.limit(stream, seconds),
+        None => Ok(()),
+    }
+}

@@ -1,7 +1,0 @@
-use Rattle.std.proofs.Common.{◌≡◌, ◌<◌, ℕ, Some, slice_get}
-use Rattle.shared_node.specs.declared.count.Count.{Count}
-use Rattle.shared_node.specs.Passes.{IsAt}
-use Rattle.shared_node.proofs.closing.are_all.Given as goal
-
-abbrev pub invariant-loop-place : goal.invariant-loop-place
-invariant-loop-place l = (q : ℕ) (c : Count) → q < l.place → slice_get l.places q ≡ Some (Some c) → IsAt l.passes q

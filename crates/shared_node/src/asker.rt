@@ -1,0 +1,126 @@
+//! Who asks the book for one conversation.
+
+use crate::gate::Gate;
+use crate::shared::Shared;
+use crate::turn::{Begun, time};
+use command_kit::Ask;
+use core_calls::{Answer, CoreCall};
+use core_history::{Acted, Pass, Wished, has_run_behind, wished_by};
+use drda_disk::Disk;
+use std::marker::Model;
+use std::sync::Wait;
+use std::time::Clock;
+
+/// Who asks the book for one conversation, under the lock, call by call: its turn comes outside of the lock, the call and
+/// what it lists are one step inside of it. To clauses it is its pass.
+#[derive(Drop)]
+pub(crate) struct Asker<'a, D: Disk, R: Wait + Clock, G: Gate> {
+    rt: &'a R,
+    shared: &'a Shared<D>,
+    gate: &'a G,
+    pass: Pass,
+    asked: u64,
+    has_run: bool,
+    waited: u64,
+    held: u64,
+}
+
+impl<'a, D: Disk, R: Wait + Clock, G: Gate> Model for Asker<'a, D, R, G> {
+    ghost use Rattle.std.specs.Coded.{codes};
+    ghost use Rattle.core_history.specs.declared.pass.Pass.{Pass};
+    ghost use Rattle.sql_copies.specs.Stored.{coded_predicate};
+
+    ghost Value = { Pass };
+
+    ghost coded = { Prim.hlevel (codes, coded_predicate) };
+
+    ghost view = { λ a. a.pass };
+}
+
+impl<'a, D: Disk, R: Wait + Clock, G: Gate> Asker<'a, D, R, G> {
+    ghost use Rattle.std.specs.Prelude.{◌≡◌};
+
+    /// No call was made with the pass.
+    pub(crate) fn new(
+        rt: &'a R,
+        shared: &'a Shared<D>,
+        gate: &'a G,
+        pass: Pass,
+    ) -> Asker<'a, D, R, G>
+        ensures { result ≡ pass }
+    {
+        Asker {
+            rt,
+            shared,
+            gate,
+            pass,
+            asked: 0,
+            has_run: false,
+            waited: 0,
+            held: 0,
+        }
+    }
+
+    /// For how many microseconds one of its calls waited for the lock at most, and for how many one held it.
+    pub(crate) fn longest(&self) -> (u64, u64) {
+        (self.waited, self.held)
+    }
+
+    /// The pass.
+    pub(crate) fn into_pass(self) -> Pass
+        ensures { result ≡ self.entry }
+    {
+        self.pass
+    }
+
+    // The conversation comes to the lock: whether it leads a group.
+    fn come(&self, wished: &Option<Wished>) -> bool {
+        let waiting = &self.shared.waiting;
+        match wished {
+            Some(wished) => waiting.wish(self.rt, self.pass.wish(*wished)),
+            None => {
+                waiting.come();
+                false
+            }
+        }
+    }
+}
+
+impl<'a, D: Disk, R: Wait + Clock, G: Gate> Ask for Asker<'a, D, R, G> {
+    ghost use Rattle.shared_node.specs.Desks.{DeskAsks};
+
+    ghost asks = { DeskAsks D.is_modelled D.life };
+
+    fn ask(&mut self, call: &CoreCall<'_, '_, '_>) -> Answer {
+        self.gate.turn(self.pass.conversation(), self.asked);
+        self.asked = self.asked.wrapping_add(1);
+        let wished = wished_by(self.has_run, call);
+        self.has_run = has_run_behind(self.has_run, call);
+        let came = time(self.rt);
+        let leads = self.come(&wished);
+        let (acted, turn) = {
+            let mut guard = self.shared.held.lock(self.rt);
+            let held = &mut *guard;
+            let waiting = &self.shared.waiting;
+            if !leads {
+                waiting.go(self.rt);
+            }
+            let begun = Begun::new(self.rt, came, &held.book);
+            let acted = held.act(self.rt, waiting, &mut self.pass, call, &wished);
+            if matches!(*call, CoreCall::Lost) {
+                held.book.consider_checkpoint();
+            }
+            (acted, begun.end(self.rt, &held.book))
+        };
+        if leads {
+            self.shared.waiting.end(self.rt);
+        }
+        self.waited = self.waited.max(turn.waited);
+        self.held = self.held.max(turn.held);
+        self.gate.after(self.pass.conversation(), &turn);
+        match acted {
+            Acted::Answered(answer) => answer,
+            Acted::StrangerPass => Answer::Closed,
+        }
+    }
+}
