@@ -1,1 +1,4 @@
+pub mod Holding
 pub mod Sending
+pub mod Turning
+pub mod Usable

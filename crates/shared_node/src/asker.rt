@@ -106,10 +106,7 @@ impl<'a, D: Disk, R: Wait + Clock, G: Gate> Ask for Asker<'a, D, R, G> {
                 waiting.go(self.rt);
             }
             let begun = Begun::new(self.rt, came, &held.book);
-            let acted = held.act(self.rt, waiting, &mut self.pass, call, &wished);
-            if matches!(*call, CoreCall::Lost) {
-                held.book.consider_checkpoint();
-            }
+            let acted = held.take_turn(self.rt, waiting, &mut self.pass, call, &wished);
             (acted, begun.end(self.rt, &held.book))
         };
         if leads {
